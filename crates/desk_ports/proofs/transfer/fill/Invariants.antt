@@ -1,0 +1,18 @@
+use Rattle.std.proofs.Common.{length, take, ◌-◌, ◌≤◌}
+use Rattle.desk_ports.specs.Meanings.{Moves, IsReadyIn, Rises}
+use Rattle.desk_ports.proofs.transfer.fill.Given as goal
+
+-- the front of the buffer came from the desk, and nothing else happened
+abbrev pub invariant-loop-filled : goal.invariant-loop-filled
+invariant-loop-filled g l =
+    let meaning = g.D.Desk.meaning in
+    let counts = g.D.Desk.counts in
+    record {
+      within : l.filled ≤ length l.buf;
+      moved : Moves (meaning l.fn.desk) (meaning l.desk) l.inlet (take l.filled l.buf);
+      ready : IsReadyIn (meaning l.desk) l.inlet;
+      rises : Rises (counts l.fn.desk) (counts l.desk);
+    }
+
+abbrev pub decreases-loop-filled : goal.decreases-loop-filled
+decreases-loop-filled g l = length l.initial.buf - l.filled

@@ -1,0 +1,8 @@
+//! The one way to the outside: inputs to read, outputs to write, and the desks that bring them.
+#![tactic(auto)]
+
+mod desk;
+mod transfer;
+
+pub use desk::{Desk, Failed, Inlet, Outlet};
+pub use transfer::{fill, write_all};

@@ -1,0 +1,42 @@
+ghost use Rattle.std.specs.Prelude.{◌≡◌, ◌<◌, ◌≤◌, ◌++◌, ℕ, List, length, take, IfOk, OnOk, OnErr};
+ghost use Rattle.std.specs.Io.KnownBytes.{IsAtEnd};
+ghost use Rattle.desk_ports.specs.Meanings.{Moves, Adds, IsReadyIn, IsReadyOut, Rises, Rose, left};
+
+use crate::desk::{Desk, Failed, Inlet, Outlet};
+
+/// Reads until `buf` is full or the input is at its end, and tells how many bytes were moved to its front.
+/// At `Failed` the bytes that were moved before the failing read are lost.
+pub fn fill<D: Desk>(desk: &mut D, inlet: Inlet, buf: &mut [u8]) -> Result<usize, Failed>
+    requires { IsReadyIn (D.meaning desk.old) inlet }
+    ensures within { IfOk result (λ n. n ≤ length buf.old) }
+    ensures moved { IfOk result (λ n. Moves (D.meaning desk.old) (D.meaning desk.new) inlet (take n buf.new)) }
+    ensures at_end { IfOk result (λ n. n < length buf.old → IsAtEnd (left (D.meaning desk.new) inlet)) }
+    ensures lost { OnErr result ((bytes : List ℕ) × (length bytes < length buf.old) × Moves (D.meaning desk.old) (D.meaning desk.new) inlet bytes) }
+    ensures cause { OnErr result (Rose (D.counts desk.old).reads (D.counts desk.new).reads) }
+    ensures rises { Rises (D.counts desk.old) (D.counts desk.new) }
+{
+    let mut filled = 0;
+    while filled < buf.len() {
+        let moved = desk.read(inlet, &mut buf[filled..])?;
+        if moved == 0 {
+            break;
+        }
+        filled += moved;
+    }
+    Ok(filled)
+}
+
+/// Writes all the bytes. At `Failed` a front of them was appended.
+pub fn write_all<D: Desk>(desk: &mut D, outlet: Outlet, bytes: &[u8]) -> Result<(), Failed>
+    requires { IsReadyOut (D.meaning desk.old) outlet }
+    ensures added { OnOk result (Adds (D.meaning desk.old) (D.meaning desk.new) outlet bytes.now) }
+    ensures front { OnErr result ((n : ℕ) × (n < length bytes.now) × Adds (D.meaning desk.old) (D.meaning desk.new) outlet (take n bytes.now)) }
+    ensures cause { OnErr result (Rose (D.counts desk.old).writes (D.counts desk.new).writes) }
+    ensures rises { Rises (D.counts desk.old) (D.counts desk.new) }
+{
+    let mut sent = 0;
+    while sent < bytes.len() {
+        sent += desk.write(outlet, &bytes[sent..])?;
+    }
+    Ok(())
+}
