@@ -1,0 +1,62 @@
+-- The command that the words give, or the place of the first fault in them.
+use Rattle.std.specs.Prelude.{◌≡◌, ℕ, ◌+◌, List, [], ◌∷◌, length, codes, Option, Some, None, option_and_then, ok_or, Result, Ok, Err}
+use Rattle.pocket_cmd.specs.Number.{number_of}
+use Rattle.pocket_cmd.specs.Words.{verb_of, first_faulty, value_of}
+use Rattle.pocket_cmd.specs.declared.words.Verb.{Verb}
+use Rattle.pocket_cmd.specs.declared.words.Verb.TheVariants as verb
+use Rattle.pocket_cmd.specs.declared.command.Restoration.{Restoration as Borrowed}
+use Rattle.pocket_cmd.specs.declared.command.Command.{Command as BorrowedCommand}
+use Rattle.pocket_cmd.specs.declared.command.Command.TheVariants as borrowed
+
+-- what `restore` is told: its names, the bits of a packet and the chosen APID
+pub record Restoration : Type 0 where
+  pub input : List ℕ
+  pub output : List ℕ
+  pub report : List ℕ
+  pub bits : ℕ
+  pub apid : ℕ
+
+-- a verb with its values
+pub data Command : Type 0 where
+  Restore : Restoration → Command
+
+abbrev pub view_restoration : Borrowed → Restoration
+view_restoration r = record { input = r.input.now; output = r.output.now; report = r.report.now; bits = r.bits; apid = r.apid }
+
+abbrev pub view_command : BorrowedCommand → Command
+view_command (borrowed.Restore r) = Restore (view_restoration r)
+
+abbrev pub view_result : Result BorrowedCommand ℕ → Result Command ℕ
+view_result (Ok command) = Ok (view_command command)
+view_result (Err word) = Err word
+
+infixl 10 ◌>>=◌
+abbrev pub ◌>>=◌ : {A B : Type 0} → Result A ℕ → (A → Result B ℕ) → Result B ℕ
+(Ok x) >>= f = f x
+(Err e) >>= f = Err e
+
+-- what `restore` is told by the words behind it, or the number of all words where a key is missing
+unfoldable pub restoration_of : List (List ℕ) → Result Restoration ℕ
+restoration_of words = do
+  input ← ok_or (value_of verb.Restore words (codes "in")) (length words + 1)
+  output ← ok_or (value_of verb.Restore words (codes "out")) (length words + 1)
+  report ← ok_or (value_of verb.Restore words (codes "report")) (length words + 1)
+  bits ← ok_or (option_and_then (number_of 1 49152) (value_of verb.Restore words (codes "bits"))) (length words + 1)
+  apid ← ok_or (option_and_then (number_of 0 2046) (value_of verb.Restore words (codes "apid"))) (length words + 1)
+  Ok (record { input = input; output = output; report = report; bits = bits; apid = apid })
+
+abbrev pub with_values : Verb → List (List ℕ) → Result Command ℕ
+with_values verb.Restore words = restoration_of words >>= λ r. Ok (Restore r)
+
+abbrev pub unless_faulty : Option ℕ → Result Command ℕ → Result Command ℕ
+unless_faulty (Some word) command = Err (word + 1)
+unless_faulty None command = command
+
+abbrev pub with_verb : Option Verb → List (List ℕ) → Result Command ℕ
+with_verb None words = Err 0
+with_verb (Some v) words = unless_faulty (first_faulty v words) (with_values v words)
+
+-- the verb with its values; or the place of the first faulty word; or the number of words, where one is missing
+abbrev pub command_of : List (List ℕ) → Result Command ℕ
+command_of [] = Err 0
+command_of (word ∷ words) = with_verb (verb_of word) words

@@ -1,0 +1,98 @@
+-- What the words of a command line say: a verb, and then `key=value` in any order.
+use Rattle.std.specs.Prelude.{◌≡◌, ℕ, ◌+◌, ◌<◌, Bool, true, false, not, ◌&&◌, ◌||◌, ◌==◌, nat_lt, List, [], ◌∷◌, ◌++◌, length, take, find, slice_index_or, Contains, codes, Option, Some, None, is_some, is_none, option_and_then, if◌then◌else◌}
+use Rattle.std.specs.List.{list_any, range_with_len, before_first, after_first, position_or_len}
+use Rattle.std.specs.Str.{bytes_eq}
+use Rattle.pocket_cmd.specs.Number.{number_of}
+use Rattle.pocket_cmd.specs.declared.words.Verb.{Verb}
+use Rattle.pocket_cmd.specs.declared.words.Verb.TheVariants.{Restore}
+use Rattle.pocket_cmd.specs.declared.words.Direction.{Direction}
+use Rattle.pocket_cmd.specs.declared.words.Direction.TheVariants.{In, Out}
+use Rattle.pocket_cmd.specs.declared.words.Kind.{Kind}
+use Rattle.pocket_cmd.specs.declared.words.Kind.TheVariants.{Name, Number}
+use Rattle.pocket_cmd.specs.declared.words.Entry.{Entry as Held}
+
+-- the verb that a word names
+abbrev pub verb_of : List ℕ → Option Verb
+verb_of word = if bytes_eq word (codes "restore") then Some Restore else None
+
+-- what a key of a verb takes
+abbrev pub kind_of : Verb → List ℕ → Option Kind
+kind_of Restore key =
+    if bytes_eq key (codes "in") then Some (Name In)
+    else (if bytes_eq key (codes "out") || bytes_eq key (codes "report") then Some (Name Out)
+    else (if bytes_eq key (codes "bits") then Some (Number 1 49152)
+    else (if bytes_eq key (codes "apid") then Some (Number 0 2046)
+    else None)))
+
+-- a value is one of this kind: any text that is not empty for a name, a plain decimal within its bounds for a number
+abbrev pub takes : Kind → List ℕ → Bool
+takes (Name direction) value = not (length value == 0)
+takes (Number low high) value = is_some (number_of low high value)
+
+-- a word's key, what it takes, and its value
+pub record Entry : Type 0 where
+  pub key : List ℕ
+  pub kind : Kind
+  pub value : List ℕ
+
+abbrev pub view_entry : Held → Entry
+view_entry e = record { key = e.key.now; kind = e.kind; value = e.value.now }
+
+abbrev pub entry_with : List ℕ → List ℕ → Option Kind → Option Entry
+entry_with key value None = None
+entry_with key value (Some kind) = Some (record { key = key; kind = kind; value = value })
+
+abbrev pub is_equals_sign : ℕ → Bool
+is_equals_sign c = c == 61
+
+-- a word split at its first `=`, where its key is one of the verb's
+abbrev pub entry_of : Verb → List ℕ → Option Entry
+entry_of verb word =
+    if nat_lt (position_or_len is_equals_sign word) (length word)
+    then entry_with (before_first is_equals_sign word) (after_first is_equals_sign word) (kind_of verb (before_first is_equals_sign word))
+    else None
+
+abbrev pub same_direction : Direction → Direction → Bool
+same_direction In In = true
+same_direction In Out = false
+same_direction Out In = false
+same_direction Out Out = true
+
+-- two values of these kinds, which are this one text, can't stand together: they are names, and not the two standard streams
+abbrev pub meet_as_names : Kind → Kind → List ℕ → Bool
+meet_as_names (Name one) (Name other) value = not (bytes_eq value (codes "-")) || same_direction one other
+meet_as_names (Name one) (Number low high) value = false
+meet_as_names (Number low high) other value = false
+
+-- two words can't stand together: one key, or one name
+abbrev pub clash : Entry → Entry → Bool
+clash one other = bytes_eq one.key other.key || (bytes_eq one.value other.value && meet_as_names one.kind other.kind one.value)
+
+abbrev pub clash_with_some : Entry → Option Entry → Bool
+clash_with_some one None = false
+clash_with_some one (Some other) = clash one other
+
+abbrev pub is_faulty_entry : Verb → List (List ℕ) → Option Entry → Bool
+is_faulty_entry verb earlier None = true
+is_faulty_entry verb earlier (Some entry) = not (takes entry.kind entry.value) || list_any (λ word. clash_with_some entry (entry_of verb word)) earlier
+
+-- a word behind these is faulty: it is no `key=value` of the verb, its value is not one of its key, or it can't stand beside an earlier word
+abbrev pub is_faulty : Verb → List (List ℕ) → List ℕ → Bool
+is_faulty verb earlier word = is_faulty_entry verb earlier (entry_of verb word)
+
+-- the first word behind the verb that is faulty, counted from 0
+abbrev pub first_faulty : Verb → List (List ℕ) → Option ℕ
+first_faulty verb words = find (λ i. is_faulty verb (take i words) (slice_index_or words i [])) (range_with_len 0 (length words))
+
+abbrev pub value_unless : List ℕ → Option Entry → Option (List ℕ) → Option (List ℕ)
+value_unless key None rest = rest
+value_unless key (Some entry) rest = if bytes_eq entry.key key then Some entry.value else rest
+
+-- the value that the words give to a key
+abbrev pub value_of : Verb → List (List ℕ) → List ℕ → Option (List ℕ)
+value_of verb [] key = None
+value_of verb (word ∷ words) key = value_unless key (entry_of verb word) (value_of verb words key)
+
+-- one of the words gives this value to the key
+abbrev pub Gives : List (List ℕ) → List ℕ → List ℕ → Type 0
+Gives words key value = Contains words (key ++ 61 ∷ value)

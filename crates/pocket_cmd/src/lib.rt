@@ -1,0 +1,6 @@
+//! The command of `pocket`: its words, its runs over a desk, its refusals with their texts and exit numbers.
+#![tactic(auto)]
+
+mod command;
+mod number;
+mod words;
