@@ -1,3 +1,5 @@
 pub mod Command
 pub mod Number
+pub mod Report
+pub mod Status
 pub mod Words

@@ -3,4 +3,8 @@
 
 mod command;
 mod number;
+mod report;
+mod status;
 mod words;
+
+pub use status::{Refusal, Status, exit_code};
