@@ -1,0 +1,2 @@
+pub mod SpacePackets
+pub mod Answers
