@@ -2,19 +2,7 @@ ghost use Rattle.std.specs.Prelude.{◌≡◌};
 ghost use Rattle.packet_store.specs.declared.fault.StoreFault.TheVariants as fault;
 
 use desk_ports::Failed;
-use std::alloc::AllocError;
 use thiserror::Error;
-
-/// Memory ran out.
-#[derive(Clone, Copy, Debug, PartialEq, Eq, Error)]
-#[error("memory ran out")]
-pub struct NoMemory;
-
-impl From<AllocError> for NoMemory {
-    fn from(_e: AllocError) -> NoMemory {
-        NoMemory
-    }
-}
 
 /// Why a store is not read on.
 #[derive(Clone, Copy, Debug, PartialEq, Eq, Error)]

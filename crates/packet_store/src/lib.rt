@@ -7,7 +7,7 @@ mod laws;
 mod packet;
 mod reader;
 
-pub use fault::{NoMemory, StoreFault};
+pub use fault::StoreFault;
 pub use header::{Header, header_bytes, read_header};
 pub use laws::{packets_are_read_back, packets_are_told_apart};
 pub use reader::{StoreReader, Taken};
