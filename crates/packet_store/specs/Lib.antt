@@ -1,0 +1,3 @@
+pub mod SpacePackets
+pub mod Answers
+pub mod StoreReader
