@@ -2,7 +2,9 @@
 #![tactic(auto)]
 
 mod desk;
+mod file;
 mod transfer;
 
 pub use desk::{Desk, Failed, Inlet, Outlet};
+pub use file::FileDesk;
 pub use transfer::{fill, write_all};
