@@ -1,2 +1,5 @@
 pub mod Meanings
 pub mod FileDesk
+pub mod Log
+pub mod MemState
+pub mod MemDesk

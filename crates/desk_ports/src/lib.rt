@@ -3,8 +3,12 @@
 
 mod desk;
 mod file;
+mod log;
+mod memory;
 mod transfer;
+mod written;
 
 pub use desk::{Desk, Failed, Inlet, Outlet};
 pub use file::FileDesk;
+pub use memory::MemDesk;
 pub use transfer::{fill, write_all};
