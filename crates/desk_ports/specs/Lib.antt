@@ -1,2 +1,6 @@
 pub mod Meanings
 pub mod Runs
+pub mod FileDesk
+pub mod Log
+pub mod MemState
+pub mod MemDesk

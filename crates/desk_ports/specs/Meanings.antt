@@ -1,5 +1,5 @@
 -- What a desk means: the bytes that come and go, the names, and what each call does to them.
-use Rattle.std.specs.Prelude.{◌≡◌, ℕ, ◌+◌, ◌-◌, ◌^◌, ◌≤◌, min, Bool, true, IsTrue, List, [], Option, Some, None, IfSome, unwrap_or}
+use Rattle.std.specs.Prelude.{◌≡◌, ℕ, ◌+◌, ◌-◌, ◌^◌, ◌≤◌, min, Bool, true, false, IsTrue, List, [], Option, Some, None, IfSome, unwrap_or}
 use Rattle.std.specs.Option.{option_map}
 use Rattle.std.specs.Ordering.{nat_cmp}
 use Rattle.std.specs.FinMap as map
@@ -122,3 +122,19 @@ Rose old new = min (old + 1) (2 ^ 64 - 1) ≤ new
 pub record Rises (old new : Counts) : Type 0 where
   pub reads : old.reads ≤ new.reads
   pub writes : old.writes ≤ new.writes
+
+-- the meanings of a desk that tells no content and grants every name, by what was opened
+abbrev pub untold : Bool → Bool → Bool → Bool → Meanings
+untold side input output report = record {
+  side = record { left = None; ready = side };
+  input = record { left = None; ready = input };
+  output = record { made = None; name = None; ready = output };
+  report = record { made = None; name = None; ready = report };
+  held = None;
+  grants_in = λ _. true;
+  grants_out = λ _. true;
+}
+
+-- the same where nothing was opened
+abbrev pub nothing_told : Meanings
+nothing_told = untold false false false false

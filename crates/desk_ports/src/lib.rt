@@ -2,7 +2,13 @@
 #![tactic(auto)]
 
 mod desk;
+mod file;
+mod log;
+mod memory;
 mod transfer;
+mod written;
 
 pub use desk::{Desk, Failed, Inlet, Outlet};
+pub use file::FileDesk;
+pub use memory::MemDesk;
 pub use transfer::{fill, write_all};

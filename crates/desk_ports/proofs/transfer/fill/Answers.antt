@@ -1,4 +1,4 @@
-use Rattle.std.proofs.Common.{◌-◌, length, take, sym, subst, rules, arith}
+use Rattle.std.proofs.Common.{◌-◌, length, sym, subst, rules, arith}
 use Rattle.std.proofs.lemmas.Grind.{common_steps}
 use Rattle.desk_ports.specs.Meanings.{Moves}
 use Rattle.desk_ports.proofs.Transfers.{Moves-then, Moves-ready, Rises-then, take-put_mid-add}

@@ -1,0 +1,44 @@
+-- How the fields of a desk in memory are seen.
+use Rattle.std.specs.Prelude.{ℕ, ◌<◌, ◌≤◌, true, List, [], length, drop}
+use Rattle.desk_ports.specs.declared.desk.Inlet.{Inlet}
+use Rattle.desk_ports.specs.declared.desk.Inlet.TheVariants as inlet
+use Rattle.desk_ports.specs.declared.memory.Reading.{Reading}
+use Rattle.desk_ports.specs.declared.memory.Reading.TheVariants as reading
+use Rattle.desk_ports.specs.declared.memory.Readings.{Readings}
+use Rattle.desk_ports.specs.declared.memory.Faults.{Faults}
+use Rattle.desk_ports.specs.Log.{kept_of, bytes_at}
+use Rattle.desk_ports.specs.MemState.{MemIncoming, MemOutgoing, MemState, closed_incoming}
+
+abbrev pub reading_at : Readings → Inlet → Reading
+reading_at readings inlet.Side = readings.side
+reading_at readings inlet.Main = readings.input
+
+abbrev pub with_reading : Readings → Inlet → Reading → Readings
+with_reading readings inlet.Side r = record readings { side = r }
+with_reading readings inlet.Main r = record readings { input = r }
+
+-- what an inlet has left: the rest of an entry of the log
+abbrev pub incoming_of : List (List ℕ × List ℕ) → Reading → MemIncoming
+incoming_of log reading.Nothing = closed_incoming
+incoming_of log (reading.Entry at place) = record { left = drop place (bytes_at log at); ready = true }
+
+-- an inlet stands within an entry
+abbrev pub IsWithin : List (List ℕ × List ℕ) → Reading → Type 0
+IsWithin log reading.Nothing = Unit {0}
+IsWithin log (reading.Entry at place) = (at < length log) × (place ≤ length (bytes_at log at))
+
+abbrev pub state_of : List (List ℕ × List ℕ) → Readings → MemOutgoing → MemOutgoing → Faults → MemState
+state_of log readings output report faults = record {
+  side = incoming_of log readings.side;
+  input = incoming_of log readings.input;
+  output = output;
+  report = report;
+  held = kept_of log;
+  reads = faults.reads;
+  writes = faults.writes;
+  short = faults.short;
+}
+
+pub record AreWithin (log : List (List ℕ × List ℕ)) (readings : Readings) : Type 0 where
+  pub side : IsWithin log readings.side
+  pub input : IsWithin log readings.input

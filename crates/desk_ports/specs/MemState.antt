@@ -1,0 +1,110 @@
+-- What a desk in memory is seen as, and what each of its calls does to that.
+use Rattle.std.specs.Prelude.{◌≡◌, ℕ, ◌+◌, ◌-◌, ◌^◌, min, Bool, true, false, List, [], Some, refl}
+use Rattle.std.specs.Coded.{Coded, code_by, coded×, coded_ℕ, coded_bool, coded_list}
+use Rattle.std.specs.FinMap as map
+use Rattle.desk_ports.specs.declared.desk.Inlet.{Inlet}
+use Rattle.desk_ports.specs.declared.desk.Inlet.TheVariants as inlet
+use Rattle.desk_ports.specs.declared.desk.Outlet.{Outlet}
+use Rattle.desk_ports.specs.declared.desk.Outlet.TheVariants as outlet
+use Rattle.desk_ports.specs.Meanings.{Meanings, Counts, Kept}
+
+-- an input: the bytes still to come, and whether it was opened
+pub record MemIncoming : Type 0 where
+  pub left : List ℕ
+  pub ready : Bool
+
+-- an output: the bytes written since it was opened, the name that it has, and whether it was opened
+pub record MemOutgoing : Type 0 where
+  pub made : List ℕ
+  pub name : List ℕ
+  pub ready : Bool
+
+-- all of a desk in memory: its inputs and outputs, what it keeps, its faults of reading and of writing, and the growths that were refused
+pub record MemState : Type 0 where
+  pub side : MemIncoming
+  pub input : MemIncoming
+  pub output : MemOutgoing
+  pub report : MemOutgoing
+  pub held : Kept
+  pub reads : ℕ
+  pub writes : ℕ
+  pub short : ℕ
+
+abbrev pub bytes_code : Coded (List ℕ)
+bytes_code = coded_list coded_ℕ
+
+abbrev pub incoming_code : Coded MemIncoming
+incoming_code = code_by (List ℕ × Bool) (coded× bytes_code coded_bool) (λ i. (i.left, i.ready)) (λ p. record { left = p.0; ready = p.1 }) (λ _. refl)
+
+abbrev pub outgoing_code : Coded MemOutgoing
+outgoing_code =
+    code_by (List ℕ × (List ℕ × Bool)) (coded× bytes_code (coded× bytes_code coded_bool)) (λ o. (o.made, (o.name, o.ready)))
+    (λ p. record { made = p.0; name = p.1.0; ready = p.1.1 }) (λ _. refl)
+
+abbrev pub kept_code : Coded Kept
+kept_code = map.code bytes_code bytes_code
+
+abbrev pub state_code : Coded MemState
+state_code =
+    code_by ((MemIncoming × MemIncoming) × ((MemOutgoing × MemOutgoing) × (Kept × (ℕ × (ℕ × ℕ)))))
+    (coded× (coded× incoming_code incoming_code) (coded× (coded× outgoing_code outgoing_code) (coded× kept_code (coded× coded_ℕ (coded× coded_ℕ coded_ℕ)))))
+    (λ s. ((s.side, s.input), ((s.output, s.report), (s.held, (s.reads, (s.writes, s.short))))))
+    (λ p. record {
+      side = p.0.0;
+      input = p.0.1;
+      output = p.1.0.0;
+      report = p.1.0.1;
+      held = p.1.1.0;
+      reads = p.1.1.1.0;
+      writes = p.1.1.1.1.0;
+      short = p.1.1.1.1.1;
+    })
+    (λ _. refl)
+
+abbrev pub closed_incoming : MemIncoming
+closed_incoming = record { left = []; ready = false }
+
+abbrev pub closed_outgoing : MemOutgoing
+closed_outgoing = record { made = []; name = []; ready = false }
+
+-- a new desk: nothing is open or held, and nothing has failed
+abbrev pub empty_desk : MemState
+empty_desk = record {
+  side = closed_incoming;
+  input = closed_incoming;
+  output = closed_outgoing;
+  report = closed_outgoing;
+  held = map.empty;
+  reads = 0;
+  writes = 0;
+  short = 0;
+}
+
+-- the bytes still to come at an inlet
+abbrev pub mem_left : MemState → Inlet → List ℕ
+mem_left state inlet.Side = state.side.left
+mem_left state inlet.Main = state.input.left
+
+-- the bytes written to an outlet since it was opened
+abbrev pub mem_made : MemState → Outlet → List ℕ
+mem_made state outlet.Main = state.output.made
+mem_made state outlet.Report = state.report.made
+
+-- what a desk in memory tells, which is everything. It grants every name
+abbrev pub mem_meanings : MemState → Meanings
+mem_meanings state = record {
+  side = record { left = Some state.side.left; ready = state.side.ready };
+  input = record { left = Some state.input.left; ready = state.input.ready };
+  output = record { made = Some state.output.made; name = Some state.output.name; ready = state.output.ready };
+  report = record { made = Some state.report.made; name = Some state.report.name; ready = state.report.ready };
+  held = Some state.held;
+  grants_in = λ _. true;
+  grants_out = λ _. true;
+}
+
+abbrev pub mem_counts : MemState → Counts
+mem_counts state = record { reads = state.reads; writes = state.writes }
+
+-- the next value of a count, which stands still at its last value
+abbrev pub next_count : ℕ → ℕ
+next_count n = min (n + 1) (2 ^ 64 - 1)

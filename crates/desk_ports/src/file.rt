@@ -1,0 +1,198 @@
+ghost use Rattle.std.specs.Prelude.{◌≡◌, ◌≤◌, ◌+◌, ◌-◌, ◌^◌, min, length, IsTrue, IfOk, OnOk};
+ghost use Rattle.desk_ports.specs.Meanings.{nothing_told, Counts};
+
+use crate::desk::{Desk, Failed, Inlet, Outlet};
+use std::fs::File;
+use std::io::{Read, Stdin, Stdout, Write};
+use std::{fs, io};
+
+// Where the bytes of an inlet come from.
+#[derive(Drop)]
+enum Source {
+    Nothing,
+    StandardInput(Stdin),
+    File(File),
+}
+
+impl Source {
+    ghost use Rattle.desk_ports.specs.FileDesk.{is_opened_source};
+
+    // The name `-` is standard input.
+    fn open(rt: &HostRuntime, name: &str) -> io::Result<Source>
+        ensures { IfOk result (λ source. IsTrue (is_opened_source source)) }
+    {
+        if name == "-" {
+            return Ok(Source::StandardInput(rt.stdin()));
+        }
+        Ok(Source::File(fs::open(rt, name)?))
+    }
+
+    fn read(&mut self, buf: &mut [u8]) -> io::Result<usize>
+        requires { IsTrue (is_opened_source self.old) }
+        ensures within { IfOk result (λ n. n ≤ length buf.old) }
+        ensures opened { IsTrue (is_opened_source self.new) }
+    {
+        match self {
+            Source::Nothing => unreachable!(),
+            Source::StandardInput(stdin) => stdin.read(buf),
+            Source::File(file) => file.read(buf),
+        }
+    }
+}
+
+// Where the bytes of an outlet go.
+#[derive(Drop)]
+enum Sink {
+    Nothing,
+    StandardOutput(Stdout),
+    File(File),
+}
+
+impl Sink {
+    ghost use Rattle.desk_ports.specs.FileDesk.{is_opened_sink};
+
+    // The name `-` is standard output. A file that is there is emptied.
+    fn open(rt: &HostRuntime, name: &str) -> io::Result<Sink>
+        ensures { IfOk result (λ sink. IsTrue (is_opened_sink sink)) }
+    {
+        if name == "-" {
+            return Ok(Sink::StandardOutput(rt.stdout()));
+        }
+        Ok(Sink::File(fs::create(rt, name)?))
+    }
+
+    fn write(&mut self, bytes: &[u8]) -> io::Result<usize>
+        requires { IsTrue (is_opened_sink self.old) }
+        ensures within { IfOk result (λ n. n ≤ length bytes.now) }
+        ensures opened { IsTrue (is_opened_sink self.new) }
+    {
+        match self {
+            Sink::Nothing => unreachable!(),
+            Sink::StandardOutput(stdout) => stdout.write(bytes),
+            Sink::File(file) => file.write(bytes),
+        }
+    }
+
+    fn flush(&mut self) -> io::Result<()>
+        requires { IsTrue (is_opened_sink self.old) }
+        ensures { IsTrue (is_opened_sink self.new) }
+    {
+        match self {
+            Sink::Nothing => unreachable!(),
+            Sink::StandardOutput(stdout) => stdout.flush(),
+            Sink::File(file) => file.flush(),
+        }
+    }
+}
+
+/// The desk over real files. The name `-` is standard input for an inlet and standard output for an outlet.
+///
+/// It tells no content, since no clause can say what a file holds. Each error of the system is a fault,
+/// and so is a write that takes nothing.
+#[derive(Drop)]
+pub struct FileDesk<'a> {
+    rt: &'a HostRuntime,
+    side: Source,
+    input: Source,
+    output: Sink,
+    report: Sink,
+    read_faults: u64,
+    write_faults: u64,
+}
+
+impl<'a> FileDesk<'a> {
+    /// A desk at which nothing was opened. It grants every name.
+    pub fn new(rt: &'a HostRuntime) -> FileDesk<'a>
+        ensures untold { ⟦<FileDesk<'a> as Desk>⟧.meaning result ≡ nothing_told }
+        ensures no_faults { ⟦<FileDesk<'a> as Desk>⟧.counts result ≡ record { reads = 0; writes = 0 } }
+    {
+        FileDesk {
+            rt,
+            side: Source::Nothing,
+            input: Source::Nothing,
+            output: Sink::Nothing,
+            report: Sink::Nothing,
+            read_faults: 0,
+            write_faults: 0,
+        }
+    }
+
+    fn read_fault(&mut self) -> Failed
+        ensures counted { self.new ≡ record self.old { read_faults = min (self.old.read_faults + 1) (2 ^ 64 - 1) } }
+        ensures rises { self.old.read_faults ≤ self.new.read_faults }
+    {
+        self.read_faults = self.read_faults.saturating_add(1);
+        Failed
+    }
+
+    fn write_fault(&mut self) -> Failed
+        ensures counted { self.new ≡ record self.old { write_faults = min (self.old.write_faults + 1) (2 ^ 64 - 1) } }
+        ensures rises { self.old.write_faults ≤ self.new.write_faults }
+    {
+        self.write_faults = self.write_faults.saturating_add(1);
+        Failed
+    }
+}
+
+impl<'a> Desk for FileDesk<'a> {
+    ghost use Rattle.desk_ports.specs.FileDesk.{file_meanings};
+
+    ghost meaning = { λ desk. file_meanings desk.side desk.input desk.output desk.report };
+
+    ghost counts = { λ desk. record { reads = desk.read_faults; writes = desk.write_faults } };
+
+    fn open_in(&mut self, inlet: Inlet, name: &str) -> Result<(), Failed> {
+        let Ok(source) = Source::open(self.rt, name) else {
+            return Err(self.read_fault());
+        };
+        match inlet {
+            Inlet::Side => self.side = source,
+            Inlet::Main => self.input = source,
+        }
+        Ok(())
+    }
+
+    fn open_out(&mut self, outlet: Outlet, name: &str) -> Result<(), Failed> {
+        let Ok(sink) = Sink::open(self.rt, name) else {
+            return Err(self.write_fault());
+        };
+        match outlet {
+            Outlet::Main => self.output = sink,
+            Outlet::Report => self.report = sink,
+        }
+        Ok(())
+    }
+
+    fn read(&mut self, inlet: Inlet, buf: &mut [u8]) -> Result<usize, Failed> {
+        let moved = match inlet {
+            Inlet::Side => self.side.read(buf),
+            Inlet::Main => self.input.read(buf),
+        };
+        match moved {
+            Ok(moved) => Ok(moved),
+            Err(_) => Err(self.read_fault()),
+        }
+    }
+
+    fn write(&mut self, outlet: Outlet, bytes: &[u8]) -> Result<usize, Failed> {
+        let taken = match outlet {
+            Outlet::Main => self.output.write(bytes),
+            Outlet::Report => self.report.write(bytes),
+        };
+        match taken {
+            Ok(0) | Err(_) => Err(self.write_fault()),
+            Ok(taken) => Ok(taken),
+        }
+    }
+
+    fn finish(&mut self, outlet: Outlet) -> Result<(), Failed> {
+        let flushed = match outlet {
+            Outlet::Main => self.output.flush(),
+            Outlet::Report => self.report.flush(),
+        };
+        match flushed {
+            Ok(()) => Ok(()),
+            Err(_) => Err(self.write_fault()),
+        }
+    }
+}

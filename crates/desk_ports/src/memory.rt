@@ -1,0 +1,171 @@
+ghost use Rattle.std.specs.Prelude.{◌≡◌, ◌≤◌, ◌<◌, ◌↔◌, length, min, take, None, IsTrue, IsOk, IsErr, IfOk, OnOk, OnErr};
+ghost use Rattle.std.specs.FinMap as map;
+ghost use Rattle.std.specs.Io.KnownBytes.{IsAtEnd};
+ghost use Rattle.desk_ports.specs.Meanings.{Opens, Begins, Moves, Adds, Keeps, IsReadyIn, IsReadyOut, Rises, Rose, left, kept_at};
+ghost use Rattle.desk_ports.specs.MemState.{empty_desk, mem_left, mem_made, next_count};
+
+use crate::desk::{Desk, Failed, Inlet, Outlet};
+use crate::log::{Entry, keep, newest};
+use crate::written::Written;
+use std::alloc::{AllocError, Global};
+use std::marker::Model;
+
+// Where an inlet stands: before a place of the bytes of an entry of the log.
+#[derive(Clone, Copy)]
+enum Reading {
+    Nothing,
+    Entry { at: usize, place: usize },
+}
+
+#[derive(Clone, Copy)]
+struct Readings {
+    side: Reading,
+    input: Reading,
+}
+
+impl Readings {
+    ghost use Rattle.desk_ports.specs.MemDesk.{reading_at, with_reading};
+
+    fn at(&self, inlet: Inlet) -> Reading
+        ensures { result ≡ reading_at self.now inlet }
+    {
+        match inlet {
+            Inlet::Side => self.side,
+            Inlet::Main => self.input,
+        }
+    }
+
+    fn set(&mut self, inlet: Inlet, reading: Reading)
+        ensures { self.new ≡ with_reading self.old inlet reading }
+    {
+        match inlet {
+            Inlet::Side => self.side = reading,
+            Inlet::Main => self.input = reading,
+        }
+    }
+}
+
+#[derive(Clone, Copy)]
+struct Faults {
+    reads: u64,
+    writes: u64,
+    short: u64,
+}
+
+impl Faults {
+    fn read(&mut self) -> Failed
+        ensures counted { self.new ≡ record self.old { reads = next_count self.old.reads } }
+        ensures rises { self.old.reads ≤ self.new.reads }
+    {
+        self.reads = self.reads.saturating_add(1);
+        Failed
+    }
+
+    // A growth was refused.
+    fn growth(&mut self) -> Failed
+        ensures counted { self.new ≡ record self.old { writes = next_count self.old.writes; short = next_count self.old.short } }
+        ensures writes_rise { self.old.writes ≤ self.new.writes }
+        ensures short_rises { self.old.short ≤ self.new.short }
+    {
+        self.writes = self.writes.saturating_add(1);
+        self.short = self.short.saturating_add(1);
+        Failed
+    }
+}
+
+/// The desk in memory. It tells everything, and its outlets grow.
+#[derive(Drop)]
+pub struct MemDesk {
+    alloc: Global,
+    log: Vec<Entry>,
+    readings: Readings,
+    output: Written,
+    report: Written,
+    faults: Faults,
+}
+
+impl Model for MemDesk {
+    ghost use Rattle.desk_ports.specs.MemState.{MemState, state_code};
+
+    ghost Value = { MemState };
+
+    ghost coded = { state_code };
+
+    ghost use Rattle.desk_ports.specs.MemDesk.{state_of, AreWithin};
+
+    ghost view = { λ d. state_of d.log.items d.readings d.output d.report d.faults };
+
+    ghost invariant = { λ d. AreWithin d.log.items d.readings };
+}
+
+impl MemDesk {
+    /// A desk with nothing held and no faults. It takes no memory.
+    pub fn new(alloc: Global) -> MemDesk
+        ensures { result ≡ empty_desk }
+    {
+        MemDesk {
+            alloc,
+            log: Vec::new(alloc),
+            readings: Readings {
+                side: Reading::Nothing,
+                input: Reading::Nothing,
+            },
+            output: Written::closed(alloc),
+            report: Written::closed(alloc),
+            faults: Faults {
+                reads: 0,
+                writes: 0,
+                short: 0,
+            },
+        }
+    }
+
+    /// Keeps the bytes under the name. An inlet that was opened before stays as it is.
+    pub fn put(&mut self, name: &str, bytes: &[u8]) -> Result<(), AllocError>
+        ensures ok { OnOk result (self.new ≡ record self.old { held = map.insert self.old.held name.now bytes.now }) }
+        ensures err { OnErr result (self.new ≡ self.old) }
+    {
+        keep(&mut self.log, self.alloc, name.as_bytes(), bytes)
+    }
+
+    /// What is kept under the name, nothing where the name was never put or finished.
+    pub fn get(&self, name: &str) -> &[u8]
+        ensures { result.now ≡ kept_at self.now.held name.now }
+    {
+        match newest(&self.log, name.as_bytes()) {
+            Some(at) => self.log[at].bytes(),
+            None => &[],
+        }
+    }
+
+    /// The bytes that were written to an outlet since it was opened.
+    pub fn seen(&self, outlet: Outlet) -> &[u8]
+        ensures { result.now ≡ mem_made self.now outlet }
+    {
+        match outlet {
+            Outlet::Main => self.output.made(),
+            Outlet::Report => self.report.made(),
+        }
+    }
+
+    /// How often opening an input and reading have failed.
+    pub fn read_faults(&self) -> u64
+        ensures { result ≡ self.now.reads }
+    {
+        self.faults.reads
+    }
+
+    /// How often opening an output, writing and finishing have failed.
+    pub fn write_faults(&self) -> u64
+        ensures { result ≡ self.now.writes }
+    {
+        self.faults.writes
+    }
+
+    /// How often a growth was refused in opening an output, writing and finishing.
+    pub fn short(&self) -> u64
+        ensures { result ≡ self.now.short }
+    {
+        self.faults.short
+    }
+}

@@ -1,0 +1,65 @@
+ghost use Rattle.std.specs.Prelude.{◌≡◌, ◌++◌, [], true, OnOk, OnErr};
+ghost use Rattle.desk_ports.specs.MemState.{closed_outgoing};
+
+use std::alloc::{AllocError, Global};
+use std::marker::Model;
+
+/// An output in memory: its name and the bytes that were written to it since it was opened.
+#[derive(Drop)]
+pub struct Written {
+    name: Vec<u8>,
+    made: Vec<u8>,
+    ready: bool,
+}
+
+impl Model for Written {
+    ghost use Rattle.desk_ports.specs.MemState.{MemOutgoing, outgoing_code};
+
+    ghost Value = { MemOutgoing };
+
+    ghost coded = { outgoing_code };
+
+    ghost view = { λ w. record { made = w.made.items; name = w.name.items; ready = w.ready } };
+}
+
+impl Written {
+    /// An output that was never opened. It takes no memory.
+    pub fn closed(alloc: Global) -> Written
+        ensures { result ≡ closed_outgoing }
+    {
+        Written {
+            name: Vec::new(alloc),
+            made: Vec::new(alloc),
+            ready: false,
+        }
+    }
+
+    pub fn open(&mut self, alloc: Global, name: &[u8]) -> Result<(), AllocError>
+        ensures ok { OnOk result (self.new ≡ record { made = []; name = name.now; ready = true }) }
+        ensures err { OnErr result (self.new ≡ self.old) }
+    {
+        self.name = name.to_vec(alloc)?;
+        self.made.clear();
+        self.ready = true;
+        Ok(())
+    }
+
+    pub fn add(&mut self, bytes: &[u8]) -> Result<(), AllocError>
+        ensures ok { OnOk result (self.new ≡ record self.old { made = self.old.made ++ bytes.now }) }
+        ensures err { OnErr result (self.new ≡ self.old) }
+    {
+        self.made.extend_from_slice(bytes)
+    }
+
+    pub fn name(&self) -> &[u8]
+        ensures { result.now ≡ self.now.name }
+    {
+        &self.name
+    }
+
+    pub fn made(&self) -> &[u8]
+        ensures { result.now ≡ self.now.made }
+    {
+        &self.made
+    }
+}
