@@ -1,5 +1,5 @@
 -- What a desk means: the bytes that come and go, the names, and what each call does to them.
-use Rattle.std.specs.Prelude.{◌≡◌, ℕ, ◌+◌, ◌-◌, ◌^◌, ◌≤◌, min, Bool, true, false, IsTrue, List, [], Option, Some, None, IfSome, unwrap_or}
+use Rattle.std.specs.Prelude.{◌≡◌, ℕ, ◌+◌, ◌-◌, ◌^◌, ◌≤◌, min, Bool, true, false, IsTrue, List, [], ◌++◌, Option, Some, None, IfSome, unwrap_or}
 use Rattle.std.specs.Option.{option_map}
 use Rattle.std.specs.Ordering.{nat_cmp}
 use Rattle.std.specs.FinMap as map
@@ -102,6 +102,13 @@ pub record Moves (old new : Meanings) (i : Inlet) (bytes : List ℕ) : Type 0 wh
 pub record Adds (old new : Meanings) (o : Outlet) (bytes : List ℕ) : Type 0 where
   pub added : made new o ≡ append_known (made old o) bytes
   pub others : new ≡ with_made old o (made new o)
+
+-- a front of these bytes was added to the end of what an outlet made, and nothing else changed
+pub record AddsFront (old new : Meanings) (o : Outlet) (bytes : List ℕ) : Type 0 where
+  pub front : List ℕ
+  pub rest : List ℕ
+  pub joined : front ++ rest ≡ bytes
+  pub added : Adds old new o front
 
 -- what is kept once an outlet is finished, where the desk tells all three parts
 abbrev pub kept_after : Option Kept → Option (List ℕ) → Option (List ℕ) → Option Kept

@@ -1,6 +1,6 @@
 ghost use Rattle.std.specs.Prelude.{◌≡◌, ◌<◌, ◌≤◌, ◌++◌, ℕ, List, length, take, IfOk, OnOk, OnErr};
 ghost use Rattle.std.specs.Io.KnownBytes.{IsAtEnd};
-ghost use Rattle.desk_ports.specs.Meanings.{Moves, Adds, IsReadyIn, IsReadyOut, Rises, Rose, left};
+ghost use Rattle.desk_ports.specs.Meanings.{Moves, Adds, AddsFront, IsReadyIn, IsReadyOut, Rises, Rose, left};
 
 use crate::desk::{Desk, Failed, Inlet, Outlet};
 
@@ -30,7 +30,7 @@ pub fn fill<D: Desk>(desk: &mut D, inlet: Inlet, buf: &mut [u8]) -> Result<usize
 pub fn write_all<D: Desk>(desk: &mut D, outlet: Outlet, bytes: &[u8]) -> Result<(), Failed>
     requires { IsReadyOut (D.meaning desk.old) outlet }
     ensures added { OnOk result (Adds (D.meaning desk.old) (D.meaning desk.new) outlet bytes.now) }
-    ensures front { OnErr result ((n : ℕ) × (n < length bytes.now) × Adds (D.meaning desk.old) (D.meaning desk.new) outlet (take n bytes.now)) }
+    ensures front { OnErr result (AddsFront (D.meaning desk.old) (D.meaning desk.new) outlet bytes.now) }
     ensures cause { OnErr result (Rose (D.counts desk.old).writes (D.counts desk.new).writes) }
     ensures rises { Rises (D.counts desk.old) (D.counts desk.new) }
 {
