@@ -1,0 +1,96 @@
+-- The bits of a number, and the number of bits, undo each other.
+use Rattle.std.proofs.Common.{◌≡◌, ℕ, zero, suc, ◌+◌, ◌-◌, ◌*◌, ◌/◌, ◌%◌, ◌^◌, ◌<◌, ◌≤◌, Bool, true, false, cond, eqb, List, [], ◌∷◌, ◌++◌, length, get_or, take, refl, sym, ap, ◌∙◌, arith}
+use Rattle.std.specs.Int.{bit_at}
+use Rattle.std.proofs.lemmas.List.{length_push, length-take, take_more}
+use Rattle.std.proofs.Math.Nat.{pow-succ', pow-le-pow_right, div-div-eq-div-mul, add_comm}
+use Rattle.std.proofs.Common.{zero-add, add-one}
+use Rattle.std.proofs.lemmas.Nat.{pow-add, mod-pow-add, shr_split}
+use Rattle.std.proofs.lemmas.Nat.Bits.{bit_at_cat_low, bit_at_cat_high, bit_at-lt}
+use Rattle.bit_vectors.specs.Vectors.{number_bits, bits_number}
+
+pub length-number_bits : (width n : ℕ) → length (number_bits width n) ≡ width
+unfolding number_bits
+length-number_bits zero n = refl
+length-number_bits (suc w) n = ap suc (length-number_bits w n)
+
+pub get_or-number_bits : (width n i : ℕ) → i < width → get_or (number_bits width n) i false ≡ eqb (bit_at n (width - 1 - i)) 1
+unfolding number_bits
+get_or-number_bits zero n i lt = absurd (omega arith)
+get_or-number_bits (suc w) n zero lt = let same : suc w - 1 - 0 ≡ w = omega arith in rw same refl
+get_or-number_bits (suc w) n (suc i) lt =
+    let same : suc w - 1 - suc i ≡ w - 1 - i = omega arith in rw same (get_or-number_bits w n i (omega arith))
+
+-- the low bits of a number are those of what stands below them
+pub number_bits_low : (width a k b : ℕ) → width ≤ k → number_bits width (a * 2 ^ k + b) ≡ number_bits width b
+unfolding number_bits
+number_bits_low zero a k b le = refl
+number_bits_low (suc w) a k b le =
+    rw (bit_at_cat_low a k b w (omega arith), number_bits_low w a k b (omega arith)) refl
+
+pub number_bits-mod : (width k n : ℕ) → width ≤ k → number_bits width (n % 2 ^ k) ≡ number_bits width n
+number_bits-mod w k n le = sym (ap (number_bits w) (sym (shr_split n k)) ∙ number_bits_low w (n / 2 ^ k) k (n % 2 ^ k) le)
+
+-- the high bits of a number, and then its low ones
+pub number_bits-add : (high low n : ℕ) → number_bits (high + low) n ≡ number_bits high (n / 2 ^ low) ++ number_bits low n
+unfolding number_bits
+number_bits-add zero low n = rw zero-add refl
+number_bits-add (suc high) low n =
+    let next : suc high + low ≡ suc (high + low) = omega arith in
+    let split : n / 2 ^ (high + low) ≡ n / 2 ^ low / 2 ^ high = rw (add_comm high low, pow-add 2 low high) (sym (div-div-eq-div-mul n (2 ^ low) (2 ^ high))) in
+    rw (next, number_bits-add high low n, split) refl
+
+weight : (bit : ℕ) (p : ℕ) → bit < 2 → cond (eqb bit 1) p 0 ≡ bit * p
+weight zero p lt = omega arith
+weight (suc zero) p lt = omega arith
+weight (suc (suc b)) p lt = absurd (omega arith)
+
+pub bits_number-number_bits : (width n : ℕ) → bits_number (number_bits width n) ≡ n % 2 ^ width
+unfolding number_bits bits_number
+bits_number-number_bits zero n = omega arith
+bits_number-number_bits (suc w) n =
+    let rest = bits_number-number_bits w n in
+    let split : n % 2 ^ (1 + w) ≡ (n / 2 ^ w % 2 ^ 1) * 2 ^ w + n % 2 ^ w = mod-pow-add n 1 w in
+    let one : 1 + w ≡ suc w = omega arith in
+    rw (length-number_bits w n, rest, weight (bit_at n w) (2 ^ w) (bit_at-lt n w), ← one, split) refl
+
+pub bits_number_below : (bits : List Bool) → bits_number bits < 2 ^ length bits
+unfolding bits_number
+bits_number_below [] = omega arith
+bits_number_below (true ∷ bits) = let h = bits_number_below bits in omega (arith, pow-succ' 2 (length bits))
+bits_number_below (false ∷ bits) = let h = bits_number_below bits in omega (arith, pow-succ' 2 (length bits))
+
+pub number_bits-bits_number : (bits : List Bool) → number_bits (length bits) (bits_number bits) ≡ bits
+unfolding number_bits bits_number
+number_bits-bits_number [] = refl
+number_bits-bits_number (true ∷ bits) =
+    let one : 2 ^ length bits + bits_number bits ≡ 1 * 2 ^ length bits + bits_number bits = omega arith in
+    let below = bits_number_below bits in
+    let none : length bits - length bits ≡ 0 = omega arith in
+    let rest = number_bits_low (length bits) 1 (length bits) (bits_number bits) (omega arith) ∙ number_bits-bits_number bits in
+    rw (one, bit_at_cat_high 1 (length bits) (bits_number bits) (length bits) below (omega arith), none, rest) refl
+number_bits-bits_number (false ∷ bits) =
+    let one : 0 + bits_number bits ≡ 0 * 2 ^ length bits + bits_number bits = omega arith in
+    let below = bits_number_below bits in
+    let none : length bits - length bits ≡ 0 = omega arith in
+    let rest = number_bits_low (length bits) 0 (length bits) (bits_number bits) (omega arith) ∙ number_bits-bits_number bits in
+    rw (one, bit_at_cat_high 0 (length bits) (bits_number bits) (length bits) below (omega arith), none, rest) refl
+
+-- one more bit at the end
+pub bits_number-push : (bits : List Bool) (bit : Bool) → bits_number (bits ++ bit ∷ []) ≡ 2 * bits_number bits + cond bit 1 0
+unfolding bits_number
+bits_number-push [] true = refl
+bits_number-push [] false = refl
+bits_number-push (true ∷ bits) bit =
+    let e = bits_number-push bits bit in
+    let longer : 2 ^ length (bits ++ bit ∷ []) ≡ 2 * 2 ^ length bits = rw (length_push bits bit, add-one) (pow-succ' 2 (length bits)) in
+    omega arith
+bits_number-push (false ∷ bits) bit = let e = bits_number-push bits bit in omega arith
+
+-- a number of so few bits is small
+pub bits_number_take_below : (bits : List Bool) (n most : ℕ) → n ≤ most → bits_number (take n bits) < 2 ^ most
+bits_number_take_below bits n most le =
+    omega (arith, bits_number_below (take n bits), pow-le-pow_right {n = 2} (omega arith) {i = length (take n bits)} {j = most} (omega (arith, length-take n bits)))
+
+-- one bit more from the front of a list
+pub bits_number-take_more : (bits : List Bool) (n : ℕ) → n < length bits → bits_number (take (n + 1) bits) ≡ 2 * bits_number (take n bits) + cond (get_or bits n false) 1 0
+bits_number-take_more bits n lt = rw (take_more bits n false lt) (bits_number-push (take n bits) (get_or bits n false))

@@ -1,0 +1,43 @@
+-- Vectors of bits, and how bits lie in bytes: the bit of the greatest weight of the first byte comes first.
+use Rattle.std.specs.Prelude.{ℕ, zero, suc, ◌+◌, ◌-◌, ◌*◌, ◌/◌, ◌^◌, ◌<◌, ◌≤◌, ◌==◌, Bool, false, if◌then◌else◌, List, [], ◌∷◌, ◌++◌, length, take, drop, replicate, slice_index}
+use Rattle.std.specs.List.{flat_map}
+use Rattle.std.specs.Int.{bit_at}
+
+-- a vector has 1 to 49,152 places
+abbrev pub IsVector : List Bool → Type 0
+IsVector v = (1 ≤ length v) × (length v ≤ 49152)
+
+-- the bits of a number, of this width, the greatest weight first
+unfoldable pub number_bits : ℕ → ℕ → List Bool
+number_bits zero n = []
+number_bits (suc width) n = (bit_at n width == 1) ∷ number_bits width n
+
+-- the number whose bits these are, the greatest weight first
+unfoldable pub bits_number : List Bool → ℕ
+bits_number [] = 0
+bits_number (bit ∷ bits) = (if bit then 2 ^ length bits else 0) + bits_number bits
+
+-- the bits of bytes: eight of each
+abbrev pub bits_of : List ℕ → List Bool
+bits_of bytes = flat_map (number_bits 8) bytes
+
+-- numbers below 256
+abbrev pub AreBytes : List ℕ → Type 0
+AreBytes bytes = (i : ℕ) → slice_index bytes i < 256
+
+-- how many bytes so many bits take
+abbrev pub byte_count : ℕ → ℕ
+byte_count count = (count + 7) / 8
+
+-- the bits, and fewer than eight zeros after them, so that they fill whole bytes
+abbrev pub padded : List Bool → List Bool
+padded bits = bits ++ replicate (8 * byte_count (length bits) - length bits) false
+
+-- the first so many bytes of bits
+unfoldable pub bytes_from : ℕ → List Bool → List ℕ
+bytes_from zero bits = []
+bytes_from (suc count) bits = bits_number (take 8 bits) ∷ bytes_from count (drop 8 bits)
+
+-- the bits as bytes: those of the padded bits
+unfoldable pub vector_bytes : List Bool → List ℕ
+vector_bytes bits = bytes_from (byte_count (length bits)) (padded bits)

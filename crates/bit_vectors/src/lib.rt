@@ -1,0 +1,13 @@
+//! Vectors of bits, and bits written to and read from bytes.
+#![tactic(auto)]
+
+mod bits;
+mod eye;
+mod fault;
+mod flags;
+mod packing;
+
+pub use bits::{Bits, byte_len};
+pub use eye::BitEye;
+pub use fault::{BitFault, NoMemory, SpareBit};
+pub use flags::Flags;
