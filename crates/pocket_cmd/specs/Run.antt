@@ -1,5 +1,5 @@
 -- What the parts of a run of `restore` leave, by their answers: what was read, and what was written.
-use Rattle.std.specs.Prelude.{◌≡◌, ℕ, ◌+◌, ◌<◌, Bool, true, false, IsTrue, List, [], ◌++◌, length, Result, Ok, Err, IfSome}
+use Rattle.std.specs.Prelude.{◌≡◌, ℕ, ◌+◌, ◌^◌, ◌<◌, Bool, true, false, IsTrue, List, [], ◌++◌, length, None, Result, Ok, Err, IfSome}
 use Rattle.std.specs.Io.KnownBytes.{IsAtEnd}
 use Rattle.bit_vectors.specs.Vectors.{vector_bytes}
 use Rattle.desk_ports.specs.Meanings.{Meanings, left}
@@ -7,20 +7,28 @@ use Rattle.desk_ports.specs.Runs.{Ran}
 use Rattle.desk_ports.specs.declared.desk.Inlet.TheVariants as inlet
 use Rattle.packet_decode.specs.Decoding.{Decoding, number_of}
 use Rattle.packet_decode.specs.Packets.{State}
-use Rattle.packet_store.specs.SpacePackets.{space_packet}
+use Rattle.packet_store.specs.SpacePackets.{space_packet, store_bytes}
 use Rattle.packet_store.specs.StoreReader.{ReaderState}
-use Rattle.pocket_cmd.specs.PlainStore.{IsNextPlain, IsPlainStore, IsLongestPlain, IsStuck}
+use Rattle.pocket_cmd.specs.PlainStore.{IsNextPlain, ArePlain, IsPlainStore, IsLongestPlain, IsStuck}
 use Rattle.pocket_cmd.specs.Report.{restored_bytes}
 use Rattle.pocket_cmd.specs.declared.status.Refusal.{Refusal}
 use Rattle.pocket_cmd.specs.declared.status.Refusal.TheVariants.{BadWords, NotYet, ReadFault, WriteFault, NoMemory}
 
 -- the reader and the decoder stand before the packet with the number t
 pub record StandBefore (f apid t : ℕ) (reader : ReaderState) (decoder : Decoding) : Type 0 where
-  pub apid : reader.apid ≡ apid
+  pub chosen : reader.apid ≡ apid
   pub taken : reader.taken ≡ t
   pub live : IsTrue reader.live
   pub places : decoder.places ≡ f
   pub earlier : IfSome (number_of decoder.state) (λ last. last < t)
+
+-- packets before the number t were read from the input and their contents written to the output
+pub record HasRestored (f apid t : ℕ) (state : State) (old new : Meanings) : Type 0 where
+  pub packets : List (ℕ × List ℕ)
+  pub contents : List (List Bool)
+  pub plain : ArePlain f apid 0 None packets contents state
+  pub count : length contents ≡ t
+  pub ran : Ran old new (store_bytes apid packets) (restored_bytes contents) []
 
 -- after a reading of the packet with the number t: true where there was one, false at the end
 abbrev pub AfterReading : ℕ → ℕ → ℕ → State → State → Meanings → Meanings → Result Bool Refusal → Type 0
@@ -43,7 +51,7 @@ AfterTurn f apid t state next old new (Err (NotYet n)) =
     (n ≡ t) × ((bytes : List ℕ) × Ran old new bytes [] []) × IfSome (left old inlet.Main) (IsStuck f apid t state)
 AfterTurn f apid t state next old new (Err ReadFault) = (bytes : List ℕ) × Ran old new bytes [] []
 AfterTurn f apid t state next old new (Err WriteFault) =
-    (packet : ℕ × List ℕ) × (content : List Bool) × IsNextPlain f apid t state packet content next
+    (t < 2 ^ 32) × (packet : ℕ × List ℕ) × (content : List Bool) × IsNextPlain f apid t state packet content next
     × (front : List ℕ) × (rest : List ℕ) × (front ++ rest ≡ vector_bytes content) × Ran old new (space_packet apid packet.0 packet.1) front []
 AfterTurn f apid t state next old new (Err (BadWords word)) = ⊥
 AfterTurn f apid t state next old new (Err NoMemory) = ⊥

@@ -3,6 +3,7 @@
 
 mod command;
 mod number;
+mod packets;
 mod report;
 mod status;
 mod words;

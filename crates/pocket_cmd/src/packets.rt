@@ -1,5 +1,5 @@
 //! The packets of a store, one after the other, from the input to the output.
-ghost use Rattle.std.specs.Prelude.{◌≡◌, ◌+◌, ◌≤◌, ◌<◌, ◌^◌, length, true, IsTrue, Ok, Err};
+ghost use Rattle.std.specs.Prelude.{◌≡◌, ◌+◌, ◌≤◌, ◌<◌, ◌^◌, length, true, IsTrue, None, Ok, Err};
 ghost use Rattle.bit_vectors.specs.Vectors.{byte_count};
 ghost use Rattle.desk_ports.specs.Meanings.{IsReadyIn, IsReadyOut, Rises, Rose};
 ghost use Rattle.pocket_cmd.specs.Run.{StandBefore, AfterReading, AfterTurn, AfterPackets};
@@ -82,6 +82,7 @@ pub fn restore_packets<D: Desk>(
     line: &mut [u8],
 ) -> Result<u64, Refusal>
     requires place { StandBefore decoder.old.places reader.old.apid 0 reader.old decoder.old }
+    requires fresh { decoder.old.state ≡ None }
     requires line { length line.old ≡ byte_count decoder.old.places }
     requires open { IsReadyIn (D.meaning desk.old) Inlet.Main }
     requires open_out { IsReadyOut (D.meaning desk.old) Outlet.Main }
