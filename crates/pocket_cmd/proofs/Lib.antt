@@ -1,6 +1,9 @@
+pub mod Given
 pub mod Numbers
 pub mod Places
+pub mod Outcomes
 pub mod PlainStores
 pub mod Results
 pub mod Runs
+pub mod WholeRuns
 pub mod Stuck

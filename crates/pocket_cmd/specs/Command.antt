@@ -1,12 +1,10 @@
 -- The command that the words give, or the place of the first fault in them.
-use Rattle.std.specs.Prelude.{◌≡◌, ℕ, ◌+◌, List, [], ◌∷◌, length, codes, Option, Some, None, option_and_then, ok_or, Result, Ok, Err}
+use Rattle.std.specs.Prelude.{◌≡◌, ℕ, ◌+◌, ◌≤◌, List, [], ◌∷◌, length, codes, Option, Some, None, option_and_then, ok_or, Result, Ok, Err}
 use Rattle.pocket_cmd.specs.Number.{number_of}
-use Rattle.pocket_cmd.specs.Words.{verb_of, first_faulty, value_of}
+use Rattle.pocket_cmd.specs.Words.{verb_of, first_faulty, value_of, Gives}
 use Rattle.pocket_cmd.specs.declared.words.Verb.{Verb}
 use Rattle.pocket_cmd.specs.declared.words.Verb.TheVariants as verb
 use Rattle.pocket_cmd.specs.declared.command.Restoration.{Restoration as Borrowed}
-use Rattle.pocket_cmd.specs.declared.command.Command.{Command as BorrowedCommand}
-use Rattle.pocket_cmd.specs.declared.command.Command.TheVariants as borrowed
 
 -- what `restore` is told: its names, the bits of a packet and the chosen APID
 pub record Restoration : Type 0 where
@@ -16,6 +14,15 @@ pub record Restoration : Type 0 where
   pub bits : ℕ
   pub apid : ℕ
 
+-- the values are within their bounds, and each name is one that a word gives
+pub record IsGiven (words : List (List ℕ)) (r : Restoration) : Type 0 where
+  pub some : 1 ≤ r.bits
+  pub most : r.bits ≤ 49152
+  pub chosen : r.apid ≤ 2046
+  pub named_input : Gives words (codes "in") r.input
+  pub named_output : Gives words (codes "out") r.output
+  pub named_report : Gives words (codes "report") r.report
+
 -- a verb with its values
 pub data Command : Type 0 where
   Restore : Restoration → Command
@@ -23,11 +30,8 @@ pub data Command : Type 0 where
 abbrev pub view_restoration : Borrowed → Restoration
 view_restoration r = record { input = r.input.now; output = r.output.now; report = r.report.now; bits = r.bits; apid = r.apid }
 
-abbrev pub view_command : BorrowedCommand → Command
-view_command (borrowed.Restore r) = Restore (view_restoration r)
-
-abbrev pub view_result : Result BorrowedCommand ℕ → Result Command ℕ
-view_result (Ok command) = Ok (view_command command)
+abbrev pub view_result : Result Borrowed ℕ → Result Command ℕ
+view_result (Ok r) = Ok (Restore (view_restoration r))
 view_result (Err word) = Err word
 
 infixl 10 ◌>>=◌

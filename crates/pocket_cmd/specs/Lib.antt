@@ -1,7 +1,9 @@
 pub mod Command
 pub mod Number
+pub mod Outcome
 pub mod PlainStore
 pub mod Report
 pub mod Run
+pub mod Stages
 pub mod Status
 pub mod Words

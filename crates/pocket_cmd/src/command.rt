@@ -19,12 +19,6 @@ pub struct Restoration<'a> {
     pub apid: u32,
 }
 
-/// A verb with its values.
-#[derive(Clone, Copy, Debug)]
-pub enum Command<'a> {
-    Restore(Restoration<'a>),
-}
-
 /// What `restore` is told by the words behind it, or the number of all words where one is missing.
 #[tactic(auto, unfolding(crate::specs::Command::restoration_of))]
 fn restoration_of(words: &[String]) -> Result<Restoration<'_>, u32>
@@ -57,9 +51,9 @@ fn numeric(verb: Verb, words: &[String], key: &str, low: u32, high: u32) -> Opti
     number(value, low, high)
 }
 
-/// The verb with its values; or the place of the first faulty word; or the number of words, where one
+/// The values of the verb, which is `restore`; or the place of the first faulty word; or the number of words, where one
 /// is missing.
-pub fn command_of(words: &[String]) -> Result<Command<'_>, u32>
+pub fn command_of(words: &[String]) -> Result<Restoration<'_>, u32>
     requires { length words.now < 2 ^ 32 }
     ensures { view_result result ≡ command_of (map string_bytes words.now) }
 {
@@ -71,6 +65,6 @@ pub fn command_of(words: &[String]) -> Result<Command<'_>, u32>
         return Err(word as u32 + 1);
     }
     match verb {
-        Verb::Restore => Ok(Command::Restore(restoration_of(rest)?)),
+        Verb::Restore => restoration_of(rest),
     }
 }

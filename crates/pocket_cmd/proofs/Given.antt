@@ -1,0 +1,145 @@
+-- What the words give to a command: values within their bounds, and no name that no word gives.
+use Rattle.std.proofs.Common.{◌≡◌, ℕ, ◌+◌, ◌<◌, ◌≤◌, ◌&&◌, Bool, true, false, cond, eqb, nat_lt, nat_le, List, [], ◌∷◌, ◌++◌, length, get_or, Option, Some, None, option_and_then, Result, Ok, Err, ok_or, refl, sym, ap, ◌∙◌, subst, codes, add-one, arith}
+use Rattle.std.specs.List.{Contains, before_first, after_first, position_or_len}
+use Rattle.std.specs.Str.{bytes_eq}
+use Rattle.std.specs.Str.Parse.{digits_value}
+use Rattle.std.proofs.lemmas.Bool.{false≢true}
+use Rattle.std.proofs.lemmas.Bool.Decides.{nat_tests}
+use Rattle.std.proofs.lemmas.List.Sums.{split_at_first, passes_at_first}
+use Rattle.std.proofs.lemmas.Slice.Eq.{bytes_eq-Decides}
+use Rattle.pocket_cmd.specs.Number.{is_plain_decimal, number_of}
+use Rattle.pocket_cmd.specs.Words.{Entry, entry_of, entry_with, is_equals_sign, kind_of, value_of, value_unless, first_faulty, verb_of, Gives}
+use Rattle.pocket_cmd.specs.Command.{Restoration, Command, Restore, IsGiven, restoration_of, with_values, with_verb, unless_faulty, command_of, ◌>>=◌}
+use Rattle.pocket_cmd.specs.declared.words.Verb.{Verb}
+use Rattle.pocket_cmd.specs.declared.words.Verb.TheVariants as verb
+use Rattle.pocket_cmd.specs.declared.words.Kind.{Kind}
+
+ltb-true : (m n : ℕ) → nat_lt m n ≡ true → m < n
+ltb-true m n h = grind (arith, nat_tests)
+
+eqb-true : (m n : ℕ) → eqb m n ≡ true → m ≡ n
+eqb-true m n h = grind (arith, nat_tests)
+
+leb-true : (m n : ℕ) → nat_le m n ≡ true → m ≤ n
+leb-true m n h = grind (arith, nat_tests)
+
+-- a word with a `=` is what stands before the first, that `=`, and what stands after it
+split_joined : (word : List ℕ) → position_or_len is_equals_sign word < length word → word ≡ before_first is_equals_sign word ++ 61 ∷ after_first is_equals_sign word
+split_joined word h =
+    let sign : get_or word (position_or_len is_equals_sign word) 0 ≡ 61 = eqb-true _ _ (passes_at_first is_equals_sign word 0 h) in
+    split_at_first is_equals_sign word 0 h ∙ ap (λ c. before_first is_equals_sign word ++ c ∷ after_first is_equals_sign word) sign
+
+entry_parts : (b : Bool) (key value : List ℕ) (kind : Option Kind) (entry : Entry) → cond b (entry_with key value kind) None ≡ Some entry → (b ≡ true) × (key ≡ entry.key) × (value ≡ entry.value)
+entry_parts true key value (Some kind) entry e = (refl, ap (λ o. key_in o) e, ap (λ o. value_in o) e) where
+  key_in : Option Entry → List ℕ
+  key_in None = []
+  key_in (Some x) = x.key
+  value_in : Option Entry → List ℕ
+  value_in None = []
+  value_in (Some x) = x.value
+entry_parts true key value None entry e = absurd cc
+entry_parts false key value kind entry e = absurd cc
+
+-- a word that is an entry is its key, a `=` and its value
+entry_joined : (v : Verb) (word : List ℕ) (entry : Entry) → entry_of v word ≡ Some entry → word ≡ entry.key ++ 61 ∷ entry.value
+entry_joined v word entry e =
+    let parts = entry_parts (nat_lt (position_or_len is_equals_sign word) (length word)) (before_first is_equals_sign word) (after_first is_equals_sign word) (kind_of v (before_first is_equals_sign word)) entry e in
+    split_joined word (ltb-true _ _ parts.0) ∙ (ap (λ k. k ++ 61 ∷ after_first is_equals_sign word) parts.1 ∙ ap (λ w. entry.key ++ 61 ∷ w) parts.2)
+
+later : (word : List ℕ) (words : List (List ℕ)) (text : List ℕ) → Contains words text → Contains (word ∷ words) text
+later word words text h = (h.0 + 1, omega (arith, h.1), shifted h.0 h.2) where
+  shifted : (k : ℕ) → get_or words k text ≡ text → get_or (word ∷ words) (k + 1) text ≡ text
+  shifted k e = rw add-one e
+
+same_some : {A : Type 0} {x y : A} → Some x ≡ Some y → x ≡ y
+same_some e = cc
+
+-- a value of a key is one that a word gives to it
+pub Gives-value_of : (v : Verb) (words : List (List ℕ)) (key value : List ℕ) → value_of v words key ≡ Some value → Gives words key value
+Gives-value_of v [] key value e = absurd cc
+Gives-value_of v (word ∷ words) key value e = from_entry (λ h. later word words (key ++ 61 ∷ value) (Gives-value_of v words key value h)) (entry_of v word) refl e where
+  from_test : (value_of v words key ≡ Some value → Gives (word ∷ words) key value) → (entry : Entry) (b : Bool) → bytes_eq entry.key key ≡ b → entry_of v word ≡ Some entry → cond b (Some entry.value) (value_of v words key) ≡ Some value → Gives (word ∷ words) key value
+  from_test behind entry true same at e =
+      let whole : word ≡ key ++ 61 ∷ value = entry_joined v word entry at ∙ (ap (λ k. k ++ 61 ∷ entry.value) ((bytes_eq-Decides entry.key key).0 same) ∙ ap (λ w. key ++ 61 ∷ w) (same_some e)) in
+      (0, omega arith, whole)
+  from_test behind entry false same at e = behind e
+
+  from_entry : (value_of v words key ≡ Some value → Gives (word ∷ words) key value) → (o : Option Entry) → entry_of v word ≡ o → value_unless key o (value_of v words key) ≡ Some value → Gives (word ∷ words) key value
+  from_entry behind None at e = behind e
+  from_entry behind (Some entry) at e = from_test behind entry (bytes_eq entry.key key) refl at e
+
+within : (a b c : Bool) (x n : ℕ) → cond (a && b && c) (Some x) None ≡ Some n → (b ≡ true) × (c ≡ true) × (x ≡ n)
+within true true true x n e = (refl, refl, same_some e)
+within true true false x n e = absurd cc
+within true false c x n e = absurd cc
+within false b c x n e = absurd cc
+
+-- a number is within its bounds
+number_of-within : (low high n : ℕ) (text : List ℕ) → number_of low high text ≡ Some n → (low ≤ n) × (n ≤ high)
+number_of-within low high n text e =
+    let parts = within (is_plain_decimal text) (nat_le low (digits_value 10 text)) (nat_le (digits_value 10 text) high) (digits_value 10 text) n e in
+    let above = leb-true low (digits_value 10 text) parts.0 in
+    let below = leb-true (digits_value 10 text) high parts.1 in
+    (omega (arith, above, parts.2), omega (arith, below, parts.2))
+
+ok_or-Some : {A : Type 0} (o : Option A) (missing : ℕ) (x : A) → ok_or o missing ≡ Ok x → o ≡ Some x
+ok_or-Some None missing x e = absurd cc
+ok_or-Some (Some y) missing x e = cc
+
+bind_ok : {A B : Type 0} (r : Result A ℕ) (f : A → Result B ℕ) (y : B) → (r >>= f) ≡ Ok y → (x : A) × (r ≡ Ok x) × (f x ≡ Ok y)
+bind_ok (Ok x) f y e = (x, refl, e)
+bind_ok (Err word) f y e = absurd cc
+
+and_then_Some : (f : List ℕ → Option ℕ) (o : Option (List ℕ)) (n : ℕ) → option_and_then f o ≡ Some n → (text : List ℕ) × (f text ≡ Some n)
+and_then_Some f None n e = absurd cc
+and_then_Some f (Some text) n e = (text, e)
+
+-- the bounds and the names, from the parts
+given_from : (words : List (List ℕ)) (r : Restoration) → value_of verb.Restore words (codes "in") ≡ Some r.input → value_of verb.Restore words (codes "out") ≡ Some r.output
+    → value_of verb.Restore words (codes "report") ≡ Some r.report → (1 ≤ r.bits) × (r.bits ≤ 49152) → r.apid ≤ 2046 → (word : List ℕ) → IsGiven (word ∷ words) r
+given_from words r input output report bits apid word = record {
+  some = bits.0;
+  most = bits.1;
+  chosen = apid;
+  named_input = later word words _ (Gives-value_of verb.Restore words (codes "in") r.input input);
+  named_output = later word words _ (Gives-value_of verb.Restore words (codes "out") r.output output);
+  named_report = later word words _ (Gives-value_of verb.Restore words (codes "report") r.report report);
+}
+
+given_by_words : (words : List (List ℕ)) (r : Restoration) → restoration_of words ≡ Ok r → (word : List ℕ) → IsGiven (word ∷ words) r
+unfolding restoration_of
+given_by_words words r e word =
+    let input = bind_ok _ _ r e in
+    let output = bind_ok _ _ r input.2 in
+    let report = bind_ok _ _ r output.2 in
+    let bits = bind_ok _ _ r report.2 in
+    let apid = bind_ok _ _ r bits.2 in
+    let bits_text = and_then_Some (number_of 1 49152) (value_of verb.Restore words (codes "bits")) bits.0 (ok_or-Some (option_and_then (number_of 1 49152) (value_of verb.Restore words (codes "bits"))) (length words + 1) bits.0 bits.1) in
+    let apid_text = and_then_Some (number_of 0 2046) (value_of verb.Restore words (codes "apid")) apid.0 (ok_or-Some (option_and_then (number_of 0 2046) (value_of verb.Restore words (codes "apid"))) (length words + 1) apid.0 apid.1) in
+    let bits_within = number_of-within 1 49152 bits.0 bits_text.0 bits_text.1 in
+    let apid_within = number_of-within 0 2046 apid.0 apid_text.0 apid_text.1 in
+    let made : Restoration = record { input = input.0; output = output.0; report = report.0; bits = bits.0; apid = apid.0 } in
+    let given = given_from words made (ok_or-Some (value_of verb.Restore words (codes "in")) (length words + 1) input.0 input.1) (ok_or-Some (value_of verb.Restore words (codes "out")) (length words + 1) output.0 output.1)
+    (ok_or-Some (value_of verb.Restore words (codes "report")) (length words + 1) report.0 report.1) bits_within apid_within.1 word in
+    subst (IsGiven (word ∷ words)) (same_ok made r apid.2) given where
+  same_ok : (x y : Restoration) → ◌≡◌ {A = Result Restoration ℕ} (Ok x) (Ok y) → x ≡ y
+  same_ok x y e = cc
+
+-- the values of a command are within their bounds, and its names are those that words give
+pub IsGiven-command_of : (words : List (List ℕ)) (r : Restoration) → command_of words ≡ Ok (Restore r) → IsGiven words r
+IsGiven-command_of [] r e = absurd cc
+IsGiven-command_of (word ∷ words) r e = by_verb (verb_of word) e where
+  same_restoration : (x y : Restoration) → ◌≡◌ {A = Result Command ℕ} (Ok (Restore x)) (Ok (Restore y)) → x ≡ y
+  same_restoration x y e = cc
+
+  by_values : (v : Result Restoration ℕ) → restoration_of words ≡ v → (v >>= λ x. Ok (Restore x)) ≡ Ok (Restore r) → IsGiven (word ∷ words) r
+  by_values (Ok x) at e = subst (IsGiven (word ∷ words)) (same_restoration x r e) (given_by_words words x at word)
+  by_values (Err n) at e = absurd cc
+
+  by_fault : (o : Option ℕ) → unless_faulty o (with_values verb.Restore words) ≡ Ok (Restore r) → IsGiven (word ∷ words) r
+  by_fault (Some n) e = absurd cc
+  by_fault None e = by_values (restoration_of words) refl e
+
+  by_verb : (o : Option Verb) → with_verb o words ≡ Ok (Restore r) → IsGiven (word ∷ words) r
+  by_verb None e = absurd cc
+  by_verb (Some verb.Restore) e = by_fault (first_faulty verb.Restore words) e
