@@ -6,8 +6,10 @@ mod eye;
 mod fault;
 mod flags;
 mod packing;
+mod pen;
 
 pub use bits::{Bits, byte_len};
 pub use eye::BitEye;
 pub use fault::{BitFault, NoMemory, SpareBit};
 pub use flags::Flags;
+pub use pen::BitPen;
