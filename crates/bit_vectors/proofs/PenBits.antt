@@ -24,9 +24,9 @@ at_other : (bytes : List ℕ) (p i : ℕ) → p < 8 * length bytes → i ≢ p
 at_other bytes p i lt ne =
     elim (cases_eq (i / 8) (p / 8)) [
       | inl same ↦
-        let within : p / 8 < length bytes = omega arith in
-        let apart : 7 - i % 8 ≢ 7 - p % 8 = omega arith in
-        rw (same, get_or-set_same bytes (p / 8) (byte_with_one bytes p) 0 within, bit_at_set_other w8 (get_or bytes (p / 8) 0) (7 - p % 8) (omega arith) (7 - i % 8) apart) refl
+          let within : p / 8 < length bytes = omega arith in
+          let apart : 7 - i % 8 ≢ 7 - p % 8 = omega arith in
+          rw (same, get_or-set_same bytes (p / 8) (byte_with_one bytes p) 0 within, bit_at_set_other w8 (get_or bytes (p / 8) 0) (7 - p % 8) (omega arith) (7 - i % 8) apart) refl
       | inr other ↦ rw (get_or-set_other bytes (p / 8) (i / 8) (byte_with_one bytes p) 0 other) refl
     ]
 
@@ -36,11 +36,11 @@ bits_of-set_one bytes p lt =
     ext_get_or false (bits_of (set bytes (p / 8) (byte_with_one bytes p))) (set (bits_of bytes) p true)
     (omega (arith, length-bits_of (set bytes (p / 8) (byte_with_one bytes p)), length-bits_of bytes, length-set (bits_of bytes) p true))
     (λ i i_lt.
-      let within : i < 8 * length bytes = omega (arith, length-bits_of (set bytes (p / 8) (byte_with_one bytes p))) in
-      get_or-bits_of (set bytes (p / 8) (byte_with_one bytes p)) i (omega arith) ∙ elim (cases_eq i p) [
-        | inl here ↦ rw (here, at_bit bytes p lt) (sym (get_or-set_same (bits_of bytes) p true false (omega (arith, length-bits_of bytes))))
-        | inr other ↦ at_other bytes p i lt other ∙ sym (get_or-set_other (bits_of bytes) p i true false other ∙ get_or-bits_of bytes i within)
-      ])
+    let within : i < 8 * length bytes = omega (arith, length-bits_of (set bytes (p / 8) (byte_with_one bytes p))) in
+    get_or-bits_of (set bytes (p / 8) (byte_with_one bytes p)) i (omega arith) ∙ elim (cases_eq i p) [
+      | inl here ↦ rw (here, at_bit bytes p lt) (sym (get_or-set_same (bits_of bytes) p true false (omega (arith, length-bits_of bytes))))
+      | inr other ↦ at_other bytes p i lt other ∙ sym (get_or-set_other (bits_of bytes) p i true false other ∙ get_or-bits_of bytes i within)
+    ])
 
 -- ---- zeros
 
@@ -48,8 +48,8 @@ pub zeros_have_no_one : (n k : ℕ) → get_or (bits_of (replicate n 0)) k false
 zeros_have_no_one n k =
     elim (cases_lt k (8 * n)) [
       | inl lt ↦
-        let byte = get_or-replicate {A = ℕ} n (k / 8) 0 0 (omega arith) in
-        get_or-bits_of (replicate n 0) k (omega (arith, length-replicate {A = ℕ} n 0)) ∙ rw (byte, bit_at-zero) refl
+          let byte = get_or-replicate {A = ℕ} n (k / 8) 0 0 (omega arith) in
+          get_or-bits_of (replicate n 0) k (omega (arith, length-replicate {A = ℕ} n 0)) ∙ rw (byte, bit_at-zero) refl
       | inr le ↦ get_or_past (bits_of (replicate n 0)) k false (omega (arith, length-bits_of (replicate n 0), length-replicate {A = ℕ} n 0))
     ]
 
@@ -89,9 +89,9 @@ first_bytes_are bytes len below within none =
     let count : length (take (byte_count len) bytes) ≡ byte_count len = omega (arith, length-take (byte_count len) bytes) in
     let front : take len (take (8 * byte_count len) (bits_of bytes)) ≡ take len (bits_of bytes) = take-take len (8 * byte_count len) (bits_of bytes) (omega arith) in
     let after : (i : ℕ) → get_or (drop len (bits_of (take (byte_count len) bytes))) i false ≡ false =
-      λ i. get_or-drop len (bits_of (take (byte_count len) bytes)) i false ∙ rw all (elim (cases_lt (len + i) (8 * byte_count len)) [
-        | inl lt ↦ get_or-take (8 * byte_count len) (bits_of bytes) (len + i) false lt ∙ none (len + i) (omega arith)
-        | inr le ↦ get_or_past (take (8 * byte_count len) (bits_of bytes)) (len + i) false (omega (arith, length-take (8 * byte_count len) (bits_of bytes)))
-      ]) in
+    λ i. get_or-drop len (bits_of (take (byte_count len) bytes)) i false ∙ rw all (elim (cases_lt (len + i) (8 * byte_count len)) [
+      | inl lt ↦ get_or-take (8 * byte_count len) (bits_of bytes) (len + i) false lt ∙ none (len + i) (omega arith)
+      | inr le ↦ get_or_past (take (8 * byte_count len) (bits_of bytes)) (len + i) false (omega (arith, length-take (8 * byte_count len) (bits_of bytes)))
+    ]) in
     let is_padded = padded_is (bits_of (take (byte_count len) bytes)) len (omega (arith, length-bits_of (take (byte_count len) bytes))) (omega (arith, length-bits_of (take (byte_count len) bytes))) after in
     vector_bytes_is (take (byte_count len) bytes) (take len (bits_of bytes)) (AreBytes-take (byte_count len) bytes below) (is_padded ∙ ap padded (ap (take len) all ∙ front))

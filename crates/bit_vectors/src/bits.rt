@@ -87,7 +87,8 @@ impl Bits {
     /// and the others 0.
     pub fn xor_in(&mut self, other: &Bits)
         requires { length self.old ≡ length other.now }
-        ensures { self.new ≡ xor_bits self.old other.now }
+        ensures bits { self.new ≡ xor_bits self.old other.now }
+        ensures len { length self.new ≡ length self.old }
     {
         xor_places(&mut self.places, &other.places);
     }
@@ -95,7 +96,8 @@ impl Bits {
     /// Makes the bits 1 at which `other`, which has as many places, is 1.
     pub fn or_in(&mut self, other: &Bits)
         requires { length self.old ≡ length other.now }
-        ensures { self.new ≡ or_bits self.old other.now }
+        ensures bits { self.new ≡ or_bits self.old other.now }
+        ensures len { length self.new ≡ length self.old }
     {
         or_places(&mut self.places, &other.places);
     }
@@ -103,7 +105,8 @@ impl Bits {
     /// Makes the bits 0 at which `other`, which has as many places, is 1.
     pub fn drop_in(&mut self, other: &Bits)
         requires { length self.old ≡ length other.now }
-        ensures { self.new ≡ without_bits self.old other.now }
+        ensures bits { self.new ≡ without_bits self.old other.now }
+        ensures len { length self.new ≡ length self.old }
     {
         drop_places(&mut self.places, &other.places);
     }
@@ -159,6 +162,7 @@ impl Bits {
     /// bits of the last byte must be 0; else the vector stays as it is.
     pub fn load(&mut self, bytes: &[u8]) -> Result<(), SpareBit>
         requires { length bytes.now ≡ byte_count (length self.old) }
+        ensures len { length self.new ≡ length self.old }
         ensures loaded { OnOk result (self.new ≡ take (length self.old) (bits_of bytes.now)) }
         ensures stored { OnOk result (bytes.now ≡ vector_bytes self.new) }
         ensures spare { IsErr result ↔ Contains (drop (length self.old) (bits_of bytes.now)) true }

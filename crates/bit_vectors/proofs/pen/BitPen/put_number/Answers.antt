@@ -14,7 +14,7 @@ loop-weight-preserved c =
     let weight = c.loop-weight.weight - 1 in
     let one_more : c.loop-weight.weight ≡ c.loop-weight.weight - 1 + 1 = omega arith in
     let next : number_bits c.loop-weight.weight c.args.value ≡ eqb (bit_and (c.args.value / 2 ^ (c.loop-weight.weight - 1)) 1) 1 ∷ number_bits (c.loop-weight.weight - 1) c.args.value =
-      ap (λ (w : ℕ). number_bits w c.args.value) one_more ∙ number_bits-more (c.loop-weight.weight - 1) c.args.value ∙ rw (shr_and_one c.args.value (c.loop-weight.weight - 1)) refl in
+    ap (λ (w : ℕ). number_bits w c.args.value) one_more ∙ number_bits-more (c.loop-weight.weight - 1) c.args.value ∙ rw (shr_and_one c.args.value (c.loop-weight.weight - 1)) refl in
     (rw c.put.ensures.bits (append_assoc c.loop-weight.self.bits _ _ ∙ ap (λ (rest : List Bool). c.loop-weight.self.bits ++ rest) (sym next) ∙ c.loop-weight.invariant.0), c.put.ensures.room ∙ c.loop-weight.invariant.1)
 
 pub returns-clause-bits : goal.returns-clause-bits
