@@ -1,2 +1,4 @@
 pub mod NumberBits
 pub mod ByteBits
+pub mod Places
+pub mod PenBits
