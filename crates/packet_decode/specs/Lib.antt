@@ -1,0 +1,4 @@
+pub mod Count
+pub mod Packets
+pub mod PlainReading
+pub mod Decoding
