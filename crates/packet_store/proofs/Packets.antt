@@ -1,10 +1,10 @@
 -- What stands at the front of bytes, for every reader of them.
-use Rattle.std.proofs.Common.{◌≡◌, ◌≢◌, ℕ, ◌+◌, ◌<◌, ◌≤◌, List, [], ◌∷◌, ◌++◌, length, take, drop, get_or, Fits, w8, All, Result, Ok, Err, OnErr, sym, ap, ◌∙◌, length-take, length-drop, arith, rules}
+use Rattle.std.proofs.Common.{◌≡◌, ℕ, ◌+◌, ◌<◌, ◌≤◌, List, ◌++◌, length, take, drop, get_or, Fits, w8, All, Result, Ok, Err, OnErr, sym, ap, ◌∙◌, length-take, length-drop, arith}
 use Rattle.std.proofs.lemmas.List.{get_or_default}
 use Rattle.std.proofs.lemmas.List.Elements.{All-take, All-drop}
 use Rattle.std.proofs.lemmas.Grind.{common_steps}
 use Rattle.packet_store.specs.declared.header.Header.{Header}
-use Rattle.packet_store.specs.SpacePackets.{Front, End, Packet, Other, IsHeader, IsPacket, BeginsWithPacket, space_packet, front}
+use Rattle.packet_store.specs.SpacePackets.{Packet, Other, IsHeader, IsPacket, BeginsWithPacket, space_packet, front}
 
 -- a packet is read back, whatever follows it
 pub front-space_packet : (apid count : ℕ) (body rest : List ℕ) → IsPacket apid count body → front apid (space_packet apid count body ++ rest) ≡ Packet count body rest

@@ -11,3 +11,6 @@ pub use fault::StoreFault;
 pub use header::{Header, header_bytes, read_header};
 pub use laws::{packets_are_read_back, packets_are_told_apart};
 pub use reader::{StoreReader, Taken};
+
+#[cfg(test)]
+mod tests;

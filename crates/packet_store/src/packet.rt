@@ -52,7 +52,11 @@ fn read_body<D: Desk>(desk: &mut D, body: &mut [u8]) -> Result<(), StoreFault>
 }
 
 /// Reads the next packet into the front of `room`. None: the input is at its end.
-pub fn read_packet<D: Desk>(desk: &mut D, apid: u16, room: &mut [u8]) -> Result<Option<Header>, StoreFault>
+pub fn read_packet<D: Desk>(
+    desk: &mut D,
+    apid: u16,
+    room: &mut [u8],
+) -> Result<Option<Header>, StoreFault>
     requires open { IsReadyIn (D.meaning desk.old) Inlet.Main }
     requires chosen { apid ≤ 2046 }
     requires room { length room.old ≡ 65542 }

@@ -9,8 +9,7 @@ use crate::fault::StoreFault;
 use crate::header::HEADER_BYTES;
 use crate::packet::{read_end, read_packet};
 use bit_vectors::NoMemory;
-use desk_ports::Desk;
-use desk_ports::Inlet;
+use desk_ports::{Desk, Inlet};
 use std::alloc::Global;
 use std::marker::Model;
 
