@@ -1,5 +1,5 @@
 -- How the fields of a desk in memory are seen.
-use Rattle.std.specs.Prelude.{ℕ, ◌<◌, ◌≤◌, true, List, [], length, drop}
+use Rattle.std.specs.Prelude.{ℕ, ◌<◌, ◌≤◌, true, List, length, drop}
 use Rattle.desk_ports.specs.declared.desk.Inlet.{Inlet}
 use Rattle.desk_ports.specs.declared.desk.Inlet.TheVariants as inlet
 use Rattle.desk_ports.specs.declared.memory.Reading.{Reading}

@@ -2,12 +2,13 @@ ghost use Rattle.std.specs.Prelude.{◌≡◌, ◌≤◌, ◌<◌, ◌↔◌, le
 ghost use Rattle.std.specs.FinMap as map;
 ghost use Rattle.std.specs.Io.KnownBytes.{IsAtEnd};
 ghost use Rattle.desk_ports.specs.Meanings.{Opens, Begins, Moves, Adds, Keeps, IsReadyIn, IsReadyOut, Rises, Rose, left, kept_at};
-ghost use Rattle.desk_ports.specs.MemState.{empty_desk, mem_left, mem_made, next_count};
+ghost use Rattle.desk_ports.specs.MemState.{empty_desk, mem_left, mem_made, mem_meanings, mem_counts, next_count};
 
 use crate::desk::{Desk, Failed, Inlet, Outlet};
 use crate::log::{Entry, keep, newest};
 use crate::written::Written;
-use std::alloc::{AllocError, Global};
+use bit_vectors::NoMemory;
+use std::alloc::Global;
 use std::marker::Model;
 
 // Where an inlet stands: before a place of the bytes of an entry of the log.
@@ -121,11 +122,11 @@ impl MemDesk {
     }
 
     /// Keeps the bytes under the name. An inlet that was opened before stays as it is.
-    pub fn put(&mut self, name: &str, bytes: &[u8]) -> Result<(), AllocError>
+    pub fn put(&mut self, name: &str, bytes: &[u8]) -> Result<(), NoMemory>
         ensures ok { OnOk result (self.new ≡ record self.old { held = map.insert self.old.held name.now bytes.now }) }
         ensures err { OnErr result (self.new ≡ self.old) }
     {
-        keep(&mut self.log, self.alloc, name.as_bytes(), bytes)
+        Ok(keep(&mut self.log, self.alloc, name.as_bytes(), bytes)?)
     }
 
     /// What is kept under the name, nothing where the name was never put or finished.
@@ -168,4 +169,130 @@ impl MemDesk {
     {
         self.faults.short
     }
+}
+
+impl Desk for MemDesk {
+    ghost meaning = { mem_meanings };
+
+    ghost counts = { mem_counts };
+
+    fn open_in(&mut self, inlet: Inlet, name: &str) -> Result<(), Failed>
+        requires { IsTrue ((mem_meanings self.old).grants_in name.now) }
+        ensures opened { OnOk result (Opens (mem_meanings self.old) (mem_meanings self.new) inlet name.now) }
+        ensures unchanged { OnErr result (mem_meanings self.new ≡ mem_meanings self.old) }
+        ensures cause { OnErr result (Rose (mem_counts self.old).reads (mem_counts self.new).reads) }
+        ensures rises { Rises (mem_counts self.old) (mem_counts self.new) }
+
+        // It fails exactly where the name was never put or finished.
+        ensures absent { IsErr result ↔ (map.get self.old.held name.now ≡ None) }
+        ensures short { self.new.short ≡ self.old.short }
+    {
+        let Some(at) = newest(&self.log, name.as_bytes()) else {
+            return Err(self.faults.read());
+        };
+        self.readings.set(inlet, Reading::Entry { at, place: 0 });
+        Ok(())
+    }
+
+    fn open_out(&mut self, outlet: Outlet, name: &str) -> Result<(), Failed>
+        requires { IsTrue ((mem_meanings self.old).grants_out name.now) }
+        ensures opened { OnOk result (Begins (mem_meanings self.old) (mem_meanings self.new) outlet name.now) }
+        ensures unchanged { OnErr result (mem_meanings self.new ≡ mem_meanings self.old) }
+        ensures cause { OnErr result (Rose (mem_counts self.old).writes (mem_counts self.new).writes) }
+        ensures rises { Rises (mem_counts self.old) (mem_counts self.new) }
+
+        // It fails only where a growth was refused.
+        ensures refused { OnErr result (Rose self.old.short self.new.short) }
+        ensures short { OnOk result (self.new.short ≡ self.old.short) }
+    {
+        let name = name.as_bytes();
+        let opened = match outlet {
+            Outlet::Main => self.output.open(self.alloc, name),
+            Outlet::Report => self.report.open(self.alloc, name),
+        };
+        match opened {
+            Ok(()) => Ok(()),
+            Err(_) => Err(self.faults.growth()),
+        }
+    }
+
+    fn read(&mut self, inlet: Inlet, buf: &mut [u8]) -> Result<usize, Failed>
+        requires open { IsReadyIn (mem_meanings self.old) inlet }
+        requires room { 0 < length buf.old }
+        ensures within { IfOk result (λ n. n ≤ length buf.old) }
+        ensures moved { IfOk result (λ n. Moves (mem_meanings self.old) (mem_meanings self.new) inlet (take n buf.new)) }
+        ensures at_end { IfOk result (λ n. n ≡ 0 → IsAtEnd (left (mem_meanings self.new) inlet)) }
+        ensures unchanged { OnErr result (mem_meanings self.new ≡ mem_meanings self.old) }
+        ensures cause { OnErr result (Rose (mem_counts self.old).reads (mem_counts self.new).reads) }
+        ensures rises { Rises (mem_counts self.old) (mem_counts self.new) }
+
+        // It never fails, and moves as many bytes as are left and fit.
+        ensures answers { IsOk result }
+        ensures count { IfOk result (λ n. n ≡ min (length buf.old) (length (mem_left self.old inlet))) }
+        ensures short { self.new.short ≡ self.old.short }
+    {
+        let Reading::Entry { at, place } = self.readings.at(inlet) else {
+            unreachable!()
+        };
+        let moved = copy_front(buf, &self.log[at].bytes()[place..]);
+        let place = place + moved;
+        self.readings.set(inlet, Reading::Entry { at, place });
+        Ok(moved)
+    }
+
+    fn write(&mut self, outlet: Outlet, bytes: &[u8]) -> Result<usize, Failed>
+        requires open { IsReadyOut (mem_meanings self.old) outlet }
+        requires some { 0 < length bytes.now }
+        ensures within { IfOk result (λ n. n ≤ length bytes.now) }
+        ensures progress { IfOk result (λ n. 0 < n) }
+        ensures added { IfOk result (λ n. Adds (mem_meanings self.old) (mem_meanings self.new) outlet (take n bytes.now)) }
+        ensures unchanged { OnErr result (mem_meanings self.new ≡ mem_meanings self.old) }
+        ensures cause { OnErr result (Rose (mem_counts self.old).writes (mem_counts self.new).writes) }
+        ensures rises { Rises (mem_counts self.old) (mem_counts self.new) }
+
+        // It takes all the bytes, and fails only where a growth was refused.
+        ensures count { IfOk result (λ n. n ≡ length bytes.now) }
+        ensures refused { OnErr result (Rose self.old.short self.new.short) }
+        ensures short { OnOk result (self.new.short ≡ self.old.short) }
+    {
+        let added = match outlet {
+            Outlet::Main => self.output.add(bytes),
+            Outlet::Report => self.report.add(bytes),
+        };
+        match added {
+            Ok(()) => Ok(bytes.len()),
+            Err(_) => Err(self.faults.growth()),
+        }
+    }
+
+    fn finish(&mut self, outlet: Outlet) -> Result<(), Failed>
+        requires { IsReadyOut (mem_meanings self.old) outlet }
+        ensures kept { OnOk result (Keeps (mem_meanings self.old) (mem_meanings self.new) outlet) }
+        ensures unchanged { OnErr result (mem_meanings self.new ≡ mem_meanings self.old) }
+        ensures cause { OnErr result (Rose (mem_counts self.old).writes (mem_counts self.new).writes) }
+        ensures rises { Rises (mem_counts self.old) (mem_counts self.new) }
+
+        // It fails only where a growth was refused.
+        ensures refused { OnErr result (Rose self.old.short self.new.short) }
+        ensures short { OnOk result (self.new.short ≡ self.old.short) }
+    {
+        let kept = match outlet {
+            Outlet::Main => self.output.keep_in(&mut self.log, self.alloc),
+            Outlet::Report => self.report.keep_in(&mut self.log, self.alloc),
+        };
+        match kept {
+            Ok(()) => Ok(()),
+            Err(_) => Err(self.faults.growth()),
+        }
+    }
+}
+
+// Moves a front of the bytes to the front of the buffer, as much as fits.
+fn copy_front(buf: &mut [u8], bytes: &[u8]) -> usize
+    ensures count { result ≡ min (length buf.old) (length bytes.now) }
+    ensures copied { take result buf.new ≡ take result bytes.now }
+{
+    let count = buf.len().min(bytes.len());
+    buf[..count].copy_from_slice(&bytes[..count]);
+    count
 }
