@@ -1,5 +1,5 @@
 -- What a step of an inlet in memory does to what its desk tells.
-use Rattle.std.proofs.Common.{◌≡◌, ℕ, ◌+◌, List, ◌++◌, take, drop, Some, Bool, sym, ap, ◌∙◌}
+use Rattle.std.proofs.Common.{◌≡◌, ℕ, ◌+◌, Option, List, ◌++◌, take, drop, Some, Bool, sym, ap, ◌∙◌}
 use Rattle.std.proofs.lemmas.List.{take-append-drop, drop-drop}
 use Rattle.desk_ports.specs.declared.desk.Inlet.{Inlet}
 use Rattle.desk_ports.specs.declared.desk.Inlet.TheVariants as inlet
@@ -15,16 +15,16 @@ rest : (bytes : List ℕ) (place n : ℕ) → drop place bytes ≡ take n (drop 
 rest bytes place n = sym (take-append-drop n (drop place bytes)) ∙ ap (λ l. take n (drop place bytes) ++ l) (drop-drop n place bytes)
 
 -- an inlet that stands before a place, and then n bytes further on
-pub Moves_on : (log : List (List ℕ × List ℕ)) (readings : Readings) (output report : MemOutgoing) (faults : Faults) (i : Inlet) (at place n : ℕ) → reading_at readings i ≡ reading.Entry at place
-    → Moves (mem_meanings (state_of log readings output report faults)) (mem_meanings (state_of log (with_reading readings i (reading.Entry at (place + n))) output report faults)) i (take n (drop place (bytes_at log at)))
-Moves_on log readings output report faults inlet.Side at place n e =
-    let old = mem_meanings (state_of log readings output report faults) in
+pub Moves_on : (log : List (List ℕ × List ℕ)) (readings : Readings) (output report : MemOutgoing) (pieces : Option ℕ) (faults : Faults) (i : Inlet) (at place n : ℕ) → reading_at readings i ≡ reading.Entry at place
+    → Moves (mem_meanings (state_of log readings output report pieces faults)) (mem_meanings (state_of log (with_reading readings i (reading.Entry at (place + n))) output report pieces faults)) i (take n (drop place (bytes_at log at)))
+Moves_on log readings output report pieces faults inlet.Side at place n e =
+    let old = mem_meanings (state_of log readings output report pieces faults) in
     record {
       moved = ap (λ r. Some ((incoming_of log r).left)) e ∙ ap Some (rest (bytes_at log at) place n);
       others = ap (λ (b : Bool). with_incoming old inlet.Side (record { left = Some (drop (place + n) (bytes_at log at)); ready = b })) (sym (ap (λ r. (incoming_of log r).ready) e));
     }
-Moves_on log readings output report faults inlet.Main at place n e =
-    let old = mem_meanings (state_of log readings output report faults) in
+Moves_on log readings output report pieces faults inlet.Main at place n e =
+    let old = mem_meanings (state_of log readings output report pieces faults) in
     record {
       moved = ap (λ r. Some ((incoming_of log r).left)) e ∙ ap Some (rest (bytes_at log at) place n);
       others = ap (λ (b : Bool). with_incoming old inlet.Main (record { left = Some (drop (place + n) (bytes_at log at)); ready = b })) (sym (ap (λ r. (incoming_of log r).ready) e));

@@ -1,5 +1,5 @@
 -- How the fields of a desk in memory are seen.
-use Rattle.std.specs.Prelude.{ℕ, ◌<◌, ◌≤◌, true, List, length, drop}
+use Rattle.std.specs.Prelude.{ℕ, ◌<◌, ◌≤◌, true, List, Option, IfSome, length, drop}
 use Rattle.desk_ports.specs.declared.desk.Inlet.{Inlet}
 use Rattle.desk_ports.specs.declared.desk.Inlet.TheVariants as inlet
 use Rattle.desk_ports.specs.declared.memory.Reading.{Reading}
@@ -27,18 +27,21 @@ abbrev pub IsWithin : List (List ℕ × List ℕ) → Reading → Type 0
 IsWithin log reading.Nothing = Unit {0}
 IsWithin log (reading.Entry at place) = (at < length log) × (place ≤ length (bytes_at log at))
 
-abbrev pub state_of : List (List ℕ × List ℕ) → Readings → MemOutgoing → MemOutgoing → Faults → MemState
-state_of log readings output report faults = record {
+abbrev pub state_of : List (List ℕ × List ℕ) → Readings → MemOutgoing → MemOutgoing → Option ℕ → Faults → MemState
+state_of log readings output report pieces faults = record {
   side = incoming_of log readings.side;
   input = incoming_of log readings.input;
   output = output;
   report = report;
   held = kept_of log;
+  pieces = pieces;
   reads = faults.reads;
   writes = faults.writes;
   short = faults.short;
 }
 
-pub record AreWithin (log : List (List ℕ × List ℕ)) (readings : Readings) : Type 0 where
+-- both inlets stand within entries, and a piece has bytes
+pub record IsSound (log : List (List ℕ × List ℕ)) (readings : Readings) (pieces : Option ℕ) : Type 0 where
   pub side : IsWithin log readings.side
   pub input : IsWithin log readings.input
+  pub some : IfSome pieces (λ size. 1 ≤ size)

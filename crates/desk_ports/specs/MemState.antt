@@ -1,6 +1,6 @@
 -- What a desk in memory is seen as, and what each of its calls does to that.
-use Rattle.std.specs.Prelude.{ℕ, ◌+◌, ◌-◌, ◌^◌, min, Bool, true, false, List, [], Some, refl}
-use Rattle.std.specs.Coded.{Coded, code_by, coded×, coded_ℕ, coded_bool, coded_list}
+use Rattle.std.specs.Prelude.{ℕ, ◌+◌, ◌-◌, ◌^◌, min, Bool, true, false, List, [], Option, Some, None, refl}
+use Rattle.std.specs.Coded.{Coded, code_by, coded×, coded_ℕ, coded_bool, coded_list, coded_option}
 use Rattle.std.specs.FinMap as map
 use Rattle.desk_ports.specs.declared.desk.Inlet.{Inlet}
 use Rattle.desk_ports.specs.declared.desk.Inlet.TheVariants as inlet
@@ -19,13 +19,15 @@ pub record MemOutgoing : Type 0 where
   pub name : List ℕ
   pub ready : Bool
 
--- all of a desk in memory: its inputs and outputs, what it keeps, its faults of reading and of writing, and the growths that were refused
+-- all of a desk in memory: its inputs and outputs, what it keeps, the most bytes that a call moves where that is set,
+-- its faults of reading and of writing, and the growths that were refused
 pub record MemState : Type 0 where
   pub side : MemIncoming
   pub input : MemIncoming
   pub output : MemOutgoing
   pub report : MemOutgoing
   pub held : Kept
+  pub pieces : Option ℕ
   pub reads : ℕ
   pub writes : ℕ
   pub short : ℕ
@@ -46,18 +48,19 @@ kept_code = map.code bytes_code bytes_code
 
 abbrev pub state_code : Coded MemState
 state_code =
-    code_by ((MemIncoming × MemIncoming) × ((MemOutgoing × MemOutgoing) × (Kept × (ℕ × (ℕ × ℕ)))))
-    (coded× (coded× incoming_code incoming_code) (coded× (coded× outgoing_code outgoing_code) (coded× kept_code (coded× coded_ℕ (coded× coded_ℕ coded_ℕ)))))
-    (λ s. ((s.side, s.input), ((s.output, s.report), (s.held, (s.reads, (s.writes, s.short))))))
+    code_by ((MemIncoming × MemIncoming) × ((MemOutgoing × MemOutgoing) × (Kept × (Option ℕ × (ℕ × (ℕ × ℕ))))))
+    (coded× (coded× incoming_code incoming_code) (coded× (coded× outgoing_code outgoing_code) (coded× kept_code (coded× (coded_option coded_ℕ) (coded× coded_ℕ (coded× coded_ℕ coded_ℕ))))))
+    (λ s. ((s.side, s.input), ((s.output, s.report), (s.held, (s.pieces, (s.reads, (s.writes, s.short)))))))
     (λ p. record {
       side = p.0.0;
       input = p.0.1;
       output = p.1.0.0;
       report = p.1.0.1;
       held = p.1.1.0;
-      reads = p.1.1.1.0;
-      writes = p.1.1.1.1.0;
-      short = p.1.1.1.1.1;
+      pieces = p.1.1.1.0;
+      reads = p.1.1.1.1.0;
+      writes = p.1.1.1.1.1.0;
+      short = p.1.1.1.1.1.1;
     })
     (λ _. refl)
 
@@ -75,6 +78,7 @@ empty_desk = record {
   output = closed_outgoing;
   report = closed_outgoing;
   held = map.empty;
+  pieces = None;
   reads = 0;
   writes = 0;
   short = 0;
@@ -108,3 +112,8 @@ mem_counts state = record { reads = state.reads; writes = state.writes }
 -- the next value of a count, which stands still at its last value
 abbrev pub next_count : ℕ → ℕ
 next_count n = min (n + 1) (2 ^ 64 - 1)
+
+-- as many bytes as one call may move
+abbrev pub capped : Option ℕ → ℕ → ℕ
+capped None n = n
+capped (Some size) n = min n size

@@ -1,8 +1,8 @@
-ghost use Rattle.std.specs.Prelude.{◌≡◌, ◌≤◌, ◌<◌, ◌↔◌, length, min, take, None, IsTrue, IsOk, IsErr, IfOk, OnOk, OnErr};
+ghost use Rattle.std.specs.Prelude.{◌≡◌, ◌≤◌, ◌<◌, ◌↔◌, length, min, take, Some, None, IsTrue, IsOk, IsErr, IfOk, OnOk, OnErr};
 ghost use Rattle.std.specs.FinMap as map;
 ghost use Rattle.std.specs.Io.KnownBytes.{IsAtEnd};
 ghost use Rattle.desk_ports.specs.Meanings.{Opens, Begins, Moves, Adds, Keeps, IsReadyIn, IsReadyOut, Rises, Rose, left, kept_at};
-ghost use Rattle.desk_ports.specs.MemState.{empty_desk, mem_left, mem_made, mem_meanings, mem_counts, next_count};
+ghost use Rattle.desk_ports.specs.MemState.{empty_desk, mem_left, mem_made, mem_meanings, mem_counts, next_count, capped};
 
 use crate::desk::{Desk, Failed, Inlet, Outlet};
 use crate::log::{Entry, keep, newest};
@@ -82,6 +82,7 @@ pub struct MemDesk {
     readings: Readings,
     output: Written,
     report: Written,
+    pieces: Option<u32>,
     faults: Faults,
 }
 
@@ -92,11 +93,11 @@ impl Model for MemDesk {
 
     ghost coded = { state_code };
 
-    ghost use Rattle.desk_ports.specs.MemDesk.{state_of, AreWithin};
+    ghost use Rattle.desk_ports.specs.MemDesk.{state_of, IsSound};
 
-    ghost view = { λ d. state_of d.log.items d.readings d.output d.report d.faults };
+    ghost view = { λ d. state_of d.log.items d.readings d.output d.report d.pieces d.faults };
 
-    ghost invariant = { λ d. AreWithin d.log.items d.readings };
+    ghost invariant = { λ d. IsSound d.log.items d.readings d.pieces };
 }
 
 impl MemDesk {
@@ -113,6 +114,7 @@ impl MemDesk {
             },
             output: Written::closed(alloc),
             report: Written::closed(alloc),
+            pieces: None,
             faults: Faults {
                 reads: 0,
                 writes: 0,
@@ -147,6 +149,14 @@ impl MemDesk {
             Outlet::Main => self.output.made(),
             Outlet::Report => self.report.made(),
         }
+    }
+
+    /// Lets each later read and write move at most this many bytes.
+    pub fn pieces(&mut self, size: u32)
+        requires { 1 ≤ size }
+        ensures { self.new ≡ record self.old { pieces = Some size } }
+    {
+        self.pieces = Some(size);
     }
 
     /// How often opening an input and reading have failed.
@@ -226,15 +236,17 @@ impl Desk for MemDesk {
         ensures cause { OnErr result (Rose (mem_counts self.old).reads (mem_counts self.new).reads) }
         ensures rises { Rises (mem_counts self.old) (mem_counts self.new) }
 
-        // It never fails, and moves as many bytes as are left and fit.
+        // It never fails, and moves as many bytes as are left and fit, in the size of a piece.
         ensures answers { IsOk result }
-        ensures count { IfOk result (λ n. n ≡ min (length buf.old) (length (mem_left self.old inlet))) }
+        ensures count { IfOk result (λ n. n ≡ capped self.old.pieces (min (length buf.old) (length (mem_left self.old inlet)))) }
         ensures short { self.new.short ≡ self.old.short }
     {
         let Reading::Entry { at, place } = self.readings.at(inlet) else {
             unreachable!()
         };
-        let moved = copy_front(buf, &self.log[at].bytes()[place..]);
+        let rest = &self.log[at].bytes()[place..];
+        let moved = capped(self.pieces, buf.len().min(rest.len()));
+        copy_front(buf, rest, moved);
         let place = place + moved;
         self.readings.set(inlet, Reading::Entry { at, place });
         Ok(moved)
@@ -250,11 +262,12 @@ impl Desk for MemDesk {
         ensures cause { OnErr result (Rose (mem_counts self.old).writes (mem_counts self.new).writes) }
         ensures rises { Rises (mem_counts self.old) (mem_counts self.new) }
 
-        // It takes all the bytes, and fails only where a growth was refused.
-        ensures count { IfOk result (λ n. n ≡ length bytes.now) }
+        // It takes all the bytes, in the size of a piece, and fails only where a growth was refused.
+        ensures count { IfOk result (λ n. n ≡ capped self.old.pieces (length bytes.now)) }
         ensures refused { OnErr result (Rose self.old.short self.new.short) }
         ensures short { OnOk result (self.new.short ≡ self.old.short) }
     {
+        let bytes = &bytes[..capped(self.pieces, bytes.len())];
         let added = match outlet {
             Outlet::Main => self.output.add(bytes),
             Outlet::Report => self.report.add(bytes),
@@ -287,12 +300,20 @@ impl Desk for MemDesk {
     }
 }
 
-// Moves a front of the bytes to the front of the buffer, as much as fits.
-fn copy_front(buf: &mut [u8], bytes: &[u8]) -> usize
-    ensures count { result ≡ min (length buf.old) (length bytes.now) }
-    ensures copied { take result buf.new ≡ take result bytes.now }
+// As many bytes as one call may move.
+fn capped(pieces: Option<u32>, count: usize) -> usize
+    ensures { result ≡ capped pieces count }
 {
-    let count = buf.len().min(bytes.len());
+    match pieces {
+        Some(size) => count.min(size as usize),
+        None => count,
+    }
+}
+
+fn copy_front(buf: &mut [u8], bytes: &[u8], count: usize)
+    requires room { count ≤ length buf.old }
+    requires some { count ≤ length bytes.now }
+    ensures { take count buf.new ≡ take count bytes.now }
+{
     buf[..count].copy_from_slice(&bytes[..count]);
-    count
 }
