@@ -1,9 +1,10 @@
-ghost use Rattle.std.specs.Prelude.{◌≡◌, ◌≤◌, ◌<◌, ◌↔◌, length, min, take, Some, None, IsTrue, IsOk, IsErr, IfOk, OnOk, OnErr};
+ghost use Rattle.std.specs.Prelude.{◌≡◌, ◌≤◌, ◌<◌, ◌↔◌, ◌⊎◌, length, min, take, Some, None, IsTrue, IsOk, IsErr, IfOk, OnOk, OnErr};
 ghost use Rattle.std.specs.FinMap as map;
 ghost use Rattle.std.specs.Io.KnownBytes.{IsAtEnd};
 ghost use Rattle.desk_ports.specs.Meanings.{Opens, Begins, Moves, Adds, Keeps, IsReadyIn, IsReadyOut, Rises, Rose, left, kept_at};
-ghost use Rattle.desk_ports.specs.MemState.{empty_desk, mem_left, mem_made, mem_meanings, mem_counts, next_count, capped};
+ghost use Rattle.desk_ports.specs.MemState.{empty_desk, mem_left, mem_made, mem_meanings, mem_counts, next_count, capped, calls_of, with_calls, also_failing, IsNamed, IsCalled};
 
+use crate::calls::{Call, Plan};
 use crate::desk::{Desk, Failed, Inlet, Outlet};
 use crate::log::{Entry, keep, newest};
 use crate::written::Written;
@@ -62,6 +63,14 @@ impl Faults {
         Failed
     }
 
+    fn write(&mut self) -> Failed
+        ensures counted { self.new ≡ record self.old { writes = next_count self.old.writes } }
+        ensures rises { self.old.writes ≤ self.new.writes }
+    {
+        self.writes = self.writes.saturating_add(1);
+        Failed
+    }
+
     // A growth was refused.
     fn growth(&mut self) -> Failed
         ensures counted { self.new ≡ record self.old { writes = next_count self.old.writes; short = next_count self.old.short } }
@@ -83,6 +92,7 @@ pub struct MemDesk {
     output: Written,
     report: Written,
     pieces: Option<u32>,
+    plan: Plan,
     faults: Faults,
 }
 
@@ -95,13 +105,13 @@ impl Model for MemDesk {
 
     ghost use Rattle.desk_ports.specs.MemDesk.{state_of, IsSound};
 
-    ghost view = { λ d. state_of d.log.items d.readings d.output d.report d.pieces d.faults };
+    ghost view = { state_of };
 
-    ghost invariant = { λ d. IsSound d.log.items d.readings d.pieces };
+    ghost invariant = { IsSound };
 }
 
 impl MemDesk {
-    /// A desk with nothing held and no faults. It takes no memory.
+    /// A desk with nothing held, no faults and no failing calls. It takes no memory.
     pub fn new(alloc: Global) -> MemDesk
         ensures { result ≡ empty_desk }
     {
@@ -115,6 +125,7 @@ impl MemDesk {
             output: Written::closed(alloc),
             report: Written::closed(alloc),
             pieces: None,
+            plan: Plan::none(alloc),
             faults: Faults {
                 reads: 0,
                 writes: 0,
@@ -159,6 +170,14 @@ impl MemDesk {
         self.pieces = Some(size);
     }
 
+    /// Lets the call of this kind with this number fail. Numbers run from 1 since the desk was made.
+    pub fn fail(&mut self, call: Call, nth: u32) -> Result<(), NoMemory>
+        ensures ok { OnOk result (self.new ≡ record self.old { plan = with_calls self.old.plan call (also_failing (calls_of self.old.plan call) nth) }) }
+        ensures err { OnErr result (self.new ≡ self.old) }
+    {
+        Ok(self.plan.fail(call, nth)?)
+    }
+
     /// How often opening an input and reading have failed.
     pub fn read_faults(&self) -> u64
         ensures { result ≡ self.now.reads }
@@ -193,10 +212,14 @@ impl Desk for MemDesk {
         ensures cause { OnErr result (Rose (mem_counts self.old).reads (mem_counts self.new).reads) }
         ensures rises { Rises (mem_counts self.old) (mem_counts self.new) }
 
-        // It fails exactly where the name was never put or finished.
-        ensures absent { IsErr result ↔ (map.get self.old.held name.now ≡ None) }
+        // It fails exactly where `fail` named it, and where the name was never put or finished.
+        ensures fails { IsErr result ↔ (IsNamed self.old Call.OpenIn ⊎ (map.get self.old.held name.now ≡ None)) }
         ensures short { self.new.short ≡ self.old.short }
+        ensures called { IsCalled self.old self.new Call.OpenIn }
     {
+        if self.plan.next(Call::OpenIn) {
+            return Err(self.faults.read());
+        }
         let Some(at) = newest(&self.log, name.as_bytes()) else {
             return Err(self.faults.read());
         };
@@ -211,10 +234,15 @@ impl Desk for MemDesk {
         ensures cause { OnErr result (Rose (mem_counts self.old).writes (mem_counts self.new).writes) }
         ensures rises { Rises (mem_counts self.old) (mem_counts self.new) }
 
-        // It fails only where a growth was refused.
-        ensures refused { OnErr result (Rose self.old.short self.new.short) }
+        // It fails where `fail` named it, and otherwise only where a growth was refused.
+        ensures named { IsNamed self.old Call.OpenOut → IsErr result × (self.new.short ≡ self.old.short) }
+        ensures refused { OnErr result (IsNamed self.old Call.OpenOut ⊎ Rose self.old.short self.new.short) }
         ensures short { OnOk result (self.new.short ≡ self.old.short) }
+        ensures called { IsCalled self.old self.new Call.OpenOut }
     {
+        if self.plan.next(Call::OpenOut) {
+            return Err(self.faults.write());
+        }
         let name = name.as_bytes();
         let opened = match outlet {
             Outlet::Main => self.output.open(self.alloc, name),
@@ -236,11 +264,15 @@ impl Desk for MemDesk {
         ensures cause { OnErr result (Rose (mem_counts self.old).reads (mem_counts self.new).reads) }
         ensures rises { Rises (mem_counts self.old) (mem_counts self.new) }
 
-        // It never fails, and moves as many bytes as are left and fit, in the size of a piece.
-        ensures answers { IsOk result }
+        // It fails exactly where `fail` named it, and moves as many bytes as are left and fit, in the size of a piece.
+        ensures fails { IsErr result ↔ IsNamed self.old Call.Read }
         ensures count { IfOk result (λ n. n ≡ capped self.old.pieces (min (length buf.old) (length (mem_left self.old inlet)))) }
         ensures short { self.new.short ≡ self.old.short }
+        ensures called { IsCalled self.old self.new Call.Read }
     {
+        if self.plan.next(Call::Read) {
+            return Err(self.faults.read());
+        }
         let Reading::Entry { at, place } = self.readings.at(inlet) else {
             unreachable!()
         };
@@ -262,11 +294,16 @@ impl Desk for MemDesk {
         ensures cause { OnErr result (Rose (mem_counts self.old).writes (mem_counts self.new).writes) }
         ensures rises { Rises (mem_counts self.old) (mem_counts self.new) }
 
-        // It takes all the bytes, in the size of a piece, and fails only where a growth was refused.
+        // It takes all the bytes, in the size of a piece. It fails where `fail` named it, and otherwise only where a growth was refused.
         ensures count { IfOk result (λ n. n ≡ capped self.old.pieces (length bytes.now)) }
-        ensures refused { OnErr result (Rose self.old.short self.new.short) }
+        ensures named { IsNamed self.old Call.Write → IsErr result × (self.new.short ≡ self.old.short) }
+        ensures refused { OnErr result (IsNamed self.old Call.Write ⊎ Rose self.old.short self.new.short) }
         ensures short { OnOk result (self.new.short ≡ self.old.short) }
+        ensures called { IsCalled self.old self.new Call.Write }
     {
+        if self.plan.next(Call::Write) {
+            return Err(self.faults.write());
+        }
         let bytes = &bytes[..capped(self.pieces, bytes.len())];
         let added = match outlet {
             Outlet::Main => self.output.add(bytes),
@@ -285,10 +322,15 @@ impl Desk for MemDesk {
         ensures cause { OnErr result (Rose (mem_counts self.old).writes (mem_counts self.new).writes) }
         ensures rises { Rises (mem_counts self.old) (mem_counts self.new) }
 
-        // It fails only where a growth was refused.
-        ensures refused { OnErr result (Rose self.old.short self.new.short) }
+        // It fails where `fail` named it, and otherwise only where a growth was refused.
+        ensures named { IsNamed self.old Call.Finish → IsErr result × (self.new.short ≡ self.old.short) }
+        ensures refused { OnErr result (IsNamed self.old Call.Finish ⊎ Rose self.old.short self.new.short) }
         ensures short { OnOk result (self.new.short ≡ self.old.short) }
+        ensures called { IsCalled self.old self.new Call.Finish }
     {
+        if self.plan.next(Call::Finish) {
+            return Err(self.faults.write());
+        }
         let kept = match outlet {
             Outlet::Main => self.output.keep_in(&mut self.log, self.alloc),
             Outlet::Report => self.report.keep_in(&mut self.log, self.alloc),
