@@ -22,6 +22,12 @@ pub record MemOutgoing : Type 0 where
   pub name : List ℕ
   pub ready : Bool
 
+-- the faults of reading and of writing, and the growths that were refused
+pub record MemFaults : Type 0 where
+  pub reads : ℕ
+  pub writes : ℕ
+  pub short : ℕ
+
 -- the calls of one kind: how many were made, and the numbers of those that fail
 pub record MemCalls : Type 0 where
   pub calls : ℕ
@@ -182,6 +188,21 @@ also_failing calls nth = record calls { failing = calls.failing ++ nth ∷ [] }
 -- the next call of this kind was named as one that fails
 abbrev pub IsNamed : MemState → Call → Type 0
 IsNamed state call = IsNextFailing (calls_of state.plan call)
+
+abbrev pub faults_of : MemState → MemFaults
+faults_of state = record { reads = state.reads; writes = state.writes; short = state.short }
+
+-- after one more fault of reading
+abbrev pub read_fault : MemFaults → MemFaults
+read_fault faults = record faults { reads = next_count faults.reads }
+
+-- after one more fault of writing
+abbrev pub write_fault : MemFaults → MemFaults
+write_fault faults = record faults { writes = next_count faults.writes }
+
+-- after one more growth that was refused
+abbrev pub refusal : MemFaults → MemFaults
+refusal faults = record (write_fault faults) { short = next_count faults.short }
 
 -- a call of this kind was made: it has its number, and what the desk was told to do stays
 pub record IsCalled (old new : MemState) (call : Call) : Type 0 where

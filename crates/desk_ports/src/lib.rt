@@ -14,3 +14,6 @@ pub use desk::{Desk, Failed, Inlet, Outlet};
 pub use file::FileDesk;
 pub use memory::MemDesk;
 pub use transfer::{fill, write_all};
+
+#[cfg(test)]
+mod tests;

@@ -2,7 +2,7 @@ ghost use Rattle.std.specs.Prelude.{◌≡◌, ◌≤◌, ◌<◌, ◌↔◌, �
 ghost use Rattle.std.specs.FinMap as map;
 ghost use Rattle.std.specs.Io.KnownBytes.{IsAtEnd};
 ghost use Rattle.desk_ports.specs.Meanings.{Opens, Begins, Moves, Adds, Keeps, IsReadyIn, IsReadyOut, Rises, Rose, left, kept_at};
-ghost use Rattle.desk_ports.specs.MemState.{empty_desk, mem_left, mem_made, mem_meanings, mem_counts, next_count, capped, calls_of, with_calls, also_failing, IsNamed, IsCalled};
+ghost use Rattle.desk_ports.specs.MemState.{empty_desk, mem_left, mem_made, mem_meanings, mem_counts, next_count, capped, calls_of, with_calls, also_failing, IsNamed, IsCalled, faults_of, read_fault, write_fault, refusal};
 
 use crate::calls::{Call, Plan};
 use crate::desk::{Desk, Failed, Inlet, Outlet};
@@ -214,7 +214,8 @@ impl Desk for MemDesk {
 
         // It fails exactly where `fail` named it, and where the name was never put or finished.
         ensures fails { IsErr result ↔ (IsNamed self.old Call.OpenIn ⊎ (map.get self.old.held name.now ≡ None)) }
-        ensures short { self.new.short ≡ self.old.short }
+        ensures still { OnOk result (faults_of self.new ≡ faults_of self.old) }
+        ensures fault { OnErr result (faults_of self.new ≡ read_fault (faults_of self.old)) }
         ensures called { IsCalled self.old self.new Call.OpenIn }
     {
         if self.plan.next(Call::OpenIn) {
@@ -235,9 +236,9 @@ impl Desk for MemDesk {
         ensures rises { Rises (mem_counts self.old) (mem_counts self.new) }
 
         // It fails where `fail` named it, and otherwise only where a growth was refused.
-        ensures named { IsNamed self.old Call.OpenOut → IsErr result × (self.new.short ≡ self.old.short) }
-        ensures refused { OnErr result (IsNamed self.old Call.OpenOut ⊎ Rose self.old.short self.new.short) }
-        ensures short { OnOk result (self.new.short ≡ self.old.short) }
+        ensures named { IsNamed self.old Call.OpenOut → IsErr result × (faults_of self.new ≡ write_fault (faults_of self.old)) }
+        ensures refused { OnErr result (IsNamed self.old Call.OpenOut ⊎ (faults_of self.new ≡ refusal (faults_of self.old))) }
+        ensures still { OnOk result (faults_of self.new ≡ faults_of self.old) }
         ensures called { IsCalled self.old self.new Call.OpenOut }
     {
         if self.plan.next(Call::OpenOut) {
@@ -267,7 +268,8 @@ impl Desk for MemDesk {
         // It fails exactly where `fail` named it, and moves as many bytes as are left and fit, in the size of a piece.
         ensures fails { IsErr result ↔ IsNamed self.old Call.Read }
         ensures count { IfOk result (λ n. n ≡ capped self.old.pieces (min (length buf.old) (length (mem_left self.old inlet)))) }
-        ensures short { self.new.short ≡ self.old.short }
+        ensures still { OnOk result (faults_of self.new ≡ faults_of self.old) }
+        ensures fault { OnErr result (faults_of self.new ≡ read_fault (faults_of self.old)) }
         ensures called { IsCalled self.old self.new Call.Read }
     {
         if self.plan.next(Call::Read) {
@@ -296,9 +298,9 @@ impl Desk for MemDesk {
 
         // It takes all the bytes, in the size of a piece. It fails where `fail` named it, and otherwise only where a growth was refused.
         ensures count { IfOk result (λ n. n ≡ capped self.old.pieces (length bytes.now)) }
-        ensures named { IsNamed self.old Call.Write → IsErr result × (self.new.short ≡ self.old.short) }
-        ensures refused { OnErr result (IsNamed self.old Call.Write ⊎ Rose self.old.short self.new.short) }
-        ensures short { OnOk result (self.new.short ≡ self.old.short) }
+        ensures named { IsNamed self.old Call.Write → IsErr result × (faults_of self.new ≡ write_fault (faults_of self.old)) }
+        ensures refused { OnErr result (IsNamed self.old Call.Write ⊎ (faults_of self.new ≡ refusal (faults_of self.old))) }
+        ensures still { OnOk result (faults_of self.new ≡ faults_of self.old) }
         ensures called { IsCalled self.old self.new Call.Write }
     {
         if self.plan.next(Call::Write) {
@@ -323,9 +325,9 @@ impl Desk for MemDesk {
         ensures rises { Rises (mem_counts self.old) (mem_counts self.new) }
 
         // It fails where `fail` named it, and otherwise only where a growth was refused.
-        ensures named { IsNamed self.old Call.Finish → IsErr result × (self.new.short ≡ self.old.short) }
-        ensures refused { OnErr result (IsNamed self.old Call.Finish ⊎ Rose self.old.short self.new.short) }
-        ensures short { OnOk result (self.new.short ≡ self.old.short) }
+        ensures named { IsNamed self.old Call.Finish → IsErr result × (faults_of self.new ≡ write_fault (faults_of self.old)) }
+        ensures refused { OnErr result (IsNamed self.old Call.Finish ⊎ (faults_of self.new ≡ refusal (faults_of self.old))) }
+        ensures still { OnOk result (faults_of self.new ≡ faults_of self.old) }
         ensures called { IsCalled self.old self.new Call.Finish }
     {
         if self.plan.next(Call::Finish) {
