@@ -2,3 +2,5 @@ pub mod NumberBits
 pub mod ByteBits
 pub mod Places
 pub mod PenBits
+pub mod ExactReading
+pub mod EyeReading
