@@ -1,7 +1,7 @@
 -- Reading a plain packet and its bits: each is what the other says.
-use Rattle.std.proofs.Common.{◌≡◌, ℕ, zero, suc, ◌+◌, ◌-◌, ◌*◌, ◌/◌, ◌^◌, ◌<◌, ◌≤◌, Bool, true, false, cond, List, [], ◌∷◌, ◌++◌, length, replicate, take, drop, Option, Some, None, refl, sym, ap, subst, ◌∙◌, append_assoc, arith}
-use Rattle.std.proofs.lemmas.List.{length-append, length-replicate}
-use Rattle.std.proofs.lemmas.Option.{same_Some, cond_some, some_pair_parts}
+use Rattle.std.proofs.Common.{◌≡◌, ℕ, zero, suc, ◌-◌, ◌*◌, ◌^◌, ◌<◌, Bool, true, false, cond, List, [], ◌∷◌, ◌++◌, length, replicate, Option, Some, None, refl, sym, ap, subst, ◌∙◌, append_assoc, arith}
+use Rattle.std.proofs.lemmas.List.{length-append}
+use Rattle.std.proofs.lemmas.Option.{cond_some, some_pair_parts}
 use Rattle.bit_vectors.specs.Vectors.{number_bits, bits_number, byte_count, padded}
 use Rattle.bit_vectors.proofs.NumberBits.{length-number_bits, bits_number-number_bits, bits_number_below, number_bits-bits_number}
 use Rattle.packet_decode.specs.Count.{count_bits}
