@@ -1,8 +1,9 @@
 -- How the bits of vectors lie in bytes.
-use Rattle.std.proofs.Common.{◌≡◌, ℕ, zero, suc, ◌+◌, ◌-◌, ◌*◌, ◌/◌, ◌%◌, ◌<◌, ◌≤◌, Bool, true, false, eqb, List, [], ◌∷◌, ◌++◌, length, get_or, take, drop, replicate, refl, sym, ap, ◌∙◌, arith, inl, inr, append_assoc}
+use Rattle.std.proofs.Common.{◌≡◌, ℕ, zero, suc, ◌+◌, ◌-◌, ◌*◌, ◌/◌, ◌%◌, ◌<◌, ◌≤◌, Bool, true, false, eqb, List, [], ◌∷◌, ◌++◌, length, get_or, take, drop, replicate, refl, sym, ap, subst, ◌∙◌, arith, inl, inr, append_assoc}
 use Rattle.std.specs.Int.{bit_at}
-use Rattle.std.specs.Prelude.{Contains}
-use Rattle.std.proofs.lemmas.Bool.{cases_lt, true≢false, false_from_ne_true}
+use Rattle.std.specs.Prelude.{Contains, not}
+use Rattle.std.specs.Bool.{Decides}
+use Rattle.std.proofs.lemmas.Bool.{cases_lt, true≢false, false≢true, false_from_ne_true}
 use Rattle.std.proofs.lemmas.Grind.{flat_map-append}
 use Rattle.std.proofs.lemmas.List.{length-append, length-take, length-drop, length-replicate, get_or_append_left, get_or-append-add, take_at, drop_at, take-append-drop, append-nil, drop-drop, get_or-drop, get_or_default, get_or_past, get_or-take, ext_get_or, length-take-le}
 use Rattle.std.proofs.Math.Nat.{pow-le-pow_right}
@@ -224,3 +225,13 @@ stored_is bytes len below count none =
 
 pub vector_bytes_by_index : (bytes : List ℕ) (bits : List Bool) → length bytes ≡ byte_count (length bits) → ((k : ℕ) → k < length bytes → get_or bytes k 0 ≡ get_or (vector_bytes bits) k 0) → bytes ≡ vector_bytes bits
 vector_bytes_by_index bytes bits len same = ext_get_or 0 bytes (vector_bytes bits) (omega (arith, length-vector_bytes bits)) same
+
+pub none_in_zeros : (n : ℕ) → Contains (replicate n false) true → ⊥
+none_in_zeros n one =
+    true≢false (sym one.2 ∙ get_or_default (replicate n false) one.0 true false one.1 ∙ get_or-zeros n one.0)
+
+-- a test for a one tells whether a vector is zero
+pub is_zero_by_test : (bits : List Bool) (has_one : Bool) → Decides has_one (Contains bits true) → (not has_one ≡ true → bits ≡ replicate (length bits) false) × (bits ≡ replicate (length bits) false → not has_one ≡ true)
+is_zero_by_test bits true test =
+    (λ e. absurd cc, λ zero_is. absurd (none_in_zeros (length bits) (subst (λ (v : List Bool). Contains v true) zero_is (test.0 refl))))
+is_zero_by_test bits false test = (λ e. zeros_is bits (zero_from_none bits (λ one. false≢true (test.1 one))), λ zero_is. refl)

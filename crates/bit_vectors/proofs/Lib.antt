@@ -1,2 +1,6 @@
 pub mod NumberBits
 pub mod ByteBits
+pub mod Places
+pub mod PenBits
+pub mod ExactReading
+pub mod EyeReading

@@ -94,3 +94,7 @@ bits_number_take_below bits n most le =
 -- one bit more from the front of a list
 pub bits_number-take_more : (bits : List Bool) (n : ℕ) → n < length bits → bits_number (take (n + 1) bits) ≡ 2 * bits_number (take n bits) + cond (get_or bits n false) 1 0
 bits_number-take_more bits n lt = rw (take_more bits n false lt) (bits_number-push (take n bits) (get_or bits n false))
+
+pub number_bits-more : (width n : ℕ) → number_bits (width + 1) n ≡ eqb (bit_at n width) 1 ∷ number_bits width n
+unfolding number_bits
+number_bits-more width n = rw add-one refl

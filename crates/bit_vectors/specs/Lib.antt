@@ -1,2 +1,4 @@
 pub mod Vectors
 pub mod Eye
+pub mod Pen
+pub mod Reading

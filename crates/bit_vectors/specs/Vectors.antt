@@ -1,11 +1,30 @@
 -- Vectors of bits, and how bits lie in bytes: the bit of the greatest weight of the first byte comes first.
-use Rattle.std.specs.Prelude.{ℕ, zero, suc, ◌+◌, ◌-◌, ◌*◌, ◌/◌, ◌^◌, ◌<◌, ◌≤◌, ◌==◌, Bool, false, if◌then◌else◌, List, [], ◌∷◌, ◌++◌, length, take, drop, replicate, slice_index}
+use Rattle.std.specs.Prelude.{ℕ, zero, suc, ◌+◌, ◌-◌, ◌*◌, ◌/◌, ◌^◌, ◌<◌, ◌≤◌, ◌==◌, Bool, true, false, if◌then◌else◌, List, [], ◌∷◌, ◌++◌, length, take, drop, replicate, slice_index, slice_index_or, ◌≡◌, not, ◌&&◌, ◌||◌}
 use Rattle.std.specs.List.{flat_map}
 use Rattle.std.specs.Int.{bit_at}
+use Rattle.std.specs.Simd.Lanes.{zip2}
 
 -- a vector has 1 to 49,152 places
 abbrev pub IsVector : List Bool → Type 0
 IsVector v = (1 ≤ length v) × (length v ≤ 49152)
+
+-- the vectors place by place: one where exactly one of the two is, where one of them is, where the first alone is
+abbrev pub xor_bits : List Bool → List Bool → List Bool
+xor_bits = zip2 (λ a b. if a then not b else b)
+
+abbrev pub or_bits : List Bool → List Bool → List Bool
+or_bits = zip2 (λ a b. a || b)
+
+abbrev pub without_bits : List Bool → List Bool → List Bool
+without_bits = zip2 (λ a b. a && not b)
+
+-- the bit at this place is one; so the place is one of the vector's
+abbrev pub IsOne : List Bool → ℕ → Type 0
+IsOne v place = slice_index_or v place false ≡ true
+
+-- no bit is one from one place up to another, which is not looked at
+abbrev pub NoneIsOne : List Bool → ℕ → ℕ → Type 0
+NoneIsOne v from to = (k : ℕ) → from ≤ k → k < to → slice_index_or v k false ≡ false
 
 -- the bits of a number, of this width, the greatest weight first
 unfoldable pub number_bits : ℕ → ℕ → List Bool

@@ -1,7 +1,8 @@
 //! Vectors of bits.
 
-ghost use Rattle.std.specs.Prelude.{◌≡◌, ℕ, ◌+◌, ◌*◌, ◌<◌, ◌≤◌, ◌↔◌, Bool, true, false, List, length, take, drop, replicate, slice_index_or, slice_set, Contains, IsTrue, IsErr, IfOk, OnOk, OnErr};
-ghost use Rattle.bit_vectors.specs.Vectors.{IsVector, bits_of, byte_count, vector_bytes};
+ghost use Rattle.std.specs.Prelude.{◌≡◌, ℕ, ◌+◌, ◌*◌, ◌<◌, ◌≤◌, ◌↔◌, Bool, true, false, List, length, take, drop, replicate, slice_index_or, slice_set, Contains, IsTrue, IsNone, IfSome, IsErr, IfOk, OnOk, OnErr, count_by};
+ghost use Rattle.std.specs.Bool.{OnFalse};
+ghost use Rattle.bit_vectors.specs.Vectors.{IsVector, xor_bits, or_bits, without_bits, IsOne, NoneIsOne, bits_of, byte_count, vector_bytes};
 
 use crate::fault::{NoMemory, SpareBit};
 use crate::packing::{has_one_from, pack, unpack};
@@ -82,10 +83,86 @@ impl Bits {
         self.places.copy_from_slice(&other.places);
     }
 
+    /// Makes the bits 1 at which exactly one of this vector and `other`, which has as many places, is 1,
+    /// and the others 0.
+    pub fn xor_in(&mut self, other: &Bits)
+        requires { length self.old ≡ length other.now }
+        ensures bits { self.new ≡ xor_bits self.old other.now }
+        ensures len { length self.new ≡ length self.old }
+    {
+        xor_places(&mut self.places, &other.places);
+    }
+
+    /// Makes the bits 1 at which `other`, which has as many places, is 1.
+    pub fn or_in(&mut self, other: &Bits)
+        requires { length self.old ≡ length other.now }
+        ensures bits { self.new ≡ or_bits self.old other.now }
+        ensures len { length self.new ≡ length self.old }
+    {
+        or_places(&mut self.places, &other.places);
+    }
+
+    /// Makes the bits 0 at which `other`, which has as many places, is 1.
+    pub fn drop_in(&mut self, other: &Bits)
+        requires { length self.old ≡ length other.now }
+        ensures bits { self.new ≡ without_bits self.old other.now }
+        ensures len { length self.new ≡ length self.old }
+    {
+        drop_places(&mut self.places, &other.places);
+    }
+
+    /// The number of ones.
+    pub fn ones(&self) -> u32
+        ensures { result ≡ count_by (λ bit. bit) self.now }
+    {
+        self.places.iter().filter(|bit| **bit).count() as u32
+    }
+
+    /// Whether every bit is 0.
+    pub fn is_zero(&self) -> bool
+        ensures zero { IsTrue result ↔ (self.now ≡ replicate (length self.now) false) }
+        ensures some { OnFalse result (Contains self.now true) }
+    {
+        !self.places.contains(&true)
+    }
+
+    /// The greatest place below `below` at which the bit is 1. `below` is at most the number of places.
+    pub fn next_one_down(&self, below: u32) -> Option<u32>
+        requires { below ≤ length self.now }
+        ensures one { IfSome result (λ place. IsOne self.now place) }
+        ensures below { IfSome result (λ place. place < below) }
+        ensures greatest { IfSome result (λ place. NoneIsOne self.now (place + 1) below) }
+        ensures none { IsNone result ↔ NoneIsOne self.now 0 below }
+    {
+        for place in (0..below).rev() {
+            if self.places[place as usize] {
+                return Some(place);
+            }
+        }
+        None
+    }
+
+    /// The least place from `from` on at which the bit is 1. `from` is at most the number of places.
+    pub fn next_one_up(&self, from: u32) -> Option<u32>
+        requires { from ≤ length self.now }
+        ensures one { IfSome result (λ place. IsOne self.now place) }
+        ensures from { IfSome result (λ place. from ≤ place) }
+        ensures least { IfSome result (λ place. NoneIsOne self.now from place) }
+        ensures none { IsNone result ↔ NoneIsOne self.now from (length self.now) }
+    {
+        for place in from..self.len() {
+            if self.places[place as usize] {
+                return Some(place);
+            }
+        }
+        None
+    }
+
     /// Makes this vector the first bits of `bytes`, which must be as many as the vector takes. The spare
     /// bits of the last byte must be 0; else the vector stays as it is.
     pub fn load(&mut self, bytes: &[u8]) -> Result<(), SpareBit>
         requires { length bytes.now ≡ byte_count (length self.old) }
+        ensures len { length self.new ≡ length self.old }
         ensures loaded { OnOk result (self.new ≡ take (length self.old) (bits_of bytes.now)) }
         ensures stored { OnOk result (bytes.now ≡ vector_bytes self.new) }
         ensures spare { IsErr result ↔ Contains (drop (length self.old) (bits_of bytes.now)) true }
@@ -112,5 +189,32 @@ impl Bits {
         ensures { IsTrue result ↔ (self.now ≡ other.now) }
     {
         self.places.as_slice() == other.places.as_slice()
+    }
+}
+
+fn xor_places(places: &mut [bool], others: &[bool])
+    requires { length places.old ≡ length others.now }
+    ensures { places.new ≡ xor_bits places.old others.now }
+{
+    for (place, bit) in places.iter_mut().enumerate() {
+        *bit ^= others[place];
+    }
+}
+
+fn or_places(places: &mut [bool], others: &[bool])
+    requires { length places.old ≡ length others.now }
+    ensures { places.new ≡ or_bits places.old others.now }
+{
+    for (place, bit) in places.iter_mut().enumerate() {
+        *bit |= others[place];
+    }
+}
+
+fn drop_places(places: &mut [bool], others: &[bool])
+    requires { length places.old ≡ length others.now }
+    ensures { places.new ≡ without_bits places.old others.now }
+{
+    for (place, bit) in places.iter_mut().enumerate() {
+        *bit &= !others[place];
     }
 }

@@ -5,9 +5,16 @@ mod bits;
 mod eye;
 mod fault;
 mod flags;
+mod laws;
 mod packing;
+mod pen;
 
 pub use bits::{Bits, byte_len};
 pub use eye::BitEye;
 pub use fault::{BitFault, NoMemory, SpareBit};
 pub use flags::Flags;
+pub use laws::{bytes_and_vectors, numbers_and_bits};
+pub use pen::BitPen;
+
+#[cfg(test)]
+mod tests;

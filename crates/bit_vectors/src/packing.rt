@@ -1,6 +1,6 @@
 //! How bits lie in bytes: eight to a byte, the bit of the greatest weight first.
 
-ghost use Rattle.std.specs.Prelude.{◌≡◌, ℕ, ◌+◌, ◌*◌, ◌/◌, ◌^◌, ◌<◌, ◌≤◌, ◌↔◌, Bool, true, false, length, take, drop, slice_index, slice_index_or, Contains, IsTrue};
+ghost use Rattle.std.specs.Prelude.{◌≡◌, ℕ, ◌+◌, ◌*◌, ◌/◌, ◌^◌, ◌<◌, ◌≤◌, ◌↔◌, Bool, true, false, length, take, drop, slice_index, slice_index_or, slice_set, Contains, IsTrue};
 ghost use Rattle.bit_vectors.specs.Vectors.{bits_of, byte_count, vector_bytes};
 
 /// The bit with this number, over all the bytes.
@@ -55,4 +55,24 @@ pub fn pack(places: &[bool], bytes: &mut [u8])
     for (index, byte) in bytes.iter_mut().enumerate() {
         *byte = byte_of(places, index);
     }
+}
+
+/// Makes the bit with this number, which is 0, `bit`.
+pub fn write_bit(bytes: &mut [u8], place: usize, bit: bool)
+    requires within { place < 8 * length bytes.old }
+    requires zero { slice_index_or (bits_of bytes.old) place false ≡ false }
+    ensures { bits_of bytes.new ≡ slice_set (bits_of bytes.old) place bit }
+{
+    if bit {
+        bytes[place / 8] |= 1 << (7 - place % 8);
+    }
+}
+
+/// The bytes that the first `len` bits take, where all bits after them are 0.
+pub fn first_bytes(bytes: &[u8], len: usize) -> &[u8]
+    requires within { len ≤ 8 * length bytes.now }
+    requires rest { (k : ℕ) → len ≤ k → slice_index_or (bits_of bytes.now) k false ≡ false }
+    ensures { result.now ≡ vector_bytes (take len (bits_of bytes.now)) }
+{
+    &bytes[..len.div_ceil(8)]
 }

@@ -1,3 +1,4 @@
 pub mod Transfers
 pub mod Runs
 pub mod Logs
+pub mod Readings

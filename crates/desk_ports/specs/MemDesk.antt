@@ -1,13 +1,13 @@
 -- How the fields of a desk in memory are seen.
-use Rattle.std.specs.Prelude.{ℕ, ◌<◌, ◌≤◌, true, List, [], length, drop}
+use Rattle.std.specs.Prelude.{ℕ, ◌<◌, ◌≤◌, true, List, IfSome, length, drop}
 use Rattle.desk_ports.specs.declared.desk.Inlet.{Inlet}
 use Rattle.desk_ports.specs.declared.desk.Inlet.TheVariants as inlet
 use Rattle.desk_ports.specs.declared.memory.Reading.{Reading}
 use Rattle.desk_ports.specs.declared.memory.Reading.TheVariants as reading
 use Rattle.desk_ports.specs.declared.memory.Readings.{Readings}
-use Rattle.desk_ports.specs.declared.memory.Faults.{Faults}
+use Rattle.desk_ports.specs.declared.memory.MemDesk.TheInside.{Inside}
 use Rattle.desk_ports.specs.Log.{kept_of, bytes_at}
-use Rattle.desk_ports.specs.MemState.{MemIncoming, MemOutgoing, MemState, closed_incoming}
+use Rattle.desk_ports.specs.MemState.{MemIncoming, MemState, closed_incoming}
 
 abbrev pub reading_at : Readings → Inlet → Reading
 reading_at readings inlet.Side = readings.side
@@ -27,18 +27,22 @@ abbrev pub IsWithin : List (List ℕ × List ℕ) → Reading → Type 0
 IsWithin log reading.Nothing = Unit {0}
 IsWithin log (reading.Entry at place) = (at < length log) × (place ≤ length (bytes_at log at))
 
-abbrev pub state_of : List (List ℕ × List ℕ) → Readings → MemOutgoing → MemOutgoing → Faults → MemState
-state_of log readings output report faults = record {
-  side = incoming_of log readings.side;
-  input = incoming_of log readings.input;
-  output = output;
-  report = report;
-  held = kept_of log;
-  reads = faults.reads;
-  writes = faults.writes;
-  short = faults.short;
+abbrev pub state_of : Inside → MemState
+state_of desk = record {
+  side = incoming_of desk.log.items desk.readings.side;
+  input = incoming_of desk.log.items desk.readings.input;
+  output = desk.output;
+  report = desk.report;
+  held = kept_of desk.log.items;
+  pieces = desk.pieces;
+  plan = desk.plan;
+  reads = desk.faults.reads;
+  writes = desk.faults.writes;
+  short = desk.faults.short;
 }
 
-pub record AreWithin (log : List (List ℕ × List ℕ)) (readings : Readings) : Type 0 where
-  pub side : IsWithin log readings.side
-  pub input : IsWithin log readings.input
+-- both inlets stand within entries, and a piece has bytes
+pub record IsSound (desk : Inside) : Type 0 where
+  pub side : IsWithin desk.log.items desk.readings.side
+  pub input : IsWithin desk.log.items desk.readings.input
+  pub some : IfSome desk.pieces (λ size. 1 ≤ size)

@@ -1,11 +1,14 @@
 -- What a desk in memory is seen as, and what each of its calls does to that.
-use Rattle.std.specs.Prelude.{◌≡◌, ℕ, ◌+◌, ◌-◌, ◌^◌, min, Bool, true, false, List, [], Some, refl}
-use Rattle.std.specs.Coded.{Coded, code_by, coded×, coded_ℕ, coded_bool, coded_list}
+use Rattle.std.specs.Prelude.{◌≡◌, ℕ, ◌+◌, ◌-◌, ◌^◌, min, Bool, true, false, List, [], Option, Some, None, refl, ◌++◌, ◌∷◌}
+use Rattle.std.specs.List.{Contains}
+use Rattle.std.specs.Coded.{Coded, code_by, coded×, coded_ℕ, coded_bool, coded_list, coded_option}
 use Rattle.std.specs.FinMap as map
 use Rattle.desk_ports.specs.declared.desk.Inlet.{Inlet}
 use Rattle.desk_ports.specs.declared.desk.Inlet.TheVariants as inlet
 use Rattle.desk_ports.specs.declared.desk.Outlet.{Outlet}
 use Rattle.desk_ports.specs.declared.desk.Outlet.TheVariants as outlet
+use Rattle.desk_ports.specs.declared.calls.Call.{Call}
+use Rattle.desk_ports.specs.declared.calls.Call.TheVariants as call
 use Rattle.desk_ports.specs.Meanings.{Meanings, Counts, Kept}
 
 -- an input: the bytes still to come, and whether it was opened
@@ -19,13 +22,35 @@ pub record MemOutgoing : Type 0 where
   pub name : List ℕ
   pub ready : Bool
 
--- all of a desk in memory: its inputs and outputs, what it keeps, its faults of reading and of writing, and the growths that were refused
+-- the faults of reading and of writing, and the growths that were refused
+pub record MemFaults : Type 0 where
+  pub reads : ℕ
+  pub writes : ℕ
+  pub short : ℕ
+
+-- the calls of one kind: how many were made, and the numbers of those that fail
+pub record MemCalls : Type 0 where
+  pub calls : ℕ
+  pub failing : List ℕ
+
+-- the calls of each kind
+pub record MemPlan : Type 0 where
+  pub open_in : MemCalls
+  pub open_out : MemCalls
+  pub read : MemCalls
+  pub write : MemCalls
+  pub finish : MemCalls
+
+-- all of a desk in memory: its inputs and outputs, what it keeps, the most bytes that a call moves where that is set,
+-- the calls that were made and that fail, its faults of reading and of writing, and the growths that were refused
 pub record MemState : Type 0 where
   pub side : MemIncoming
   pub input : MemIncoming
   pub output : MemOutgoing
   pub report : MemOutgoing
   pub held : Kept
+  pub pieces : Option ℕ
+  pub plan : MemPlan
   pub reads : ℕ
   pub writes : ℕ
   pub short : ℕ
@@ -44,20 +69,31 @@ outgoing_code =
 abbrev pub kept_code : Coded Kept
 kept_code = map.code bytes_code bytes_code
 
+abbrev pub calls_code : Coded MemCalls
+calls_code = code_by (ℕ × List ℕ) (coded× coded_ℕ bytes_code) (λ c. (c.calls, c.failing)) (λ p. record { calls = p.0; failing = p.1 }) (λ _. refl)
+
+abbrev pub plan_code : Coded MemPlan
+plan_code =
+    code_by (MemCalls × (MemCalls × (MemCalls × (MemCalls × MemCalls)))) (coded× calls_code (coded× calls_code (coded× calls_code (coded× calls_code calls_code))))
+    (λ p. (p.open_in, (p.open_out, (p.read, (p.write, p.finish)))))
+    (λ p. record { open_in = p.0; open_out = p.1.0; read = p.1.1.0; write = p.1.1.1.0; finish = p.1.1.1.1 }) (λ _. refl)
+
 abbrev pub state_code : Coded MemState
 state_code =
-    code_by ((MemIncoming × MemIncoming) × ((MemOutgoing × MemOutgoing) × (Kept × (ℕ × (ℕ × ℕ)))))
-    (coded× (coded× incoming_code incoming_code) (coded× (coded× outgoing_code outgoing_code) (coded× kept_code (coded× coded_ℕ (coded× coded_ℕ coded_ℕ)))))
-    (λ s. ((s.side, s.input), ((s.output, s.report), (s.held, (s.reads, (s.writes, s.short))))))
+    code_by ((MemIncoming × MemIncoming) × ((MemOutgoing × MemOutgoing) × (Kept × (Option ℕ × (MemPlan × (ℕ × (ℕ × ℕ)))))))
+    (coded× (coded× incoming_code incoming_code) (coded× (coded× outgoing_code outgoing_code) (coded× kept_code (coded× (coded_option coded_ℕ) (coded× plan_code (coded× coded_ℕ (coded× coded_ℕ coded_ℕ)))))))
+    (λ s. ((s.side, s.input), ((s.output, s.report), (s.held, (s.pieces, (s.plan, (s.reads, (s.writes, s.short))))))))
     (λ p. record {
       side = p.0.0;
       input = p.0.1;
       output = p.1.0.0;
       report = p.1.0.1;
       held = p.1.1.0;
-      reads = p.1.1.1.0;
-      writes = p.1.1.1.1.0;
-      short = p.1.1.1.1.1;
+      pieces = p.1.1.1.0;
+      plan = p.1.1.1.1.0;
+      reads = p.1.1.1.1.1.0;
+      writes = p.1.1.1.1.1.1.0;
+      short = p.1.1.1.1.1.1.1;
     })
     (λ _. refl)
 
@@ -67,6 +103,13 @@ closed_incoming = record { left = []; ready = false }
 abbrev pub closed_outgoing : MemOutgoing
 closed_outgoing = record { made = []; name = []; ready = false }
 
+-- no call was made, and none fails
+abbrev pub no_calls : MemCalls
+no_calls = record { calls = 0; failing = [] }
+
+abbrev pub empty_plan : MemPlan
+empty_plan = record { open_in = no_calls; open_out = no_calls; read = no_calls; write = no_calls; finish = no_calls }
+
 -- a new desk: nothing is open or held, and nothing has failed
 abbrev pub empty_desk : MemState
 empty_desk = record {
@@ -75,6 +118,8 @@ empty_desk = record {
   output = closed_outgoing;
   report = closed_outgoing;
   held = map.empty;
+  pieces = None;
+  plan = empty_plan;
   reads = 0;
   writes = 0;
   short = 0;
@@ -108,3 +153,58 @@ mem_counts state = record { reads = state.reads; writes = state.writes }
 -- the next value of a count, which stands still at its last value
 abbrev pub next_count : ℕ → ℕ
 next_count n = min (n + 1) (2 ^ 64 - 1)
+
+-- as many bytes as one call may move
+abbrev pub capped : Option ℕ → ℕ → ℕ
+capped None n = n
+capped (Some size) n = min n size
+
+abbrev pub calls_of : MemPlan → Call → MemCalls
+calls_of plan call.OpenIn = plan.open_in
+calls_of plan call.OpenOut = plan.open_out
+calls_of plan call.Read = plan.read
+calls_of plan call.Write = plan.write
+calls_of plan call.Finish = plan.finish
+
+abbrev pub with_calls : MemPlan → Call → MemCalls → MemPlan
+with_calls plan call.OpenIn calls = record plan { open_in = calls }
+with_calls plan call.OpenOut calls = record plan { open_out = calls }
+with_calls plan call.Read calls = record plan { read = calls }
+with_calls plan call.Write calls = record plan { write = calls }
+with_calls plan call.Finish calls = record plan { finish = calls }
+
+-- after one more call
+abbrev pub one_more : MemCalls → MemCalls
+one_more calls = record calls { calls = next_count calls.calls }
+
+-- the next call has a number that fails
+abbrev pub IsNextFailing : MemCalls → Type 0
+IsNextFailing calls = Contains calls.failing (next_count calls.calls)
+
+-- one more number fails
+abbrev pub also_failing : MemCalls → ℕ → MemCalls
+also_failing calls nth = record calls { failing = calls.failing ++ nth ∷ [] }
+
+-- the next call of this kind was named as one that fails
+abbrev pub IsNamed : MemState → Call → Type 0
+IsNamed state call = IsNextFailing (calls_of state.plan call)
+
+abbrev pub faults_of : MemState → MemFaults
+faults_of state = record { reads = state.reads; writes = state.writes; short = state.short }
+
+-- after one more fault of reading
+abbrev pub read_fault : MemFaults → MemFaults
+read_fault faults = record faults { reads = next_count faults.reads }
+
+-- after one more fault of writing
+abbrev pub write_fault : MemFaults → MemFaults
+write_fault faults = record faults { writes = next_count faults.writes }
+
+-- after one more growth that was refused
+abbrev pub refusal : MemFaults → MemFaults
+refusal faults = record (write_fault faults) { short = next_count faults.short }
+
+-- a call of this kind was made: it has its number, and what the desk was told to do stays
+pub record IsCalled (old new : MemState) (call : Call) : Type 0 where
+  pub numbered : new.plan ≡ with_calls old.plan call (one_more (calls_of old.plan call))
+  pub pieces : new.pieces ≡ old.pieces

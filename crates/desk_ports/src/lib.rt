@@ -1,6 +1,7 @@
 //! The one way to the outside: inputs to read, outputs to write, and the desks that bring them.
 #![tactic(auto)]
 
+mod calls;
 mod desk;
 mod file;
 mod log;
@@ -8,7 +9,11 @@ mod memory;
 mod transfer;
 mod written;
 
+pub use calls::Call;
 pub use desk::{Desk, Failed, Inlet, Outlet};
 pub use file::FileDesk;
 pub use memory::MemDesk;
 pub use transfer::{fill, write_all};
+
+#[cfg(test)]
+mod tests;

@@ -36,7 +36,12 @@ impl Entry {
 }
 
 /// Keeps a copy of the bytes under a copy of the name.
-pub fn keep(log: &mut Vec<Entry>, alloc: Global, name: &[u8], bytes: &[u8]) -> Result<(), AllocError>
+pub fn keep(
+    log: &mut Vec<Entry>,
+    alloc: Global,
+    name: &[u8],
+    bytes: &[u8],
+) -> Result<(), AllocError>
     ensures ok { OnOk result (log.new.items ≡ log.old.items ++ (name.now, bytes.now) ∷ []) }
     ensures err { OnErr result (log.new.items ≡ log.old.items) }
 {

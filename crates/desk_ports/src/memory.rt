@@ -1,13 +1,15 @@
-ghost use Rattle.std.specs.Prelude.{◌≡◌, ◌≤◌, ◌<◌, ◌↔◌, length, min, take, None, IsTrue, IsOk, IsErr, IfOk, OnOk, OnErr};
+ghost use Rattle.std.specs.Prelude.{◌≡◌, ◌≤◌, ◌<◌, ◌↔◌, ◌⊎◌, length, min, take, Some, None, IsTrue, IsOk, IsErr, IfOk, OnOk, OnErr};
 ghost use Rattle.std.specs.FinMap as map;
 ghost use Rattle.std.specs.Io.KnownBytes.{IsAtEnd};
 ghost use Rattle.desk_ports.specs.Meanings.{Opens, Begins, Moves, Adds, Keeps, IsReadyIn, IsReadyOut, Rises, Rose, left, kept_at};
-ghost use Rattle.desk_ports.specs.MemState.{empty_desk, mem_left, mem_made, next_count};
+ghost use Rattle.desk_ports.specs.MemState.{empty_desk, mem_left, mem_made, mem_meanings, mem_counts, next_count, capped, calls_of, with_calls, also_failing, IsNamed, IsCalled, faults_of, read_fault, write_fault, refusal};
 
+use crate::calls::{Call, Plan};
 use crate::desk::{Desk, Failed, Inlet, Outlet};
 use crate::log::{Entry, keep, newest};
 use crate::written::Written;
-use std::alloc::{AllocError, Global};
+use bit_vectors::NoMemory;
+use std::alloc::Global;
 use std::marker::Model;
 
 // Where an inlet stands: before a place of the bytes of an entry of the log.
@@ -61,6 +63,14 @@ impl Faults {
         Failed
     }
 
+    fn write(&mut self) -> Failed
+        ensures counted { self.new ≡ record self.old { writes = next_count self.old.writes } }
+        ensures rises { self.old.writes ≤ self.new.writes }
+    {
+        self.writes = self.writes.saturating_add(1);
+        Failed
+    }
+
     // A growth was refused.
     fn growth(&mut self) -> Failed
         ensures counted { self.new ≡ record self.old { writes = next_count self.old.writes; short = next_count self.old.short } }
@@ -81,6 +91,8 @@ pub struct MemDesk {
     readings: Readings,
     output: Written,
     report: Written,
+    pieces: Option<u32>,
+    plan: Plan,
     faults: Faults,
 }
 
@@ -91,15 +103,15 @@ impl Model for MemDesk {
 
     ghost coded = { state_code };
 
-    ghost use Rattle.desk_ports.specs.MemDesk.{state_of, AreWithin};
+    ghost use Rattle.desk_ports.specs.MemDesk.{state_of, IsSound};
 
-    ghost view = { λ d. state_of d.log.items d.readings d.output d.report d.faults };
+    ghost view = { state_of };
 
-    ghost invariant = { λ d. AreWithin d.log.items d.readings };
+    ghost invariant = { IsSound };
 }
 
 impl MemDesk {
-    /// A desk with nothing held and no faults. It takes no memory.
+    /// A desk with nothing held, no faults and no failing calls. It takes no memory.
     pub fn new(alloc: Global) -> MemDesk
         ensures { result ≡ empty_desk }
     {
@@ -112,6 +124,8 @@ impl MemDesk {
             },
             output: Written::closed(alloc),
             report: Written::closed(alloc),
+            pieces: None,
+            plan: Plan::none(alloc),
             faults: Faults {
                 reads: 0,
                 writes: 0,
@@ -121,11 +135,11 @@ impl MemDesk {
     }
 
     /// Keeps the bytes under the name. An inlet that was opened before stays as it is.
-    pub fn put(&mut self, name: &str, bytes: &[u8]) -> Result<(), AllocError>
+    pub fn put(&mut self, name: &str, bytes: &[u8]) -> Result<(), NoMemory>
         ensures ok { OnOk result (self.new ≡ record self.old { held = map.insert self.old.held name.now bytes.now }) }
         ensures err { OnErr result (self.new ≡ self.old) }
     {
-        keep(&mut self.log, self.alloc, name.as_bytes(), bytes)
+        Ok(keep(&mut self.log, self.alloc, name.as_bytes(), bytes)?)
     }
 
     /// What is kept under the name, nothing where the name was never put or finished.
@@ -148,6 +162,22 @@ impl MemDesk {
         }
     }
 
+    /// Lets each later read and write move at most this many bytes.
+    pub fn pieces(&mut self, size: u32)
+        requires { 1 ≤ size }
+        ensures { self.new ≡ record self.old { pieces = Some size } }
+    {
+        self.pieces = Some(size);
+    }
+
+    /// Lets the call of this kind with this number fail. Numbers run from 1 since the desk was made.
+    pub fn fail(&mut self, call: Call, nth: u32) -> Result<(), NoMemory>
+        ensures ok { OnOk result (self.new ≡ record self.old { plan = with_calls self.old.plan call (also_failing (calls_of self.old.plan call) nth) }) }
+        ensures err { OnErr result (self.new ≡ self.old) }
+    {
+        Ok(self.plan.fail(call, nth)?)
+    }
+
     /// How often opening an input and reading have failed.
     pub fn read_faults(&self) -> u64
         ensures { result ≡ self.now.reads }
@@ -168,4 +198,166 @@ impl MemDesk {
     {
         self.faults.short
     }
+}
+
+impl Desk for MemDesk {
+    ghost meaning = { mem_meanings };
+
+    ghost counts = { mem_counts };
+
+    fn open_in(&mut self, inlet: Inlet, name: &str) -> Result<(), Failed>
+        requires { IsTrue ((mem_meanings self.old).grants_in name.now) }
+        ensures opened { OnOk result (Opens (mem_meanings self.old) (mem_meanings self.new) inlet name.now) }
+        ensures unchanged { OnErr result (mem_meanings self.new ≡ mem_meanings self.old) }
+        ensures cause { OnErr result (Rose (mem_counts self.old).reads (mem_counts self.new).reads) }
+        ensures rises { Rises (mem_counts self.old) (mem_counts self.new) }
+
+        // It fails exactly where `fail` named it, and where the name was never put or finished.
+        ensures fails { IsErr result ↔ (IsNamed self.old Call.OpenIn ⊎ (map.get self.old.held name.now ≡ None)) }
+        ensures still { OnOk result (faults_of self.new ≡ faults_of self.old) }
+        ensures fault { OnErr result (faults_of self.new ≡ read_fault (faults_of self.old)) }
+        ensures called { IsCalled self.old self.new Call.OpenIn }
+    {
+        if self.plan.next(Call::OpenIn) {
+            return Err(self.faults.read());
+        }
+        let Some(at) = newest(&self.log, name.as_bytes()) else {
+            return Err(self.faults.read());
+        };
+        self.readings.set(inlet, Reading::Entry { at, place: 0 });
+        Ok(())
+    }
+
+    fn open_out(&mut self, outlet: Outlet, name: &str) -> Result<(), Failed>
+        requires { IsTrue ((mem_meanings self.old).grants_out name.now) }
+        ensures opened { OnOk result (Begins (mem_meanings self.old) (mem_meanings self.new) outlet name.now) }
+        ensures unchanged { OnErr result (mem_meanings self.new ≡ mem_meanings self.old) }
+        ensures cause { OnErr result (Rose (mem_counts self.old).writes (mem_counts self.new).writes) }
+        ensures rises { Rises (mem_counts self.old) (mem_counts self.new) }
+
+        // It fails where `fail` named it, and otherwise only where a growth was refused.
+        ensures named { IsNamed self.old Call.OpenOut → IsErr result × (faults_of self.new ≡ write_fault (faults_of self.old)) }
+        ensures refused { OnErr result (IsNamed self.old Call.OpenOut ⊎ (faults_of self.new ≡ refusal (faults_of self.old))) }
+        ensures still { OnOk result (faults_of self.new ≡ faults_of self.old) }
+        ensures called { IsCalled self.old self.new Call.OpenOut }
+    {
+        if self.plan.next(Call::OpenOut) {
+            return Err(self.faults.write());
+        }
+        let name = name.as_bytes();
+        let opened = match outlet {
+            Outlet::Main => self.output.open(self.alloc, name),
+            Outlet::Report => self.report.open(self.alloc, name),
+        };
+        match opened {
+            Ok(()) => Ok(()),
+            Err(_) => Err(self.faults.growth()),
+        }
+    }
+
+    fn read(&mut self, inlet: Inlet, buf: &mut [u8]) -> Result<usize, Failed>
+        requires open { IsReadyIn (mem_meanings self.old) inlet }
+        requires room { 0 < length buf.old }
+        ensures within { IfOk result (λ n. n ≤ length buf.old) }
+        ensures moved { IfOk result (λ n. Moves (mem_meanings self.old) (mem_meanings self.new) inlet (take n buf.new)) }
+        ensures at_end { IfOk result (λ n. n ≡ 0 → IsAtEnd (left (mem_meanings self.new) inlet)) }
+        ensures unchanged { OnErr result (mem_meanings self.new ≡ mem_meanings self.old) }
+        ensures cause { OnErr result (Rose (mem_counts self.old).reads (mem_counts self.new).reads) }
+        ensures rises { Rises (mem_counts self.old) (mem_counts self.new) }
+
+        // It fails exactly where `fail` named it, and moves as many bytes as are left and fit, in the size of a piece.
+        ensures fails { IsErr result ↔ IsNamed self.old Call.Read }
+        ensures count { IfOk result (λ n. n ≡ capped self.old.pieces (min (length buf.old) (length (mem_left self.old inlet)))) }
+        ensures still { OnOk result (faults_of self.new ≡ faults_of self.old) }
+        ensures fault { OnErr result (faults_of self.new ≡ read_fault (faults_of self.old)) }
+        ensures called { IsCalled self.old self.new Call.Read }
+    {
+        if self.plan.next(Call::Read) {
+            return Err(self.faults.read());
+        }
+        let Reading::Entry { at, place } = self.readings.at(inlet) else {
+            unreachable!()
+        };
+        let rest = &self.log[at].bytes()[place..];
+        let moved = capped(self.pieces, buf.len().min(rest.len()));
+        copy_front(buf, rest, moved);
+        let place = place + moved;
+        self.readings.set(inlet, Reading::Entry { at, place });
+        Ok(moved)
+    }
+
+    fn write(&mut self, outlet: Outlet, bytes: &[u8]) -> Result<usize, Failed>
+        requires open { IsReadyOut (mem_meanings self.old) outlet }
+        requires some { 0 < length bytes.now }
+        ensures within { IfOk result (λ n. n ≤ length bytes.now) }
+        ensures progress { IfOk result (λ n. 0 < n) }
+        ensures added { IfOk result (λ n. Adds (mem_meanings self.old) (mem_meanings self.new) outlet (take n bytes.now)) }
+        ensures unchanged { OnErr result (mem_meanings self.new ≡ mem_meanings self.old) }
+        ensures cause { OnErr result (Rose (mem_counts self.old).writes (mem_counts self.new).writes) }
+        ensures rises { Rises (mem_counts self.old) (mem_counts self.new) }
+
+        // It takes all the bytes, in the size of a piece. It fails where `fail` named it, and otherwise only where a growth was refused.
+        ensures count { IfOk result (λ n. n ≡ capped self.old.pieces (length bytes.now)) }
+        ensures named { IsNamed self.old Call.Write → IsErr result × (faults_of self.new ≡ write_fault (faults_of self.old)) }
+        ensures refused { OnErr result (IsNamed self.old Call.Write ⊎ (faults_of self.new ≡ refusal (faults_of self.old))) }
+        ensures still { OnOk result (faults_of self.new ≡ faults_of self.old) }
+        ensures called { IsCalled self.old self.new Call.Write }
+    {
+        if self.plan.next(Call::Write) {
+            return Err(self.faults.write());
+        }
+        let bytes = &bytes[..capped(self.pieces, bytes.len())];
+        let added = match outlet {
+            Outlet::Main => self.output.add(bytes),
+            Outlet::Report => self.report.add(bytes),
+        };
+        match added {
+            Ok(()) => Ok(bytes.len()),
+            Err(_) => Err(self.faults.growth()),
+        }
+    }
+
+    fn finish(&mut self, outlet: Outlet) -> Result<(), Failed>
+        requires { IsReadyOut (mem_meanings self.old) outlet }
+        ensures kept { OnOk result (Keeps (mem_meanings self.old) (mem_meanings self.new) outlet) }
+        ensures unchanged { OnErr result (mem_meanings self.new ≡ mem_meanings self.old) }
+        ensures cause { OnErr result (Rose (mem_counts self.old).writes (mem_counts self.new).writes) }
+        ensures rises { Rises (mem_counts self.old) (mem_counts self.new) }
+
+        // It fails where `fail` named it, and otherwise only where a growth was refused.
+        ensures named { IsNamed self.old Call.Finish → IsErr result × (faults_of self.new ≡ write_fault (faults_of self.old)) }
+        ensures refused { OnErr result (IsNamed self.old Call.Finish ⊎ (faults_of self.new ≡ refusal (faults_of self.old))) }
+        ensures still { OnOk result (faults_of self.new ≡ faults_of self.old) }
+        ensures called { IsCalled self.old self.new Call.Finish }
+    {
+        if self.plan.next(Call::Finish) {
+            return Err(self.faults.write());
+        }
+        let kept = match outlet {
+            Outlet::Main => self.output.keep_in(&mut self.log, self.alloc),
+            Outlet::Report => self.report.keep_in(&mut self.log, self.alloc),
+        };
+        match kept {
+            Ok(()) => Ok(()),
+            Err(_) => Err(self.faults.growth()),
+        }
+    }
+}
+
+// As many bytes as one call may move.
+fn capped(pieces: Option<u32>, count: usize) -> usize
+    ensures { result ≡ capped pieces count }
+{
+    match pieces {
+        Some(size) => count.min(size as usize),
+        None => count,
+    }
+}
+
+fn copy_front(buf: &mut [u8], bytes: &[u8], count: usize)
+    requires room { count ≤ length buf.old }
+    requires some { count ≤ length bytes.now }
+    ensures { take count buf.new ≡ take count bytes.now }
+{
+    buf[..count].copy_from_slice(&bytes[..count]);
 }

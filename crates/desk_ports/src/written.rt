@@ -1,6 +1,7 @@
-ghost use Rattle.std.specs.Prelude.{◌≡◌, ◌++◌, [], true, OnOk, OnErr};
+ghost use Rattle.std.specs.Prelude.{◌≡◌, ◌∷◌, ◌++◌, [], true, OnOk, OnErr};
 ghost use Rattle.desk_ports.specs.MemState.{closed_outgoing};
 
+use crate::log::{Entry, keep};
 use std::alloc::{AllocError, Global};
 use std::marker::Model;
 
@@ -51,10 +52,12 @@ impl Written {
         self.made.extend_from_slice(bytes)
     }
 
-    pub fn name(&self) -> &[u8]
-        ensures { result.now ≡ self.now.name }
+    /// Keeps what was written under the name.
+    pub fn keep_in(&self, log: &mut Vec<Entry>, alloc: Global) -> Result<(), AllocError>
+        ensures ok { OnOk result (log.new.items ≡ log.old.items ++ (self.now.name, self.now.made) ∷ []) }
+        ensures err { OnErr result (log.new.items ≡ log.old.items) }
     {
-        &self.name
+        keep(log, alloc, &self.name, &self.made)
     }
 
     pub fn made(&self) -> &[u8]

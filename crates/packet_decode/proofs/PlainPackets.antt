@@ -1,7 +1,7 @@
 -- Reading a plain packet and its bits: each is what the other says.
-use Rattle.std.proofs.Common.{◌≡◌, ℕ, zero, suc, ◌+◌, ◌-◌, ◌*◌, ◌/◌, ◌^◌, ◌<◌, ◌≤◌, Bool, true, false, cond, List, [], ◌∷◌, ◌++◌, length, replicate, take, drop, Option, Some, None, refl, sym, ap, subst, ◌∙◌, append_assoc, arith}
-use Rattle.std.proofs.lemmas.List.{length-append, length-replicate}
-use Rattle.std.proofs.lemmas.Option.{same_Some, cond_some, some_pair_parts}
+use Rattle.std.proofs.Common.{◌≡◌, ℕ, zero, suc, ◌-◌, ◌*◌, ◌^◌, ◌<◌, Bool, true, false, cond, List, [], ◌∷◌, ◌++◌, length, replicate, Option, Some, None, refl, sym, ap, subst, ◌∙◌, append_assoc, arith}
+use Rattle.std.proofs.lemmas.List.{length-append}
+use Rattle.std.proofs.lemmas.Option.{cond_some, some_pair_parts}
 use Rattle.bit_vectors.specs.Vectors.{number_bits, bits_number, byte_count, padded}
 use Rattle.bit_vectors.proofs.NumberBits.{length-number_bits, bits_number-number_bits, bits_number_below, number_bits-bits_number}
 use Rattle.packet_decode.specs.Count.{count_bits}
@@ -87,11 +87,11 @@ are_zeros (suc limit) (false ∷ bits) e =
     let h = are_zeros limit bits e in (ap (λ (bs : List Bool). false ∷ bs) h.0, omega (arith, h.1))
 
 -- whole bytes that are bits and fewer than eight zeros are these bits, padded
-padded_from : (bits rest : List Bool) (bytes : ℕ) → length (bits ++ rest) ≡ 8 * bytes → are_zeros_below 8 rest ≡ true → bits ++ rest ≡ padded bits
-padded_from bits rest bytes len e =
-    let h = are_zeros 8 rest e in
-    let count : length rest ≡ 8 * byte_count (length bits) - length bits = omega (arith, length-append bits rest, h.1) in
-    ap (λ (bs : List Bool). bits ++ bs) (h.0 ∙ ap (λ (n : ℕ). replicate n false) count)
+padded_from : (all bits rest : List Bool) (bytes : ℕ) → all ≡ bits ++ rest → length all ≡ 8 * bytes → are_zeros_below 8 rest ≡ true → all ≡ padded bits
+padded_from all bits rest bytes parts len e =
+    let zeros = are_zeros 8 rest e in
+    let count : length rest ≡ 8 * byte_count (length bits) - length bits = omega (arith, ap length parts, length-append bits rest, zeros.1) in
+    parts ∙ ap (λ (bs : List Bool). bits ++ bs) (zeros.0 ∙ ap (λ (n : ℕ). replicate n false) count)
 
 padding_is : (bits : List Bool) → are_zeros_below 8 (replicate (8 * byte_count (length bits) - length bits) false) ≡ true
 padding_is bits = zeros_are 8 (8 * byte_count (length bits) - length bits) (omega arith)
@@ -146,6 +146,12 @@ sent_from f level = after (number_bits 2 1) level.1 >>= mask_from f level.0
 abbrev level_from : ℕ → List Bool → Option Form
 level_from f front = number_at 4 front >>= sent_from f
 
+-- the parts, taken one after the other, are the bits of the packet and the rest
+joined : (f level : ℕ) (full : Bool) (content bits front sent mask whole places last rest : List Bool) → length content ≡ f → bits ≡ number_bits 2 2 ++ front → front ≡ number_bits 4 level ++ sent
+    → sent ≡ number_bits 2 1 ++ mask → mask ≡ mask_word full ++ whole → whole ≡ number_bits 1 1 ++ places → places ≡ count_bits f ++ last → last ≡ content ++ rest → bits ≡ plain_bits level full content ++ rest
+joined f level full content bits front sent mask whole places last rest len a b c d e g h =
+    rw (a, b, c, d, e, g, h, ← len) (sym (by_parts level full content rest))
+
 -- what is read from whole bytes is a plain packet
 pub plain_of_is : (f bytes : ℕ) (bits : List Bool) (form : Form) → length bits ≡ 8 * bytes → plain_of f bits ≡ Some form → IsPlain f bits form
 unfolding plain_of
@@ -157,22 +163,12 @@ plain_of_is f bytes bits form len e =
     let whole = bind_some (after (number_bits 1 1) mask.0.1) (places_from f level.0.0 mask.0.0) form mask.2 in
     let places = bind_some (after (count_bits f) whole.0) (content_from f level.0.0 mask.0.0) form whole.2 in
     let content = bind_some (vector_at f places.0) (form_from level.0.0 mask.0.0) form places.2 in
-    let last = cond_some (are_zeros_below 8 content.0.1) (record { level = level.0.0; mask = mask.0.0; content = content.0.0 }) form content.2 in
+    let made : Form = record { level = level.0.0; mask = mask.0.0; content = content.0.0 } in
+    let last = cond_some (are_zeros_below 8 content.0.1) made form content.2 in
     let level_is = number_at_is 4 front.0 level.0.0 level.0.1 level.1 in
     let mask_is = mask_at_is f sent.0 mask.0.0 mask.0.1 mask.1 in
     let content_is = vector_at_is f places.0 content.0.0 content.0.1 content.1 in
-    let full = mask_is.0 in
-    let parts : bits ≡ number_bits 2 2 ++ (number_bits 4 level.0.0 ++ (number_bits 2 1 ++ (mask_word full ++ (number_bits 1 1 ++ (count_bits f ++ (content.0.0 ++ content.0.1)))))) =
-    after_is (number_bits 2 2) bits front.0 front.1
-    ∙ ap (λ (bs : List Bool). number_bits 2 2 ++ bs) (level_is.0
-    ∙ ap (λ (bs : List Bool). number_bits 4 level.0.0 ++ bs) (after_is (number_bits 2 1) level.0.1 sent.0 sent.1
-    ∙ ap (λ (bs : List Bool). number_bits 2 1 ++ bs) (mask_is.2
-    ∙ ap (λ (bs : List Bool). mask_word full ++ bs) (after_is (number_bits 1 1) mask.0.1 whole.0 whole.1
-    ∙ ap (λ (bs : List Bool). number_bits 1 1 ++ bs) (after_is (count_bits f) whole.0 places.0 places.1
-    ∙ ap (λ (bs : List Bool). count_bits f ++ bs) content_is.0))))) in
-    let spelled : bits ≡ plain_bits level.0.0 full content.0.0 ++ content.0.1 =
-    parts ∙ ap (λ (n : ℕ). number_bits 2 2 ++ (number_bits 4 level.0.0 ++ (number_bits 2 1 ++ (mask_word full ++ (number_bits 1 1 ++ (count_bits n ++ (content.0.0 ++ content.0.1))))))) (sym content_is.1) ∙ sym (by_parts level.0.0 full content.0.0 content.0.1) in
-    let bits_are : bits ≡ padded (plain_bits level.0.0 full content.0.0) =
-    spelled ∙ padded_from (plain_bits level.0.0 full content.0.0) content.0.1 bytes (sym (ap length spelled) ∙ len) last.0 in
-    let made : IsPlain f bits (record { level = level.0.0; mask = mask.0.0; content = content.0.0 }) = record { full = full; level_fits = omega (arith, level_is.1); bits_are = bits_are; mask_is = mask_is.1; places = content_is.1 } in
-    subst (λ (x : Form). IsPlain f bits x) last.1 made
+    let spelled = joined f level.0.0 mask_is.0 content.0.0 bits front.0 level.0.1 sent.0 mask.0.1 whole.0 places.0 content.0.1 content_is.1 (after_is (number_bits 2 2) bits front.0 front.1) level_is.0
+    (after_is (number_bits 2 1) level.0.1 sent.0 sent.1) mask_is.2 (after_is (number_bits 1 1) mask.0.1 whole.0 whole.1) (after_is (count_bits f) whole.0 places.0 places.1) content_is.0 in
+    let bits_are = padded_from bits (plain_bits level.0.0 mask_is.0 content.0.0) content.0.1 bytes spelled len last.0 in
+    subst (λ (x : Form). IsPlain f bits x) last.1 (record { full = mask_is.0; level_fits = level_is.1; bits_are = bits_are; mask_is = mask_is.1; places = content_is.1 })

@@ -1,12 +1,12 @@
 -- What a reading says of the packet that the bits spell.
-use Rattle.std.proofs.Common.{◌≡◌, ℕ, zero, suc, ◌*◌, ◌<◌, ◌≤◌, Bool, true, false, List, length, replicate, get_or, Option, Some, None, refl, sym, ap, subst, ◌∙◌, arith, inl, inr}
+use Rattle.std.proofs.Common.{◌≡◌, ℕ, zero, suc, ◌*◌, ◌≤◌, Bool, true, false, List, length, replicate, get_or, Some, None, refl, sym, ap, subst, ◌∙◌, arith, inl, inr}
 use Rattle.std.specs.Prelude.{◌↔◌}
 use Rattle.std.proofs.lemmas.Bool.{cases_lt, both_ways}
 use Rattle.std.proofs.lemmas.List.{ext_get_or, get_or-replicate, get_or_past, length-replicate}
 use Rattle.std.proofs.lemmas.Option.{same_Some, none-some}
 use Rattle.packet_decode.specs.Packets.{State, SameOutside, Follows, Spells}
 use Rattle.packet_decode.specs.PlainReading.{Form, plain_of}
-use Rattle.packet_decode.proofs.PlainPackets.{IsPlain, plain_of-padded, plain_of_is}
+use Rattle.packet_decode.proofs.PlainPackets.{plain_of-padded, plain_of_is}
 
 -- bits that spell a packet are read as its form
 pub Spells-read : (f : ℕ) (state : State) (t : ℕ) (bits mask content : List Bool) (spells : Spells f state t bits mask content) → plain_of f bits ≡ Some (record { level = spells.level; mask = mask; content = content })

@@ -8,3 +8,6 @@ mod plain;
 
 pub use decoder::{Decoder, Reading};
 pub use laws::{one_packet, plain_follows, reading_is_spelling, worked_packets};
+
+#[cfg(test)]
+mod tests;

@@ -1,5 +1,5 @@
 -- A reader of a store: what it stands at, and what a call of `next` does to it.
-use Rattle.std.specs.Prelude.{◌≡◌, ℕ, ◌+◌, ◌*◌, ◌^◌, ◌<◌, ◌≤◌, Bool, true, false, IsTrue, List, [], length, take, drop}
+use Rattle.std.specs.Prelude.{◌≡◌, ℕ, ◌+◌, ◌^◌, ◌≤◌, Bool, true, false, IsTrue, List, [], take, drop}
 use Rattle.packet_store.specs.SpacePackets.{IsPacket, space_packet}
 
 -- the chosen APID, the number of packets given so far, whether the reader goes on,

@@ -9,7 +9,7 @@ mod reader;
 
 pub use fault::StoreFault;
 pub use header::{Header, header_bytes, read_header};
-pub use laws::{packets_are_read_back, packets_are_told_apart};
+pub use laws::{only_packets_are_read, packets_are_read_back, packets_are_told_apart};
 pub use reader::{StoreReader, Taken};
 
 #[cfg(test)]

@@ -17,7 +17,8 @@ fn read_start<D: Desk>(desk: &mut D, start: &mut [u8]) -> Result<Option<Header>,
     ensures moved { IfGiven result (λ h. Moves (D.meaning desk.old) (D.meaning desk.new) Inlet.Main start.new) }
     ensures none { OnEnd result (Moves (D.meaning desk.old) (D.meaning desk.new) Inlet.Main []) }
     ensures at_end { OnEnd result (IsAtEnd (left (D.meaning desk.new) Inlet.Main)) }
-    ensures not_yet { result ≡ Err StoreFault.NotYet → (bytes : List ℕ) × (0 < length bytes) × (length bytes < 6) × Moves (D.meaning desk.old) (D.meaning desk.new) Inlet.Main bytes }
+    ensures not_yet { result ≡ Err StoreFault.NotYet → (bytes : List ℕ) × (0 < length bytes) × (length bytes < 6)
+        × Moves (D.meaning desk.old) (D.meaning desk.new) Inlet.Main bytes }
     ensures cut { result ≡ Err StoreFault.NotYet → IsAtEnd (left (D.meaning desk.new) Inlet.Main) }
     ensures lost { OnErr result ((bytes : List ℕ) × Moves (D.meaning desk.old) (D.meaning desk.new) Inlet.Main bytes) }
     ensures read_fault { result ≡ Err StoreFault.ReadFault → Rose (D.counts desk.old).reads (D.counts desk.new).reads }
@@ -38,7 +39,8 @@ fn read_start<D: Desk>(desk: &mut D, start: &mut [u8]) -> Result<Option<Header>,
 fn read_body<D: Desk>(desk: &mut D, body: &mut [u8]) -> Result<(), StoreFault>
     requires open { IsReadyIn (D.meaning desk.old) Inlet.Main }
     ensures moved { OnOk result (Moves (D.meaning desk.old) (D.meaning desk.new) Inlet.Main body.new) }
-    ensures not_yet { result ≡ Err StoreFault.NotYet → (bytes : List ℕ) × (length bytes < length body.old) × Moves (D.meaning desk.old) (D.meaning desk.new) Inlet.Main bytes }
+    ensures not_yet { result ≡ Err StoreFault.NotYet → (bytes : List ℕ) × (length bytes < length body.old)
+        × Moves (D.meaning desk.old) (D.meaning desk.new) Inlet.Main bytes }
     ensures cut { result ≡ Err StoreFault.NotYet → IsAtEnd (left (D.meaning desk.new) Inlet.Main) }
     ensures lost { OnErr result ((bytes : List ℕ) × Moves (D.meaning desk.old) (D.meaning desk.new) Inlet.Main bytes) }
     ensures read_fault { result ≡ Err StoreFault.ReadFault → Rose (D.counts desk.old).reads (D.counts desk.new).reads }

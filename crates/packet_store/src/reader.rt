@@ -69,12 +69,17 @@ impl StoreReader {
     }
 
     /// Takes the next packet from the input. None: the input is at its end.
+    ///
+    /// After None or a fault the reader is no longer live. NotYet stands for whatever else comes next:
+    /// a packet of another APID, version or shape, one that is cut off, or a byte after the
+    /// 4,294,967,296th packet. It takes no memory.
     pub fn next<D: Desk>(&mut self, desk: &mut D) -> Result<Option<Taken>, StoreFault>
         requires live { IsTrue self.old.live }
         requires open { IsReadyIn (D.meaning desk.old) Inlet.Main }
 
         // Some: this packet was taken from the input, and nothing else.
-        ensures some { IfGiven result (λ t. Moves (D.meaning desk.old) (D.meaning desk.new) Inlet.Main (space_packet self.old.apid t.count self.new.body)) }
+        ensures some { IfGiven result (λ t. Moves (D.meaning desk.old) (D.meaning desk.new) Inlet.Main
+            (space_packet self.old.apid t.count self.new.body)) }
         ensures given { IfGiven result (λ t. Gives self.old self.new t.count) }
         ensures chosen { IfGiven result (λ t. IsTrue t.chosen) }
 
@@ -84,7 +89,8 @@ impl StoreReader {
 
         // NotYet: bytes are left, and they begin with no such packet or come after the last that may be given.
         ensures bytes_left { result ≡ Err StoreFault.NotYet → IfSome (left (D.meaning desk.old) Inlet.Main) (λ input. input ≢ []) }
-        ensures not_yet { result ≡ Err StoreFault.NotYet → IfSome (left (D.meaning desk.old) Inlet.Main) (λ input. (self.old.taken ≡ 2 ^ 32) ⊎ (¬ BeginsWithPacket self.old.apid input)) }
+        ensures not_yet { result ≡ Err StoreFault.NotYet → IfSome (left (D.meaning desk.old) Inlet.Main) (λ input.
+            (self.old.taken ≡ 2 ^ 32) ⊎ (¬ BeginsWithPacket self.old.apid input)) }
 
         // ReadFault: the desk failed to read in this call.
         ensures read_fault { result ≡ Err StoreFault.ReadFault → Rose (D.counts desk.old).reads (D.counts desk.new).reads }
@@ -105,10 +111,9 @@ impl StoreReader {
         self.live = true;
         self.held = HEADER_BYTES + header.size();
         self.taken += 1;
-        let count = header.count;
         Ok(Some(Taken {
             chosen: true,
-            count,
+            count: header.count,
         }))
     }
 

@@ -1,9 +1,7 @@
-use Rattle.std.proofs.Common.{◌≡◌, ◌-◌, ◌*◌, sym, ap, ◌∙◌, arith}
-use Rattle.std.specs.Prelude.{MatchOption}
+use Rattle.std.proofs.Common.{◌-◌, ◌*◌, arith}
 use Rattle.bit_vectors.specs.Vectors.{number_bits}
 use Rattle.bit_vectors.specs.Eye.{bits_left}
 use Rattle.packet_decode.specs.Count.{binary_digits, count_bits}
-use Rattle.packet_decode.specs.PlainReading.{after}
 use Rattle.packet_decode.proofs.After.{after-front, after-not_front}
 use Rattle.packet_decode.proofs.Counts.{count_bits-one, count_bits-five, count_bits-many, binary_digits-least, binary_digits-most}
 use Rattle.packet_decode.proofs.count.match_count.Goals as goal

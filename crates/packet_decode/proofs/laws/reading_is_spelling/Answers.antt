@@ -1,4 +1,3 @@
-use Rattle.std.proofs.Common.{◌≡◌}
 use Rattle.packet_decode.proofs.Spelling.{Spells-read, Spells-from}
 use Rattle.packet_decode.proofs.laws.reading_is_spelling.Goals as goal
 

@@ -1,8 +1,8 @@
-use Rattle.std.proofs.Common.{◌≡◌, ℕ, true, false, List, [], ◌∷◌, Some, None, refl, arith}
+use Rattle.std.proofs.Common.{◌≡◌, true, [], ◌∷◌, None, refl, arith}
 use Rattle.bit_vectors.specs.Vectors.{number_bits, bits_of, bits_number}
 use Rattle.packet_decode.specs.Count.{count_bits}
 use Rattle.packet_decode.specs.Packets.{plain_bits}
-use Rattle.packet_decode.specs.PlainReading.{Form, after, mask_at, are_zeros_below, plain_of}
+use Rattle.packet_decode.specs.PlainReading.{after, mask_at, are_zeros_below, plain_of}
 use Rattle.packet_decode.proofs.Spelling.{Spells-none, SameOutside-ones}
 use Rattle.packet_decode.proofs.laws.worked_packets.Goals as goal
 

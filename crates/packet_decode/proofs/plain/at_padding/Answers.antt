@@ -1,4 +1,4 @@
-use Rattle.std.proofs.Common.{◌≡◌, ℕ, suc, ◌+◌, ◌-◌, ◌<◌, Bool, false, List, ◌∷◌, refl, sym, ◌∙◌, arith}
+use Rattle.std.proofs.Common.{◌≡◌, ℕ, suc, ◌+◌, ◌-◌, ◌<◌, Bool, false, List, ◌∷◌, refl, ◌∙◌, arith}
 use Rattle.bit_vectors.specs.Eye.{bits_left}
 use Rattle.packet_decode.specs.PlainReading.{are_zeros_below}
 use Rattle.packet_decode.proofs.plain.at_padding.Goals as goal

@@ -1,12 +1,12 @@
-use Rattle.std.proofs.Common.{◌≡◌, ℕ, ◌*◌, Bool, true, false, List, length, drop, Option, Some, None, refl, sym, ap, subst, ◌∙◌, arith}
-use Rattle.std.specs.Prelude.{◌↔◌, IsTrue, MatchOption, is_some}
+use Rattle.std.proofs.Common.{◌≡◌, ℕ, Bool, true, false, List, length, drop, Option, Some, None, refl, sym, ap, subst, ◌∙◌}
+use Rattle.std.specs.Prelude.{MatchOption, is_some}
 use Rattle.std.proofs.lemmas.Bool.{both_ways}
 use Rattle.bit_vectors.specs.Vectors.{bits_of}
 use Rattle.bit_vectors.specs.Eye.{EyeState, bits_left}
 use Rattle.bit_vectors.proofs.ByteBits.{length-bits_of}
 use Rattle.packet_decode.specs.declared.plain.Vectors.{Vectors}
 use Rattle.packet_decode.specs.Decoding.{Decoding, state_of}
-use Rattle.packet_decode.specs.Packets.{Packet, State, Follows, Spells}
+use Rattle.packet_decode.specs.Packets.{State, Follows, Spells}
 use Rattle.packet_decode.specs.PlainReading.{Form, plain_of}
 use Rattle.packet_decode.proofs.Spelling.{Spells-mask, Spells-content, Spells-none, Spells-unlike, Spells-from}
 use Rattle.packet_decode.proofs.decoder.Decoder.read.Goals as goal

@@ -1,0 +1,84 @@
+-- Reading a list of bits from its front: the value that its first bits spell and the bits after them, or the first
+-- fault. A reader is exact for words where it gives each word's value, and finds each fault at the first bit at which
+-- it can be seen.
+use Rattle.std.specs.Prelude.{◌≡◌, ℕ, ◌+◌, ◌-◌, ◌≤◌, Bool, List, [], ◌∷◌, ◌++◌, length, take, Result, Ok, Err, if◌then◌else◌}
+use Rattle.bit_vectors.specs.declared.fault.BitFault.{BitFault}
+use Rattle.bit_vectors.specs.declared.fault.BitFault.TheVariants.{Wrong, EndsEarly}
+use Rattle.bit_vectors.specs.Eye.{EyeState, bits_left}
+
+-- a value and the bits after it; the bits after the first wrong one; or the bits end before a word does
+pub data Reading (A : Type 0) : Type 0 where
+  Read : A → List Bool → Reading A
+  WrongBit : List Bool → Reading A
+  TooShort : Reading A
+
+-- one reader after another, which may look at the first one's value
+infixl 10 ◌>>=◌
+abbrev pub ◌>>=◌ : {A B : Type 0} → Reading A → (A → List Bool → Reading B) → Reading B
+(Read value rest) >>= next = next value rest
+(WrongBit rest) >>= next = WrongBit rest
+TooShort >>= next = TooShort
+
+-- one bit, which must pass a test
+abbrev pub bit_where : (Bool → Bool) → List Bool → Reading Bool
+bit_where ok [] = TooShort
+bit_where ok (bit ∷ rest) = if ok bit then Read bit rest else WrongBit rest
+
+-- a test of a bit by which bits may come
+abbrev pub allowed : Bool → Bool → Bool → Bool
+allowed zero one bit = if bit then one else zero
+
+-- ---- what an eye's reading is
+
+-- the eye has moved on over the same bits
+pub record MovesOn (old new : EyeState) : Type 0 where
+  pub bits : new.bits ≡ old.bits
+  pub forward : old.place ≤ new.place
+  pub within : new.place ≤ length new.bits
+
+-- what a call answered, seen by view, and how it left the eye, is what reading the bits left gives
+abbrev pub Gives : {A B : Type 0} → (A → B) → Result A BitFault → EyeState → Reading B → Type 0
+Gives view (Ok x) new reading = reading ≡ Read (view x) (bits_left new)
+Gives view (Err (Wrong bit)) new reading = (reading ≡ WrongBit (bits_left new)) × (new.place ≡ bit + 1)
+Gives view (Err (EndsEarly bit)) new reading = (reading ≡ TooShort) × (bit ≡ length new.bits) × (new.place ≡ length new.bits)
+
+-- ---- exact readers
+
+-- some word begins with these bits
+abbrev pub CanBegin : (List Bool → Type 0) → List Bool → Type 0
+CanBegin IsWord front = (rest : List Bool) × IsWord (front ++ rest)
+
+-- the bit before rest is the first after which no word can follow
+pub record IsWrongBefore (IsWord : List Bool → Type 0) (bits rest : List Bool) : Type 0 where
+  pub front : List Bool
+  pub bit : Bool
+  pub parts : bits ≡ front ++ bit ∷ rest
+  pub hopeful : CanBegin IsWord front
+  pub hopeless : CanBegin IsWord (front ++ bit ∷ []) → ⊥
+
+-- a reader gives what words of values say, and each fault at the first place
+pub record IsExact {A : Type 0} (IsWordOf : A → List Bool → Type 0) (read : List Bool → Reading A) : Type 0 where
+  pub reads : (value : A) (word rest : List Bool) → IsWordOf value word → read (word ++ rest) ≡ Read value rest
+  pub read_is : (bits : List Bool) (value : A) (rest : List Bool) → read bits ≡ Read value rest → (word : List Bool) × IsWordOf value word × (bits ≡ word ++ rest)
+  pub wrong_is : (bits rest : List Bool) → read bits ≡ WrongBit rest → IsWrongBefore (λ word. (value : A) × IsWordOf value word) bits rest
+  pub short_is : (bits : List Bool) → read bits ≡ TooShort → CanBegin (λ word. (value : A) × IsWordOf value word) bits
+
+-- ---- the first fault of an eye's reading
+
+-- the bit is the first after which no word can follow, and the eye stands just after it
+pub record IsFirstWrong (IsWord : List Bool → Type 0) (old new : EyeState) (bit : ℕ) : Type 0 where
+  pub inside : old.place ≤ bit
+  pub after : new.place ≡ bit + 1
+  pub hopeful : CanBegin IsWord (take (bit - old.place) (bits_left old))
+  pub hopeless : CanBegin IsWord (take (bit + 1 - old.place) (bits_left old)) → ⊥
+
+-- all bits are read, a word can still follow, and none is complete
+pub record IsEarlyEnd (IsWord : List Bool → Type 0) (old new : EyeState) (bit : ℕ) : Type 0 where
+  pub all : bit ≡ length old.bits
+  pub at_end : new.place ≡ length old.bits
+  pub hopeful : CanBegin IsWord (bits_left old)
+  pub incomplete : (word rest : List Bool) → IsWord word → bits_left old ≡ word ++ rest → ⊥
+
+abbrev pub IsFirstFault : (List Bool → Type 0) → EyeState → EyeState → BitFault → Type 0
+IsFirstFault IsWord old new (Wrong bit) = IsFirstWrong IsWord old new bit
+IsFirstFault IsWord old new (EndsEarly bit) = IsEarlyEnd IsWord old new bit

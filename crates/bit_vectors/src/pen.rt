@@ -1,0 +1,99 @@
+//! Writing bits one after the other.
+
+ghost use Rattle.std.specs.Prelude.{◌≡◌, ◌+◌, ◌^◌, ◌<◌, ◌≤◌, [], ◌∷◌, ◌++◌, length, IfOk};
+ghost use Rattle.bit_vectors.specs.Vectors.{number_bits, vector_bytes};
+
+use crate::fault::NoMemory;
+use crate::packing::{first_bytes, write_bit};
+use std::alloc::Global;
+use std::marker::Model;
+
+/// A list of bits with a fixed room, which was taken when the pen was made. Contracts see the bits and
+/// the room.
+#[derive(Debug, Drop)]
+pub struct BitPen {
+    bytes: Vec<u8>,
+    len: u32,
+    room: u32,
+}
+
+impl Model for BitPen {
+    ghost use Rattle.bit_vectors.specs.Pen.{PenState, written_bits, HasRoom};
+
+    ghost Value = { PenState };
+
+    ghost view = { λ p. record { bits = written_bits p.bytes.items p.len; room = p.room } };
+
+    ghost invariant = { λ p. HasRoom p.bytes.items p.len p.room };
+}
+
+impl BitPen {
+    /// An empty pen with room for `bits` bits, at most 524,288.
+    pub fn with_room(alloc: Global, bits: u32) -> Result<BitPen, NoMemory>
+        requires { bits ≤ 524288 }
+        ensures bits { IfOk result (λ pen. pen.bits ≡ []) }
+        ensures room { IfOk result (λ pen. pen.room ≡ bits) }
+    {
+        let bytes = vec![in alloc; 0; bits.div_ceil(8) as usize]?;
+        Ok(BitPen {
+            bytes,
+            len: 0,
+            room: bits,
+        })
+    }
+
+    /// Appends a bit.
+    pub fn put(&mut self, bit: bool)
+        requires { length self.old.bits < self.old.room }
+        ensures bits { self.new.bits ≡ self.old.bits ++ bit ∷ [] }
+        ensures room { self.new.room ≡ self.old.room }
+    {
+        write_bit(&mut self.bytes, self.len as usize, bit);
+        self.len += 1;
+    }
+
+    /// Appends a number in `width` bits, at most 32, the greatest weight first.
+    pub fn put_number(&mut self, value: u32, width: u32)
+        requires most { width ≤ 32 }
+        requires fits { value < 2 ^ width }
+        requires room { length self.old.bits + width ≤ self.old.room }
+        ensures bits { self.new.bits ≡ self.old.bits ++ number_bits width value }
+        ensures room { self.new.room ≡ self.old.room }
+    {
+        for weight in (0..width).rev() {
+            self.put((value >> weight) & 1 == 1);
+        }
+    }
+
+    /// Takes all bits away. The room stays.
+    pub fn clear(&mut self)
+        ensures bits { self.new.bits ≡ [] }
+        ensures room { self.new.room ≡ self.old.room }
+    {
+        self.bytes.fill(0);
+        self.len = 0;
+    }
+
+    /// The number of bits.
+    pub fn len(&self) -> u32
+        ensures len { result ≡ length self.now.bits }
+        ensures within { result ≤ self.now.room }
+    {
+        self.len
+    }
+
+    /// The room: how many bits the pen can hold, at most 524,288.
+    pub fn room(&self) -> u32
+        ensures room { result ≡ self.now.room }
+        ensures most { result ≤ 524288 }
+    {
+        self.room
+    }
+
+    /// The bits as bytes, with fewer than eight zeros after them.
+    pub fn bytes(&self) -> &[u8]
+        ensures { result.now ≡ vector_bytes self.now.bits }
+    {
+        first_bytes(&self.bytes, self.len as usize)
+    }
+}
