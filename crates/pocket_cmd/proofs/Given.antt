@@ -34,6 +34,7 @@ entry_parts true key value (Some kind) entry e = (refl, ap (λ o. key_in o) e, a
   key_in : Option Entry → List ℕ
   key_in None = []
   key_in (Some x) = x.key
+
   value_in : Option Entry → List ℕ
   value_in None = []
   value_in (Some x) = x.value
@@ -122,8 +123,8 @@ given_by_words words r e word =
     let given = given_from words made (ok_or-Some (value_of verb.Restore words (codes "in")) (length words + 1) input.0 input.1) (ok_or-Some (value_of verb.Restore words (codes "out")) (length words + 1) output.0 output.1)
     (ok_or-Some (value_of verb.Restore words (codes "report")) (length words + 1) report.0 report.1) bits_within apid_within.1 word in
     subst (IsGiven (word ∷ words)) (same_ok made r apid.2) given where
-  same_ok : (x y : Restoration) → ◌≡◌ {A = Result Restoration ℕ} (Ok x) (Ok y) → x ≡ y
-  same_ok x y e = cc
+      same_ok : (x y : Restoration) → ◌≡◌ {A = Result Restoration ℕ} (Ok x) (Ok y) → x ≡ y
+      same_ok x y e = cc
 
 -- the values of a command are within their bounds, and its names are those that words give
 pub IsGiven-command_of : (words : List (List ℕ)) (r : Restoration) → command_of words ≡ Ok (Restore r) → IsGiven words r

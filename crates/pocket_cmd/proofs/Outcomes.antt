@@ -89,10 +89,10 @@ AfterRestore-unopened r old new WriteFault p =
       report = report;
       held = held;
     }) where
-  told_start : (held : Option Kept) (rest : Option (List ℕ)) → IfSome (given_by held rest r.input) (λ all. (more : List ℕ) × (all ≡ [] ++ more))
-  told_start None rest = tt
-  told_start (Some k) None = tt
-  told_start (Some k) (Some xs) = (kept_at k r.input, refl)
+      told_start : (held : Option Kept) (rest : Option (List ℕ)) → IfSome (given_by held rest r.input) (λ all. (more : List ℕ) × (all ≡ [] ++ more))
+      told_start None rest = tt
+      told_start (Some k) None = tt
+      told_start (Some k) (Some xs) = (kept_at k r.input, refl)
 AfterRestore-unopened r old new (NotYet t) p = absurd p
 AfterRestore-unopened r old new (BadWords word) p = absurd p
 AfterRestore-unopened r old new NoMemory p = absurd p
@@ -155,8 +155,8 @@ AfterRestore-finished r old m0 m1 new (Ok done) o p at =
       written = written r old m0 m1 new (kept_after (kept_after m1.held m1.output.name (made m1 outlet.Main)) m1.report.name (made m1 outlet.Report)) o p at;
       held = kept ∙ same_both m1.held old.held m1.output.name (option_map (λ _. r.output) old.output.name) (made m1 outlet.Main) (made new outlet.Main) m1.report.name (option_map (λ _. r.report) old.report.name) (made m1 outlet.Report) (made new outlet.Report) held output_name (sym output) report_name (sym report);
     } where
-  same_both : (k l : Option Kept) (a b c d e f x y : Option (List ℕ)) → k ≡ l → a ≡ b → c ≡ d → e ≡ f → x ≡ y → kept_after (kept_after k a c) e x ≡ kept_after (kept_after l b d) f y
-  same_both k l a b c d e f x y p q s t u = cc
+      same_both : (k l : Option Kept) (a b c d e f x y : Option (List ℕ)) → k ≡ l → a ≡ b → c ≡ d → e ≡ f → x ≡ y → kept_after (kept_after k a c) e x ≡ kept_after (kept_after l b d) f y
+      same_both k l a b c d e f x y p q s t u = cc
 AfterRestore-finished r old m0 m1 new (Err WriteFault) o p at =
     let held = ran_held r old m0 m1 o.0 p.0 (restored_bytes p.1) (report_of (length p.1)) o.2 p.3 in
     let output_name = ran_output_name r old m0 m1 o.0 p.0 (restored_bytes p.1) (report_of (length p.1)) o.2 p.3 in
@@ -178,8 +178,8 @@ AfterRestore-finished r old m0 m1 new (Err WriteFault) o p at =
         held = ap (λ m. m.held) kept ∙ same_one m1.held old.held m1.output.name (option_map (λ _. r.output) old.output.name) (made m1 outlet.Main) (made new outlet.Main) held output_name (sym (ap (λ m. made m outlet.Main) kept));
       })
     ] where
-  same_one : (k l : Option Kept) (a b c d : Option (List ℕ)) → k ≡ l → a ≡ b → c ≡ d → kept_after k a c ≡ kept_after l b d
-  same_one k l a b c d p q s = cc
+      same_one : (k l : Option Kept) (a b c d : Option (List ℕ)) → k ≡ l → a ≡ b → c ≡ d → kept_after k a c ≡ kept_after l b d
+      same_one k l a b c d p q s = cc
 AfterRestore-finished r old m0 m1 new (Err ReadFault) o p at = absurd at
 AfterRestore-finished r old m0 m1 new (Err (NotYet t)) o p at = absurd at
 AfterRestore-finished r old m0 m1 new (Err (BadWords word)) o p at = absurd at

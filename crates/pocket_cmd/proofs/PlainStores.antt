@@ -79,14 +79,14 @@ IsLongestPlain-stuck f apid packets contents last bytes rest plain few joined st
   more = stuck.more;
   longest = λ other after others store at. elim (cases_lt (length contents) (length others)) [
     | inl longer ↦
-      let tail = ArePlain-tail f apid 0 None packets store.packets contents others last store.last rest after plain store.plain (sym joined ∙ (at ∙ ap (λ l. l ++ after) store.joined)) (omega arith) in
-      let some : 0 < length tail.1 = omega (arith, longer, ap length tail.2, length-append contents tail.1) in
-      let first = ArePlain-first f apid (0 + length contents) last tail.0 tail.1 store.last after tail.4 some in
-      let plus : 0 + length contents ≡ length contents = omega arith in
-      elim stuck.none [
-        | inl full ↦ absurd (omega (arith, store.few))
-        | inr none ↦ absurd (none first.0 first.1 first.2 first.3 (tail.3 ∙ first.4) (subst (λ n. IsNextPlain f apid n last first.0 first.1 first.2) plus first.5))
-      ]
+        let tail = ArePlain-tail f apid 0 None packets store.packets contents others last store.last rest after plain store.plain (sym joined ∙ (at ∙ ap (λ l. l ++ after) store.joined)) (omega arith) in
+        let some : 0 < length tail.1 = omega (arith, longer, ap length tail.2, length-append contents tail.1) in
+        let first = ArePlain-first f apid (0 + length contents) last tail.0 tail.1 store.last after tail.4 some in
+        let plus : 0 + length contents ≡ length contents = omega arith in
+        elim stuck.none [
+          | inl full ↦ absurd (omega (arith, store.few))
+          | inr none ↦ absurd (none first.0 first.1 first.2 first.3 (tail.3 ∙ first.4) (subst (λ n. IsNextPlain f apid n last first.0 first.1 first.2) plus first.5))
+        ]
     | inr no_longer ↦ no_longer
   ];
 }
@@ -112,11 +112,11 @@ IsLongestPlain-plain f apid bytes contents others store held =
     let fewer = held.longest bytes [] contents store (sym (append-nil bytes)) in
     elim (cases_lt (length contents) (length others)) [
       | inl less ↦
-        let tail = tail_of f apid bytes held.front held.rest contents others store held.plain [] (append-nil bytes ∙ held.joined) (omega arith) in
-        held.more (no_bytes (store_bytes apid tail.0) held.rest tail.3)
+          let tail = tail_of f apid bytes held.front held.rest contents others store held.plain [] (append-nil bytes ∙ held.joined) (omega arith) in
+          held.more (no_bytes (store_bytes apid tail.0) held.rest tail.3)
       | inr same ↦
-        let tail = tail_of f apid bytes held.front held.rest contents others store held.plain [] (append-nil bytes ∙ held.joined) (omega (arith, fewer)) in
-        held.more (no_bytes (store_bytes apid tail.0) held.rest tail.3)
+          let tail = tail_of f apid bytes held.front held.rest contents others store held.plain [] (append-nil bytes ∙ held.joined) (omega (arith, fewer)) in
+          held.more (no_bytes (store_bytes apid tail.0) held.rest tail.3)
     ]
 
 -- what is held up is held up at one place
@@ -131,10 +131,10 @@ no_more : (f apid : ℕ) (bytes : List ℕ) (contents others : List (List Bool))
 no_more f apid bytes contents others store other fewer =
     let tail = tail_of f apid bytes bytes [] contents others store other [] refl fewer in
     ended tail.0 tail.1 tail.2 tail.3 tail.4 where
-  ended : (packets : List (ℕ × List ℕ)) (tail : List (List Bool)) → others ≡ contents ++ tail → [] ≡ store_bytes apid packets ++ [] → ArePlain f apid (0 + length contents) store.last packets tail other.last → contents ≡ others
-  ended packets [] at none plain = sym (at ∙ append-nil contents)
-  ended [] (c ∷ tail) at none plain = absurd plain
-  ended (p ∷ packets) (c ∷ tail) at none plain = absurd cc
+      ended : (packets : List (ℕ × List ℕ)) (tail : List (List Bool)) → others ≡ contents ++ tail → [] ≡ store_bytes apid packets ++ [] → ArePlain f apid (0 + length contents) store.last packets tail other.last → contents ≡ others
+      ended packets [] at none plain = sym (at ∙ append-nil contents)
+      ended [] (c ∷ tail) at none plain = absurd plain
+      ended (p ∷ packets) (c ∷ tail) at none plain = absurd cc
 
 pub IsPlainStore-unique : (f apid : ℕ) (bytes : List ℕ) (contents others : List (List Bool)) → IsPlainStore f apid bytes contents → IsPlainStore f apid bytes others → contents ≡ others
 IsPlainStore-unique f apid bytes contents others store other = elim (cases_lt (length contents) (length others)) [

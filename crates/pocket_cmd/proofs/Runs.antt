@@ -56,14 +56,22 @@ pub AfterPackets-stopped : (f apid t : ℕ) (state next : State) (first now late
 AfterPackets-stopped f apid t state next first now later (NotYet n) so_far few turn =
     let joined = Ran-then first now later (store_bytes apid so_far.packets) turn.1.0 (restored_bytes so_far.contents) [] [] [] so_far.ran turn.1.1 in
     let few_contents : length so_far.contents ≤ 2 ^ 32 = omega (arith, so_far.count) in
-    let stuck = subst (λ n. IfSome (left now inlet.Main) (IsStuck f apid n state)) (sym so_far.count) turn.2 in
-    (store_bytes apid so_far.packets, so_far.contents, IsPlainStore-restored f apid t state first now so_far few, so_far.count ∙ sym turn.0,
-     (store_bytes apid so_far.packets ++ turn.1.0, subst (λ output. Ran first later (store_bytes apid so_far.packets ++ turn.1.0) output []) (append-nil (restored_bytes so_far.contents)) joined),
-     longest f apid so_far.packets so_far.contents state (left first inlet.Main) (left now inlet.Main) so_far.plain few_contents so_far.ran.input stuck)
+    let stuck = subst (λ n. IfSome (left now inlet.Main) (IsStuck f apid n state)) (sym so_far.count) turn.2 in (
+      store_bytes apid so_far.packets,
+      so_far.contents,
+      IsPlainStore-restored f apid t state first now so_far few,
+      so_far.count ∙ sym turn.0,
+      (store_bytes apid so_far.packets ++ turn.1.0, subst (λ output. Ran first later (store_bytes apid so_far.packets ++ turn.1.0) output []) (append-nil (restored_bytes so_far.contents)) joined),
+      longest f apid so_far.packets so_far.contents state (left first inlet.Main) (left now inlet.Main) so_far.plain few_contents so_far.ran.input stuck,
+    )
 AfterPackets-stopped f apid t state next first now later ReadFault so_far few turn =
-    let joined = Ran-then first now later (store_bytes apid so_far.packets) turn.0 (restored_bytes so_far.contents) [] [] [] so_far.ran turn.1 in
-    (store_bytes apid so_far.packets, so_far.contents, IsPlainStore-restored f apid t state first now so_far few, turn.0,
-     subst (λ output. Ran first later (store_bytes apid so_far.packets ++ turn.0) output []) (append-nil (restored_bytes so_far.contents)) joined)
+    let joined = Ran-then first now later (store_bytes apid so_far.packets) turn.0 (restored_bytes so_far.contents) [] [] [] so_far.ran turn.1 in (
+      store_bytes apid so_far.packets,
+      so_far.contents,
+      IsPlainStore-restored f apid t state first now so_far few,
+      turn.0,
+      subst (λ output. Ran first later (store_bytes apid so_far.packets ++ turn.0) output []) (append-nil (restored_bytes so_far.contents)) joined,
+    )
 AfterPackets-stopped f apid t state next first now later WriteFault so_far few turn =
     let packet = turn.1 in
     let content = turn.2 in
@@ -71,10 +79,14 @@ AfterPackets-stopped f apid t state next first now later WriteFault so_far few t
     let plain = ArePlain-more f apid 0 None so_far.packets so_far.contents state packet content next so_far.plain (subst (λ n. IsNextPlain f apid n state packet content next) number turn.3) in
     let joined = Ran-then first now later (store_bytes apid so_far.packets) (space_packet apid packet.0 packet.1) (restored_bytes so_far.contents) turn.4 [] [] so_far.ran turn.7 in
     let whole : (restored_bytes so_far.contents ++ turn.4) ++ turn.5 ≡ restored_bytes (so_far.contents ++ content ∷ []) =
-    append_assoc (restored_bytes so_far.contents) turn.4 turn.5 ∙ (ap (λ l. restored_bytes so_far.contents ++ l) turn.6 ∙ sym (restored_bytes-more so_far.contents content)) in
-    (store_bytes apid (so_far.packets ++ packet ∷ []), so_far.contents ++ content ∷ [],
-     record { packets = so_far.packets ++ packet ∷ []; last = next; joined = refl; few = omega (arith, so_far.count, turn.0, length_push so_far.contents content); plain = plain },
-     restored_bytes so_far.contents ++ turn.4, turn.5, whole,
-     subst (λ input. Ran first later input (restored_bytes so_far.contents ++ turn.4) []) (sym (store_bytes-more apid so_far.packets packet)) joined)
+    append_assoc (restored_bytes so_far.contents) turn.4 turn.5 ∙ (ap (λ l. restored_bytes so_far.contents ++ l) turn.6 ∙ sym (restored_bytes-more so_far.contents content)) in (
+      store_bytes apid (so_far.packets ++ packet ∷ []),
+      so_far.contents ++ content ∷ [],
+      record { packets = so_far.packets ++ packet ∷ []; last = next; joined = refl; few = omega (arith, so_far.count, turn.0, length_push so_far.contents content); plain = plain },
+      restored_bytes so_far.contents ++ turn.4,
+      turn.5,
+      whole,
+      subst (λ input. Ran first later input (restored_bytes so_far.contents ++ turn.4) []) (sym (store_bytes-more apid so_far.packets packet)) joined,
+    )
 AfterPackets-stopped f apid t state next first now later (BadWords word) so_far few turn = absurd turn
 AfterPackets-stopped f apid t state next first now later NoMemory so_far few turn = absurd turn

@@ -19,10 +19,18 @@ IsPlainStore-none f apid = record { packets = []; last = None; joined = refl; fe
 
 -- the report's first line was cut short
 pub AfterRun-no_header : (f apid : ℕ) (m0 m1 : Meanings) → AddsFront m0 m1 outlet.Report header_row → AfterRun f apid m0 m1 (Err WriteFault)
-AfterRun-no_header f apid m0 m1 cut =
-    ([], [], IsPlainStore-none f apid, [], [], refl, cut.front, cut.rest ++ end_row 0,
-     sym (append_assoc cut.front cut.rest (end_row 0)) ∙ ap (λ l. l ++ end_row 0) cut.joined,
-     Ran-notes m0 m1 cut.front cut.added)
+AfterRun-no_header f apid m0 m1 cut = (
+  [],
+  [],
+  IsPlainStore-none f apid,
+  [],
+  [],
+  refl,
+  cut.front,
+  cut.rest ++ end_row 0,
+  sym (append_assoc cut.front cut.rest (end_row 0)) ∙ ap (λ l. l ++ end_row 0) cut.joined,
+  Ran-notes m0 m1 cut.front cut.added,
+)
 
 -- the first line and then the packets
 after_header : (m0 m1 m2 : Meanings) (input output : List ℕ) → Adds m0 m1 outlet.Report header_row → Ran m1 m2 input output [] → Ran m0 m2 input output header_row
@@ -45,9 +53,18 @@ AfterRun-stopped f apid m0 m1 m2 NoMemory header p = absurd p
 pub AfterRun-no_end : (f apid n : ℕ) (m0 m1 m2 m3 : Meanings) → Adds m0 m1 outlet.Report header_row → AfterPackets f apid m1 m2 (Ok n) → AddsFront m2 m3 outlet.Report (end_row n) → AfterRun f apid m0 m3 (Err WriteFault)
 AfterRun-no_end f apid n m0 m1 m2 m3 header p cut =
     let ran = Ran-then m0 m2 m3 p.0 [] (restored_bytes p.1) [] header_row cut.front (after_header m0 m1 m2 p.0 (restored_bytes p.1) header p.4) (Ran-notes m2 m3 cut.front cut.added) in
-    let input = subst (λ l. Ran m0 m3 l (restored_bytes p.1 ++ []) (header_row ++ cut.front)) (append-nil p.0) ran in
-    (p.0, p.1, p.2, restored_bytes p.1 ++ [], [], append-nil (restored_bytes p.1 ++ []) ∙ append-nil (restored_bytes p.1), header_row ++ cut.front, cut.rest,
-     append_assoc header_row cut.front cut.rest ∙ (ap (λ l. header_row ++ l) cut.joined ∙ ap report_of (sym p.3)), input)
+    let input = subst (λ l. Ran m0 m3 l (restored_bytes p.1 ++ []) (header_row ++ cut.front)) (append-nil p.0) ran in (
+      p.0,
+      p.1,
+      p.2,
+      restored_bytes p.1 ++ [],
+      [],
+      append-nil (restored_bytes p.1 ++ []) ∙ append-nil (restored_bytes p.1),
+      header_row ++ cut.front,
+      cut.rest,
+      append_assoc header_row cut.front cut.rest ∙ (ap (λ l. header_row ++ l) cut.joined ∙ ap report_of (sym p.3)),
+      input,
+    )
 
 -- the whole run
 pub AfterRun-done : (f apid n : ℕ) (m0 m1 m2 m3 : Meanings) → Adds m0 m1 outlet.Report header_row → AfterPackets f apid m1 m2 (Ok n) → Adds m2 m3 outlet.Report (end_row n) → AfterRun f apid m0 m3 (Ok tt)

@@ -14,11 +14,7 @@ use packet_store::StoreReader;
 use std::alloc::Global;
 
 /// Takes all memory of the run, opens the names, restores the store and finishes the outputs.
-pub fn restore<D: Desk>(
-    alloc: Global,
-    told: &Restoration<'_>,
-    desk: &mut D,
-) -> Result<(), Refusal>
+pub fn restore<D: Desk>(alloc: Global, told: &Restoration<'_>, desk: &mut D) -> Result<(), Refusal>
     requires some { 1 ≤ told.now.bits }
     requires most { told.now.bits ≤ 49152 }
     requires chosen { told.now.apid ≤ 2046 }

@@ -57,7 +57,7 @@ pub fn pocket<D: Desk>(alloc: Global, words: &[String], desk: &mut D) -> Status
     ensures write_fault { result ≡ Status.Refused Refusal.WriteFault → (r : Restoration)
         × (command_of (map string_bytes words.now) ≡ Ok (Restore r))
         × (IsCutShort r (D.meaning desk.old) (D.meaning desk.new)
-            ⊎ IsHalfKept r (D.meaning desk.old) (D.meaning desk.new)) }
+        ⊎ IsHalfKept r (D.meaning desk.old) (D.meaning desk.new)) }
     ensures write_cause { result ≡ Status.Refused Refusal.WriteFault
         → Rose (D.counts desk.old).writes (D.counts desk.new).writes }
     ensures rises { Rises (D.counts desk.old) (D.counts desk.new) }

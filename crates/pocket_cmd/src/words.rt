@@ -55,7 +55,10 @@ fn kind_of(verb: Verb, key: &str) -> Option<Kind>
     match (verb, key) {
         (Verb::Restore, "in") => Some(Kind::Name(Direction::In)),
         (Verb::Restore, "out" | "report") => Some(Kind::Name(Direction::Out)),
-        (Verb::Restore, "bits") => Some(Kind::Number { low: 1, high: 49_152 }),
+        (Verb::Restore, "bits") => Some(Kind::Number {
+            low: 1,
+            high: 49_152,
+        }),
         (Verb::Restore, "apid") => Some(Kind::Number { low: 0, high: 2046 }),
         _ => None,
     }

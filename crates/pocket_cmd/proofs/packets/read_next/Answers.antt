@@ -10,14 +10,18 @@ pub returns-in-Written-clause-read : goal.returns-in-Written-clause-read
 returns-in-Written-clause-read g c =
     let told = rw c.in-Ok-Some.field-0-is at c.in-Ok-Some.ensures in
     let written = c.in-Written.ensures.written.0 refl in
-    let decoder = c.args.decoder.now in
-    ((c.in-Ok-Some.taken.count, c.next.new.self.body), written.1, record {
-      whole = told.given.fits;
-      count = sym c.from.ensures ∙ c.if-from-t.false;
-      mask = written.0;
-      spells = subst (λ (body : List ℕ). Spells decoder.places decoder.state c.args.t (bits_of body) written.0 written.1) c.body.ensures written.2;
-      after = c.in-Written.ensures.latest written.0 written.1 written.2;
-    }, Ran-moves (g.D.Desk.meaning c.args.desk.now) (g.D.Desk.meaning c.next.new.desk) _ told.some)
+    let decoder = c.args.decoder.now in (
+      (c.in-Ok-Some.taken.count, c.next.new.self.body),
+      written.1,
+      record {
+        whole = told.given.fits;
+        count = sym c.from.ensures ∙ c.if-from-t.false;
+        mask = written.0;
+        spells = subst (λ (body : List ℕ). Spells decoder.places decoder.state c.args.t (bits_of body) written.0 written.1) c.body.ensures written.2;
+        after = c.in-Written.ensures.latest written.0 written.1 written.2;
+      },
+      Ran-moves (g.D.Desk.meaning c.args.desk.now) (g.D.Desk.meaning c.next.new.desk) _ told.some,
+    )
 
 pub returns-in-Written-clause-place : goal.returns-in-Written-clause-place
 returns-in-Written-clause-place g c =
@@ -40,6 +44,6 @@ returns-in-NotYet-clause-read g c =
     let before = g.D.Desk.meaning c.args.desk.now in
     let after = g.D.Desk.meaning c.next.new.desk in
     let stuck = IsStuck-unread decoder.places c.args.reader.now.apid c.args.t decoder.state c.in-Ok-Some.taken.count c.next.new.self.body _ _ told.given.fits told.some.moved (λ mask content spells.
-        let here = subst (λ (body : List ℕ). Spells decoder.places decoder.state c.args.t (bits_of body) mask content) (sym c.body.ensures) spells in
-        absurd (let e = c.in-NotYet.ensures.written.1 (mask, content, here) in cc)) in
+    let here = subst (λ (body : List ℕ). Spells decoder.places decoder.state c.args.t (bits_of body) mask content) (sym c.body.ensures) spells in
+    absurd (let e = c.in-NotYet.ensures.written.1 (mask, content, here) in cc)) in
     (refl, (_, Ran-moves before after _ told.some), stuck)

@@ -79,4 +79,4 @@ returns-clause-front g c =
     let three = Adds-then m0 m2 m3 Report (codes "end," ++ count) (codes ",") two c.in_ok-write_all-3.ensures.added in
     let four = Adds-then m0 m3 m4 Report (codes "end," ++ count ++ codes ",") count three c.in_ok-write_all-4.ensures.added in
     OnErr-map c.write_all-5.result (AddsFront m4 m5 Report (codes ",0\n")) (AddsFront m0 m5 Report (end_row c.args.arrivals)) (λ last.
-        as_row m0 m5 count c.args.arrivals (search rules) (AddsFront-then m0 m4 m5 Report (codes "end," ++ count ++ codes "," ++ count) (codes ",0\n") four last)) c.write_all-5.ensures.front
+    as_row m0 m5 count c.args.arrivals (search rules) (AddsFront-then m0 m4 m5 Report (codes "end," ++ count ++ codes "," ++ count) (codes ",0\n") four last)) c.write_all-5.ensures.front

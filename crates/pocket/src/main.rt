@@ -1,0 +1,74 @@
+//! The program `pocket`: its words, the desk of files, and how it ends.
+#![tactic(auto)]
+
+use desk_ports::FileDesk;
+use pocket_cmd::{Refusal, Status, exit_code, pocket};
+use std::process::ExitCode;
+use std::{env, io};
+
+/// No verb has as many words, so that a command line cut here is refused as the whole one is.
+const MOST_WORDS: usize = 1000;
+
+/// The exit number where the system refuses the words.
+const NO_WORDS: u8 = 7;
+
+const HELP: &str = "\
+pocket restore in=STORE out=PACKETS report=REPORT bits=F apid=APID
+    gives back the packets of F bits that a store of Space Packets has on an APID
+A name is a file's, or - for standard input or output. The keys come in any order.
+pocket --help
+pocket --version";
+
+const VERSION: &str = "pocket 0.1.0";
+
+fn main(rt: HostRuntime) -> ExitCode {
+    match words(&rt) {
+        Ok(words) => answer(&rt, &words),
+        Err(error) if error.kind() == io::ErrorKind::OutOfMemory => {
+            ended(&rt, &Status::Refused(Refusal::NoMemory))
+        }
+        Err(_) => {
+            let _ = eprintln!(rt; "pocket: words cannot be read");
+            ExitCode::from(NO_WORDS)
+        }
+    }
+}
+
+/// The words after the program's name.
+fn words(rt: &HostRuntime) -> io::Result<Vec<String>> {
+    let mut words = Vec::new(rt.alloc());
+    for word in env::args(rt)?.skip(1) {
+        words.push(word)?;
+    }
+    Ok(words)
+}
+
+/// Prints what is asked of the program itself, or runs the command.
+fn answer(rt: &HostRuntime, words: &[String]) -> ExitCode {
+    match words {
+        [word] if word.as_str() == "--help" => printed(rt, HELP),
+        [word] if word.as_str() == "--version" => printed(rt, VERSION),
+        _ => {
+            let few = words.len().min(MOST_WORDS);
+            let mut desk = FileDesk::new(rt);
+            let status = pocket(rt.alloc(), &words[..few], &mut desk);
+            ended(rt, &status)
+        }
+    }
+}
+
+/// Prints a text on standard output.
+fn printed(rt: &HostRuntime, text: &str) -> ExitCode {
+    match println!(rt; "{text}") {
+        Ok(()) => ExitCode::SUCCESS,
+        Err(_) => ended(rt, &Status::Refused(Refusal::WriteFault)),
+    }
+}
+
+/// Prints a refusal on standard error, and gives the exit number.
+fn ended(rt: &HostRuntime, status: &Status) -> ExitCode {
+    if let Status::Refused(refusal) = status {
+        let _ = eprintln!(rt; "pocket: {refusal}");
+    }
+    ExitCode::from(exit_code(status))
+}
