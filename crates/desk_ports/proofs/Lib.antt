@@ -1,3 +1,4 @@
 pub mod Transfers
 pub mod Logs
 pub mod Readings
+pub mod Held
