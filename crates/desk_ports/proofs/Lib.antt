@@ -2,3 +2,4 @@ pub mod Transfers
 pub mod Runs
 pub mod Logs
 pub mod Readings
+pub mod Held

@@ -36,9 +36,7 @@ state_of desk = record {
   held = kept_of desk.log.items;
   pieces = desk.pieces;
   plan = desk.plan;
-  reads = desk.faults.reads;
-  writes = desk.faults.writes;
-  short = desk.faults.short;
+  faults = record { reads = desk.faults.reads; writes = desk.faults.writes; short = desk.faults.short };
 }
 
 -- both inlets stand within entries, and a piece has bytes

@@ -51,9 +51,7 @@ pub record MemState : Type 0 where
   pub held : Kept
   pub pieces : Option ℕ
   pub plan : MemPlan
-  pub reads : ℕ
-  pub writes : ℕ
-  pub short : ℕ
+  pub faults : MemFaults
 
 abbrev pub bytes_code : Coded (List ℕ)
 bytes_code = coded_list coded_ℕ
@@ -78,11 +76,16 @@ plan_code =
     (λ p. (p.open_in, (p.open_out, (p.read, (p.write, p.finish)))))
     (λ p. record { open_in = p.0; open_out = p.1.0; read = p.1.1.0; write = p.1.1.1.0; finish = p.1.1.1.1 }) (λ _. refl)
 
+abbrev pub faults_code : Coded MemFaults
+faults_code =
+    code_by (ℕ × (ℕ × ℕ)) (coded× coded_ℕ (coded× coded_ℕ coded_ℕ)) (λ f. (f.reads, (f.writes, f.short)))
+    (λ p. record { reads = p.0; writes = p.1.0; short = p.1.1 }) (λ _. refl)
+
 abbrev pub state_code : Coded MemState
 state_code =
-    code_by ((MemIncoming × MemIncoming) × ((MemOutgoing × MemOutgoing) × (Kept × (Option ℕ × (MemPlan × (ℕ × (ℕ × ℕ)))))))
-    (coded× (coded× incoming_code incoming_code) (coded× (coded× outgoing_code outgoing_code) (coded× kept_code (coded× (coded_option coded_ℕ) (coded× plan_code (coded× coded_ℕ (coded× coded_ℕ coded_ℕ)))))))
-    (λ s. ((s.side, s.input), ((s.output, s.report), (s.held, (s.pieces, (s.plan, (s.reads, (s.writes, s.short))))))))
+    code_by ((MemIncoming × MemIncoming) × ((MemOutgoing × MemOutgoing) × (Kept × (Option ℕ × (MemPlan × MemFaults)))))
+    (coded× (coded× incoming_code incoming_code) (coded× (coded× outgoing_code outgoing_code) (coded× kept_code (coded× (coded_option coded_ℕ) (coded× plan_code faults_code)))))
+    (λ s. ((s.side, s.input), ((s.output, s.report), (s.held, (s.pieces, (s.plan, s.faults))))))
     (λ p. record {
       side = p.0.0;
       input = p.0.1;
@@ -91,9 +94,7 @@ state_code =
       held = p.1.1.0;
       pieces = p.1.1.1.0;
       plan = p.1.1.1.1.0;
-      reads = p.1.1.1.1.1.0;
-      writes = p.1.1.1.1.1.1.0;
-      short = p.1.1.1.1.1.1.1;
+      faults = p.1.1.1.1.1;
     })
     (λ _. refl)
 
@@ -120,9 +121,7 @@ empty_desk = record {
   held = map.empty;
   pieces = None;
   plan = empty_plan;
-  reads = 0;
-  writes = 0;
-  short = 0;
+  faults = record { reads = 0; writes = 0; short = 0 };
 }
 
 -- the bytes still to come at an inlet
@@ -148,7 +147,7 @@ mem_meanings state = record {
 }
 
 abbrev pub mem_counts : MemState → Counts
-mem_counts state = record { reads = state.reads; writes = state.writes }
+mem_counts state = record { reads = state.faults.reads; writes = state.faults.writes }
 
 -- the next value of a count, which stands still at its last value
 abbrev pub next_count : ℕ → ℕ
@@ -182,15 +181,20 @@ abbrev pub IsNextFailing : MemCalls → Type 0
 IsNextFailing calls = Contains calls.failing (next_count calls.calls)
 
 -- one more number fails
-abbrev pub also_failing : MemCalls → ℕ → MemCalls
-also_failing calls nth = record calls { failing = calls.failing ++ nth ∷ [] }
+abbrev pub with_failing : MemCalls → ℕ → MemCalls
+with_failing calls nth = record calls { failing = calls.failing ++ nth ∷ [] }
+
+-- a call of this kind was made
+abbrev pub called : MemPlan → Call → MemPlan
+called plan call = with_calls plan call (one_more (calls_of plan call))
+
+-- the call of this kind with this number fails too
+abbrev pub also_failing : MemPlan → Call → ℕ → MemPlan
+also_failing plan call nth = with_calls plan call (with_failing (calls_of plan call) nth)
 
 -- the next call of this kind was named as one that fails
 abbrev pub IsNamed : MemState → Call → Type 0
 IsNamed state call = IsNextFailing (calls_of state.plan call)
-
-abbrev pub faults_of : MemState → MemFaults
-faults_of state = record { reads = state.reads; writes = state.writes; short = state.short }
 
 -- after one more fault of reading
 abbrev pub read_fault : MemFaults → MemFaults
@@ -206,5 +210,5 @@ refusal faults = record (write_fault faults) { short = next_count faults.short }
 
 -- a call of this kind was made: it has its number, and what the desk was told to do stays
 pub record IsCalled (old new : MemState) (call : Call) : Type 0 where
-  pub numbered : new.plan ≡ with_calls old.plan call (one_more (calls_of old.plan call))
+  pub numbered : new.plan ≡ called old.plan call
   pub pieces : new.pieces ≡ old.pieces

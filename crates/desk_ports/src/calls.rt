@@ -1,6 +1,6 @@
 // The calls that a desk in memory is told to fail, by their kind and number.
 ghost use Rattle.std.specs.Prelude.{◌≡◌, ◌↔◌, IsTrue, OnOk, OnErr};
-ghost use Rattle.desk_ports.specs.MemState.{no_calls, one_more, also_failing, IsNextFailing, empty_plan, calls_of, with_calls};
+ghost use Rattle.desk_ports.specs.MemState.{no_calls, one_more, with_failing, IsNextFailing, empty_plan, calls_of, called, also_failing};
 
 use std::alloc::{AllocError, Global};
 use std::marker::Model;
@@ -52,7 +52,7 @@ impl Calls {
     }
 
     fn fail(&mut self, nth: u32) -> Result<(), AllocError>
-        ensures ok { OnOk result (self.new ≡ also_failing self.old nth) }
+        ensures ok { OnOk result (self.new ≡ with_failing self.old nth) }
         ensures err { OnErr result (self.new ≡ self.old) }
     {
         self.failing.push(u64::from(nth))?;
@@ -77,7 +77,13 @@ impl Model for Plan {
 
     ghost coded = { plan_code };
 
-    ghost view = { λ p. record { open_in = p.open_in; open_out = p.open_out; read = p.read; write = p.write; finish = p.finish } };
+    ghost view = { λ p. record {
+      open_in = p.open_in;
+      open_out = p.open_out;
+      read = p.read;
+      write = p.write;
+      finish = p.finish;
+    } };
 }
 
 impl Plan {
@@ -96,7 +102,7 @@ impl Plan {
 
     /// Numbers the next call of this kind, and tells whether it fails.
     pub fn next(&mut self, call: Call) -> bool
-        ensures numbered { self.new ≡ with_calls self.old call (one_more (calls_of self.old call)) }
+        ensures numbered { self.new ≡ called self.old call }
         ensures fails { IsTrue result ↔ IsNextFailing (calls_of self.old call) }
     {
         match call {
@@ -110,7 +116,7 @@ impl Plan {
 
     /// Lets the call of this kind with this number fail.
     pub fn fail(&mut self, call: Call, nth: u32) -> Result<(), AllocError>
-        ensures ok { OnOk result (self.new ≡ with_calls self.old call (also_failing (calls_of self.old call) nth)) }
+        ensures ok { OnOk result (self.new ≡ also_failing self.old call nth) }
         ensures err { OnErr result (self.new ≡ self.old) }
     {
         match call {

@@ -4,6 +4,7 @@
 mod calls;
 mod desk;
 mod file;
+mod laws;
 mod log;
 mod memory;
 mod transfer;
@@ -12,6 +13,7 @@ mod written;
 pub use calls::Call;
 pub use desk::{Desk, Failed, Inlet, Outlet};
 pub use file::FileDesk;
+pub use laws::{finished_is_held, pieces_join};
 pub use memory::MemDesk;
 pub use transfer::{fill, write_all};
 

@@ -2,7 +2,7 @@ ghost use Rattle.std.specs.Prelude.{◌≡◌, ◌≤◌, ◌<◌, ◌↔◌, �
 ghost use Rattle.std.specs.FinMap as map;
 ghost use Rattle.std.specs.Io.KnownBytes.{IsAtEnd};
 ghost use Rattle.desk_ports.specs.Meanings.{Opens, Begins, Moves, Adds, Keeps, IsReadyIn, IsReadyOut, Rises, Rose, left, kept_at};
-ghost use Rattle.desk_ports.specs.MemState.{empty_desk, mem_left, mem_made, mem_meanings, mem_counts, next_count, capped, calls_of, with_calls, also_failing, IsNamed, IsCalled, faults_of, read_fault, write_fault, refusal};
+ghost use Rattle.desk_ports.specs.MemState.{empty_desk, mem_left, mem_made, mem_meanings, mem_counts, next_count, capped, also_failing, IsNamed, IsCalled, read_fault, write_fault, refusal};
 
 use crate::calls::{Call, Plan};
 use crate::desk::{Desk, Failed, Inlet, Outlet};
@@ -73,7 +73,10 @@ impl Faults {
 
     // A growth was refused.
     fn growth(&mut self) -> Failed
-        ensures counted { self.new ≡ record self.old { writes = next_count self.old.writes; short = next_count self.old.short } }
+        ensures counted { self.new ≡ record self.old {
+          writes = next_count self.old.writes;
+          short = next_count self.old.short;
+        } }
         ensures writes_rise { self.old.writes ≤ self.new.writes }
         ensures short_rises { self.old.short ≤ self.new.short }
     {
@@ -172,7 +175,7 @@ impl MemDesk {
 
     /// Lets the call of this kind with this number fail. Numbers run from 1 since the desk was made.
     pub fn fail(&mut self, call: Call, nth: u32) -> Result<(), NoMemory>
-        ensures ok { OnOk result (self.new ≡ record self.old { plan = with_calls self.old.plan call (also_failing (calls_of self.old.plan call) nth) }) }
+        ensures ok { OnOk result (self.new ≡ record self.old { plan = also_failing self.old.plan call nth }) }
         ensures err { OnErr result (self.new ≡ self.old) }
     {
         Ok(self.plan.fail(call, nth)?)
@@ -180,21 +183,21 @@ impl MemDesk {
 
     /// How often opening an input and reading have failed.
     pub fn read_faults(&self) -> u64
-        ensures { result ≡ self.now.reads }
+        ensures { result ≡ self.now.faults.reads }
     {
         self.faults.reads
     }
 
     /// How often opening an output, writing and finishing have failed.
     pub fn write_faults(&self) -> u64
-        ensures { result ≡ self.now.writes }
+        ensures { result ≡ self.now.faults.writes }
     {
         self.faults.writes
     }
 
     /// How often a growth was refused in opening an output, writing and finishing.
     pub fn short(&self) -> u64
-        ensures { result ≡ self.now.short }
+        ensures { result ≡ self.now.faults.short }
     {
         self.faults.short
     }
@@ -214,8 +217,8 @@ impl Desk for MemDesk {
 
         // It fails exactly where `fail` named it, and where the name was never put or finished.
         ensures fails { IsErr result ↔ (IsNamed self.old Call.OpenIn ⊎ (map.get self.old.held name.now ≡ None)) }
-        ensures still { OnOk result (faults_of self.new ≡ faults_of self.old) }
-        ensures fault { OnErr result (faults_of self.new ≡ read_fault (faults_of self.old)) }
+        ensures still { OnOk result (self.new.faults ≡ self.old.faults) }
+        ensures fault { OnErr result (self.new.faults ≡ read_fault self.old.faults) }
         ensures called { IsCalled self.old self.new Call.OpenIn }
     {
         if self.plan.next(Call::OpenIn) {
@@ -236,9 +239,9 @@ impl Desk for MemDesk {
         ensures rises { Rises (mem_counts self.old) (mem_counts self.new) }
 
         // It fails where `fail` named it, and otherwise only where a growth was refused.
-        ensures named { IsNamed self.old Call.OpenOut → IsErr result × (faults_of self.new ≡ write_fault (faults_of self.old)) }
-        ensures refused { OnErr result (IsNamed self.old Call.OpenOut ⊎ (faults_of self.new ≡ refusal (faults_of self.old))) }
-        ensures still { OnOk result (faults_of self.new ≡ faults_of self.old) }
+        ensures named { IsNamed self.old Call.OpenOut → IsErr result × (self.new.faults ≡ write_fault self.old.faults) }
+        ensures refused { OnErr result (IsNamed self.old Call.OpenOut ⊎ (self.new.faults ≡ refusal self.old.faults)) }
+        ensures still { OnOk result (self.new.faults ≡ self.old.faults) }
         ensures called { IsCalled self.old self.new Call.OpenOut }
     {
         if self.plan.next(Call::OpenOut) {
@@ -265,11 +268,12 @@ impl Desk for MemDesk {
         ensures cause { OnErr result (Rose (mem_counts self.old).reads (mem_counts self.new).reads) }
         ensures rises { Rises (mem_counts self.old) (mem_counts self.new) }
 
-        // It fails exactly where `fail` named it, and moves as many bytes as are left and fit, in the size of a piece.
+        // It fails exactly where `fail` named it. It moves as many bytes as are left and fit, in the size of a piece.
         ensures fails { IsErr result ↔ IsNamed self.old Call.Read }
-        ensures count { IfOk result (λ n. n ≡ capped self.old.pieces (min (length buf.old) (length (mem_left self.old inlet)))) }
-        ensures still { OnOk result (faults_of self.new ≡ faults_of self.old) }
-        ensures fault { OnErr result (faults_of self.new ≡ read_fault (faults_of self.old)) }
+        ensures count { IfOk result (λ n. n ≡ capped self.old.pieces
+            (min (length buf.old) (length (mem_left self.old inlet)))) }
+        ensures still { OnOk result (self.new.faults ≡ self.old.faults) }
+        ensures fault { OnErr result (self.new.faults ≡ read_fault self.old.faults) }
         ensures called { IsCalled self.old self.new Call.Read }
     {
         if self.plan.next(Call::Read) {
@@ -296,11 +300,12 @@ impl Desk for MemDesk {
         ensures cause { OnErr result (Rose (mem_counts self.old).writes (mem_counts self.new).writes) }
         ensures rises { Rises (mem_counts self.old) (mem_counts self.new) }
 
-        // It takes all the bytes, in the size of a piece. It fails where `fail` named it, and otherwise only where a growth was refused.
+        // It takes all the bytes, in the size of a piece.
+        // It fails where `fail` named it, and otherwise only where a growth was refused.
         ensures count { IfOk result (λ n. n ≡ capped self.old.pieces (length bytes.now)) }
-        ensures named { IsNamed self.old Call.Write → IsErr result × (faults_of self.new ≡ write_fault (faults_of self.old)) }
-        ensures refused { OnErr result (IsNamed self.old Call.Write ⊎ (faults_of self.new ≡ refusal (faults_of self.old))) }
-        ensures still { OnOk result (faults_of self.new ≡ faults_of self.old) }
+        ensures named { IsNamed self.old Call.Write → IsErr result × (self.new.faults ≡ write_fault self.old.faults) }
+        ensures refused { OnErr result (IsNamed self.old Call.Write ⊎ (self.new.faults ≡ refusal self.old.faults)) }
+        ensures still { OnOk result (self.new.faults ≡ self.old.faults) }
         ensures called { IsCalled self.old self.new Call.Write }
     {
         if self.plan.next(Call::Write) {
@@ -325,9 +330,9 @@ impl Desk for MemDesk {
         ensures rises { Rises (mem_counts self.old) (mem_counts self.new) }
 
         // It fails where `fail` named it, and otherwise only where a growth was refused.
-        ensures named { IsNamed self.old Call.Finish → IsErr result × (faults_of self.new ≡ write_fault (faults_of self.old)) }
-        ensures refused { OnErr result (IsNamed self.old Call.Finish ⊎ (faults_of self.new ≡ refusal (faults_of self.old))) }
-        ensures still { OnOk result (faults_of self.new ≡ faults_of self.old) }
+        ensures named { IsNamed self.old Call.Finish → IsErr result × (self.new.faults ≡ write_fault self.old.faults) }
+        ensures refused { OnErr result (IsNamed self.old Call.Finish ⊎ (self.new.faults ≡ refusal self.old.faults)) }
+        ensures still { OnOk result (self.new.faults ≡ self.old.faults) }
         ensures called { IsCalled self.old self.new Call.Finish }
     {
         if self.plan.next(Call::Finish) {

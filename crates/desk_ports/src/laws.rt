@@ -1,0 +1,21 @@
+//! What the definitions of a desk's calls mean together.
+
+ghost use Rattle.std.specs.Prelude.{◌≡◌, ◌++◌, ℕ, List, Some, IsSome, IfSome};
+ghost use Rattle.desk_ports.specs.declared.desk.Inlet.{Inlet};
+ghost use Rattle.desk_ports.specs.declared.desk.Outlet.{Outlet};
+ghost use Rattle.desk_ports.specs.Meanings.{Meanings, Moves, Adds, Keeps, Opens, left, made, outgoing};
+
+/// Two reads are one read of both pieces, and two writes one write.
+pub fn pieces_join()
+    ensures read { (a b c : Meanings) (inlet : Inlet) (xs ys : List ℕ) → Moves a b inlet xs → Moves b c inlet ys
+        → Moves a c inlet (xs ++ ys) }
+    ensures written { (a b c : Meanings) (outlet : Outlet) (xs ys : List ℕ) → Adds a b outlet xs → Adds b c outlet ys
+        → Adds a c outlet (xs ++ ys) }
+{}
+
+/// What was written to an output that was finished is what an input has left that is opened by its name.
+pub fn finished_is_held()
+    ensures { (a b c : Meanings) (outlet : Outlet) (inlet : Inlet) (name bytes : List ℕ) → IsSome a.held
+        → (outgoing a outlet).name ≡ Some name → made a outlet ≡ Some bytes → Keeps a b outlet → Opens b c inlet name
+        → IfSome (left c inlet) (λ rest. rest ≡ bytes) }
+{}
