@@ -1,17 +1,16 @@
 -- What a whole `restore` leaves, from what its stages leave.
-use Rattle.std.proofs.Common.{◌≡◌, ℕ, ◌++◌, ◌⊎◌, inl, inr, Bool, List, [], length, Option, Some, None, Result, Ok, Err, IfSome, refl, sym, ap, ◌∙◌, subst, append_assoc, append-nil}
+use Rattle.std.proofs.Common.{◌≡◌, ℕ, ◌++◌, inl, inr, List, [], length, Option, Some, None, Result, Ok, Err, IfSome, refl, sym, ap, ◌∙◌, subst, append_assoc, append-nil}
 use Rattle.std.specs.Io.KnownBytes.{IsAtEnd, prepend_known, append_known}
 use Rattle.std.specs.Option.{option_map}
 use Rattle.desk_ports.specs.Meanings.{Meanings, Kept, kept_at, kept_after, left, made}
 use Rattle.desk_ports.specs.Runs.{Ran}
 use Rattle.desk_ports.specs.declared.desk.Inlet.TheVariants as inlet
-use Rattle.desk_ports.specs.declared.desk.Outlet.{Outlet}
 use Rattle.desk_ports.specs.declared.desk.Outlet.TheVariants as outlet
 use Rattle.pocket_cmd.specs.Command.{Restoration}
-use Rattle.pocket_cmd.specs.Outcome.{given_by, Has, HasFront, HasWritten, IsDone, IsHeldUp, IsCutOff, IsCutShort, IsHalfKept, AfterRestore, kept_output, kept_both}
-use Rattle.pocket_cmd.specs.PlainStore.{IsPlainStore, IsLongestPlain}
+use Rattle.pocket_cmd.specs.Outcome.{given_by, Has, HasFront, HasWritten, AfterRestore}
+use Rattle.pocket_cmd.specs.PlainStore.{IsLongestPlain}
 use Rattle.pocket_cmd.specs.Report.{restored_bytes, header_row, report_of}
-use Rattle.pocket_cmd.specs.Stages.{AreKept, AfterOpening, AfterRun, AfterFinishing, with_input, with_output, with_report, with_output_kept, with_both_kept}
+use Rattle.pocket_cmd.specs.Stages.{AfterOpening, AfterRun, AfterFinishing, with_input, with_output, with_report}
 use Rattle.pocket_cmd.specs.declared.status.Refusal.{Refusal}
 use Rattle.pocket_cmd.specs.declared.status.Refusal.TheVariants.{BadWords, NotYet, ReadFault, WriteFault, NoMemory}
 use Rattle.pocket_cmd.proofs.WholeRuns.{IsPlainStore-none}

@@ -1,11 +1,11 @@
 -- Where a packet was taken and can't be restored, the reading is stuck.
-use Rattle.std.proofs.Common.{◌≡◌, ℕ, ◌++◌, ◌∷◌, [], inr, Bool, List, Option, None, Some, IfSome, sym, ap, ◌∙◌, subst}
+use Rattle.std.proofs.Common.{◌≡◌, ℕ, ◌++◌, inr, Bool, List, Option, None, Some, IfSome, sym, ◌∙◌, subst}
 use Rattle.std.specs.Io.KnownBytes.{prepend_known}
 use Rattle.bit_vectors.specs.Vectors.{bits_of}
 use Rattle.packet_decode.specs.Packets.{State, Spells}
 use Rattle.packet_store.specs.SpacePackets.{IsPacket, space_packet}
 use Rattle.packet_store.proofs.Packets.{space_packet-same}
-use Rattle.pocket_cmd.specs.PlainStore.{IsNextPlain, IsStuck}
+use Rattle.pocket_cmd.specs.PlainStore.{IsStuck}
 
 same_some : {A : Type 0} {x y : A} → Some x ≡ Some y → x ≡ y
 same_some e = cc

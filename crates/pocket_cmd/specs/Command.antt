@@ -1,5 +1,5 @@
 -- The command that the words give, or the place of the first fault in them.
-use Rattle.std.specs.Prelude.{◌≡◌, ℕ, ◌+◌, ◌≤◌, List, [], ◌∷◌, length, codes, Option, Some, None, option_and_then, ok_or, Result, Ok, Err}
+use Rattle.std.specs.Prelude.{ℕ, ◌+◌, ◌≤◌, List, [], ◌∷◌, length, codes, Option, Some, None, option_and_then, ok_or, Result, Ok, Err}
 use Rattle.pocket_cmd.specs.Number.{number_of}
 use Rattle.pocket_cmd.specs.Words.{verb_of, first_faulty, value_of, Gives}
 use Rattle.pocket_cmd.specs.declared.words.Verb.{Verb}

@@ -1,13 +1,15 @@
 -- What `restore` leaves of a desk, by the way it ended.
-use Rattle.std.specs.Prelude.{◌≡◌, ℕ, ◌⊎◌, Bool, true, List, [], ◌++◌, length, Option, Some, None, Result, Ok, Err, IfSome}
+use Rattle.std.specs.Prelude.{◌≡◌, ℕ, ◌⊎◌, Bool, List, ◌++◌, length, Option, Some, None, Result, Ok, Err, IfSome}
 use Rattle.std.specs.Option.{option_map}
-use Rattle.desk_ports.specs.Meanings.{Meanings, Kept, kept_at, kept_after, left, made, with_incoming, with_outgoing}
+use Rattle.desk_ports.specs.Meanings.{Meanings, Kept, kept_at, kept_after, left, made}
 use Rattle.desk_ports.specs.declared.desk.Inlet.TheVariants as inlet
 use Rattle.desk_ports.specs.declared.desk.Outlet.{Outlet}
 use Rattle.desk_ports.specs.declared.desk.Outlet.TheVariants as outlet
 use Rattle.pocket_cmd.specs.Command.{Restoration, Command, Restore}
 use Rattle.pocket_cmd.specs.PlainStore.{IsPlainStore, IsLongestPlain}
 use Rattle.pocket_cmd.specs.Report.{restored_bytes, header_row, report_of}
+use Rattle.pocket_cmd.specs.declared.status.Status.{Status}
+use Rattle.pocket_cmd.specs.declared.status.Status.TheVariants.{Done, Refused}
 use Rattle.pocket_cmd.specs.declared.status.Refusal.{Refusal}
 use Rattle.pocket_cmd.specs.declared.status.Refusal.TheVariants.{BadWords, NotYet, ReadFault, WriteFault, NoMemory}
 
@@ -34,12 +36,6 @@ kept_output r old new = kept_after old.held (option_map (λ _. r.output) old.out
 
 abbrev pub kept_both : Restoration → Meanings → Meanings → Option Kept
 kept_both r old new = kept_after (kept_output r old new) (option_map (λ _. r.report) old.report.name) (made new outlet.Report)
-
--- nothing else of the desk changed: the side input, and the names that it grants
-pub record IsSameElsewhere (old new : Meanings) : Type 0 where
-  pub side : new.side ≡ old.side
-  pub grants_in : new.grants_in ≡ old.grants_in
-  pub grants_out : new.grants_out ≡ old.grants_out
 
 -- the two outputs are those of a plain store, whose bytes are those of the input
 pub record HasWritten (r : Restoration) (old new : Meanings) : Type 0 where
@@ -106,3 +102,21 @@ AfterCommand (Ok (Restore r)) old new (Ok done) = IsDone r old new
 AfterCommand (Ok (Restore r)) old new (Err refusal) = AfterRestore r old new (Err refusal)
 AfterCommand (Err word) old new (Ok done) = ⊥
 AfterCommand (Err word) old new (Err refusal) = (refusal ≡ BadWords word) × (new ≡ old)
+
+-- done, unless the outside failed or memory was wanting
+abbrev pub IsDoneUnlessFailed : Status → Type 0
+IsDoneUnlessFailed Done = Unit {0}
+IsDoneUnlessFailed (Refused ReadFault) = Unit {0}
+IsDoneUnlessFailed (Refused WriteFault) = Unit {0}
+IsDoneUnlessFailed (Refused NoMemory) = Unit {0}
+IsDoneUnlessFailed (Refused (NotYet t)) = ⊥
+IsDoneUnlessFailed (Refused (BadWords word)) = ⊥
+
+-- held up at this packet, unless the outside failed or memory was wanting
+abbrev pub IsHeldUpUnlessFailed : ℕ → Status → Type 0
+IsHeldUpUnlessFailed t Done = ⊥
+IsHeldUpUnlessFailed t (Refused ReadFault) = Unit {0}
+IsHeldUpUnlessFailed t (Refused WriteFault) = Unit {0}
+IsHeldUpUnlessFailed t (Refused NoMemory) = Unit {0}
+IsHeldUpUnlessFailed t (Refused (NotYet n)) = n ≡ t
+IsHeldUpUnlessFailed t (Refused (BadWords word)) = ⊥

@@ -1,5 +1,5 @@
 -- What the stages of a run leave, by their answers: opening, the run, finishing.
-use Rattle.std.specs.Prelude.{◌≡◌, ℕ, ◌⊎◌, Bool, true, List, [], ◌++◌, length, Option, Result, Ok, Err, IfSome}
+use Rattle.std.specs.Prelude.{◌≡◌, ℕ, ◌⊎◌, Bool, true, List, [], ◌++◌, length, Result, Ok, Err, IfSome}
 use Rattle.std.specs.Io.KnownBytes.{IsAtEnd}
 use Rattle.std.specs.Option.{option_map}
 use Rattle.desk_ports.specs.Meanings.{Meanings, kept_at, kept_after, left, made, with_incoming, with_outgoing}

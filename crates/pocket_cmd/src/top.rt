@@ -1,9 +1,10 @@
 //! The top call: from the words of the command line to the outputs of a desk.
-ghost use Rattle.std.specs.Prelude.{◌≡◌, ◌<◌, ◌^◌, ◌↔◌, ◌⊎◌, ℕ, List, length, map, codes, Ok, Err, IsTrue};
+ghost use Rattle.std.specs.Prelude.{◌≡◌, ◌<◌, ◌^◌, ◌↔◌, ◌⊎◌, ℕ, Bool, List, length, map, codes, Some, Ok, Err, IsTrue};
 ghost use Rattle.std.specs.String.{string_bytes};
 ghost use Rattle.desk_ports.specs.Meanings.{Rises, Rose};
 ghost use Rattle.pocket_cmd.specs.Command.{Restoration, Restore, command_of};
-ghost use Rattle.pocket_cmd.specs.Outcome.{IsDone, IsHeldUp, IsCutOff, IsCutShort, IsHalfKept, AfterCommand};
+ghost use Rattle.pocket_cmd.specs.Outcome.{IsDone, IsHeldUp, IsCutOff, IsCutShort, IsHalfKept, AfterCommand, IsDoneUnlessFailed, IsHeldUpUnlessFailed, given};
+ghost use Rattle.pocket_cmd.specs.PlainStore.{IsPlainStore, IsLongestPlain};
 ghost use Rattle.pocket_cmd.specs.Words.{Gives};
 
 use crate::command::command_of;
@@ -47,6 +48,14 @@ pub fn pocket<D: Desk>(alloc: Global, words: &[String], desk: &mut D) -> Status
     ensures not_yet { (t : ℕ) → result ≡ Status.Refused (Refusal.NotYet t) → (r : Restoration)
         × (command_of (map string_bytes words.now) ≡ Ok (Restore r))
         × IsHeldUp r t (D.meaning desk.old) (D.meaning desk.new) }
+
+    // Both come exactly so, unless memory was wanting or the desk failed.
+    ensures done_exactly { (r : Restoration) (all : List ℕ) (contents : List (List Bool))
+        → command_of (map string_bytes words.now) ≡ Ok (Restore r) → given (D.meaning desk.old) r.input ≡ Some all
+        → IsPlainStore r.bits r.apid all contents → IsDoneUnlessFailed result }
+    ensures not_yet_exactly { (r : Restoration) (all : List ℕ) (contents : List (List Bool))
+        → command_of (map string_bytes words.now) ≡ Ok (Restore r) → given (D.meaning desk.old) r.input ≡ Some all
+        → IsLongestPlain r.bits r.apid all contents → IsHeldUpUnlessFailed (length contents) result }
 
     // The faults come only where the desk failed in this call.
     ensures read_fault { result ≡ Status.Refused Refusal.ReadFault → (r : Restoration)

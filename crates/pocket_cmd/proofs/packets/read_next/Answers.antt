@@ -1,4 +1,4 @@
-use Rattle.std.proofs.Common.{◌≡◌, ◌+◌, ◌<◌, ℕ, List, IfSome, refl, sym, ap, ◌∙◌, subst, arith}
+use Rattle.std.proofs.Common.{◌+◌, ◌<◌, ℕ, List, IfSome, refl, sym, ap, ◌∙◌, subst, arith}
 use Rattle.bit_vectors.specs.Vectors.{bits_of}
 use Rattle.desk_ports.proofs.Runs.{Ran-moves}
 use Rattle.packet_decode.specs.Decoding.{number_of}
