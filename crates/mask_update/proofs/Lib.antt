@@ -1,0 +1,3 @@
+pub mod NewMasks
+pub mod StepByStep
+pub mod Standing
