@@ -1,11 +1,12 @@
 -- New-mask steps, and the steps between two numbers.
-use Rattle.std.proofs.Common.{◌≡◌, ℕ, zero, suc, ◌+◌, ◌-◌, ◌≤◌, Bool, true, false, cond, List, [], ◌∷◌, ◌++◌, Some, None, Option, refl, sym, ap, ◌∙◌, arith}
+use Rattle.std.proofs.Common.{◌≡◌, ℕ, zero, suc, ◌+◌, ◌-◌, ◌≤◌, Bool, true, false, cond, List, [], ◌∷◌, ◌++◌, Some, None, Option, refl, sym, ap, ◌∙◌, arith, inl, inr, ◌<◌, ◌⊎◌}
+use Rattle.std.proofs.lemmas.Bool.{both_ways, cases_eq, cases_lt}
 use Rattle.std.specs.Prelude.{◌||◌, reverse, find, unwrap_or}
 use Rattle.std.specs.List.{range_with_len, list_any}
 use Rattle.std.proofs.lemmas.List.{reverse-append}
 use Rattle.std.proofs.lemmas.List.Folds.{list_any-append}
 use Rattle.mask_update.specs.Histories.{History}
-use Rattle.mask_update.specs.Masks.{has_moved, has_moved_between, latest_new_mask, new_mask_at, second_latest_new_mask, steps_between}
+use Rattle.mask_update.specs.Masks.{NoNewMask, has_moved, has_moved_between, latest_new_mask, new_mask_at, second_latest_new_mask, steps_between}
 
 range_push : (a n j : ℕ) → a + n ≡ j → range_with_len a (suc n) ≡ range_with_len a n ++ j ∷ []
 range_push a zero j e = let same : a ≡ j = omega arith in ap (λ x. x ∷ []) same
@@ -71,3 +72,38 @@ has_moved_between-suc h from to place le =
     ap (λ steps. list_any (λ step. has_moved h step place) steps) (steps_between_more from to le)
     ∙ list_any-append (λ step. has_moved h step place) (steps_between from to) (suc to ∷ [])
     ∙ ap (λ b. has_moved_between h from to place || b) (or_false (has_moved h (suc to) place))
+
+-- the latest new-mask step is one, and no later step is
+pub new_mask_at-latest : (h : History) (t : ℕ) → 0 < latest_new_mask h t → new_mask_at h (latest_new_mask h t) ≡ true
+new_mask_at-latest h zero some = absurd (omega (arith, latest_new_mask-zero h))
+new_mask_at-latest h (suc t) some = latest_in (new_mask_at h (suc t)) refl (new_mask_at-latest h t)
+  where
+    latest_in : (b : Bool) → new_mask_at h (suc t) ≡ b → (0 < latest_new_mask h t → new_mask_at h (latest_new_mask h t) ≡ true) → new_mask_at h (latest_new_mask h (suc t)) ≡ true
+    latest_in true new before = ap (new_mask_at h) (latest_new_mask-suc h t ∙ ap (λ b. cond b (suc t) (latest_new_mask h t)) new) ∙ new
+    latest_in false new before =
+        let same : latest_new_mask h (suc t) ≡ latest_new_mask h t = latest_new_mask-suc h t ∙ ap (λ b. cond b (suc t) (latest_new_mask h t)) new in
+        ap (new_mask_at h) same ∙ before (omega arith)
+
+pub new_mask_at-after_latest : (h : History) (t step : ℕ) → latest_new_mask h t < step → step ≤ t → new_mask_at h step ≡ false
+new_mask_at-after_latest h zero step above le = absurd (omega arith)
+new_mask_at-after_latest h (suc t) step above le = after_in (new_mask_at h (suc t)) refl (cases_eq step (suc t)) (new_mask_at-after_latest h t step)
+  where
+    after_in : (b : Bool) → new_mask_at h (suc t) ≡ b → (step ≡ suc t) ⊎ (step ≡ suc t → ⊥) → (latest_new_mask h t < step → step ≤ t → new_mask_at h step ≡ false) → new_mask_at h step ≡ false
+    after_in true new at before =
+        let last : latest_new_mask h (suc t) ≡ suc t = latest_new_mask-suc h t ∙ ap (λ b. cond b (suc t) (latest_new_mask h t)) new in
+        absurd (omega arith)
+    after_in false new (inl at) before = ap (new_mask_at h) at ∙ new
+    after_in false new (inr other) before =
+        let same : latest_new_mask h (suc t) ≡ latest_new_mask h t = latest_new_mask-suc h t ∙ ap (λ b. cond b (suc t) (latest_new_mask h t)) new in
+        before (omega arith) (omega arith)
+
+pub NoNewMask-from : (h : History) (t : ℕ) → latest_new_mask h t ≡ 0 → NoNewMask h t
+NoNewMask-from h t none = λ step some le. new_mask_at-after_latest h t step (omega arith) le
+
+pub latest_new_mask-none : (h : History) (t : ℕ) → NoNewMask h t → latest_new_mask h t ≡ 0
+latest_new_mask-none h t none = none_in (cases_lt 0 (latest_new_mask h t))
+  where
+    none_in : (0 < latest_new_mask h t) ⊎ (latest_new_mask h t ≤ 0) → latest_new_mask h t ≡ 0
+    none_in (inl some) =
+        absurd (both_ways (new_mask_at h (latest_new_mask h t)) (none (latest_new_mask h t) some (latest_new_mask-le h t)) (new_mask_at-latest h t some))
+    none_in (inr le) = omega arith

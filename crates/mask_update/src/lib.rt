@@ -6,3 +6,6 @@ mod masks;
 
 pub use laws::{histories_of_inputs, new_mask_steps, places_of_masks, recurrences, worked_masks};
 pub use masks::Masks;
+
+#[cfg(test)]
+mod tests;
