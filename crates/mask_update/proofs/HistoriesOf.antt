@@ -1,5 +1,5 @@
 -- The history of inputs, step by step.
-use Rattle.std.proofs.Common.{◌≡◌, ℕ, zero, suc, ◌+◌, ◌<◌, ◌≤◌, Bool, true, cond, leb, List, [], ◌∷◌, ◌++◌, length, map, get_or, refl, sym, ap, ◌∙◌, arith}
+use Rattle.std.proofs.Common.{◌≡◌, ℕ, ◌+◌, ◌<◌, ◌≤◌, Bool, true, leb, List, [], ◌∷◌, ◌++◌, length, map, get_or, ap, ◌∙◌, arith}
 use Rattle.std.specs.Prelude.{All}
 use Rattle.std.specs.List.{enumerate_from}
 use Rattle.std.proofs.lemmas.Bool.{cond-true}
@@ -8,7 +8,7 @@ use Rattle.std.proofs.lemmas.List.{get_or-map, length-map, map_push}
 use Rattle.std.proofs.lemmas.List.FromFn.{get_or-enumerate_from, length-enumerate_from}
 use Rattle.bit_vectors.specs.declared.flags.Flags.{Flags}
 use Rattle.bit_vectors.specs.Vectors.{IsVector}
-use Rattle.mask_update.specs.Histories.{History, IsValid, Step, flags_after, forced_flags, history_of, no_step, step_at, step_of, with_step}
+use Rattle.mask_update.specs.Histories.{History, IsValid, Step, forced_flags, history_of, no_step, step_at, step_of, with_step}
 
 pub length-history_of : (inputs : List (List Bool)) (flags : ℕ → Flags) (robust : ℕ → ℕ) (f : ℕ) (first_mask : List Bool) → length (history_of inputs flags robust f first_mask).steps ≡ length inputs
 length-history_of inputs flags robust f first_mask = length-map (enumerate_from 0 inputs) (step_of flags robust) ∙ length-enumerate_from 0 inputs

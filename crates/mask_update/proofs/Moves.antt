@@ -1,11 +1,10 @@
 -- The places of mask and build, by the moves of a place.
-use Rattle.std.proofs.Common.{◌≡◌, ◌≢◌, ℕ, zero, suc, ◌+◌, ◌-◌, ◌<◌, ◌≤◌, Bool, true, false, List, [], ◌∷◌, length, map, get_or, refl, sym, ap, subst, ◌∙◌, ◌⊎◌, inl, inr, arith, eqb}
+use Rattle.std.proofs.Common.{◌≡◌, ◌≢◌, ℕ, zero, suc, ◌+◌, ◌-◌, ◌<◌, ◌≤◌, Bool, true, false, get_or, refl, sym, ap, ◌∙◌, ◌⊎◌, inl, inr, arith, eqb}
 use Rattle.std.specs.Prelude.{◌||◌, ◌&&◌, if◌then◌else◌, not}
-use Rattle.std.specs.List.{range_with_len, list_any}
 use Rattle.std.proofs.lemmas.Bool.{and_parts, eqb-true, eq-eqb, false≢true, or_cases, or_left, or_right, and_from}
 use Rattle.std.proofs.lemmas.List.FromFn.{get_or-map-range_with_len, get_or-range_with_len, length-range_with_len}
 use Rattle.std.proofs.lemmas.List.Folds.{Any-from_list_any, list_any_at}
-use Rattle.bit_vectors.specs.Vectors.{IsOne, xor_bits}
+use Rattle.bit_vectors.specs.Vectors.{IsOne}
 use Rattle.bit_vectors.proofs.Places.{get_or-zip2}
 use Rattle.mask_update.specs.Histories.{History, latest_step}
 use Rattle.mask_update.specs.Masks.{Moved, MovedBetween, NoNewMask, build_at, change_at, has_moved, has_moved_between, input_bit, latest_new_mask, mask_at, second_latest_new_mask, steps_between, vector_of}

@@ -1,5 +1,5 @@
 -- New-mask steps, and the steps between two numbers.
-use Rattle.std.proofs.Common.{◌≡◌, ℕ, zero, suc, ◌+◌, ◌-◌, ◌≤◌, Bool, true, false, cond, List, [], ◌∷◌, ◌++◌, Some, None, Option, refl, sym, ap, ◌∙◌, arith, inl, inr, ◌<◌, ◌⊎◌}
+use Rattle.std.proofs.Common.{◌≡◌, ℕ, zero, suc, ◌+◌, ◌-◌, ◌≤◌, Bool, true, false, cond, [], ◌∷◌, ◌++◌, Some, Option, refl, ap, ◌∙◌, arith, inl, inr, ◌<◌, ◌⊎◌}
 use Rattle.std.proofs.lemmas.Bool.{both_ways, cases_eq, cases_lt}
 use Rattle.std.specs.Prelude.{◌||◌, reverse, find, unwrap_or}
 use Rattle.std.specs.List.{range_with_len, list_any}

@@ -1,5 +1,5 @@
--- One more step leaves what was before it, and the running vectors follow it.
-use Rattle.std.proofs.Common.{◌≡◌, ℕ, zero, suc, ◌+◌, ◌-◌, ◌<◌, ◌≤◌, Bool, false, List, [], ◌∷◌, ◌++◌, length, replicate, get_or, refl, sym, ap, subst, ◌∙◌, arith, length-append}
+-- One more step leaves the definitions of the steps before it, and the running vectors follow it.
+use Rattle.std.proofs.Common.{◌≡◌, ℕ, zero, suc, ◌+◌, ◌<◌, ◌≤◌, Bool, false, List, [], ◌∷◌, length, replicate, get_or, refl, sym, ap, ◌∙◌, arith}
 use Rattle.std.specs.Prelude.{if◌then◌else◌, not}
 use Rattle.std.proofs.lemmas.List.{get_or_append_left, get_or_at, length_push}
 use Rattle.bit_vectors.specs.Vectors.{xor_bits}
@@ -28,7 +28,7 @@ moved_at-before h step t lt = vector_of_same h.places _ _ (λ place. moved_in pl
         ap (λ (s : Step). differ (get_or s.input place false) (input_bit (with_step h step) (suc t) place)) (step_at-before h step t (omega arith))
         ∙ ap (λ (s : Step). differ (input_bit h t place) (get_or s.input place false)) (step_at-before h step (suc t) lt)
 
-build_at-before : (h : History) (step : Step) (t : ℕ) → t ≤ latest_step h → build_at (with_step h step) t ≡ build_at h t
+pub build_at-before : (h : History) (step : Step) (t : ℕ) → t ≤ latest_step h → build_at (with_step h step) t ≡ build_at h t
 build_at-before h step zero le = build_at-zero (with_step h step) ∙ sym (build_at-zero h)
 build_at-before h step (suc t) le =
     build_at-suc (with_step h step) t
@@ -41,7 +41,7 @@ mask_at-start : (h : History) (step : Step) → mask_at (with_step h step) 0 ≡
 unfolding mask_at latest_new_mask second_latest_new_mask
 mask_at-start h step = refl
 
-mask_at-before : (h : History) (step : Step) (t : ℕ) → t ≤ latest_step h → mask_at (with_step h step) t ≡ mask_at h t
+pub mask_at-before : (h : History) (step : Step) (t : ℕ) → t ≤ latest_step h → mask_at (with_step h step) t ≡ mask_at h t
 mask_at-before h step zero le = mask_at-start h step
 mask_at-before h step (suc t) le =
     mask_at-suc (with_step h step) t
@@ -58,6 +58,14 @@ change_at-zero h = refl
 pub change_at-suc : (h : History) (t : ℕ) → xor_bits (mask_at h t) (mask_at h (suc t)) ≡ change_at h (suc t)
 unfolding change_at
 change_at-suc h t = refl
+
+pub change_at-before : (h : History) (step : Step) (t : ℕ) → t ≤ latest_step h → change_at (with_step h step) t ≡ change_at h t
+change_at-before h step zero le = change_at-zero (with_step h step) ∙ sym (change_at-zero h)
+change_at-before h step (suc t) le =
+    sym (change_at-suc (with_step h step) t)
+    ∙ ap (λ v. xor_bits v (mask_at (with_step h step) (suc t))) (mask_at-before h step t (omega arith))
+    ∙ ap (xor_bits (mask_at h t)) (mask_at-before h step (suc t) le)
+    ∙ change_at-suc h t
 
 pub StandsFor-none : (first_mask : List Bool) (value : Running) → value.build ≡ replicate (length first_mask) false → value.mask ≡ first_mask → value.change ≡ replicate (length first_mask) false → value.taken ≡ 0 → StandsFor (no_steps first_mask) value
 StandsFor-none first_mask value build mask change taken =

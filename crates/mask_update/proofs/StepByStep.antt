@@ -1,13 +1,14 @@
 -- The standard's recurrences hold of the definitions.
-use Rattle.std.proofs.Common.{◌≡◌, ℕ, zero, suc, ◌+◌, ◌-◌, ◌<◌, ◌≤◌, Bool, true, false, cond, List, [], ◌∷◌, ◌++◌, length, map, replicate, get_or, refl, sym, ap, ◌∙◌, arith, ne_eqb}
-use Rattle.std.specs.Prelude.{◌||◌, ◌&&◌, ◌==◌, not}
+use Rattle.std.proofs.Common.{◌≡◌, ℕ, zero, suc, ◌+◌, ◌<◌, Bool, true, false, cond, List, [], ◌∷◌, length, map, replicate, get_or, refl, sym, ap, ◌∙◌, arith, ne_eqb}
+use Rattle.std.specs.Prelude.{◌||◌, ◌&&◌, ◌==◌}
 use Rattle.std.specs.List.{range_with_len}
+use Rattle.std.proofs.lemmas.List.{length-replicate}
 use Rattle.std.proofs.lemmas.List.FromFn.{length-map-range_with_len, fill_by_all}
 use Rattle.std.proofs.lemmas.Simd.{zip2-map, length-zip2}
-use Rattle.bit_vectors.specs.Vectors.{xor_bits, or_bits}
+use Rattle.bit_vectors.specs.Vectors.{xor_bits}
 use Rattle.bit_vectors.proofs.Places.{get_or-zip2}
 use Rattle.mask_update.specs.Histories.{History, input_at}
-use Rattle.mask_update.specs.Masks.{build_at, change_at, mask_at, has_moved, has_moved_between, input_bit, latest_new_mask, new_mask_at, next_build, next_mask, second_latest_new_mask, vector_of}
+use Rattle.mask_update.specs.Masks.{build_at, change_at, mask_at, has_moved, has_moved_between, latest_new_mask, new_mask_at, next_build, next_mask, second_latest_new_mask, vector_of}
 use Rattle.mask_update.proofs.NewMasks.{has_moved_between-none, has_moved_between-suc, latest_new_mask-le, latest_new_mask-suc, latest_new_mask-zero, second_latest_new_mask-at_new, second_latest_new_mask-at_other, second_latest_new_mask-le}
 
 map_same : (p q : ℕ → Bool) → ((k : ℕ) → p k ≡ q k) → (ks : List ℕ) → map p ks ≡ map q ks
@@ -28,6 +29,11 @@ length-mask_at h t = length-map-range_with_len _ 0 h.places
 pub length-build_at : (h : History) (t : ℕ) → length (build_at h t) ≡ h.places
 unfolding build_at
 length-build_at h t = length-map-range_with_len _ 0 h.places
+
+pub length-change_at : (h : History) (t : ℕ) → length (change_at h t) ≡ h.places
+unfolding change_at
+length-change_at h zero = length-replicate h.places false
+length-change_at h (suc t) = length-zip2 _ (mask_at h t) (mask_at h (suc t)) (length-mask_at h t ∙ sym (length-mask_at h (suc t))) ∙ length-mask_at h t
 
 -- the places that moved at a step
 abbrev pub moved_at : History → ℕ → List Bool

@@ -1,5 +1,5 @@
 -- Mask, build and change vectors (CCSDS 124.0-B-1), each as a question about the whole history.
-use Rattle.std.specs.Prelude.{◌≡◌, ◌≢◌, ℕ, zero, suc, ◌+◌, ◌-◌, ◌<◌, ◌≤◌, ◌==◌, Bool, true, false, not, ◌&&◌, ◌||◌, if◌then◌else◌, List, map, reverse, find, unwrap_or, length, replicate, slice_index_or}
+use Rattle.std.specs.Prelude.{◌≡◌, ◌≢◌, ℕ, zero, suc, ◌+◌, ◌-◌, ◌<◌, ◌≤◌, ◌==◌, Bool, false, not, ◌&&◌, ◌||◌, if◌then◌else◌, List, map, reverse, find, unwrap_or, length, replicate, slice_index_or}
 use Rattle.std.specs.List.{range_with_len, list_any}
 use Rattle.bit_vectors.specs.Vectors.{xor_bits, or_bits}
 use Rattle.mask_update.specs.Histories.{History, input_at, flags_at, latest_step}

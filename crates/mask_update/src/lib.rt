@@ -4,7 +4,10 @@
 mod laws;
 mod masks;
 
-pub use laws::{histories_of_inputs, new_mask_steps, places_of_masks, recurrences, worked_masks};
+pub use laws::{
+    earlier_steps_stay, histories_of_inputs, new_mask_steps, places_of_masks, recurrences,
+    worked_masks,
+};
 pub use masks::Masks;
 
 #[cfg(test)]

@@ -9,8 +9,9 @@ use bit_vectors::{Bits, NoMemory};
 use std::alloc::Global;
 use std::marker::Model;
 
-/// Keeps the running mask and build vectors (CCSDS 124.0-B-1), and the latest change of the mask. Contracts see
-/// the vectors and the number of inputs taken.
+/// Keeps the running mask and build vectors (CCSDS 124.0-B-1), the latest change of the mask and the latest
+/// input, and not the history. Contracts see them and the number of inputs taken, and say for which histories
+/// they stand.
 #[derive(Debug, Drop)]
 pub struct Masks {
     previous: Bits,
@@ -25,7 +26,13 @@ impl Model for Masks {
 
     ghost Value = { Running };
 
-    ghost view = { λ m. record { previous = m.previous; build = m.build; mask = m.mask; change = m.change; taken = m.taken } };
+    ghost view = { λ m. record {
+      previous = m.previous;
+      build = m.build;
+      mask = m.mask;
+      change = m.change;
+      taken = m.taken;
+    } };
 
     ghost invariant = { λ m. AreRunning m.previous m.build m.mask m.change m.taken };
 }
@@ -33,7 +40,9 @@ impl Model for Masks {
 impl Masks {
     /// Starts with this mask and no input taken. Takes the memory for every vector that `step` fills.
     pub fn open(alloc: Global, mask: &Bits) -> Result<Masks, NoMemory>
-        ensures { IfOk result (λ masks. StandsFor (no_steps mask.now) masks) }
+        ensures stands { IfOk result (λ masks. StandsFor (no_steps mask.now) masks) }
+        ensures mask { IfOk result (λ masks. masks.mask ≡ mask.now) }
+        ensures taken { IfOk result (λ masks. masks.taken ≡ 0) }
     {
         let places = mask.len();
         let mut first_mask = Bits::zeros(alloc, places)?;
@@ -53,7 +62,9 @@ impl Masks {
         requires places { length input.now ≡ length self.old.mask }
         requires most { self.old.taken < 4294967296 }
         requires first { self.old.taken ≡ 0 → new_mask ≡ false }
-        ensures stands { (h : History) (step : Step) → StandsFor h self.old → step.input ≡ input.now → step.flags.p ≡ new_mask → StandsFor (with_step h step) self.new }
+        // Whatever history it stood for, it now stands for that history with this input and this flag.
+        ensures stands { (h : History) (step : Step) → StandsFor h self.old
+            → step.input ≡ input.now → step.flags.p ≡ new_mask → StandsFor (with_step h step) self.new }
         ensures places { length self.new.mask ≡ length self.old.mask }
         ensures taken { self.new.taken ≡ self.old.taken + 1 }
     {
@@ -67,8 +78,10 @@ impl Masks {
     /// The standard's recurrences. The previous input is then its difference from `input`.
     fn advance(&mut self, input: &Bits, new_mask: bool)
         requires { length input.now ≡ length self.old.mask }
-        ensures build { self.new.build ≡ next_build new_mask (xor_bits self.old.previous input.now) self.old.build }
-        ensures mask { self.new.mask ≡ next_mask new_mask (xor_bits self.old.previous input.now) self.old.build self.old.mask }
+        ensures build { let moved = xor_bits self.old.previous input.now in
+            self.new.build ≡ next_build new_mask moved self.old.build }
+        ensures mask { let moved = xor_bits self.old.previous input.now in
+            self.new.mask ≡ next_mask new_mask moved self.old.build self.old.mask }
         ensures change { self.new.change ≡ xor_bits self.old.mask self.new.mask }
         ensures places { length self.new.mask ≡ length self.old.mask }
         ensures taken { self.new.taken ≡ self.old.taken }

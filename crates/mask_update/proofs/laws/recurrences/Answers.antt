@@ -1,6 +1,4 @@
-use Rattle.std.proofs.Common.{◌≡◌, ◌+◌, suc, ap, sym, ◌∙◌, arith, add-one}
-use Rattle.bit_vectors.specs.Vectors.{xor_bits}
-use Rattle.mask_update.specs.Histories.{input_at}
+use Rattle.std.proofs.Common.{suc, ap, sym, ◌∙◌, arith, add-one}
 use Rattle.mask_update.specs.Masks.{build_at, mask_at, new_mask_at, next_build, next_mask}
 use Rattle.mask_update.proofs.StepByStep.{build_at-suc, build_at-zero, mask_at-suc, mask_at-zero, moved_is}
 use Rattle.mask_update.proofs.laws.recurrences.Goals as goal

@@ -1,4 +1,4 @@
-use Rattle.std.proofs.Common.{◌≡◌, ◌<◌, ◌≤◌, ◌+◌, length, ap, sym, ◌∙◌, arith}
+use Rattle.std.proofs.Common.{◌+◌, length, ap, sym, ◌∙◌, arith}
 use Rattle.bit_vectors.specs.Vectors.{xor_bits}
 use Rattle.mask_update.specs.Masks.{Running, next_build, next_mask}
 use Rattle.mask_update.proofs.Standing.{StandsFor-first, StandsFor-next}
