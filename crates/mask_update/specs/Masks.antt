@@ -1,7 +1,7 @@
 -- Mask, build and change vectors (CCSDS 124.0-B-1), each as a question about the whole history.
 use Rattle.std.specs.Prelude.{◌≡◌, ◌≢◌, ℕ, zero, suc, ◌+◌, ◌-◌, ◌<◌, ◌≤◌, ◌==◌, Bool, false, not, ◌&&◌, ◌||◌, if◌then◌else◌, List, map, reverse, find, unwrap_or, length, replicate, slice_index_or}
 use Rattle.std.specs.List.{range_with_len, list_any}
-use Rattle.bit_vectors.specs.Vectors.{xor_bits, or_bits}
+use Rattle.bit_vectors.specs.Vectors.{IsVector, xor_bits, or_bits}
 use Rattle.mask_update.specs.Histories.{History, input_at, flags_at, latest_step}
 
 -- the bit of the input at a step
@@ -89,8 +89,9 @@ pub record StandsFor (h : History) (value : Running) : Type 0 where
   pub change : value.change ≡ change_at h (latest_step h)
   pub taken : value.taken ≡ length h.steps
 
--- the running vectors have one length, and the number of inputs its bound
+-- the running vectors have one length, that of a vector, and the number of inputs its bound
 pub record AreRunning (previous build mask change : List Bool) (taken : ℕ) : Type 0 where
+  pub vector : IsVector mask
   pub previous_len : length previous ≡ length mask
   pub build_len : length build ≡ length mask
   pub change_len : length change ≡ length mask

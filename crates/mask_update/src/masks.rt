@@ -1,8 +1,8 @@
 //! The running vectors.
 
-ghost use Rattle.std.specs.Prelude.{◌≡◌, ◌+◌, ◌<◌, ◌≤◌, false, length, IfOk};
+ghost use Rattle.std.specs.Prelude.{◌≡◌, ◌+◌, ◌<◌, ◌≤◌, false, length, replicate, IfOk};
 ghost use Rattle.mask_update.specs.Histories.{History, Step, latest_step, no_steps, with_step};
-ghost use Rattle.bit_vectors.specs.Vectors.{xor_bits};
+ghost use Rattle.bit_vectors.specs.Vectors.{IsVector, xor_bits};
 ghost use Rattle.mask_update.specs.Masks.{StandsFor, build_at, change_at, mask_at, next_build, next_mask};
 
 use bit_vectors::{Bits, NoMemory};
@@ -42,6 +42,8 @@ impl Masks {
     pub fn open(alloc: Global, mask: &Bits) -> Result<Masks, NoMemory>
         ensures stands { IfOk result (λ masks. StandsFor (no_steps mask.now) masks) }
         ensures mask { IfOk result (λ masks. masks.mask ≡ mask.now) }
+        ensures build { IfOk result (λ masks. masks.build ≡ replicate (length mask.now) false) }
+        ensures change { IfOk result (λ masks. masks.change ≡ replicate (length mask.now) false) }
         ensures taken { IfOk result (λ masks. masks.taken ≡ 0) }
     {
         let places = mask.len();
@@ -100,8 +102,9 @@ impl Masks {
 
     /// The mask vector: the places that are not predictable. Before the first input it is the first mask.
     pub fn mask(&self) -> &Bits
-        ensures kept { result.now ≡ self.now.mask }
         ensures mask { (h : History) → StandsFor h self.now → result.now ≡ mask_at h (latest_step h) }
+        ensures kept { result.now ≡ self.now.mask }
+        ensures vector { IsVector result.now }
     {
         &self.mask
     }
@@ -109,6 +112,7 @@ impl Masks {
     /// The build vector, which is zero before the first input.
     pub fn build(&self) -> &Bits
         ensures build { (h : History) → StandsFor h self.now → result.now ≡ build_at h (latest_step h) }
+        ensures kept { result.now ≡ self.now.build }
         ensures places { length result.now ≡ length self.now.mask }
     {
         &self.build
@@ -117,6 +121,7 @@ impl Masks {
     /// The change of the mask at the latest input, which is zero up to the first.
     pub fn change(&self) -> &Bits
         ensures change { (h : History) → StandsFor h self.now → result.now ≡ change_at h (latest_step h) }
+        ensures kept { result.now ≡ self.now.change }
         ensures places { length result.now ≡ length self.now.mask }
     {
         &self.change
@@ -124,8 +129,8 @@ impl Masks {
 
     /// The number of inputs taken, at most 4,294,967,296.
     pub fn taken(&self) -> u64
-        ensures taken { result ≡ self.now.taken }
         ensures inputs { (h : History) → StandsFor h self.now → result ≡ length h.steps }
+        ensures kept { result ≡ self.now.taken }
         ensures most { result ≤ 4294967296 }
     {
         self.taken
