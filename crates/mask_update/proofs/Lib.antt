@@ -1,0 +1,5 @@
+pub mod HistoriesOf
+pub mod Moves
+pub mod NewMasks
+pub mod Standing
+pub mod StepByStep

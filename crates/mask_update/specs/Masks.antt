@@ -1,0 +1,98 @@
+-- Mask, build and change vectors (CCSDS 124.0-B-1), each as a question about the whole history.
+use Rattle.std.specs.Prelude.{◌≡◌, ◌≢◌, ℕ, zero, suc, ◌+◌, ◌-◌, ◌<◌, ◌≤◌, ◌==◌, Bool, false, not, ◌&&◌, ◌||◌, if◌then◌else◌, List, map, reverse, find, unwrap_or, length, replicate, slice_index_or}
+use Rattle.std.specs.List.{range_with_len, list_any}
+use Rattle.bit_vectors.specs.Vectors.{IsVector, xor_bits, or_bits}
+use Rattle.mask_update.specs.Histories.{History, input_at, flags_at, latest_step}
+
+-- the bit of the input at a step
+abbrev pub input_bit : History → ℕ → ℕ → Bool
+input_bit h t place = slice_index_or (input_at h t) place false
+
+-- the place moved at the step: its bit is not that of the input before
+abbrev pub Moved : History → ℕ → ℕ → Type 0
+Moved h step place = (1 ≤ step) × (step < length h.steps) × (input_bit h step place ≢ input_bit h (step - 1) place)
+
+-- the place moved at a step above the first number, up to the second
+abbrev pub MovedBetween : History → ℕ → ℕ → ℕ → Type 0
+MovedBetween h from to place = (step : ℕ) × (from < step) × (step ≤ to) × Moved h step place
+
+-- whether the place's bit is not that of the input before
+abbrev pub has_moved : History → ℕ → ℕ → Bool
+has_moved h zero place = false
+has_moved h (suc t) place = if input_bit h t place then not (input_bit h (suc t) place) else input_bit h (suc t) place
+
+-- the steps above the first number, up to the second
+abbrev pub steps_between : ℕ → ℕ → List ℕ
+steps_between from to = range_with_len (from + 1) (to - from)
+
+-- the mask takes the build vector at this step
+abbrev pub new_mask_at : History → ℕ → Bool
+new_mask_at h t = (flags_at h t).p
+
+-- no step up to this one takes a new mask, where step 0 is not looked at
+abbrev pub NoNewMask : History → ℕ → Type 0
+NoNewMask h t = (step : ℕ) → 1 ≤ step → step ≤ t → new_mask_at h step ≡ false
+
+-- the latest new-mask step up to a step, where step 0 is none; 0 where there is none
+unfoldable pub latest_new_mask : History → ℕ → ℕ
+latest_new_mask h t = unwrap_or (find (new_mask_at h) (reverse (steps_between 0 t))) 0
+
+-- the latest new-mask step before that one; 0 where there is none
+unfoldable pub second_latest_new_mask : History → ℕ → ℕ
+second_latest_new_mask h t = latest_new_mask h (latest_new_mask h t - 1)
+
+-- whether the place moved at a step above the first number, up to the second
+abbrev pub has_moved_between : History → ℕ → ℕ → ℕ → Bool
+has_moved_between h from to place = list_any (λ step. has_moved h step place) (steps_between from to)
+
+-- a vector, place by place
+abbrev pub vector_of : ℕ → (ℕ → Bool) → List Bool
+vector_of f bit = map bit (range_with_len 0 f)
+
+-- The mask: one where the place moved since the second latest new mask, and, as long as there was no new mask,
+-- also where the first mask is one.
+unfoldable pub mask_at : History → ℕ → List Bool
+mask_at h t =
+    vector_of h.places (λ place. has_moved_between h (second_latest_new_mask h t) t place
+    || ((latest_new_mask h t == 0) && slice_index_or h.first_mask place false))
+
+-- The build vector: one where the place moved since the latest new mask.
+unfoldable pub build_at : History → ℕ → List Bool
+build_at h t = vector_of h.places (has_moved_between h (latest_new_mask h t) t)
+
+-- The change of the mask at the step: one where the mask is not that of the step before.
+unfoldable pub change_at : History → ℕ → List Bool
+change_at h zero = replicate h.places false
+change_at h (suc t) = xor_bits (mask_at h t) (mask_at h (suc t))
+
+-- The standard's recurrences, from the places that moved: the build vector gathers them and is emptied at a new
+-- mask, and the mask gathers them, at a new mask over the build vector.
+abbrev pub next_build : Bool → List Bool → List Bool → List Bool
+next_build new_mask moved build = if new_mask then replicate (length build) false else or_bits build moved
+
+abbrev pub next_mask : Bool → List Bool → List Bool → List Bool → List Bool
+next_mask new_mask moved build mask = or_bits (if new_mask then build else mask) moved
+
+-- The running vectors: the latest input, build, mask and change, and how many inputs were taken.
+pub record Running : Type 0 where
+  pub previous : List Bool
+  pub build : List Bool
+  pub mask : List Bool
+  pub change : List Bool
+  pub taken : ℕ
+
+-- the running vectors are what the history gives at its latest step
+pub record StandsFor (h : History) (value : Running) : Type 0 where
+  pub previous : 0 < length h.steps → value.previous ≡ input_at h (latest_step h)
+  pub build : value.build ≡ build_at h (latest_step h)
+  pub mask : value.mask ≡ mask_at h (latest_step h)
+  pub change : value.change ≡ change_at h (latest_step h)
+  pub taken : value.taken ≡ length h.steps
+
+-- the running vectors have one length, that of a vector, and the number of inputs its bound
+pub record AreRunning (previous build mask change : List Bool) (taken : ℕ) : Type 0 where
+  pub vector : IsVector mask
+  pub previous_len : length previous ≡ length mask
+  pub build_len : length build ≡ length mask
+  pub change_len : length change ≡ length mask
+  pub most : taken ≤ 4294967296

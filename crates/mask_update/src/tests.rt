@@ -1,0 +1,74 @@
+//! A worked history, at several lengths.
+
+use crate::Masks;
+use bit_vectors::Bits;
+use std::test::Fail;
+
+// The last bits of a step's input and of mask, build and change after it. All other bits are 0.
+#[derive(Clone, Copy)]
+struct Row {
+    input: bool,
+    new_mask: bool,
+    mask: bool,
+    build: bool,
+    change: bool,
+}
+
+const fn step_row(input: bool, new_mask: bool, [mask, build, change]: [bool; 3]) -> Row {
+    Row {
+        input,
+        new_mask,
+        mask,
+        build,
+        change,
+    }
+}
+
+fn is_last_alone(vector: &Bits, bit: bool) -> bool {
+    vector.ones() == u32::from(bit) && vector.get(vector.len() - 1) == bit
+}
+
+fn take(masks: &mut Masks, input: &Bits, new_mask: bool) {
+    let is_allowed = masks.taken() > 0 || !new_mask;
+    if is_allowed && masks.taken() < 4_294_967_296 && input.len() == masks.mask().len() {
+        masks.step(input, new_mask);
+    }
+}
+
+// Whether the vectors after the row's step are the row's.
+fn follow(masks: &mut Masks, zeros: &Bits, last: &Bits, row: Row) -> bool {
+    take(masks, if row.input { last } else { zeros }, row.new_mask);
+    is_last_alone(masks.mask(), row.mask)
+        && is_last_alone(masks.build(), row.build)
+        && is_last_alone(masks.change(), row.change)
+}
+
+fn run(masks: &mut Masks, zeros: &Bits, last: &Bits) -> bool {
+    let rows = [
+        step_row(false, false, [false, false, false]),
+        step_row(true, false, [true, true, true]),
+        step_row(true, false, [true, true, false]),
+        step_row(true, true, [true, false, false]),
+        step_row(true, false, [true, false, false]),
+        step_row(true, true, [false, false, true]),
+    ];
+    for row in rows {
+        if !follow(masks, zeros, last, row) {
+            return false;
+        }
+    }
+    true
+}
+
+#[test]
+fn worked_history(rt: HostRuntime) -> Result<(), Fail> {
+    for f in [1, 8, 13, 65] {
+        let zeros = Bits::zeros(rt.alloc(), f)?;
+        let mut last = Bits::zeros(rt.alloc(), f)?;
+        last.set(f - 1, true);
+        let mut masks = Masks::open(rt.alloc(), &zeros)?;
+        assert!(rt; run(&mut masks, &zeros, &last));
+        assert_eq!(rt; masks.taken(), 6);
+    }
+    Ok(())
+}
