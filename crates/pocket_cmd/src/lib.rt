@@ -15,3 +15,6 @@ mod words;
 pub use laws::{commands_are_given, one_restoration, plain_or_held_up};
 pub use status::{Refusal, Status, exit_code};
 pub use top::pocket;
+
+#[cfg(test)]
+mod tests;
