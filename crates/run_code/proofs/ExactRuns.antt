@@ -16,7 +16,7 @@ use Rattle.count_code.specs.Code.{count_bits, end_bits}
 use Rattle.count_code.specs.Counts.{word_of, IsCodeOf, count_at}
 use Rattle.count_code.proofs.ExactCounts.{IsExact-count_at}
 use Rattle.run_code.specs.Runs.{runs_from, run_bits, IsRunWordOf, at_count, ones_at, vector_at}
-use Rattle.run_code.proofs.Ones.{ones_below, ones_below-one, ones_below-none, greatest_one}
+use Rattle.run_code.proofs.Ones.{zeros_at, ones_below, ones_below-one, ones_below-none, greatest_one}
 use Rattle.run_code.proofs.RunWords.{run_bits_is, runs_from-cons, runs_from-nil}
 
 -- ---- steps of the reader
@@ -139,13 +139,6 @@ IsExact-ones_at (suc most) below v lt fits none =
     (IsExact-count_at below)
     (rest_exact most below v (λ a some le. IsExact-ones_at most (below - a) (set v (below - a) true) (omega arith) (omega (arith, length-set v (below - a) true)) (none_after_set below v a none)))
     (λ count first code. some_rest below v count))
-
-zeros_at : (n k : ℕ) → get_or (replicate n false) k false ≡ false
-zeros_at n k =
-    elim (cases_lt k n) [
-      | inl lt ↦ get_or-replicate n k false false lt
-      | inr le ↦ get_or_past (replicate n false) k false (omega (arith, length-replicate n false))
-    ]
 
 run_word_of : (f : ℕ) (u word : List Bool) → Completes f (replicate f false) u word → IsRunWordOf f u word
 run_word_of f u word h =

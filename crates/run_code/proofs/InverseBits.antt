@@ -12,17 +12,13 @@ use Rattle.bit_vectors.specs.Reading.{Reading, Read, WrongBit, TooShort, ◌>>=�
 use Rattle.bit_vectors.proofs.EyeReading.{Gives-then_err}
 use Rattle.run_code.specs.Places.{places_up}
 use Rattle.run_code.specs.Extraction.{bits_at, bits_up, IsInverseWord, filled_at, inverse_at}
-use Rattle.run_code.proofs.Ones.{one_within, places_up_apart, in_places_up, places_up_has, length-ones_from}
+use Rattle.run_code.proofs.Ones.{one_or_zero, zeros_at, one_within, places_up_apart, in_places_up, places_up_has, length-ones_from}
 use Rattle.run_code.proofs.Filling.{OnlyAt, IsFilling, IsExact-filled_at, filled_at-short, filled_at-read, filled_at-no_wrong}
 
 -- ---- ones of a list
 
 abbrev has_one : List Bool → Bool
 has_one v = list_any (λ (bit : Bool). bit) v
-
-either : (b : Bool) → (b ≡ true) ⊎ (b ≡ false)
-either true = inl refl
-either false = inr refl
 
 zero_at : (v : List Bool) → has_one v ≡ false → (k : ℕ) → get_or v k false ≡ false
 zero_at [] none k = refl
@@ -44,13 +40,6 @@ one_of v c = (c.0, get_or_default v c.0 false true c.1 ∙ c.2)
 contains_by : (v : List Bool) (k : ℕ) → get_or v k false ≡ true → Contains v true
 contains_by v k one = (k, one_within v k one, get_or_default v k true false (one_within v k one) ∙ one)
 
-zeros_at : (n k : ℕ) → get_or (replicate n false) k false ≡ false
-zeros_at n k =
-    elim (cases_lt k n) [
-      | inl lt ↦ get_or-replicate n k false false lt
-      | inr le ↦ get_or_past (replicate n false) k false (omega (arith, length-replicate n false))
-    ]
-
 no_one_in_zeros : (n : ℕ) → has_one (replicate n false) ≡ false
 no_one_in_zeros zero = refl
 no_one_in_zeros (suc n) = no_one_in_zeros n
@@ -65,7 +54,7 @@ inverse_filling x y word h =
     (record {
        same_length = h.places ∙ sym (length-replicate (length x) false);
        others = λ k out.
-           elim (either (get_or y k false)) [
+           elim (one_or_zero (get_or y k false)) [
              | inl one ↦ absurd (out (places_up_has x k (h.within k one)))
              | inr none ↦ none ∙ sym (zeros_at (length x) k)
            ];
@@ -75,7 +64,7 @@ filling_inverse : (x y word : List Bool) → IsFilling (places_up x) (zeros_like
 filling_inverse x y word h some = record {
   places = h.0.same_length ∙ length-replicate (length x) false;
   within = λ k one.
-      elim (either (get_or x k false)) [
+      elim (one_or_zero (get_or x k false)) [
         | inl in_x ↦ in_x
         | inr out_x ↦ absurd (true≢false (sym one ∙ h.0.others k (λ c. true≢false (sym (in_places_up x k c) ∙ out_x)) ∙ zeros_at (length x) k))
       ];
@@ -83,11 +72,11 @@ filling_inverse x y word h some = record {
   bits = h.1;
 }
 
-length-bits_at : (v : List Bool) (places : List ℕ) → length (bits_at v places) ≡ length places
+pub length-bits_at : (v : List Bool) (places : List ℕ) → length (bits_at v places) ≡ length places
 length-bits_at v places = length-map places _
 
 -- a bit of a word is that of its place
-bit_of : (v : List Bool) (places : List ℕ) (i : ℕ) → i < length places → get_or (bits_at v places) i false ≡ get_or v (get_or places i 0) false
+pub bit_of : (v : List Bool) (places : List ℕ) (i : ℕ) → i < length places → get_or (bits_at v places) i false ≡ get_or v (get_or places i 0) false
 bit_of v places i lt = get_or-map (λ (place : ℕ). get_or v place false) places i 0 false lt
 
 -- the word of a set that is not empty has a one
@@ -127,7 +116,7 @@ tested y rest = cond (has_one y) (Read y rest) (WrongBit rest)
 
 tested_read : (r : Reading (List Bool)) (y rest : List Bool) → (r >>= tested) ≡ Read y rest → (r ≡ Read y rest) × (has_one y ≡ true)
 tested_read (Read v mid) y rest e =
-    elim (either (has_one v)) [
+    elim (one_or_zero (has_one v)) [
       | inl some ↦ let read : Read v mid ≡ Read y rest = rw some at e in let same : v ≡ y = cc in (read, rw (← same) some)
       | inr none ↦ let wrong : WrongBit mid ≡ Read y rest = rw none at e in absurd cc
     ]
@@ -136,7 +125,7 @@ tested_read TooShort y rest e = absurd cc
 
 tested_wrong : (r : Reading (List Bool)) (rest : List Bool) → (r >>= tested) ≡ WrongBit rest → (r ≡ WrongBit rest) ⊎ ((y : List Bool) × (r ≡ Read y rest) × (has_one y ≡ false))
 tested_wrong (Read v mid) rest e =
-    elim (either (has_one v)) [
+    elim (one_or_zero (has_one v)) [
       | inl some ↦ let read : Read v mid ≡ WrongBit rest = rw some at e in absurd cc
       | inr none ↦ let wrong : ◌≡◌ {A = Reading (List Bool)} (WrongBit mid) (WrongBit rest) = rw none at e in let same : mid ≡ rest = cc in inr (v, rw same refl, none)
     ]
@@ -145,7 +134,7 @@ tested_wrong TooShort rest e = absurd cc
 
 tested_short : (r : Reading (List Bool)) → (r >>= tested) ≡ TooShort → r ≡ TooShort
 tested_short (Read v mid) e =
-    elim (either (has_one v)) [
+    elim (one_or_zero (has_one v)) [
       | inl some ↦ let read : Read v mid ≡ TooShort = rw some at e in absurd cc
       | inr none ↦ let wrong : WrongBit mid ≡ TooShort = rw none at e in absurd cc
     ]

@@ -1,8 +1,8 @@
 -- The places of a vector's ones, found one after the other.
-use Rattle.std.proofs.Common.{◌≡◌, ℕ, zero, suc, ◌+◌, ◌-◌, ◌<◌, ◌≤◌, Bool, true, false, cond, List, [], ◌∷◌, ◌++◌, length, get_or, take, drop, refl, sym, ap, ◌∙◌, subst, arith, inl, inr, ◌⊎◌, add-one}
+use Rattle.std.proofs.Common.{◌≡◌, ℕ, zero, suc, ◌+◌, ◌-◌, ◌<◌, ◌≤◌, Bool, true, false, cond, List, [], ◌∷◌, ◌++◌, length, get_or, take, drop, replicate, refl, sym, ap, ◌∙◌, subst, arith, inl, inr, ◌⊎◌, add-one}
 use Rattle.std.specs.Prelude.{reverse, count_by, Contains}
 use Rattle.std.proofs.lemmas.Bool.{cases_eq, cases_lt, true≢false}
-use Rattle.std.proofs.lemmas.List.{reverse-append, append-nil, length-take, length-reverse, take_more, take_all, drop_more, drop_all, get_or_past}
+use Rattle.std.proofs.lemmas.List.{reverse-append, append-nil, length-take, length-reverse, take_more, take_all, drop_more, drop_all, get_or_past, get_or-replicate, length-replicate}
 use Rattle.std.proofs.lemmas.List.Sums.{sum_by-cons}
 use Rattle.bit_vectors.specs.Vectors.{NoneIsOne}
 use Rattle.run_code.specs.Places.{ones_from, places_up, places_down}
@@ -11,6 +11,17 @@ use Rattle.run_code.specs.Places.{ones_from, places_up, places_down}
 unfoldable pub ones_below : ℕ → List Bool → List ℕ
 ones_below zero v = []
 ones_below (suc place) v = cond (get_or v place false) (place ∷ ones_below place v) (ones_below place v)
+
+pub one_or_zero : (bit : Bool) → (bit ≡ true) ⊎ (bit ≡ false)
+one_or_zero true = inl refl
+one_or_zero false = inr refl
+
+pub zeros_at : (n k : ℕ) → get_or (replicate n false) k false ≡ false
+zeros_at n k =
+    elim (cases_lt k n) [
+      | inl lt ↦ get_or-replicate n k false false lt
+      | inr le ↦ get_or_past (replicate n false) k false (omega (arith, length-replicate n false))
+    ]
 
 -- ---- from the greatest down
 
@@ -204,10 +215,6 @@ pub places_down_has : (v : List Bool) (k : ℕ) → get_or v k false ≡ true �
 places_down_has v k one = rw (places_down_is v) (ones_below_has (length v) v k (one_within v k one) one)
 
 -- ---- the greatest one
-
-one_or_zero : (bit : Bool) → (bit ≡ true) ⊎ (bit ≡ false)
-one_or_zero true = inl refl
-one_or_zero false = inr refl
 
 none_up_to : (n : ℕ) (v : List Bool) (from : ℕ) → NoneIsOne v from n → get_or v n false ≡ false → NoneIsOne v from (suc n)
 none_up_to n v from none zero_here k le lt =

@@ -9,7 +9,8 @@ use bit_vectors::Bits;
 /// that of the next place. After the last place comes a 0.
 pub fn edges(mask: &Bits, into: &mut Bits)
     requires { length mask.now ≡ length into.old }
-    ensures { into.new ≡ edges mask.now }
+    ensures places { length into.new ≡ length into.old }
+    ensures edges { into.new ≡ edges mask.now }
 {
     let mut next = false;
     for place in (0..mask.len()).rev() {
@@ -22,7 +23,8 @@ pub fn edges(mask: &Bits, into: &mut Bits)
 /// Makes `into`, which has as many places as `edges`, the one mask whose edges these are.
 pub fn from_edges(edges: &Bits, into: &mut Bits)
     requires { length edges.now ≡ length into.old }
-    ensures { edges_of into.new ≡ edges.now }
+    ensures places { length into.new ≡ length into.old }
+    ensures edges { edges_of into.new ≡ edges.now }
 {
     let mut next = false;
     for place in (0..edges.len()).rev() {
