@@ -1,5 +1,5 @@
 -- What an eye's reading by an exact reader says.
-use Rattle.std.proofs.Common.{◌≡◌, ℕ, ◌+◌, ◌-◌, ◌≤◌, Bool, List, [], ◌∷◌, ◌++◌, length, take, Result, Ok, Err, refl, sym, ap, ◌∙◌, arith, append_assoc}
+use Rattle.std.proofs.Common.{◌≡◌, ℕ, ◌+◌, ◌-◌, ◌<◌, Bool, List, [], ◌∷◌, ◌++◌, length, take, Result, Ok, Err, refl, sym, ap, ◌∙◌, arith, append_assoc}
 use Rattle.std.specs.Prelude.{IfOk, IfErr}
 use Rattle.std.proofs.lemmas.List.{length-append, length-drop, take_at}
 use Rattle.bit_vectors.specs.declared.fault.BitFault.{BitFault}
@@ -7,15 +7,15 @@ use Rattle.bit_vectors.specs.declared.fault.BitFault.TheVariants.{Wrong, EndsEar
 use Rattle.bit_vectors.specs.Eye.{EyeState, bits_left}
 use Rattle.bit_vectors.specs.Reading.{Reading, Read, WrongBit, TooShort, ◌>>=◌, MovesOn, Gives, IsExact, IsFirstWrong, IsEarlyEnd, IsFirstFault}
 
-pub MovesOn-refl : (eye : EyeState) → eye.place ≤ length eye.bits → MovesOn eye eye
-MovesOn-refl eye le = record { bits = refl; forward = omega arith; within = le }
+pub MovesOn-refl : (eye : EyeState) → MovesOn eye eye
+MovesOn-refl eye = record { bits = refl; forward = omega arith }
 
 pub MovesOn-then : (a b c : EyeState) → MovesOn a b → MovesOn b c → MovesOn a c
-MovesOn-then a b c p q = record { bits = q.bits ∙ p.bits; forward = omega (arith, p.forward, q.forward); within = q.within }
+MovesOn-then a b c p q = record { bits = q.bits ∙ p.bits; forward = omega (arith, p.forward, q.forward) }
 
 -- a call that hands on what another one answered
 pub Gives-then_err : {A B C D : Type 0} (view : A → B) (see : C → D) (fault : BitFault) (new : EyeState) (reading : Reading B) (next : B → List Bool → Reading D) → Gives view (Err fault) new reading → Gives see (Err fault) new (reading >>= next)
-Gives-then_err view see (Wrong bit) new reading next h = (rw h.0 refl, h.1)
+Gives-then_err view see (Wrong bit) new reading next h = (rw h.0 refl, h.1, h.2)
 Gives-then_err view see (EndsEarly bit) new reading next h = (rw h.0 refl, h.1, h.2)
 
 -- a call after another one, which answered x
@@ -41,12 +41,12 @@ only_by W f exact old new result given value word rest w e = only_value result n
 
 -- ---- faults
 
-first_wrong : {B : Type 0} (W : B → List Bool → Type 0) (f : List Bool → Reading B) → IsExact W f → (old new : EyeState) (bit : ℕ) → MovesOn old new → f (bits_left old) ≡ WrongBit (bits_left new) → new.place ≡ bit + 1
+first_wrong : {B : Type 0} (W : B → List Bool → Type 0) (f : List Bool → Reading B) → IsExact W f → (old new : EyeState) (bit : ℕ) → MovesOn old new → f (bits_left old) ≡ WrongBit (bits_left new) → bit < length new.bits → new.place ≡ bit + 1
     → IsFirstWrong (λ word. (value : B) × W value word) old new bit
-first_wrong W f exact old new bit moves wrong after =
+first_wrong W f exact old new bit moves wrong within after =
     let w = exact.wrong_is (bits_left old) (bits_left new) wrong in
     let len = ap (λ (bits : List Bool). length bits) w.parts in
-    let count : old.place + length w.front ≡ bit = omega (arith, moves.within, length-append w.front (w.bit ∷ bits_left new), length-drop old.place old.bits, length-drop new.place new.bits, ap (λ (bits : List Bool). length bits) moves.bits) in
+    let count : old.place + length w.front ≡ bit = omega (arith, length-append w.front (w.bit ∷ bits_left new), length-drop old.place old.bits, length-drop new.place new.bits, ap (λ (bits : List Bool). length bits) moves.bits) in
     let before : take (bit - old.place) (bits_left old) ≡ w.front = ap (take (bit - old.place)) w.parts ∙ take_at w.front (w.bit ∷ bits_left new) (bit - old.place) (omega arith) in
     let and_it : take (bit + 1 - old.place) (bits_left old) ≡ w.front ++ w.bit ∷ [] =
     ap (take (bit + 1 - old.place)) (w.parts ∙ sym (append_assoc w.front (w.bit ∷ []) (bits_left new))) ∙ (take_at (w.front ++ w.bit ∷ []) (bits_left new) (bit + 1 - old.place) (omega (arith, length-append w.front (w.bit ∷ [])))) in
@@ -72,5 +72,5 @@ early_end W f exact old new bit moves short all at_end = record {
 pub fault_by : {A B : Type 0} (W : B → List Bool → Type 0) (f : List Bool → Reading B) → IsExact W f → (view : A → B) (old new : EyeState) (result : Result A BitFault) → MovesOn old new → Gives view result new (f (bits_left old))
     → IfErr result (λ fault. IsFirstFault (λ word. (value : B) × W value word) old new fault)
 fault_by W f exact view old new (Ok x) moves given = tt
-fault_by W f exact view old new (Err (Wrong bit)) moves given = first_wrong W f exact old new bit moves given.0 given.1
+fault_by W f exact view old new (Err (Wrong bit)) moves given = first_wrong W f exact old new bit moves given.0 given.1 given.2
 fault_by W f exact view old new (Err (EndsEarly bit)) moves given = early_end W f exact old new bit moves given.0 given.1 given.2

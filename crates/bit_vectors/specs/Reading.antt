@@ -1,7 +1,7 @@
 -- Reading a list of bits from its front: the value that its first bits spell and the bits after them, or the first
 -- fault. A reader is exact for words where it gives each word's value, and finds each fault at the first bit at which
 -- it can be seen.
-use Rattle.std.specs.Prelude.{◌≡◌, ℕ, ◌+◌, ◌-◌, ◌≤◌, Bool, List, [], ◌∷◌, ◌++◌, length, take, Result, Ok, Err, if◌then◌else◌}
+use Rattle.std.specs.Prelude.{◌≡◌, ℕ, ◌+◌, ◌-◌, ◌<◌, ◌≤◌, Bool, List, [], ◌∷◌, ◌++◌, length, take, Result, Ok, Err, if◌then◌else◌}
 use Rattle.bit_vectors.specs.declared.fault.BitFault.{BitFault}
 use Rattle.bit_vectors.specs.declared.fault.BitFault.TheVariants.{Wrong, EndsEarly}
 use Rattle.bit_vectors.specs.Eye.{EyeState, bits_left}
@@ -34,12 +34,11 @@ allowed zero one bit = if bit then one else zero
 pub record MovesOn (old new : EyeState) : Type 0 where
   pub bits : new.bits ≡ old.bits
   pub forward : old.place ≤ new.place
-  pub within : new.place ≤ length new.bits
 
 -- what a call answered, seen by view, and how it left the eye, is what reading the bits left gives
 abbrev pub Gives : {A B : Type 0} → (A → B) → Result A BitFault → EyeState → Reading B → Type 0
 Gives view (Ok x) new reading = reading ≡ Read (view x) (bits_left new)
-Gives view (Err (Wrong bit)) new reading = (reading ≡ WrongBit (bits_left new)) × (new.place ≡ bit + 1)
+Gives view (Err (Wrong bit)) new reading = (reading ≡ WrongBit (bits_left new)) × (bit < length new.bits) × (new.place ≡ bit + 1)
 Gives view (Err (EndsEarly bit)) new reading = (reading ≡ TooShort) × (bit ≡ length new.bits) × (new.place ≡ length new.bits)
 
 -- ---- exact readers

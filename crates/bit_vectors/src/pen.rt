@@ -1,7 +1,7 @@
 //! Writing bits one after the other.
 
 ghost use Rattle.std.specs.Prelude.{◌≡◌, ◌+◌, ◌^◌, ◌<◌, ◌≤◌, [], ◌∷◌, ◌++◌, length, IfOk};
-ghost use Rattle.bit_vectors.specs.Vectors.{number_bits, vector_bytes};
+ghost use Rattle.bit_vectors.specs.Vectors.{number_bits, byte_count, vector_bytes};
 
 use crate::fault::NoMemory;
 use crate::packing::{first_bytes, write_bit};
@@ -92,7 +92,9 @@ impl BitPen {
 
     /// The bits as bytes, with fewer than eight zeros after them.
     pub fn bytes(&self) -> &[u8]
-        ensures { result.now ≡ vector_bytes self.now.bits }
+        ensures bytes { result.now ≡ vector_bytes self.now.bits }
+        ensures len { length result.now ≡ byte_count (length self.now.bits) }
+        ensures most { length result.now ≤ 65536 }
     {
         first_bytes(&self.bytes, self.len as usize)
     }

@@ -1,0 +1,33 @@
+-- The words of counts, by their three kinds.
+use Rattle.std.proofs.Common.{◌≡◌, ℕ, ◌+◌, ◌-◌, ◌*◌, ◌≤◌, true, false, [], ◌∷◌, ◌++◌, length, refl, arith}
+use Rattle.std.proofs.lemmas.Bool.{ne_eqb, le-leb, lt-leb}
+use Rattle.bit_vectors.specs.Vectors.{number_bits}
+use Rattle.bit_vectors.proofs.NumberBits.{length-number_bits}
+use Rattle.count_code.specs.Code.{digits, count_bits}
+
+pub count_bits-one : count_bits 1 ≡ false ∷ []
+unfolding count_bits
+count_bits-one = refl
+
+pub count_bits-short : (a : ℕ) → 2 ≤ a → a ≤ 33 → count_bits a ≡ (true ∷ true ∷ false ∷ []) ++ number_bits 5 (a - 2)
+unfolding count_bits
+count_bits-short a least most = rw (ne_eqb a 1 (omega arith), le-leb a 33 most) refl
+
+pub count_bits-long : (a : ℕ) → 34 ≤ a → count_bits a ≡ (true ∷ true ∷ true ∷ []) ++ number_bits (2 * digits (a - 2) - 6) (a - 2)
+unfolding count_bits
+count_bits-long a least = rw (ne_eqb a 1 (omega arith), lt-leb a 33 (omega arith)) refl
+
+pub length-count_bits-short : (a : ℕ) → 2 ≤ a → a ≤ 33 → length (count_bits a) ≡ 8
+length-count_bits-short a least most = rw (count_bits-short a least most) (omega (arith, length-number_bits 5 (a - 2)))
+
+pub length-count_bits-long : (a : ℕ) → 34 ≤ a → length (count_bits a) ≡ 3 + (2 * digits (a - 2) - 6)
+length-count_bits-long a least = rw (count_bits-long a least) (omega (arith, length-number_bits (2 * digits (a - 2) - 6) (a - 2)))
+
+-- the first three bits, as numbers
+pub six_in_three : number_bits 3 6 ≡ true ∷ true ∷ false ∷ []
+unfolding number_bits
+six_in_three = refl
+
+pub seven_in_three : number_bits 3 7 ≡ true ∷ true ∷ true ∷ []
+unfolding number_bits
+seven_in_three = refl

@@ -1,0 +1,4 @@
+pub mod Digits
+pub mod CountWords
+pub mod Steps
+pub mod ExactCounts

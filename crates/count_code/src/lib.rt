@@ -1,0 +1,15 @@
+//! The code of counts, written to a pen and read by an eye.
+#![tactic(auto)]
+
+mod count;
+mod laws;
+mod reading;
+mod writing;
+
+pub use count::Count;
+pub use laws::{long_words, no_word_begins_another};
+pub use reading::take_count;
+pub use writing::{count_len, put_count, put_end};
+
+#[cfg(test)]
+mod tests;

@@ -1,0 +1,46 @@
+//! The words of counts, and the first wrong bits, by worked examples.
+
+use crate::{Count, count_len, put_count, put_end, take_count};
+use bit_vectors::{BitEye, BitFault, BitPen};
+use std::test::Fail;
+
+#[test]
+fn words_of_counts(rt: HostRuntime) -> Result<(), Fail> {
+    let rows: [(u32, u32, &[u8]); 6] = [
+        (1, 1, &[0x00]),
+        (2, 8, &[0xc0]),
+        (33, 8, &[0xdf]),
+        (34, 9, &[0xf0, 0x00]),
+        (66, 11, &[0xe8, 0x00]),
+        (49_152, 29, &[0xe0, 0x05, 0xff, 0xf0]),
+    ];
+    for (a, len, bytes) in rows {
+        assert!(rt; 1 <= a && a <= 49_152);
+        let mut pen = BitPen::with_room(rt.alloc(), count_len(a) + 2)?;
+        put_count(&mut pen, a);
+        assert_eq!(rt; pen.len(), len);
+        assert_eq!(rt; pen.bytes(), bytes);
+        put_end(&mut pen);
+        let mut eye = BitEye::new(pen.bytes());
+        assert_eq!(rt; take_count(&mut eye, 49_152), Ok(Count::Value(a)));
+        assert_eq!(rt; take_count(&mut eye, 49_152), Ok(Count::End));
+    }
+    Ok(())
+}
+
+#[test]
+fn first_wrong_bits(rt: HostRuntime) {
+    let rows: [(&[u8], BitFault); 2] = [
+        (&[0xd0], BitFault::Wrong { bit: 3 }),
+        (&[0xe0], BitFault::Wrong { bit: 2 }),
+    ];
+    for (bytes, fault) in rows {
+        let mut eye = BitEye::new(bytes);
+        assert_eq!(rt; take_count(&mut eye, 8), Err(fault));
+    }
+    let mut eye = BitEye::new(&[0x00, 0xc0]);
+    for _ in 0..8 {
+        assert_eq!(rt; take_count(&mut eye, 8), Ok(Count::Value(1)));
+    }
+    assert_eq!(rt; take_count(&mut eye, 0), Err(BitFault::Wrong { bit: 9 }));
+}
