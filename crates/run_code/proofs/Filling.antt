@@ -1,0 +1,116 @@
+-- Reading bits into places of a vector.
+use Rattle.std.proofs.Common.{◌≡◌, ◌≢◌, ℕ, zero, suc, ◌+◌, ◌<◌, ◌≤◌, Bool, true, false, List, [], ◌∷◌, ◌++◌, length, get_or, set, map, replicate, refl, sym, ap, ◌∙◌, subst, arith, inl, inr}
+use Rattle.std.specs.Prelude.{Contains}
+use Rattle.std.proofs.lemmas.Bool.{cases_eq}
+use Rattle.std.proofs.lemmas.List.{length-map, length-set, length-append, get_or-set_same, get_or-set_other, ext_get_or}
+use Rattle.bit_vectors.specs.Reading.{Reading, Read, WrongBit, TooShort, ◌>>=◌, bit_where, IsExact}
+use Rattle.bit_vectors.proofs.ExactReading.{IsBitWhere, IsWordThen, IsExact-give, IsExact-bit_where, IsExact-same, IsExact-then}
+use Rattle.run_code.specs.Extraction.{bits_at, filled_at}
+use Rattle.run_code.proofs.Ones.{AreApart}
+
+-- only bits at these places differ
+pub record OnlyAt (places : List ℕ) (old new : List Bool) : Type 0 where
+  pub same_length : length new ≡ length old
+  pub others : (k : ℕ) → (Contains places k → ⊥) → get_or new k false ≡ get_or old k false
+
+-- the word that fills the places of an old vector, and gives this new one
+abbrev pub IsFilling : List ℕ → List Bool → List Bool → List Bool → Type 0
+IsFilling places old new word = OnlyAt places old new × (word ≡ bits_at new places)
+
+pub OnlyAt-refl : (places : List ℕ) (v : List Bool) → OnlyAt places v v
+OnlyAt-refl places v = record { same_length = refl; others = λ k out. refl }
+
+not_in_nil : (k : ℕ) → Contains [] k → ⊥
+not_in_nil k (i, lt, is) = absurd (omega arith)
+
+OnlyAt-nil : (old new : List Bool) → OnlyAt [] old new → new ≡ old
+OnlyAt-nil old new h = ext_get_or false new old h.same_length (λ k lt. h.others k (not_in_nil k))
+
+not_in_cons : (place k : ℕ) (places : List ℕ) → place ≢ k → (Contains places k → ⊥) → Contains (place ∷ places) k → ⊥
+not_in_cons place k places ne out (zero, lt, is) = ne is
+not_in_cons place k places ne out (suc i, lt, is) = out (i, omega arith, is)
+
+-- a bit more
+OnlyAt-later : (place : ℕ) (places : List ℕ) (old new : List Bool) (bit : Bool) → OnlyAt places (set old place bit) new → OnlyAt (place ∷ places) old new
+OnlyAt-later place places old new bit h = record {
+  same_length = h.same_length ∙ length-set old place bit;
+  others = λ k out.
+      let other : k ≢ place = λ same. out (0, omega arith, sym same) in
+      h.others k (λ c. out (suc c.0, omega (arith, c.1), c.2)) ∙ get_or-set_other old place k bit false other;
+}
+
+bit_there : (place : ℕ) (places : List ℕ) (old new : List Bool) (bit : Bool) → place < length old → (Contains places place → ⊥) → OnlyAt places (set old place bit) new → get_or new place false ≡ bit
+bit_there place places old new bit lt out h = h.others place out ∙ get_or-set_same old place bit false lt
+
+OnlyAt-set : (place : ℕ) (places : List ℕ) (old new : List Bool) → place < length old → OnlyAt (place ∷ places) old new → OnlyAt places (set old place (get_or new place false)) new
+OnlyAt-set place places old new lt h = record {
+  same_length = h.same_length ∙ sym (length-set old place (get_or new place false));
+  others = λ k out.
+      elim (cases_eq k place) [
+        | inl here ↦ rw here (sym (get_or-set_same old place (get_or new place false) false lt))
+        | inr other ↦ h.others k (not_in_cons place k places (λ same. other (sym same)) out) ∙ sym (get_or-set_other old place k (get_or new place false) false other)
+      ];
+}
+
+AreApart-set : (places : List ℕ) (v : List Bool) (place : ℕ) (bit : Bool) → AreApart places (length v) → AreApart places (length (set v place bit))
+AreApart-set places v place bit apart = rw (length-set v place bit) apart
+
+-- the words for the places after the first, by its bit
+abbrev IsLaterFilling : ℕ → List ℕ → List Bool → Bool → List Bool → List Bool → Type 0
+IsLaterFilling place places old bit = IsFilling places (set old place bit)
+
+filling_of : (place : ℕ) (places : List ℕ) (old new word : List Bool) → place < length old → (Contains places place → ⊥) → IsWordThen (IsBitWhere (λ bit. true)) (IsLaterFilling place places old) new word → IsFilling (place ∷ places) old new word
+filling_of place places old new word lt out (bit, a, b, first, then, parts) =
+    let is = bit_there place places old new bit lt out then.0 in
+    (OnlyAt-later place places old new bit then.0, parts ∙ rw (first.1, then.1, is) refl)
+
+parts_of : (place : ℕ) (places : List ℕ) (old new word : List Bool) → place < length old → IsFilling (place ∷ places) old new word → IsWordThen (IsBitWhere (λ bit. true)) (IsLaterFilling place places old) new word
+parts_of place places old new word lt (only, is) =
+    (get_or new place false, get_or new place false ∷ [], bits_at new places, (refl, refl), (OnlyAt-set place places old new lt only, refl), is)
+
+pub IsExact-filled_at : (places : List ℕ) (v : List Bool) → AreApart places (length v) → IsExact (IsFilling places v) (filled_at places v)
+unfolding filled_at
+IsExact-filled_at [] v apart =
+    IsExact-same (λ (u : List Bool) (word : List Bool). (u ≡ v) × (word ≡ [])) (IsFilling [] v) (λ (bits : List Bool). Read v bits)
+    (λ u word w. (rw w.0 (OnlyAt-refl [] v), w.1)) (λ u word h. (OnlyAt-nil v u h.0, h.1)) (IsExact-give v)
+IsExact-filled_at (place ∷ places) v apart =
+    IsExact-same (IsWordThen (IsBitWhere (λ (bit : Bool). true)) (IsLaterFilling place places v)) (IsFilling (place ∷ places) v) (filled_at (place ∷ places) v)
+    (λ u word w. filling_of place places v u word apart.0 apart.1 w)
+    (λ u word h. parts_of place places v u word apart.0 h)
+    (IsExact-then (IsBitWhere (λ (bit : Bool). true)) (IsLaterFilling place places v) (bit_where (λ (bit : Bool). true)) (λ (bit : Bool) (rest : List Bool). filled_at places (set v place bit) rest)
+      (IsExact-bit_where (λ (bit : Bool). true) true refl)
+      (λ bit word w. IsExact-filled_at places (set v place bit) (AreApart-set places v place bit apart.2))
+      (λ bit word w. (set v place bit, bits_at (set v place bit) places, (OnlyAt-refl places (set v place bit), refl))))
+
+-- ---- when the bits suffice
+
+pub filled_at-short : (places : List ℕ) (v bits : List Bool) → filled_at places v bits ≡ TooShort → length bits < length places
+unfolding filled_at
+filled_at-short [] v bits short = absurd cc
+filled_at-short (place ∷ places) v [] short = omega arith
+filled_at-short (place ∷ places) v (bit ∷ bits) short = omega (arith, filled_at-short places (set v place bit) bits short)
+
+pub filled_at-read : (places : List ℕ) (v bits new rest : List Bool) → filled_at places v bits ≡ Read new rest → length places ≤ length bits
+unfolding filled_at
+filled_at-read [] v bits new rest read = omega arith
+filled_at-read (place ∷ places) v [] new rest read = absurd cc
+filled_at-read (place ∷ places) v (bit ∷ bits) new rest read = omega (arith, filled_at-read places (set v place bit) bits new rest read)
+
+pub filled_at-no_wrong : (places : List ℕ) (v bits rest : List Bool) → filled_at places v bits ≡ WrongBit rest → ⊥
+unfolding filled_at
+filled_at-no_wrong [] v bits rest wrong = cc
+filled_at-no_wrong (place ∷ places) v [] rest wrong = cc
+filled_at-no_wrong (place ∷ places) v (bit ∷ bits) rest wrong = filled_at-no_wrong places (set v place bit) bits rest wrong
+
+-- one bit more
+pub filled_at-more : (place : ℕ) (places : List ℕ) (v bits : List Bool) (bit : Bool) → filled_at (place ∷ places) v (bit ∷ bits) ≡ filled_at places (set v place bit) bits
+unfolding filled_at
+filled_at-more place places v bits bit = refl
+
+pub filled_at-none : (place : ℕ) (places : List ℕ) (v : List Bool) → filled_at (place ∷ places) v [] ≡ TooShort
+unfolding filled_at
+filled_at-none place places v = refl
+
+pub filled_at-all : (v bits : List Bool) → filled_at [] v bits ≡ Read v bits
+unfolding filled_at
+filled_at-all v bits = refl

@@ -1,0 +1,13 @@
+use Rattle.std.proofs.Common.{◌≡◌}
+use Rattle.bit_vectors.specs.Vectors.{number_bits}
+use Rattle.bit_vectors.specs.Eye.{bits_left}
+use Rattle.bit_vectors.specs.Reading.{MovesOn}
+use Rattle.run_code.specs.Runs.{same_at}
+use Rattle.run_code.proofs.matching.match_number.Given as goal
+
+-- matching the bits of lower weight gives what matching from the start gives
+abbrev pub invariant-loop-weight : goal.invariant-loop-weight
+invariant-loop-weight l = record {
+  moves : MovesOn l.fn.eye l.eye;
+  same : same_at (number_bits l.width l.value) (bits_left l.fn.eye) ≡ same_at (number_bits l.weight l.value) (bits_left l.eye);
+}

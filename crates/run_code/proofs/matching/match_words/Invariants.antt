@@ -1,0 +1,17 @@
+use Rattle.std.proofs.Common.{◌≡◌, ◌≤◌, length, ℕ}
+use Rattle.bit_vectors.specs.Eye.{bits_left}
+use Rattle.bit_vectors.specs.Reading.{MovesOn}
+use Rattle.run_code.specs.Runs.{runs_from, run_bits, same_at}
+use Rattle.run_code.proofs.Ones.{ones_below}
+use Rattle.run_code.proofs.matching.match_words.Given as goal
+
+-- matching the words of the ones below gives what matching from the start gives
+abbrev pub invariant-loop-place : goal.invariant-loop-place
+invariant-loop-place l = record {
+  within : l.below ≤ length l.v;
+  moves : MovesOn l.fn.eye l.eye;
+  same : same_at (run_bits l.v) (bits_left l.fn.eye) ≡ same_at (runs_from l.below (ones_below l.below l.v)) (bits_left l.eye);
+}
+
+abbrev pub decreases-loop-place : goal.decreases-loop-place
+decreases-loop-place l = l.below

@@ -1,0 +1,17 @@
+use Rattle.std.proofs.Common.{◌≡◌, ◌<◌, ◌≤◌, length, ℕ}
+use Rattle.bit_vectors.specs.Eye.{bits_left}
+use Rattle.bit_vectors.specs.Reading.{MovesOn}
+use Rattle.run_code.specs.Runs.{ones_at, vector_at}
+use Rattle.run_code.proofs.runs.read_runs.Given as goal
+
+-- reading on below gives what reading from the start gives
+abbrev pub invariant-loop-distance : goal.invariant-loop-distance
+invariant-loop-distance l = record {
+  within : l.below ≤ length l.into;
+  places : length l.into ≡ length l.fn.into;
+  moves : MovesOn l.fn.eye l.eye;
+  same : (most : ℕ) × (l.below < most) × (vector_at (length l.fn.into) (bits_left l.fn.eye) ≡ ones_at most l.below l.into (bits_left l.eye));
+}
+
+abbrev pub decreases-loop-distance : goal.decreases-loop-distance
+decreases-loop-distance l = l.below

@@ -1,0 +1,49 @@
+-- The word of a vector's runs (CCSDS 124.0-B-1): for each one, from the highest place down, the count of places from the
+-- one before it, and then the end of the counts. The first is counted from the number of places.
+use Rattle.std.specs.Prelude.{◌≡◌, ℕ, zero, suc, ◌-◌, Bool, true, false, not, List, [], ◌∷◌, ◌++◌, length, replicate, slice_set}
+use Rattle.bit_vectors.specs.Reading.{Reading, Read, TooShort, ◌>>=◌, bit_where, allowed}
+use Rattle.count_code.specs.declared.count.Count.{Count}
+use Rattle.count_code.specs.declared.count.Count.TheVariants.{Value, End}
+use Rattle.count_code.specs.Code.{count_bits, end_bits}
+use Rattle.count_code.specs.Counts.{count_at}
+use Rattle.run_code.specs.Places.{places_down}
+
+-- the counts from a place down to the first of these, and from each to the next, and the end
+unfoldable pub runs_from : ℕ → List ℕ → List Bool
+runs_from place [] = end_bits
+runs_from place (next ∷ places) = count_bits (place - next) ++ runs_from next places
+
+unfoldable pub run_bits : List Bool → List Bool
+run_bits v = runs_from (length v) (places_down v)
+
+-- the run word of a vector with so many places
+abbrev pub IsRunWordOf : ℕ → List Bool → List Bool → Type 0
+IsRunWordOf f v word = (length v ≡ f) × (word ≡ run_bits v)
+
+abbrev pub IsRunWord : ℕ → List Bool → Type 0
+IsRunWord f word = (v : List Bool) × IsRunWordOf f v word
+
+-- ---- reading
+
+-- what to do at a count, and at the end
+abbrev pub at_count : {A : Type 0} → Count → (ℕ → A) → A → A
+at_count (Value a) next end = next a
+at_count End next end = end
+
+-- a vector so far, with the ones that are still to be read, of which there are fewer than `most`, below a place
+unfoldable pub ones_at : ℕ → ℕ → List Bool → List Bool → Reading (List Bool)
+ones_at zero below v bits = TooShort
+ones_at (suc most) below v bits =
+    count_at below bits
+    >>= λ count rest. at_count count (λ a. ones_at most (below - a) (slice_set v (below - a) true) rest) (Read v rest)
+
+-- a vector with so many places
+unfoldable pub vector_at : ℕ → List Bool → Reading (List Bool)
+vector_at f bits = ones_at (suc f) f (replicate f false) bits
+
+-- the bits of a word, and no others
+unfoldable pub same_at : List Bool → List Bool → Reading (Unit {0})
+same_at [] bits = Read tt bits
+same_at (bit ∷ word) bits =
+    bit_where (allowed (not bit) bit) bits
+    >>= λ found rest. same_at word rest

@@ -1,0 +1,48 @@
+//! The bits of a vector at the ones of another, from the highest place down (CCSDS 124.0-B-1).
+
+ghost use Rattle.std.specs.Prelude.{◌≡◌, ◌+◌, ◌<◌, ◌≤◌, ◌↔◌, ◌++◌, length, count_by, IsErr, IfErr, OnOk, OnErr};
+ghost use Rattle.bit_vectors.specs.Eye.{bits_left};
+ghost use Rattle.bit_vectors.specs.Reading.{MovesOn, Gives};
+ghost use Rattle.run_code.specs.Places.{places_down};
+ghost use Rattle.run_code.specs.Extraction.{extract, SameOutside, filled_at};
+
+use bit_vectors::{BitEye, BitFault, BitPen, Bits};
+
+/// Appends the bits of `a` at the ones of `b`, which has as many places, from the highest place down. The
+/// pen has room for them.
+pub fn put_extract(pen: &mut BitPen, a: &Bits, b: &Bits)
+    requires places { length a.now ≡ length b.now }
+    requires room { length pen.old.bits + count_by (λ bit. bit) b.now ≤ pen.old.room }
+    ensures bits { pen.new.bits ≡ pen.old.bits ++ extract a.now b.now }
+    ensures room { pen.new.room ≡ pen.old.room }
+{
+    let mut below = b.len();
+    while let Some(place) = b.next_one_down(below) {
+        pen.put(a.get(place));
+        below = place;
+    }
+}
+
+/// Takes a bit for each one of `b`, which has as many places as `a`, from the highest place down, and makes
+/// it the bit of `a` at that place. The other bits of `a` stay. No bit is wrong, but the bits may end early.
+pub fn take_into(eye: &mut BitEye, a: &mut Bits, b: &Bits) -> Result<(), BitFault>
+    requires { length a.old ≡ length b.now }
+    ensures places { length a.new ≡ length a.old }
+    ensures moves { MovesOn eye.old eye.new }
+    ensures taken { OnOk result (bits_left eye.old ≡ extract a.new b.now ++ bits_left eye.new) }
+    ensures others { SameOutside b.now a.old a.new }
+    ensures early { IsErr result ↔ (length (bits_left eye.old) < count_by (λ bit. bit) b.now) }
+    ensures fault { IfErr result (λ fault. fault ≡ BitFault.EndsEarly (length eye.old.bits)) }
+    ensures at_end { OnErr result (eye.new.place ≡ length eye.old.bits) }
+    ensures reading { Gives (λ _. a.new) result eye.new (filled_at (places_down b.now) a.old (bits_left eye.old)) }
+{
+    let mut below = b.len();
+    while let Some(place) = b.next_one_down(below) {
+        let Some(bit) = eye.take() else {
+            return Err(BitFault::EndsEarly { bit: eye.size() });
+        };
+        a.set(place, bit);
+        below = place;
+    }
+    Ok(())
+}

@@ -1,0 +1,14 @@
+//! Codes of vectors: the words of runs, bits at places, and edges of masks.
+#![tactic(auto)]
+
+mod edge;
+mod extraction;
+mod inverse;
+mod matching;
+mod runs;
+
+pub use edge::{edges, from_edges};
+pub use extraction::{put_extract, take_into};
+pub use inverse::{put_inverse_up, take_inverse_up};
+pub use matching::match_runs;
+pub use runs::{put_runs, take_runs};

@@ -1,0 +1,53 @@
+//! The run-length words of vectors (CCSDS 124.0-B-1).
+
+ghost use Rattle.std.specs.Prelude.{◌≡◌, ◌+◌, ◌*◌, ◌≤◌, ◌++◌, Bool, List, length, IsOk, IfErr, OnOk};
+ghost use Rattle.bit_vectors.specs.Eye.{bits_left};
+ghost use Rattle.bit_vectors.specs.Reading.{MovesOn, Gives, IsFirstFault};
+ghost use Rattle.run_code.specs.Runs.{run_bits, IsRunWord, vector_at};
+
+use bit_vectors::{BitEye, BitFault, BitPen, Bits};
+use count_code::{Count, put_count, put_end, take_count};
+
+/// Appends the run word of a vector: from its highest place down, for each one the count of places from the
+/// one before it, or from the number of places, and then the end. It has at most 4 bits for each place and
+/// 2 more, for which the pen has room.
+pub fn put_runs(pen: &mut BitPen, v: &Bits)
+    requires { length pen.old.bits + (4 * length v.now + 2) ≤ pen.old.room }
+    ensures bits { pen.new.bits ≡ pen.old.bits ++ run_bits v.now }
+    ensures most { length (run_bits v.now) ≤ 4 * length v.now + 2 }
+    ensures room { pen.new.room ≡ pen.old.room }
+{
+    let mut below = v.len();
+    while let Some(place) = v.next_one_down(below) {
+        put_count(pen, below - place);
+        below = place;
+    }
+    put_end(pen);
+}
+
+/// Takes the run word of a vector with as many places as `into`, which is that vector then.
+pub fn take_runs(eye: &mut BitEye, into: &mut Bits) -> Result<(), BitFault>
+    ensures places { length into.new ≡ length into.old }
+    ensures moves { MovesOn eye.old eye.new }
+    ensures word { OnOk result (bits_left eye.old ≡ run_bits into.new ++ bits_left eye.new) }
+    ensures only { (v rest : List Bool) → length v ≡ length into.old → bits_left eye.old ≡ run_bits v ++ rest
+        → IsOk result × (into.new ≡ v) }
+    ensures fault { IfErr result (λ fault. IsFirstFault (IsRunWord (length into.old)) eye.old eye.new fault) }
+    ensures reading { Gives (λ _. into.new) result eye.new (vector_at (length into.old) (bits_left eye.old)) }
+{
+    read_runs(eye, into)
+}
+
+fn read_runs(eye: &mut BitEye, into: &mut Bits) -> Result<(), BitFault>
+    ensures places { length into.new ≡ length into.old }
+    ensures moves { MovesOn eye.old eye.new }
+    ensures reading { Gives (λ _. into.new) result eye.new (vector_at (length into.old) (bits_left eye.old)) }
+{
+    into.clear();
+    let mut below = into.len();
+    while let Count::Value(distance) = take_count(eye, below)? {
+        below -= distance;
+        into.set(below, true);
+    }
+    Ok(())
+}
