@@ -158,13 +158,8 @@ pub fn take_reference(
     match_number(eye, 0b10, 2)?;
     let level = take_level(eye)?;
     match_number(eye, 0b01, 2)?;
-    take_mask(
-        eye,
-        is_in_reach(last, t, level),
-        known,
-        runs,
-        &mut sent.mask,
-    )?;
+    let in_reach = is_in_reach(last, t, level);
+    take_mask(eye, in_reach, known, runs, &mut sent.mask)?;
     match_number(eye, 0b1, 1)?;
     match_count(eye, sent.content.len())?;
     take_vector(eye, &mut sent.content)?;
