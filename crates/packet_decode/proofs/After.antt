@@ -1,6 +1,6 @@
 -- What stands behind a word.
 use Rattle.std.proofs.Common.{◌≡◌, Bool, true, false, List, [], ◌∷◌, ◌++◌, Option, Some, None, refl, ap, ◌∙◌}
-use Rattle.packet_decode.specs.PlainReading.{◌>>=◌, after}
+use Rattle.packet_decode.specs.ReferenceReading.{◌>>=◌, after}
 
 pub after_word : (word rest : List Bool) → after word (word ++ rest) ≡ Some rest
 unfolding after
@@ -51,3 +51,11 @@ after-other false false word bits differs = absurd (differs refl)
 pub after-end : (bit : Bool) (word : List Bool) → after (bit ∷ word) [] ≡ None
 unfolding after
 after-end bit word = refl
+
+none_of : (o : Option (List Bool)) → ((rest : List Bool) → o ≡ Some rest → ⊥) → o ≡ None
+none_of None never = refl
+none_of (Some rest) never = absurd (never rest refl)
+
+-- a word that does not begin the bits
+pub after-none : (word bits : List Bool) → ((rest : List Bool) → bits ≡ word ++ rest → ⊥) → after word bits ≡ None
+after-none word bits never = none_of (after word bits) (λ rest e. never rest (after_is word bits rest e))

@@ -1,5 +1,7 @@
 pub mod After
-pub mod Counts
-pub mod PlainPackets
-pub mod Spelling
+pub mod EdgeMasks
 pub mod Taking
+pub mod Unchanged
+pub mod ReferencePackets
+pub mod Spelling
+pub mod Knowledge

@@ -3,7 +3,7 @@ use Rattle.std.proofs.Common.{◌≡◌, ℕ, ◌+◌, ◌<◌, ltb, Bool, true,
 use Rattle.std.proofs.lemmas.Bool.{cases_lt, lt-ltb, le-ltb}
 use Rattle.std.proofs.lemmas.Option.{none-some, some_pair_parts}
 use Rattle.std.proofs.lemmas.List.{length-append, length-take, length_push, take_at, drop_at, take-append-drop}
-use Rattle.packet_decode.specs.PlainReading.{vector_at}
+use Rattle.packet_decode.specs.ReferenceReading.{vector_at}
 
 -- so many bits were taken from all, and these are left
 pub record Taken (front rest all : List Bool) (count : ℕ) : Type 0 where

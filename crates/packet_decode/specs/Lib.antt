@@ -1,4 +1,4 @@
-pub mod Count
+pub mod Forms
 pub mod Packets
-pub mod PlainReading
+pub mod ReferenceReading
 pub mod Decoding

@@ -1,18 +1,10 @@
--- Plain packets (CCSDS 124.0-B-1): no recent change, a sent mask of all zeros or all ones, and whole content.
-use Rattle.std.specs.Prelude.{◌≡◌, ℕ, ◌<◌, Bool, true, false, List, [], ◌∷◌, ◌++◌, length, replicate, slice_index_or, Option, None, Some}
-use Rattle.bit_vectors.specs.Vectors.{number_bits, padded}
-use Rattle.packet_decode.specs.Count.{count_bits}
-
--- the run word of the edges of a mask: of all ones where it is full, and else of all zeros
-abbrev pub mask_word : Bool → List Bool
-mask_word false = true ∷ false ∷ []
-mask_word true = false ∷ true ∷ false ∷ []
-
--- The bits of a plain packet. Its parts are: no recent change, the effective robustness level, neither mask
--- nor content left out, a mask is sent, the mask, the content is whole, its number of places, the content.
-unfoldable pub plain_bits : ℕ → Bool → List Bool → List Bool
-plain_bits level full content =
-    true ∷ false ∷ (number_bits 4 level ++ (false ∷ true ∷ (mask_word full ++ (true ∷ (count_bits (length content) ++ content)))))
+-- What the bits of a packet say of its mask and its content, by the latest written packet (CCSDS 124.0-B-1).
+use Rattle.std.specs.Prelude.{◌≡◌, ◌==◌, ℕ, ◌-◌, ◌<◌, ◌≤◌, Bool, true, false, if◌then◌else◌, List, [], ◌∷◌, ◌++◌, length, slice_index_or, Option, None, Some, IfSome}
+use Rattle.bit_vectors.specs.Vectors.{padded, xor_bits, or_bits, without_bits}
+use Rattle.run_code.specs.Edges.{edges}
+use Rattle.run_code.specs.Extraction.{extract}
+use Rattle.run_code.specs.Runs.{run_bits}
+use Rattle.packet_decode.specs.Forms.{Directions, Content, Whole, Part, Form, IsForm, change_bits, form_bits, wide, Fits, IsReference}
 
 -- a written packet: its number, its mask and its content
 pub record Packet : Type 0 where
@@ -24,21 +16,79 @@ pub record Packet : Type 0 where
 abbrev pub State : Type 0
 State = Option Packet
 
+-- the packet with the number t and this effective robustness level comes so soon after the latest written one that it
+-- is understood by that: at most as many packets as the level says are between them
+abbrev pub InReach : State → ℕ → ℕ → Type 0
+InReach None t level = ⊥
+InReach (Some latest) t level = t - 1 - latest.number ≤ level
+
+-- the recent changes that did not make a place predictable
+abbrev pub unpredictable : List Bool → Option Directions → List Bool
+unpredictable recent None = recent
+unpredictable recent (Some directions) = without_bits recent directions.predictable
+
+-- The mask after the latest packet's. At level 0 each change turns a place; above, a change makes its place predictable
+-- where the directions say so, and else unpredictable.
+abbrev pub deduced_mask : Packet → Form → List Bool
+deduced_mask latest form =
+    if form.level == 0 then xor_bits latest.mask form.recent
+    else or_bits (without_bits latest.mask form.recent) (unpredictable form.recent form.directions)
+
 -- the content is the known one at each place where the mask is 0
 abbrev pub SameOutside : List Bool → List Bool → List Bool → Type 0
 SameOutside mask known content = (place : ℕ) → slice_index_or mask place true ≡ false → slice_index_or content place false ≡ slice_index_or known place false
 
--- a mask and a content fit what is known: the mask is the same, and so is the content outside the mask
-abbrev pub Follows : State → List Bool → List Bool → Type 0
-Follows None mask content = Unit {0}
-Follows (Some latest) mask content = (mask ≡ latest.mask) × SameOutside mask latest.content content
+-- what is sent of the content: all of it, or the bits at these places
+abbrev pub IsSentOf : List Bool → List Bool → Content → Type 0
+IsSentOf places content (Whole whole) = whole ≡ content
+IsSentOf places content (Part bits) = bits ≡ extract content places
 
--- Under a state, the bits spell the packet with the number t that has this mask and this content of f places.
-pub record Spells (f : ℕ) (state : State) (t : ℕ) (bits mask content : List Bool) : Type 0 where
-  pub level : ℕ
-  pub full : Bool
-  pub level_fits : level < 16
-  pub bits_are : bits ≡ padded (plain_bits level full content)
-  pub mask_is : mask ≡ replicate f full
-  pub places : length content ≡ f
-  pub follows : Follows state mask content
+-- In reach of the latest packet: the mask is deduced, and a sent one is the same; the content is the latest one's
+-- outside the extracted places.
+pub record Follows (latest : Packet) (form : Form) (mask content : List Bool) : Type 0 where
+  pub deduced : mask ≡ deduced_mask latest form
+  pub mask_sent : IfSome form.sent (λ sent. sent ≡ mask)
+  pub kept : SameOutside (wide form mask) latest.content content
+  pub content_sent : IsSentOf (wide form mask) content form.content
+
+-- out of reach: the mask and the whole content are sent
+pub record StandsAlone (form : Form) (mask content : List Bool) : Type 0 where
+  pub mask_sent : form.sent ≡ Some mask
+  pub content_sent : form.content ≡ Whole content
+
+-- Under a state, the bits spell the packet with the number t by this form of f places, and it has this mask and this
+-- content.
+pub record Spells (f : ℕ) (state : State) (t : ℕ) (bits : List Bool) (form : Form) (mask content : List Bool) : Type 0 where
+  pub is_form : IsForm f form
+  pub mask_places : length mask ≡ f
+  pub content_places : length content ≡ f
+  pub bits_are : bits ≡ padded (form_bits form)
+  pub fits : Fits form mask
+  pub in_reach : InReach state t form.level → IfSome state (λ latest. Follows latest form mask content)
+  pub out_of_reach : (InReach state t form.level → ⊥) → StandsAlone form mask content
+
+-- the front of the form's bits at which it shows that the mask or the whole content is not sent, where one isn't
+abbrev pub opaque_end : Option (List Bool) → Content → Option (List Bool)
+opaque_end None (Part bits) = Some (true ∷ [])
+opaque_end None (Whole content) = Some (false ∷ false ∷ [])
+opaque_end (Some mask) (Part bits) = Some (false ∷ true ∷ (run_bits (edges mask) ++ false ∷ []))
+opaque_end (Some mask) (Whole content) = None
+
+-- Out of reach, the bits begin with the front of a form of this level up to where it shows that it doesn't stand
+-- alone. What follows may be anything.
+pub record HasOpaqueFront (f : ℕ) (state : State) (t : ℕ) (bits : List Bool) (level : ℕ) : Type 0 where
+  pub form : Form
+  pub is_form : IsForm f form
+  pub level_is : form.level ≡ level
+  pub out_of_reach : InReach state t level → ⊥
+  pub end : List Bool
+  pub end_is : opaque_end form.sent form.content ≡ Some end
+  pub rest : List Bool
+  pub bits_are : bits ≡ change_bits form ++ (end ++ rest)
+
+-- Under a state, the bits spell the packet with the number t that has this mask and this content of f places, by a
+-- form with no recent change, a sent mask and whole content.
+pub record SpellsSent (f : ℕ) (state : State) (t : ℕ) (bits mask content : List Bool) : Type 0 where
+  pub form : Form
+  pub reference : IsReference f form
+  pub spells : Spells f state t bits form mask content

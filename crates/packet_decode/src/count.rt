@@ -3,10 +3,11 @@
 ghost use Rattle.std.specs.Prelude.{◌≡◌, ◌^◌, ◌<◌, ◌≤◌, Some, None, MatchOption};
 ghost use Rattle.bit_vectors.specs.Vectors.{number_bits};
 ghost use Rattle.bit_vectors.specs.Eye.{bits_left};
-ghost use Rattle.packet_decode.specs.Count.{count_bits};
-ghost use Rattle.packet_decode.specs.PlainReading.{after};
+ghost use Rattle.count_code.specs.Code.{count_bits};
+ghost use Rattle.packet_decode.specs.ReferenceReading.{after};
 
 use bit_vectors::BitEye;
+use count_code::count_len;
 
 /// Takes the bits of a number, the greatest weight first, and gives nothing where others stand there.
 pub fn match_number(eye: &mut BitEye<'_>, value: u32, width: u32) -> Option<()>
@@ -42,7 +43,6 @@ pub fn match_count(eye: &mut BitEye<'_>, count: u32) -> Option<()>
         match_number(eye, 0b110, 3)?;
         return match_number(eye, value, 5);
     }
-    let digits = 32 - value.leading_zeros();
     match_number(eye, 0b111, 3)?;
-    match_number(eye, value, 2 * digits - 6)
+    match_number(eye, value, count_len(count) - 3)
 }

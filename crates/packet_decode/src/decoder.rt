@@ -2,10 +2,10 @@
 
 ghost use Rattle.std.specs.Prelude.{◌≡◌, ℕ, ◌^◌, ◌<◌, ◌≤◌, ◌↔◌, Bool, false, List, length, replicate, Some, None, IfSome, IfOk};
 ghost use Rattle.bit_vectors.specs.Vectors.{IsVector, bits_of};
-ghost use Rattle.packet_decode.specs.Packets.{Spells};
+ghost use Rattle.packet_decode.specs.Packets.{SpellsSent};
 ghost use Rattle.packet_decode.specs.Decoding.{number_of, mask_of, content_of};
 
-use crate::plain::{Vectors, follows, take_plain};
+use crate::reference::{Vectors, agrees, is_in_reach, take_reference};
 use bit_vectors::{BitEye, Bits, NoMemory};
 use std::alloc::Global;
 use std::marker::Model;
@@ -27,6 +27,7 @@ pub struct Decoder {
     last: Option<u64>,
     known: Vectors,
     sent: Vectors,
+    runs: Bits,
 }
 
 /// Two vectors of `f` zeros.
@@ -49,7 +50,7 @@ impl Model for Decoder {
 
     ghost view = { λ d. record { places = length d.known.content; state = state_of d.last d.known } };
 
-    ghost invariant = { λ d. IsDecoder d.last d.known d.sent };
+    ghost invariant = { λ d. IsDecoder d.last d.known d.sent d.runs };
 }
 
 impl Decoder {
@@ -61,10 +62,12 @@ impl Decoder {
     {
         let known = zeros(alloc, f)?;
         let sent = zeros(alloc, f)?;
+        let runs = Bits::zeros(alloc, f)?;
         Ok(Decoder {
             last: None,
             known,
             sent,
+            runs,
         })
     }
 
@@ -75,18 +78,26 @@ impl Decoder {
         requires size { length bytes.now ≤ 65536 }
         // Written exactly where the bits spell a packet.
         ensures written { (result ≡ Reading.Written) ↔
-            ((mask : List Bool) × (content : List Bool) × Spells self.old.places self.old.state t (bits_of bytes.now) mask content) }
+            ((mask : List Bool) × (content : List Bool) × SpellsSent self.old.places self.old.state t (bits_of bytes.now) mask content) }
         // That packet is then the latest written one.
-        ensures latest { (mask content : List Bool) → Spells self.old.places self.old.state t (bits_of bytes.now) mask content →
+        ensures latest { (mask content : List Bool) → SpellsSent self.old.places self.old.state t (bits_of bytes.now) mask content →
             self.new.state ≡ Some (record { number = t; mask = mask; content = content }) }
         ensures unchanged { result ≡ Reading.NotYet → self.new ≡ self.old }
         ensures places { self.new.places ≡ self.old.places }
     {
         let mut eye = BitEye::new(bytes);
-        if take_plain(&mut eye, &mut self.sent).is_none() {
+        let Some(level) = take_reference(
+            &mut eye,
+            t,
+            self.last,
+            &self.known.mask,
+            &mut self.runs,
+            &mut self.sent,
+        ) else {
             return Reading::NotYet;
-        }
-        if !follows(self.last, &self.known, &self.sent) {
+        };
+        let in_reach = is_in_reach(self.last, t, level);
+        if !agrees(in_reach, &self.known.content, &self.sent) {
             return Reading::NotYet;
         }
         swap(&mut self.known, &mut self.sent);

@@ -1,13 +1,15 @@
-//! Reading the data of plain packets of compressed housekeeping (CCSDS 124.0-B-1).
+//! Reading the data of packets of compressed housekeeping (CCSDS 124.0-B-1).
 #![tactic(auto)]
 
 mod count;
 mod decoder;
 mod laws;
-mod plain;
+mod reference;
 
 pub use decoder::{Decoder, Reading};
-pub use laws::{one_packet, plain_follows, reading_is_spelling, worked_packets};
+pub use laws::{
+    no_further_byte, one_form, one_packet, reading_is_spelling, reference_packets, worked_packets,
+};
 
 #[cfg(test)]
 mod tests;

@@ -1,14 +1,16 @@
 //! Packets of 8 places, with their data worked out by hand.
 
 use crate::{Decoder, Reading};
+use bit_vectors::Bits;
 use std::test::Fail;
 
-/// Data, the answer that they must have, and what must then be the latest packet's number and content.
+/// Data, the answer that they must have, and what must then be the latest packet's number, mask and content.
 #[derive(Drop)]
 struct Row<'a> {
     data: &'a [u8],
     reading: Reading,
     last: u64,
+    mask: u8,
     content: u8,
 }
 
@@ -25,11 +27,11 @@ fn answer(decoder: &mut Decoder, t: u64, data: &[u8]) -> Option<Reading> {
     Some(decoder.read(t, data))
 }
 
-/// The content of 8 places as a byte.
-fn byte(decoder: &Decoder) -> u8 {
+/// A vector of 8 places as a byte.
+fn byte(vector: &Bits) -> u8 {
     let mut out = [0];
-    if decoder.content().len() == 8 {
-        decoder.content().store(&mut out);
+    if vector.len() == 8 {
+        vector.store(&mut out);
     }
     out[0]
 }
@@ -40,7 +42,8 @@ fn passes(decoder: &mut Decoder, rows: &[Row<'_>]) -> bool {
         let reading = answer(decoder, t as u64, row.data);
         if reading != Some(row.reading)
             || decoder.last() != Some(row.last)
-            || byte(decoder) != row.content
+            || byte(decoder.mask()) != row.mask
+            || byte(decoder.content()) != row.content
         {
             return false;
         }
@@ -56,12 +59,14 @@ fn worked_data(rt: HostRuntime) -> Result<(), Fail> {
             data: &[0x85, 0xB8, 0xD6, 0x00],
             reading: Reading::Written,
             last: 0,
+            mask: 0x00,
             content: 0xB0,
         },
         Row {
             data: &[0x82],
             reading: Reading::NotYet,
             last: 0,
+            mask: 0x00,
             content: 0xB0,
         },
     ];
@@ -73,15 +78,27 @@ fn worked_data(rt: HostRuntime) -> Result<(), Fail> {
             data: &[0x85, 0x5C, 0x6B, 0x00],
             reading: Reading::Written,
             last: 0,
+            mask: 0xFF,
             content: 0xB0,
         },
         Row {
             data: &[0x85, 0x5C, 0x64, 0xF0],
             reading: Reading::Written,
             last: 1,
+            mask: 0xFF,
             content: 0x4F,
         },
     ];
     assert!(rt; passes(&mut decoder, &full_mask));
+
+    let mut decoder = Decoder::open(rt.alloc(), 8)?;
+    let half_mask = [Row {
+        data: &[0x81, 0x61, 0x5C, 0x6A, 0x50],
+        reading: Reading::Written,
+        last: 0,
+        mask: 0x0F,
+        content: 0xA5,
+    }];
+    assert!(rt; passes(&mut decoder, &half_mask));
     Ok(())
 }

@@ -3,8 +3,8 @@ use Rattle.std.proofs.Common.{◌≡◌, ℕ, suc, ◌+◌, ◌<◌, ◌≤◌, 
 use Rattle.std.proofs.lemmas.Bool.{cases_lt}
 use Rattle.std.proofs.lemmas.List.{flat_map_more, length-append}
 use Rattle.bit_vectors.specs.Vectors.{bits_of, vector_bytes}
-use Rattle.packet_decode.specs.Packets.{State, Spells}
-use Rattle.packet_decode.proofs.Spelling.{Spells-unique}
+use Rattle.packet_decode.specs.Packets.{State, SpellsSent}
+use Rattle.packet_decode.proofs.Spelling.{SpellsSent-unique}
 use Rattle.packet_store.specs.SpacePackets.{space_packet, store_bytes}
 use Rattle.packet_store.proofs.Packets.{space_packet-same}
 use Rattle.pocket_cmd.specs.PlainStore.{IsNextPlain, ArePlain, IsPlainStore, IsLongestPlain, IsStuck}
@@ -49,8 +49,8 @@ ArePlain-tail f apid t state (p ∷ packets) (q ∷ others) (c ∷ contents) (d 
     let apart : space_packet apid p.0 p.1 ++ (store_bytes apid packets ++ rest) ≡ space_packet apid q.0 q.1 ++ (store_bytes apid others ++ after) =
     sym (append_assoc (space_packet apid p.0 p.1) (store_bytes apid packets) rest) ∙ (same ∙ append_assoc (space_packet apid q.0 q.1) (store_bytes apid others) after) in
     let equal = space_packet-same apid p.0 q.0 p.1 (store_bytes apid packets ++ rest) q.1 (store_bytes apid others ++ after) one.whole two.whole apart in
-    let spelled = subst (λ (body : List ℕ). Spells f state t (bits_of body) two.mask d) (sym equal.1) two.spells in
-    let unique = Spells-unique f t state (bits_of p.1) one.mask c two.mask d one.spells spelled in
+    let spelled = subst (λ (body : List ℕ). SpellsSent f state t (bits_of body) two.mask d) (sym equal.1) two.spells in
+    let unique = SpellsSent-unique f t state (bits_of p.1) one.mask c two.mask d one.spells spelled in
     let written : (mask content : List Bool) → State = λ mask content. Some (record { number = t; mask = mask; content = content }) in
     let states : other.0 ≡ plain.0 =
     two.after ∙ (ap (λ (m : List Bool). written m d) (sym unique.0) ∙ (ap (λ (i : List Bool). written one.mask i) (sym unique.1) ∙ sym one.after)) in

@@ -1,7 +1,8 @@
--- A store that is restored so far: plain packets of one APID, one after the other, with nothing between.
+-- A store that is restored so far: packets of one APID with no recent change, a sent mask and whole content, one after
+-- the other, with nothing between. They are called plain here.
 use Rattle.std.specs.Prelude.{◌≡◌, ◌≢◌, ℕ, ◌+◌, ◌%◌, ◌^◌, ◌≤◌, ◌⊎◌, Bool, List, [], ◌∷◌, ◌++◌, length, Some, None}
 use Rattle.bit_vectors.specs.Vectors.{bits_of}
-use Rattle.packet_decode.specs.Packets.{State, Spells}
+use Rattle.packet_decode.specs.Packets.{State, SpellsSent}
 use Rattle.packet_store.specs.SpacePackets.{IsPacket, space_packet, store_bytes}
 
 -- Under a state, the packet (its sequence count and its data) is the one with the number t: its count is that of
@@ -10,7 +11,7 @@ pub record IsNextPlain (f apid t : ℕ) (old : State) (packet : ℕ × List ℕ)
   pub whole : IsPacket apid packet.0 packet.1
   pub count : packet.0 ≡ t % 16384
   pub mask : List Bool
-  pub spells : Spells f old t (bits_of packet.1) mask content
+  pub spells : SpellsSent f old t (bits_of packet.1) mask content
   pub after : new ≡ Some (record { number = t; mask = mask; content = content })
 
 -- from the number t and a state on, the packets have these contents one after the other, and leave the last state

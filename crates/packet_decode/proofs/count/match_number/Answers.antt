@@ -5,7 +5,7 @@ use Rattle.std.specs.Int.{bit_at}
 use Rattle.std.proofs.lemmas.Nat.Bits.{shr_and_one}
 use Rattle.bit_vectors.specs.Vectors.{number_bits}
 use Rattle.bit_vectors.specs.Eye.{bits_left}
-use Rattle.packet_decode.specs.PlainReading.{after}
+use Rattle.packet_decode.specs.ReferenceReading.{after}
 use Rattle.packet_decode.proofs.After.{after-same, after-other, after-end}
 use Rattle.packet_decode.proofs.count.match_number.Goals as goal
 

@@ -1,7 +1,7 @@
 use Rattle.std.proofs.Common.{◌≡◌, ◌≤◌}
 use Rattle.bit_vectors.specs.Vectors.{number_bits}
 use Rattle.bit_vectors.specs.Eye.{bits_left}
-use Rattle.packet_decode.specs.PlainReading.{after}
+use Rattle.packet_decode.specs.ReferenceReading.{after}
 use Rattle.packet_decode.proofs.count.match_number.Given as goal
 
 abbrev pub invariant-loop-left : goal.invariant-loop-left

@@ -1,5 +1,5 @@
-use Rattle.packet_decode.proofs.Spelling.{Spells-unique}
+use Rattle.packet_decode.proofs.Spelling.{SpellsSent-unique}
 use Rattle.packet_decode.proofs.laws.one_packet.Goals as goal
 
 pub returns : goal.returns
-returns c = Spells-unique
+returns c = SpellsSent-unique

@@ -2,7 +2,7 @@ use Rattle.std.proofs.Common.{◌+◌, ◌<◌, ℕ, List, IfSome, refl, sym, ap
 use Rattle.bit_vectors.specs.Vectors.{bits_of}
 use Rattle.desk_ports.proofs.Runs.{Ran-moves}
 use Rattle.packet_decode.specs.Decoding.{number_of}
-use Rattle.packet_decode.specs.Packets.{Spells}
+use Rattle.packet_decode.specs.Packets.{SpellsSent}
 use Rattle.pocket_cmd.proofs.Stuck.{IsStuck-unread}
 use Rattle.pocket_cmd.proofs.packets.read_next.Goals as goal
 
@@ -17,7 +17,7 @@ returns-in-Written-clause-read g c =
         whole = told.given.fits;
         count = sym c.from.ensures ∙ c.if-from-t.false;
         mask = written.0;
-        spells = subst (λ (body : List ℕ). Spells decoder.places decoder.state c.args.t (bits_of body) written.0 written.1) c.body.ensures written.2;
+        spells = subst (λ (body : List ℕ). SpellsSent decoder.places decoder.state c.args.t (bits_of body) written.0 written.1) c.body.ensures written.2;
         after = c.in-Written.ensures.latest written.0 written.1 written.2;
       },
       Ran-moves (g.D.Desk.meaning c.args.desk.now) (g.D.Desk.meaning c.next.new.desk) _ told.some,
@@ -44,6 +44,6 @@ returns-in-NotYet-clause-read g c =
     let before = g.D.Desk.meaning c.args.desk.now in
     let after = g.D.Desk.meaning c.next.new.desk in
     let stuck = IsStuck-unread decoder.places c.args.reader.now.apid c.args.t decoder.state c.in-Ok-Some.taken.count c.next.new.self.body _ _ told.given.fits told.some.moved (λ mask content spells.
-    let here = subst (λ (body : List ℕ). Spells decoder.places decoder.state c.args.t (bits_of body) mask content) (sym c.body.ensures) spells in
+    let here = subst (λ (body : List ℕ). SpellsSent decoder.places decoder.state c.args.t (bits_of body) mask content) (sym c.body.ensures) spells in
     absurd (let e = c.in-NotYet.ensures.written.1 (mask, content, here) in cc)) in
     (refl, (_, Ran-moves before after _ told.some), stuck)

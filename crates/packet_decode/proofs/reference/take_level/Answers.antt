@@ -4,9 +4,9 @@ use Rattle.std.proofs.Math.Pow.{pow_mono}
 use Rattle.bit_vectors.specs.Vectors.{bits_number}
 use Rattle.bit_vectors.specs.Eye.{bits_left}
 use Rattle.bit_vectors.proofs.NumberBits.{bits_number_below, bits_number-push}
-use Rattle.packet_decode.specs.PlainReading.{number_at}
+use Rattle.packet_decode.specs.ReferenceReading.{number_at}
 use Rattle.packet_decode.proofs.Taking.{Taken, Taken-none, Taken-more, vector_at-taken}
-use Rattle.packet_decode.proofs.plain.take_level.Goals as goal
+use Rattle.packet_decode.proofs.reference.take_level.Goals as goal
 
 bool_byte_is : (bit : Bool) → bool_byte bit ≡ cond bit 1 0
 bool_byte_is true = refl

@@ -1,7 +1,7 @@
 use Rattle.std.proofs.Common.{◌≡◌, length, take}
 use Rattle.bit_vectors.specs.Eye.{bits_left}
 use Rattle.packet_decode.proofs.Taking.{Taken}
-use Rattle.packet_decode.proofs.plain.take_vector.Given as goal
+use Rattle.packet_decode.proofs.reference.take_vector.Given as goal
 
 abbrev pub invariant-loop-place : goal.invariant-loop-place
 invariant-loop-place l = record {

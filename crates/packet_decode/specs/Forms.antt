@@ -1,0 +1,115 @@
+-- The form of a packet (CCSDS 124.0-B-1): its parts, and the bits by which it is sent.
+use Rattle.std.specs.Prelude.{◌≡◌, ℕ, ◌<◌, nat_lt, Bool, true, false, ◌&&◌, if◌then◌else◌, List, [], ◌∷◌, ◌++◌, length, count_by, Contains, replicate, Option, None, Some, IfSome, IsSome}
+use Rattle.std.specs.List.{list_any}
+use Rattle.bit_vectors.specs.Vectors.{number_bits, or_bits, IsOne}
+use Rattle.count_code.specs.Code.{count_bits}
+use Rattle.run_code.specs.Edges.{edges}
+use Rattle.run_code.specs.Extraction.{bits_up}
+use Rattle.run_code.specs.Runs.{run_bits}
+
+-- Which recent changes made a place predictable, as a vector of these places; and whether the mask was made new
+-- more than once within the robustness level, so that all recent changes are extracted too.
+pub record Directions : Type 0 where
+  pub predictable : List Bool
+  pub twice : Bool
+
+-- the whole content, or only some of its bits
+pub data Content : Type 0 where
+  Whole : List Bool → Content
+  Part : List Bool → Content
+
+-- Its parts: the change vector of the recent changes of the mask, the effective robustness level, the directions of
+-- those changes where they are sent, the mask where it is sent, and the content.
+pub record Form : Type 0 where
+  pub recent : List Bool
+  pub level : ℕ
+  pub directions : Option Directions
+  pub sent : Option (List Bool)
+  pub content : Content
+
+-- ---- which forms there are
+
+-- directions come with a level above 0, and name at least one of the recent changes
+pub record AreDirections (form : Form) (directions : Directions) : Type 0 where
+  pub level : 0 < form.level
+  pub places : length directions.predictable ≡ length form.recent
+  pub recent : (place : ℕ) → IsOne directions.predictable place → IsOne form.recent place
+  pub some : Contains directions.predictable true
+
+abbrev pub HasPlaces : ℕ → Content → Type 0
+HasPlaces f (Whole content) = length content ≡ f
+HasPlaces f (Part bits) = Unit {0}
+
+-- a form of vectors of f places
+pub record IsForm (f : ℕ) (form : Form) : Type 0 where
+  pub recent : length form.recent ≡ f
+  pub level : form.level < 16
+  pub directions : IfSome form.directions (AreDirections form)
+  pub sent : IfSome form.sent (λ mask. length mask ≡ f)
+  pub content : HasPlaces f form.content
+
+-- ---- its bits
+
+-- For each recent change, from the lowest place up, whether it made the place predictable; and whether all recent
+-- changes are extracted.
+abbrev pub direction_bits : List Bool → Option Directions → List Bool
+direction_bits recent None = false ∷ []
+direction_bits recent (Some directions) = true ∷ (bits_up directions.predictable recent ++ directions.twice ∷ [])
+
+-- the first part: the recent changes, the level in four bits, and, where there are changes and a level, directions
+unfoldable pub change_bits : Form → List Bool
+change_bits form =
+    run_bits form.recent ++ (number_bits 4 form.level ++ (if list_any (λ bit. bit) form.recent && nat_lt 0 form.level then direction_bits form.recent form.directions else []))
+
+-- the mask by the runs of its edges
+abbrev pub mask_bits : Option (List Bool) → List Bool
+mask_bits None = false ∷ []
+mask_bits (Some mask) = true ∷ run_bits (edges mask)
+
+-- the whole content after its number of places
+abbrev pub content_bits : Content → List Bool
+content_bits (Part bits) = false ∷ bits
+content_bits (Whole content) = true ∷ (count_bits (length content) ++ content)
+
+-- the parts after the first: a one where neither the mask nor the whole content is sent, and else a zero and both
+abbrev pub data_bits : Option (List Bool) → Content → List Bool
+data_bits None (Part bits) = true ∷ bits
+data_bits None (Whole content) = false ∷ (mask_bits None ++ content_bits (Whole content))
+data_bits (Some mask) content = false ∷ (mask_bits (Some mask) ++ content_bits content)
+
+unfoldable pub form_bits : Form → List Bool
+form_bits form = change_bits form ++ data_bits form.sent form.content
+
+-- ---- what is extracted
+
+-- the places that are extracted: those of the mask, and all recent changes where the directions say so
+abbrev pub wide_by : Option Directions → List Bool → List Bool → List Bool
+wide_by None recent mask = mask
+wide_by (Some directions) recent mask = if directions.twice then or_bits mask recent else mask
+
+abbrev pub wide : Form → List Bool → List Bool
+wide form mask = wide_by form.directions form.recent mask
+
+-- under a mask: a part of the content has a bit for each extracted place
+abbrev pub FitsPlaces : List Bool → Content → Type 0
+FitsPlaces places (Whole content) = Unit {0}
+FitsPlaces places (Part bits) = length bits ≡ count_by (λ bit. bit) places
+
+abbrev pub Fits : Form → List Bool → Type 0
+Fits form mask = FitsPlaces (wide form mask) form.content
+
+-- ---- the forms that are read so far
+
+abbrev pub IsWhole : Content → Type 0
+IsWhole (Whole content) = Unit {0}
+IsWhole (Part bits) = ⊥
+
+-- no recent change, a sent mask and whole content
+pub record IsReference (f : ℕ) (form : Form) : Type 0 where
+  pub unchanged : form.recent ≡ replicate f false
+  pub sent : IsSome form.sent
+  pub whole : IsWhole form.content
+
+-- the form of such a packet
+abbrev pub reference_form : ℕ → ℕ → List Bool → List Bool → Form
+reference_form f level mask content = record { recent = replicate f false; level = level; directions = None; sent = Some mask; content = Whole content }
