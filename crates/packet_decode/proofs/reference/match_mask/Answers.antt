@@ -13,7 +13,7 @@ unmatched : (word other bits : List Bool) → word ≡ other → ((rest : List B
 unmatched word other bits same never = rw same at (after-none (run_bits word) bits never)
 
 pub returns-in_default-clause-mask : goal.returns-in_default-clause-mask
-returns-in_default-clause-mask c = unmatched c.edges.new.into (edges c.args.known.now) (bits_left c.args.eye.now) c.edges.ensures (λ rest is. let ok = c.in_default.ensures.only rest is in absurd cc)
+returns-in_default-clause-mask c = unmatched c.edges.new.into (edges c.args.known.now) (bits_left c.args.eye.now) c.edges.ensures.edges (λ rest is. let ok = c.in_default.ensures.only rest is in absurd cc)
 
 pub returns-clause-mask : goal.returns-clause-mask
-returns-clause-mask c = matched c.edges.new.into (edges c.args.known.now) (bits_left c.args.eye.now) (bits_left c.match_runs.new.eye) c.edges.ensures c.in-Ok.ensures.word
+returns-clause-mask c = matched c.edges.new.into (edges c.args.known.now) (bits_left c.args.eye.now) (bits_left c.match_runs.new.eye) c.edges.ensures.edges c.in-Ok.ensures.word
