@@ -1,19 +1,19 @@
 -- Reading run words is exact.
-use Rattle.std.proofs.Common.{◌≡◌, ◌≢◌, ℕ, zero, suc, ◌+◌, ◌-◌, ◌<◌, ◌≤◌, Bool, true, false, List, [], ◌∷◌, ◌++◌, length, get_or, set, replicate, Result, Ok, Err, refl, sym, ap, ◌∙◌, subst, arith, ◌⊎◌, inl, inr}
+use Rattle.std.proofs.Common.{◌≡◌, ◌≢◌, ℕ, zero, suc, ◌+◌, ◌-◌, ◌<◌, ◌≤◌, Bool, true, false, List, [], ◌++◌, length, get_or, set, replicate, Result, Ok, Err, refl, sym, ap, ◌∙◌, arith, inl, inr}
 use Rattle.std.specs.Prelude.{IsOk, OnOk}
 use Rattle.std.proofs.lemmas.Bool.{cases_lt, cases_eq}
-use Rattle.std.proofs.lemmas.List.{length-set, length-replicate, append-nil, get_or-set_same, get_or-set_other, get_or-replicate, get_or_past, ext_get_or}
+use Rattle.std.proofs.lemmas.List.{length-set, length-replicate, get_or-set_same, get_or-set_other, get_or_past, ext_get_or}
 use Rattle.bit_vectors.specs.declared.fault.BitFault.{BitFault}
 use Rattle.bit_vectors.specs.declared.fault.BitFault.TheVariants.{Wrong, EndsEarly}
 use Rattle.bit_vectors.specs.Vectors.{NoneIsOne}
 use Rattle.bit_vectors.specs.Eye.{EyeState, bits_left}
-use Rattle.bit_vectors.specs.Reading.{Reading, Read, WrongBit, TooShort, ◌>>=◌, Gives, IsExact}
+use Rattle.bit_vectors.specs.Reading.{Reading, Read, Gives, IsExact}
 use Rattle.bit_vectors.proofs.ExactReading.{IsWordThen, IsExact-give, IsExact-same, IsExact-then}
 use Rattle.bit_vectors.proofs.EyeReading.{Gives-then_err}
 use Rattle.count_code.specs.declared.count.Count.{Count}
 use Rattle.count_code.specs.declared.count.Count.TheVariants.{Value, End}
 use Rattle.count_code.specs.Code.{count_bits, end_bits}
-use Rattle.count_code.specs.Counts.{word_of, IsCodeOf, count_at}
+use Rattle.count_code.specs.Counts.{IsCodeOf, count_at}
 use Rattle.count_code.proofs.ExactCounts.{IsExact-count_at}
 use Rattle.run_code.specs.Runs.{runs_from, run_bits, IsRunWordOf, at_count, ones_at, vector_at}
 use Rattle.run_code.proofs.Ones.{zeros_at, ones_below, ones_below-one, ones_below-none, greatest_one}
@@ -102,9 +102,14 @@ apart_value below v fits none u word h p lt one over =
         ]
       ];
       is = refl;
-    } in
-    (Value (below - p), count_bits (below - p), runs_from p (ones_below p u), ((omega arith, omega arith), refl), rw back rest,
-    h.is ∙ rw (ones_below-one u p below lt one over, runs_from-cons below p (ones_below p u)) refl)
+    } in (
+      Value (below - p),
+      count_bits (below - p),
+      runs_from p (ones_below p u),
+      ((omega arith, omega arith), refl),
+      rw back rest,
+      h.is ∙ rw (ones_below-one u p below lt one over, runs_from-cons below p (ones_below p u)) refl,
+    )
 
 apart : (below : ℕ) (v : List Bool) → below ≤ length v → NoneIsOne v 0 below → (u word : List Bool) → Completes below v u word → IsWordThen (IsCodeOf below) (IsRest below v) u word
 apart below v fits none u word h =

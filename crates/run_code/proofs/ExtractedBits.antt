@@ -1,5 +1,5 @@
 -- What extracted bits tell.
-use Rattle.std.proofs.Common.{◌≡◌, ℕ, zero, suc, ◌+◌, ◌-◌, ◌<◌, ◌≤◌, Bool, true, false, List, [], ◌∷◌, length, get_or, map, refl, sym, ap, ◌∙◌, arith, ◌⊎◌, inl, inr}
+use Rattle.std.proofs.Common.{◌≡◌, ℕ, zero, suc, ◌+◌, ◌<◌, Bool, true, false, List, [], ◌∷◌, length, get_or, refl, sym, ap, ◌∙◌, arith, inl, inr}
 use Rattle.std.specs.Prelude.{not, ◌&&◌, count_by, Contains}
 use Rattle.std.specs.List.Sorted.{IsStrictlyIncreasing}
 use Rattle.std.proofs.lemmas.List.{length-map, get_or-map, get_or_default, ext_get_or}
@@ -7,7 +7,7 @@ use Rattle.std.proofs.lemmas.List.Elements.{Contains-get_or}
 use Rattle.bit_vectors.specs.Vectors.{without_bits}
 use Rattle.bit_vectors.proofs.Places.{get_or-zip2_all}
 use Rattle.run_code.specs.Places.{ones_from, places_up, places_down}
-use Rattle.run_code.specs.Extraction.{bits_at, extract, bits_up, inverse_up, SameOutside}
+use Rattle.run_code.specs.Extraction.{extract, bits_up, inverse_up, SameOutside}
 use Rattle.run_code.proofs.Ones.{one_or_zero, in_ones_from, in_places_up, places_down_has, length-places_down}
 use Rattle.run_code.proofs.InverseBits.{length-bits_at, bit_of}
 

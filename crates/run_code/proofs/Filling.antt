@@ -1,9 +1,9 @@
 -- Reading bits into places of a vector.
-use Rattle.std.proofs.Common.{◌≡◌, ◌≢◌, ℕ, zero, suc, ◌+◌, ◌<◌, ◌≤◌, Bool, true, false, List, [], ◌∷◌, ◌++◌, length, get_or, set, map, replicate, refl, sym, ap, ◌∙◌, subst, arith, inl, inr}
+use Rattle.std.proofs.Common.{◌≡◌, ◌≢◌, ℕ, zero, suc, ◌<◌, ◌≤◌, Bool, true, false, List, [], ◌∷◌, length, get_or, set, refl, sym, ◌∙◌, arith, inl, inr}
 use Rattle.std.specs.Prelude.{Contains}
 use Rattle.std.proofs.lemmas.Bool.{cases_eq}
-use Rattle.std.proofs.lemmas.List.{length-map, length-set, length-append, get_or-set_same, get_or-set_other, ext_get_or}
-use Rattle.bit_vectors.specs.Reading.{Reading, Read, WrongBit, TooShort, ◌>>=◌, bit_where, IsExact}
+use Rattle.std.proofs.lemmas.List.{length-set, get_or-set_same, get_or-set_other, ext_get_or}
+use Rattle.bit_vectors.specs.Reading.{Read, WrongBit, TooShort, bit_where, IsExact}
 use Rattle.bit_vectors.proofs.ExactReading.{IsBitWhere, IsWordThen, IsExact-give, IsExact-bit_where, IsExact-same, IsExact-then}
 use Rattle.run_code.specs.Extraction.{bits_at, filled_at}
 use Rattle.run_code.proofs.Ones.{AreApart}
@@ -78,9 +78,9 @@ IsExact-filled_at (place ∷ places) v apart =
     (λ u word w. filling_of place places v u word apart.0 apart.1 w)
     (λ u word h. parts_of place places v u word apart.0 h)
     (IsExact-then (IsBitWhere (λ (bit : Bool). true)) (IsLaterFilling place places v) (bit_where (λ (bit : Bool). true)) (λ (bit : Bool) (rest : List Bool). filled_at places (set v place bit) rest)
-      (IsExact-bit_where (λ (bit : Bool). true) true refl)
-      (λ bit word w. IsExact-filled_at places (set v place bit) (AreApart-set places v place bit apart.2))
-      (λ bit word w. (set v place bit, bits_at (set v place bit) places, (OnlyAt-refl places (set v place bit), refl))))
+    (IsExact-bit_where (λ (bit : Bool). true) true refl)
+    (λ bit word w. IsExact-filled_at places (set v place bit) (AreApart-set places v place bit apart.2))
+    (λ bit word w. (set v place bit, bits_at (set v place bit) places, (OnlyAt-refl places (set v place bit), refl))))
 
 -- ---- when the bits suffice
 

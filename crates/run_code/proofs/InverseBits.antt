@@ -1,9 +1,9 @@
 -- Reading a set of ones that is not empty.
-use Rattle.std.proofs.Common.{◌≡◌, ℕ, zero, suc, ◌+◌, ◌-◌, ◌<◌, ◌≤◌, Bool, true, false, cond, List, [], ◌∷◌, ◌++◌, length, get_or, set, map, take, replicate, Result, Ok, Err, refl, sym, ap, ◌∙◌, subst, arith, ◌⊎◌, inl, inr, append_assoc}
+use Rattle.std.proofs.Common.{◌≡◌, ℕ, zero, suc, ◌+◌, ◌-◌, ◌<◌, ◌≤◌, Bool, true, false, cond, List, [], ◌∷◌, ◌++◌, length, get_or, set, take, replicate, Result, Ok, Err, refl, sym, ap, ◌∙◌, arith, ◌⊎◌, inl, inr, append_assoc}
 use Rattle.std.specs.Prelude.{◌↔◌, Contains, count_by, OnOk}
 use Rattle.std.specs.List.{list_any}
-use Rattle.std.proofs.lemmas.Bool.{cases_lt, true≢false}
-use Rattle.std.proofs.lemmas.List.{length-map, length-append, length-replicate, length-drop, length-take, get_or-map, get_or-replicate, get_or_past, get_or_default, get_or_at, ext_get_or, take_at, nil_from_length, append-nil}
+use Rattle.std.proofs.lemmas.Bool.{true≢false}
+use Rattle.std.proofs.lemmas.List.{length-map, length-append, length-replicate, length-drop, length-take, get_or-map, get_or_default, get_or_at, ext_get_or, take_at, nil_from_length, append-nil}
 use Rattle.std.proofs.lemmas.List.Folds.{list_any_at}
 use Rattle.bit_vectors.specs.declared.fault.BitFault.{BitFault}
 use Rattle.bit_vectors.specs.declared.fault.BitFault.TheVariants.{Wrong, EndsEarly}
@@ -13,7 +13,7 @@ use Rattle.bit_vectors.proofs.EyeReading.{Gives-then_err}
 use Rattle.run_code.specs.Places.{places_up}
 use Rattle.run_code.specs.Extraction.{bits_at, bits_up, IsInverseWord, filled_at, inverse_at}
 use Rattle.run_code.proofs.Ones.{one_or_zero, zeros_at, one_within, places_up_apart, in_places_up, places_up_has, length-ones_from}
-use Rattle.run_code.proofs.Filling.{OnlyAt, IsFilling, IsExact-filled_at, filled_at-short, filled_at-read, filled_at-no_wrong}
+use Rattle.run_code.proofs.Filling.{IsFilling, IsExact-filled_at, filled_at-short, filled_at-read, filled_at-no_wrong}
 
 -- ---- ones of a list
 
@@ -50,15 +50,17 @@ abbrev zeros_like : List Bool → List Bool
 zeros_like x = replicate (length x) false
 
 inverse_filling : (x y word : List Bool) → IsInverseWord x y word → IsFilling (places_up x) (zeros_like x) y word
-inverse_filling x y word h =
-    (record {
-       same_length = h.places ∙ sym (length-replicate (length x) false);
-       others = λ k out.
-           elim (one_or_zero (get_or y k false)) [
-             | inl one ↦ absurd (out (places_up_has x k (h.within k one)))
-             | inr none ↦ none ∙ sym (zeros_at (length x) k)
-           ];
-     }, h.bits)
+inverse_filling x y word h = (
+  record {
+    same_length = h.places ∙ sym (length-replicate (length x) false);
+    others = λ k out.
+        elim (one_or_zero (get_or y k false)) [
+          | inl one ↦ absurd (out (places_up_has x k (h.within k one)))
+          | inr none ↦ none ∙ sym (zeros_at (length x) k)
+        ];
+  },
+  h.bits,
+)
 
 filling_inverse : (x y word : List Bool) → IsFilling (places_up x) (zeros_like x) y word → Contains y true → IsInverseWord x y word
 filling_inverse x y word h some = record {
@@ -196,8 +198,8 @@ IsExact-inverse_at x some = record {
       elim (tested_wrong (filled_at (places_up x) (zeros_like x) bits) rest e) [
         | inl wrong ↦ absurd (filled_at-no_wrong (places_up x) (zeros_like x) bits rest wrong)
         | inr none ↦
-          let r = (filling_exact x).read_is bits none.0 rest none.1 in
-          zeros_before x some bits rest (r.2 ∙ ap (λ (w : List Bool). w ++ rest) (zeros_word x none.0 r.0 r.1 none.2))
+            let r = (filling_exact x).read_is bits none.0 rest none.1 in
+            zeros_before x some bits rest (r.2 ∙ ap (λ (w : List Bool). w ++ rest) (zeros_word x none.0 r.0 r.1 none.2))
       ];
   short_is = λ bits e. short_can_begin x bits (filled_at-short (places_up x) (zeros_like x) bits (tested_short (filled_at (places_up x) (zeros_like x) bits) e));
 }
@@ -240,8 +242,8 @@ all_zeros x bits rest e =
     elim (tested_wrong (filled_at (places_up x) (zeros_like x) bits) rest e) [
       | inl wrong ↦ absurd (filled_at-no_wrong (places_up x) (zeros_like x) bits rest wrong)
       | inr none ↦
-        let r = (filling_exact x).read_is bits none.0 rest none.1 in
-        r.2 ∙ ap (λ (w : List Bool). w ++ rest) (zeros_word x none.0 r.0 r.1 none.2)
+          let r = (filling_exact x).read_is bits none.0 rest none.1 in
+          r.2 ∙ ap (λ (w : List Bool). w ++ rest) (zeros_word x none.0 r.0 r.1 none.2)
     ]
 
 too_few : (x bits : List Bool) → inverse_at x bits ≡ TooShort → length bits < length (places_up x)
@@ -290,8 +292,9 @@ module _ (x y : List Bool) (some : Contains x true) (old new : EyeState) where
       let parts : bits_left old ≡ replicate (count_by (λ bit. bit) x) false ++ bits_left new = rw count at (all_zeros x (bits_left old) (bits_left new) given.0) in
       let len = ap (λ (bits : List Bool). length bits) parts in
       let place : bit ≡ old.place + count_by (λ bit. bit) x - 1 =
-      omega (arith, len, some_places x some, count, given.1, given.2, length-append (replicate (count_by (λ bit. bit) x) false) (bits_left new), length-replicate (count_by (λ bit. bit) x) false, length-drop old.place old.bits, length-drop new.place new.bits, ap (λ (bits : List Bool). length bits) moves.bits) in
-      (λ e. ap (take (count_by (λ bit. bit) x)) parts ∙ take_at (replicate (count_by (λ bit. bit) x) false) (bits_left new) (count_by (λ bit. bit) x) (length-replicate (count_by (λ bit. bit) x) false),
-      λ zeros. ap (λ (n : ℕ). Err (Wrong n)) place)
+      omega (arith, len, some_places x some, count, given.1, given.2, length-append (replicate (count_by (λ bit. bit) x) false) (bits_left new), length-replicate (count_by (λ bit. bit) x) false, length-drop old.place old.bits, length-drop new.place new.bits, ap (λ (bits : List Bool). length bits) moves.bits) in (
+        λ e. ap (take (count_by (λ bit. bit) x)) parts ∙ take_at (replicate (count_by (λ bit. bit) x) false) (bits_left new) (count_by (λ bit. bit) x) (length-replicate (count_by (λ bit. bit) x) false),
+        λ zeros. ap (λ (n : ℕ). Err (Wrong n)) place,
+      )
   inverse_wrong moves (Err (EndsEarly bit)) given =
       (λ e. absurd cc, λ zeros. absurd (omega (arith, too_few x (bits_left old) given.0, length-ones_from 0 x, length-take (count_by (λ bit. bit) x) (bits_left old), length-replicate (count_by (λ bit. bit) x) false, ap (λ (bits : List Bool). length bits) zeros)))

@@ -1,5 +1,5 @@
 -- The places of a vector's ones, found one after the other.
-use Rattle.std.proofs.Common.{◌≡◌, ℕ, zero, suc, ◌+◌, ◌-◌, ◌<◌, ◌≤◌, Bool, true, false, cond, List, [], ◌∷◌, ◌++◌, length, get_or, take, drop, replicate, refl, sym, ap, ◌∙◌, subst, arith, inl, inr, ◌⊎◌, add-one}
+use Rattle.std.proofs.Common.{◌≡◌, ℕ, zero, suc, ◌+◌, ◌-◌, ◌<◌, ◌≤◌, Bool, true, false, cond, List, [], ◌∷◌, ◌++◌, length, get_or, take, drop, replicate, refl, sym, ap, ◌∙◌, arith, inl, inr, ◌⊎◌, add-one}
 use Rattle.std.specs.Prelude.{reverse, count_by, Contains}
 use Rattle.std.proofs.lemmas.Bool.{cases_eq, cases_lt, true≢false}
 use Rattle.std.proofs.lemmas.List.{reverse-append, append-nil, length-take, length-reverse, take_more, take_all, drop_more, drop_all, get_or_past, get_or-replicate, length-replicate}
@@ -132,9 +132,9 @@ in_ones_from n (true ∷ bits) k c =
     elim (Contains-cons n k (ones_from (n + 1) bits) c) [
       | inl here ↦ let none : k - n ≡ 0 = omega arith in (omega arith, rw none refl)
       | inr later ↦
-        let h = in_ones_from (n + 1) bits k later in
-        let place : k - n ≡ suc (k - (n + 1)) = omega (arith, h.0) in
-        (omega (arith, h.0), rw place h.1)
+          let h = in_ones_from (n + 1) bits k later in
+          let place : k - n ≡ suc (k - (n + 1)) = omega (arith, h.0) in
+          (omega (arith, h.0), rw place h.1)
     ]
 in_ones_from n (false ∷ bits) k c =
     let h = in_ones_from (n + 1) bits k c in

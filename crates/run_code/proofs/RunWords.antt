@@ -1,9 +1,9 @@
 -- The run words of vectors.
-use Rattle.std.proofs.Common.{◌≡◌, ℕ, zero, suc, ◌+◌, ◌-◌, ◌*◌, ◌^◌, ◌<◌, ◌≤◌, Bool, true, false, cond, List, [], ◌∷◌, ◌++◌, length, get_or, refl, sym, ap, ◌∙◌, arith, ◌⊎◌, inl, inr, add-one}
+use Rattle.std.proofs.Common.{◌≡◌, ℕ, zero, suc, ◌+◌, ◌-◌, ◌*◌, ◌^◌, ◌<◌, ◌≤◌, Bool, true, false, cond, List, [], ◌∷◌, ◌++◌, length, get_or, refl, ap, arith, inl, inr, add-one}
 use Rattle.std.proofs.lemmas.Bool.{cases_lt, cases_eq}
 use Rattle.std.proofs.lemmas.List.{length-append}
 use Rattle.count_code.specs.Code.{count_bits, end_bits}
-use Rattle.count_code.proofs.Digits.{power_le, power_more, digits_of}
+use Rattle.count_code.proofs.Digits.{power_more, digits_of}
 use Rattle.count_code.proofs.CountWords.{count_bits-one, length-count_bits-short, length-count_bits-long}
 use Rattle.run_code.specs.Runs.{runs_from, run_bits}
 use Rattle.run_code.proofs.Ones.{ones_below, places_down_is}
@@ -35,8 +35,8 @@ count_bits_most a some =
       | inr more ↦ elim (cases_lt a 34) [
         | inl short ↦ omega (arith, length-count_bits-short a (omega arith) (omega arith))
         | inr long ↦
-          let d = digits_of (a - 2) (omega arith) in
-          omega (arith, length-count_bits-long a long, d.1, d.2.low, below_power d.0)
+            let d = digits_of (a - 2) (omega arith) in
+            omega (arith, length-count_bits-long a long, d.1, d.2.low, below_power d.0)
       ]
     ]
 

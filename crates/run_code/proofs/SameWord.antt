@@ -1,14 +1,14 @@
 -- Reading one word and no other.
-use Rattle.std.proofs.Common.{◌≡◌, ℕ, zero, suc, ◌+◌, ◌-◌, ◌<◌, ◌≤◌, Bool, true, false, cond, List, [], ◌∷◌, ◌++◌, length, take, Result, Ok, Err, refl, sym, ap, ◌∙◌, subst, arith, append_assoc}
+use Rattle.std.proofs.Common.{◌≡◌, ◌+◌, ◌-◌, Bool, true, false, List, [], ◌∷◌, ◌++◌, take, Result, Ok, Err, refl, ap, ◌∙◌}
 use Rattle.std.proofs.Math.Bool.{beq}
 use Rattle.std.specs.Prelude.{not, IsOk, IfErr, OnOk}
 use Rattle.bit_vectors.specs.declared.fault.BitFault.{BitFault}
 use Rattle.bit_vectors.specs.declared.fault.BitFault.TheVariants.{Wrong, EndsEarly}
 use Rattle.bit_vectors.specs.Vectors.{number_bits}
 use Rattle.bit_vectors.specs.Eye.{EyeState, bits_left}
-use Rattle.bit_vectors.specs.Reading.{Reading, Read, WrongBit, TooShort, ◌>>=◌, bit_where, allowed, MovesOn, Gives, IsExact, IsFirstFault}
+use Rattle.bit_vectors.specs.Reading.{Read, WrongBit, TooShort, ◌>>=◌, bit_where, allowed, MovesOn, Gives, IsExact, IsFirstFault}
 use Rattle.bit_vectors.proofs.ExactReading.{IsBitWhere, IsWordThen, IsExact-give, IsExact-bit_where, IsExact-same, IsExact-then}
-use Rattle.bit_vectors.proofs.EyeReading.{Gives-then_err, Gives-then_ok, fault_by}
+use Rattle.bit_vectors.proofs.EyeReading.{Gives-then_err, fault_by}
 use Rattle.count_code.specs.Code.{end_bits}
 use Rattle.run_code.specs.Runs.{same_at}
 use Rattle.run_code.proofs.ExactRuns.{only_read}

@@ -39,18 +39,12 @@ pub fn take_inverse_up(eye: &mut BitEye, x: &Bits, into: &mut Bits) -> Result<()
     ensures within { OnOk result ((place : ℕ) → IsOne into.new place → IsOne x.now place) }
     ensures one { OnOk result (Contains into.new true) }
     // Wrong exactly where the bits at the ones of `x` are there and all are 0; the last of them is wrong.
-    ensures wrong {
-        let ones = count_by (λ bit. bit) x.now in
+    ensures wrong { let ones = count_by (λ bit. bit) x.now in
         (result ≡ Err (BitFault.Wrong (eye.old.place + ones - 1)))
-            ↔ (take ones (bits_left eye.old) ≡ replicate ones false)
-    }
-    ensures early {
-        (result ≡ Err (BitFault.EndsEarly (length eye.old.bits)))
-            ↔ (length (bits_left eye.old) < count_by (λ bit. bit) x.now)
-    }
-    ensures fault {
-        IfErr result (λ fault. IsFirstFault (λ word. (y : List Bool) × IsInverseWord x.now y word) eye.old eye.new fault)
-    }
+        ↔ (take ones (bits_left eye.old) ≡ replicate ones false) }
+    ensures early { (result ≡ Err (BitFault.EndsEarly (length eye.old.bits)))
+        ↔ (length (bits_left eye.old) < count_by (λ bit. bit) x.now) }
+    ensures fault { IfErr result (λ fault. IsFirstFault (λ word. (y : List Bool) × IsInverseWord x.now y word) eye.old eye.new fault) }
     ensures reading { Gives (λ _. into.new) result eye.new (inverse_at x.now (bits_left eye.old)) }
 {
     read_inverse(eye, x, into)

@@ -39,8 +39,8 @@ pub fn extracted_bits()
 pub fn masks_and_edges()
     ensures neighbour { (mask : List Bool) (place : ℕ) → place < length mask
         → slice_index_or (edges mask) place false
-            ≡ (if slice_index_or mask place false then not (slice_index_or mask (place + 1) false)
-                else slice_index_or mask (place + 1) false) }
+        ≡ (if slice_index_or mask place false then not (slice_index_or mask (place + 1) false)
+        else slice_index_or mask (place + 1) false) }
     ensures some { (v : List Bool) → (mask : List Bool) × (length mask ≡ length v) × (edges mask ≡ v) }
     ensures one { (a b : List Bool) → edges a ≡ edges b → a ≡ b }
 {}

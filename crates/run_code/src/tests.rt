@@ -1,6 +1,9 @@
 //! Words worked by hand, each way, and the first wrong bit of others.
 
-use crate::{edges, from_edges, match_runs, put_extract, put_inverse_up, put_runs, take_into, take_inverse_up, take_runs};
+use crate::{
+    edges, from_edges, match_runs, put_extract, put_inverse_up, put_runs, take_into,
+    take_inverse_up, take_runs,
+};
 use bit_vectors::{BitEye, BitFault, BitPen, Bits, NoMemory};
 use std::alloc::Global;
 use std::test::Fail;
@@ -60,11 +63,31 @@ fn run_words(rt: HostRuntime) -> Result<(), Fail> {
 fn faults_of_run_words(rt: HostRuntime) -> Result<(), Fail> {
     let rows: [(&[u8], BitFault, BitFault); 5] = [
         // a count above eight; a count of three ones; a ninth place
-        (&[0xd0], BitFault::Wrong { bit: 3 }, BitFault::Wrong { bit: 3 }),
-        (&[0xe0], BitFault::Wrong { bit: 2 }, BitFault::Wrong { bit: 2 }),
-        (&[0x00, 0xc0], BitFault::Wrong { bit: 9 }, BitFault::Wrong { bit: 0 }),
-        (&[0xc6], BitFault::EndsEarly { bit: 8 }, BitFault::EndsEarly { bit: 8 }),
-        (&[0xc6, 0xc0], BitFault::Wrong { bit: 9 }, BitFault::Wrong { bit: 9 }),
+        (
+            &[0xd0],
+            BitFault::Wrong { bit: 3 },
+            BitFault::Wrong { bit: 3 },
+        ),
+        (
+            &[0xe0],
+            BitFault::Wrong { bit: 2 },
+            BitFault::Wrong { bit: 2 },
+        ),
+        (
+            &[0x00, 0xc0],
+            BitFault::Wrong { bit: 9 },
+            BitFault::Wrong { bit: 0 },
+        ),
+        (
+            &[0xc6],
+            BitFault::EndsEarly { bit: 8 },
+            BitFault::EndsEarly { bit: 8 },
+        ),
+        (
+            &[0xc6, 0xc0],
+            BitFault::Wrong { bit: 9 },
+            BitFault::Wrong { bit: 9 },
+        ),
     ];
     for (bits, taken, matched) in rows {
         let mut into = vector(rt.alloc(), 8, &[0])?;
@@ -85,7 +108,10 @@ fn extracted_bits_both_ways(rt: HostRuntime) -> Result<(), Fail> {
     assert_eq!(rt; pen.bytes(), [0x20].as_slice());
     assert_eq!(rt; take_into(&mut eye(&[0xc0]), &mut a, &b), Ok(()));
     assert!(rt; has_ones(&a, &[3, 7]));
-    assert_eq!(rt; take_into(&mut eye(&[]), &mut a, &b), Err(BitFault::EndsEarly { bit: 0 }));
+    assert_eq!(rt;
+        take_into(&mut eye(&[]), &mut a, &b),
+        Err(BitFault::EndsEarly { bit: 0 })
+    );
     Ok(())
 }
 
@@ -101,8 +127,14 @@ fn inverted_bits_both_ways(rt: HostRuntime) -> Result<(), Fail> {
     assert_eq!(rt; pen.bytes(), [0x60].as_slice());
     assert_eq!(rt; take_inverse_up(&mut eye(&[0x60]), &x, &mut mask), Ok(()));
     assert!(rt; has_ones(&mask, &[3, 7]));
-    assert_eq!(rt; take_inverse_up(&mut eye(&[0x10]), &x, &mut mask), Err(BitFault::Wrong { bit: 2 }));
-    assert_eq!(rt; take_inverse_up(&mut eye(&[]), &x, &mut mask), Err(BitFault::EndsEarly { bit: 0 }));
+    assert_eq!(rt;
+        take_inverse_up(&mut eye(&[0x10]), &x, &mut mask),
+        Err(BitFault::Wrong { bit: 2 })
+    );
+    assert_eq!(rt;
+        take_inverse_up(&mut eye(&[]), &x, &mut mask),
+        Err(BitFault::EndsEarly { bit: 0 })
+    );
     Ok(())
 }
 

@@ -1,6 +1,6 @@
-use Rattle.std.proofs.Common.{◌≡◌, ◌+◌, ◌<◌, ◌≤◌, ◌++◌, ◌∷◌, [], length, ℕ, List, false, slice_index_or, refl, sym, ap, ◌∙◌, arith, append_assoc}
+use Rattle.std.proofs.Common.{◌++◌, ◌∷◌, [], length, ℕ, List, refl, sym, ap, ◌∙◌, arith, append_assoc}
 use Rattle.std.proofs.lemmas.List.{length-append, append-nil}
-use Rattle.run_code.specs.Extraction.{bits_at, extract}
+use Rattle.run_code.specs.Extraction.{bits_at}
 use Rattle.run_code.proofs.Ones.{ones_below, ones_below-one, ones_below-none, places_down_is, length-ones_below}
 use Rattle.run_code.proofs.extraction.put_extract.Goals as goal
 

@@ -1,4 +1,4 @@
-use Rattle.std.proofs.Common.{◌≡◌, ◌+◌, ◌≤◌, ◌++◌, length, ℕ}
+use Rattle.std.proofs.Common.{◌≡◌, ◌+◌, ◌≤◌, ◌++◌, length}
 use Rattle.run_code.specs.Extraction.{bits_at, extract}
 use Rattle.run_code.proofs.Ones.{ones_below}
 use Rattle.run_code.proofs.extraction.put_extract.Given as goal

@@ -1,4 +1,4 @@
-use Rattle.std.proofs.Common.{◌≡◌, ◌+◌, ◌-◌, ◌≤◌, ◌++◌, length, drop, map, ℕ}
+use Rattle.std.proofs.Common.{◌≡◌, ◌+◌, ◌-◌, ◌≤◌, ◌++◌, length, drop, map}
 use Rattle.std.specs.Prelude.{not}
 use Rattle.run_code.specs.Places.{ones_from}
 use Rattle.run_code.specs.Extraction.{bits_at, inverse_up}

@@ -1,9 +1,9 @@
-use Rattle.std.proofs.Common.{◌≡◌, List, length, refl, ◌∙◌, arith}
+use Rattle.std.proofs.Common.{refl, ◌∙◌, arith}
 use Rattle.std.proofs.lemmas.List.{length-set}
 use Rattle.bit_vectors.specs.Eye.{bits_left}
 use Rattle.bit_vectors.proofs.EyeReading.{MovesOn-then}
 use Rattle.run_code.specs.Places.{ones_from}
-use Rattle.std.proofs.Common.{◌+◌, drop, ℕ}
+use Rattle.std.proofs.Common.{◌+◌, drop}
 use Rattle.run_code.proofs.Ones.{one_within, ones_from-one, ones_from-none}
 use Rattle.run_code.proofs.Filling.{filled_at-more, filled_at-none, filled_at-all}
 use Rattle.run_code.proofs.inverse.take_up.Goals as goal
@@ -21,10 +21,11 @@ loop-place-preserved c =
 
 pub returns-in_default-take-clause-reading : goal.returns-in_default-take-clause-reading
 returns-in_default-take-clause-reading c =
-    let step = ones_from-one c.args.x.now c.loop-place.from c.in-Some.place c.in-Some.ensures.from c.in-Some.ensures.one c.in-Some.ensures.least in
-    (c.loop-place.invariant.same ∙ rw (step, c.in_default-take.ensures.nothing) (filled_at-none c.in-Some.place (ones_from (c.in-Some.place + 1) (drop (c.in-Some.place + 1) c.args.x.now)) c.loop-place.into),
-    c.size.ensures.size,
-    rw c.in_default-take.ensures.still (c.in_default-take.ensures.end.0 refl))
+    let step = ones_from-one c.args.x.now c.loop-place.from c.in-Some.place c.in-Some.ensures.from c.in-Some.ensures.one c.in-Some.ensures.least in (
+      c.loop-place.invariant.same ∙ rw (step, c.in_default-take.ensures.nothing) (filled_at-none c.in-Some.place (ones_from (c.in-Some.place + 1) (drop (c.in-Some.place + 1) c.args.x.now)) c.loop-place.into),
+      c.size.ensures.size,
+      rw c.in_default-take.ensures.still (c.in_default-take.ensures.end.0 refl),
+    )
 
 pub returns-clause-reading : goal.returns-clause-reading
 returns-clause-reading c =

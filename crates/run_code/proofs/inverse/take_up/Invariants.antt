@@ -1,4 +1,4 @@
-use Rattle.std.proofs.Common.{◌≡◌, ◌-◌, ◌≤◌, length, drop, replicate, false, ℕ}
+use Rattle.std.proofs.Common.{◌≡◌, ◌-◌, ◌≤◌, length, drop, replicate, false}
 use Rattle.bit_vectors.specs.Eye.{bits_left}
 use Rattle.bit_vectors.specs.Reading.{MovesOn}
 use Rattle.run_code.specs.Places.{ones_from, places_up}

@@ -1,4 +1,4 @@
-use Rattle.std.proofs.Common.{◌≡◌, refl, arith}
+use Rattle.std.proofs.Common.{refl, arith}
 use Rattle.bit_vectors.specs.Eye.{bits_left}
 use Rattle.run_code.proofs.SameWord.{same_none, same_wrong, same_right}
 use Rattle.run_code.proofs.matching.match_bit.Goals as goal

@@ -1,7 +1,7 @@
-use Rattle.std.proofs.Common.{◌≡◌, ◌+◌, ◌-◌, ◌*◌, Bool, List, ◌∷◌, [], true, false, length, refl, ap, arith}
+use Rattle.std.proofs.Common.{◌≡◌, ◌-◌, ◌*◌, ◌∷◌, [], true, false, arith}
 use Rattle.std.proofs.lemmas.Result.{err_from_is_err_and}
 use Rattle.bit_vectors.specs.Vectors.{number_bits}
-use Rattle.count_code.specs.Code.{digits, count_bits}
+use Rattle.count_code.specs.Code.{digits}
 use Rattle.count_code.proofs.CountWords.{six_in_three, seven_in_three, count_bits-one, count_bits-short, count_bits-long, length-count_bits-long}
 use Rattle.run_code.proofs.SameWord.{same_fault, same_then, zero_in_one}
 use Rattle.run_code.proofs.matching.match_count.Goals as goal

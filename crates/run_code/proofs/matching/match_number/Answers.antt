@@ -1,11 +1,10 @@
-use Rattle.std.proofs.Common.{◌≡◌, ℕ, ◌+◌, ◌-◌, ◌<◌, ◌/◌, ◌^◌, ◌++◌, ◌∷◌, [], eqb, bit_and, Bool, List, refl, ap, sym, ◌∙◌, arith}
+use Rattle.std.proofs.Common.{◌≡◌, ℕ, ◌+◌, ◌-◌, ◌<◌, ◌/◌, ◌^◌, ◌++◌, ◌∷◌, [], eqb, bit_and, refl, ap, ◌∙◌, arith}
 use Rattle.std.proofs.lemmas.Nat.Bits.{shr_and_one}
 use Rattle.std.proofs.lemmas.Result.{err_from_is_err_and}
 use Rattle.bit_vectors.specs.Vectors.{number_bits}
 use Rattle.bit_vectors.specs.Eye.{bits_left}
 use Rattle.bit_vectors.proofs.NumberBits.{number_bits-more}
 use Rattle.bit_vectors.proofs.EyeReading.{MovesOn-then}
-use Rattle.run_code.specs.Runs.{same_at}
 use Rattle.run_code.proofs.SameWord.{same_more, same_fault, same_all}
 use Rattle.run_code.proofs.matching.match_number.Goals as goal
 

@@ -1,9 +1,9 @@
-use Rattle.std.proofs.Common.{◌≡◌, ◌-◌, ◌++◌, length, refl, ap, sym, ◌∙◌, arith}
+use Rattle.std.proofs.Common.{◌-◌, refl, ◌∙◌, arith}
 use Rattle.std.proofs.lemmas.Result.{err_from_is_err_and}
 use Rattle.bit_vectors.specs.Eye.{bits_left}
 use Rattle.bit_vectors.proofs.EyeReading.{MovesOn-refl, MovesOn-then}
 use Rattle.count_code.specs.Code.{count_bits}
-use Rattle.run_code.specs.Runs.{runs_from, same_at}
+use Rattle.run_code.specs.Runs.{runs_from}
 use Rattle.run_code.proofs.Ones.{ones_below, ones_below-one, ones_below-none}
 use Rattle.run_code.proofs.RunWords.{run_bits_is, runs_from-cons, runs_from-nil}
 use Rattle.run_code.proofs.SameWord.{same_fault, same_more, two_in_two}

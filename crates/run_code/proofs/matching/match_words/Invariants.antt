@@ -1,4 +1,4 @@
-use Rattle.std.proofs.Common.{◌≡◌, ◌≤◌, length, ℕ}
+use Rattle.std.proofs.Common.{◌≡◌, ◌≤◌, length}
 use Rattle.bit_vectors.specs.Eye.{bits_left}
 use Rattle.bit_vectors.specs.Reading.{MovesOn}
 use Rattle.run_code.specs.Runs.{runs_from, run_bits, same_at}

@@ -1,7 +1,7 @@
-use Rattle.std.proofs.Common.{◌≡◌, ◌+◌, ◌-◌, ◌≤◌, ◌++◌, ◌∷◌, [], length, ℕ, List, Bool, refl, sym, ap, ◌∙◌, arith, append_assoc}
+use Rattle.std.proofs.Common.{◌-◌, ◌++◌, List, Bool, refl, sym, ap, ◌∙◌, arith, append_assoc}
 use Rattle.std.proofs.lemmas.List.{length-append}
-use Rattle.count_code.specs.Code.{count_bits, end_bits}
-use Rattle.run_code.specs.Runs.{runs_from, run_bits}
+use Rattle.count_code.specs.Code.{count_bits}
+use Rattle.run_code.specs.Runs.{runs_from}
 use Rattle.run_code.proofs.Ones.{ones_below, ones_below-one, ones_below-none}
 use Rattle.run_code.proofs.RunWords.{run_bits_is, runs_from-cons, runs_from-nil, count_bits_most, run_bits_most}
 use Rattle.run_code.proofs.runs.put_runs.Goals as goal

@@ -1,9 +1,8 @@
-use Rattle.std.proofs.Common.{◌≡◌, ◌∙◌, ◌-◌, ◌<◌, suc, true, length, refl, sym, ap, List, Bool, arith}
+use Rattle.std.proofs.Common.{◌≡◌, ◌∙◌, ◌-◌, suc, true, length, arith}
 use Rattle.std.proofs.lemmas.List.{length-replicate, length-set}
 use Rattle.std.proofs.lemmas.Result.{err_from_is_err_and}
 use Rattle.bit_vectors.specs.Eye.{bits_left}
 use Rattle.bit_vectors.proofs.EyeReading.{MovesOn-refl, MovesOn-then}
-use Rattle.run_code.specs.Runs.{ones_at, vector_at}
 use Rattle.run_code.proofs.ExactRuns.{ones_at-value, ones_at-end, ones_at-fault, vector_at_is}
 use Rattle.run_code.proofs.runs.read_runs.Goals as goal
 
