@@ -4,10 +4,8 @@ use crate::{Refusal, Status, pocket};
 use bit_vectors::NoMemory;
 use desk_ports::{Call, MemDesk, Outlet};
 use std::alloc::{AllocError, Global};
+use std::process::Abort;
 use std::test::Fail;
-
-/// The store of one packet whose content is `B0`, with a mask of zeros.
-pub const ONE_PACKET: [u8; 10] = [0x00, 0x64, 0xC0, 0x00, 0x00, 0x03, 0x85, 0xB8, 0xD6, 0x00];
 
 /// The words for packets of eight bits.
 pub const EIGHT_BITS: &str = "restore in=a out=b report=c bits=8 apid=100";
@@ -15,11 +13,11 @@ pub const EIGHT_BITS: &str = "restore in=a out=b report=c bits=8 apid=100";
 /// The first line of a report.
 pub const HEADER: &[u8] = b"first,last,cause,value\n";
 
-/// What is kept under the names of both outputs before a run.
-const EARLIER: &[u8] = b"earlier";
+/// The store of one packet whose content is `B0`, with a mask of zeros.
+pub static ONE_PACKET: [u8; 10] = [0x00, 0x64, 0xC0, 0x00, 0x00, 0x03, 0x85, 0xB8, 0xD6, 0x00];
 
-/// The words, what the input has, whether a call moves one byte at most, and the call that fails.
-#[derive(Clone, Copy)]
+/// The words in one line, what the input has, whether a call moves one byte at most, and the call that fails.
+#[derive(Clone, Copy, Debug)]
 pub struct Case<'a> {
     pub words: &'a str,
     pub store: Option<&'a [u8]>,
@@ -37,6 +35,16 @@ pub struct Ending<'a> {
     pub kept_report: &'a [u8],
 }
 
+/// The words, at a desk where no input is put.
+pub fn words_alone(words: &str) -> Case<'_> {
+    Case {
+        words,
+        store: None,
+        one_byte: false,
+        fails: None,
+    }
+}
+
 /// All was done, and both outputs are kept.
 pub fn done<'a>(output: &'a [u8], report: &'a [u8]) -> Ending<'a> {
     Ending {
@@ -48,46 +56,32 @@ pub fn done<'a>(output: &'a [u8], report: &'a [u8]) -> Ending<'a> {
     }
 }
 
-/// The run was refused, and what was kept earlier is kept.
+/// The run was refused, and no output is kept.
 pub fn refused<'a>(refusal: Refusal, output: &'a [u8], report: &'a [u8]) -> Ending<'a> {
     Ending {
         status: Status::Refused(refusal),
         output,
         report,
-        kept_output: EARLIER,
-        kept_report: EARLIER,
+        kept_output: &[],
+        kept_report: &[],
     }
 }
 
-/// A desk after a run.
-#[derive(Drop)]
-pub struct Run {
-    status: Status,
-    desk: MemDesk,
-}
-
-impl Run {
-    pub fn new(alloc: Global, case: &Case<'_>) -> Result<Run, Fail> {
-        let mut desk = desk_for(alloc, case)?;
-        let status = status_of(alloc, case.words, &mut desk)?;
-        Ok(Run { status, desk })
-    }
-
-    pub fn ending(&self) -> Ending<'_> {
-        Ending {
-            status: self.status,
-            output: self.desk.seen(Outlet::Main),
-            report: self.desk.seen(Outlet::Report),
-            kept_output: self.desk.get("b"),
-            kept_report: self.desk.get("c"),
-        }
-    }
+/// Runs a case, which must end like this.
+pub fn assert_ending(
+    rt: &(impl Abort + AllocGlobal),
+    case: &Case<'_>,
+    wanted: &Ending<'_>,
+) -> Result<(), Fail> {
+    let mut desk = desk_for(rt.alloc(), case)?;
+    let words = words_of(rt.alloc(), case.words)?;
+    let status = answer(rt.alloc(), &words, &mut desk);
+    assert_eq!(rt; ended(status, &desk), *wanted, "{case:?}");
+    Ok(())
 }
 
 fn desk_for(alloc: Global, case: &Case<'_>) -> Result<MemDesk, NoMemory> {
     let mut desk = MemDesk::new(alloc);
-    desk.put("b", EARLIER)?;
-    desk.put("c", EARLIER)?;
     if let Some(store) = case.store {
         desk.put("a", store)?;
     }
@@ -100,17 +94,25 @@ fn desk_for(alloc: Global, case: &Case<'_>) -> Result<MemDesk, NoMemory> {
     Ok(desk)
 }
 
-/// The answer to the words, which stand in one line.
-pub fn status_of(alloc: Global, line: &str, desk: &mut MemDesk) -> Result<Status, Fail> {
-    let words = words_of(alloc, line)?;
-    let few = words.len().min(1000);
-    Ok(pocket(alloc, &words[..few], desk))
-}
-
 fn words_of(alloc: Global, line: &str) -> Result<Vec<String>, AllocError> {
     let mut words = Vec::new(alloc);
     for word in line.split_ascii_whitespace() {
         words.push(String::from_str(alloc, word)?)?;
     }
     Ok(words)
+}
+
+fn answer(alloc: Global, words: &[String], desk: &mut MemDesk) -> Status {
+    let few = words.len().min(1000);
+    pocket(alloc, &words[..few], desk)
+}
+
+fn ended(status: Status, desk: &MemDesk) -> Ending<'_> {
+    Ending {
+        status,
+        output: desk.seen(Outlet::Main),
+        report: desk.seen(Outlet::Report),
+        kept_output: desk.get("b"),
+        kept_report: desk.get("c"),
+    }
 }

@@ -3,7 +3,7 @@
 use crate::{Refusal, Status, exit_code};
 use std::test::Fail;
 
-const ROWS: [(Refusal, &str, u8); 5] = [
+static ROWS: [(Refusal, &str, u8); 5] = [
     (Refusal::ReadFault, "reading failed", 1),
     (Refusal::WriteFault, "writing failed", 1),
     (Refusal::BadWords { word: 4 }, "word 4 is wrong", 2),
@@ -18,10 +18,10 @@ const ROWS: [(Refusal, &str, u8); 5] = [
 #[test]
 fn texts_and_exit_numbers(rt: HostRuntime) -> Result<(), Fail> {
     assert_eq!(rt; exit_code(&Status::Done), 0);
-    for (refusal, wanted, number) in ROWS {
+    for (refusal, wanted, number) in &ROWS {
         let text = format!(in rt.alloc(); "{refusal}")?;
-        assert_eq!(rt; text.as_str(), wanted);
-        assert_eq!(rt; exit_code(&Status::Refused(refusal)), number, "{wanted}");
+        assert_eq!(rt; text.as_str(), *wanted);
+        assert_eq!(rt; exit_code(&Status::Refused(*refusal)), *number, "{wanted}");
     }
     Ok(())
 }

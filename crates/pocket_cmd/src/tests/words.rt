@@ -1,12 +1,11 @@
 //! Words, and what is answered to them at a desk where nothing is put.
 
-use super::desk::status_of;
-use crate::{Refusal, Status};
-use desk_ports::MemDesk;
+use super::desk::{assert_ending, refused, words_alone};
+use crate::Refusal;
 use std::test::Fail;
 
 /// Lines of words, and the place of the first wrong word in each.
-const WRONG: [(&str, u32); 28] = [
+static WRONG: [(&str, u32); 28] = [
     ("", 0),
     ("shrink", 0),
     ("Restore in=a out=b report=c bits=8 apid=100", 0),
@@ -38,7 +37,7 @@ const WRONG: [(&str, u32); 28] = [
 ];
 
 /// Lines that give a command, so that their input is what is missing.
-const RIGHT: [&str; 5] = [
+static RIGHT: [&str; 5] = [
     "restore in=a out=b report=c bits=8 apid=100",
     "restore apid=0 bits=1 report=c out=b in=a",
     "restore in=a out=b report=c bits=49152 apid=2046",
@@ -48,24 +47,18 @@ const RIGHT: [&str; 5] = [
 
 #[test]
 fn wrong_words(rt: HostRuntime) -> Result<(), Fail> {
-    for (line, word) in WRONG {
-        let mut desk = MemDesk::new(rt.alloc());
-        let status = status_of(rt.alloc(), line, &mut desk)?;
-        assert_eq!(rt;
-            status,
-            Status::Refused(Refusal::BadWords { word }),
-            "{line}"
-        );
+    for (line, word) in &WRONG {
+        let wanted = refused(Refusal::BadWords { word: *word }, &[], &[]);
+        assert_ending(&rt, &words_alone(line), &wanted)?;
     }
     Ok(())
 }
 
 #[test]
 fn right_words(rt: HostRuntime) -> Result<(), Fail> {
-    for line in RIGHT {
-        let mut desk = MemDesk::new(rt.alloc());
-        let status = status_of(rt.alloc(), line, &mut desk)?;
-        assert_eq!(rt; status, Status::Refused(Refusal::ReadFault), "{line}");
+    for line in &RIGHT {
+        let wanted = refused(Refusal::ReadFault, &[], &[]);
+        assert_ending(&rt, &words_alone(line), &wanted)?;
     }
     Ok(())
 }
