@@ -28,7 +28,7 @@ pub fn put_inverse_up(pen: &mut BitPen, mask: &Bits, x: &Bits)
 
 /// Takes a bit for each one of `x`, which has at least one and as many places as `into`, from the lowest
 /// place up, and makes it the bit of `into` at that place. The other bits of `into` are 0 then. Not all of
-/// the bits may be 0: after zeros alone the last one must be 1.
+/// the bits may be 0: after zeros alone the last one must be 1. After a fault `into` has any bits.
 pub fn take_inverse_up(eye: &mut BitEye, x: &Bits, into: &mut Bits) -> Result<(), BitFault>
     requires places { length x.now ≡ length into.old }
     requires some { Contains x.now true }

@@ -10,7 +10,8 @@ ghost use Rattle.run_code.specs.Runs.{run_bits, same_at};
 use bit_vectors::{BitEye, BitFault, Bits};
 use count_code::count_len;
 
-/// Takes the run word of `v`. The first bit that differs from it is wrong.
+/// Takes the run word of `v`. The first bit that differs from it is wrong, and the bits end early where they
+/// are the front of it.
 pub fn match_runs(eye: &mut BitEye, v: &Bits) -> Result<(), BitFault>
     ensures moves { MovesOn eye.old eye.new }
     ensures word { OnOk result (bits_left eye.old ≡ run_bits v.now ++ bits_left eye.new) }
@@ -21,6 +22,7 @@ pub fn match_runs(eye: &mut BitEye, v: &Bits) -> Result<(), BitFault>
     match_words(eye, v)
 }
 
+/// Takes the word of each one of `v`, from the highest place down, and the end.
 fn match_words(eye: &mut BitEye, v: &Bits) -> Result<(), BitFault>
     ensures moves { MovesOn eye.old eye.new }
     ensures reading { Gives (λ _. tt) result eye.new (same_at (run_bits v.now) (bits_left eye.old)) }

@@ -25,7 +25,9 @@ pub fn put_runs(pen: &mut BitPen, v: &Bits)
     put_end(pen);
 }
 
-/// Takes the run word of a vector with as many places as `into`, which is that vector then.
+/// Takes the run word of a vector with as many places as `into`, which is that vector then. The first bit
+/// after which no such word can follow is wrong, and the bits end early where they are the front of one.
+/// After a fault `into` has any bits.
 pub fn take_runs(eye: &mut BitEye, into: &mut Bits) -> Result<(), BitFault>
     ensures places { length into.new ≡ length into.old }
     ensures moves { MovesOn eye.old eye.new }
@@ -38,6 +40,7 @@ pub fn take_runs(eye: &mut BitEye, into: &mut Bits) -> Result<(), BitFault>
     read_runs(eye, into)
 }
 
+/// Takes counts within the places that are left below, and sets a one at each.
 fn read_runs(eye: &mut BitEye, into: &mut Bits) -> Result<(), BitFault>
     ensures places { length into.new ≡ length into.old }
     ensures moves { MovesOn eye.old eye.new }
