@@ -1,10 +1,9 @@
 -- What a reading says by the parts of a decoder: the latest number and the known vectors.
-use Rattle.std.proofs.Common.{◌≡◌, ℕ, ◌*◌, Bool, true, false, List, length, replicate, Option, Some, None, refl, sym, ap, subst, ◌∙◌}
+use Rattle.std.proofs.Common.{◌≡◌, ℕ, ◌*◌, Bool, true, false, List, length, replicate, Option, Some, None, sym, ap, ◌∙◌}
 use Rattle.std.specs.Prelude.{◌↔◌}
 use Rattle.std.proofs.lemmas.List.{length-replicate}
 use Rattle.std.proofs.lemmas.Bool.{le-leb, leb-true}
 use Rattle.std.proofs.lemmas.Option.{same_Some, none-some}
-use Rattle.bit_vectors.specs.Vectors.{padded}
 use Rattle.run_code.specs.Edges.{edges}
 use Rattle.packet_decode.specs.declared.reference.Vectors.{Vectors}
 use Rattle.packet_decode.specs.Packets.{State, InReach, SameOutside, SpellsSent}

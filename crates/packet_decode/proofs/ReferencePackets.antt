@@ -1,13 +1,13 @@
 -- Reading a packet with no recent change, a sent mask and whole content, and its bits: each is what the other says.
-use Rattle.std.proofs.Common.{◌≡◌, ℕ, zero, suc, ◌-◌, ◌*◌, ◌^◌, ◌<◌, ◌≤◌, Bool, true, false, cond, List, [], ◌∷◌, ◌++◌, length, replicate, Option, Some, None, refl, sym, ap, subst, ◌∙◌, append_assoc, append-nil, arith}
+use Rattle.std.proofs.Common.{◌≡◌, ℕ, zero, suc, ◌-◌, ◌*◌, ◌^◌, ◌<◌, ◌≤◌, Bool, true, false, cond, List, [], ◌∷◌, ◌++◌, length, replicate, Option, Some, None, refl, sym, ap, subst, ◌∙◌, append_assoc, arith}
 use Rattle.std.proofs.lemmas.List.{length-append}
 use Rattle.std.proofs.lemmas.Option.{cond_some, some_pair_parts}
-use Rattle.bit_vectors.specs.Reading.{Reading, Read, WrongBit, TooShort, IsExact}
+use Rattle.bit_vectors.specs.Reading.{Reading, Read, WrongBit, TooShort}
 use Rattle.bit_vectors.specs.Vectors.{number_bits, bits_number, byte_count, padded}
 use Rattle.bit_vectors.proofs.NumberBits.{length-number_bits, bits_number-number_bits, bits_number_below, number_bits-bits_number}
 use Rattle.count_code.specs.Code.{count_bits}
 use Rattle.run_code.specs.Edges.{edges}
-use Rattle.run_code.specs.Runs.{run_bits, IsRunWordOf, vector_at as runs_at}
+use Rattle.run_code.specs.Runs.{run_bits, vector_at as runs_at}
 use Rattle.run_code.proofs.ExactRuns.{IsExact-vector_at}
 use Rattle.packet_decode.specs.ReferenceReading.{◌>>=◌, Reference, after, vector_at, number_at, read_of, reaches, edges_at, are_zeros_below, reference_of}
 use Rattle.packet_decode.proofs.After.{after_word, after_is}

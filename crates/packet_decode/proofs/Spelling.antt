@@ -1,16 +1,14 @@
 -- What a reading says of the packet that the bits spell.
-use Rattle.std.proofs.Common.{◌≡◌, ℕ, ◌-◌, ◌*◌, ◌<◌, ◌≤◌, Bool, true, false, leb, List, [], ◌∷◌, ◌++◌, length, get_or, replicate, Option, Some, None, IfSome, IsSome, refl, sym, ap, subst, ◌∙◌, append-nil, arith, ◌⊎◌, inl, inr}
+use Rattle.std.proofs.Common.{◌≡◌, ℕ, ◌-◌, ◌<◌, ◌≤◌, Bool, true, false, List, [], ◌++◌, length, replicate, Option, Some, None, IfSome, IsSome, refl, sym, ap, subst, ◌∙◌, append-nil, arith, ◌⊎◌, inl, inr}
 use Rattle.std.specs.Prelude.{◌↔◌}
 use Rattle.std.proofs.lemmas.Bool.{cases_lt, le-leb, leb-true}
 use Rattle.std.proofs.lemmas.List.{length-replicate}
 use Rattle.std.proofs.lemmas.Option.{same_Some, none-some}
 use Rattle.bit_vectors.specs.Vectors.{number_bits, padded}
-use Rattle.count_code.specs.Code.{count_bits}
 use Rattle.run_code.specs.Edges.{edges}
-use Rattle.run_code.specs.Runs.{run_bits}
 use Rattle.packet_decode.specs.Forms.{HasPlaces as ContentHasPlaces, Directions, Content, Whole, Part, Form, IsForm, IsReference, IsWhole, change_bits, form_bits, wide, reference_form}
-use Rattle.packet_decode.specs.Packets.{Packet, State, InReach, SameOutside, IsSentOf, Follows, StandsAlone, Spells, SpellsSent}
-use Rattle.packet_decode.specs.Decoding.{number_of, mask_of, content_of}
+use Rattle.packet_decode.specs.Packets.{State, InReach, SameOutside, IsSentOf, Follows, StandsAlone, SpellsSent}
+use Rattle.packet_decode.specs.Decoding.{number_of}
 use Rattle.packet_decode.specs.ReferenceReading.{Reference, reaches, reference_of}
 use Rattle.packet_decode.proofs.EdgeMasks.{edges_injective}
 use Rattle.packet_decode.proofs.Unchanged.{run_bits-zeros, any-zeros, no_directions, wide-unchanged, deduced-unchanged}

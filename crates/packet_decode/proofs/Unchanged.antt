@@ -1,15 +1,14 @@
 -- Packets with no recent change.
-use Rattle.std.proofs.Common.{◌≡◌, ℕ, zero, suc, ◌+◌, Bool, true, false, cond, eqb, List, [], ◌∷◌, ◌++◌, length, get_or, replicate, Option, Some, None, refl, sym, ap, ◌∙◌, arith}
-use Rattle.std.specs.Prelude.{IfSome, Contains}
+use Rattle.std.proofs.Common.{◌≡◌, ℕ, zero, suc, ◌+◌, Bool, true, false, cond, eqb, List, [], ◌∷◌, length, get_or, replicate, Option, Some, None, refl, sym, ap, ◌∙◌}
+use Rattle.std.specs.Prelude.{IfSome}
 use Rattle.std.specs.List.{list_any}
 use Rattle.std.proofs.lemmas.Bool.{true≢false}
 use Rattle.std.proofs.lemmas.List.{get_or_default}
 use Rattle.bit_vectors.specs.Vectors.{xor_bits, or_bits, without_bits, IsOne}
-use Rattle.count_code.specs.Code.{end_bits}
 use Rattle.run_code.specs.Places.{ones_from}
 use Rattle.run_code.specs.Runs.{run_bits, runs_from}
 use Rattle.packet_decode.specs.Forms.{Directions, Form, AreDirections, IsForm, wide_by}
-use Rattle.packet_decode.specs.Packets.{Packet, unpredictable, deduced_mask}
+use Rattle.packet_decode.specs.Packets.{Packet, deduced_mask}
 
 -- ---- a vector of zeros
 

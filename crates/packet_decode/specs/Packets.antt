@@ -1,5 +1,5 @@
 -- What the bits of a packet say of its mask and its content, by the latest written packet (CCSDS 124.0-B-1).
-use Rattle.std.specs.Prelude.{◌≡◌, ◌==◌, ℕ, ◌-◌, ◌<◌, ◌≤◌, Bool, true, false, if◌then◌else◌, List, [], ◌∷◌, ◌++◌, length, slice_index_or, Option, None, Some, IfSome}
+use Rattle.std.specs.Prelude.{◌≡◌, ◌==◌, ℕ, ◌-◌, ◌≤◌, Bool, true, false, if◌then◌else◌, List, [], ◌∷◌, ◌++◌, length, slice_index_or, Option, None, Some, IfSome}
 use Rattle.bit_vectors.specs.Vectors.{padded, xor_bits, or_bits, without_bits}
 use Rattle.run_code.specs.Edges.{edges}
 use Rattle.run_code.specs.Extraction.{extract}

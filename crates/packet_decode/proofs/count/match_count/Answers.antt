@@ -1,7 +1,6 @@
-use Rattle.std.proofs.Common.{◌≡◌, ℕ, ◌-◌, ◌*◌, ◌<◌, ◌≤◌, ◌++◌, length, refl, sym, ap, ◌∙◌, arith}
+use Rattle.std.proofs.Common.{◌≡◌, ℕ, ◌-◌, ◌*◌, ◌<◌, ◌≤◌, ◌++◌, length, ap, ◌∙◌, arith}
 use Rattle.bit_vectors.specs.Vectors.{number_bits}
 use Rattle.bit_vectors.specs.Eye.{bits_left}
-use Rattle.bit_vectors.proofs.NumberBits.{length-number_bits}
 use Rattle.count_code.specs.Code.{digits, count_bits}
 use Rattle.count_code.proofs.CountWords.{count_bits-one, count_bits-short, count_bits-long, length-count_bits-long, six_in_three, seven_in_three}
 use Rattle.count_code.proofs.Digits.{digits_of, digits_most}

@@ -1,7 +1,7 @@
 use Rattle.std.proofs.Common.{◌≡◌, ℕ, true, false, [], ◌∷◌, None, refl, sym, ◌∙◌, arith}
 use Rattle.std.proofs.lemmas.Option.{none-some}
 use Rattle.bit_vectors.specs.Vectors.{number_bits, bits_of, bits_number}
-use Rattle.count_code.specs.Code.{halvings, digits, count_bits}
+use Rattle.count_code.specs.Code.{count_bits}
 use Rattle.run_code.specs.Places.{ones_from}
 use Rattle.run_code.specs.Runs.{run_bits, runs_from}
 use Rattle.packet_decode.specs.Forms.{Form, Part, change_bits, form_bits}

@@ -1,4 +1,4 @@
-use Rattle.std.proofs.Common.{◌≡◌, Bool, List, ◌++◌, Some, None, refl, sym, ap, ◌∙◌}
+use Rattle.std.proofs.Common.{◌≡◌, Bool, List, ◌++◌, Some, None}
 use Rattle.bit_vectors.specs.Eye.{bits_left}
 use Rattle.run_code.specs.Edges.{edges}
 use Rattle.run_code.specs.Runs.{run_bits}
