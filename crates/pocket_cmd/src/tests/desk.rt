@@ -80,11 +80,16 @@ pub fn assert_ending(
     Ok(())
 }
 
-fn desk_for(alloc: Global, case: &Case<'_>) -> Result<MemDesk, NoMemory> {
+fn desk_with(alloc: Global, store: Option<&[u8]>) -> Result<MemDesk, NoMemory> {
     let mut desk = MemDesk::new(alloc);
-    if let Some(store) = case.store {
+    if let Some(store) = store {
         desk.put("a", store)?;
     }
+    Ok(desk)
+}
+
+fn desk_for(alloc: Global, case: &Case<'_>) -> Result<MemDesk, NoMemory> {
+    let mut desk = desk_with(alloc, case.store)?;
     if case.one_byte {
         desk.pieces(1);
     }
