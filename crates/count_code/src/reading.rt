@@ -9,7 +9,9 @@ ghost use Rattle.count_code.specs.declared.count.Count.{Count};
 use crate::count::Count;
 use bit_vectors::{BitEye, BitFault};
 
-/// Takes the word of a count from 1 to `limit`, or the word that ends a list of counts.
+/// Takes the word of a count from 1 to `limit`, or the word that ends a list of counts. Wrong names the
+/// first bit after which neither can follow, and the eye then stands just after it. EndsEarly comes where
+/// the bits end before such a word is whole, and the eye then stands at the end.
 pub fn take_count(eye: &mut BitEye, limit: u32) -> Result<Count, BitFault>
     requires { limit ≤ 49152 }
     ensures moves { MovesOn eye.old eye.new }
@@ -22,6 +24,7 @@ pub fn take_count(eye: &mut BitEye, limit: u32) -> Result<Count, BitFault>
     read_count(eye, limit)
 }
 
+/// Takes a count or the end, as `count_at` reads them.
 #[tactic(auto, unfolding(crate::specs::Counts::count_at))]
 fn read_count(eye: &mut BitEye, limit: u32) -> Result<Count, BitFault>
     requires { limit ≤ 49152 }

@@ -1,4 +1,4 @@
-//! The words of counts, and the first wrong bits, by worked examples.
+//! The words of counts, and the first faults of others, by worked examples.
 
 use crate::{Count, count_len, put_count, put_end, take_count};
 use bit_vectors::{BitEye, BitFault, BitPen};
@@ -29,14 +29,17 @@ fn words_of_counts(rt: HostRuntime) -> Result<(), Fail> {
 }
 
 #[test]
-fn first_wrong_bits(rt: HostRuntime) {
-    let rows: [(&[u8], BitFault); 2] = [
-        (&[0xd0], BitFault::Wrong { bit: 3 }),
-        (&[0xe0], BitFault::Wrong { bit: 2 }),
+fn first_faults(rt: HostRuntime) {
+    let rows: [(&[u8], u32, BitFault); 4] = [
+        (&[0xd0], 8, BitFault::Wrong { bit: 3 }),
+        (&[0xe0], 8, BitFault::Wrong { bit: 2 }),
+        (&[0xe8], 66, BitFault::EndsEarly { bit: 8 }),
+        (&[], 8, BitFault::EndsEarly { bit: 0 }),
     ];
-    for (bytes, fault) in rows {
+    for (bytes, limit, fault) in rows {
+        assert!(rt; limit <= 49_152);
         let mut eye = BitEye::new(bytes);
-        assert_eq!(rt; take_count(&mut eye, 8), Err(fault));
+        assert_eq!(rt; take_count(&mut eye, limit), Err(fault));
     }
     let mut eye = BitEye::new(&[0x00, 0xc0]);
     for _ in 0..8 {

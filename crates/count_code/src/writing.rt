@@ -5,7 +5,7 @@ ghost use Rattle.count_code.specs.Code.{digits, count_bits, end_bits};
 
 use bit_vectors::BitPen;
 
-/// The number of bits of the word of a count.
+/// The number of bits of the word of a count, at most 29. A count is from 1 to 49,152.
 pub fn count_len(a: u32) -> u32
     requires some { 1 ≤ a }
     requires most { a ≤ 49152 }
@@ -19,7 +19,7 @@ pub fn count_len(a: u32) -> u32
     }
 }
 
-/// Appends the word of a count.
+/// Appends the word of a count, which is from 1 to 49,152.
 pub fn put_count(pen: &mut BitPen, a: u32)
     requires some { 1 ≤ a }
     requires most { a ≤ 49152 }
