@@ -1,4 +1,4 @@
-ghost use Rattle.std.specs.Prelude.{◌≡◌, ◌≤◌, ◌+◌, ◌-◌, ◌^◌, min, length, IsTrue, IfOk, OnOk};
+ghost use Rattle.std.specs.Prelude.{◌≡◌, ◌≤◌, ◌+◌, ◌-◌, ◌^◌, min, length, IsTrue, IsErr, IfOk, OnOk, OnErr};
 ghost use Rattle.desk_ports.specs.Meanings.{nothing_told, Counts};
 
 use crate::desk::{Desk, Failed, Inlet, Outlet};
@@ -117,12 +117,21 @@ impl<'a> FileDesk<'a> {
         }
     }
 
-    fn read_fault(&mut self) -> Failed
-        ensures counted { self.new ≡ record self.old { read_faults = min (self.old.read_faults + 1) (2 ^ 64 - 1) } }
+    // The answer of a call that reads. An error of the system is a fault.
+    fn or_read_fault<T>(&mut self, answer: io::Result<T>) -> Result<T, Failed>
+        ensures given { IfOk answer (λ given. result ≡ Ok given) }
+        ensures steady { OnOk answer (self.new ≡ self.old) }
+        ensures failed { OnErr answer (IsErr result) }
+        ensures counted { OnErr answer (self.new ≡ record self.old { read_faults = min (self.old.read_faults + 1) (2 ^ 64 - 1) }) }
         ensures rises { self.old.read_faults ≤ self.new.read_faults }
     {
-        self.read_faults = self.read_faults.saturating_add(1);
-        Failed
+        match answer {
+            Ok(given) => Ok(given),
+            Err(_) => {
+                self.read_faults = self.read_faults.saturating_add(1);
+                Err(Failed)
+            }
+        }
     }
 
     fn write_fault(&mut self) -> Failed
@@ -131,6 +140,20 @@ impl<'a> FileDesk<'a> {
     {
         self.write_faults = self.write_faults.saturating_add(1);
         Failed
+    }
+
+    // The answer of a call that writes. An error of the system is a fault.
+    fn or_write_fault<T>(&mut self, answer: io::Result<T>) -> Result<T, Failed>
+        ensures given { IfOk answer (λ given. result ≡ Ok given) }
+        ensures steady { OnOk answer (self.new ≡ self.old) }
+        ensures failed { OnErr answer (IsErr result) }
+        ensures counted { OnErr answer (self.new ≡ record self.old { write_faults = min (self.old.write_faults + 1) (2 ^ 64 - 1) }) }
+        ensures rises { self.old.write_faults ≤ self.new.write_faults }
+    {
+        match answer {
+            Ok(given) => Ok(given),
+            Err(_) => Err(self.write_fault()),
+        }
     }
 }
 
@@ -142,9 +165,8 @@ impl<'a> Desk for FileDesk<'a> {
     ghost counts = { λ desk. record { reads = desk.read_faults; writes = desk.write_faults } };
 
     fn open_in(&mut self, inlet: Inlet, name: &str) -> Result<(), Failed> {
-        let Ok(source) = Source::open(self.rt, name) else {
-            return Err(self.read_fault());
-        };
+        let source = Source::open(self.rt, name);
+        let source = self.or_read_fault(source)?;
         match inlet {
             Inlet::Side => self.side = source,
             Inlet::Main => self.input = source,
@@ -153,9 +175,8 @@ impl<'a> Desk for FileDesk<'a> {
     }
 
     fn open_out(&mut self, outlet: Outlet, name: &str) -> Result<(), Failed> {
-        let Ok(sink) = Sink::open(self.rt, name) else {
-            return Err(self.write_fault());
-        };
+        let sink = Sink::open(self.rt, name);
+        let sink = self.or_write_fault(sink)?;
         match outlet {
             Outlet::Main => self.output = sink,
             Outlet::Report => self.report = sink,
@@ -168,10 +189,7 @@ impl<'a> Desk for FileDesk<'a> {
             Inlet::Side => self.side.read(buf),
             Inlet::Main => self.input.read(buf),
         };
-        match moved {
-            Ok(moved) => Ok(moved),
-            Err(_) => Err(self.read_fault()),
-        }
+        self.or_read_fault(moved)
     }
 
     fn write(&mut self, outlet: Outlet, bytes: &[u8]) -> Result<usize, Failed> {
@@ -180,8 +198,8 @@ impl<'a> Desk for FileDesk<'a> {
             Outlet::Report => self.report.write(bytes),
         };
         match taken {
-            Ok(0) | Err(_) => Err(self.write_fault()),
-            Ok(taken) => Ok(taken),
+            Ok(0) => Err(self.write_fault()),
+            taken => self.or_write_fault(taken),
         }
     }
 
@@ -190,9 +208,6 @@ impl<'a> Desk for FileDesk<'a> {
             Outlet::Main => self.output.flush(),
             Outlet::Report => self.report.flush(),
         };
-        match flushed {
-            Ok(()) => Ok(()),
-            Err(_) => Err(self.write_fault()),
-        }
+        self.or_write_fault(flushed)
     }
 }
