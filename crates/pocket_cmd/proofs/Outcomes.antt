@@ -78,14 +78,14 @@ AfterRestore-unopened r old new WriteFault p =
       | inl at ↦ inl (ap (λ m. made m outlet.Main) at)
       | inr at ↦ inr ([], [], refl, ap (λ m. made m outlet.Main) at)
     ] in
-    let report : HasFront old new outlet.Report (report_of 0) = elim p.2 [ inl at ↦ inl (ap (λ m. made m outlet.Report) at) | inr at ↦ inl (ap (λ m. made m outlet.Report) at) ] in
+    let report : HasFront old new outlet.Report header_row = elim p.2 [ inl at ↦ inl (ap (λ m. made m outlet.Report) at) | inr at ↦ inl (ap (λ m. made m outlet.Report) at) ] in
     inl (record {
       store = [];
       contents = [];
       plain = IsPlainStore-none r.bits r.apid;
       told = told_start old.held (left old inlet.Main);
       output = output;
-      report = report;
+      report = inl report;
       held = held;
     }) where
       told_start : (held : Option Kept) (rest : Option (List ℕ)) → IfSome (given_by held rest r.input) (λ all. (more : List ℕ) × (all ≡ [] ++ more))
@@ -121,7 +121,10 @@ AfterRestore-stopped r old m0 new WriteFault o p = inl (record {
   plain = p.2;
   told = told_front old.held (left old inlet.Main) (left new inlet.Main) r.input o.0 p.0 [] o.1 (ran_input r old m0 new o.0 p.0 p.3 p.6 o.2 p.9 ∙ ap (λ l. prepend_known l (left new inlet.Main)) (sym (append-nil p.0)));
   output = inr (p.3, p.4, p.5, ran_output r old m0 new o.0 p.0 p.3 p.6 o.2 p.9);
-  report = inr (p.6, p.7, p.8, ran_report r old m0 new o.0 p.0 p.3 p.6 o.2 p.9);
+  report = elim p.8 [
+    | inl joined ↦ inl (inr (p.6, p.7, joined, ran_report r old m0 new o.0 p.0 p.3 p.6 o.2 p.9))
+    | inr whole ↦ inr (told_whole old.held (left old inlet.Main) (left new inlet.Main) r.input o.0 p.0 o.1 (ran_input r old m0 new o.0 p.0 p.3 p.6 o.2 p.9) whole.1, inr (p.6, p.7, whole.0, ran_report r old m0 new o.0 p.0 p.3 p.6 o.2 p.9))
+  ];
   held = ran_held r old m0 new o.0 p.0 p.3 p.6 o.2 p.9;
 })
 AfterRestore-stopped r old m0 new (BadWords word) o p = absurd p
@@ -161,6 +164,7 @@ AfterRestore-finished r old m0 m1 new (Err WriteFault) o p at =
     let output_name = ran_output_name r old m0 m1 o.0 p.0 (restored_bytes p.1) (report_of (length p.1)) o.2 p.3 in
     let output = ran_output r old m0 m1 o.0 p.0 (restored_bytes p.1) (report_of (length p.1)) o.2 p.3 in
     let report = ran_report r old m0 m1 o.0 p.0 (restored_bytes p.1) (report_of (length p.1)) o.2 p.3 in
+    let whole = told_whole old.held (left old inlet.Main) (left m1 inlet.Main) r.input o.0 p.0 o.1 (ran_input r old m0 m1 o.0 p.0 (restored_bytes p.1) (report_of (length p.1)) o.2 p.3) p.4 in
     let told = told_front old.held (left old inlet.Main) (left m1 inlet.Main) r.input o.0 p.0 [] o.1 (ran_input r old m0 m1 o.0 p.0 (restored_bytes p.1) (report_of (length p.1)) o.2 p.3 ∙ ap (λ l. prepend_known l (left m1 inlet.Main)) (sym (append-nil p.0))) in
     elim at [
       | inl same ↦ inl (record {
@@ -169,7 +173,7 @@ AfterRestore-finished r old m0 m1 new (Err WriteFault) o p at =
         plain = p.2;
         told = told;
         output = inr (restored_bytes p.1, [], append-nil (restored_bytes p.1), ap (λ m. made m outlet.Main) same ∙ output);
-        report = inr (report_of (length p.1), [], append-nil (report_of (length p.1)), ap (λ m. made m outlet.Report) same ∙ report);
+        report = inr (whole, inr (report_of (length p.1), [], append-nil (report_of (length p.1)), ap (λ m. made m outlet.Report) same ∙ report));
         held = ap (λ m. m.held) same ∙ held;
       })
       | inr kept ↦ inr (record {

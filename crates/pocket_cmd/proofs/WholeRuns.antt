@@ -1,5 +1,5 @@
 -- How the report's lines and the packets between them make a run.
-use Rattle.std.proofs.Common.{◌≡◌, ℕ, ◌++◌, List, [], length, None, Ok, Err, IfSome, refl, sym, ap, ◌∙◌, subst, append_assoc, append-nil, arith}
+use Rattle.std.proofs.Common.{◌≡◌, ℕ, ◌++◌, inl, inr, List, [], None, Ok, Err, IfSome, refl, sym, ap, ◌∙◌, subst, append_assoc, append-nil, arith}
 use Rattle.std.specs.Io.KnownBytes.{IsAtEnd}
 use Rattle.desk_ports.specs.Meanings.{Meanings, Adds, AddsFront, left}
 use Rattle.desk_ports.specs.Runs.{Ran}
@@ -27,8 +27,8 @@ AfterRun-no_header f apid m0 m1 cut = (
   [],
   refl,
   cut.front,
-  cut.rest ++ end_row 0,
-  sym (append_assoc cut.front cut.rest (end_row 0)) ∙ ap (λ l. l ++ end_row 0) cut.joined,
+  cut.rest,
+  inl cut.joined,
   Ran-notes m0 m1 cut.front cut.added,
 )
 
@@ -45,7 +45,7 @@ AfterRun-stopped f apid m0 m1 m2 (NotYet t) header p =
     (p.1, p.3, (p.4.0, after_header m0 m1 m2 p.4.0 (restored_bytes p.1) header p.4.1), subst (λ l. IfSome l (λ all. IsLongestPlain f apid all p.1)) (same_left m0 m1 header_row header) p.5)
 AfterRun-stopped f apid m0 m1 m2 ReadFault header p = (p.0, p.1, p.2, p.3, after_header m0 m1 m2 (p.0 ++ p.3) (restored_bytes p.1) header p.4)
 AfterRun-stopped f apid m0 m1 m2 WriteFault header p =
-    (p.0, p.1, p.2, p.3, p.4, p.5, header_row, end_row (length p.1), refl, after_header m0 m1 m2 p.0 p.3 header p.6)
+    (p.0, p.1, p.2, p.3, p.4, p.5, header_row, [], inl (append-nil header_row), after_header m0 m1 m2 p.0 p.3 header p.6)
 AfterRun-stopped f apid m0 m1 m2 (BadWords word) header p = absurd p
 AfterRun-stopped f apid m0 m1 m2 NoMemory header p = absurd p
 
@@ -62,7 +62,7 @@ AfterRun-no_end f apid n m0 m1 m2 m3 header p cut =
       append-nil (restored_bytes p.1 ++ []) ∙ append-nil (restored_bytes p.1),
       header_row ++ cut.front,
       cut.rest,
-      append_assoc header_row cut.front cut.rest ∙ (ap (λ l. header_row ++ l) cut.joined ∙ ap report_of (sym p.3)),
+      inr (append_assoc header_row cut.front cut.rest ∙ (ap (λ l. header_row ++ l) cut.joined ∙ ap report_of (sym p.3)), subst IsAtEnd (sym (same_left m2 m3 cut.front cut.added)) p.5),
       input,
     )
 

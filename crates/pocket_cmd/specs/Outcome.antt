@@ -71,18 +71,19 @@ pub record IsCutOff (r : Restoration) (old new : Meanings) : Type 0 where
   pub report : Has old new outlet.Report header_row
   pub held : new.held ≡ old.held
 
--- A writing failed: each output is as it was or has a front of what a plain store at the front of the input gives,
--- and nothing is kept.
+-- An opening, a writing or the first finishing failed: each output is as it was or has a front of what a plain store at
+-- the front of the input gives, and nothing is kept. More than the report's first line is begun only where that store is
+-- the whole input.
 pub record IsCutShort (r : Restoration) (old new : Meanings) : Type 0 where
   pub store : List ℕ
   pub contents : List (List Bool)
   pub plain : IsPlainStore r.bits r.apid store contents
   pub told : IfSome (given old r.input) (λ all. (rest : List ℕ) × (all ≡ store ++ rest))
   pub output : HasFront old new outlet.Main (restored_bytes contents)
-  pub report : HasFront old new outlet.Report (report_of (length contents))
+  pub report : HasFront old new outlet.Report header_row ⊎ (IfSome (given old r.input) (λ all. store ≡ all) × HasFront old new outlet.Report (report_of (length contents)))
   pub held : new.held ≡ old.held
 
--- A finishing failed: the outputs are whole, and nothing or the output alone is kept.
+-- The finishing of the report failed: the outputs are whole, and the output alone is kept.
 pub record IsHalfKept (r : Restoration) (old new : Meanings) : Type 0 where
   pub written : HasWritten r old new
   pub held : new.held ≡ kept_output r old new

@@ -48,7 +48,7 @@ AfterRun f apid old new (Err ReadFault) =
 AfterRun f apid old new (Err WriteFault) =
     (store : List ℕ) × (contents : List (List Bool)) × IsPlainStore f apid store contents
     × (front : List ℕ) × (rest : List ℕ) × (front ++ rest ≡ restored_bytes contents)
-    × (noted : List ℕ) × (more : List ℕ) × (noted ++ more ≡ report_of (length contents)) × Ran old new store front noted
+    × (noted : List ℕ) × (more : List ℕ) × ((noted ++ more ≡ header_row) ⊎ ((noted ++ more ≡ report_of (length contents)) × IsAtEnd (left new inlet.Main))) × Ran old new store front noted
 AfterRun f apid old new (Err (BadWords word)) = ⊥
 AfterRun f apid old new (Err NoMemory) = ⊥
 
