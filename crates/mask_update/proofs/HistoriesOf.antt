@@ -1,9 +1,8 @@
 -- The history of inputs, step by step.
-use Rattle.std.proofs.Common.{◌≡◌, ℕ, ◌+◌, ◌<◌, ◌≤◌, Bool, true, leb, List, [], ◌∷◌, ◌++◌, length, map, get_or, ap, ◌∙◌, arith}
+use Rattle.std.proofs.Common.{◌≡◌, ℕ, ◌+◌, ◌<◌, ◌≤◌, Bool, List, [], ◌∷◌, ◌++◌, length, map, get_or, ap, ◌∙◌, arith}
 use Rattle.std.specs.Prelude.{All}
 use Rattle.std.specs.List.{enumerate_from}
-use Rattle.std.proofs.lemmas.Bool.{cond-true}
-use Rattle.std.proofs.lemmas.Bool.Decides.{nat_tests}
+use Rattle.std.proofs.lemmas.Bool.{cond-true, le-leb}
 use Rattle.std.proofs.lemmas.List.{get_or-map, length-map, map_push}
 use Rattle.std.proofs.lemmas.List.FromFn.{get_or-enumerate_from, length-enumerate_from}
 use Rattle.bit_vectors.specs.declared.flags.Flags.{Flags}
@@ -31,7 +30,7 @@ IsValid-history_of inputs flags robust f first_mask vector len most inputs_len r
       robust = λ t lt. omega (arith, ap (λ (s : Step). s.robust) (at t lt), robust_most t);
       forced = λ t lt le.
           let up_to : t ≤ robust t = omega (arith, ap (λ (s : Step). s.robust) (at t lt)) in
-          ap (λ (s : Step). s.flags) (at t lt) ∙ cond-true _ forced_flags (flags t) (le_is t (robust t) up_to);
+          ap (λ (s : Step). s.flags) (at t lt) ∙ cond-true _ forced_flags (flags t) (le-leb t (robust t) up_to);
     }
   where
     within : (t : ℕ) → t < length (history_of inputs flags robust f first_mask).steps → t < length inputs
@@ -39,9 +38,6 @@ IsValid-history_of inputs flags robust f first_mask vector len most inputs_len r
 
     at : (t : ℕ) → t < length (history_of inputs flags robust f first_mask).steps → step_at (history_of inputs flags robust f first_mask) t ≡ step_of flags robust (t, get_or inputs t [])
     at t lt = step_at-history_of inputs flags robust f first_mask t (within t lt)
-
-    le_is : (a b : ℕ) → a ≤ b → leb a b ≡ true
-    le_is a b le = grind (arith, nat_tests)
 
 enumerate_push : (n m : ℕ) (inputs : List (List Bool)) (input : List Bool) → n + length inputs ≡ m → enumerate_from n (inputs ++ input ∷ []) ≡ enumerate_from n inputs ++ (m, input) ∷ []
 enumerate_push n m [] input at = let same : n ≡ m = omega arith in ap (λ k. (k, input) ∷ []) same

@@ -4,7 +4,7 @@ ghost use Rattle.std.specs.Prelude.{◌≡◌, ◌≢◌, ℕ, ◌+◌, ◌-◌,
 ghost use Rattle.std.specs.List.{range_with_len};
 ghost use Rattle.bit_vectors.specs.declared.flags.Flags.{Flags};
 ghost use Rattle.bit_vectors.specs.Vectors.{IsOne, IsVector, xor_bits};
-ghost use Rattle.mask_update.specs.Histories.{History, IsValid, Step, flags_at, history_of, input_at, latest_step, robust_at, step_of, with_step};
+ghost use Rattle.mask_update.specs.Histories.{History, IsValid, Step, flags_at, forced_flags, history_of, input_at, latest_step, robust_at, step_of, with_step};
 ghost use Rattle.mask_update.specs.Masks.{MovedBetween, NoNewMask, build_at, change_at, latest_new_mask, mask_at, new_mask_at, next_build, next_mask, second_latest_new_mask};
 ghost use Rattle.mask_update.specs.Worked.{last, none, worked};
 
@@ -59,7 +59,8 @@ pub fn new_mask_steps()
         second_latest_new_mask h t ≡ 0 }
 {}
 
-/// The history of inputs takes the given flags above the required robustness, and is valid.
+/// The history of inputs takes the given flags above the required robustness and the forced ones up to it, and is
+/// valid.
 pub fn histories_of_inputs()
     ensures steps { (inputs : List (List Bool)) (flags : ℕ → Flags) (robust : ℕ → ℕ) (f : ℕ) (first_mask : List Bool) →
         length (history_of inputs flags robust f first_mask).steps ≡ length inputs }
@@ -72,6 +73,9 @@ pub fn histories_of_inputs()
     ensures flags { (inputs : List (List Bool)) (flags : ℕ → Flags) (robust : ℕ → ℕ) (f : ℕ) (first_mask : List Bool)
         (t : ℕ) → t < length inputs → robust t < t →
         flags_at (history_of inputs flags robust f first_mask) t ≡ flags t }
+    ensures forced { (inputs : List (List Bool)) (flags : ℕ → Flags) (robust : ℕ → ℕ) (f : ℕ) (first_mask : List Bool)
+        (t : ℕ) → t < length inputs → t ≤ robust t →
+        flags_at (history_of inputs flags robust f first_mask) t ≡ forced_flags }
     ensures valid { (inputs : List (List Bool)) (flags : ℕ → Flags) (robust : ℕ → ℕ) (f : ℕ) (first_mask : List Bool) →
         IsVector first_mask → length first_mask ≡ f → length inputs ≤ 4294967296 →
         All (λ input. length input ≡ f) inputs → ((t : ℕ) → robust t ≤ 7) →

@@ -5,11 +5,12 @@ use Rattle.std.proofs.lemmas.List.{length-replicate}
 use Rattle.std.proofs.lemmas.Bool.{le-leb, leb-true}
 use Rattle.std.proofs.lemmas.Option.{same_Some, none-some}
 use Rattle.run_code.specs.Edges.{edges}
+use Rattle.run_code.specs.Extraction.{SameOutside}
+use Rattle.run_code.proofs.EdgeBits.{one_mask}
 use Rattle.packet_decode.specs.declared.reference.Vectors.{Vectors}
-use Rattle.packet_decode.specs.Packets.{State, InReach, SameOutside, SpellsSent}
+use Rattle.packet_decode.specs.Packets.{State, InReach, SpellsSent}
 use Rattle.packet_decode.specs.Decoding.{number_of, mask_of, content_of, state_of}
 use Rattle.packet_decode.specs.ReferenceReading.{Reference, reaches, reference_of}
-use Rattle.packet_decode.proofs.EdgeMasks.{edges_injective}
 use Rattle.packet_decode.proofs.ReferencePackets.{HasParts, HasParts-read, reference_of_is}
 use Rattle.packet_decode.proofs.Spelling.{HasPlaces, Agrees, SpellsSent-parts, SpellsSent-agrees, SpellsSent-from}
 
@@ -54,7 +55,7 @@ module _ (last : Option ℕ) (known : Vectors) (f : ℕ) (t : ℕ) (mask_places 
 
   pub same_mask : (bits mask content : List Bool) (level : ℕ) (sent_mask sent_content : List Bool) → Read bits level sent_mask sent_content → SpellsSent f (state_of last known) t bits mask content → sent_mask ≡ mask
   same_mask bits mask content level sent_mask sent_content read s =
-      edges_injective sent_mask mask (ap (λ (x : Reference). x.edges) (same_Some _ _ (sym read ∙ spelled_read bits mask content s)))
+      one_mask sent_mask mask (ap (λ (x : Reference). x.edges) (same_Some _ _ (sym read ∙ spelled_read bits mask content s)))
 
   pub same_content : (bits mask content : List Bool) (level : ℕ) (sent_mask sent_content : List Bool) → Read bits level sent_mask sent_content → SpellsSent f (state_of last known) t bits mask content → sent_content ≡ content
   same_content bits mask content level sent_mask sent_content read s =
@@ -74,7 +75,7 @@ module _ (last : Option ℕ) (known : Vectors) (f : ℕ) (t : ℕ) (mask_places 
       let is = reference_of_is f last known.mask t bytes bits _ len read in
       let parts : HasParts f bits level mask content = record { level_fits = is.level_fits; mask_places = places; content_places = is.places; bits_are = is.bits_are } in
       SpellsSent-from f (state_of last known) t bits level mask content (places_known last) parts
-      (λ near. let reach = reached last level near in agree last mask content (edges_injective mask known.mask (is.known_are reach)) (kept reach))
+      (λ near. let reach = reached last level near in agree last mask content (one_mask mask known.mask (is.known_are reach)) (kept reach))
 
   reading : (bytes : ℕ) (bits mask content : List Bool) → length bits ≡ 8 * bytes → length mask ≡ f → SpellsSent f (state_of last known) t bits mask content ↔
       ((level : ℕ) × Read bits level mask content × (InReach (state_of last known) t level → SameOutside mask known.content content))

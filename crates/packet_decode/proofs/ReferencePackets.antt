@@ -9,10 +9,10 @@ use Rattle.count_code.specs.Code.{count_bits}
 use Rattle.run_code.specs.Edges.{edges}
 use Rattle.run_code.specs.Runs.{run_bits, vector_at as runs_at}
 use Rattle.run_code.proofs.ExactRuns.{IsExact-vector_at}
-use Rattle.packet_decode.specs.ReferenceReading.{◌>>=◌, Reference, after, vector_at, number_at, read_of, reaches, edges_at, are_zeros_below, reference_of}
+use Rattle.packet_decode.specs.ReferenceReading.{◌>>=◌, Reference, after, front_at, number_at, read_of, reaches, edges_at, are_zeros_below, reference_of}
 use Rattle.packet_decode.proofs.After.{after_word, after_is}
 use Rattle.packet_decode.proofs.EdgeMasks.{length_edges}
-use Rattle.packet_decode.proofs.Taking.{Taken, vector_at-taken, vector_at_is}
+use Rattle.packet_decode.proofs.Taking.{Taken, front_at-taken, front_at_is}
 
 -- The bits of such a packet: no recent change, the level, a mask is sent, the runs of its edges, the content is whole,
 -- its number of places, the content.
@@ -29,9 +29,9 @@ bind_some (Some x) f y e = (x, refl, e)
 
 number_at_is : (width : ℕ) (bits : List Bool) (n : ℕ) (rest : List Bool) → number_at width bits ≡ Some (n, rest) → (bits ≡ number_bits width n ++ rest) × (n < 2 ^ width)
 number_at_is width bits n rest e =
-    let b = bind_some (vector_at width bits) (λ front. Some (bits_number front.0, front.1)) (n, rest) e in
+    let b = bind_some (front_at width bits) (λ front. Some (bits_number front.0, front.1)) (n, rest) e in
     let parts = some_pair_parts (bits_number b.0.0) n b.0.1 rest b.2 in
-    let front = vector_at_is width bits b.0.0 b.0.1 b.1 in
+    let front = front_at_is width bits b.0.0 b.0.1 b.1 in
     let same : number_bits width n ≡ b.0.0 = ap (λ (m : ℕ). number_bits width m) (sym parts.0) ∙ ap (λ (w : ℕ). number_bits w (bits_number b.0.0)) (sym front.1) ∙ number_bits-bits_number b.0.0 in (
       front.0 ∙ ap (λ (bs : List Bool). bs ++ b.0.1) (sym same) ∙ ap (λ (bs : List Bool). number_bits width n ++ bs) parts.1,
       omega (arith, bits_number_below b.0.0, parts.0, ap (λ (w : ℕ). 2 ^ w) front.1),
@@ -41,7 +41,7 @@ number_at-number_bits : (level : ℕ) (rest : List Bool) → level < 16 → numb
 number_at-number_bits level rest less =
     let taken : Taken (number_bits 4 level) rest (number_bits 4 level ++ rest) 4 = record { parts = refl; count_is = length-number_bits 4 level } in
     let number : bits_number (number_bits 4 level) ≡ level = bits_number-number_bits 4 level ∙ omega arith in
-    rw (vector_at-taken (number_bits 4 level) rest (number_bits 4 level ++ rest) 4 taken, number) refl
+    rw (front_at-taken (number_bits 4 level) rest (number_bits 4 level ++ rest) 4 taken, number) refl
 
 -- ---- the mask
 
@@ -127,7 +127,7 @@ parts_read : (f level : ℕ) (last : Option ℕ) (known : List Bool) (t : ℕ) (
 unfolding reference_of
 parts_read f level last known t mask content rest less same mask_places places =
     let taken : Taken content rest (content ++ rest) f = record { parts = refl; count_is = places } in
-    rw (by_parts level (edges mask) content rest, after_word (number_bits 2 2), number_at-number_bits level _ less, after_word (number_bits 2 1), edges_at-word (reaches last t level) known f mask _ same mask_places, after_word (number_bits 1 1), places, after_word (count_bits f), vector_at-taken content rest (content ++ rest) f taken) refl
+    rw (by_parts level (edges mask) content rest, after_word (number_bits 2 2), number_at-number_bits level _ less, after_word (number_bits 2 1), edges_at-word (reaches last t level) known f mask _ same mask_places, after_word (number_bits 1 1), places, after_word (count_bits f), front_at-taken content rest (content ++ rest) f taken) refl
 
 -- what has these parts is read so, where in reach the known mask is its own
 pub HasParts-read : (f : ℕ) (last : Option ℕ) (known : List Bool) (t : ℕ) (bits : List Bool) (level : ℕ) (mask content : List Bool) → HasParts f bits level mask content → (reaches last t level ≡ true → known ≡ mask)
@@ -158,7 +158,7 @@ abbrev reference_from : ℕ → List Bool → List Bool × List Bool → Option 
 reference_from level runs content = cond (are_zeros_below 8 content.1) (Some (record { level = level; edges = runs; content = content.0 })) None
 
 abbrev content_from : ℕ → ℕ → List Bool → List Bool → Option Reference
-content_from f level runs places = vector_at f places >>= reference_from level runs
+content_from f level runs places = front_at f places >>= reference_from level runs
 
 abbrev places_from : ℕ → ℕ → List Bool → List Bool → Option Reference
 places_from f level runs whole = after (count_bits f) whole >>= content_from f level runs
@@ -197,12 +197,12 @@ reference_of_is f last known t bytes bits read len e =
     let mask = bind_some (edges_at (reaches last t level.0.0) known f sent.0) (whole_from f level.0.0) read sent.2 in
     let whole = bind_some (after (number_bits 1 1) mask.0.1) (places_from f level.0.0 mask.0.0) read mask.2 in
     let places = bind_some (after (count_bits f) whole.0) (content_from f level.0.0 mask.0.0) read whole.2 in
-    let content = bind_some (vector_at f places.0) (reference_from level.0.0 mask.0.0) read places.2 in
+    let content = bind_some (front_at f places.0) (reference_from level.0.0 mask.0.0) read places.2 in
     let made : Reference = record { level = level.0.0; edges = mask.0.0; content = content.0.0 } in
     let final = cond_some (are_zeros_below 8 content.0.1) made read content.2 in
     let level_is = number_at_is 4 front.0 level.0.0 level.0.1 level.1 in
     let mask_is = edges_at_is (reaches last t level.0.0) known f sent.0 mask.0.0 mask.0.1 mask.1 in
-    let content_is = vector_at_is f places.0 content.0.0 content.0.1 content.1 in
+    let content_is = front_at_is f places.0 content.0.0 content.0.1 content.1 in
     let spelled = joined f level.0.0 mask.0.0 content.0.0 bits front.0 level.0.1 sent.0 mask.0.1 whole.0 places.0 content.0.1 content_is.1 (after_is (number_bits 2 2) bits front.0 front.1) level_is.0
     (after_is (number_bits 2 1) level.0.1 sent.0 sent.1) mask_is.bits_are (after_is (number_bits 1 1) mask.0.1 whole.0 whole.1) (after_is (count_bits f) whole.0 places.0 places.1) content_is.0 in
     let bits_are = padded_from bits (reference_bits level.0.0 mask.0.0 content.0.0) content.0.1 bytes spelled len final.0 in

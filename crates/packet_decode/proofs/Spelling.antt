@@ -6,11 +6,12 @@ use Rattle.std.proofs.lemmas.List.{length-replicate}
 use Rattle.std.proofs.lemmas.Option.{same_Some, none-some}
 use Rattle.bit_vectors.specs.Vectors.{number_bits, padded}
 use Rattle.run_code.specs.Edges.{edges}
+use Rattle.run_code.specs.Extraction.{SameOutside}
+use Rattle.run_code.proofs.EdgeBits.{one_mask}
 use Rattle.packet_decode.specs.Forms.{HasPlaces as ContentHasPlaces, Directions, Content, Whole, Part, Form, IsForm, IsReference, IsWhole, change_bits, form_bits, wide, reference_form}
-use Rattle.packet_decode.specs.Packets.{State, InReach, SameOutside, IsSentOf, Follows, StandsAlone, SpellsSent}
+use Rattle.packet_decode.specs.Packets.{State, InReach, IsSentOf, Follows, StandsAlone, SpellsSent}
 use Rattle.packet_decode.specs.Decoding.{number_of}
 use Rattle.packet_decode.specs.ReferenceReading.{Reference, reaches, reference_of}
-use Rattle.packet_decode.proofs.EdgeMasks.{edges_injective}
 use Rattle.packet_decode.proofs.Unchanged.{run_bits-zeros, any-zeros, no_directions, wide-unchanged, deduced-unchanged}
 use Rattle.packet_decode.proofs.ReferencePackets.{reference_bits, HasParts, HasParts-read, HasParts-further}
 
@@ -91,7 +92,7 @@ SpellsSent-unique f t state bits mask content other_mask other_content s other =
     let read = HasParts-read f None [] t bits s.form.level mask content (SpellsSent-parts f state t bits mask content s) (λ yes. absurd cc) in
     let again = HasParts-read f None [] t bits other.form.level other_mask other_content (SpellsSent-parts f state t bits other_mask other_content other) (λ yes. absurd cc) in
     let same = same_Some _ _ (sym read ∙ again) in
-    (edges_injective mask other_mask (ap (λ (x : Reference). x.edges) same), ap (λ (x : Reference). x.content) same)
+    (one_mask mask other_mask (ap (λ (x : Reference). x.edges) same), ap (λ (x : Reference). x.content) same)
 
 -- ---- with what is known
 
@@ -201,7 +202,7 @@ form_bits-injective f form other is reference other_is other_reference same =
     let read = HasParts-read f None [] 0 (padded (form_bits form)) form.level one.mask one.content one.parts (λ near. absurd cc) in
     let again = HasParts-read f None [] 0 (padded (form_bits other)) other.level two.mask two.content two.parts (λ near. absurd cc) in
     let both = same_Some _ _ (sym read ∙ ap (reference_of f None [] 0) same ∙ again) in
-    one.same ∙ form_by f form.level other.level one.mask two.mask one.content two.content (ap (λ (x : Reference). x.level) both) (edges_injective one.mask two.mask (ap (λ (x : Reference). x.edges) both)) (ap (λ (x : Reference). x.content) both) ∙ sym two.same
+    one.same ∙ form_by f form.level other.level one.mask two.mask one.content two.content (ap (λ (x : Reference). x.level) both) (one_mask one.mask two.mask (ap (λ (x : Reference). x.edges) both)) (ap (λ (x : Reference). x.content) both) ∙ sym two.same
 
 -- nothing is spelled by the bits of a packet and a byte or more after them
 pub SpellsSent-further : (f t : ℕ) (state : State) (bits more mask content other_mask other_content : List Bool) → 8 ≤ length more → SpellsSent f state t bits mask content → SpellsSent f state t (bits ++ more) other_mask other_content → ⊥

@@ -3,7 +3,7 @@ use Rattle.std.proofs.Common.{◌≡◌, ℕ, ◌+◌, ◌<◌, ltb, Bool, true,
 use Rattle.std.proofs.lemmas.Bool.{cases_lt, lt-ltb, le-ltb}
 use Rattle.std.proofs.lemmas.Option.{none-some, some_pair_parts}
 use Rattle.std.proofs.lemmas.List.{length-append, length-take, length_push, take_at, drop_at, take-append-drop}
-use Rattle.packet_decode.specs.ReferenceReading.{vector_at}
+use Rattle.packet_decode.specs.ReferenceReading.{front_at}
 
 -- so many bits were taken from all, and these are left
 pub record Taken (front rest all : List Bool) (count : ℕ) : Type 0 where
@@ -20,19 +20,19 @@ Taken-more front rest all count bit after taken next = record {
 }
 
 -- all that was wanted was taken
-pub vector_at-taken : (front rest all : List Bool) (count : ℕ) → Taken front rest all count → vector_at count all ≡ Some (front, rest)
-vector_at-taken front rest all count taken =
+pub front_at-taken : (front rest all : List Bool) (count : ℕ) → Taken front rest all count → front_at count all ≡ Some (front, rest)
+front_at-taken front rest all count taken =
     let enough : ltb (length (front ++ rest)) count ≡ false = le-ltb _ _ (omega (arith, length-append front rest, taken.count_is)) in
     rw (← taken.parts, enough, take_at front rest count taken.count_is, drop_at front rest count taken.count_is) refl
 
 -- the bits end before
-pub vector_at-short : (front rest all : List Bool) (count width : ℕ) → Taken front rest all count → rest ≡ [] → count < width → vector_at width all ≡ None
-vector_at-short front rest all count width taken none less =
+pub front_at-short : (front rest all : List Bool) (count width : ℕ) → Taken front rest all count → rest ≡ [] → count < width → front_at width all ≡ None
+front_at-short front rest all count width taken none less =
     let short : ltb (length all) width ≡ true = lt-ltb _ _ (omega (arith, ap length taken.parts, length-append front rest, ap length none, taken.count_is)) in
     rw short refl
 
-pub vector_at_is : (width : ℕ) (all front rest : List Bool) → vector_at width all ≡ Some (front, rest) → (all ≡ front ++ rest) × (length front ≡ width)
-vector_at_is width all front rest e =
+pub front_at_is : (width : ℕ) (all front rest : List Bool) → front_at width all ≡ Some (front, rest) → (all ≡ front ++ rest) × (length front ≡ width)
+front_at_is width all front rest e =
     elim (cases_lt (length all) width) [
       | inl short ↦
           let test : ltb (length all) width ≡ true = lt-ltb _ _ short in

@@ -7,6 +7,7 @@ use Rattle.std.proofs.lemmas.List.{get_or_default}
 use Rattle.bit_vectors.specs.Vectors.{xor_bits, or_bits, without_bits, IsOne}
 use Rattle.run_code.specs.Places.{ones_from}
 use Rattle.run_code.specs.Runs.{run_bits, runs_from}
+use Rattle.run_code.proofs.Ones.{zeros_at}
 use Rattle.packet_decode.specs.Forms.{Directions, Form, AreDirections, IsForm, wide_by}
 use Rattle.packet_decode.specs.Packets.{Packet, deduced_mask}
 
@@ -24,11 +25,6 @@ run_bits-zeros f = rw (ones_from-zeros 0 f) refl
 pub any-zeros : (f : ℕ) → list_any (λ (bit : Bool). bit) (replicate f false) ≡ false
 any-zeros zero = refl
 any-zeros (suc f) = any-zeros f
-
-no_one : (f place : ℕ) → get_or (replicate f false) place false ≡ false
-no_one zero place = refl
-no_one (suc f) zero = refl
-no_one (suc f) (suc place) = no_one f place
 
 -- ---- a mask and a vector of zeros
 
@@ -54,7 +50,7 @@ none_named form f None zeros are = refl
 none_named form f (Some directions) zeros are =
     let place = are.some.0 in
     let one : IsOne form.recent place = are.recent place (get_or_default directions.predictable place false true are.some.1 ∙ are.some.2) in
-    absurd (true≢false (sym one ∙ ap (λ (bits : List Bool). get_or bits place false) zeros ∙ no_one f place))
+    absurd (true≢false (sym one ∙ ap (λ (bits : List Bool). get_or bits place false) zeros ∙ zeros_at f place))
 
 -- no directions are sent
 pub no_directions : (f : ℕ) (form : Form) → IsForm f form → form.recent ≡ replicate f false → form.directions ≡ None

@@ -1,8 +1,8 @@
 -- What the bits of a packet say of its mask and its content, by the latest written packet (CCSDS 124.0-B-1).
-use Rattle.std.specs.Prelude.{◌≡◌, ◌==◌, ℕ, ◌-◌, ◌≤◌, Bool, true, false, if◌then◌else◌, List, [], ◌∷◌, ◌++◌, length, slice_index_or, Option, None, Some, IfSome}
+use Rattle.std.specs.Prelude.{◌≡◌, ◌==◌, ℕ, ◌-◌, ◌≤◌, Bool, true, false, if◌then◌else◌, List, [], ◌∷◌, ◌++◌, length, Option, None, Some, IfSome}
 use Rattle.bit_vectors.specs.Vectors.{padded, xor_bits, or_bits, without_bits}
 use Rattle.run_code.specs.Edges.{edges}
-use Rattle.run_code.specs.Extraction.{extract}
+use Rattle.run_code.specs.Extraction.{extract, SameOutside}
 use Rattle.run_code.specs.Runs.{run_bits}
 use Rattle.packet_decode.specs.Forms.{Directions, Content, Whole, Part, Form, IsForm, change_bits, form_bits, wide, Fits, IsReference}
 
@@ -33,10 +33,6 @@ abbrev pub deduced_mask : Packet → Form → List Bool
 deduced_mask latest form =
     if form.level == 0 then xor_bits latest.mask form.recent
     else or_bits (without_bits latest.mask form.recent) (unpredictable form.recent form.directions)
-
--- the content is the known one at each place where the mask is 0
-abbrev pub SameOutside : List Bool → List Bool → List Bool → Type 0
-SameOutside mask known content = (place : ℕ) → slice_index_or mask place true ≡ false → slice_index_or content place false ≡ slice_index_or known place false
 
 -- what is sent of the content: all of it, or the bits at these places
 abbrev pub IsSentOf : List Bool → List Bool → Content → Type 0

@@ -28,13 +28,13 @@ after (false ∷ word) (true ∷ bits) = None
 after (false ∷ word) (false ∷ bits) = after word bits
 
 -- so many bits, and the rest
-abbrev pub vector_at : ℕ → List Bool → Option (List Bool × List Bool)
-vector_at width bits = if nat_lt (length bits) width then None else Some (take width bits, drop width bits)
+abbrev pub front_at : ℕ → List Bool → Option (List Bool × List Bool)
+front_at width bits = if nat_lt (length bits) width then None else Some (take width bits, drop width bits)
 
 -- the number of so many bits, and the rest
 abbrev pub number_at : ℕ → List Bool → Option (ℕ × List Bool)
 number_at width bits = do
-  front ← vector_at width bits
+  front ← front_at width bits
   Some (bits_number front.0, front.1)
 
 -- whether the packet with the number t and this level is in reach of that with the latest number
@@ -72,5 +72,5 @@ reference_of f last known t bits = do
   mask ← edges_at (reaches last t level.0) known f sent
   whole ← after (number_bits 1 0b1) mask.1
   places ← after (count_bits f) whole
-  content ← vector_at f places
+  content ← front_at f places
   if are_zeros_below 8 content.1 then Some (record { level = level.0; edges = mask.0; content = content.0 }) else None

@@ -71,7 +71,8 @@ impl Decoder {
         })
     }
 
-    /// Reads the data of the packet with the number `t`, at most 65,536 bytes.
+    /// Reads the data of the packet with the number `t`, at most 65,536 bytes. Where they spell a packet, that
+    /// is then the latest one; else nothing changes.
     pub fn read(&mut self, t: u64, bytes: &[u8]) -> Reading
         requires number { t < 2 ^ 62 }
         requires later { IfSome (number_of self.old.state) (λ last. last < t) }

@@ -3,8 +3,9 @@
 ghost use Rattle.std.specs.Prelude.{◌≡◌, ℕ, ◌*◌, ◌<◌, ◌≤◌, ◌↔◌, Bool, true, false, List, [], ◌∷◌, ◌++◌, length, replicate, Some, None, IfSome};
 ghost use Rattle.bit_vectors.specs.Vectors.{bits_of, padded};
 ghost use Rattle.run_code.specs.Edges.{edges};
+ghost use Rattle.run_code.specs.Extraction.{SameOutside};
 ghost use Rattle.packet_decode.specs.Forms.{Form, Whole, Part, IsForm, IsReference, form_bits, reference_form};
-ghost use Rattle.packet_decode.specs.Packets.{State, InReach, SameOutside, Spells, HasOpaqueFront, SpellsSent};
+ghost use Rattle.packet_decode.specs.Packets.{State, InReach, Spells, HasOpaqueFront, SpellsSent};
 ghost use Rattle.packet_decode.specs.Decoding.{number_of, mask_of, content_of};
 ghost use Rattle.packet_decode.specs.ReferenceReading.{reference_of};
 
@@ -91,5 +92,6 @@ pub fn worked_packets()
     ensures opaque { HasOpaqueFront 8 None 2 (bits_of (0x44 ∷ 0xC0 ∷ [])) 2 }
     // Level 0, the mask 0F, the content A5.
     ensures sent { SpellsSent 8 None 0 (bits_of (0x81 ∷ 0x61 ∷ 0x5C ∷ 0x6A ∷ 0x50 ∷ [])) (bits_of (0x0F ∷ [])) (bits_of (0xA5 ∷ [])) }
+    // Without mask and whole content nothing that is read so far is spelled, whatever is known.
     ensures no_packet { (state : State) (t : ℕ) (mask content : List Bool) → ¬ SpellsSent 8 state t (bits_of (0x82 ∷ [])) mask content }
 {}

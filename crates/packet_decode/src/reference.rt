@@ -3,9 +3,9 @@
 ghost use Rattle.std.specs.Prelude.{◌≡◌, ◌<◌, ◌≤◌, ◌↔◌, length, IsTrue, Some, None, MatchOption, IfSome, OnSome};
 ghost use Rattle.bit_vectors.specs.Eye.{bits_left};
 ghost use Rattle.run_code.specs.Edges.{edges as edges_of};
+ghost use Rattle.run_code.specs.Extraction.{SameOutside};
 ghost use Rattle.run_code.specs.Runs.{run_bits, vector_at as runs_at};
-ghost use Rattle.packet_decode.specs.Packets.{SameOutside};
-ghost use Rattle.packet_decode.specs.ReferenceReading.{after, number_at, vector_at, reaches, read_of, edges_at, are_zeros_below, reference_of};
+ghost use Rattle.packet_decode.specs.ReferenceReading.{after, number_at, front_at, reaches, read_of, edges_at, are_zeros_below, reference_of};
 
 use crate::count::{match_count, match_number};
 use bit_vectors::{BitEye, Bits};
@@ -36,8 +36,8 @@ fn take_level(eye: &mut BitEye<'_>) -> Option<u8>
 /// Takes as many bits as the vector has places, from place 0 up.
 fn take_vector(eye: &mut BitEye<'_>, vector: &mut Bits) -> Option<()>
     ensures vector { MatchOption result
-        (vector_at (length vector.old) (bits_left eye.old) ≡ None)
-        (λ _. vector_at (length vector.old) (bits_left eye.old) ≡ Some (vector.new, bits_left eye.new)) }
+        (front_at (length vector.old) (bits_left eye.old) ≡ None)
+        (λ _. front_at (length vector.old) (bits_left eye.old) ≡ Some (vector.new, bits_left eye.new)) }
     ensures places { length vector.new ≡ length vector.old }
 {
     for place in 0..vector.len() {

@@ -7,8 +7,8 @@ use thiserror::Error;
 /// Why a store is not read on.
 #[derive(Clone, Copy, Debug, PartialEq, Eq, Error)]
 pub enum StoreFault {
-    /// No packet that is read so far stands next in the input.
-    #[error("the store does not go on with a packet that is read so far")]
+    /// What comes next in the input is no packet that the reader takes.
+    #[error("the store does not go on with a packet that can be read yet")]
     NotYet,
     /// The desk could not read.
     #[error("the store could not be read")]

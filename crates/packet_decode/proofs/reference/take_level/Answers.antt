@@ -5,7 +5,7 @@ use Rattle.bit_vectors.specs.Vectors.{bits_number}
 use Rattle.bit_vectors.specs.Eye.{bits_left}
 use Rattle.bit_vectors.proofs.NumberBits.{bits_number_below, bits_number-push}
 use Rattle.packet_decode.specs.ReferenceReading.{number_at}
-use Rattle.packet_decode.proofs.Taking.{Taken, Taken-none, Taken-more, vector_at-taken}
+use Rattle.packet_decode.proofs.Taking.{Taken, Taken-none, Taken-more, front_at-taken}
 use Rattle.packet_decode.proofs.reference.take_level.Goals as goal
 
 bool_byte_is : (bit : Bool) → bool_byte bit ≡ cond bit 1 0
@@ -22,7 +22,7 @@ small front rest all count level less taken is =
     omega (arith, bits_number_below front, taken.count_is, ap (λ (n : ℕ). 2 ^ n) taken.count_is, pow_mono {i = count} {j = 3} (omega arith))
 
 number_at-taken : (front rest all : List Bool) (level : ℕ) → Taken front rest all 4 → level ≡ bits_number front → number_at 4 all ≡ Some (level, rest)
-number_at-taken front rest all level taken is = rw (vector_at-taken front rest all 4 taken, is) refl
+number_at-taken front rest all level taken is = rw (front_at-taken front rest all 4 taken, is) refl
 
 pub loop-init : goal.loop-init
 unfolding bits_number
