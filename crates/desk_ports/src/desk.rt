@@ -38,6 +38,8 @@ pub trait Desk {
         ensures opened { OnOk result (Opens (meaning self.old) (meaning self.new) inlet name.now) }
         ensures unchanged { OnErr result (meaning self.new ≡ meaning self.old) }
         ensures cause { OnErr result (Rose (counts self.old).reads (counts self.new).reads) }
+        ensures steady { OnOk result (counts self.new ≡ counts self.old) }
+        ensures other_count { (counts self.new).writes ≡ (counts self.old).writes }
         ensures rises { Rises (counts self.old) (counts self.new) };
 
     /// Opens an output by its name. Nothing has been written to it then.
@@ -46,6 +48,8 @@ pub trait Desk {
         ensures opened { OnOk result (Begins (meaning self.old) (meaning self.new) outlet name.now) }
         ensures unchanged { OnErr result (meaning self.new ≡ meaning self.old) }
         ensures cause { OnErr result (Rose (counts self.old).writes (counts self.new).writes) }
+        ensures steady { OnOk result (counts self.new ≡ counts self.old) }
+        ensures other_count { (counts self.new).reads ≡ (counts self.old).reads }
         ensures rises { Rises (counts self.old) (counts self.new) };
 
     /// Moves the next bytes of an input to the front of `buf`, and tells how many: 0 exactly at the end.
@@ -57,6 +61,8 @@ pub trait Desk {
         ensures at_end { IfOk result (λ n. n ≡ 0 → IsAtEnd (left (meaning self.new) inlet)) }
         ensures unchanged { OnErr result (meaning self.new ≡ meaning self.old) }
         ensures cause { OnErr result (Rose (counts self.old).reads (counts self.new).reads) }
+        ensures steady { OnOk result (counts self.new ≡ counts self.old) }
+        ensures other_count { (counts self.new).writes ≡ (counts self.old).writes }
         ensures rises { Rises (counts self.old) (counts self.new) };
 
     /// Appends some of the bytes, at least one, to an output, and tells how many.
@@ -68,6 +74,8 @@ pub trait Desk {
         ensures added { IfOk result (λ n. Adds (meaning self.old) (meaning self.new) outlet (take n bytes.now)) }
         ensures unchanged { OnErr result (meaning self.new ≡ meaning self.old) }
         ensures cause { OnErr result (Rose (counts self.old).writes (counts self.new).writes) }
+        ensures steady { OnOk result (counts self.new ≡ counts self.old) }
+        ensures other_count { (counts self.new).reads ≡ (counts self.old).reads }
         ensures rises { Rises (counts self.old) (counts self.new) };
 
     /// Ends an output: what was written to it is then kept under its name.
@@ -76,5 +84,7 @@ pub trait Desk {
         ensures kept { OnOk result (Keeps (meaning self.old) (meaning self.new) outlet) }
         ensures unchanged { OnErr result (meaning self.new ≡ meaning self.old) }
         ensures cause { OnErr result (Rose (counts self.old).writes (counts self.new).writes) }
+        ensures steady { OnOk result (counts self.new ≡ counts self.old) }
+        ensures other_count { (counts self.new).reads ≡ (counts self.old).reads }
         ensures rises { Rises (counts self.old) (counts self.new) };
 }

@@ -213,6 +213,8 @@ impl Desk for MemDesk {
         ensures opened { OnOk result (Opens (mem_meanings self.old) (mem_meanings self.new) inlet name.now) }
         ensures unchanged { OnErr result (mem_meanings self.new ≡ mem_meanings self.old) }
         ensures cause { OnErr result (Rose (mem_counts self.old).reads (mem_counts self.new).reads) }
+        ensures steady { OnOk result (mem_counts self.new ≡ mem_counts self.old) }
+        ensures other_count { (mem_counts self.new).writes ≡ (mem_counts self.old).writes }
         ensures rises { Rises (mem_counts self.old) (mem_counts self.new) }
 
         // It fails exactly where `fail` named it, and where the name was never put or finished.
@@ -236,6 +238,8 @@ impl Desk for MemDesk {
         ensures opened { OnOk result (Begins (mem_meanings self.old) (mem_meanings self.new) outlet name.now) }
         ensures unchanged { OnErr result (mem_meanings self.new ≡ mem_meanings self.old) }
         ensures cause { OnErr result (Rose (mem_counts self.old).writes (mem_counts self.new).writes) }
+        ensures steady { OnOk result (mem_counts self.new ≡ mem_counts self.old) }
+        ensures other_count { (mem_counts self.new).reads ≡ (mem_counts self.old).reads }
         ensures rises { Rises (mem_counts self.old) (mem_counts self.new) }
 
         // It fails where `fail` named it, and otherwise only where a growth was refused.
@@ -266,6 +270,8 @@ impl Desk for MemDesk {
         ensures at_end { IfOk result (λ n. n ≡ 0 → IsAtEnd (left (mem_meanings self.new) inlet)) }
         ensures unchanged { OnErr result (mem_meanings self.new ≡ mem_meanings self.old) }
         ensures cause { OnErr result (Rose (mem_counts self.old).reads (mem_counts self.new).reads) }
+        ensures steady { OnOk result (mem_counts self.new ≡ mem_counts self.old) }
+        ensures other_count { (mem_counts self.new).writes ≡ (mem_counts self.old).writes }
         ensures rises { Rises (mem_counts self.old) (mem_counts self.new) }
 
         // It fails exactly where `fail` named it. It moves as many bytes as are left and fit, in the size of a piece.
@@ -298,6 +304,8 @@ impl Desk for MemDesk {
         ensures added { IfOk result (λ n. Adds (mem_meanings self.old) (mem_meanings self.new) outlet (take n bytes.now)) }
         ensures unchanged { OnErr result (mem_meanings self.new ≡ mem_meanings self.old) }
         ensures cause { OnErr result (Rose (mem_counts self.old).writes (mem_counts self.new).writes) }
+        ensures steady { OnOk result (mem_counts self.new ≡ mem_counts self.old) }
+        ensures other_count { (mem_counts self.new).reads ≡ (mem_counts self.old).reads }
         ensures rises { Rises (mem_counts self.old) (mem_counts self.new) }
 
         // It takes all the bytes, in the size of a piece.
@@ -327,6 +335,8 @@ impl Desk for MemDesk {
         ensures kept { OnOk result (Keeps (mem_meanings self.old) (mem_meanings self.new) outlet) }
         ensures unchanged { OnErr result (mem_meanings self.new ≡ mem_meanings self.old) }
         ensures cause { OnErr result (Rose (mem_counts self.old).writes (mem_counts self.new).writes) }
+        ensures steady { OnOk result (mem_counts self.new ≡ mem_counts self.old) }
+        ensures other_count { (mem_counts self.new).reads ≡ (mem_counts self.old).reads }
         ensures rises { Rises (mem_counts self.old) (mem_counts self.new) }
 
         // It fails where `fail` named it, and otherwise only where a growth was refused.

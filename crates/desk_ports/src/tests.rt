@@ -50,6 +50,7 @@ fn copies_in_memory(rt: HostRuntime) -> Result<(), Fail> {
 fn a_copy_of_a_file(rt: HostRuntime) -> Result<(), Fail> {
     fs::write(&rt, "row", ROW.as_slice())?;
     let mut desk = FileDesk::new(&rt);
+    assert_eq!(rt; copied(&mut desk, ".", "copy"), Err(Failed));
     assert_eq!(rt; copied(&mut desk, "row", "copy"), Ok(5));
     assert_eq!(rt; copied(&mut desk, "no such file", "copy"), Err(Failed));
     let copy = fs::read(&rt, "copy")?;
