@@ -117,9 +117,9 @@ fn take_mask(
     }
 }
 
-/// Whether only padding is left: fewer than eight zeros.
+/// Takes bits up to the end or a one, at most eight, and tells whether only padding was left: fewer than eight zeros.
 #[tactic(auto, unfolding(crate::specs::ReferenceReading::are_zeros_below))]
-fn at_padding(eye: &mut BitEye<'_>) -> bool
+fn take_padding(eye: &mut BitEye<'_>) -> bool
     ensures { result ≡ are_zeros_below 8 (bits_left eye.old) }
 {
     for _ in 0..8u32 {
@@ -163,7 +163,7 @@ pub fn take_reference(
     match_number(eye, 0b1, 1)?;
     match_count(eye, sent.content.len())?;
     take_vector(eye, &mut sent.content)?;
-    if at_padding(eye) { Some(level) } else { None }
+    if take_padding(eye) { Some(level) } else { None }
 }
 
 /// Whether the content is the known one at each place where the mask is 0.

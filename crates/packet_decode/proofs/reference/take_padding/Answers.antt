@@ -1,7 +1,7 @@
 use Rattle.std.proofs.Common.{◌≡◌, ℕ, suc, ◌+◌, ◌-◌, ◌<◌, Bool, false, List, ◌∷◌, refl, ◌∙◌, arith}
 use Rattle.bit_vectors.specs.Eye.{bits_left}
 use Rattle.packet_decode.specs.ReferenceReading.{are_zeros_below}
-use Rattle.packet_decode.proofs.reference.at_padding.Goals as goal
+use Rattle.packet_decode.proofs.reference.take_padding.Goals as goal
 
 -- a zero is passed over
 passed : (count : ℕ) (bit : Bool) (bits rest : List Bool) → count < 8 → bits ≡ bit ∷ rest → bit ≡ false → are_zeros_below (8 - (count + 1)) rest ≡ are_zeros_below (8 - count) bits
