@@ -1,4 +1,5 @@
-pub mod Reference
-pub mod Packets
-pub mod ReferenceReading
+pub mod State
+pub mod Spelling
+pub mod Answers
+pub mod PacketReading
 pub mod Decoding

@@ -1,39 +1,11 @@
 -- What the bits of a packet say of its mask and its content, by the latest written packet (CCSDS 124.0-B-1).
-use Rattle.std.specs.Prelude.{◌≡◌, ◌==◌, ℕ, ◌-◌, ◌≤◌, Bool, true, false, if◌then◌else◌, List, [], ◌∷◌, ◌++◌, length, Option, None, Some, IfSome}
-use Rattle.bit_vectors.specs.Vectors.{padded, xor_bits, or_bits, without_bits}
+use Rattle.std.specs.Prelude.{◌≡◌, ℕ, Bool, true, false, List, [], ◌∷◌, ◌++◌, length, Option, None, Some, IfSome}
+use Rattle.bit_vectors.specs.Vectors.{padded}
 use Rattle.run_code.specs.Edges.{edges}
 use Rattle.run_code.specs.Extraction.{extract, SameOutside}
 use Rattle.run_code.specs.Runs.{run_bits}
-use Rattle.packet_encode.specs.Forms.{Directions, Content, Whole, Part, Form, IsForm, change_bits, form_bits, wide, Fits}
-use Rattle.packet_decode.specs.Reference.{IsReference}
-
--- a written packet: its number, its mask and its content
-pub record Packet : Type 0 where
-  pub number : ℕ
-  pub mask : List Bool
-  pub content : List Bool
-
--- the latest written packet, where there is one
-abbrev pub State : Type 0
-State = Option Packet
-
--- the packet with the number t and this effective robustness level comes so soon after the latest written one that it
--- is understood by that: at most as many packets as the level says are between them
-abbrev pub InReach : State → ℕ → ℕ → Type 0
-InReach None t level = ⊥
-InReach (Some latest) t level = t - 1 - latest.number ≤ level
-
--- the recent changes that did not make a place predictable
-abbrev pub unpredictable : List Bool → Option Directions → List Bool
-unpredictable recent None = recent
-unpredictable recent (Some directions) = without_bits recent directions.predictable
-
--- The mask after the latest packet's. At level 0 each change turns a place; above, a change makes its place predictable
--- where the directions say so, and else unpredictable.
-abbrev pub deduced_mask : Packet → Form → List Bool
-deduced_mask latest form =
-    if form.level == 0 then xor_bits latest.mask form.recent
-    else or_bits (without_bits latest.mask form.recent) (unpredictable form.recent form.directions)
+use Rattle.packet_encode.specs.Forms.{Content, Whole, Part, Form, IsForm, change_bits, form_bits, wide, Fits}
+use Rattle.packet_decode.specs.State.{Packet, State, InReach, deduced_mask}
 
 -- what is sent of the content: all of it, or the bits at these places
 abbrev pub IsSentOf : List Bool → List Bool → Content → Type 0
@@ -82,10 +54,3 @@ pub record HasOpaqueFront (f : ℕ) (state : State) (t : ℕ) (bits : List Bool)
   pub end_is : opaque_end form.sent form.content ≡ Some end
   pub rest : List Bool
   pub bits_are : bits ≡ change_bits form ++ (end ++ rest)
-
--- Under a state, the bits spell the packet with the number t that has this mask and this content of f places, by a
--- form with no recent change, a sent mask and whole content.
-pub record SpellsSent (f : ℕ) (state : State) (t : ℕ) (bits mask content : List Bool) : Type 0 where
-  pub form : Form
-  pub reference : IsReference f form
-  pub spells : Spells f state t bits form mask content
