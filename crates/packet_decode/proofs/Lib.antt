@@ -1,1 +1,2 @@
 pub mod EdgeMasks
+pub mod Readers

@@ -3,10 +3,9 @@ use Rattle.std.specs.Prelude.{ℕ, ◌-◌, ◌*◌, nat_lt, nat_le, Bool, true,
 use Rattle.std.specs.List.{list_any}
 use Rattle.bit_vectors.specs.declared.fault.BitFault.{BitFault}
 use Rattle.bit_vectors.specs.declared.fault.BitFault.TheVariants.{Wrong, EndsEarly}
-use Rattle.bit_vectors.specs.Vectors.{byte_count}
+use Rattle.bit_vectors.specs.Vectors.{byte_count, bits_number}
 use Rattle.bit_vectors.specs.Reading.{Reading, Read, WrongBit, TooShort, ◌>>=◌, bit_where, allowed}
 use Rattle.count_code.specs.Code.{count_bits}
-use Rattle.count_code.specs.Counts.{number_at}
 use Rattle.run_code.specs.Places.{places_down}
 use Rattle.run_code.specs.Edges.{edges}
 use Rattle.run_code.specs.Extraction.{filled_at, inverse_at}
@@ -36,6 +35,10 @@ any_bit bits = bit_where (λ bit. true) bits
 unfoldable pub front_at : ℕ → List Bool → Reading (List Bool)
 front_at count bits = if nat_le count (length bits) then Read (take count bits) (drop count bits) else TooShort
 
+-- a number of this width, whatever its bits are
+unfoldable pub number_at : ℕ → List Bool → Reading ℕ
+number_at width bits = front_at width bits >>= λ front rest. Read (bits_number front) rest
+
 -- A vector from place 0 up that has the known bit at each place but these. The first bit that differs is wrong.
 unfoldable pub kept_at : List Bool → List Bool → List Bool → Reading (List Bool)
 kept_at [] known bits = Read [] bits
@@ -64,7 +67,7 @@ directions_at recent level bits =
 unfoldable pub change_at : ℕ → List Bool → Reading Change
 change_at f bits =
     vector_at f bits
-    >>= λ recent rest. number_at 15 0 4 rest
+    >>= λ recent rest. number_at 4 rest
     >>= λ level more. directions_at recent level more
     >>= λ directions last. Read (record { recent = recent; level = level; directions = directions }) last
 

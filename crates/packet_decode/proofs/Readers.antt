@@ -1,0 +1,155 @@
+-- Exact readers, put together in further ways.
+use Rattle.std.proofs.Common.{◌≡◌, ℕ, ◌-◌, ◌≤◌, ◌<◌, ◌^◌, leb, Bool, true, false, cond, List, [], ◌∷◌, ◌++◌, length, take, drop, replicate, refl, sym, ap, ◌∙◌, subst, arith}
+use Rattle.std.proofs.lemmas.Bool.{le-leb, leb-true, leb-false}
+use Rattle.std.proofs.lemmas.List.{length-append, length-take, length-replicate, append-nil, take_at, drop_at, take-append-drop}
+use Rattle.std.proofs.Math.Nat.{mod-eq_of_lt}
+use Rattle.bit_vectors.specs.Vectors.{number_bits, bits_number}
+use Rattle.bit_vectors.specs.Reading.{Reading, Read, WrongBit, TooShort, ◌>>=◌, bit_where, allowed, IsExact}
+use Rattle.bit_vectors.proofs.ExactReading.{IsBitWhere, IsWordThen, IsExact-give, IsExact-bit_where, IsExact-same, IsExact-then}
+use Rattle.bit_vectors.proofs.NumberBits.{length-number_bits, bits_number-number_bits, bits_number_below, number_bits-bits_number}
+use Rattle.run_code.specs.Runs.{same_at}
+use Rattle.run_code.proofs.SameWord.{IsExact-same_at}
+use Rattle.packet_decode.specs.PacketReading.{any_bit, front_at, number_at}
+
+-- there is a word of some value
+abbrev pub HasWord : {A : Type 0} → (A → List Bool → Type 0) → Type 0
+HasWord {A} W = (v : A) × (word : List Bool) × W v word
+
+-- ---- a value seen in another way
+
+abbrev pub IsImage : {A B : Type 0} → (A → B) → (A → List Bool → Type 0) → B → List Bool → Type 0
+IsImage {A} h W u word = (v : A) × W v word × (u ≡ h v)
+
+pub IsExact-map : {A B : Type 0} (h : A → B) (W : A → List Bool → Type 0) (f : List Bool → Reading A) → IsExact W f → IsExact (IsImage h W) (λ bits. f bits >>= λ v rest. Read (h v) rest)
+IsExact-map h W f exact =
+    IsExact-same (IsWordThen W (λ v u word. (u ≡ h v) × (word ≡ []))) (IsImage h W) (λ bits. f bits >>= λ v rest. Read (h v) rest)
+    (λ u word w. (w.0, subst (λ (x : List Bool). W w.0 x) (sym (w.5 ∙ ap (λ (x : List Bool). w.1 ++ x) w.4.1 ∙ append-nil w.1)) w.3, w.4.0))
+    (λ u word i. (i.0, word, [], i.1, (i.2, refl), sym (append-nil word)))
+    (IsExact-then W (λ v u word. (u ≡ h v) × (word ≡ [])) f (λ v rest. Read (h v) rest) exact (λ v word w. IsExact-give (h v)) (λ v word w. (h v, [], (refl, refl))))
+
+-- ---- a bit, and then by it
+
+-- a one and a word of the first kind, or a zero and a word of the second
+abbrev pub IsBitThen : {A : Type 0} → (A → List Bool → Type 0) → (A → List Bool → Type 0) → A → List Bool → Type 0
+IsBitThen U V u [] = ⊥
+IsBitThen U V u (true ∷ word) = U u word
+IsBitThen U V u (false ∷ word) = V u word
+
+abbrev by_bit : {A : Type 0} → (A → List Bool → Type 0) → (A → List Bool → Type 0) → Bool → A → List Bool → Type 0
+by_bit U V true = U
+by_bit U V false = V
+
+bit_joined : {A : Type 0} (ok : Bool → Bool) (U V : A → List Bool → Type 0) (u : A) (word : List Bool) (bit : Bool) (front back : List Bool) → front ≡ bit ∷ [] → by_bit U V bit u back → word ≡ front ++ back → IsBitThen U V u word
+bit_joined ok U V u word true front back f b w = rw (w, f) b
+bit_joined ok U V u word false front back f b w = rw (w, f) b
+
+bit_apart : {A : Type 0} (U V : A → List Bool → Type 0) (u : A) (word : List Bool) → IsBitThen U V u word → IsWordThen (IsBitWhere (λ bit. true)) (by_bit U V) u word
+bit_apart U V u [] w = absurd w
+bit_apart U V u (true ∷ word) w = (true, true ∷ [], word, (refl, refl), w, refl)
+bit_apart U V u (false ∷ word) w = (false, false ∷ [], word, (refl, refl), w, refl)
+
+bit_exact : {A : Type 0} (U V : A → List Bool → Type 0) (f g : List Bool → Reading A) → IsExact U f → IsExact V g → (bit : Bool) → IsExact (by_bit U V bit) (λ rest. cond bit (f rest) (g rest))
+bit_exact U V f g first second true = first
+bit_exact U V f g first second false = second
+
+bit_word : {A : Type 0} (U V : A → List Bool → Type 0) → HasWord U → HasWord V → (bit : Bool) → HasWord (by_bit U V bit)
+bit_word U V first second true = first
+bit_word U V first second false = second
+
+pub IsExact-bit : {A : Type 0} (U V : A → List Bool → Type 0) (f g : List Bool → Reading A) → IsExact U f → IsExact V g → HasWord U → HasWord V → IsExact (IsBitThen U V) (λ bits. any_bit bits >>= λ bit rest. cond bit (f rest) (g rest))
+IsExact-bit U V f g first second some other =
+    IsExact-same (IsWordThen (IsBitWhere (λ bit. true)) (by_bit U V)) (IsBitThen U V) (λ bits. any_bit bits >>= λ bit rest. cond bit (f rest) (g rest))
+    (λ u word w. bit_joined (λ bit. true) U V u word w.0 w.1 w.2 w.3.1 w.4 w.5)
+    (bit_apart U V)
+    (IsExact-then (IsBitWhere (λ bit. true)) (by_bit U V) (bit_where (λ bit. true)) (λ bit rest. cond bit (f rest) (g rest))
+    (IsExact-bit_where (λ bit. true) true refl)
+    (λ bit word w. bit_exact U V f g first second bit)
+    (λ bit word w. bit_word U V some other bit))
+
+-- a one, and then a word
+abbrev pub NoWord : {A : Type 0} → A → List Bool → Type 0
+NoWord u word = ⊥
+
+one_joined : {A : Type 0} (U : A → List Bool → Type 0) (u : A) (word : List Bool) (bit : Bool) (front back : List Bool) → allowed false true bit ≡ true → front ≡ bit ∷ [] → U u back → word ≡ front ++ back → IsBitThen U NoWord u word
+one_joined U u word true front back ok f b w = rw (w, f) b
+one_joined U u word false front back ok f b w = absurd cc
+
+one_apart : {A : Type 0} (U : A → List Bool → Type 0) (u : A) (word : List Bool) → IsBitThen U NoWord u word → IsWordThen (IsBitWhere (allowed false true)) (λ bit. U) u word
+one_apart U u [] w = absurd w
+one_apart U u (true ∷ word) w = (true, true ∷ [], word, (refl, refl), w, refl)
+one_apart U u (false ∷ word) w = absurd w
+
+pub IsExact-one : {A : Type 0} (U : A → List Bool → Type 0) (f : List Bool → Reading A) → IsExact U f → HasWord U → IsExact (IsBitThen U NoWord) (λ bits. bit_where (allowed false true) bits >>= λ bit rest. f rest)
+IsExact-one U f exact some =
+    IsExact-same (IsWordThen (IsBitWhere (allowed false true)) (λ bit. U)) (IsBitThen U NoWord) (λ bits. bit_where (allowed false true) bits >>= λ bit rest. f rest)
+    (λ u word w. one_joined U u word w.0 w.1 w.2 w.3.0 w.3.1 w.4 w.5)
+    (one_apart U)
+    (IsExact-then (IsBitWhere (allowed false true)) (λ bit. U) (bit_where (allowed false true)) (λ bit rest. f rest)
+    (IsExact-bit_where (allowed false true) true refl)
+    (λ bit word w. exact)
+    (λ bit word w. some))
+
+-- ---- a fixed word, and then others
+
+abbrev pub IsAfter : {A : Type 0} → List Bool → (A → List Bool → Type 0) → A → List Bool → Type 0
+IsAfter front U u word = (back : List Bool) × U u back × (word ≡ front ++ back)
+
+pub IsExact-after : {A : Type 0} (front : List Bool) (U : A → List Bool → Type 0) (f : List Bool → Reading A) → IsExact U f → HasWord U → IsExact (IsAfter front U) (λ bits. same_at front bits >>= λ u rest. f rest)
+IsExact-after front U f exact some =
+    IsExact-same (IsWordThen (λ (u : Unit {0}) (word : List Bool). word ≡ front) (λ u. U)) (IsAfter front U) (λ bits. same_at front bits >>= λ u rest. f rest)
+    (λ u word w. (w.2, w.4, w.5 ∙ ap (λ (x : List Bool). x ++ w.2) w.3))
+    (λ u word w. (tt, front, w.0, refl, w.1, w.2))
+    (IsExact-then (λ (u : Unit {0}) (word : List Bool). word ≡ front) (λ u. U) (same_at front) (λ u rest. f rest)
+    (IsExact-same_at front)
+    (λ u word w. exact)
+    (λ u word w. some))
+
+-- ---- so many bits, and a number of so many bits
+
+abbrev pub IsFront : ℕ → List Bool → List Bool → Type 0
+IsFront count v word = (length v ≡ count) × (word ≡ v)
+
+chosen_read : (b : Bool) (v w r s : List Bool) → cond b (Read v r) TooShort ≡ Read w s → (b ≡ true) × (v ≡ w) × (r ≡ s)
+chosen_read true v w r s e = (refl, cc, cc)
+chosen_read false v w r s e = absurd cc
+
+chosen_wrong : (b : Bool) (v r s : List Bool) → cond b (Read v r) TooShort ≡ WrongBit s → ⊥
+chosen_wrong true v r s e = cc
+chosen_wrong false v r s e = cc
+
+chosen_short : (b : Bool) (v r : List Bool) → cond b (Read v r) TooShort ≡ TooShort → b ≡ false
+chosen_short true v r e = absurd cc
+chosen_short false v r e = refl
+
+pub IsExact-front_at : (count : ℕ) → IsExact (IsFront count) (front_at count)
+unfolding front_at
+IsExact-front_at count = record {
+  reads = λ v word rest w.
+      let enough : leb count (length (v ++ rest)) ≡ true = le-leb _ _ (omega (arith, length-append v rest, w.0)) in
+      rw (w.1, enough, take_at v rest count w.0, drop_at v rest count w.0) refl;
+  read_is = λ bits v rest e.
+      let c = chosen_read (leb count (length bits)) (take count bits) v (drop count bits) rest e in
+      let enough : count ≤ length bits = leb-true _ _ c.0 in
+      (v, (omega (arith, length-take count bits, ap (λ (x : List Bool). length x) c.1), refl), sym (take-append-drop count bits) ∙ rw (c.1, c.2) refl);
+  wrong_is = λ bits rest e. absurd (chosen_wrong (leb count (length bits)) (take count bits) (drop count bits) rest e);
+  short_is = λ bits e.
+      let short : length bits < count = leb-false _ _ (chosen_short (leb count (length bits)) (take count bits) (drop count bits) e) in
+      let more = replicate (count - length bits) false in
+      (more, (bits ++ more, (omega (arith, length-append bits more, length-replicate (count - length bits) false), refl)));
+}
+
+abbrev pub IsNumber : ℕ → ℕ → List Bool → Type 0
+IsNumber width n word = (n < 2 ^ width) × (word ≡ number_bits width n)
+
+number_word : (width n : ℕ) (word : List Bool) → IsImage bits_number (IsFront width) n word → IsNumber width n word
+number_word width n word (front, is, value) =
+    let same : number_bits width (bits_number front) ≡ front = ap (λ (w : ℕ). number_bits w (bits_number front)) (sym is.0) ∙ number_bits-bits_number front in
+    (omega (arith, value, bits_number_below front, ap (λ (w : ℕ). 2 ^ w) is.0), is.1 ∙ sym (ap (number_bits width) value ∙ same))
+
+word_number : (width n : ℕ) (word : List Bool) → IsNumber width n word → IsImage bits_number (IsFront width) n word
+word_number width n word is = (word, (ap (λ (x : List Bool). length x) is.1 ∙ length-number_bits width n, refl), sym (ap bits_number is.1 ∙ bits_number-number_bits width n ∙ mod-eq_of_lt is.0))
+
+pub IsExact-number_at : (width : ℕ) → IsExact (IsNumber width) (number_at width)
+unfolding number_at
+IsExact-number_at width =
+    IsExact-same (IsImage bits_number (IsFront width)) (IsNumber width) (number_at width) (number_word width) (word_number width) (IsExact-map bits_number (IsFront width) (front_at width) (IsExact-front_at width))
