@@ -1,2 +1,3 @@
 pub mod EdgeMasks
 pub mod Readers
+pub mod ExactChange
