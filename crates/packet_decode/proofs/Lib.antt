@@ -1,3 +1,4 @@
 pub mod EdgeMasks
 pub mod Readers
 pub mod ExactChange
+pub mod KeptContent
