@@ -2,3 +2,4 @@ pub mod EdgeMasks
 pub mod Readers
 pub mod ExactChange
 pub mod KeptContent
+pub mod ExactData
