@@ -1,12 +1,12 @@
 -- Reading the parts after the first is exact, by a deduced mask or none and a known content or none.
-use Rattle.std.proofs.Common.{◌≡◌, ℕ, Bool, true, false, cond, List, [], ◌++◌, length, get_or, replicate, Option, Some, None, refl, sym, ap, ◌∙◌, subst, inl, inr}
+use Rattle.std.proofs.Common.{◌≡◌, ℕ, Bool, true, false, cond, List, [], ◌∷◌, ◌++◌, length, get_or, replicate, Option, Some, None, refl, sym, ap, ◌∙◌, subst, inl, inr}
 use Rattle.std.specs.Prelude.{IfSome, ◌||◌}
 use Rattle.std.proofs.lemmas.Bool.{true≢false}
 use Rattle.std.proofs.lemmas.List.{length-replicate}
 use Rattle.std.proofs.lemmas.Simd.{length-zip2}
 use Rattle.bit_vectors.specs.Vectors.{or_bits}
 use Rattle.bit_vectors.specs.Reading.{IsExact}
-use Rattle.bit_vectors.proofs.ExactReading.{IsExact-give, IsExact-same}
+use Rattle.bit_vectors.proofs.ExactReading.{IsWordThen, IsExact-give, IsExact-same, IsExact-then}
 use Rattle.count_code.specs.Code.{count_bits}
 use Rattle.run_code.specs.Places.{places_down}
 use Rattle.run_code.specs.Edges.{edges}
@@ -18,9 +18,9 @@ use Rattle.run_code.proofs.Ones.{one_or_zero, places_down_apart, in_places_down,
 use Rattle.run_code.proofs.SameWord.{IsExact-same_at}
 use Rattle.packet_encode.specs.Forms.{Directions, wide_by}
 use Rattle.packet_decode.specs.State.{Change}
-use Rattle.packet_decode.specs.PacketReading.{Outcome, Spelled, Opaque, front_at, kept_at, from_edges, mask_at, whole_at, whole_with, part_with, content_at}
+use Rattle.packet_decode.specs.PacketReading.{Outcome, Spelled, Opaque, front_at, kept_at, from_edges, mask_at, whole_at, whole_with, part_with, content_at, unsent_at, maskless_at, masked_at, sent_at, data_at}
 use Rattle.packet_decode.proofs.EdgeMasks.{edges-from_edges, length-from_edges, length_edges, from_edges-edges}
-use Rattle.packet_decode.proofs.Readers.{HasWord, IsImage, IsExact-map, IsBitThen, IsExact-bit, IsAfter, IsExact-after, IsFront, IsExact-front_at}
+use Rattle.packet_decode.proofs.Readers.{HasWord, IsImage, IsExact-map, IsBitThen, IsExact-bit, NoWord, IsExact-one, IsAfter, IsExact-after, IsFront, IsExact-front_at}
 use Rattle.packet_decode.proofs.KeptContent.{IsKept, IsExact-kept_at}
 
 -- ---- the mask
@@ -180,7 +180,62 @@ IsContent f change mask known = IsBitThen (IsWhole f change mask known) (IsPart 
 all_of_places : (f n : ℕ) (known : Option (List Bool)) → f ≡ n → AllPlaces f known → AllPlaces n known
 all_of_places f n known same all = subst (λ (k : ℕ). AllPlaces k known) same all
 
-module _ (f : ℕ) (change : Change) (deduced known : Option (List Bool)) (recent : length change.recent ≡ f) (mask_places : AllPlaces f deduced) (content_places : AllPlaces f known) where
+-- ---- all parts after the first
+
+-- too little to understand them
+abbrev pub IsNothing : Outcome → List Bool → Type 0
+IsNothing o word = (o ≡ Opaque) × (word ≡ [])
+
+abbrev pub IsUnsent : Change → Option (List Bool) → Option (List Bool) → Outcome → List Bool → Type 0
+IsUnsent change None known = IsNothing
+IsUnsent change (Some mask) known = IsPart change mask known
+
+abbrev pub IsMaskless : ℕ → Change → Option (List Bool) → Option (List Bool) → Outcome → List Bool → Type 0
+IsMaskless f change None known = IsNothing
+IsMaskless f change (Some mask) known = IsBitThen (IsWhole f change mask known) NoWord
+
+abbrev pub IsMasked : ℕ → Change → Option (List Bool) → Option (List Bool) → Outcome → List Bool → Type 0
+IsMasked f change deduced known = IsWordThen (IsMaskWord f deduced) (λ mask. IsContent f change mask known)
+
+abbrev pub IsSent : ℕ → Change → Option (List Bool) → Option (List Bool) → Outcome → List Bool → Type 0
+IsSent f change deduced known = IsBitThen (IsMasked f change deduced known) (IsMaskless f change deduced known)
+
+abbrev pub IsData : ℕ → Change → Option (List Bool) → Option (List Bool) → Outcome → List Bool → Type 0
+IsData f change deduced known = IsBitThen (IsUnsent change deduced known) (IsSent f change deduced known)
+
+-- there is a mask, and after each a content
+mask_of_places : (f : ℕ) (deduced : Option (List Bool)) → AllPlaces f deduced → (mask word : List Bool) → IsMaskWord f deduced mask word → length mask ≡ f
+mask_of_places f None all mask word is = is.0
+mask_of_places f (Some deduced) all mask word is = ap (λ (m : List Bool). length m) is.0 ∙ all
+
+some_mask : (f : ℕ) (deduced : Option (List Bool)) → HasWord (IsMaskWord f deduced)
+some_mask f None = (replicate f false, run_bits (edges (replicate f false)), (length-replicate f false, refl))
+some_mask f (Some deduced) = (deduced, run_bits (edges deduced), (refl, refl))
+
+some_content : (f : ℕ) (change : Change) (mask : List Bool) (known : Option (List Bool)) → HasWord (IsContent f change mask known)
+some_content f change mask known = let p = some_part change mask known in (p.0, false ∷ p.1, p.2)
+
+some_masked : (f : ℕ) (change : Change) (deduced known : Option (List Bool)) → HasWord (IsMasked f change deduced known)
+some_masked f change deduced known =
+    let m = some_mask f deduced in
+    let c = some_content f change m.0 known in
+    (c.0, m.1 ++ c.1, (m.0, m.1, c.1, m.2, c.2, refl))
+
+some_maskless : (f : ℕ) (change : Change) (deduced known : Option (List Bool)) → AllPlaces f known → HasWord (IsMaskless f change deduced known)
+some_maskless f change None known all = (Opaque, [], (refl, refl))
+some_maskless f change (Some mask) known all = let w = some_whole f change mask known all in (w.0, true ∷ w.1, w.2)
+
+some_unsent : (change : Change) (deduced known : Option (List Bool)) → HasWord (IsUnsent change deduced known)
+some_unsent change None known = (Opaque, [], (refl, refl))
+some_unsent change (Some mask) known = some_part change mask known
+
+some_sent : (f : ℕ) (change : Change) (deduced known : Option (List Bool)) → HasWord (IsSent f change deduced known)
+some_sent f change deduced known = let m = some_masked f change deduced known in (m.0, true ∷ m.1, m.2)
+
+pub some_data : (f : ℕ) (change : Change) (deduced known : Option (List Bool)) → HasWord (IsData f change deduced known)
+some_data f change deduced known = let u = some_unsent change deduced known in (u.0, true ∷ u.1, u.2)
+
+module _ (f : ℕ) (change : Change) (known : Option (List Bool)) (recent : length change.recent ≡ f) (content_places : AllPlaces f known) where
   part_exact : (mask : List Bool) → length mask ≡ f → IsExact (IsPart change mask known) (part_with change mask known)
   part_exact mask len = IsExact-part_with change mask known (all_of_places f (length (places_of change mask)) known (sym (length-places_of f change mask recent len)) content_places)
 
@@ -192,3 +247,40 @@ module _ (f : ℕ) (change : Change) (deduced known : Option (List Bool)) (recen
       (part_exact mask len)
       (some_whole f change mask known content_places)
       (some_part change mask known)
+
+  masked_exact : (deduced : Option (List Bool)) → AllPlaces f deduced → IsExact (IsMasked f change deduced known) (masked_at f change deduced known)
+  unfolding masked_at
+  masked_exact deduced mask_places =
+      IsExact-then (IsMaskWord f deduced) (λ mask. IsContent f change mask known) (mask_at f deduced) (λ mask rest. content_at f change mask known rest)
+      (IsExact-mask_at f deduced)
+      (λ mask word w. content_exact mask (mask_of_places f deduced mask_places mask word w))
+      (λ mask word w. some_content f change mask known)
+
+  maskless_exact : (deduced : Option (List Bool)) → AllPlaces f deduced → IsExact (IsMaskless f change deduced known) (maskless_at f change deduced known)
+  unfolding maskless_at
+  maskless_exact None mask_places = IsExact-give Opaque
+  maskless_exact (Some mask) mask_places =
+      IsExact-one (IsWhole f change mask known) (whole_with f change mask known) (IsExact-whole_with f change mask known recent mask_places content_places) (some_whole f change mask known content_places)
+
+  unsent_exact : (deduced : Option (List Bool)) → AllPlaces f deduced → IsExact (IsUnsent change deduced known) (unsent_at change deduced known)
+  unfolding unsent_at
+  unsent_exact None mask_places = IsExact-give Opaque
+  unsent_exact (Some mask) mask_places = part_exact mask mask_places
+
+  sent_exact : (deduced : Option (List Bool)) → AllPlaces f deduced → IsExact (IsSent f change deduced known) (sent_at f change deduced known)
+  unfolding sent_at
+  sent_exact deduced mask_places =
+      IsExact-bit (IsMasked f change deduced known) (IsMaskless f change deduced known) (masked_at f change deduced known) (maskless_at f change deduced known)
+      (masked_exact deduced mask_places)
+      (maskless_exact deduced mask_places)
+      (some_masked f change deduced known)
+      (some_maskless f change deduced known content_places)
+
+  pub IsExact-data_at : (deduced : Option (List Bool)) → AllPlaces f deduced → IsExact (IsData f change deduced known) (data_at f change deduced known)
+  unfolding data_at
+  IsExact-data_at deduced mask_places =
+      IsExact-bit (IsUnsent change deduced known) (IsSent f change deduced known) (unsent_at change deduced known) (sent_at f change deduced known)
+      (unsent_exact deduced mask_places)
+      (sent_exact deduced mask_places)
+      (some_unsent change deduced known)
+      (some_sent f change deduced known)
