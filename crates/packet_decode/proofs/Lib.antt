@@ -3,3 +3,4 @@ pub mod Readers
 pub mod ExactChange
 pub mod KeptContent
 pub mod ExactData
+pub mod ExactPacket

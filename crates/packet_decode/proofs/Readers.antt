@@ -153,3 +153,65 @@ pub IsExact-number_at : (width : ℕ) → IsExact (IsNumber width) (number_at wi
 unfolding number_at
 IsExact-number_at width =
     IsExact-same (IsImage bits_number (IsFront width)) (IsNumber width) (number_at width) (number_word width) (word_number width) (IsExact-map bits_number (IsFront width) (front_at width) (IsExact-front_at width))
+
+-- ---- how many bits were read
+
+-- the same reader, said in another way
+pub IsExact-by : {A : Type 0} (W : A → List Bool → Type 0) (f g : List Bool → Reading A) → ((bits : List Bool) → g bits ≡ f bits) → IsExact W f → IsExact W g
+IsExact-by W f g same exact = record {
+  reads = λ v word rest w. same (word ++ rest) ∙ exact.reads v word rest w;
+  read_is = λ bits v rest e. exact.read_is bits v rest (sym (same bits) ∙ e);
+  wrong_is = λ bits rest e. exact.wrong_is bits rest (sym (same bits) ∙ e);
+  short_is = λ bits e. exact.short_is bits (sym (same bits) ∙ e);
+}
+
+-- a value, and the number of the bits that spell it
+abbrev pub IsCounted : {A : Type 0} → (A → List Bool → Type 0) → A × ℕ → List Bool → Type 0
+IsCounted W found word = W found.0 word × (found.1 ≡ length word)
+
+abbrev pub counted : {A : Type 0} → ℕ → Reading A → Reading (A × ℕ)
+counted len r = r >>= λ v rest. Read (v, len - length rest) rest
+
+counted_read : {A : Type 0} (len : ℕ) (r : Reading A) (found : A × ℕ) (rest : List Bool) → counted len r ≡ Read found rest → (r ≡ Read found.0 rest) × (found.1 ≡ len - length rest)
+counted_read len (Read v mid) found rest e = let same : (v, len - length mid) ≡ found = cc in let left : mid ≡ rest = cc in (rw (left, ← same) refl, rw (← same, left) refl)
+counted_read len (WrongBit mid) found rest e = absurd cc
+counted_read len TooShort found rest e = absurd cc
+
+counted_wrong : {A : Type 0} (len : ℕ) (r : Reading A) (rest : List Bool) → counted len r ≡ WrongBit rest → r ≡ WrongBit rest
+counted_wrong len (Read v mid) rest e = absurd cc
+counted_wrong {A} len (WrongBit mid) rest e = let left : mid ≡ rest = cc in rw left refl
+counted_wrong len TooShort rest e = absurd cc
+
+counted_short : {A : Type 0} (len : ℕ) (r : Reading A) → counted len r ≡ TooShort → r ≡ TooShort
+counted_short len (Read v mid) e = absurd cc
+counted_short len (WrongBit mid) e = absurd cc
+counted_short len TooShort e = refl
+
+pub IsExact-counted : {A : Type 0} (W : A → List Bool → Type 0) (f : List Bool → Reading A) → IsExact W f → IsExact (IsCounted W) (λ bits. counted (length bits) (f bits))
+IsExact-counted W f exact = record {
+  reads = λ found word rest w.
+      let count : length (word ++ rest) - length rest ≡ found.1 = omega (arith, length-append word rest, w.1) in
+      rw (exact.reads found.0 word rest w.0, count) refl;
+  read_is = λ bits found rest e.
+      let c = counted_read (length bits) (f bits) found rest e in
+      let r = exact.read_is bits found.0 rest c.0 in
+      (r.0, (r.1, omega (arith, c.1, ap (λ (x : List Bool). length x) r.2, length-append r.0 rest)), r.2);
+  wrong_is = λ bits rest e.
+      let w = exact.wrong_is bits rest (counted_wrong (length bits) (f bits) rest e) in
+      record {
+        front = w.front;
+        bit = w.bit;
+        parts = w.parts;
+        hopeful = (w.hopeful.0, ((w.hopeful.1.0, length (w.front ++ w.hopeful.0)), (w.hopeful.1.1, refl)));
+        hopeless = λ h. w.hopeless (h.0, (h.1.0.0, h.1.1.0));
+      };
+  short_is = λ bits e.
+      let c = exact.short_is bits (counted_short (length bits) (f bits) e) in
+      (c.0, ((c.1.0, length (bits ++ c.0)), (c.1.1, refl)));
+}
+
+-- a reader that looks at the number of bits before it
+pub counted_then : {A B : Type 0} (len : ℕ) (r : Reading A) (g : A → ℕ → List Bool → Reading B) → (r >>= λ v rest. g v (len - length rest) rest) ≡ (counted len r >>= λ found rest. g found.0 found.1 rest)
+counted_then len (Read v rest) g = refl
+counted_then len (WrongBit rest) g = refl
+counted_then len TooShort g = refl
