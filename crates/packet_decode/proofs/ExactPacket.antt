@@ -1,16 +1,15 @@
 -- Reading a packet with its padding is exact.
-use Rattle.std.proofs.Common.{◌≡◌, ℕ, ◌-◌, ◌*◌, eqb, leb, Bool, true, false, cond, List, [], ◌∷◌, ◌++◌, length, replicate, Option, Some, None, refl, sym, ap, ◌∙◌, subst}
+use Rattle.std.proofs.Common.{◌≡◌, ℕ, ◌-◌, ◌*◌, eqb, leb, Bool, true, false, cond, List, [], ◌++◌, length, replicate, Option, Some, None, refl, sym, ap, ◌∙◌, subst}
 use Rattle.std.specs.Prelude.{IfSome, not, ◌&&◌, ◌||◌}
 use Rattle.std.proofs.lemmas.Simd.{length-zip2}
 use Rattle.bit_vectors.specs.Vectors.{xor_bits, or_bits, without_bits, byte_count}
-use Rattle.bit_vectors.specs.Reading.{Reading, Read, ◌>>=◌, IsExact}
+use Rattle.bit_vectors.specs.Reading.{Read, ◌>>=◌, IsExact}
 use Rattle.bit_vectors.proofs.ExactReading.{IsWordThen, IsExact-give, IsExact-same, IsExact-then}
-use Rattle.run_code.specs.Runs.{same_at}
 use Rattle.run_code.proofs.SameWord.{IsExact-same_at}
 use Rattle.packet_encode.specs.Forms.{Directions, AreDirections}
-use Rattle.packet_decode.specs.State.{Packet, State, HasVectors, IsState, Change, unpredictable, mask_after}
+use Rattle.packet_decode.specs.State.{State, IsState, Change, unpredictable, mask_after}
 use Rattle.packet_decode.specs.PacketReading.{Outcome, Spelled, Opaque, Found, deduced_by, known_by, change_at, data_at, parts_at, padding_at, packet_at}
-use Rattle.packet_decode.proofs.Readers.{HasWord, IsImage, IsExact-map, IsExact-by, IsCounted, counted, IsExact-counted, counted_then}
+use Rattle.packet_decode.proofs.Readers.{IsImage, IsExact-map, IsExact-by, IsCounted, counted, IsExact-counted, counted_then}
 use Rattle.packet_decode.proofs.ExactChange.{bare, IsChange, IsChangeWord, IsExact-change_at}
 use Rattle.packet_decode.proofs.ExactData.{AllPlaces, IsData, some_data, IsExact-data_at}
 
@@ -20,7 +19,7 @@ length-unpredictable : (recent : List Bool) (level : ℕ) (o : Option Directions
 length-unpredictable recent level None are = refl
 length-unpredictable recent level (Some directions) are = length-zip2 (λ (a b : Bool). a && not b) recent directions.predictable (sym are.places)
 
-length-mask_after : (f : ℕ) (mask : List Bool) (change : Change) → length mask ≡ f → IsChange f change → length (mask_after mask change) ≡ f
+pub length-mask_after : (f : ℕ) (mask : List Bool) (change : Change) → length mask ≡ f → IsChange f change → length (mask_after mask change) ≡ f
 length-mask_after f mask change len is = by_level (eqb change.level 0)
   where
     same : length mask ≡ length change.recent

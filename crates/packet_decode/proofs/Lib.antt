@@ -4,3 +4,4 @@ pub mod ExactChange
 pub mod KeptContent
 pub mod ExactData
 pub mod ExactPacket
+pub mod SpelledWords
