@@ -5,3 +5,4 @@ pub mod KeptContent
 pub mod ExactData
 pub mod ExactPacket
 pub mod SpelledWords
+pub mod ExactAnswers
