@@ -44,7 +44,7 @@ module _ (f : ℕ) (state : State) (t : ℕ) (has : IsState f state) where
     closed : IsClosed found.outcome rest
     parts : bits ≡ word ++ rest
 
-  abbrev Means : List Bool → Type 0
+  abbrev pub Means : List Bool → Type 0
   Means bits = SpellsPacket f state t bits ⊎ IsOpaque f state t bits
 
   read_of : (bits : List Bool) → Means bits → IsRead bits
@@ -78,16 +78,16 @@ module _ (f : ℕ) (state : State) (t : ℕ) (has : IsState f state) where
   begins_viable : (front : List Bool) → CanBegin IsAny front → Viable f state t front
   begins_viable front (more, is) = (more, word_means (front ++ more) is)
 
-  means_viable : (bits : List Bool) → Means bits → Viable f state t bits
+  pub means_viable : (bits : List Bool) → Means bits → Viable f state t bits
   means_viable bits m = ([], subst Means (sym (append-nil bits)) m)
 
   front_viable : (a b : List Bool) → Viable f state t (a ++ b) → Viable f state t a
   front_viable a b (rest, m) = (b ++ rest, subst Means (append_assoc a b rest) m)
 
-  take_viable : (p : ℕ) (bits : List Bool) → Viable f state t bits → Viable f state t (take p bits)
+  pub take_viable : (p : ℕ) (bits : List Bool) → Viable f state t bits → Viable f state t (take p bits)
   take_viable p bits v = front_viable (take p bits) (drop p bits) (subst (λ (b : List Bool). Viable f state t b) (sym (take-append-drop p bits)) v)
 
-  fewer_viable : (p q : ℕ) (bits : List Bool) → p ≤ q → Viable f state t (take q bits) → Viable f state t (take p bits)
+  pub fewer_viable : (p q : ℕ) (bits : List Bool) → p ≤ q → Viable f state t (take q bits) → Viable f state t (take p bits)
   fewer_viable p q bits le v =
       let sum : p + (q - p) ≡ q = omega arith in
       front_viable (take p bits) (take (q - p) (drop p bits)) (subst (λ (b : List Bool). Viable f state t b) (ap (λ (n : ℕ). take n bits) (sym sum) ∙ take-add p (q - p) bits) v)

@@ -6,3 +6,4 @@ pub mod ExactData
 pub mod ExactPacket
 pub mod SpelledWords
 pub mod ExactAnswers
+pub mod OneAnswer

@@ -10,7 +10,7 @@ use Rattle.run_code.specs.Edges.{edges}
 use Rattle.run_code.specs.Extraction.{extract, SameOutside}
 use Rattle.run_code.specs.Runs.{run_bits}
 use Rattle.run_code.proofs.ExtractedBits.{length-extract}
-use Rattle.packet_encode.specs.Forms.{Directions, Content, Whole, Part, Form, AreDirections, HasPlaces, IsForm, data_bits, form_bits, change_bits, FitsPlaces}
+use Rattle.packet_encode.specs.Forms.{wide, Directions, Content, Whole, Part, Form, AreDirections, HasPlaces, IsForm, data_bits, form_bits, change_bits, FitsPlaces}
 use Rattle.packet_decode.specs.State.{Packet, State, HasVectors, IsState, InReach, Change, change_of, mask_after}
 use Rattle.packet_decode.specs.Spelling.{IsSentOf, Follows, Spells, opaque_end, HasOpaqueFront}
 use Rattle.packet_decode.specs.PacketReading.{Outcome, Spelled, Opaque, Found, deduced_by, known_by}
@@ -220,6 +220,22 @@ whole_places f places content (Part bits) len is = tt
 sent_places : (f : ℕ) (mask : List Bool) (sent : Option (List Bool)) → length mask ≡ f → IfSome sent (λ m. m ≡ mask) → IfSome sent (λ m. length m ≡ f)
 sent_places f mask None len is = tt
 sent_places f mask (Some m) len is = rw is len
+
+-- what is sent of a packet that is spelled is its mask and its content
+pub record IsSentPacket (form : Form) (mask content : List Bool) : Type 0 where
+  pub mask_sent : IfSome form.sent (λ m. m ≡ mask)
+  pub content_sent : IsSentOf (wide form mask) content form.content
+
+pub spelled_sent : (f : ℕ) (state : State) (t : ℕ) (word : List Bool) (form : Form) (mask content : List Bool) → Spells f state t word form mask content → IsSentPacket form mask content
+spelled_sent f state t word form mask content s =
+    elim (near_or_far state t (change_of form)) [
+      | inl near ↦
+          let follows = subst (λ (x : State). IfSome x (λ latest. Follows latest form mask content)) near.1.is (s.in_reach near.1.near) in
+          record { mask_sent = follows.mask_sent; content_sent = follows.content_sent }
+      | inr far ↦
+          let alone = s.out_of_reach far.far in
+          record { mask_sent = rw alone.mask_sent refl; content_sent = rw alone.content_sent refl }
+    ]
 
 -- ---- what is read is spelled
 
