@@ -5,4 +5,7 @@ mod decoder;
 mod laws;
 
 pub use decoder::Reading;
-pub use laws::worked_packets;
+pub use laws::{
+    exact_answers_are_sound, no_further_bit, one_exact_answer, one_packet, one_reading,
+    opaque_fronts_go_on, reading_is_exact, sound_answers_agree, worked_packets,
+};
