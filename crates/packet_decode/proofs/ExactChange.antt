@@ -6,8 +6,10 @@ use Rattle.std.proofs.lemmas.Bool.{true≢false, ltb-true, lt-ltb}
 use Rattle.std.proofs.lemmas.List.{get_or_default}
 use Rattle.std.proofs.lemmas.List.Folds.{list_any_at}
 use Rattle.bit_vectors.specs.Vectors.{number_bits, IsOne}
-use Rattle.bit_vectors.specs.Reading.{Read, ◌>>=◌, bit_where, IsExact}
+use Rattle.bit_vectors.specs.Reading.{Read, ◌>>=◌, bit_where, allowed, IsExact}
 use Rattle.bit_vectors.proofs.ExactReading.{IsBitWhere, IsWordThen, IsExact-give, IsExact-bit_where, IsExact-same, IsExact-then}
+use Rattle.count_code.specs.Counts.{number_at}
+use Rattle.count_code.proofs.Numbers.{IsNumberOfWidth, IsExact-number_at}
 use Rattle.run_code.specs.Extraction.{bits_up, IsInverseWord, inverse_at}
 use Rattle.run_code.specs.Runs.{run_bits, IsRunWordOf, vector_at}
 use Rattle.run_code.proofs.Ones.{one_within}
@@ -15,8 +17,8 @@ use Rattle.run_code.proofs.ExactRuns.{IsExact-vector_at}
 use Rattle.run_code.proofs.InverseBits.{IsExact-inverse_at}
 use Rattle.packet_encode.specs.Forms.{Directions, Part, Form, AreDirections, direction_bits, change_bits}
 use Rattle.packet_decode.specs.State.{Change, change_of}
-use Rattle.packet_decode.specs.PacketReading.{any_bit, number_at, named_at, directions_at, change_at}
-use Rattle.packet_decode.proofs.Readers.{HasWord, IsImage, IsExact-map, IsBitThen, IsExact-bit, IsNumber, IsExact-number_at}
+use Rattle.packet_decode.specs.PacketReading.{any_bit, named_at, directions_at, change_at}
+use Rattle.packet_decode.proofs.Readers.{HasWord, IsImage, IsExact-map, IsBitThen, IsExact-bit, any_may}
 
 -- a form with these recent changes and this level
 abbrev pub bare : List Bool → ℕ → Form
@@ -40,7 +42,7 @@ abbrev named : List Bool → Bool → Directions
 named predictable twice = record { predictable = predictable; twice = twice }
 
 abbrev IsNamedThen : List Bool → Directions → List Bool → Type 0
-IsNamedThen recent = IsWordThen (IsInverseWord recent) (λ predictable. IsImage (named predictable) (IsBitWhere (λ bit. true)))
+IsNamedThen recent = IsWordThen (IsInverseWord recent) (λ predictable. IsImage (named predictable) (IsBitWhere (allowed true true)))
 
 named_joined : (recent : List Bool) (level : ℕ) → 0 < level → (directions : Directions) (word : List Bool) → IsNamedThen recent directions word → IsNamed recent level directions word
 named_joined recent level some directions word (predictable, front, back, set, (twice, bit, is), parts) =
@@ -55,7 +57,7 @@ named_apart recent level directions word (are, is) = (
   bits_up directions.predictable recent,
   directions.twice ∷ [],
   record { places = are.places; within = are.recent; some = are.some; bits = refl },
-  (directions.twice, (refl, refl), refl),
+  (directions.twice, (any_may directions.twice, refl), refl),
   is,
 )
 
@@ -63,10 +65,10 @@ IsExact-named_at : (recent : List Bool) (level : ℕ) → 0 < level → Contains
 unfolding named_at
 IsExact-named_at recent level above some =
     IsExact-same (IsNamedThen recent) (IsNamed recent level) (named_at recent) (named_joined recent level above) (named_apart recent level)
-    (IsExact-then (IsInverseWord recent) (λ predictable. IsImage (named predictable) (IsBitWhere (λ bit. true)))
+    (IsExact-then (IsInverseWord recent) (λ predictable. IsImage (named predictable) (IsBitWhere (allowed true true)))
     (inverse_at recent) (λ predictable rest. any_bit rest >>= λ twice last. Read (named predictable twice) last)
     (IsExact-inverse_at recent some)
-    (λ predictable word w. IsExact-map (named predictable) (IsBitWhere (λ bit. true)) (bit_where (λ bit. true)) (IsExact-bit_where (λ bit. true) true refl))
+    (λ predictable word w. IsExact-map (named predictable) (IsBitWhere (allowed true true)) (bit_where (allowed true true)) (IsExact-bit_where (allowed true true) true refl))
     (λ predictable word w. (named predictable true, true ∷ [], (true, (refl, refl), refl))))
 
 -- all recent changes
@@ -172,7 +174,7 @@ abbrev changed : List Bool → ℕ → Option Directions → Change
 changed recent level directions = record { recent = recent; level = level; directions = directions }
 
 abbrev IsLevelThen : List Bool → Change → List Bool → Type 0
-IsLevelThen recent = IsWordThen (IsNumber 4) (λ level. IsImage (changed recent level) (IsDirectionsWord recent level))
+IsLevelThen recent = IsWordThen (IsNumberOfWidth 4) (λ level. IsImage (changed recent level) (IsDirectionsWord recent level))
 
 abbrev IsRecentThen : ℕ → Change → List Bool → Type 0
 IsRecentThen f = IsWordThen (IsRunWordOf f) IsLevelThen
@@ -197,7 +199,7 @@ change_apart f change word (is, bits) =
 
 IsExact-level : (recent : List Bool) → IsExact (IsLevelThen recent) (λ rest. number_at 4 rest >>= λ level more. directions_at recent level more >>= λ directions last. Read (changed recent level directions) last)
 IsExact-level recent =
-    IsExact-then (IsNumber 4) (λ level. IsImage (changed recent level) (IsDirectionsWord recent level))
+    IsExact-then (IsNumberOfWidth 4) (λ level. IsImage (changed recent level) (IsDirectionsWord recent level))
     (number_at 4) (λ level more. directions_at recent level more >>= λ directions last. Read (changed recent level directions) last)
     (IsExact-number_at 4)
     (λ level word w. IsExact-map (changed recent level) (IsDirectionsWord recent level) (directions_at recent level) (IsExact-directions_at recent level))

@@ -5,22 +5,23 @@ use Rattle.std.proofs.lemmas.Bool.{true≢false}
 use Rattle.std.proofs.lemmas.List.{length-replicate}
 use Rattle.std.proofs.lemmas.Simd.{length-zip2}
 use Rattle.bit_vectors.specs.Vectors.{or_bits}
-use Rattle.bit_vectors.specs.Reading.{IsExact}
+use Rattle.bit_vectors.specs.Reading.{front_at, same_at, IsExact}
 use Rattle.bit_vectors.proofs.ExactReading.{IsWordThen, IsExact-give, IsExact-same, IsExact-then}
+use Rattle.bit_vectors.proofs.SameWord.{IsExact-same_at}
+use Rattle.bit_vectors.proofs.FrontReading.{IsFront, IsExact-front_at}
 use Rattle.count_code.specs.Code.{count_bits}
 use Rattle.run_code.specs.Places.{places_down}
 use Rattle.run_code.specs.Edges.{edges}
 use Rattle.run_code.specs.Extraction.{extract, SameOutside, filled_at}
-use Rattle.run_code.specs.Runs.{run_bits, IsRunWordOf, vector_at, same_at}
+use Rattle.run_code.specs.Runs.{run_bits, IsRunWordOf, vector_at}
 use Rattle.run_code.proofs.ExactRuns.{IsExact-vector_at}
 use Rattle.run_code.proofs.Filling.{IsFilling, IsExact-filled_at}
 use Rattle.run_code.proofs.Ones.{one_or_zero, places_down_apart, in_places_down, places_down_has}
-use Rattle.run_code.proofs.SameWord.{IsExact-same_at}
 use Rattle.packet_encode.specs.Forms.{Directions, wide_by}
 use Rattle.packet_decode.specs.State.{Change}
-use Rattle.packet_decode.specs.PacketReading.{Outcome, Spelled, Opaque, front_at, kept_at, from_edges, mask_at, whole_at, whole_with, part_with, content_at, unsent_at, maskless_at, masked_at, sent_at, data_at}
+use Rattle.packet_decode.specs.PacketReading.{Outcome, Spelled, Opaque, kept_at, from_edges, mask_at, whole_at, whole_with, part_with, content_at, unsent_at, maskless_at, masked_at, sent_at, data_at}
 use Rattle.packet_decode.proofs.EdgeMasks.{edges-from_edges, length-from_edges, length_edges, from_edges-edges}
-use Rattle.packet_decode.proofs.Readers.{HasWord, IsImage, IsExact-map, IsBitThen, IsExact-bit, NoWord, IsExact-one, IsAfter, IsExact-after, IsFront, IsExact-front_at}
+use Rattle.packet_decode.proofs.Readers.{HasWord, IsImage, IsExact-map, IsBitThen, IsExact-bit, NoWord, IsExact-one, IsAfter, IsExact-after}
 use Rattle.packet_decode.proofs.KeptContent.{IsKept, IsExact-kept_at}
 
 -- ---- the mask

@@ -5,7 +5,7 @@ use Rattle.std.proofs.lemmas.Simd.{length-zip2}
 use Rattle.bit_vectors.specs.Vectors.{xor_bits, or_bits, without_bits, byte_count}
 use Rattle.bit_vectors.specs.Reading.{Read, ◌>>=◌, IsExact}
 use Rattle.bit_vectors.proofs.ExactReading.{IsWordThen, IsExact-give, IsExact-same, IsExact-then}
-use Rattle.run_code.proofs.SameWord.{IsExact-same_at}
+use Rattle.bit_vectors.proofs.SameWord.{IsExact-same_at}
 use Rattle.packet_encode.specs.Forms.{Directions, AreDirections}
 use Rattle.packet_decode.specs.State.{State, IsState, Change, unpredictable, mask_after}
 use Rattle.packet_decode.specs.PacketReading.{Outcome, Spelled, Opaque, Found, deduced_by, known_by, change_at, data_at, parts_at, padding_at, packet_at}

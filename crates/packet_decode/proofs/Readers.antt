@@ -1,15 +1,10 @@
 -- Exact readers, put together in further ways.
-use Rattle.std.proofs.Common.{◌≡◌, ℕ, ◌-◌, ◌≤◌, ◌<◌, ◌^◌, leb, Bool, true, false, cond, List, [], ◌∷◌, ◌++◌, length, take, drop, replicate, refl, sym, ap, ◌∙◌, subst, arith}
-use Rattle.std.proofs.lemmas.Bool.{le-leb, leb-true, leb-false}
-use Rattle.std.proofs.lemmas.List.{length-append, length-take, length-replicate, append-nil, take_at, drop_at, take-append-drop}
-use Rattle.std.proofs.Math.Nat.{mod-eq_of_lt}
-use Rattle.bit_vectors.specs.Vectors.{number_bits, bits_number}
-use Rattle.bit_vectors.specs.Reading.{Reading, Read, WrongBit, TooShort, ◌>>=◌, bit_where, allowed, IsExact}
+use Rattle.std.proofs.Common.{◌≡◌, ℕ, ◌-◌, Bool, true, false, cond, List, [], ◌∷◌, ◌++◌, length, refl, sym, ap, ◌∙◌, subst, arith}
+use Rattle.std.proofs.lemmas.List.{length-append, append-nil}
+use Rattle.bit_vectors.specs.Reading.{Reading, Read, WrongBit, TooShort, ◌>>=◌, bit_where, allowed, same_at, IsExact}
 use Rattle.bit_vectors.proofs.ExactReading.{IsBitWhere, IsWordThen, IsExact-give, IsExact-bit_where, IsExact-same, IsExact-then}
-use Rattle.bit_vectors.proofs.NumberBits.{length-number_bits, bits_number-number_bits, bits_number_below, number_bits-bits_number}
-use Rattle.run_code.specs.Runs.{same_at}
-use Rattle.run_code.proofs.SameWord.{IsExact-same_at}
-use Rattle.packet_decode.specs.PacketReading.{any_bit, front_at, number_at}
+use Rattle.bit_vectors.proofs.SameWord.{IsExact-same_at}
+use Rattle.packet_decode.specs.PacketReading.{any_bit}
 
 -- there is a word of some value
 abbrev pub HasWord : {A : Type 0} → (A → List Bool → Type 0) → Type 0
@@ -29,6 +24,10 @@ IsExact-map h W f exact =
 
 -- ---- a bit, and then by it
 
+pub any_may : (bit : Bool) → allowed true true bit ≡ true
+any_may true = refl
+any_may false = refl
+
 -- a one and a word of the first kind, or a zero and a word of the second
 abbrev pub IsBitThen : {A : Type 0} → (A → List Bool → Type 0) → (A → List Bool → Type 0) → A → List Bool → Type 0
 IsBitThen U V u [] = ⊥
@@ -43,7 +42,7 @@ bit_joined : {A : Type 0} (ok : Bool → Bool) (U V : A → List Bool → Type 0
 bit_joined ok U V u word true front back f b w = rw (w, f) b
 bit_joined ok U V u word false front back f b w = rw (w, f) b
 
-bit_apart : {A : Type 0} (U V : A → List Bool → Type 0) (u : A) (word : List Bool) → IsBitThen U V u word → IsWordThen (IsBitWhere (λ bit. true)) (by_bit U V) u word
+bit_apart : {A : Type 0} (U V : A → List Bool → Type 0) (u : A) (word : List Bool) → IsBitThen U V u word → IsWordThen (IsBitWhere (allowed true true)) (by_bit U V) u word
 bit_apart U V u [] w = absurd w
 bit_apart U V u (true ∷ word) w = (true, true ∷ [], word, (refl, refl), w, refl)
 bit_apart U V u (false ∷ word) w = (false, false ∷ [], word, (refl, refl), w, refl)
@@ -58,11 +57,11 @@ bit_word U V first second false = second
 
 pub IsExact-bit : {A : Type 0} (U V : A → List Bool → Type 0) (f g : List Bool → Reading A) → IsExact U f → IsExact V g → HasWord U → HasWord V → IsExact (IsBitThen U V) (λ bits. any_bit bits >>= λ bit rest. cond bit (f rest) (g rest))
 IsExact-bit U V f g first second some other =
-    IsExact-same (IsWordThen (IsBitWhere (λ bit. true)) (by_bit U V)) (IsBitThen U V) (λ bits. any_bit bits >>= λ bit rest. cond bit (f rest) (g rest))
+    IsExact-same (IsWordThen (IsBitWhere (allowed true true)) (by_bit U V)) (IsBitThen U V) (λ bits. any_bit bits >>= λ bit rest. cond bit (f rest) (g rest))
     (λ u word w. bit_joined (λ bit. true) U V u word w.0 w.1 w.2 w.3.1 w.4 w.5)
     (bit_apart U V)
-    (IsExact-then (IsBitWhere (λ bit. true)) (by_bit U V) (bit_where (λ bit. true)) (λ bit rest. cond bit (f rest) (g rest))
-    (IsExact-bit_where (λ bit. true) true refl)
+    (IsExact-then (IsBitWhere (allowed true true)) (by_bit U V) (bit_where (allowed true true)) (λ bit rest. cond bit (f rest) (g rest))
+    (IsExact-bit_where (allowed true true) true refl)
     (λ bit word w. bit_exact U V f g first second bit)
     (λ bit word w. bit_word U V some other bit))
 
@@ -103,56 +102,6 @@ IsExact-after front U f exact some =
     (IsExact-same_at front)
     (λ u word w. exact)
     (λ u word w. some))
-
--- ---- so many bits, and a number of so many bits
-
-abbrev pub IsFront : ℕ → List Bool → List Bool → Type 0
-IsFront count v word = (length v ≡ count) × (word ≡ v)
-
-chosen_read : (b : Bool) (v w r s : List Bool) → cond b (Read v r) TooShort ≡ Read w s → (b ≡ true) × (v ≡ w) × (r ≡ s)
-chosen_read true v w r s e = (refl, cc, cc)
-chosen_read false v w r s e = absurd cc
-
-chosen_wrong : (b : Bool) (v r s : List Bool) → cond b (Read v r) TooShort ≡ WrongBit s → ⊥
-chosen_wrong true v r s e = cc
-chosen_wrong false v r s e = cc
-
-chosen_short : (b : Bool) (v r : List Bool) → cond b (Read v r) TooShort ≡ TooShort → b ≡ false
-chosen_short true v r e = absurd cc
-chosen_short false v r e = refl
-
-pub IsExact-front_at : (count : ℕ) → IsExact (IsFront count) (front_at count)
-unfolding front_at
-IsExact-front_at count = record {
-  reads = λ v word rest w.
-      let enough : leb count (length (v ++ rest)) ≡ true = le-leb _ _ (omega (arith, length-append v rest, w.0)) in
-      rw (w.1, enough, take_at v rest count w.0, drop_at v rest count w.0) refl;
-  read_is = λ bits v rest e.
-      let c = chosen_read (leb count (length bits)) (take count bits) v (drop count bits) rest e in
-      let enough : count ≤ length bits = leb-true _ _ c.0 in
-      (v, (omega (arith, length-take count bits, ap (λ (x : List Bool). length x) c.1), refl), sym (take-append-drop count bits) ∙ rw (c.1, c.2) refl);
-  wrong_is = λ bits rest e. absurd (chosen_wrong (leb count (length bits)) (take count bits) (drop count bits) rest e);
-  short_is = λ bits e.
-      let short : length bits < count = leb-false _ _ (chosen_short (leb count (length bits)) (take count bits) (drop count bits) e) in
-      let more = replicate (count - length bits) false in
-      (more, (bits ++ more, (omega (arith, length-append bits more, length-replicate (count - length bits) false), refl)));
-}
-
-abbrev pub IsNumber : ℕ → ℕ → List Bool → Type 0
-IsNumber width n word = (n < 2 ^ width) × (word ≡ number_bits width n)
-
-number_word : (width n : ℕ) (word : List Bool) → IsImage bits_number (IsFront width) n word → IsNumber width n word
-number_word width n word (front, is, value) =
-    let same : number_bits width (bits_number front) ≡ front = ap (λ (w : ℕ). number_bits w (bits_number front)) (sym is.0) ∙ number_bits-bits_number front in
-    (omega (arith, value, bits_number_below front, ap (λ (w : ℕ). 2 ^ w) is.0), is.1 ∙ sym (ap (number_bits width) value ∙ same))
-
-word_number : (width n : ℕ) (word : List Bool) → IsNumber width n word → IsImage bits_number (IsFront width) n word
-word_number width n word is = (word, (ap (λ (x : List Bool). length x) is.1 ∙ length-number_bits width n, refl), sym (ap bits_number is.1 ∙ bits_number-number_bits width n ∙ mod-eq_of_lt is.0))
-
-pub IsExact-number_at : (width : ℕ) → IsExact (IsNumber width) (number_at width)
-unfolding number_at
-IsExact-number_at width =
-    IsExact-same (IsImage bits_number (IsFront width)) (IsNumber width) (number_at width) (number_word width) (word_number width) (IsExact-map bits_number (IsFront width) (front_at width) (IsExact-front_at width))
 
 -- ---- how many bits were read
 

@@ -1,15 +1,16 @@
 -- Reading a packet from its first bit to its last, as functions of the bits that are left.
-use Rattle.std.specs.Prelude.{ℕ, ◌-◌, ◌*◌, nat_lt, nat_le, Bool, true, false, not, ◌&&◌, ◌||◌, if◌then◌else◌, List, [], ◌∷◌, length, take, drop, replicate, slice_index_or, Option, None, Some, Result, Ok, Err}
+use Rattle.std.specs.Prelude.{ℕ, ◌-◌, ◌*◌, nat_lt, nat_le, Bool, true, false, not, ◌&&◌, ◌||◌, if◌then◌else◌, List, [], ◌∷◌, length, replicate, slice_index_or, Option, None, Some, Result, Ok, Err}
 use Rattle.std.specs.List.{list_any}
 use Rattle.bit_vectors.specs.declared.fault.BitFault.{BitFault}
 use Rattle.bit_vectors.specs.declared.fault.BitFault.TheVariants.{Wrong, EndsEarly}
-use Rattle.bit_vectors.specs.Vectors.{byte_count, bits_number}
-use Rattle.bit_vectors.specs.Reading.{Reading, Read, WrongBit, TooShort, ◌>>=◌, bit_where, allowed}
+use Rattle.bit_vectors.specs.Vectors.{byte_count}
+use Rattle.bit_vectors.specs.Reading.{Reading, Read, WrongBit, TooShort, ◌>>=◌, bit_where, allowed, front_at, same_at}
 use Rattle.count_code.specs.Code.{count_bits}
+use Rattle.count_code.specs.Counts.{number_at}
 use Rattle.run_code.specs.Places.{places_down}
 use Rattle.run_code.specs.Edges.{edges}
 use Rattle.run_code.specs.Extraction.{filled_at, inverse_at}
-use Rattle.run_code.specs.Runs.{run_bits, vector_at, same_at}
+use Rattle.run_code.specs.Runs.{run_bits, vector_at}
 use Rattle.packet_encode.specs.Forms.{Directions, wide_by}
 use Rattle.packet_decode.specs.declared.decoder.Reading.{Reading as Answer}
 use Rattle.packet_decode.specs.declared.decoder.Reading.TheVariants.{Written, Unsynced, Gap}
@@ -29,15 +30,7 @@ pub record Found : Type 0 where
 
 -- one bit, whatever it is
 abbrev pub any_bit : List Bool → Reading Bool
-any_bit bits = bit_where (λ bit. true) bits
-
--- so many bits, whatever they are
-unfoldable pub front_at : ℕ → List Bool → Reading (List Bool)
-front_at count bits = if nat_le count (length bits) then Read (take count bits) (drop count bits) else TooShort
-
--- a number of this width, whatever its bits are
-unfoldable pub number_at : ℕ → List Bool → Reading ℕ
-number_at width bits = front_at width bits >>= λ front rest. Read (bits_number front) rest
+any_bit bits = bit_where (allowed true true) bits
 
 -- A vector from place 0 up that has the known bit at each place but these. The first bit that differs is wrong.
 unfoldable pub kept_at : List Bool → List Bool → List Bool → Reading (List Bool)
