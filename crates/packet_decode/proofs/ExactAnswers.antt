@@ -5,26 +5,13 @@ use Rattle.std.proofs.lemmas.List.{length-append, append-nil, take_at, take-appe
 use Rattle.std.proofs.Math.Seq.{take-add}
 use Rattle.bit_vectors.specs.declared.fault.BitFault.TheVariants.{Wrong}
 use Rattle.bit_vectors.specs.Reading.{Reading, Read, WrongBit, TooShort, ◌>>=◌, CanBegin, IsWrongBefore, IsExact}
+use Rattle.bit_vectors.proofs.ExactReading.{cut_longer, read_same}
 use Rattle.packet_decode.specs.State.{State, IsState, Change, change_of}
 use Rattle.packet_decode.specs.Spelling.{Spells, HasOpaqueFront}
 use Rattle.packet_decode.specs.Answers.{SpellsPacket, IsOpaque, Viable, Says, IsExactAnswer}
 use Rattle.packet_decode.specs.PacketReading.{Outcome, Spelled, Opaque, Found, end_at, packet_at, whole_packet_at, answer_to, answer_by, answer_of}
 use Rattle.packet_decode.proofs.ExactPacket.{IsPacket, IsExact-packet_at}
 use Rattle.packet_decode.proofs.SpelledWords.{packet_spells, spells_packet, packet_opaque, opaque_packet}
-
--- ---- two ways to cut a list
-
-cut_longer : (a b c d : List Bool) → a ++ b ≡ c ++ d → length a ≤ length c → (m : List Bool) × (c ≡ a ++ m) × (b ≡ m ++ d)
-cut_longer [] b c d e le = (c, refl, e)
-cut_longer (x ∷ a) b [] d e le = absurd (omega arith)
-cut_longer (x ∷ a) b (y ∷ c) d e le =
-    let heads : x ≡ y = cc in
-    let tails : a ++ b ≡ c ++ d = cc in
-    let m = cut_longer a b c d tails (omega arith) in
-    (m.0, rw heads (ap (λ (t : List Bool). y ∷ t) m.1), m.2)
-
-read_same : {A : Type 0} (x y : A) (r s : List Bool) → ◌≡◌ {A = Reading A} (Read x r) (Read y s) → (x ≡ y) × (r ≡ s)
-read_same x y r s e = (cc, cc)
 
 -- nothing but a packet that is spelled must stand at the end
 abbrev IsClosed : Outcome → List Bool → Type 0

@@ -57,12 +57,6 @@ AgreesWith f places known content = (length content ≡ f) × IfSome known (λ w
 abbrev IsContentWord : ℕ → List Bool → Option (List Bool) → List Bool → List Bool → Type 0
 IsContentWord f places known content word = AgreesWith f places known content × (word ≡ count_bits f ++ content)
 
-after_count : (f : ℕ) (places : List Bool) (known : Option (List Bool)) (content word : List Bool) → IsAfter (count_bits f) (λ v w. AgreesWith f places known v × (w ≡ v)) content word → IsContentWord f places known content word
-after_count f places known content word (back, is, parts) = (is.0, parts ∙ ap (λ (x : List Bool). count_bits f ++ x) is.1)
-
-count_before : (f : ℕ) (places : List Bool) (known : Option (List Bool)) (content word : List Bool) → IsContentWord f places known content word → IsAfter (count_bits f) (λ v w. AgreesWith f places known v × (w ≡ v)) content word
-count_before f places known content word (is, parts) = (content, (is, refl), parts)
-
 -- the vectors that are given have f places
 abbrev pub AllPlaces : ℕ → Option (List Bool) → Type 0
 AllPlaces f known = IfSome known (λ was. length was ≡ f)

@@ -7,3 +7,4 @@ pub mod ExactPacket
 pub mod SpelledWords
 pub mod ExactAnswers
 pub mod OneAnswer
+pub mod Padding

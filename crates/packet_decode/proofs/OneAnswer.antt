@@ -8,6 +8,7 @@ use Rattle.bit_vectors.specs.declared.fault.BitFault.{BitFault}
 use Rattle.bit_vectors.specs.declared.fault.BitFault.TheVariants.{Wrong, EndsEarly}
 use Rattle.bit_vectors.specs.Eye.{EyeState, bits_left}
 use Rattle.bit_vectors.specs.Reading.{Reading, Read, WrongBit, ◌>>=◌, Gives}
+use Rattle.bit_vectors.proofs.ExactReading.{read_same}
 use Rattle.run_code.specs.Edges.{edges}
 use Rattle.run_code.specs.Runs.{run_bits}
 use Rattle.packet_encode.specs.Forms.{Content, Whole, Part, Form, content_bits, data_bits, change_bits, form_bits, wide}
@@ -64,7 +65,7 @@ module _ (f : ℕ) (state : State) (t : ℕ) (has : IsState f state) where
       ap (packet_at f state t) p.5 ∙ (IsExact-packet_at f state t has).reads (record { change = p.0; outcome = Opaque }) p.1 p.2 p.3 in
       (p.0, p.2, p.4, whole_is f state t bits (Read (record { change = p.0; outcome = Opaque }) p.2) read ∙ opaque_end p.0 p.2)
 
-  -- ---- what the bits say is the answer
+  -- ---- answers
 
   some_state : (s : State) (level : ℕ) → IsSome s → answer_to s level Opaque ≡ Gap level
   some_state None level some = absurd cc
@@ -79,7 +80,8 @@ module _ (f : ℕ) (state : State) (t : ℕ) (has : IsState f state) where
       let r = opaque_read bits level o in
       ap (answer_by state bits) r.3 ∙ ap (λ (v : ℕ). Ok (answer_to state v Opaque)) r.2
 
-  says_answer : (bits : List Bool) (reading : Answer) → Says f state t bits reading → answer_of f state t bits ≡ Ok reading
+  -- what the bits say is the answer
+  pub says_answer : (bits : List Bool) (reading : Answer) → Says f state t bits reading → answer_of f state t bits ≡ Ok reading
   says_answer bits Written (form, mask, content, s) = ap (answer_by state bits) (spells_read bits form mask content s)
   says_answer bits Unsynced ((level, o), none) = opaque_answer bits level o ∙ ap Ok (no_state state level none)
   says_answer bits (Gap level) (o, some) = opaque_answer bits level o ∙ ap Ok (some_state state level some)
@@ -138,9 +140,6 @@ module _ (f : ℕ) (state : State) (t : ℕ) (has : IsState f state) where
 
 -- ---- one packet
 
-read_same : (x y : Found) (r s : List Bool) → ◌≡◌ {A = Reading Found} (Read x r) (Read y s) → x ≡ y
-read_same x y r s e = cc
-
 spelled_same : (mask other content others : List Bool) → Spelled mask content ≡ Spelled other others → (mask ≡ other) × (content ≡ others)
 spelled_same mask other content others e = (cc, cc)
 
@@ -190,8 +189,8 @@ zeros_after bits = replicate (8 * byte_count (length bits) - length bits) false
 
 module _ (f : ℕ) (state : State) (t : ℕ) (has : IsState f state) (bits : List Bool) (form other : Form) (mask content other_mask other_content : List Bool) (a : Spells f state t bits form mask content) (b : Spells f state t bits other other_mask other_content) where
   both_read : ◌≡◌ {A = Found} (record { change = change_of form; outcome = Spelled mask content }) (record { change = change_of other; outcome = Spelled other_mask other_content })
-  both_read = read_same (record { change = change_of form; outcome = Spelled mask content }) (record { change = change_of other; outcome = Spelled other_mask other_content }) [] []
-      (sym (spells_read f state t has bits form mask content a) ∙ spells_read f state t has bits other other_mask other_content b)
+  both_read = (read_same (record { change = change_of form; outcome = Spelled mask content }) (record { change = change_of other; outcome = Spelled other_mask other_content }) [] []
+      (sym (spells_read f state t has bits form mask content a) ∙ spells_read f state t has bits other other_mask other_content b)).0
 
   one_change : change_of form ≡ change_of other
   one_change = ap (λ (x : Found). x.change) both_read
