@@ -8,3 +8,4 @@ pub mod SpelledWords
 pub mod ExactAnswers
 pub mod OneAnswer
 pub mod Padding
+pub mod Telling

@@ -2,12 +2,11 @@
 use Rattle.std.proofs.Common.{◌≡◌, ℕ, ◌+◌, ◌*◌, ◌-◌, ◌≤◌, Bool, true, false, List, [], ◌∷◌, ◌++◌, length, take, replicate, Option, Some, None, Result, Ok, Err, refl, sym, ap, ◌∙◌, subst, append_assoc, arith, inl, inr}
 use Rattle.std.specs.Prelude.{IfSome, IsSome, IsNone}
 use Rattle.std.proofs.lemmas.Bool.{cases_lt}
-use Rattle.std.proofs.lemmas.List.{length-append, length-drop, append-nil, append_cancel_left}
+use Rattle.std.proofs.lemmas.List.{length-append, append-nil, append_cancel_left}
 use Rattle.bit_vectors.specs.Vectors.{byte_count}
 use Rattle.bit_vectors.specs.declared.fault.BitFault.{BitFault}
 use Rattle.bit_vectors.specs.declared.fault.BitFault.TheVariants.{Wrong, EndsEarly}
-use Rattle.bit_vectors.specs.Eye.{EyeState, bits_left}
-use Rattle.bit_vectors.specs.Reading.{Reading, Read, WrongBit, ◌>>=◌, Gives}
+use Rattle.bit_vectors.specs.Reading.{Reading, Read, WrongBit, ◌>>=◌}
 use Rattle.bit_vectors.proofs.ExactReading.{read_same}
 use Rattle.run_code.specs.Edges.{edges}
 use Rattle.run_code.specs.Runs.{run_bits}
@@ -224,20 +223,6 @@ module _ (f : ℕ) (state : State) (t : ℕ) (has : IsState f state) (bits : Lis
   -- the bits and the state determine the form, the mask and the content
   pub one_packet : (form ≡ other) × (mask ≡ other_mask) × (content ≡ other_content)
   one_packet = (same_form form other one_change sent_same.0 sent_same.1, vectors_same.0, vectors_same.1)
-
--- ---- answers from readings
-
-module _ (f : ℕ) (state : State) (t : ℕ) (bits : List Bool) where
-  pub answer_ok : (found : Found) (rest : List Bool) → whole_packet_at f state t bits ≡ Read found rest → answer_of f state t bits ≡ Ok (answer_to state found.change.level found.outcome)
-  answer_ok found rest read = ap (answer_by state bits) read
-
-  -- a call on an eye that stands before all bits
-  pub answer_err : {A : Type 0} (view : A → Found) (new : EyeState) (fault : BitFault) → new.bits ≡ bits → Gives view (Err fault) new (whole_packet_at f state t bits) → answer_of f state t bits ≡ Err fault
-  answer_err view new (Wrong bit) same given =
-      let place : length bits - length (bits_left new) - 1 ≡ bit = omega (arith, given.1, given.2, length-drop new.place new.bits, ap (λ (b : List Bool). length b) same) in
-      ap (answer_by state bits) given.0 ∙ ap (λ (n : ℕ). Err (Wrong n)) place
-  answer_err view new (EndsEarly bit) same given =
-      ap (answer_by state bits) given.0 ∙ ap (λ (n : ℕ). Err (EndsEarly n)) (sym (given.1 ∙ ap (λ (b : List Bool). length b) same))
 
 -- ---- what follows a packet, and what follows a front
 

@@ -1,9 +1,10 @@
 -- Reading a packet from its first bit to its last, as functions of the bits that are left.
-use Rattle.std.specs.Prelude.{ℕ, ◌-◌, ◌*◌, nat_lt, nat_le, Bool, true, false, not, ◌&&◌, ◌||◌, if◌then◌else◌, List, [], ◌∷◌, length, replicate, slice_index_or, Option, None, Some, Result, Ok, Err}
+use Rattle.std.specs.Prelude.{◌≡◌, ℕ, ◌+◌, ◌-◌, ◌*◌, nat_lt, nat_le, Bool, true, false, not, ◌&&◌, ◌||◌, if◌then◌else◌, List, [], ◌∷◌, length, replicate, slice_index_or, Option, None, Some, Result, Ok, Err}
 use Rattle.std.specs.List.{list_any}
 use Rattle.bit_vectors.specs.declared.fault.BitFault.{BitFault}
 use Rattle.bit_vectors.specs.declared.fault.BitFault.TheVariants.{Wrong, EndsEarly}
 use Rattle.bit_vectors.specs.Vectors.{byte_count}
+use Rattle.bit_vectors.specs.Eye.{EyeState, bits_left}
 use Rattle.bit_vectors.specs.Reading.{Reading, Read, WrongBit, TooShort, ◌>>=◌, bit_where, allowed, front_at, same_at}
 use Rattle.count_code.specs.Code.{count_bits}
 use Rattle.count_code.specs.Counts.{number_at}
@@ -40,6 +41,13 @@ kept_at (free ∷ places) (was ∷ known) bits =
     bit_where (allowed (free || not was) (free || was)) bits
     >>= λ bit rest. kept_at places known rest
     >>= λ content last. Read (bit ∷ content) last
+
+-- What a call answered, seen by view, is what reading the bits left gives. After a fault the eye may stand anywhere: the
+-- fault itself names the bit.
+abbrev pub Tells : {A B : Type 0} → (A → B) → Result A BitFault → EyeState → Reading B → Type 0
+Tells view (Ok x) new reading = reading ≡ Read (view x) (bits_left new)
+Tells view (Err (Wrong bit)) new reading = (rest : List Bool) × (reading ≡ WrongBit rest) × (bit + 1 + length rest ≡ length new.bits)
+Tells view (Err (EndsEarly bit)) new reading = (reading ≡ TooShort) × (bit ≡ length new.bits)
 
 -- ---- the first part
 
