@@ -41,7 +41,7 @@ AreFronts-put stand a b p = record { rest = p.rest; joined = put-put stand a p.r
 abbrev pub rest_of : Option (List ℕ) → List ℕ
 rest_of left = unwrap_or left []
 
-IfSome-rest_of : (left : Option (List ℕ)) → IfSome left (λ bytes. bytes ≡ rest_of left)
+pub IfSome-rest_of : (left : Option (List ℕ)) → IfSome left (λ bytes. bytes ≡ rest_of left)
 IfSome-rest_of None = tt
 IfSome-rest_of (Some bytes) = refl
 
@@ -159,7 +159,7 @@ Ends-fault here a b taken rest fault moves told nothing ends =
       ends = ends;
     }
 
-IfSome-IsAtEnd : (left : Option (List ℕ)) → IsAtEnd left → IfSome left (λ bytes. bytes ≡ [])
+pub IfSome-IsAtEnd : (left : Option (List ℕ)) → IsAtEnd left → IfSome left (λ bytes. bytes ≡ [])
 IfSome-IsAtEnd None at_end = tt
 IfSome-IsAtEnd (Some bytes) at_end = at_end
 
