@@ -1,0 +1,4 @@
+pub mod Spans
+pub mod Rows
+pub mod Order
+pub mod Tables
