@@ -3,3 +3,7 @@ pub mod Places
 pub mod Naming
 pub mod FlagRows
 pub mod CopyRows
+pub mod Records
+pub mod RowTexts
+pub mod Numbers
+pub mod RightRows

@@ -1,5 +1,5 @@
 -- Entries in the order of their first numbers, and a part of them.
-use Rattle.std.proofs.Common.{◌≡◌, ℕ, ◌+◌, ◌-◌, ◌<◌, ◌≤◌, List, length, take, drop, map, get_or, Contains, All, refl, sym, ◌∙◌, arith, inl, inr}
+use Rattle.std.proofs.Common.{◌≡◌, ℕ, ◌+◌, ◌-◌, ◌<◌, ◌≤◌, List, length, take, drop, get_or, Contains, refl, sym, ◌∙◌, arith, inl, inr}
 use Rattle.std.proofs.lemmas.List.{get_or-map, get_or-take, get_or-drop, length-map, length-take-le, length-drop}
 use Rattle.std.proofs.lemmas.Bool.{cases_lt}
 use Rattle.std.proofs.lemmas.List.Elements.{All-take, All-drop, All-weaker, All-get_or, All-from_get_or}
@@ -31,10 +31,10 @@ not_before : (spans : List Span) (entries : List Entry) (t start k place : ℕ) 
     → start ≤ length entries → (entry_at entries k).place ≡ place → t ≤ (span_at spans place).last → start ≤ k
 not_before spans entries t start k place order before within is last =
     elim (cases_lt k start) [
-      inl less ↦
-        let reach = rw is at (order.reach k (start - 1) (omega arith) (omega arith)) in
-        let below = before (omega arith) in
-        absurd (omega arith)
+      | inl less ↦
+          let reach = rw is at (order.reach k (start - 1) (omega arith) (omega arith)) in
+          let below = before (omega arith) in
+          absurd (omega arith)
       | inr from ↦ from
     ]
 
@@ -42,7 +42,7 @@ not_behind : (entries : List Entry) (t end k : ℕ) → ((k : ℕ) → end ≤ k
     → k < length entries → (entry_at entries k).first ≤ t → k < end
 not_behind entries t end k behind inside first =
     elim (cases_lt k end) [
-      inl less ↦ less
+      | inl less ↦ less
       | inr from ↦ let later = behind k from inside in absurd (omega arith)
     ]
 
@@ -54,15 +54,15 @@ pub HaveAllAt-part : (spans : List Span) (entries : List Entry) (t start end : �
 HaveAllAt-part spans entries t start end order forward within before behind = record {
   own = All-take (λ e. e.place < length spans) (end - start) (drop start entries) (All-drop (λ e. e.place < length spans) start entries (All-weaker (IsEntryOf spans) (λ e. e.place < length spans) (λ e is. is.inside) entries order.are.own));
   each = λ place inside first last.
-    let found = order.are.each place inside in
-    let there : found.0 < length entries = rw (length-map entries (λ (e : Entry). e.place)) at found.1 in
-    let is : (entry_at entries found.0).place ≡ place = sym (place_among entries found.0 place there) ∙ found.2 in
-    let entry : IsEntryOf spans (entry_at entries found.0) = All-get_or (IsEntryOf spans) entries found.0 no_entry there order.are.own in
-    let begins : (entry_at entries found.0).first ≡ (span_at spans place).first = rw is at entry.first in
-    let from : start ≤ found.0 = not_before spans entries t start found.0 place order before (omega arith) is last in
-    let to : found.0 < end = not_behind entries t end found.0 behind there (omega arith) in
-    let part = part_at entries start end found.0 from to within in
-    Contains-place (take (end - start) (drop start entries)) (found.0 - start) place part.0 (rw part.1 is);
+      let found = order.are.each place inside in
+      let there : found.0 < length entries = rw (length-map entries (λ (e : Entry). e.place)) at found.1 in
+      let is : (entry_at entries found.0).place ≡ place = sym (place_among entries found.0 place there) ∙ found.2 in
+      let entry : IsEntryOf spans (entry_at entries found.0) = All-get_or (IsEntryOf spans) entries found.0 no_entry there order.are.own in
+      let begins : (entry_at entries found.0).first ≡ (span_at spans place).first = rw is at entry.first in
+      let from : start ≤ found.0 = not_before spans entries t start found.0 place order before (omega arith) is last in
+      let to : found.0 < end = not_behind entries t end found.0 behind there (omega arith) in
+      let part = part_at entries start end found.0 from to within in
+      Contains-place (take (end - start) (drop start entries)) (found.0 - start) place part.0 (rw part.1 is);
 }
 
 -- entries in the order of their first numbers, with raised reaches
@@ -70,17 +70,17 @@ pub IsOrderOf-raised : (spans : List Span) (entries raised : List Entry) → Are
 IsOrderOf-raised spans entries raised are rising up = record {
   are = record {
     own = All-from_get_or (IsEntryOf spans) raised no_entry (λ k inside.
-      let entry : IsEntryOf spans (entry_at entries k) = All-get_or (IsEntryOf spans) entries k no_entry (rw up.len at inside) are.own in
-      let higher = up.reach k k (omega arith) (rw up.len at inside) in
-      record { inside = rw (up.place k) entry.inside; first = up.first k ∙ rw (up.place k) entry.first; last = rw (up.place k) (omega arith) });
+        let entry : IsEntryOf spans (entry_at entries k) = All-get_or (IsEntryOf spans) entries k no_entry (rw up.len at inside) are.own in
+        let higher = up.reach k k (omega arith) (rw up.len at inside) in
+        record { inside = rw (up.place k) entry.inside; first = up.first k ∙ rw (up.place k) entry.first; last = rw (up.place k) (omega arith) });
     each = λ place inside.
-      let found = are.each place inside in
-      let there : found.0 < length entries = rw (length-map entries (λ (e : Entry). e.place)) at found.1 in
-      Contains-place raised found.0 place (rw up.len there) (up.place found.0 ∙ sym (place_among entries found.0 place there) ∙ found.2);
+        let found = are.each place inside in
+        let there : found.0 < length entries = rw (length-map entries (λ (e : Entry). e.place)) at found.1 in
+        Contains-place raised found.0 place (rw up.len there) (up.place found.0 ∙ sym (place_among entries found.0 place there) ∙ found.2);
   };
   rising = IsNonDecreasingBy-from_default (λ (e : Entry). e.first) raised no_entry (λ i j le inside. rw (up.first i, up.first j) (rising i j no_entry le (rw up.len at inside)));
   reach = λ j k le inside.
-    let entry : IsEntryOf spans (entry_at entries j) = All-get_or (IsEntryOf spans) entries j no_entry (omega (arith, up.len)) are.own in
-    let higher = up.reach j k le (rw up.len at inside) in
-    rw (up.place j) (omega arith);
+      let entry : IsEntryOf spans (entry_at entries j) = All-get_or (IsEntryOf spans) entries j no_entry (omega (arith, up.len)) are.own in
+      let higher = up.reach j k le (rw up.len at inside) in
+      rw (up.place j) (omega arith);
 }

@@ -1,5 +1,5 @@
 -- What rows say of a packet number.
-use Rattle.std.specs.Prelude.{◌≡◌, ℕ, ◌<◌, ◌≤◌, Bool, true, false, ◌&&◌, ◌||◌, List, length, map, find, reverse, slice_index_or, Option, None, Some, All}
+use Rattle.std.specs.Prelude.{ℕ, ◌≤◌, Bool, ◌&&◌, List, find, reverse, Option}
 use Rattle.std.specs.List.{list_any}
 use Rattle.std.specs.Option.{option_map_or}
 use Rattle.bit_vectors.specs.declared.flags.Flags.{Flags}

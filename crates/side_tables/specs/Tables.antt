@@ -1,5 +1,5 @@
 -- A table: rows, and the order of their spans.
-use Rattle.std.specs.Prelude.{◌≡◌, ℕ, ◌<◌, ◌≤◌, true, false, Bool, ◌&&◌, ◌||◌, List, length, map, slice_index_or, Option, None, Some, All}
+use Rattle.std.specs.Prelude.{◌≡◌, ℕ, ◌<◌, ◌≤◌, true, false, Bool, ◌||◌, List, length, map, slice_index_or, Option, None, Some, All}
 use Rattle.std.specs.List.{list_any}
 use Rattle.bit_vectors.specs.declared.flags.Flags.{Flags}
 use Rattle.side_tables.specs.declared.order.Entry.{Entry}

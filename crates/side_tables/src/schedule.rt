@@ -1,12 +1,15 @@
 //! Schedules: which flags packets have.
 
-ghost use Rattle.std.specs.Prelude.{◌≡◌, ◌<◌, length, map, All, IfOk};
+ghost use Rattle.std.specs.Prelude.{◌≡◌, ℕ, ◌<◌, ◌≤◌, ◌↔◌, length, map, All, Err, Some, None, IfOk, OnOk};
+ghost use Rattle.side_tables.specs.Grammar.{flag_rows_of, bad_flag_row};
 ghost use Rattle.side_tables.specs.Rows.{IsFlagRow, flag_span, flags_of};
 ghost use Rattle.side_tables.specs.Tables.{IsFlagTable, flag_row_at, flags_with};
 
+use crate::fault::SideFault;
 use crate::order::{Entry, entries_at, order_of};
 use crate::rows::FlagRow;
 use crate::span::Span;
+use crate::text::read_rows;
 use bit_vectors::{Flags, NoMemory};
 use std::alloc::Global;
 use std::marker::Model;
@@ -31,6 +34,20 @@ impl Model for Schedule {
 }
 
 impl Schedule {
+    /// The schedule that a text says, at most 1,048,576 bytes. Each record of comma-separated values is a row of
+    /// first number, last number, step and flags: plain decimals of 32 bits, the first at most the last and the step
+    /// 1 or more, and one to three letters of `p`, `f` and `r`, none twice.
+    pub fn read(alloc: Global, text: &[u8]) -> Result<Schedule, SideFault>
+        ensures rows { IfOk result (λ schedule. schedule ≡ flag_rows_of text.now) }
+        ensures within { OnOk result (length text.now ≤ 1048576) }
+        ensures right { OnOk result (bad_flag_row text.now ≡ None) }
+        ensures too_long { (result ≡ Err SideFault.TooLong) ↔ (1048576 < length text.now) }
+        ensures row { (row : ℕ) → result ≡ Err (SideFault.Row row) → bad_flag_row text.now ≡ Some row }
+    {
+        let rows = read_rows(alloc, text)?;
+        Ok(Schedule::of_rows(alloc, rows)?)
+    }
+
     /// The schedule with these rows. In each the first number is at most the last, and the step is 1 or more.
     pub fn with_rows(alloc: Global, rows: &[FlagRow]) -> Result<Schedule, NoMemory>
         requires { All IsFlagRow rows.now }

@@ -1,13 +1,16 @@
 //! Scripts: how many copies of packets arrive.
 
-ghost use Rattle.std.specs.Prelude.{◌≡◌, ◌<◌, ◌≤◌, List, [], ◌∷◌, ◌++◌, length, map, All, IfOk};
+ghost use Rattle.std.specs.Prelude.{◌≡◌, ℕ, ◌<◌, ◌≤◌, ◌↔◌, List, [], ◌∷◌, ◌++◌, length, map, All, Err, Some, None, IfOk, OnOk};
 ghost use Rattle.side_tables.specs.declared.order.Entry.{Entry as Order};
+ghost use Rattle.side_tables.specs.Grammar.{copy_rows_of, bad_copy_row};
 ghost use Rattle.side_tables.specs.Rows.{IsCopyRow, copy_span, copies_of};
 ghost use Rattle.side_tables.specs.Tables.{IsCopyTable, IsLatest, IsLatestOf};
 
+use crate::fault::SideFault;
 use crate::order::{Entry, entries_at, order_of};
 use crate::rows::CopyRow;
 use crate::span::Span;
+use crate::text::read_rows;
 use bit_vectors::NoMemory;
 use std::alloc::Global;
 use std::marker::Model;
@@ -32,6 +35,20 @@ impl Model for Script {
 }
 
 impl Script {
+    /// The script that a text says, at most 1,048,576 bytes. Each record of comma-separated values is a row, `drop`
+    /// with first number, last number and step, or `repeat` with these and the number of further copies: plain
+    /// decimals of 32 bits, the first at most the last, the step 1 or more, and 1 to 8 further copies.
+    pub fn read(alloc: Global, text: &[u8]) -> Result<Script, SideFault>
+        ensures rows { IfOk result (λ script. script ≡ copy_rows_of text.now) }
+        ensures within { OnOk result (length text.now ≤ 1048576) }
+        ensures right { OnOk result (bad_copy_row text.now ≡ None) }
+        ensures too_long { (result ≡ Err SideFault.TooLong) ↔ (1048576 < length text.now) }
+        ensures row { (row : ℕ) → result ≡ Err (SideFault.Row row) → bad_copy_row text.now ≡ Some row }
+    {
+        let rows = read_rows(alloc, text)?;
+        Ok(Script::of_rows(alloc, rows)?)
+    }
+
     /// The script with these rows. In each the first number is at most the last, the step is 1 or more, and there
     /// are at most nine copies.
     pub fn with_rows(alloc: Global, rows: &[CopyRow]) -> Result<Script, NoMemory>

@@ -6,5 +6,5 @@ use Rattle.side_tables.proofs.order.entries_at.Goals.{then-loop-start-test+else-
 pub returns : goal.returns
 returns c = λ spans order.
     HaveAllAt-part spans c.args.entries.now c.args.t c.loop-start.start c.begun_by-end.result order c.loop-start.invariant c.begun_by-end.ensures.within
-      (λ some. elim c.loop-start-test.branch [ then-loop-start-test+else-entries-start w ↦ w.if-entries-start.false | else-loop-start-test w ↦ omega arith ])
-      (c.begun_by-end.ensures.behind order.rising)
+    (λ some. elim c.loop-start-test.branch [ then-loop-start-test+else-entries-start w ↦ w.if-entries-start.false | else-loop-start-test w ↦ omega arith ])
+    (c.begun_by-end.ensures.behind order.rising)

@@ -1,5 +1,4 @@
-use Rattle.std.proofs.Common.{ℕ, ◌<◌, ◌≤◌, length}
-use Rattle.side_tables.specs.Order.{entry_at}
+use Rattle.std.proofs.Common.{◌≤◌}
 use Rattle.side_tables.proofs.order.entries_at.Given as goal
 
 abbrev pub decreases-loop-start : goal.decreases-loop-start

@@ -1,4 +1,4 @@
-use Rattle.std.proofs.Common.{◌≡◌, ℕ, ◌<◌, ◌+◌, List, [], ◌∷◌, ◌++◌, true, length, map, Contains, refl, sym, ◌∙◌, rules, arith, below_more}
+use Rattle.std.proofs.Common.{◌≡◌, ℕ, ◌<◌, ◌+◌, List, [], ◌∷◌, ◌++◌, true, Contains, refl, rules, arith, below_more}
 use Rattle.std.specs.Result.{is_ok}
 use Rattle.std.proofs.lemmas.List.{map-append}
 use Rattle.std.proofs.lemmas.List.Elements.{All-push, Contains-append_left, Contains-push}
@@ -11,9 +11,9 @@ each_more : (entries : List Entry) (entry : Entry) (n : ℕ) → entry.place ≡
     → (place : ℕ) → place < n + 1 → Contains (places_of (entries ++ entry ∷ [])) place
 each_more entries entry n next each =
     rw (map-append (λ (e : Entry). e.place) entries (entry ∷ [])) (
-      below_more (λ place. Contains (places_of entries ++ entry.place ∷ []) place) n
-        (λ place before. Contains-append_left (places_of entries) (entry.place ∷ []) place (each place before))
-        (rw next (Contains-push (places_of entries) n)))
+    below_more (λ place. Contains (places_of entries ++ entry.place ∷ []) place) n
+    (λ place before. Contains-append_left (places_of entries) (entry.place ∷ []) place (each place before))
+    (rw next (Contains-push (places_of entries) n)))
 
 pub loop-place-preserved : goal.loop-place-preserved
 loop-place-preserved c =

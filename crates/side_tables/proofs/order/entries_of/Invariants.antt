@@ -1,5 +1,4 @@
-use Rattle.std.proofs.Common.{◌≡◌, ℕ, ◌<◌, List, length, take, map, All, Contains}
-use Rattle.side_tables.specs.declared.order.Entry.{Entry}
+use Rattle.std.proofs.Common.{ℕ, ◌<◌, All, Contains}
 use Rattle.side_tables.specs.Order.{IsEntryOf, places_of}
 use Rattle.side_tables.proofs.order.entries_of.Given as goal
 

@@ -1,4 +1,4 @@
-use Rattle.std.proofs.Common.{◌≡◌, ◌++◌, length, take, drop, sym, ◌∙◌, rules}
+use Rattle.std.proofs.Common.{◌≡◌, ◌++◌, length, take, drop, rules}
 use Rattle.std.proofs.Math.Seq.{take-append_seam}
 use Rattle.side_tables.proofs.order.order_of.Goals as goal
 

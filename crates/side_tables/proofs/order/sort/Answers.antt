@@ -1,6 +1,6 @@
 use Rattle.std.proofs.Common.{rules}
 use Rattle.std.proofs.lemmas.List.Sorted.{All-permutation, Contains-permutation, IsPermutation-map, IsNonDecreasingBy-from_sort_by_key}
-use Rattle.side_tables.specs.Order.{AreEntriesOf, IsEntryOf, places_of}
+use Rattle.side_tables.specs.Order.{IsEntryOf}
 use Rattle.side_tables.proofs.order.sort.Goals as goal
 
 pub returns-clause-same : goal.returns-clause-same

@@ -1,7 +1,6 @@
-use Rattle.std.proofs.Common.{◌≡◌, map, take, sym, ◌∙◌, arith}
+use Rattle.std.proofs.Common.{◌≡◌, map, take, sym, ◌∙◌}
 use Rattle.std.proofs.lemmas.List.{take_all}
 use Rattle.side_tables.specs.Rows.{flag_span}
-use Rattle.side_tables.specs.Tables.{flags_at}
 use Rattle.side_tables.proofs.Naming.{place_inside}
 use Rattle.side_tables.proofs.FlagRows.{flags_at-more, flags_at-all}
 use Rattle.side_tables.proofs.schedule.flags_by.Goals as goal

@@ -1,8 +1,7 @@
-use Rattle.std.proofs.Common.{◌≡◌, map, take, arith, ◌<◌, length}
+use Rattle.std.proofs.Common.{◌≡◌, map, take}
 use Rattle.std.proofs.lemmas.List.{take_all, take_more}
-use Rattle.side_tables.specs.Order.{entry_at, no_entry}
+use Rattle.side_tables.specs.Order.{no_entry}
 use Rattle.side_tables.specs.Rows.{copy_span}
-use Rattle.side_tables.specs.Tables.{IsLatestOf}
 use Rattle.side_tables.proofs.Naming.{place_inside}
 use Rattle.side_tables.proofs.CopyRows.{IsLatest-all}
 use Rattle.side_tables.proofs.script.latest_by.Goals as goal
