@@ -16,3 +16,6 @@ pub use fault::SideFault;
 pub use rows::{CopyRow, FlagRow};
 pub use schedule::Schedule;
 pub use script::Script;
+
+#[cfg(test)]
+mod tests;
