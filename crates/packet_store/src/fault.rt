@@ -6,13 +6,16 @@ use desk_ports::{Failed, Stop};
 use thiserror::Error;
 
 /// What is wrong with the bytes of a store at a place.
-#[derive(Clone, Copy, Debug, PartialEq, Eq)]
+#[derive(Clone, Copy, Debug, PartialEq, Eq, Error)]
 pub enum StoreKind {
     /// They end inside a packet.
+    #[error("is cut")]
     Cut,
     /// They begin a packet of another version.
+    #[error("has another version")]
     Version,
     /// They begin a packet of the chosen APID that has another shape.
+    #[error("has another shape")]
     Shape,
 }
 

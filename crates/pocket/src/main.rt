@@ -1,6 +1,10 @@
 //! The program `pocket`: its words, the desk of files, and how it ends.
 #![tactic(auto)]
 
+ghost use Rattle.std.specs.Prelude.{◌≡◌, ◌≤◌, length, take};
+ghost use Rattle.std.specs.Process.{exit_status};
+ghost use Rattle.pocket_cmd.specs.Status.{exit_number};
+
 use desk_ports::FileDesk;
 use pocket_cmd::{Refusal, Status, exit_code, pocket};
 use std::process::ExitCode;
@@ -49,12 +53,19 @@ fn answer(rt: &HostRuntime, words: &[String]) -> ExitCode {
         [word] if word.as_str() == "--help" => printed(rt, HELP),
         [word] if word.as_str() == "--version" => printed(rt, VERSION),
         _ => {
-            let few = words.len().min(MOST_WORDS);
             let mut desk = FileDesk::new(rt);
-            let status = pocket(rt.alloc(), &words[..few], &mut desk);
+            let status = pocket(rt.alloc(), first_words(words), &mut desk);
             ended(rt, &status)
         }
     }
+}
+
+/// The words that are looked at.
+fn first_words(words: &[String]) -> &[String]
+    ensures first { result.now ≡ take 1000 words.now }
+    ensures few { length result.now ≤ 1000 }
+{
+    &words[..words.len().min(MOST_WORDS)]
 }
 
 /// Prints a text on standard output.
@@ -66,7 +77,9 @@ fn printed(rt: &HostRuntime, text: &str) -> ExitCode {
 }
 
 /// Prints a refusal on standard error, and gives the exit number.
-fn ended(rt: &HostRuntime, status: &Status) -> ExitCode {
+fn ended(rt: &HostRuntime, status: &Status) -> ExitCode
+    ensures { exit_status result ≡ exit_number status.now }
+{
     if let Status::Refused(refusal) = status {
         let _ = eprintln!(rt; "pocket: {refusal}");
     }

@@ -1,17 +1,19 @@
 -- What the words give to a command: values within their bounds, and no name that no word gives.
-use Rattle.std.proofs.Common.{◌≡◌, ℕ, ◌+◌, ◌<◌, ◌≤◌, ◌&&◌, Bool, true, false, cond, eqb, nat_lt, nat_le, List, [], ◌∷◌, ◌++◌, length, get_or, Option, Some, None, option_and_then, Result, Ok, Err, ok_or, refl, ap, ◌∙◌, subst, codes, add-one, arith}
+use Rattle.std.proofs.Common.{◌≡◌, ℕ, ◌+◌, ◌<◌, ◌≤◌, ◌&&◌, Bool, true, false, cond, eqb, nat_lt, nat_le, List, [], ◌∷◌, ◌++◌, length, get_or, ◌==◌, Option, Some, None, Result, Ok, Err, ok_or, refl, ap, ◌∙◌, subst, codes, add-one, arith}
 use Rattle.std.specs.List.{Contains, before_first, after_first, position_or_len}
 use Rattle.std.specs.Str.{bytes_eq}
 use Rattle.std.specs.Str.Parse.{digits_value}
 use Rattle.std.proofs.lemmas.Bool.Decides.{nat_tests}
 use Rattle.std.proofs.lemmas.List.Sums.{split_at_first, passes_at_first}
 use Rattle.std.proofs.lemmas.Slice.Eq.{bytes_eq-Decides}
-use Rattle.pocket_cmd.specs.Number.{is_plain_decimal, number_of}
-use Rattle.pocket_cmd.specs.Words.{Entry, entry_of, entry_with, is_equals_sign, kind_of, value_of, value_unless, first_faulty, verb_of, Gives}
-use Rattle.pocket_cmd.specs.Command.{Restoration, Command, Restore, IsGiven, restoration_of, with_values, with_verb, unless_faulty, command_of, ◌>>=◌}
+use Rattle.side_tables.specs.Numbers.{is_plain_decimal, number_of}
+use Rattle.pocket_cmd.specs.Words.{Value, Named, Numbered, Entry, entry_of, entry_with, read_as, read_name, read_value, numbered, is_equals_sign, kind_of, value_of, value_unless, first_faulty, verb_of, Gives}
+use Rattle.pocket_cmd.specs.Command.{Restoration, Command, Restore, IsGiven, restoration_of, with_values, with_verb, unless_faulty, command_of, name_in, number_in, ◌>>=◌}
 use Rattle.pocket_cmd.specs.declared.words.Verb.{Verb}
 use Rattle.pocket_cmd.specs.declared.words.Verb.TheVariants as verb
 use Rattle.pocket_cmd.specs.declared.words.Kind.{Kind}
+use Rattle.pocket_cmd.specs.declared.words.Kind.TheVariants.{Name, Number}
+use Rattle.pocket_cmd.specs.declared.words.Direction.{Direction}
 
 ltb-true : (m n : ℕ) → nat_lt m n ≡ true → m < n
 ltb-true m n h = grind (arith, nat_tests)
@@ -28,23 +30,25 @@ split_joined word h =
     let sign : get_or word (position_or_len is_equals_sign word) 0 ≡ 61 = eqb-true _ _ (passes_at_first is_equals_sign word 0 h) in
     split_at_first is_equals_sign word 0 h ∙ ap (λ c. before_first is_equals_sign word ++ c ∷ after_first is_equals_sign word) sign
 
-entry_parts : (b : Bool) (key value : List ℕ) (kind : Option Kind) (entry : Entry) → cond b (entry_with key value kind) None ≡ Some entry → (b ≡ true) × (key ≡ entry.key) × (value ≡ entry.value)
-entry_parts true key value (Some kind) entry e = (refl, ap (λ o. key_in o) e, ap (λ o. value_in o) e) where
-  key_in : Option Entry → List ℕ
-  key_in None = []
-  key_in (Some x) = x.key
+entry_parts : (b : Bool) (key : List ℕ) (value : Option Value) (entry : Entry) → cond b (entry_with key value) None ≡ Some entry → (b ≡ true) × (key ≡ entry.key) × (value ≡ Some entry.value)
+entry_parts true key (Some value) entry e = let same : record { key = key; value = value } ≡ entry = cc in (refl, ap (λ (x : Entry). x.key) same, ap (λ (x : Entry). Some x.value) same)
+entry_parts true key None entry e = absurd cc
+entry_parts false key value entry e = absurd cc
 
-  value_in : Option Entry → List ℕ
-  value_in None = []
-  value_in (Some x) = x.value
-entry_parts true key value None entry e = absurd cc
-entry_parts false key value kind entry e = absurd cc
+-- a word is what stands before its first `=`, that `=`, and the text behind it, which its key reads as its value
+record IsEntry (v : Verb) (word : List ℕ) (entry : Entry) : Type 0 where
+  text : List ℕ
+  joined : word ≡ entry.key ++ 61 ∷ text
+  read : read_as (kind_of v entry.key) text ≡ Some entry.value
 
--- a word that is an entry is its key, a `=` and its value
-entry_joined : (v : Verb) (word : List ℕ) (entry : Entry) → entry_of v word ≡ Some entry → word ≡ entry.key ++ 61 ∷ entry.value
-entry_joined v word entry e =
-    let parts = entry_parts (nat_lt (position_or_len is_equals_sign word) (length word)) (before_first is_equals_sign word) (after_first is_equals_sign word) (kind_of v (before_first is_equals_sign word)) entry e in
-    split_joined word (ltb-true _ _ parts.0) ∙ (ap (λ k. k ++ 61 ∷ after_first is_equals_sign word) parts.1 ∙ ap (λ w. entry.key ++ 61 ∷ w) parts.2)
+entry_is : (v : Verb) (word : List ℕ) (entry : Entry) → entry_of v word ≡ Some entry → IsEntry v word entry
+entry_is v word entry e =
+    let parts = entry_parts (nat_lt (position_or_len is_equals_sign word) (length word)) (before_first is_equals_sign word) (read_as (kind_of v (before_first is_equals_sign word)) (after_first is_equals_sign word)) entry e in
+    record {
+      text = after_first is_equals_sign word;
+      joined = split_joined word (ltb-true _ _ parts.0) ∙ ap (λ k. k ++ 61 ∷ after_first is_equals_sign word) parts.1;
+      read = subst (λ k. read_as (kind_of v k) (after_first is_equals_sign word) ≡ Some entry.value) parts.1 parts.2;
+    }
 
 later : (word : List ℕ) (words : List (List ℕ)) (text : List ℕ) → Contains words text → Contains (word ∷ words) text
 later word words text h = (h.0 + 1, omega (arith, h.1), shifted h.0 h.2) where
@@ -54,19 +58,68 @@ later word words text h = (h.0 + 1, omega (arith, h.1), shifted h.0 h.2) where
 same_some : {A : Type 0} {x y : A} → Some x ≡ Some y → x ≡ y
 same_some e = cc
 
--- a value of a key is one that a word gives to it
-pub Gives-value_of : (v : Verb) (words : List (List ℕ)) (key value : List ℕ) → value_of v words key ≡ Some value → Gives words key value
-Gives-value_of v [] key value e = absurd cc
-Gives-value_of v (word ∷ words) key value e = from_entry (λ h. later word words (key ++ 61 ∷ value) (Gives-value_of v words key value h)) (entry_of v word) refl e where
-  from_test : (value_of v words key ≡ Some value → Gives (word ∷ words) key value) → (entry : Entry) (b : Bool) → bytes_eq entry.key key ≡ b → entry_of v word ≡ Some entry → cond b (Some entry.value) (value_of v words key) ≡ Some value → Gives (word ∷ words) key value
-  from_test behind entry true same at e =
-      let whole : word ≡ key ++ 61 ∷ value = entry_joined v word entry at ∙ (ap (λ k. k ++ 61 ∷ entry.value) ((bytes_eq-Decides entry.key key).0 same) ∙ ap (λ w. key ++ 61 ∷ w) (same_some e)) in
-      (0, omega arith, whole)
+-- some word is an entry with this key and this value
+record IsFound (v : Verb) (words : List (List ℕ)) (key : List ℕ) (value : Value) : Type 0 where
+  text : List ℕ
+  among : Contains words (key ++ 61 ∷ text)
+  read : read_as (kind_of v key) text ≡ Some value
+
+IsFound-later : (v : Verb) (word : List ℕ) (words : List (List ℕ)) (key : List ℕ) (value : Value) → IsFound v words key value → IsFound v (word ∷ words) key value
+IsFound-later v word words key value f = record { text = f.text; among = later word words (key ++ 61 ∷ f.text) f.among; read = f.read }
+
+IsFound-here : (v : Verb) (word : List ℕ) (words : List (List ℕ)) (key : List ℕ) (entry : Entry) → entry.key ≡ key → IsEntry v word entry → IsFound v (word ∷ words) key entry.value
+IsFound-here v word words key entry same is = record {
+  text = is.text;
+  among = (0, omega arith, is.joined ∙ ap (λ k. k ++ 61 ∷ is.text) same);
+  read = subst (λ k. read_as (kind_of v k) is.text ≡ Some entry.value) same is.read;
+}
+
+-- the value of a key is that of a word
+found : (v : Verb) (words : List (List ℕ)) (key : List ℕ) (value : Value) → value_of v words key ≡ Some value → IsFound v words key value
+found v [] key value e = absurd cc
+found v (word ∷ words) key value e = from_entry (λ h. IsFound-later v word words key value (found v words key value h)) (entry_of v word) refl e where
+  from_test : (value_of v words key ≡ Some value → IsFound v (word ∷ words) key value) → (entry : Entry) (b : Bool) → bytes_eq entry.key key ≡ b → entry_of v word ≡ Some entry → cond b (Some entry.value) (value_of v words key) ≡ Some value → IsFound v (word ∷ words) key value
+  from_test behind entry true same at e = subst (IsFound v (word ∷ words) key) (same_some e) (IsFound-here v word words key entry ((bytes_eq-Decides entry.key key).0 same) (entry_is v word entry at))
   from_test behind entry false same at e = behind e
 
-  from_entry : (value_of v words key ≡ Some value → Gives (word ∷ words) key value) → (o : Option Entry) → entry_of v word ≡ o → value_unless key o (value_of v words key) ≡ Some value → Gives (word ∷ words) key value
+  from_entry : (value_of v words key ≡ Some value → IsFound v (word ∷ words) key value) → (o : Option Entry) → entry_of v word ≡ o → value_unless key o (value_of v words key) ≡ Some value → IsFound v (word ∷ words) key value
   from_entry behind None at e = behind e
   from_entry behind (Some entry) at e = from_test behind entry (bytes_eq entry.key key) refl at e
+
+name_is : (o : Option Value) (text : List ℕ) → name_in o ≡ Some text → (direction : Direction) × (o ≡ Some (Named direction text))
+name_is None text e = absurd cc
+name_is (Some (Named direction other)) text e = (direction, ap (λ t. Some (Named direction t)) (same_some e))
+name_is (Some (Numbered n)) text e = absurd cc
+
+number_is : (o : Option Value) (n : ℕ) → number_in o ≡ Some n → o ≡ Some (Numbered n)
+number_is None n e = absurd cc
+number_is (Some (Named direction text)) n e = absurd cc
+number_is (Some (Numbered m)) n e = ap (λ k. Some (Numbered k)) (same_some e)
+
+-- a name that was read is its text, and a number is that of its text
+read_name_is : (b : Bool) (direction other : Direction) (text name : List ℕ) → cond b None (Some (Named direction text)) ≡ Some (Named other name) → text ≡ name
+read_name_is true direction other text name e = absurd cc
+read_name_is false direction other text name e = cc
+
+no_name : (o : Option ℕ) (direction : Direction) (name : List ℕ) → numbered o ≡ Some (Named direction name) → ⊥
+no_name None direction name e = cc
+no_name (Some n) direction name e = cc
+
+read_is : (kind : Option Kind) (text name : List ℕ) (direction : Direction) → read_as kind text ≡ Some (Named direction name) → text ≡ name
+read_is None text name direction e = absurd cc
+read_is (Some (Name other)) text name direction e = read_name_is (length text == 0) other direction text name e
+read_is (Some (Number low high)) text name direction e = absurd (no_name (number_of low high text) direction name e)
+
+numbered_is : (o : Option ℕ) (n : ℕ) → numbered o ≡ Some (Numbered n) → o ≡ Some n
+numbered_is None n e = absurd cc
+numbered_is (Some m) n e = cc
+
+-- a name that the words give to a key is in one of them
+Gives-name : (v : Verb) (words : List (List ℕ)) (key name : List ℕ) → name_in (value_of v words key) ≡ Some name → Gives words key name
+Gives-name v words key name e =
+    let is = name_is (value_of v words key) name e in
+    let f = found v words key (Named is.0 name) is.1 in
+    subst (Gives words key) (read_is (kind_of v key) f.text name is.0 f.read) f.among
 
 within : (a b c : Bool) (x n : ℕ) → cond (a && b && c) (Some x) None ≡ Some n → (b ≡ true) × (c ≡ true) × (x ≡ n)
 within true true true x n e = (refl, refl, same_some e)
@@ -90,20 +143,22 @@ bind_ok : {A B : Type 0} (r : Result A ℕ) (f : A → Result B ℕ) (y : B) →
 bind_ok (Ok x) f y e = (x, refl, e)
 bind_ok (Err word) f y e = absurd cc
 
-and_then_Some : (f : List ℕ → Option ℕ) (o : Option (List ℕ)) (n : ℕ) → option_and_then f o ≡ Some n → (text : List ℕ) × (f text ≡ Some n)
-and_then_Some f None n e = absurd cc
-and_then_Some f (Some text) n e = (text, e)
+-- a number that the words give to a key of these bounds is within them
+number-given : (v : Verb) (words : List (List ℕ)) (key : List ℕ) (low high n : ℕ) → kind_of v key ≡ Some (Number low high) → number_in (value_of v words key) ≡ Some n → (low ≤ n) × (n ≤ high)
+number-given v words key low high n kind e =
+    let f = found v words key (Numbered n) (number_is (value_of v words key) n e) in
+    number_of-within low high n f.text (numbered_is (number_of low high f.text) n (subst (λ k. read_as k f.text ≡ Some (Numbered n)) kind f.read))
 
 -- the bounds and the names, from the parts
-given_from : (words : List (List ℕ)) (r : Restoration) → value_of verb.Restore words (codes "in") ≡ Some r.input → value_of verb.Restore words (codes "out") ≡ Some r.output
-    → value_of verb.Restore words (codes "report") ≡ Some r.report → (1 ≤ r.bits) × (r.bits ≤ 49152) → r.apid ≤ 2046 → (word : List ℕ) → IsGiven (word ∷ words) r
+given_from : (words : List (List ℕ)) (r : Restoration) → name_in (value_of verb.Restore words (codes "in")) ≡ Some r.input → name_in (value_of verb.Restore words (codes "out")) ≡ Some r.output
+    → name_in (value_of verb.Restore words (codes "report")) ≡ Some r.report → (1 ≤ r.bits) × (r.bits ≤ 49152) → r.apid ≤ 2046 → (word : List ℕ) → IsGiven (word ∷ words) r
 given_from words r input output report bits apid word = record {
   some = bits.0;
   most = bits.1;
   chosen = apid;
-  named_input = later word words _ (Gives-value_of verb.Restore words (codes "in") r.input input);
-  named_output = later word words _ (Gives-value_of verb.Restore words (codes "out") r.output output);
-  named_report = later word words _ (Gives-value_of verb.Restore words (codes "report") r.report report);
+  named_input = later word words _ (Gives-name verb.Restore words (codes "in") r.input input);
+  named_output = later word words _ (Gives-name verb.Restore words (codes "out") r.output output);
+  named_report = later word words _ (Gives-name verb.Restore words (codes "report") r.report report);
 }
 
 given_by_words : (words : List (List ℕ)) (r : Restoration) → restoration_of words ≡ Ok r → (word : List ℕ) → IsGiven (word ∷ words) r
@@ -114,13 +169,11 @@ given_by_words words r e word =
     let report = bind_ok _ _ r output.2 in
     let bits = bind_ok _ _ r report.2 in
     let apid = bind_ok _ _ r bits.2 in
-    let bits_text = and_then_Some (number_of 1 49152) (value_of verb.Restore words (codes "bits")) bits.0 (ok_or-Some (option_and_then (number_of 1 49152) (value_of verb.Restore words (codes "bits"))) (length words + 1) bits.0 bits.1) in
-    let apid_text = and_then_Some (number_of 0 2046) (value_of verb.Restore words (codes "apid")) apid.0 (ok_or-Some (option_and_then (number_of 0 2046) (value_of verb.Restore words (codes "apid"))) (length words + 1) apid.0 apid.1) in
-    let bits_within = number_of-within 1 49152 bits.0 bits_text.0 bits_text.1 in
-    let apid_within = number_of-within 0 2046 apid.0 apid_text.0 apid_text.1 in
+    let bits_within = number-given verb.Restore words (codes "bits") 1 49152 bits.0 refl (ok_or-Some (number_in (value_of verb.Restore words (codes "bits"))) (length words + 1) bits.0 bits.1) in
+    let apid_within = number-given verb.Restore words (codes "apid") 0 2046 apid.0 refl (ok_or-Some (number_in (value_of verb.Restore words (codes "apid"))) (length words + 1) apid.0 apid.1) in
     let made : Restoration = record { input = input.0; output = output.0; report = report.0; bits = bits.0; apid = apid.0 } in
-    let given = given_from words made (ok_or-Some (value_of verb.Restore words (codes "in")) (length words + 1) input.0 input.1) (ok_or-Some (value_of verb.Restore words (codes "out")) (length words + 1) output.0 output.1)
-    (ok_or-Some (value_of verb.Restore words (codes "report")) (length words + 1) report.0 report.1) bits_within apid_within.1 word in
+    let given = given_from words made (ok_or-Some (name_in (value_of verb.Restore words (codes "in"))) (length words + 1) input.0 input.1) (ok_or-Some (name_in (value_of verb.Restore words (codes "out"))) (length words + 1) output.0 output.1)
+    (ok_or-Some (name_in (value_of verb.Restore words (codes "report"))) (length words + 1) report.0 report.1) bits_within apid_within.1 word in
     subst (IsGiven (word ∷ words)) (same_ok made r apid.2) given where
       same_ok : (x y : Restoration) → ◌≡◌ {A = Result Restoration ℕ} (Ok x) (Ok y) → x ≡ y
       same_ok x y e = cc

@@ -1,10 +1,2 @@
-pub mod Exactly
-pub mod Given
-pub mod Numbers
 pub mod Places
-pub mod Outcomes
-pub mod PlainStores
-pub mod Results
-pub mod Runs
-pub mod WholeRuns
-pub mod Stuck
+pub mod Given

@@ -1,9 +1,6 @@
-pub mod Command
-pub mod Number
-pub mod Outcome
-pub mod PlainStore
-pub mod Report
-pub mod Run
-pub mod Stages
-pub mod Status
 pub mod Words
+pub mod Command
+pub mod Openings
+pub mod Courses
+pub mod Outcome
+pub mod Status

@@ -2,13 +2,15 @@
 use Rattle.std.specs.Prelude.{ℕ, Bool, true, false, not, ◌&&◌, ◌||◌, ◌==◌, nat_lt, List, [], ◌∷◌, ◌++◌, length, take, find, slice_index_or, Contains, codes, Option, Some, None, is_some, if◌then◌else◌}
 use Rattle.std.specs.List.{list_any, range_with_len, before_first, after_first, position_or_len}
 use Rattle.std.specs.Str.{bytes_eq}
-use Rattle.pocket_cmd.specs.Number.{number_of}
+use Rattle.side_tables.specs.Numbers.{number_of}
 use Rattle.pocket_cmd.specs.declared.words.Verb.{Verb}
 use Rattle.pocket_cmd.specs.declared.words.Verb.TheVariants.{Restore}
 use Rattle.pocket_cmd.specs.declared.words.Direction.{Direction}
 use Rattle.pocket_cmd.specs.declared.words.Direction.TheVariants.{In, Out}
 use Rattle.pocket_cmd.specs.declared.words.Kind.{Kind}
 use Rattle.pocket_cmd.specs.declared.words.Kind.TheVariants.{Name, Number}
+use Rattle.pocket_cmd.specs.declared.words.Value.{Value as HeldValue}
+use Rattle.pocket_cmd.specs.declared.words.Value.TheVariants as held
 use Rattle.pocket_cmd.specs.declared.words.Entry.{Entry as Held}
 
 -- the verb that a word names
@@ -24,32 +26,52 @@ kind_of Restore key =
     else (if bytes_eq key (codes "apid") then Some (Number 0 2046)
     else None)))
 
--- a value is one of this kind: any text that is not empty for a name, a plain decimal within its bounds for a number
-abbrev pub takes : Kind → List ℕ → Bool
-takes (Name direction) value = not (length value == 0)
-takes (Number low high) value = is_some (number_of low high value)
+-- a value as its key takes it
+pub data Value : Type 0 where
+  Named : Direction → List ℕ → Value
+  Numbered : ℕ → Value
 
--- a word's key, what it takes, and its value
+abbrev pub view_value : HeldValue → Value
+view_value (held.Name direction text) = Named direction text.now
+view_value (held.Number n) = Numbered n
+
+-- any text that is not empty for a name
+abbrev pub read_name : Direction → List ℕ → Option Value
+read_name direction text = if length text == 0 then None else Some (Named direction text)
+
+abbrev pub numbered : Option ℕ → Option Value
+numbered None = None
+numbered (Some n) = Some (Numbered n)
+
+-- the value that a text is: a name, or a plain decimal within its bounds
+abbrev pub read_value : Kind → List ℕ → Option Value
+read_value (Name direction) text = read_name direction text
+read_value (Number low high) text = numbered (number_of low high text)
+
+-- a word's key and its value
 pub record Entry : Type 0 where
   pub key : List ℕ
-  pub kind : Kind
-  pub value : List ℕ
+  pub value : Value
 
 abbrev pub view_entry : Held → Entry
-view_entry e = record { key = e.key.now; kind = e.kind; value = e.value.now }
+view_entry e = record { key = e.key.now; value = view_value e.value }
 
-abbrev pub entry_with : List ℕ → List ℕ → Option Kind → Option Entry
-entry_with key value None = None
-entry_with key value (Some kind) = Some (record { key = key; kind = kind; value = value })
+abbrev pub entry_with : List ℕ → Option Value → Option Entry
+entry_with key None = None
+entry_with key (Some value) = Some (record { key = key; value = value })
+
+abbrev pub read_as : Option Kind → List ℕ → Option Value
+read_as None text = None
+read_as (Some kind) text = read_value kind text
 
 abbrev pub is_equals_sign : ℕ → Bool
 is_equals_sign c = c == 61
 
--- a word split at its first `=`, where its key is one of the verb's
+-- a word split at its first `=`, where its key is one of the verb's and has this value
 abbrev pub entry_of : Verb → List ℕ → Option Entry
 entry_of verb word =
     if nat_lt (position_or_len is_equals_sign word) (length word)
-    then entry_with (before_first is_equals_sign word) (after_first is_equals_sign word) (kind_of verb (before_first is_equals_sign word))
+    then entry_with (before_first is_equals_sign word) (read_as (kind_of verb (before_first is_equals_sign word)) (after_first is_equals_sign word))
     else None
 
 abbrev pub same_direction : Direction → Direction → Bool
@@ -58,15 +80,15 @@ same_direction In Out = false
 same_direction Out In = false
 same_direction Out Out = true
 
--- two values of these kinds, which are this one text, can't stand together: they are names, and not the two standard streams
-abbrev pub meet_as_names : Kind → Kind → List ℕ → Bool
-meet_as_names (Name one) (Name other) value = not (bytes_eq value (codes "-")) || same_direction one other
-meet_as_names (Name one) (Number low high) value = false
-meet_as_names (Number low high) other value = false
+-- two values are one name that can't stand twice: any but the two standard streams
+abbrev pub meet : Value → Value → Bool
+meet (Named one text) (Named other again) = bytes_eq text again && (not (bytes_eq text (codes "-")) || same_direction one other)
+meet (Named one text) (Numbered n) = false
+meet (Numbered n) other = false
 
 -- two words can't stand together: one key, or one name
 abbrev pub clash : Entry → Entry → Bool
-clash one other = bytes_eq one.key other.key || (bytes_eq one.value other.value && meet_as_names one.kind other.kind one.value)
+clash one other = bytes_eq one.key other.key || meet one.value other.value
 
 abbrev pub clash_with_some : Entry → Option Entry → Bool
 clash_with_some one None = false
@@ -74,7 +96,7 @@ clash_with_some one (Some other) = clash one other
 
 abbrev pub is_faulty_entry : Verb → List (List ℕ) → Option Entry → Bool
 is_faulty_entry verb earlier None = true
-is_faulty_entry verb earlier (Some entry) = not (takes entry.kind entry.value) || list_any (λ word. clash_with_some entry (entry_of verb word)) earlier
+is_faulty_entry verb earlier (Some entry) = list_any (λ word. clash_with_some entry (entry_of verb word)) earlier
 
 -- a word behind these is faulty: it is no `key=value` of the verb, its value is not one of its key, or it can't stand beside an earlier word
 abbrev pub is_faulty : Verb → List (List ℕ) → List ℕ → Bool
@@ -84,12 +106,12 @@ is_faulty verb earlier word = is_faulty_entry verb earlier (entry_of verb word)
 abbrev pub first_faulty : Verb → List (List ℕ) → Option ℕ
 first_faulty verb words = find (λ i. is_faulty verb (take i words) (slice_index_or words i [])) (range_with_len 0 (length words))
 
-abbrev pub value_unless : List ℕ → Option Entry → Option (List ℕ) → Option (List ℕ)
+abbrev pub value_unless : List ℕ → Option Entry → Option Value → Option Value
 value_unless key None rest = rest
 value_unless key (Some entry) rest = if bytes_eq entry.key key then Some entry.value else rest
 
 -- the value that the words give to a key
-abbrev pub value_of : Verb → List (List ℕ) → List ℕ → Option (List ℕ)
+abbrev pub value_of : Verb → List (List ℕ) → List ℕ → Option Value
 value_of verb [] key = None
 value_of verb (word ∷ words) key = value_unless key (entry_of verb word) (value_of verb words key)
 

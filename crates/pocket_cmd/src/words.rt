@@ -3,9 +3,9 @@ ghost use Rattle.std.specs.Prelude.{◌≡◌, ◌<◌, ◌^◌, length, map, If
 ghost use Rattle.std.specs.Option.{option_map};
 ghost use Rattle.std.specs.List.{list_any};
 ghost use Rattle.std.specs.String.{string_bytes};
-ghost use Rattle.pocket_cmd.specs.Words.{verb_of, kind_of, takes, entry_of, view_entry, meet_as_names, clash, clash_with_some, is_faulty, first_faulty, value_of};
+ghost use Rattle.pocket_cmd.specs.Words.{verb_of, kind_of, read_name, read_value, entry_of, view_value, view_entry, meet, clash, clash_with_some, is_faulty, first_faulty, value_of};
 
-use crate::number::number;
+use side_tables::number;
 
 /// What the command is to do.
 #[derive(Clone, Copy, Debug, PartialEq, Eq)]
@@ -30,12 +30,18 @@ pub enum Kind {
     Number { low: u32, high: u32 },
 }
 
-/// A word `key=value` whose key is one of the verb's.
+/// A value as its key takes it.
+#[derive(Clone, Copy, Debug)]
+pub enum Value<'a> {
+    Name(Direction, &'a str),
+    Number(u32),
+}
+
+/// A word `key=value` whose key is one of the verb's, with a value of that key.
 #[derive(Clone, Copy, Debug)]
 pub struct Entry<'a> {
     pub key: &'a str,
-    pub kind: Kind,
-    pub value: &'a str,
+    pub value: Value<'a>,
 }
 
 /// The verb that a word names.
@@ -64,31 +70,44 @@ fn kind_of(verb: Verb, key: &str) -> Option<Kind>
     }
 }
 
-/// Whether a value is one of this kind.
-fn takes(kind: Kind, value: &str) -> bool
-    ensures { result ≡ takes kind value.now }
+/// The value that a text is, where it is one of this kind.
+fn read_value(kind: Kind, text: &str) -> Option<Value<'_>>
+    ensures { option_map view_value result ≡ read_value kind text.now }
 {
     match kind {
-        Kind::Name(_) => !value.is_empty(),
-        Kind::Number { low, high } => number(value, low, high).is_some(),
+        Kind::Name(direction) => name(direction, text),
+        Kind::Number { low, high } => Some(Value::Number(number(text.as_bytes(), low, high)?)),
     }
 }
 
-/// A word split at its first `=`, where its key is one of the verb's.
+/// A name, which has at least one byte.
+fn name(direction: Direction, text: &str) -> Option<Value<'_>>
+    ensures { option_map view_value result ≡ read_name direction text.now }
+{
+    if text.is_empty() {
+        return None;
+    }
+    Some(Value::Name(direction, text))
+}
+
+/// A word split at its first `=`, where its key is one of the verb's and has this value.
 fn entry_of(verb: Verb, word: &str) -> Option<Entry<'_>>
     ensures { option_map view_entry result ≡ entry_of verb word.now }
 {
-    let (key, value) = word.split_once('=')?;
+    let (key, text) = word.split_once('=')?;
     let kind = kind_of(verb, key)?;
-    Some(Entry { key, kind, value })
+    let value = read_value(kind, text)?;
+    Some(Entry { key, value })
 }
 
-/// Whether two values of these kinds, which are this one text, can't stand together.
-fn meet_as_names(one: Kind, other: Kind, value: &str) -> bool
-    ensures { result ≡ meet_as_names one other value.now }
+/// Whether two values are one name that can't stand twice: any but the two standard streams.
+fn meet(one: &Value<'_>, other: &Value<'_>) -> bool
+    ensures { result ≡ meet (view_value one.now) (view_value other.now) }
 {
     match (one, other) {
-        (Kind::Name(one), Kind::Name(other)) => value != "-" || one == other,
+        (Value::Name(one, text), Value::Name(other, again)) => {
+            text == again && (*text != "-" || one == other)
+        }
         _ => false,
     }
 }
@@ -97,8 +116,7 @@ fn meet_as_names(one: Kind, other: Kind, value: &str) -> bool
 fn clash(one: &Entry<'_>, other: &Entry<'_>) -> bool
     ensures { result ≡ clash (view_entry one.now) (view_entry other.now) }
 {
-    one.key == other.key
-        || (one.value == other.value && meet_as_names(one.kind, other.kind, one.value))
+    one.key == other.key || meet(&one.value, &other.value)
 }
 
 /// Whether a word can't stand beside this one.
@@ -129,7 +147,7 @@ fn is_faulty(verb: Verb, earlier: &[String], word: &str) -> bool
 {
     match entry_of(verb, word) {
         None => true,
-        Some(entry) => !takes(entry.kind, entry.value) || clashes_with_any(&entry, verb, earlier),
+        Some(entry) => clashes_with_any(&entry, verb, earlier),
     }
 }
 
@@ -147,8 +165,8 @@ pub fn first_faulty(verb: Verb, words: &[String]) -> Option<usize>
 }
 
 /// The value that the words give to a key.
-pub fn value_of<'a>(verb: Verb, words: &'a [String], key: &str) -> Option<&'a str>
-    ensures { option_map (λ value. value.now) result ≡ value_of verb (map string_bytes words.now) key.now }
+pub fn value_of<'a>(verb: Verb, words: &'a [String], key: &str) -> Option<Value<'a>>
+    ensures { option_map view_value result ≡ value_of verb (map string_bytes words.now) key.now }
 {
     for word in words {
         if let Some(entry) = entry_of(verb, word.as_str()) {
