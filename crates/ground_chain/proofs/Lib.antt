@@ -1,0 +1,3 @@
+mod LeastNumbers
+mod Runs
+mod Sound

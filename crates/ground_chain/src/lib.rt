@@ -1,0 +1,12 @@
+//! The receiving end: from the packets that arrived to the restored packets and a report of those that can't be known.
+#![tactic(auto)]
+
+mod laws;
+mod numbers;
+mod restored;
+mod verdict;
+
+pub use laws::{numbers_are_least, one_exact_run, runs_grow, sound_runs_agree};
+pub use numbers::Unwrap;
+pub use restored::Restored;
+pub use verdict::{Kind, Lost, Verdict};
