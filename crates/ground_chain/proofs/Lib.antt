@@ -1,3 +1,4 @@
 mod LeastNumbers
 mod Runs
 mod Sound
+mod Told

@@ -2,3 +2,4 @@ pub mod Numbers
 pub mod Run
 pub mod Sound
 pub mod Report
+pub mod Told

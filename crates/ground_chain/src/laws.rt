@@ -1,9 +1,12 @@
 //! What the definitions of numbers and runs mean.
 
-ghost use Rattle.std.specs.Prelude.{◌≡◌, ◌<◌, ◌∷◌, [], ◌++◌, ℕ, List, Option, Some, None, map};
-ghost use Rattle.ground_chain.specs.Numbers.{IsNext, ahead, count_of, number_after};
-ghost use Rattle.ground_chain.specs.Run.{Arrival, Judged, judge, known_after, run};
+ghost use Rattle.std.specs.Prelude.{◌≡◌, ◌<◌, ◌∷◌, [], ◌++◌, ℕ, false, All, List, Option, Some, None, map};
+ghost use Rattle.std.specs.List.{range_with_len};
+ghost use Rattle.ground_chain.specs.Numbers.{IsNext, ahead, count_of, number_after, expected};
+ghost use Rattle.ground_chain.specs.Run.{Arrival, Judged, judge, known_after, repeated, run};
+ghost use Rattle.ground_chain.specs.Report.{is_repeat, run_bytes, run_rows};
 ghost use Rattle.ground_chain.specs.Sound.{IsExactRun, IsSoundRun, but_for_faults};
+ghost use Rattle.ground_chain.specs.Told.{AreArrivals, run_numbers};
 
 use packet_store::PERIOD;
 
@@ -31,4 +34,29 @@ pub fn one_exact_run()
 pub fn sound_runs_agree()
     ensures { (f : ℕ) (arrivals : List Arrival) (judged : List Judged) → IsSoundRun f arrivals judged →
         map but_for_faults judged ≡ map but_for_faults (run f arrivals) }
+{}
+
+/// The written, the unwritten and the lost numbers of a run are together all numbers up to the last arrival, each
+/// once and in order.
+pub fn every_number_once()
+    ensures { (f : ℕ) (arrivals : List Arrival) → AreArrivals arrivals →
+        run_numbers (run f arrivals) ≡ range_with_len 0 (expected (known_after f arrivals).latest) }
+{}
+
+/// The numbers of a run rise: an arrival that is no repeat has a greater number than all arrivals before it.
+pub fn numbers_rise()
+    ensures { (f : ℕ) (arrivals : List Arrival) (arrival : Arrival) → AreArrivals (arrivals ++ arrival ∷ []) →
+        let next = (judge f (known_after f arrivals) arrival).verdict in
+        is_repeat next.kind ≡ false → All (λ earlier. earlier.verdict.t < next.t) (run f arrivals) }
+{}
+
+/// A repeat has the latest number, nothing lost before it, and changes nothing: what is known, the restored packets
+/// and the rows of the report stay.
+pub fn repeats_change_nothing()
+    ensures { (f : ℕ) (arrivals : List Arrival) (arrival : Arrival) →
+        number_after (known_after f arrivals).latest arrival.count ≡ None →
+        (judge f (known_after f arrivals) arrival ≡ repeated (known_after f arrivals))
+        × (known_after f (arrivals ++ arrival ∷ []) ≡ known_after f arrivals)
+        × (run_bytes (run f (arrivals ++ arrival ∷ [])) ≡ run_bytes (run f arrivals))
+        × (run_rows (run f (arrivals ++ arrival ∷ [])) ≡ run_rows (run f arrivals)) }
 {}
