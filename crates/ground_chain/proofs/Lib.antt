@@ -2,3 +2,4 @@ mod LeastNumbers
 mod Runs
 mod Sound
 mod Told
+mod Counted

@@ -21,7 +21,7 @@ use Rattle.ground_chain.proofs.LeastNumbers.{next_is}
 -- ---- numbers of arrivals
 
 -- a number of its own is not below the expected one
-abbrev IsLater : Option ℕ → Option ℕ → Type 0
+abbrev pub IsLater : Option ℕ → Option ℕ → Type 0
 IsLater latest None = expected latest ≡ unwrap_or latest 0 + 1
 IsLater latest (Some t) = expected latest ≤ t
 
@@ -62,7 +62,7 @@ never_repeat (Err fault) = refl
 numbers_from : (first t : ℕ) → first ≤ t → (lost : Bool) → ltb first t ≡ lost → lost_numbers (if lost then Some (record { first = first; last = t - 1 }) else None) ++ t ∷ [] ≡ range_with_len first (t + 1 - first)
 numbers_from first t le true is =
     let less : first < t = grind (arith, common_steps) in
-    let count : t - 1 + 1 - first ≡ t - first = omega arith in
+    let count : t - 1 - first + 1 ≡ t - first = omega arith in
     let place : t ≡ first + (t - first) = omega arith in
     let all : t - first + 1 ≡ t + 1 - first = omega arith in
     ap (λ (n : ℕ). range_with_len first n ++ t ∷ []) count
@@ -135,12 +135,3 @@ numbers_below f known (a ∷ arrivals) all =
 pub expected_own : (f : ℕ) (known : Known) (body : List ℕ) (number : Option ℕ) → IsLater known.latest number → is_repeat (judged_by f known body number).verdict.kind ≡ false → expected known.latest ≤ (judged_by f known body number).verdict.t
 expected_own f known body None later own = absurd cc
 expected_own f known body (Some t) later own = later
-
--- ---- counted
-
-kinds : (k : Kind) → (if is_written k then 1 else 0) + (if is_repeat k then 1 else 0) + (if is_unwritten k then 1 else 0) ≡ 1
-kinds kind.Written = refl
-kinds kind.Repeat = refl
-kinds kind.Unsynced = refl
-kinds (kind.Gap level) = refl
-kinds (kind.Refused fault) = refl

@@ -86,7 +86,7 @@ run_rows judged = flat_map (λ j. verdict_rows j.verdict) judged
 
 abbrev pub lost_count : Option Lost → ℕ
 lost_count None = 0
-lost_count (Some lost) = lost.last + 1 - lost.first
+lost_count (Some lost) = lost.last - lost.first + 1
 
 -- how many numbers a verdict lists as not written
 abbrev pub listed_by : Verdict → ℕ
@@ -100,6 +100,24 @@ restored_of judged = record {
   written = count_by (λ j. is_written j.verdict.kind) judged;
   repeats = count_by (λ j. is_repeat j.verdict.kind) judged;
   listed = sum_by (λ j. listed_by j.verdict) judged;
+}
+
+-- the numbers of one part of a run and of another
+abbrev pub added : Restored → Restored → Restored
+added first more = record {
+  packets = first.packets + more.packets;
+  written = first.written + more.written;
+  repeats = first.repeats + more.repeats;
+  listed = first.listed + more.listed;
+}
+
+-- the numbers of one arrival
+abbrev pub restored_by : Verdict → Restored
+restored_by verdict = record {
+  packets = 1;
+  written = if is_written verdict.kind then 1 else 0;
+  repeats = if is_repeat verdict.kind then 1 else 0;
+  listed = listed_by verdict;
 }
 
 -- the report's last row: arrivals, written packets and repeats

@@ -13,7 +13,7 @@ AreArrivals arrivals = All (λ a. a.count < period) arrivals
 
 abbrev pub lost_numbers : Option Lost → List ℕ
 lost_numbers None = []
-lost_numbers (Some lost) = range_with_len lost.first (lost.last + 1 - lost.first)
+lost_numbers (Some lost) = range_with_len lost.first (lost.last - lost.first + 1)
 
 -- the numbers that a verdict tells of: the lost ones, and then its own where it is no repeat
 abbrev pub numbers_of : Verdict → List ℕ

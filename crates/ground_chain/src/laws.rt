@@ -1,10 +1,10 @@
 //! What the definitions of numbers and runs mean.
 
-ghost use Rattle.std.specs.Prelude.{◌≡◌, ◌<◌, ◌∷◌, [], ◌++◌, ℕ, false, All, List, Option, Some, None, map};
+ghost use Rattle.std.specs.Prelude.{◌≡◌, ◌<◌, ◌∷◌, [], ◌++◌, ◌+◌, ℕ, length, false, All, List, Option, Some, None, map};
 ghost use Rattle.std.specs.List.{range_with_len};
 ghost use Rattle.ground_chain.specs.Numbers.{IsNext, ahead, count_of, number_after, expected};
 ghost use Rattle.ground_chain.specs.Run.{Arrival, Judged, judge, known_after, repeated, run};
-ghost use Rattle.ground_chain.specs.Report.{is_repeat, run_bytes, run_rows};
+ghost use Rattle.ground_chain.specs.Report.{is_repeat, restored_of, run_bytes, run_rows};
 ghost use Rattle.ground_chain.specs.Sound.{IsExactRun, IsSoundRun, but_for_faults};
 ghost use Rattle.ground_chain.specs.Told.{AreArrivals, run_numbers};
 
@@ -59,4 +59,12 @@ pub fn repeats_change_nothing()
         × (known_after f (arrivals ++ arrival ∷ []) ≡ known_after f arrivals)
         × (run_bytes (run f (arrivals ++ arrival ∷ [])) ≡ run_bytes (run f arrivals))
         × (run_rows (run f (arrivals ++ arrival ∷ [])) ≡ run_rows (run f arrivals)) }
+{}
+
+/// The numbers of a run: its arrivals are all that arrived, and the written packets and those that are not written
+/// are together as many as there are numbers up to the last arrival.
+pub fn numbers_count_the_run()
+    ensures packets { (f : ℕ) (arrivals : List Arrival) → (restored_of (run f arrivals)).packets ≡ length arrivals }
+    ensures listed { (f : ℕ) (arrivals : List Arrival) → AreArrivals arrivals → let restored = restored_of (run f arrivals) in
+        restored.written + restored.listed ≡ expected (known_after f arrivals).latest }
 {}

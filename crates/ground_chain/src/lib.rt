@@ -6,7 +6,7 @@ mod numbers;
 mod restored;
 mod verdict;
 
-pub use laws::{every_number_once, numbers_are_least, numbers_rise, one_exact_run, repeats_change_nothing, runs_grow, sound_runs_agree};
+pub use laws::{every_number_once, numbers_are_least, numbers_count_the_run, numbers_rise, one_exact_run, repeats_change_nothing, runs_grow, sound_runs_agree};
 pub use numbers::Unwrap;
 pub use restored::Restored;
 pub use verdict::{Kind, Lost, Verdict};
