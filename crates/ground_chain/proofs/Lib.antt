@@ -1,4 +1,4 @@
-mod LeastNumbers
+mod Distances
 mod Runs
 mod Sound
 mod Told

@@ -12,11 +12,11 @@ use Rattle.packet_decode.specs.declared.decoder.Reading.TheVariants.{Written, Un
 use Rattle.ground_chain.specs.declared.verdict.Kind.{Kind}
 use Rattle.ground_chain.specs.declared.verdict.Kind.TheVariants as kind
 use Rattle.ground_chain.specs.declared.verdict.Verdict.{Verdict}
-use Rattle.ground_chain.specs.Numbers.{count_of, ahead, number_after, expected}
+use Rattle.ground_chain.specs.Numbers.{number_after, expected}
 use Rattle.ground_chain.specs.Run.{Arrival, Known, Judged, lost_from, kind_of, verdict_of, repeated, judged_by, judge, run_from, known_from}
 use Rattle.ground_chain.specs.Report.{is_written, is_repeat, is_unwritten, lost_count, listed_by}
 use Rattle.ground_chain.specs.Told.{AreArrivals, lost_numbers, numbers_of, run_numbers}
-use Rattle.ground_chain.proofs.LeastNumbers.{next_is}
+use Rattle.ground_chain.proofs.Distances.{number_after-above}
 
 -- ---- numbers of arrivals
 
@@ -25,13 +25,13 @@ abbrev pub IsLater : Option ℕ → Option ℕ → Type 0
 IsLater latest None = expected latest ≡ unwrap_or latest 0 + 1
 IsLater latest (Some t) = expected latest ≤ t
 
-by_count : (latest count : ℕ) → count < period → (same : Bool) → (count_of latest == count) ≡ same → IsLater (Some latest) (if same then None else Some (latest + ahead latest count))
-by_count latest count few true is = refl
-by_count latest count few false is = let next = next_is latest count few is in omega (arith, next.above)
+some_later : (latest count : ℕ) → count < period → (number : Option ℕ) → number_after (Some latest) count ≡ number → IsLater (Some latest) number
+some_later latest count few None is = refl
+some_later latest count few (Some t) is = let above = number_after-above latest count t few is in omega (arith, above.0)
 
 pub number_later : (latest : Option ℕ) (count : ℕ) → count < period → IsLater latest (number_after latest count)
 number_later None count few = omega arith
-number_later (Some latest) count few = by_count latest count few (count_of latest == count) refl
+number_later (Some latest) count few = some_later latest count few (number_after (Some latest) count) refl
 
 -- ---- ranges
 

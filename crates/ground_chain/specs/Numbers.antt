@@ -1,27 +1,26 @@
--- The numbers of arrivals: a sequence count tells a number up to whole periods.
-use Rattle.std.specs.Prelude.{◌≡◌, ℕ, ◌+◌, ◌-◌, ◌%◌, ◌<◌, ◌≤◌, ◌==◌, if◌then◌else◌, Option, Some, None}
+-- The numbers of packets that arrive, from their sequence counts.
+use Rattle.std.specs.Prelude.{◌≡◌, ℕ, ◌+◌, ◌-◌, ◌%◌, ◌==◌, if◌then◌else◌, Option, Some, None}
 use Rattle.packet_store.specs.SpacePackets.{period}
 
--- the sequence count of a number
-abbrev pub count_of : ℕ → ℕ
-count_of t = t % period
+-- the number t has this sequence count
+abbrev pub HasCount : ℕ → ℕ → Type 0
+HasCount t count = t % period ≡ count
 
--- how far a number with this count is above another one: less than a period, and 0 where that has the count itself
-abbrev pub ahead : ℕ → ℕ → ℕ
-ahead latest count = (count + period - count_of latest) % period
+-- how far the next number with a count is above a number, 0 where that number has it
+abbrev pub distance : ℕ → ℕ → ℕ
+distance n count = (count + (period - n % period)) % period
 
--- The number of an arrival with this count, behind the latest number. The first arrival has its count. One that has the
--- count of the latest number is a repeat and has no number of its own. Any other has the least greater number with its
--- count.
+-- The number of an arrival with this count, behind the latest number where there was one before: the first has its count
+-- as its number, and any other the least greater number with that count. None where the count is that of the latest
+-- number: the arrival is a repeat of it.
 abbrev pub number_after : Option ℕ → ℕ → Option ℕ
 number_after None count = Some count
-number_after (Some latest) count = if count_of latest == count then None else Some (latest + ahead latest count)
+number_after (Some n) count = if distance n count == 0 then None else Some (n + distance n count)
 
--- the number is the least above the latest one that has this count
-pub record IsNext (latest count t : ℕ) : Type 0 where
-  pub above : latest < t
-  pub counted : count_of t ≡ count
-  pub least : (n : ℕ) → latest < n → count_of n ≡ count → t ≤ n
+-- the latest number after one more arrival
+abbrev pub latest_after : Option ℕ → Option ℕ → Option ℕ
+latest_after latest None = latest
+latest_after latest (Some t) = Some t
 
 -- the number that comes next where nothing is lost
 abbrev pub expected : Option ℕ → ℕ

@@ -1,18 +1,23 @@
 //! What the definitions of numbers and runs mean.
 
-ghost use Rattle.std.specs.Prelude.{◌≡◌, ◌<◌, ◌∷◌, [], ◌++◌, ◌+◌, ℕ, length, false, All, List, Option, Some, None, map};
+ghost use Rattle.std.specs.Prelude.{◌≡◌, ◌<◌, ◌≤◌, ◌↔◌, ◌∷◌, [], ◌++◌, ◌+◌, ℕ, length, false, All, List, Option, Some, None, map};
 ghost use Rattle.std.specs.List.{range_with_len};
-ghost use Rattle.ground_chain.specs.Numbers.{IsNext, ahead, count_of, number_after, expected};
+ghost use Rattle.packet_store.specs.SpacePackets.{period};
+ghost use Rattle.ground_chain.specs.Numbers.{HasCount, number_after, expected};
 ghost use Rattle.ground_chain.specs.Run.{Arrival, Judged, judge, known_after, repeated, run};
 ghost use Rattle.ground_chain.specs.Report.{is_repeat, restored_of, run_bytes, run_rows};
 ghost use Rattle.ground_chain.specs.Sound.{IsExactRun, IsSoundRun, but_for_faults};
 ghost use Rattle.ground_chain.specs.Told.{AreArrivals, run_numbers};
 
-use packet_store::PERIOD;
-
-/// An arrival that is neither the first nor a repeat has the least number above the latest one that has its count.
-pub fn numbers_are_least()
-    ensures { (latest count t : ℕ) → count < PERIOD → number_after (Some latest) count ≡ Some t → IsNext latest count t }
+/// The first arrival has its count as its number. Any later one is a repeat exactly where it has the
+/// count of the latest number, and has otherwise the least greater number with its count.
+pub fn numbers_are_the_next_ones()
+    ensures first { (count : ℕ) → count < period → (number_after None count ≡ Some count) × HasCount count count }
+    ensures repeat { (n count : ℕ) → count < period → (number_after (Some n) count ≡ None) ↔ HasCount n count }
+    ensures above { (n count t : ℕ) → count < period → number_after (Some n) count ≡ Some t → (n < t) × (t < n + period) }
+    ensures count { (n count t : ℕ) → count < period → number_after (Some n) count ≡ Some t → HasCount t count }
+    ensures least { (n count t other : ℕ) → count < period → number_after (Some n) count ≡ Some t → n < other
+        → HasCount other count → t ≤ other }
 {}
 
 /// A run over one arrival more is the run and one verdict more.

@@ -2,11 +2,14 @@
 #![tactic(auto)]
 
 mod laws;
-mod numbers;
 mod restored;
+mod unwrap;
 mod verdict;
 
-pub use laws::{every_number_once, numbers_are_least, numbers_count_the_run, numbers_rise, one_exact_run, repeats_change_nothing, runs_grow, sound_runs_agree};
-pub use numbers::Unwrap;
+pub use laws::{every_number_once, numbers_are_the_next_ones, numbers_count_the_run, numbers_rise, one_exact_run, repeats_change_nothing, runs_grow, sound_runs_agree};
 pub use restored::Restored;
+pub use unwrap::Unwrap;
 pub use verdict::{Kind, Lost, Verdict};
+
+#[cfg(test)]
+mod tests;
