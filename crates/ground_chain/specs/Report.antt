@@ -56,23 +56,23 @@ run_bytes judged = flat_map written_bytes judged
 abbrev pub header_row : List ℕ
 header_row = codes "first,last,cause,value\n"
 
--- the numbers that a row is of, their cause, and what belongs to it
-abbrev pub row : ℕ → ℕ → List ℕ → ℕ → List ℕ
-row first last cause value = decimal first ++ codes "," ++ decimal last ++ codes "," ++ cause ++ codes "," ++ decimal value ++ codes "\n"
-
 -- the row of the numbers that did not arrive
 abbrev pub lost_row : Option Lost → List ℕ
 lost_row None = []
-lost_row (Some lost) = row lost.first lost.last (codes "lost") 0
+lost_row (Some lost) = decimal lost.first ++ codes "," ++ decimal lost.last ++ codes ",lost,0\n"
+
+-- a row of one number, with its cause and what belongs to that
+abbrev pub number_row : ℕ → List ℕ → ℕ → List ℕ
+number_row t cause value = decimal t ++ codes "," ++ decimal t ++ codes "," ++ cause ++ codes "," ++ decimal value ++ codes "\n"
 
 -- the row of an arrival that was not written
 abbrev pub own_row : ℕ → Kind → List ℕ
 own_row t Written = []
 own_row t Repeat = []
-own_row t Unsynced = row t t (codes "unsynced") 0
-own_row t (Gap level) = row t t (codes "gap") level
-own_row t (Refused (Wrong bit)) = row t t (codes "wrong") bit
-own_row t (Refused (EndsEarly bit)) = row t t (codes "early") bit
+own_row t Unsynced = number_row t (codes "unsynced") 0
+own_row t (Gap level) = number_row t (codes "gap") level
+own_row t (Refused (Wrong bit)) = number_row t (codes "wrong") bit
+own_row t (Refused (EndsEarly bit)) = number_row t (codes "early") bit
 
 -- the rows of a verdict: what was lost before the arrival, and then itself
 abbrev pub verdict_rows : Verdict → List ℕ

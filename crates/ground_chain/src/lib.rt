@@ -2,6 +2,7 @@
 #![tactic(auto)]
 
 mod laws;
+mod report;
 mod restored;
 mod unwrap;
 mod verdict;
