@@ -7,5 +7,6 @@ pub mod ExactPacket
 pub mod SpelledWords
 pub mod ExactAnswers
 pub mod OneAnswer
-pub mod Padding
+pub mod PaddingBits
 pub mod Telling
+pub mod NoDirections

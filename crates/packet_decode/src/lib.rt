@@ -1,8 +1,15 @@
 //! Reading the data of packets of compressed housekeeping (CCSDS 124.0-B-1).
 #![tactic(auto)]
 
+mod bit;
+mod change;
+mod content;
 mod decoder;
+mod directions;
+mod draft;
 mod laws;
+mod mask;
+mod padding;
 
 pub use decoder::Reading;
 pub use laws::{

@@ -1,0 +1,34 @@
+-- What the values stand for by which packets are read.
+use Rattle.std.specs.Prelude.{◌≡◌, ℕ, List, Bool, length, Option, None, Some}
+use Rattle.packet_encode.specs.Forms.{Directions}
+use Rattle.packet_decode.specs.declared.draft.DataKind.{DataKind}
+use Rattle.packet_decode.specs.declared.draft.DataKind.TheVariants.{Spelled as SpelledKind, Opaque as OpaqueKind}
+use Rattle.packet_decode.specs.declared.draft.Draft.{Draft}
+use Rattle.packet_decode.specs.declared.draft.Latest.{Latest}
+use Rattle.packet_decode.specs.State.{State}
+use Rattle.packet_decode.specs.PacketReading.{Outcome, Spelled, Opaque}
+
+-- directions, where it was sent whether all recent changes are extracted
+abbrev pub directions_of : Option Bool → List Bool → Option Directions
+directions_of None predictable = None
+directions_of (Some twice) predictable = Some (record { predictable = predictable; twice = twice })
+
+-- what the parts after the first one say
+abbrev pub outcome_of : DataKind → List Bool → List Bool → Outcome
+outcome_of SpelledKind mask content = Spelled mask content
+outcome_of OpaqueKind mask content = Opaque
+
+-- the state
+abbrev pub state_by : Option ℕ → List Bool → List Bool → State
+state_by None mask content = None
+state_by (Some number) mask content = Some (record { number = number; mask = mask; content = content })
+
+abbrev pub state_of : Latest → State
+state_of latest = state_by latest.number latest.mask latest.content
+
+-- all vectors of a draft have so many places
+pub record IsDraft (f : ℕ) (draft : Draft) : Type 0 where
+  pub mask : length draft.mask ≡ f
+  pub content : length draft.content ≡ f
+  pub places : length draft.places ≡ f
+  pub spare : length draft.spare ≡ f

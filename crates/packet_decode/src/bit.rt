@@ -1,0 +1,18 @@
+//! One bit of a packet.
+
+ghost use Rattle.bit_vectors.specs.Eye.{bits_left};
+ghost use Rattle.bit_vectors.specs.Reading.{MovesOn, Gives};
+ghost use Rattle.packet_decode.specs.PacketReading.{any_bit};
+
+use bit_vectors::{BitEye, BitFault};
+
+/// Takes the next bit, whatever it is.
+pub fn take_bit(eye: &mut BitEye) -> Result<bool, BitFault>
+    ensures moves { MovesOn eye.old eye.new }
+    ensures reading { Gives (λ bit. bit) result eye.new (any_bit (bits_left eye.old)) }
+{
+    let Some(bit) = eye.take() else {
+        return Err(BitFault::EndsEarly { bit: eye.size() });
+    };
+    Ok(bit)
+}
