@@ -10,3 +10,4 @@ pub mod OneAnswer
 pub mod PaddingBits
 pub mod Telling
 pub mod NoDirections
+pub mod TakenContent

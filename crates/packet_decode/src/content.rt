@@ -110,13 +110,17 @@ fn take_kept(
     ensures reading { Tells (λ _. content.new) result eye.new (kept_at places.now known.now (bits_left eye.old)) }
 {
     let start = eye.at();
+    let left = eye.size() - start;
     content.copy_from(known);
     let taken = eye.take_bits(content);
     spare.copy_from(content);
     spare.xor_in(known);
     spare.drop_in(places);
     match spare.next_one_up(0) {
-        Some(place) => Err(BitFault::Wrong { bit: start + place }),
+        Some(place) => {
+            prove!(place < left);
+            Err(BitFault::Wrong { bit: start + place })
+        }
         None => taken,
     }
 }

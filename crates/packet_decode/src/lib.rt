@@ -4,6 +4,7 @@
 mod bit;
 mod change;
 mod content;
+mod data;
 mod decoder;
 mod directions;
 mod draft;
