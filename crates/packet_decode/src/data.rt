@@ -8,13 +8,12 @@ ghost use Rattle.bit_vectors.specs.Reading.{MovesOn};
 ghost use Rattle.packet_decode.specs.PacketReading.{Tells, unsent_at, maskless_at, masked_at, sent_at, data_at};
 ghost use Rattle.packet_decode.specs.Parts.{IsDraft, outcome_of};
 
-use crate::bit::take_bit;
+use crate::bit::{take_bit, take_one};
 use crate::change::FirstPart;
 use crate::content::{take_content, take_part, take_whole};
 use crate::draft::{DataKind, Draft};
 use crate::mask::take_mask;
 use bit_vectors::{BitEye, BitFault, Bits};
-use count_code::match_number;
 
 /// Takes the parts after the first one into the draft.
 #[tactic(auto, unfolding(crate::specs::PacketReading::data_at))]
@@ -134,7 +133,7 @@ fn take_maskless(
     let Some(mask) = deduced else {
         return Ok(DataKind::Opaque);
     };
-    match_number(eye, 0b1, 1)?;
+    take_one(eye)?;
     draft.mask.copy_from(mask);
     take_whole(eye, change, known, draft)
 }
