@@ -16,7 +16,7 @@ nor false = refl
 -- without a change
 pub no_change : (recent : List Bool) (level : ℕ) (bits : List Bool) → recent ≡ replicate (length recent) false → directions_at recent level bits ≡ Read None bits
 unfolding directions_at
-no_change recent level bits none = 
+no_change recent level bits none =
     let any : list_any (λ (bit : Bool). bit) recent ≡ false = rw none (no_one (length recent)) in
     rw any refl
 

@@ -1,5 +1,5 @@
 -- What the values stand for by which packets are read.
-use Rattle.std.specs.Prelude.{◌≡◌, ℕ, List, Bool, length, Option, None, Some}
+use Rattle.std.specs.Prelude.{◌≡◌, ℕ, ◌-◌, nat_le, List, Bool, false, length, Option, None, Some}
 use Rattle.packet_encode.specs.Forms.{Directions}
 use Rattle.packet_decode.specs.declared.draft.DataKind.{DataKind}
 use Rattle.packet_decode.specs.declared.draft.DataKind.TheVariants.{Spelled as SpelledKind, Opaque as OpaqueKind}
@@ -25,6 +25,16 @@ state_by (Some number) mask content = Some (record { number = number; mask = mas
 
 abbrev pub state_of : Latest → State
 state_of latest = state_by latest.number latest.mask latest.content
+
+-- whether the packet with the number t and this level is in reach of that with the latest number
+abbrev pub reaches : Option ℕ → ℕ → ℕ → Bool
+reaches None t level = false
+reaches (Some number) t level = nat_le (t - 1 - number) level
+
+-- the latest packet's vectors have so many places
+pub record IsLatest (f : ℕ) (latest : Latest) : Type 0 where
+  pub mask : length latest.mask ≡ f
+  pub content : length latest.content ≡ f
 
 -- all vectors of a draft have so many places
 pub record IsDraft (f : ℕ) (draft : Draft) : Type 0 where

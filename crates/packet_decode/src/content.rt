@@ -88,7 +88,13 @@ pub fn take_whole(
     };
     draft.places.copy_from(&draft.mask);
     change.widen(&mut draft.places);
-    take_kept(eye, known, &draft.places, &mut draft.content, &mut draft.spare)?;
+    take_kept(
+        eye,
+        known,
+        &draft.places,
+        &mut draft.content,
+        &mut draft.spare,
+    )?;
     Ok(DataKind::Spelled)
 }
 

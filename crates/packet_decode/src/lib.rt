@@ -10,6 +10,7 @@ mod directions;
 mod draft;
 mod laws;
 mod mask;
+mod packet;
 mod padding;
 
 pub use decoder::Reading;
