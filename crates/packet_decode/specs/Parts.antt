@@ -1,11 +1,12 @@
 -- What the values stand for by which packets are read.
-use Rattle.std.specs.Prelude.{◌≡◌, ℕ, ◌-◌, nat_le, List, Bool, false, length, Option, None, Some}
+use Rattle.std.specs.Prelude.{◌≡◌, ℕ, ◌-◌, nat_le, List, Bool, false, replicate, IfNone, length, Option, None, Some}
+use Rattle.bit_vectors.specs.Vectors.{IsVector}
 use Rattle.packet_encode.specs.Forms.{Directions}
 use Rattle.packet_decode.specs.declared.draft.DataKind.{DataKind}
 use Rattle.packet_decode.specs.declared.draft.DataKind.TheVariants.{Spelled as SpelledKind, Opaque as OpaqueKind}
 use Rattle.packet_decode.specs.declared.draft.Draft.{Draft}
 use Rattle.packet_decode.specs.declared.draft.Latest.{Latest}
-use Rattle.packet_decode.specs.State.{State}
+use Rattle.packet_decode.specs.State.{State, Change}
 use Rattle.packet_decode.specs.PacketReading.{Outcome, Spelled, Opaque}
 
 -- directions, where it was sent whether all recent changes are extracted
@@ -42,3 +43,16 @@ pub record IsDraft (f : ℕ) (draft : Draft) : Type 0 where
   pub content : length draft.content ≡ f
   pub places : length draft.places ≡ f
   pub spare : length draft.spare ≡ f
+
+-- What holds of the parts of a decoder: the latest packet and its first part, and what is filled as the next one is read.
+pub record IsDecoder (last : Latest) (first following : Change) (mask : List Bool) (scratch : Draft) : Type 0 where
+  pub vector : IsVector last.content
+  pub latest : IsLatest (length last.content) last
+  pub shown : length first.recent ≡ length last.content
+  pub next : length following.recent ≡ length last.content
+  pub deduced : length mask ≡ length last.content
+  pub draft : IsDraft (length last.content) scratch
+  pub first_mask : IfNone last.number (last.mask ≡ replicate (length last.content) false)
+  pub first_content : IfNone last.number (last.content ≡ replicate (length last.content) false)
+  pub first_recent : IfNone last.number (first.recent ≡ replicate (length last.content) false)
+  pub first_level : IfNone last.number (first.level ≡ 0)

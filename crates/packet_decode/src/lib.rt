@@ -13,7 +13,7 @@ mod mask;
 mod packet;
 mod padding;
 
-pub use decoder::Reading;
+pub use decoder::{Decoder, Reading};
 pub use laws::{
     exact_answers_are_sound, no_further_bit, one_exact_answer, one_packet, one_reading,
     opaque_fronts_go_on, reading_is_exact, sound_answers_agree, worked_packets,
