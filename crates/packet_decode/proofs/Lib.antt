@@ -11,3 +11,4 @@ pub mod PaddingBits
 pub mod Telling
 pub mod NoDirections
 pub mod TakenContent
+pub mod DecoderAnswers
