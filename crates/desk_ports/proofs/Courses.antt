@@ -11,9 +11,6 @@ use Rattle.desk_ports.specs.Courses.{Outputs, no_outputs, to_output, to_report, 
 use Rattle.desk_ports.proofs.Runs.{Ran-none, Ran-then, Ran-moves, Ran-adds, Ran-notes}
 use Rattle.desk_ports.proofs.Transfers.{prepend_known-none}
 
-put-none : (o : Outputs) → put o no_outputs ≡ o
-put-none o = λ i. record { output = append-nil o.output i; report = append-nil o.report i }
-
 pub put-put : (a b c : Outputs) → put (put a b) c ≡ put a (put b c)
 put-put a b c = λ i. record { output = append_assoc a.output b.output c.output i; report = append_assoc a.report b.report c.report i }
 
@@ -27,10 +24,7 @@ owed-behind stand course = by_ending-put course.ending stand course.before cours
 pub behind-behind : {F : Type 0} (a b : Outputs) (course : Course F) → behind a (behind b course) ≡ behind (put a b) course
 behind-behind a b course = ap (λ (before : Outputs). record course { before = before }) (sym (put-put a b course.before))
 
--- what stands is the front of itself, of more, and behind the same bytes
-pub AreFronts-more : (a b : Outputs) → AreFronts a (put a b)
-AreFronts-more a b = record { rest = b; joined = refl }
-
+-- a front is a front of more, and behind the same bytes
 pub AreFronts-then : (a b c : Outputs) → AreFronts a b → AreFronts a (put b c)
 AreFronts-then a b c p = record { rest = put p.rest c; joined = sym (put-put a p.rest c) ∙ ap (λ o. put o c) p.joined }
 

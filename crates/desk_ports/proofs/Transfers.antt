@@ -10,10 +10,6 @@ use Rattle.desk_ports.specs.declared.desk.Outlet.{Outlet}
 use Rattle.desk_ports.specs.declared.desk.Outlet.TheVariants as outlet
 use Rattle.desk_ports.specs.Meanings.{Meanings, Counts, Moves, Adds, AddsFront, IsReadyIn, IsReadyOut, Rises, left, with_left, made, with_made}
 
-with_left-same : (m : Meanings) (i : Inlet) → m ≡ with_left m i (left m i)
-with_left-same m inlet.Side = refl
-with_left-same m inlet.Main = refl
-
 with_left-with_left : (m : Meanings) (i : Inlet) (a b : Option (List ℕ)) → with_left (with_left m i a) i b ≡ with_left m i b
 with_left-with_left m inlet.Side a b = refl
 with_left-with_left m inlet.Main a b = refl
@@ -21,10 +17,6 @@ with_left-with_left m inlet.Main a b = refl
 IsReadyIn-with_left : (m : Meanings) (i : Inlet) (a : Option (List ℕ)) → IsReadyIn m i → IsReadyIn (with_left m i a) i
 IsReadyIn-with_left m inlet.Side a h = h
 IsReadyIn-with_left m inlet.Main a h = h
-
-with_made-same : (m : Meanings) (o : Outlet) → m ≡ with_made m o (made m o)
-with_made-same m outlet.Main = refl
-with_made-same m outlet.Report = refl
 
 with_made-with_made : (m : Meanings) (o : Outlet) (a b : Option (List ℕ)) → with_made (with_made m o a) o b ≡ with_made m o b
 with_made-with_made m outlet.Main a b = refl

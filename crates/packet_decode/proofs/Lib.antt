@@ -7,5 +7,8 @@ pub mod ExactPacket
 pub mod SpelledWords
 pub mod ExactAnswers
 pub mod OneAnswer
-pub mod Padding
+pub mod PaddingBits
 pub mod Telling
+pub mod NoDirections
+pub mod TakenContent
+pub mod DecoderAnswers

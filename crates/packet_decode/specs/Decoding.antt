@@ -1,10 +1,13 @@
--- What a decoder is: the number of places of its vectors, and the latest written packet.
+-- What a decoder is: the number of places of its vectors, the latest written packet, and the recent changes
+-- of its mask and its effective robustness level, which are zero before the first.
 use Rattle.std.specs.Prelude.{ℕ, false, List, Bool, replicate, Option, None, Some}
 use Rattle.packet_decode.specs.State.{State}
 
 pub record Decoding : Type 0 where
   pub places : ℕ
   pub state : State
+  pub recent : List Bool
+  pub level : ℕ
 
 -- the number of the latest written packet
 abbrev pub number_of : State → Option ℕ

@@ -2,4 +2,5 @@ pub mod State
 pub mod Spelling
 pub mod Answers
 pub mod PacketReading
+pub mod Parts
 pub mod Decoding

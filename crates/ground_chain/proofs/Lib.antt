@@ -1,0 +1,5 @@
+mod Distances
+mod Runs
+mod Sound
+mod Told
+mod Counted

@@ -1,0 +1,5 @@
+pub mod Numbers
+pub mod Run
+pub mod Sound
+pub mod Report
+pub mod Told

@@ -1,0 +1,129 @@
+-- What is written of a run: the restored packets and the report, and the numbers of the report's last row.
+use Rattle.std.specs.Prelude.{ℕ, ◌+◌, ◌-◌, Bool, true, false, if◌then◌else◌, List, [], ◌++◌, length, codes, Option, Some, None}
+use Rattle.std.specs.Fmt.{decimal}
+use Rattle.std.specs.List.{flat_map, count_by, sum_by}
+use Rattle.bit_vectors.specs.declared.fault.BitFault.TheVariants.{Wrong, EndsEarly}
+use Rattle.bit_vectors.specs.Vectors.{vector_bytes}
+use Rattle.packet_decode.specs.State.{State}
+use Rattle.ground_chain.specs.declared.verdict.Lost.{Lost}
+use Rattle.ground_chain.specs.declared.verdict.Kind.{Kind}
+use Rattle.ground_chain.specs.declared.verdict.Kind.TheVariants.{Written, Repeat, Unsynced, Gap, Refused}
+use Rattle.ground_chain.specs.declared.verdict.Verdict.{Verdict}
+use Rattle.ground_chain.specs.declared.restored.Restored.{Restored}
+use Rattle.ground_chain.specs.Run.{Judged}
+
+-- ---- kinds of verdicts
+
+abbrev pub is_written : Kind → Bool
+is_written Written = true
+is_written Repeat = false
+is_written Unsynced = false
+is_written (Gap level) = false
+is_written (Refused fault) = false
+
+abbrev pub is_repeat : Kind → Bool
+is_repeat Written = false
+is_repeat Repeat = true
+is_repeat Unsynced = false
+is_repeat (Gap level) = false
+is_repeat (Refused fault) = false
+
+-- it arrived for the first time and is not written
+abbrev pub is_unwritten : Kind → Bool
+is_unwritten Written = false
+is_unwritten Repeat = false
+is_unwritten Unsynced = true
+is_unwritten (Gap level) = true
+is_unwritten (Refused fault) = true
+
+-- ---- restored packets
+
+abbrev pub content_bytes : State → List ℕ
+content_bytes None = []
+content_bytes (Some packet) = vector_bytes packet.content
+
+-- the content of a written packet, in whole bytes with spare bits 0, and nothing for any other arrival
+abbrev pub written_bytes : Judged → List ℕ
+written_bytes judged = if is_written judged.verdict.kind then content_bytes judged.after.state else []
+
+-- the restored packets of a run
+abbrev pub run_bytes : List Judged → List ℕ
+run_bytes judged = flat_map written_bytes judged
+
+-- ---- report
+
+-- the report's first line
+abbrev pub header_row : List ℕ
+header_row = codes "first,last,cause,value\n"
+
+-- the row of the numbers that did not arrive
+abbrev pub lost_row : Option Lost → List ℕ
+lost_row None = []
+lost_row (Some lost) = decimal lost.first ++ codes "," ++ decimal lost.last ++ codes ",lost,0\n"
+
+-- a row of one number, with its cause and what belongs to that
+abbrev pub number_row : ℕ → List ℕ → ℕ → List ℕ
+number_row t cause value = decimal t ++ codes "," ++ decimal t ++ codes "," ++ cause ++ codes "," ++ decimal value ++ codes "\n"
+
+-- the row of an arrival that was not written
+abbrev pub own_row : ℕ → Kind → List ℕ
+own_row t Written = []
+own_row t Repeat = []
+own_row t Unsynced = number_row t (codes "unsynced") 0
+own_row t (Gap level) = number_row t (codes "gap") level
+own_row t (Refused (Wrong bit)) = number_row t (codes "wrong") bit
+own_row t (Refused (EndsEarly bit)) = number_row t (codes "early") bit
+
+-- the rows of a verdict: what was lost before the arrival, and then itself
+abbrev pub verdict_rows : Verdict → List ℕ
+verdict_rows verdict = lost_row verdict.lost ++ own_row verdict.t verdict.kind
+
+-- the rows of a run, arrival by arrival
+abbrev pub run_rows : List Judged → List ℕ
+run_rows judged = flat_map (λ j. verdict_rows j.verdict) judged
+
+-- ---- numbers
+
+abbrev pub lost_count : Option Lost → ℕ
+lost_count None = 0
+lost_count (Some lost) = lost.last - lost.first + 1
+
+-- how many numbers a verdict lists as not written
+abbrev pub listed_by : Verdict → ℕ
+listed_by verdict = lost_count verdict.lost + (if is_unwritten verdict.kind then 1 else 0)
+
+-- The numbers of a run: its arrivals, the written packets, the repeats, and the packets up to the last arrival that are
+-- not written.
+abbrev pub restored_of : List Judged → Restored
+restored_of judged = record {
+  packets = length judged;
+  written = count_by (λ j. is_written j.verdict.kind) judged;
+  repeats = count_by (λ j. is_repeat j.verdict.kind) judged;
+  listed = sum_by (λ j. listed_by j.verdict) judged;
+}
+
+-- the numbers of one part of a run and of another
+abbrev pub added : Restored → Restored → Restored
+added first more = record {
+  packets = first.packets + more.packets;
+  written = first.written + more.written;
+  repeats = first.repeats + more.repeats;
+  listed = first.listed + more.listed;
+}
+
+-- the numbers of one arrival
+abbrev pub restored_by : Verdict → Restored
+restored_by verdict = record {
+  packets = 1;
+  written = if is_written verdict.kind then 1 else 0;
+  repeats = if is_repeat verdict.kind then 1 else 0;
+  listed = listed_by verdict;
+}
+
+-- the report's last row: arrivals, written packets and repeats
+abbrev pub end_row : Restored → List ℕ
+end_row r = codes "end," ++ decimal r.packets ++ codes "," ++ decimal r.written ++ codes "," ++ decimal r.repeats ++ codes "\n"
+
+-- the report of a run
+abbrev pub run_report : List Judged → List ℕ
+run_report judged = header_row ++ run_rows judged ++ end_row (restored_of judged)

@@ -1,0 +1,102 @@
+-- The run over a list of arrivals: a verdict for each, and what is known after it.
+use Rattle.std.specs.Prelude.{ℕ, ◌-◌, nat_lt, if◌then◌else◌, List, [], ◌∷◌, Bool, Option, Some, None, Result, Ok, Err, unwrap_or}
+use Rattle.bit_vectors.specs.declared.fault.BitFault.{BitFault}
+use Rattle.bit_vectors.specs.Reading.{Reading, Read, WrongBit, TooShort}
+use Rattle.bit_vectors.specs.Vectors.{bits_of}
+use Rattle.packet_decode.specs.declared.decoder.Reading.{Reading as Answer}
+use Rattle.packet_decode.specs.declared.decoder.Reading.TheVariants as answer
+use Rattle.packet_decode.specs.State.{State}
+use Rattle.packet_decode.specs.PacketReading.{Outcome, Spelled, Opaque, Found, whole_packet_at, answer_of}
+use Rattle.ground_chain.specs.declared.verdict.Lost.{Lost}
+use Rattle.ground_chain.specs.declared.verdict.Kind.{Kind}
+use Rattle.ground_chain.specs.declared.verdict.Kind.TheVariants.{Written, Repeat, Unsynced, Gap, Refused}
+use Rattle.ground_chain.specs.declared.verdict.Verdict.{Verdict}
+use Rattle.ground_chain.specs.Numbers.{number_after, expected}
+
+-- an arrival: the sequence count and the data bytes of a packet of the chosen APID
+pub record Arrival : Type 0 where
+  pub count : ℕ
+  pub body : List ℕ
+
+-- what is known between two arrivals: the number of the latest one, and the latest written packet
+pub record Known : Type 0 where
+  pub latest : Option ℕ
+  pub state : State
+
+-- before the first arrival
+abbrev pub nothing_known : Known
+nothing_known = record { latest = None; state = None }
+
+-- an arrival's verdict, and what is known after it
+pub record Judged : Type 0 where
+  pub verdict : Verdict
+  pub after : Known
+
+-- ---- one arrival
+
+-- the numbers from this one up to the one before t, where there are any
+abbrev pub lost_from : ℕ → ℕ → Option Lost
+lost_from first t = if nat_lt first t then Some (record { first = first; last = t - 1 }) else None
+
+abbrev pub kind_of : Result Answer BitFault → Kind
+kind_of (Ok answer.Written) = Written
+kind_of (Ok answer.Unsynced) = Unsynced
+kind_of (Ok (answer.Gap level)) = Gap level
+kind_of (Err fault) = Refused fault
+
+-- the verdict of an arrival that is no repeat: what was lost before it, its number, and the answer to its data
+abbrev pub verdict_of : Option ℕ → ℕ → Result Answer BitFault → Verdict
+verdict_of latest t answer = record { lost = lost_from (expected latest) t; t = t; kind = kind_of answer }
+
+-- a repeat has the latest number, its data are not read, and nothing changes
+abbrev pub repeated : Known → Judged
+repeated known = record { verdict = record { lost = None; t = unwrap_or known.latest 0; kind = Repeat }; after = known }
+
+abbrev pub state_with : State → ℕ → Outcome → State
+state_with state t (Spelled mask content) = Some (record { number = t; mask = mask; content = content })
+state_with state t Opaque = state
+
+-- what was read of all bits, as the state after it: the packet with the number t where one is spelled, else as before
+abbrev pub state_by : State → ℕ → Reading Found → State
+state_by state t (Read found rest) = state_with state t found.outcome
+state_by state t (WrongBit rest) = state
+state_by state t TooShort = state
+
+-- the state after the bits of the packet with the number t
+abbrev pub state_after : ℕ → State → ℕ → List Bool → State
+state_after f state t bits = state_by state t (whole_packet_at f state t bits)
+
+-- an arrival with this number is read
+abbrev pub read_as : ℕ → Known → List ℕ → ℕ → Judged
+read_as f known body t = record {
+  verdict = verdict_of known.latest t (answer_of f known.state t (bits_of body));
+  after = record { latest = Some t; state = state_after f known.state t (bits_of body) };
+}
+
+abbrev pub judged_by : ℕ → Known → List ℕ → Option ℕ → Judged
+judged_by f known body None = repeated known
+judged_by f known body (Some t) = read_as f known body t
+
+-- an arrival, by its number
+abbrev pub judge : ℕ → Known → Arrival → Judged
+judge f known arrival = judged_by f known arrival.body (number_after known.latest arrival.count)
+
+-- ---- all arrivals
+
+abbrev pub run_from : ℕ → Known → List Arrival → List Judged
+run_from f known [] = []
+run_from f known (arrival ∷ arrivals) =
+    let judged = judge f known arrival in
+    judged ∷ run_from f judged.after arrivals
+
+-- the run over all arrivals
+abbrev pub run : ℕ → List Arrival → List Judged
+run f arrivals = run_from f nothing_known arrivals
+
+abbrev pub known_from : ℕ → Known → List Arrival → Known
+known_from f known [] = known
+known_from f known (arrival ∷ arrivals) = known_from f (judge f known arrival).after arrivals
+
+-- what is known after all arrivals
+abbrev pub known_after : ℕ → List Arrival → Known
+known_after f arrivals = known_from f nothing_known arrivals

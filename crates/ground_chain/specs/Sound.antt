@@ -1,0 +1,78 @@
+-- Runs whose answers are right: soundly, where the bit of a fault may come later than the first at which it can be seen,
+-- or exactly.
+use Rattle.std.specs.Prelude.{◌≡◌, ℕ, List, [], ◌∷◌, Bool, Option, Some, None, Result, Ok, Err, ⊤}
+use Rattle.bit_vectors.specs.declared.fault.BitFault.{BitFault}
+use Rattle.bit_vectors.specs.declared.fault.BitFault.TheVariants.{Wrong}
+use Rattle.bit_vectors.specs.Vectors.{bits_of}
+use Rattle.packet_encode.specs.Forms.{Form}
+use Rattle.packet_decode.specs.declared.decoder.Reading.{Reading as Answer}
+use Rattle.packet_decode.specs.declared.decoder.Reading.TheVariants.{Written, Unsynced, Gap}
+use Rattle.packet_decode.specs.State.{State}
+use Rattle.packet_decode.specs.Spelling.{Spells}
+use Rattle.packet_decode.specs.Answers.{IsSoundAnswer, IsExactAnswer}
+use Rattle.ground_chain.specs.declared.verdict.Kind.{Kind}
+use Rattle.ground_chain.specs.declared.verdict.Kind.TheVariants as kind
+use Rattle.ground_chain.specs.Numbers.{number_after}
+use Rattle.ground_chain.specs.Run.{Arrival, Known, Judged, nothing_known, verdict_of, repeated}
+
+-- which answers are right under a state, for the bits of the packet with the number t
+abbrev pub Rightness : Type 1
+Rightness = ℕ → State → ℕ → List Bool → Result Answer BitFault → Type 0
+
+-- the next state is the packet that the bits spell
+pub record IsSpelled (f : ℕ) (state : State) (t : ℕ) (bits : List Bool) (next : State) : Type 0 where
+  pub form : Form
+  pub mask : List Bool
+  pub content : List Bool
+  pub spells : Spells f state t bits form mask content
+  pub is : next ≡ Some (record { number = t; mask = mask; content = content })
+
+-- the state after an answer: a written packet is the latest one, and all other answers leave the state
+abbrev pub Follows : ℕ → State → ℕ → List Bool → State → Result Answer BitFault → Type 0
+Follows f state t bits next (Ok Written) = IsSpelled f state t bits next
+Follows f state t bits next (Ok Unsynced) = next ≡ state
+Follows f state t bits next (Ok (Gap level)) = next ≡ state
+Follows f state t bits next (Err fault) = next ≡ state
+
+-- an arrival with the number t has a verdict with a right answer
+pub record IsReadAs (IsRight : Rightness) (f : ℕ) (known : Known) (body : List ℕ) (judged : Judged) (t : ℕ) : Type 0 where
+  pub answer : Result Answer BitFault
+  pub right : IsRight f known.state t (bits_of body) answer
+  pub verdict : judged.verdict ≡ verdict_of known.latest t answer
+  pub latest : judged.after.latest ≡ Some t
+  pub state : Follows f known.state t (bits_of body) judged.after.state answer
+
+abbrev pub IsJudgedBy : Rightness → ℕ → Known → List ℕ → Judged → Option ℕ → Type 0
+IsJudgedBy IsRight f known body judged None = judged ≡ repeated known
+IsJudgedBy IsRight f known body judged (Some t) = IsReadAs IsRight f known body judged t
+
+abbrev pub IsJudged : Rightness → ℕ → Known → Arrival → Judged → Type 0
+IsJudged IsRight f known arrival judged = IsJudgedBy IsRight f known arrival.body judged (number_after known.latest arrival.count)
+
+abbrev pub AreJudged : Rightness → ℕ → Known → List Arrival → List Judged → Type 0
+AreJudged IsRight f known [] [] = ⊤
+AreJudged IsRight f known [] (judged ∷ more) = ⊥
+AreJudged IsRight f known (arrival ∷ arrivals) [] = ⊥
+AreJudged IsRight f known (arrival ∷ arrivals) (judged ∷ more) = IsJudged IsRight f known arrival judged × AreJudged IsRight f judged.after arrivals more
+
+-- a run over all arrivals with sound answers
+abbrev pub IsSoundRun : ℕ → List Arrival → List Judged → Type 0
+IsSoundRun f arrivals judged = AreJudged IsSoundAnswer f nothing_known arrivals judged
+
+-- with exact answers
+abbrev pub IsExactRun : ℕ → List Arrival → List Judged → Type 0
+IsExactRun f arrivals judged = AreJudged IsExactAnswer f nothing_known arrivals judged
+
+-- ---- where sound runs differ
+
+-- a kind, where all faults of refused packets are taken for one
+abbrev pub without_fault : Kind → Kind
+without_fault kind.Written = kind.Written
+without_fault kind.Repeat = kind.Repeat
+without_fault kind.Unsynced = kind.Unsynced
+without_fault (kind.Gap level) = kind.Gap level
+without_fault (kind.Refused fault) = kind.Refused (Wrong 0)
+
+-- the same of a verdict
+abbrev pub but_for_faults : Judged → Judged
+but_for_faults judged = record judged { verdict = record judged.verdict { kind = without_fault judged.verdict.kind } }
