@@ -1,9 +1,9 @@
 ghost use Rattle.std.specs.Prelude.{◌≡◌, ◌≤◌, ◌+◌, ◌-◌, ◌^◌, min, length, IsTrue, IsErr, IfOk, OnOk, OnErr};
-ghost use Rattle.desk_ports.specs.Meanings.{nothing_told, Counts};
+ghost use Rattle.desk_ports.specs.Meanings.{nothing_told, Counts, HasWriteCause};
 
 use crate::desk::{Desk, Failed, Inlet, Outlet};
 use std::fs::File;
-use std::io::{Read, Stdin, Stdout, Write};
+use std::io::{BufWriter, Read, Stdin, Stdout, Write};
 use std::{fs, io};
 
 // Where the bytes of an inlet come from.
@@ -40,12 +40,15 @@ impl Source {
     }
 }
 
-// Where the bytes of an outlet go.
+/// How many bytes of an outlet are gathered before they are handed to the system.
+const GATHERED: usize = 131_072;
+
+// Where the bytes of an outlet go. They are gathered, and handed to the system when there are enough.
 #[derive(Drop)]
 enum Sink {
     Nothing,
-    StandardOutput(Stdout),
-    File(File),
+    StandardOutput(BufWriter<Stdout>),
+    File(BufWriter<File>),
 }
 
 impl Sink {
@@ -56,9 +59,11 @@ impl Sink {
         ensures { IfOk result (λ sink. IsTrue (is_opened_sink sink)) }
     {
         if name == "-" {
-            return Ok(Sink::StandardOutput(rt.stdout()));
+            let stdout = BufWriter::with_capacity(rt.alloc(), GATHERED, rt.stdout())?;
+            return Ok(Sink::StandardOutput(stdout));
         }
-        Ok(Sink::File(fs::create(rt, name)?))
+        let file = BufWriter::with_capacity(rt.alloc(), GATHERED, fs::create(rt, name)?)?;
+        Ok(Sink::File(file))
     }
 
     fn write(&mut self, bytes: &[u8]) -> io::Result<usize>
@@ -73,12 +78,12 @@ impl Sink {
         }
     }
 
+    // Hands everything to the system that was gathered, where the outlet was opened.
     fn flush(&mut self) -> io::Result<()>
-        requires { IsTrue (is_opened_sink self.old) }
-        ensures { IsTrue (is_opened_sink self.new) }
+        ensures { is_opened_sink self.new ≡ is_opened_sink self.old }
     {
         match self {
-            Sink::Nothing => unreachable!(),
+            Sink::Nothing => Ok(()),
             Sink::StandardOutput(stdout) => stdout.flush(),
             Sink::File(file) => file.flush(),
         }
@@ -88,7 +93,8 @@ impl Sink {
 /// The desk over real files. The name `-` is standard input for an inlet and standard output for an outlet.
 ///
 /// It tells no content, since no clause can say what a file holds. Each error of the system is a fault,
-/// and so is a write that takes nothing.
+/// and so is a write that takes nothing. What is written is gathered, up to 131,072 bytes for each outlet, and
+/// handed to the system when there is no more room, at `finish` and by `hand_over`.
 #[derive(Drop)]
 pub struct FileDesk<'a> {
     rt: &'a HostRuntime,
@@ -115,6 +121,17 @@ impl<'a> FileDesk<'a> {
             read_faults: 0,
             write_faults: 0,
         }
+    }
+
+    /// Hands everything to the system that was gathered for both outlets. A run that was refused leaves its outputs
+    /// unfinished; after this call they have what it wrote.
+    pub fn hand_over(&mut self) -> Result<(), Failed>
+        ensures meaning { ⟦<FileDesk<'a> as Desk>⟧.meaning self.new ≡ ⟦<FileDesk<'a> as Desk>⟧.meaning self.old }
+        ensures cause { HasWriteCause (⟦<FileDesk<'a> as Desk>⟧.counts self.old) (⟦<FileDesk<'a> as Desk>⟧.counts self.new) result }
+    {
+        let output = self.output.flush();
+        let report = self.report.flush();
+        self.or_write_fault(output.and(report))
     }
 
     // The answer of a call that reads. An error of the system is a fault.

@@ -55,6 +55,10 @@ fn answer(rt: &HostRuntime, words: &[String]) -> ExitCode {
         _ => {
             let mut desk = FileDesk::new(rt);
             let status = pocket(rt.alloc(), first_words(words), &mut desk);
+            if status != Status::Done {
+                // The refusal is the answer, whether or not what stands can be handed over.
+                let _ = desk.hand_over();
+            }
             ended(rt, &status)
         }
     }
