@@ -46,6 +46,13 @@ fn copies_in_memory(rt: HostRuntime) -> Result<(), Fail> {
     Ok(())
 }
 
+// Writes to an output that is not finished.
+fn left_unfinished(desk: &mut FileDesk<'_>) -> Result<(), Failed> {
+    desk.open_out(Outlet::Main, "copy")?;
+    write_all(desk, Outlet::Main, &ROW[..3])?;
+    desk.hand_over()
+}
+
 #[test]
 fn a_copy_of_a_file(rt: HostRuntime) -> Result<(), Fail> {
     fs::write(&rt, "row", ROW.as_slice())?;
@@ -55,6 +62,9 @@ fn a_copy_of_a_file(rt: HostRuntime) -> Result<(), Fail> {
     assert_eq!(rt; copied(&mut desk, "no such file", "copy"), Err(Failed));
     let copy = fs::read(&rt, "copy")?;
     assert_eq!(rt; copy.as_slice(), ROW.as_slice());
+    assert_eq!(rt; left_unfinished(&mut desk), Ok(()));
+    let unfinished = fs::read(&rt, "copy")?;
+    assert_eq!(rt; unfinished.as_slice(), &ROW[..3]);
     fs::remove_file(&rt, "row")?;
     fs::remove_file(&rt, "copy")?;
     Ok(())
