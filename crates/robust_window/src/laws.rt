@@ -1,0 +1,1 @@
+//! What the definitions of recent changes, effective robustness level and 'twice' mean.

@@ -1,0 +1,5 @@
+//! The recent changes of a mask, the effective robustness level and 'twice', from the latest sixteen changes.
+#![tactic(auto)]
+
+mod laws;
+mod scan;
