@@ -1,1 +1,4 @@
+pub mod Ranges
 pub mod Scanning
+pub mod Levels
+pub mod Standing

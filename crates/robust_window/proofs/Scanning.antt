@@ -42,18 +42,3 @@ gathered-more f changes count len =
     ap (λ b. list_any (has place) (range_with_len 0 count) || b) (sym (or_false (has place count)))
     ∙ sym (list_any-append (has place) (range_with_len 0 count) (count ∷ []))
     ∙ ap (list_any (has place)) (sym (range_push 0 count count (omega arith)) ∙ ap (range_with_len 0) (sym (add-one count))))
-
--- ---- counting
-
-pub count_push : (p : ℕ → Bool) (a n j : ℕ) → a + n ≡ j → count_by p (range_with_len a (n + 1)) ≡ count_by p (range_with_len a n) + cond (p j) 1 0
-count_push p a n j at =
-    ap (λ k. count_by p (range_with_len a k)) (add-one n)
-    ∙ ap (count_by p) (range_push a n j at)
-    ∙ sum_by-append (λ x. cond (p x) 1 0) (range_with_len a n) (j ∷ [])
-    ∙ ap (λ k. count_by p (range_with_len a n) + k) (add-zero_left (cond (p j) 1 0))
-  where
-    add-zero_left : (k : ℕ) → 0 + k ≡ k
-    add-zero_left k = omega arith
-
-pub count-le : (p : ℕ → Bool) (a n : ℕ) → count_by p (range_with_len a n) ≤ n
-count-le p a n = omega (arith, count_by-le-length p (range_with_len a n), length-range_with_len a n)

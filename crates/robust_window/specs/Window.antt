@@ -1,5 +1,6 @@
 -- What a window keeps, and for which changes it stands.
 use Rattle.std.specs.Prelude.{◌≡◌, ℕ, ◌-◌, ◌<◌, ◌≤◌, Bool, false, List, [], length, replicate, All, slice_index_or}
+use Rattle.circular_buffer.specs.Buffer.{Buffer}
 use Rattle.bit_vectors.specs.Vectors.{IsVector}
 use Rattle.robust_window.specs.Changes.{MaskStep, IsQuiet, latest_change, mask_step, takes_new_mask, recent_of, level_of, twice_of}
 
@@ -21,31 +22,36 @@ change_back changes back = slice_index_or changes (15 - back) []
 abbrev pub new_mask_back : List Bool → ℕ → Bool
 new_mask_back new_masks back = slice_index_or new_masks (15 - back) false
 
--- What the window keeps is what these steps give at the latest one. Before the first there are no changes.
+-- A value for each of the latest sixteen of so many steps, by how many steps back it is, and a value that stands for none
+-- where there are fewer steps.
+pub record HoldsLatest {A : Type 0} (back_value : ℕ → A) (value : ℕ → A) (none : A) (count : ℕ) : Type 0 where
+  pub same : (back : ℕ) → back < 16 → back < count → back_value back ≡ value (count - 1 - back)
+  pub past : (back : ℕ) → back < 16 → count ≤ back → back_value back ≡ none
+
+abbrev pub HoldsChanges : List MaskStep → List (List Bool) → ℕ → Type 0
+HoldsChanges steps changes places = HoldsLatest (change_back changes) (λ s. (mask_step steps s).change) (replicate places false) (length steps)
+
+abbrev pub HoldsNewMasks : List MaskStep → List Bool → Type 0
+HoldsNewMasks steps new_masks = HoldsLatest (new_mask_back new_masks) (takes_new_mask steps) false (length steps)
+
+-- What the window keeps is what these steps give at the latest one.
 pub record StandsFor (steps : List MaskStep) (value : Kept) : Type 0 where
-  pub change : (back : ℕ) → back < 16 → back < length steps →
-      change_back value.changes back ≡ (mask_step steps (latest_change steps - back)).change
-  pub no_change : (back : ℕ) → back < 16 → length steps ≤ back →
-      change_back value.changes back ≡ replicate (length value.recent) false
-  pub new_mask : (back : ℕ) → back < 16 → back < length steps →
-      new_mask_back value.new_masks back ≡ takes_new_mask steps (latest_change steps - back)
-  pub no_new_mask : (back : ℕ) → back < 16 → length steps ≤ back → new_mask_back value.new_masks back ≡ false
+  pub changes : HoldsChanges steps value.changes (length value.recent)
+  pub new_masks : HoldsNewMasks steps value.new_masks
   pub first : IsQuiet steps 0
   pub recent : 0 < length steps → value.recent ≡ recent_of steps (latest_change steps)
   pub level : 0 < length steps → value.level ≡ level_of steps (latest_change steps)
   pub twice : 0 < length steps → value.twice ≡ twice_of steps (latest_change steps)
   pub taken : value.taken ≡ length steps
 
--- sixteen changes, each a vector of one length, and sixteen flags
-pub record AreLatest (changes : List (List Bool)) (new_masks : List Bool) (places : ℕ) : Type 0 where
-  pub changes_len : length changes ≡ 16
-  pub places_are : All (λ change. length change ≡ places) changes
-  pub new_masks_len : length new_masks ≡ 16
-
--- the parts of a window agree, and its numbers have their bounds
-pub record IsWindow (changes : List (List Bool)) (new_masks recent : List Bool) (level robust taken : ℕ) : Type 0 where
+-- the parts of a window agree: sixteen changes and flags, vectors of one length, and numbers within their bounds
+pub record IsWindow (changes : Buffer (List Bool)) (new_masks : Buffer Bool) (recent : List Bool) (level robust taken : ℕ) : Type 0 where
   pub vector : IsVector recent
-  pub latest : AreLatest changes new_masks (length recent)
+  pub changes_full : changes.capacity ≡ 16
+  pub changes_len : length changes.items ≡ 16
+  pub places : All (λ change. length change ≡ length recent) changes.items
+  pub new_masks_full : new_masks.capacity ≡ 16
+  pub new_masks_len : length new_masks.items ≡ 16
   pub level_most : level ≤ 15
   pub robust_most : robust ≤ 7
   pub taken_most : taken ≤ 4294967296

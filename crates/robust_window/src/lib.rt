@@ -3,3 +3,6 @@
 
 mod laws;
 mod scan;
+mod window;
+
+pub use window::Window;

@@ -1,7 +1,7 @@
 use Rattle.std.proofs.Common.{◌≡◌, ℕ, ◌+◌, ap, sym, ◌∙◌, arith, true, false, cond}
 use Rattle.std.specs.List.{count_by, range_with_len}
 use Rattle.robust_window.specs.Window.{new_mask_back}
-use Rattle.robust_window.proofs.Scanning.{count-le, count_push}
+use Rattle.robust_window.proofs.Ranges.{count-le, count_push}
 use Rattle.robust_window.proofs.scan.has_two.Goals as goal
 use Rattle.robust_window.proofs.scan.has_two.Goals.{then-new_mask_back, else-new_mask_back}
 
