@@ -1,4 +1,5 @@
+pub mod Levels
+pub mod OfHistories
 pub mod Ranges
 pub mod Scanning
-pub mod Levels
 pub mod Standing

@@ -1,5 +1,5 @@
 -- Tests over the numbers from one up to another.
-use Rattle.std.proofs.Common.{max, ◌≡◌, ◌≢◌, ℕ, zero, suc, ◌+◌, ◌-◌, ◌<◌, ◌≤◌, Bool, true, false, cond, List, [], ◌∷◌, ◌++◌, Option, Some, length, get_or, refl, sym, ap, ◌∙◌, ◌⊎◌, inl, inr, arith, add-one}
+use Rattle.std.proofs.Common.{max, subst, ◌≡◌, ◌≢◌, ℕ, zero, suc, ◌+◌, ◌-◌, ◌<◌, ◌≤◌, Bool, true, false, cond, List, [], ◌∷◌, ◌++◌, Option, Some, length, get_or, refl, sym, ap, ◌∙◌, ◌⊎◌, inl, inr, arith, add-one}
 use Rattle.std.specs.Prelude.{reverse, find}
 use Rattle.std.specs.List.{count_by, list_all, list_any, range_with_len}
 use Rattle.std.specs.Cmp.{both_ways}
@@ -41,7 +41,7 @@ all_with_len p a (suc n) all =
 pub list_all-from_range : (p : ℕ → Bool) (from to : ℕ) → ((s : ℕ) → from ≤ s → s < to → p s ≡ true) → list_all p (steps_from from to) ≡ true
 list_all-from_range p from to all = all_with_len p from (to - from) (λ s ge lt. all s ge (omega arith))
 
-true_or : (b : Bool) → (b ≡ true) ⊎ (b ≡ false)
+pub true_or : (b : Bool) → (b ≡ true) ⊎ (b ≡ false)
 true_or true = inl refl
 true_or false = inr refl
 
@@ -62,6 +62,84 @@ count_push p a n j at =
 
 pub count-le : (p : ℕ → Bool) (a n : ℕ) → count_by p (range_with_len a n) ≤ n
 count-le p a n = omega (arith, count_by-le-length p (range_with_len a n), length-range_with_len a n)
+
+-- two of the numbers from one up to another pass
+pub record TwoPass (p : ℕ → Bool) (from to : ℕ) : Type 0 where
+  pub first : ℕ
+  pub second : ℕ
+  pub from_is : from ≤ first
+  pub apart : first < second
+  pub to_is : second < to
+  pub first_passes : p first ≡ true
+  pub second_passes : p second ≡ true
+
+count-cons : (p : ℕ → Bool) (a n : ℕ) → count_by p (range_with_len a (suc n)) ≡ cond (p a) 1 0 + count_by p (range_with_len (a + 1) n)
+count-cons p a n = sum_by-cons (λ x. cond (p x) 1 0) a (range_with_len (a + 1) n)
+
+count-yes : (p : ℕ → Bool) (a n : ℕ) → p a ≡ true → count_by p (range_with_len a (suc n)) ≡ 1 + count_by p (range_with_len (a + 1) n)
+count-yes p a n pass = count-cons p a n ∙ ap (λ b. cond b 1 0 + count_by p (range_with_len (a + 1) n)) pass
+
+count-no : (p : ℕ → Bool) (a n : ℕ) → p a ≡ false → count_by p (range_with_len a (suc n)) ≡ 0 + count_by p (range_with_len (a + 1) n)
+count-no p a n fail = count-cons p a n ∙ ap (λ b. cond b 1 0 + count_by p (range_with_len (a + 1) n)) fail
+
+count_rest : (p : ℕ → Bool) (a n : ℕ) → count_by p (range_with_len (a + 1) n) ≤ count_by p (range_with_len a (suc n))
+count_rest p a n = omega (arith, count-cons p a n)
+
+one_passes : (p : ℕ → Bool) (a n : ℕ) → 1 ≤ count_by p (range_with_len a n) → (s : ℕ) × (a ≤ s) × (s < a + n) × (p s ≡ true)
+one_passes p a zero some = absurd (omega arith)
+one_passes p a (suc n) some = one_in (true_or (p a)) (one_passes p (a + 1) n)
+  where
+    one_in : (p a ≡ true) ⊎ (p a ≡ false) → (1 ≤ count_by p (range_with_len (a + 1) n) → (s : ℕ) × (a + 1 ≤ s) × (s < a + 1 + n) × (p s ≡ true)) → (s : ℕ) × (a ≤ s) × (s < a + suc n) × (p s ≡ true)
+    one_in (inl pass) later = (a, omega arith, omega arith, pass)
+    one_in (inr fail) later =
+        let rest = later (omega (arith, count-no p a n fail)) in
+        (rest.0, omega (arith, rest.1), omega (arith, rest.2), rest.3)
+
+passes_one : (p : ℕ → Bool) (a n s : ℕ) → a ≤ s → s < a + n → p s ≡ true → 1 ≤ count_by p (range_with_len a n)
+passes_one p a zero s ge lt pass = absurd (omega arith)
+passes_one p a (suc n) s ge lt pass =
+    elim (cases_eq s a) [
+      | inl at ↦ omega (arith, count-yes p a n (ap p (sym at) ∙ pass))
+      | inr other ↦ omega (arith, count_rest p a n, passes_one p (a + 1) n s (omega arith) (omega arith) pass)
+    ]
+
+two_pass : (p : ℕ → Bool) (a n : ℕ) → 2 ≤ count_by p (range_with_len a n) → TwoPass p a (a + n)
+two_pass p a zero some = absurd (omega arith)
+two_pass p a (suc n) some = two_in (true_or (p a)) (two_pass p (a + 1) n)
+  where
+    two_in : (p a ≡ true) ⊎ (p a ≡ false) → (2 ≤ count_by p (range_with_len (a + 1) n) → TwoPass p (a + 1) (a + 1 + n)) → TwoPass p a (a + suc n)
+    two_in (inl pass) later =
+        let second = one_passes p (a + 1) n (omega (arith, count-yes p a n pass)) in
+        record { first = a; second = second.0; from_is = omega arith; apart = omega (arith, second.1); to_is = omega (arith, second.2); first_passes = pass; second_passes = second.3 }
+    two_in (inr fail) later =
+        let rest = later (omega (arith, count-no p a n fail)) in
+        record { first = rest.first; second = rest.second; from_is = omega (arith, rest.from_is); apart = rest.apart; to_is = omega (arith, rest.to_is); first_passes = rest.first_passes; second_passes = rest.second_passes }
+
+passes_two : (p : ℕ → Bool) (a n : ℕ) → TwoPass p a (a + n) → 2 ≤ count_by p (range_with_len a n)
+passes_two p a zero two = absurd (omega (arith, two.from_is, two.apart, two.to_is))
+passes_two p a (suc n) two =
+    elim (cases_eq two.first a) [
+      | inl at ↦
+          omega (arith, count-yes p a n (ap p (sym at) ∙ two.first_passes),
+          passes_one p (a + 1) n two.second (omega (arith, two.apart)) (omega (arith, two.to_is)) two.second_passes)
+      | inr other ↦
+          omega (arith, count_rest p a n, passes_two p (a + 1) n (record {
+            first = two.first; second = two.second; from_is = omega (arith, two.from_is); apart = two.apart; to_is = omega (arith, two.to_is);
+            first_passes = two.first_passes; second_passes = two.second_passes;
+          }))
+    ]
+
+pub TwoPass-from_count : (p : ℕ → Bool) (from to : ℕ) → 2 ≤ count_by p (steps_from from to) → TwoPass p from to
+TwoPass-from_count p from to some =
+    elim (cases_lt from to) [
+      | inl lt ↦ let end : from + (to - from) ≡ to = omega arith in subst (λ e. TwoPass p from e) end (two_pass p from (to - from) some)
+      | inr ge ↦ absurd (omega (arith, count-le p from (to - from)))
+    ]
+
+pub count-from_TwoPass : (p : ℕ → Bool) (from to : ℕ) → TwoPass p from to → 2 ≤ count_by p (steps_from from to)
+count-from_TwoPass p from to two =
+    let end : to ≡ from + (to - from) = omega (arith, two.from_is, two.apart, two.to_is) in
+    passes_two p from (to - from) (subst (λ e. TwoPass p from e) end two)
 
 -- ---- from a number back, and up to it
 

@@ -5,4 +5,8 @@ mod laws;
 mod scan;
 mod window;
 
+pub use laws::{effective_level, new_mask_twice, recent_changes, worked_window};
 pub use window::Window;
+
+#[cfg(test)]
+mod tests;
