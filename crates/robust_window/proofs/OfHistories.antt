@@ -1,17 +1,17 @@
 -- The window values of a history, by its changes.
-use Rattle.std.proofs.Common.{◌≡◌, ℕ, zero, suc, ◌+◌, ◌-◌, ◌<◌, ◌≤◌, Bool, true, false, List, [], ◌∷◌, ◌++◌, length, map, replicate, get_or, refl, sym, ap, ◌∙◌, ◌⊎◌, inl, inr, max, min, subst, arith}
-use Rattle.std.specs.Prelude.{Contains, IsTrue, nat_le}
-use Rattle.std.specs.List.{count_by, list_all, list_any, range_with_len}
+use Rattle.std.proofs.Common.{◌≡◌, ℕ, ◌+◌, ◌-◌, ◌<◌, ◌≤◌, true, false, length, replicate, get_or, sym, ap, ◌∙◌, inl, inr, max, subst, arith}
+use Rattle.std.specs.Prelude.{Contains, IsTrue}
+use Rattle.std.specs.List.{list_any}
 use Rattle.std.proofs.lemmas.Bool.{cases_eq, cases_lt, false≢true, leb-true, le-leb}
 use Rattle.std.proofs.lemmas.List.{get_or-replicate}
-use Rattle.std.proofs.lemmas.List.FromFn.{get_or-map-range_with_len, length-map-range_with_len, length-range_with_len}
+use Rattle.std.proofs.lemmas.List.FromFn.{get_or-map-range_with_len, length-map-range_with_len}
 use Rattle.bit_vectors.specs.Vectors.{IsOne}
 use Rattle.mask_update.specs.Histories.{History, robust_at}
-use Rattle.mask_update.specs.Masks.{change_at, new_mask_at, vector_of}
+use Rattle.mask_update.specs.Masks.{change_at, new_mask_at}
 use Rattle.mask_update.proofs.Moves.{place_of}
 use Rattle.mask_update.proofs.Standing.{change_at-zero}
 use Rattle.mask_update.proofs.StepByStep.{length-change_at}
-use Rattle.robust_window.specs.Changes.{MaskStep, changes_place, is_quiet, level_of, mask_step, most_level, no_mask_step, recent_of, steps_from, takes_new_mask, twice_of}
+use Rattle.robust_window.specs.Changes.{MaskStep, changes_place, is_quiet, mask_step, most_level, no_mask_step, recent_of, steps_from, takes_new_mask, twice_of}
 use Rattle.robust_window.specs.Histories.{IsLevel, LeavesMask, Twice, level_at, mask_step_at, mask_steps, recent_at, twice_at}
 use Rattle.robust_window.proofs.Levels.{is_quiet-zeros, level_of-greatest, one-is_quiet, zeros-is_quiet}
 use Rattle.robust_window.proofs.Ranges.{TwoPass, TwoPass-from_count, count-from_TwoPass, list_all-from_range, list_all-in_range, list_any-from_range, list_any-in_range, true_or}

@@ -1,5 +1,5 @@
 -- Tests over the numbers from one up to another.
-use Rattle.std.proofs.Common.{max, subst, ◌≡◌, ◌≢◌, ℕ, zero, suc, ◌+◌, ◌-◌, ◌<◌, ◌≤◌, Bool, true, false, cond, List, [], ◌∷◌, ◌++◌, Option, Some, length, get_or, refl, sym, ap, ◌∙◌, ◌⊎◌, inl, inr, arith, add-one}
+use Rattle.std.proofs.Common.{max, subst, ◌≡◌, ℕ, zero, suc, ◌+◌, ◌-◌, ◌<◌, ◌≤◌, Bool, true, false, cond, [], ◌∷◌, Some, get_or, refl, sym, ap, ◌∙◌, ◌⊎◌, inl, inr, arith, add-one}
 use Rattle.std.specs.Prelude.{reverse, find}
 use Rattle.std.specs.List.{count_by, list_all, list_any, range_with_len}
 use Rattle.std.specs.Cmp.{both_ways}
@@ -120,13 +120,25 @@ passes_two p a zero two = absurd (omega (arith, two.from_is, two.apart, two.to_i
 passes_two p a (suc n) two =
     elim (cases_eq two.first a) [
       | inl at ↦
-          omega (arith, count-yes p a n (ap p (sym at) ∙ two.first_passes),
-          passes_one p (a + 1) n two.second (omega (arith, two.apart)) (omega (arith, two.to_is)) two.second_passes)
+          omega (
+            arith,
+            count-yes p a n (ap p (sym at) ∙ two.first_passes),
+            passes_one p (a + 1) n two.second (omega (arith, two.apart)) (omega (arith, two.to_is)) two.second_passes,
+          )
       | inr other ↦
-          omega (arith, count_rest p a n, passes_two p (a + 1) n (record {
-            first = two.first; second = two.second; from_is = omega (arith, two.from_is); apart = two.apart; to_is = omega (arith, two.to_is);
-            first_passes = two.first_passes; second_passes = two.second_passes;
-          }))
+          omega (
+            arith,
+            count_rest p a n,
+            passes_two p (a + 1) n (record {
+              first = two.first;
+              second = two.second;
+              from_is = omega (arith, two.from_is);
+              apart = two.apart;
+              to_is = omega (arith, two.to_is);
+              first_passes = two.first_passes;
+              second_passes = two.second_passes;
+            }),
+          )
     ]
 
 pub TwoPass-from_count : (p : ℕ → Bool) (from to : ℕ) → 2 ≤ count_by p (steps_from from to) → TwoPass p from to

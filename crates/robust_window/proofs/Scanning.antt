@@ -1,16 +1,15 @@
 -- The latest changes and flags, from the latest back.
-use Rattle.std.proofs.Common.{◌≡◌, ℕ, zero, suc, ◌+◌, ◌-◌, ◌<◌, ◌≤◌, Bool, true, false, cond, List, [], ◌∷◌, ◌++◌, length, map, drop, replicate, get_or, refl, sym, ap, ◌∙◌, arith, add-one}
-use Rattle.std.specs.Prelude.{◌||◌, All, count_by}
+use Rattle.std.proofs.Common.{◌≡◌, ℕ, zero, suc, ◌+◌, Bool, true, false, List, [], ◌∷◌, length, map, replicate, get_or, refl, sym, ap, ◌∙◌, arith, add-one}
+use Rattle.std.specs.Prelude.{◌||◌}
 use Rattle.std.specs.List.{list_any, range_with_len}
 use Rattle.std.proofs.lemmas.List.Folds.{list_any-append}
-use Rattle.std.proofs.lemmas.List.FromFn.{fill_by_all, length-map-range_with_len, length-range_with_len}
-use Rattle.std.proofs.lemmas.List.Sums.{count_by-le-length, sum_by-append}
+use Rattle.std.proofs.lemmas.List.FromFn.{fill_by_all, length-map-range_with_len}
 use Rattle.std.proofs.lemmas.Simd.{zip2-map}
 use Rattle.bit_vectors.specs.Vectors.{or_bits}
 use Rattle.mask_update.specs.Masks.{vector_of}
 use Rattle.mask_update.proofs.NewMasks.{range_push}
 use Rattle.mask_update.proofs.StepByStep.{vector_of_same}
-use Rattle.robust_window.specs.Window.{change_back, new_mask_back}
+use Rattle.robust_window.specs.Window.{change_back}
 
 -- ---- recent changes
 

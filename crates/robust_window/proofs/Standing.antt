@@ -3,15 +3,15 @@ use Rattle.std.proofs.Common.{◌≡◌, ℕ, zero, suc, ◌+◌, ◌-◌, ◌<�
 use Rattle.std.specs.Prelude.{All, Contains, nat_le}
 use Rattle.std.specs.List.{count_by, list_any, range_with_len}
 use Rattle.std.proofs.lemmas.Bool.{cases_lt, cases_eq}
-use Rattle.std.proofs.lemmas.List.{drop-append-le, get_or-append_right, get_or-drop, get_or-replicate, get_or_append_left, get_or_at, get_or_past, length-drop, length-replicate, length_push}
+use Rattle.std.proofs.lemmas.List.{drop-append-le, get_or-drop, get_or-replicate, get_or_append_left, get_or_at, get_or_past, length-drop, length-replicate, length_push}
 use Rattle.std.proofs.lemmas.List.Elements.{All-append, All-cons, All-drop, All-nil}
 use Rattle.circular_buffer.specs.Buffer.{keep_last}
 use Rattle.mask_update.specs.Masks.{vector_of}
 use Rattle.mask_update.proofs.StepByStep.{vector_of_same}
-use Rattle.robust_window.specs.Changes.{IsQuiet, MaskStep, changes_place, is_quiet, latest_change, level_of, mask_step, most_level, no_mask_step, recent_of, steps_from, takes_new_mask, twice_of}
+use Rattle.robust_window.specs.Changes.{IsQuiet, MaskStep, changes_place, latest_change, level_of, mask_step, most_level, no_mask_step, recent_of, steps_from, takes_new_mask, twice_of}
 use Rattle.robust_window.specs.Window.{HoldsLatest, Kept, StandsFor, change_back, new_mask_back}
 use Rattle.robust_window.proofs.Levels.{is_quiet-one, is_quiet-zeros, level_of-is}
-use Rattle.robust_window.proofs.Ranges.{AgreesBack, any_back, count_back}
+use Rattle.robust_window.proofs.Ranges.{any_back, count_back}
 use Rattle.robust_window.proofs.Scanning.{gathered}
 
 -- ---- the latest sixteen
@@ -108,8 +108,8 @@ pub StandsFor-next : (steps : List MaskStep) (step : MaskStep) (old new : Kept) 
 StandsFor-next steps step old new stands moves =
     record {
       changes =
-      subst (λ n. HoldsLatest (change_back new.changes) change_at (replicate n false) (length after)) (sym moves.recent_len)
-      (subst (λ n. HoldsLatest (change_back new.changes) change_at (replicate f false) n) (sym (length_push steps step)) changes);
+          subst (λ n. HoldsLatest (change_back new.changes) change_at (replicate n false) (length after)) (sym moves.recent_len)
+          (subst (λ n. HoldsLatest (change_back new.changes) change_at (replicate f false) n) (sym (length_push steps step)) changes);
       new_masks = subst (λ n. HoldsLatest (new_mask_back new.new_masks) (takes_new_mask after) false n) (sym (length_push steps step)) new_masks;
       first = first;
       recent = λ some. recent ∙ ap (recent_of after) (sym at);

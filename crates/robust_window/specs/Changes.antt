@@ -1,6 +1,6 @@
 -- Recent changes, effective robustness level and 'twice' (CCSDS 124.0-B-1), each as a question about the list of all
 -- changes of a mask.
-use Rattle.std.specs.Prelude.{◌≡◌, ℕ, ◌+◌, ◌-◌, ◌<◌, ◌≤◌, nat_le, Bool, true, false, not, List, [], length, max, min, reverse, find, unwrap_or, count_by, slice_index_or}
+use Rattle.std.specs.Prelude.{◌≡◌, ℕ, ◌+◌, ◌-◌, nat_le, Bool, false, not, List, [], length, max, min, reverse, find, unwrap_or, count_by, slice_index_or}
 use Rattle.std.specs.List.{range_with_len, list_all, list_any}
 use Rattle.mask_update.specs.Masks.{vector_of}
 

@@ -1,5 +1,5 @@
 -- The same of a history: recent changes, effective robustness level and 'twice' are those of its changes.
-use Rattle.std.specs.Prelude.{◌≡◌, ℕ, ◌+◌, ◌-◌, ◌<◌, ◌≤◌, Bool, true, false, List, length, map, replicate}
+use Rattle.std.specs.Prelude.{◌≡◌, ℕ, ◌-◌, ◌<◌, ◌≤◌, Bool, true, false, List, length, map, replicate}
 use Rattle.std.specs.List.{range_with_len}
 use Rattle.mask_update.specs.Histories.{History, robust_at}
 use Rattle.mask_update.specs.Masks.{change_at, new_mask_at}

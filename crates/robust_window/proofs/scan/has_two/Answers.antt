@@ -1,4 +1,4 @@
-use Rattle.std.proofs.Common.{◌≡◌, ℕ, ◌+◌, ap, sym, ◌∙◌, arith, true, false, cond}
+use Rattle.std.proofs.Common.{◌≡◌, ℕ, ◌+◌, ap, sym, ◌∙◌, arith, cond}
 use Rattle.std.specs.List.{count_by, range_with_len}
 use Rattle.robust_window.specs.Window.{new_mask_back}
 use Rattle.robust_window.proofs.Ranges.{count-le, count_push}

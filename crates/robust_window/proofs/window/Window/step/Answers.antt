@@ -1,6 +1,5 @@
-use Rattle.std.proofs.Common.{◌≡◌, ◌+◌, ◌≤◌, List, [], ◌∷◌, ◌++◌, length, Bool, false, drop, replicate, subst, sym, ap, ◌∙◌, arith}
+use Rattle.std.proofs.Common.{◌≡◌, ◌+◌, List, [], ◌∷◌, ◌++◌, length, Bool, false, drop, replicate, subst, sym, ap, ◌∙◌, arith}
 use Rattle.std.specs.Prelude.{All}
-use Rattle.std.proofs.lemmas.List.Elements.{All-append}
 use Rattle.circular_buffer.specs.Buffer.{Buffer, keep_last}
 use Rattle.robust_window.specs.Window.{Kept}
 use Rattle.robust_window.proofs.Scanning.{gathered, length-gathered}
@@ -34,9 +33,9 @@ invariant_of-self c =
       changes_full = ap (λ (b : Buffer (List Bool)). b.capacity) c.push_change.ensures;
       changes_len = ap length (changes_are c) ∙ length-pushed c.self.inside.changes.items c.args.change.now c.self.invariant.changes_len;
       places =
-      subst (λ xs. All (λ (v : List Bool). length v ≡ length c.gather.new.recent) xs) (sym (changes_are c))
-      (All-pushed (λ (v : List Bool). length v ≡ length c.gather.new.recent) c.self.inside.changes.items c.args.change.now
-      (λ k d lt. c.self.invariant.places k d lt ∙ sym same) (change_len c ∙ sym same));
+          subst (λ xs. All (λ (v : List Bool). length v ≡ length c.gather.new.recent) xs) (sym (changes_are c))
+          (All-pushed (λ (v : List Bool). length v ≡ length c.gather.new.recent) c.self.inside.changes.items c.args.change.now
+          (λ k d lt. c.self.invariant.places k d lt ∙ sym same) (change_len c ∙ sym same));
       new_masks_full = ap (λ (b : Buffer Bool). b.capacity) c.push_back.ensures.items ∙ c.self.invariant.new_masks_full;
       new_masks_len = ap length (new_masks_are c) ∙ length-pushed c.self.inside.new_masks.items c.args.new_mask c.self.invariant.new_masks_len;
       level_most = omega (arith, c.self.invariant.robust_most);
@@ -58,9 +57,9 @@ returns-clause-stands c = λ steps step stands change new_mask robust.
       changes = changes_are c ∙ ap (λ (k : Kept). drop 1 k.changes ++ c.args.change.now ∷ []) c.self.view_is ∙ ap (λ v. drop 1 c.args.self.now.changes ++ v ∷ []) (sym change);
       new_masks = new_masks_are c ∙ ap (λ (k : Kept). drop 1 k.new_masks ++ c.args.new_mask ∷ []) c.self.view_is ∙ ap (λ b. drop 1 c.args.self.now.new_masks ++ b ∷ []) (sym new_mask);
       recent =
-      c.gather.ensures
-      ∙ ap (λ (k : Kept). gathered (length k.recent) c.push_change.new.changes.items (c.self.inside.robust + 1)) c.self.view_is
-      ∙ ap (λ r. gathered (length c.args.self.now.recent) c.push_change.new.changes.items (r + 1)) (sym robust_is);
+          c.gather.ensures
+          ∙ ap (λ (k : Kept). gathered (length k.recent) c.push_change.new.changes.items (c.self.inside.robust + 1)) c.self.view_is
+          ∙ ap (λ r. gathered (length c.args.self.now.recent) c.push_change.new.changes.items (r + 1)) (sym robust_is);
       recent_len = recent_len c ∙ ap (λ (k : Kept). length k.recent) c.self.view_is;
       level_least = omega (arith, c.quiet_level-self-inside.ensures.least);
       level_most = omega (arith, c.quiet_level-self-inside.ensures.most);
