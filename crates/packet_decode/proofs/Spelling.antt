@@ -8,7 +8,8 @@ use Rattle.bit_vectors.specs.Vectors.{number_bits, padded}
 use Rattle.run_code.specs.Edges.{edges}
 use Rattle.run_code.specs.Extraction.{SameOutside}
 use Rattle.run_code.proofs.EdgeBits.{one_mask}
-use Rattle.packet_decode.specs.Forms.{HasPlaces as ContentHasPlaces, Directions, Content, Whole, Part, Form, IsForm, IsReference, IsWhole, change_bits, form_bits, wide, reference_form}
+use Rattle.packet_encode.specs.Forms.{HasPlaces as ContentHasPlaces, Directions, Content, Whole, Part, Form, IsForm, change_bits, form_bits, wide}
+use Rattle.packet_decode.specs.Reference.{IsReference, IsWhole, reference_form}
 use Rattle.packet_decode.specs.Packets.{State, InReach, IsSentOf, Follows, StandsAlone, SpellsSent}
 use Rattle.packet_decode.specs.Decoding.{number_of}
 use Rattle.packet_decode.specs.ReferenceReading.{Reference, reaches, reference_of}

@@ -8,7 +8,7 @@ use Rattle.bit_vectors.specs.Vectors.{xor_bits, or_bits, without_bits, IsOne}
 use Rattle.run_code.specs.Places.{ones_from}
 use Rattle.run_code.specs.Runs.{run_bits, runs_from}
 use Rattle.run_code.proofs.Ones.{zeros_at}
-use Rattle.packet_decode.specs.Forms.{Directions, Form, AreDirections, IsForm, wide_by}
+use Rattle.packet_encode.specs.Forms.{Directions, Form, AreDirections, IsForm, wide_by}
 use Rattle.packet_decode.specs.Packets.{Packet, deduced_mask}
 
 -- ---- a vector of zeros

@@ -1,4 +1,4 @@
-pub mod Forms
+pub mod Reference
 pub mod Packets
 pub mod ReferenceReading
 pub mod Decoding

@@ -4,7 +4,8 @@ use Rattle.bit_vectors.specs.Vectors.{padded, xor_bits, or_bits, without_bits}
 use Rattle.run_code.specs.Edges.{edges}
 use Rattle.run_code.specs.Extraction.{extract, SameOutside}
 use Rattle.run_code.specs.Runs.{run_bits}
-use Rattle.packet_decode.specs.Forms.{Directions, Content, Whole, Part, Form, IsForm, change_bits, form_bits, wide, Fits, IsReference}
+use Rattle.packet_encode.specs.Forms.{Directions, Content, Whole, Part, Form, IsForm, change_bits, form_bits, wide, Fits}
+use Rattle.packet_decode.specs.Reference.{IsReference}
 
 -- a written packet: its number, its mask and its content
 pub record Packet : Type 0 where

@@ -4,7 +4,8 @@ ghost use Rattle.std.specs.Prelude.{◌≡◌, ℕ, ◌*◌, ◌<◌, ◌≤◌,
 ghost use Rattle.bit_vectors.specs.Vectors.{bits_of, padded};
 ghost use Rattle.run_code.specs.Edges.{edges};
 ghost use Rattle.run_code.specs.Extraction.{SameOutside};
-ghost use Rattle.packet_decode.specs.Forms.{Form, Whole, Part, IsForm, IsReference, form_bits, reference_form};
+ghost use Rattle.packet_encode.specs.Forms.{Form, Part, IsForm, form_bits};
+ghost use Rattle.packet_decode.specs.Reference.{IsReference, reference_form};
 ghost use Rattle.packet_decode.specs.Packets.{State, InReach, Spells, HasOpaqueFront, SpellsSent};
 ghost use Rattle.packet_decode.specs.Decoding.{number_of, mask_of, content_of};
 ghost use Rattle.packet_decode.specs.ReferenceReading.{reference_of};
@@ -50,40 +51,6 @@ pub fn no_further_byte()
 
 /// Worked packets of 8 places.
 pub fn worked_packets()
-    // Level 1, a mask of zeros, the content B0.
-    ensures first { bits_of (0x85 ∷ 0xB8 ∷ 0xD6 ∷ 0x00 ∷ []) ≡ padded (form_bits (reference_form 8 1 (bits_of (0x00 ∷ [])) (bits_of (0xB0 ∷ [])))) }
-    // Place 7 changed: the mask 01 and the content B1 are sent.
-    ensures changed { bits_of (0x42 ∷ 0x4B ∷ 0x8D ∷ 0x62 ∷ []) ≡ padded (form_bits (record {
-      recent = bits_of (0x01 ∷ []);
-      level = 1;
-      directions = None;
-      sent = Some (bits_of (0x01 ∷ []));
-      content = Whole (bits_of (0xB1 ∷ []));
-    })) }
-    // The same change, level 2; one bit of the content is sent.
-    ensures part { bits_of (0x44 ∷ 0xC0 ∷ []) ≡ padded (form_bits (record {
-      recent = bits_of (0x01 ∷ []);
-      level = 2;
-      directions = None;
-      sent = None;
-      content = Part (true ∷ []);
-    })) }
-    // Place 6 changed; two bits of the content are sent.
-    ensures next { bits_of (0xC0 ∷ 0x85 ∷ 0xC0 ∷ []) ≡ padded (form_bits (record {
-      recent = bits_of (0x02 ∷ []);
-      level = 1;
-      directions = None;
-      sent = None;
-      content = Part (true ∷ true ∷ []);
-    })) }
-    // Place 7 became predictable, and is extracted all the same.
-    ensures predictable { bits_of (0x47 ∷ 0xF0 ∷ []) ≡ padded (form_bits (record {
-      recent = bits_of (0x01 ∷ []);
-      level = 3;
-      directions = Some (record { predictable = bits_of (0x01 ∷ []); twice = true });
-      sent = None;
-      content = Part (true ∷ []);
-    })) }
     // In reach of a packet with the mask 01, one bit of the content spells the rest too.
     ensures follows { Spells 8 (Some (record { number = 1; mask = bits_of (0x01 ∷ []); content = bits_of (0xB1 ∷ []) })) 2 (bits_of (0x44 ∷ 0xC0 ∷ []))
         (record { recent = bits_of (0x01 ∷ []); level = 2; directions = None; sent = None; content = Part (true ∷ []) })

@@ -4,31 +4,11 @@ use Rattle.bit_vectors.specs.Vectors.{number_bits, bits_of, bits_number}
 use Rattle.count_code.specs.Code.{count_bits}
 use Rattle.run_code.specs.Places.{ones_from}
 use Rattle.run_code.specs.Runs.{run_bits, runs_from}
-use Rattle.packet_decode.specs.Forms.{Form, Part, change_bits, form_bits}
+use Rattle.packet_encode.specs.Forms.{Form, Part, change_bits, form_bits}
 use Rattle.packet_decode.specs.ReferenceReading.{after, are_zeros_below, reference_of}
 use Rattle.packet_decode.proofs.ReferencePackets.{reference_bits, HasParts-read}
 use Rattle.packet_decode.proofs.Spelling.{SpellsSent-parts, SpellsSent-from}
 use Rattle.packet_decode.proofs.laws.worked_packets.Goals as goal
-
-pub returns-clause-first : goal.returns-clause-first
-unfolding number_bits count_bits ones_from run_bits runs_from change_bits form_bits
-returns-clause-first c = refl
-
-pub returns-clause-changed : goal.returns-clause-changed
-unfolding number_bits count_bits ones_from run_bits runs_from change_bits form_bits
-returns-clause-changed c = refl
-
-pub returns-clause-part : goal.returns-clause-part
-unfolding number_bits count_bits ones_from run_bits runs_from change_bits form_bits
-returns-clause-part c = refl
-
-pub returns-clause-next : goal.returns-clause-next
-unfolding number_bits count_bits ones_from run_bits runs_from change_bits form_bits
-returns-clause-next c = refl
-
-pub returns-clause-predictable : goal.returns-clause-predictable
-unfolding number_bits count_bits ones_from run_bits runs_from change_bits form_bits
-returns-clause-predictable c = refl
 
 one_bit : Form
 one_bit = record { recent = false ∷ false ∷ false ∷ false ∷ false ∷ false ∷ false ∷ true ∷ []; level = 2; directions = None; sent = None; content = Part (true ∷ []) }

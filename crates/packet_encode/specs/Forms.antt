@@ -1,5 +1,5 @@
 -- The form of a packet (CCSDS 124.0-B-1): its parts, and the bits by which it is sent.
-use Rattle.std.specs.Prelude.{◌≡◌, ℕ, ◌<◌, nat_lt, Bool, true, false, ◌&&◌, if◌then◌else◌, List, [], ◌∷◌, ◌++◌, length, count_by, Contains, replicate, Option, None, Some, IfSome, IsSome}
+use Rattle.std.specs.Prelude.{◌≡◌, ℕ, ◌<◌, nat_lt, Bool, true, false, ◌&&◌, if◌then◌else◌, List, [], ◌∷◌, ◌++◌, length, count_by, Contains, Option, None, Some, IfSome}
 use Rattle.std.specs.List.{list_any}
 use Rattle.bit_vectors.specs.Vectors.{number_bits, or_bits, IsOne}
 use Rattle.count_code.specs.Code.{count_bits}
@@ -97,19 +97,3 @@ FitsPlaces places (Part bits) = length bits ≡ count_by (λ bit. bit) places
 
 abbrev pub Fits : Form → List Bool → Type 0
 Fits form mask = FitsPlaces (wide form mask) form.content
-
--- ---- the forms that are read so far
-
-abbrev pub IsWhole : Content → Type 0
-IsWhole (Whole content) = Unit {0}
-IsWhole (Part bits) = ⊥
-
--- no recent change, a sent mask and whole content
-pub record IsReference (f : ℕ) (form : Form) : Type 0 where
-  pub unchanged : form.recent ≡ replicate f false
-  pub sent : IsSome form.sent
-  pub whole : IsWhole form.content
-
--- the form of such a packet
-abbrev pub reference_form : ℕ → ℕ → List Bool → List Bool → Form
-reference_form f level mask content = record { recent = replicate f false; level = level; directions = None; sent = Some mask; content = Whole content }
