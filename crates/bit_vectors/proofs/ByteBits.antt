@@ -4,10 +4,9 @@ use Rattle.std.specs.Int.{bit_at}
 use Rattle.std.specs.Prelude.{Contains, not}
 use Rattle.std.specs.Bool.{Decides}
 use Rattle.std.proofs.lemmas.Bool.{cases_lt, true≢false, false≢true, false_from_ne_true}
-use Rattle.std.proofs.lemmas.Grind.{flat_map-append}
-use Rattle.std.proofs.lemmas.List.{length-append, length-take, length-drop, length-replicate, get_or_append_left, get_or-append-add, take_at, drop_at, take-append-drop, append-nil, drop-drop, get_or-drop, get_or_default, get_or_past, get_or-take, ext_get_or, length-take-le}
+use Rattle.std.proofs.lemmas.List.{length-append, length-take, length-drop, length-replicate, get_or_append_left, get_or-append-add, take_at, drop_at, take-append-drop, drop-drop, get_or-drop, get_or_default, get_or_past, get_or-take, ext_get_or, length-take-le}
 use Rattle.std.proofs.Math.Nat.{pow-le-pow_right}
-use Rattle.std.proofs.Math.Seq.{take-append-add, drop-append-add}
+use Rattle.std.proofs.Math.Seq.{take-append-add}
 use Rattle.bit_vectors.specs.Vectors.{number_bits, bits_number, bits_of, AreBytes, byte_count, padded, bytes_from, vector_bytes}
 use Rattle.bit_vectors.proofs.NumberBits.{length-number_bits, get_or-number_bits, bits_number-number_bits, bits_number_below, number_bits-bits_number}
 
@@ -18,22 +17,12 @@ length-bits_of [] = refl
 length-bits_of (b ∷ bytes) =
     omega (arith, length-append (number_bits 8 b) (bits_of bytes), length-number_bits 8 b, length-bits_of bytes)
 
-pub bits_of-append : (front back : List ℕ) → bits_of (front ++ back) ≡ bits_of front ++ bits_of back
-bits_of-append front back = flat_map-append (number_bits 8) front back
-
 pub bits_of-take : (n : ℕ) (bytes : List ℕ) → bits_of (take n bytes) ≡ take (8 * n) (bits_of bytes)
 bits_of-take zero bytes = refl
 bits_of-take (suc n) [] = let none : 8 * suc n ≡ suc (8 * n + 7) = omega arith in rw none refl
 bits_of-take (suc n) (b ∷ bytes) =
     let next : 8 * suc n ≡ length (number_bits 8 b) + 8 * n = omega (arith, length-number_bits 8 b) in
     rw (next, take-append-add (number_bits 8 b) (bits_of bytes) (8 * n), bits_of-take n bytes) refl
-
-pub bits_of-drop : (n : ℕ) (bytes : List ℕ) → bits_of (drop n bytes) ≡ drop (8 * n) (bits_of bytes)
-bits_of-drop zero bytes = refl
-bits_of-drop (suc n) [] = let none : 8 * suc n ≡ suc (8 * n + 7) = omega arith in rw none refl
-bits_of-drop (suc n) (b ∷ bytes) =
-    let next : 8 * suc n ≡ length (number_bits 8 b) + 8 * n = omega (arith, length-number_bits 8 b) in
-    rw (next, drop-append-add (number_bits 8 b) (bits_of bytes) (8 * n), bits_of-drop n bytes) refl
 
 -- the bit with a number is one of the byte that it lies in
 pub get_or-bits_of : (bytes : List ℕ) (i : ℕ) → i < 8 * length bytes → get_or (bits_of bytes) i false ≡ eqb (bit_at (get_or bytes (i / 8) 0) (7 - i % 8)) 1
@@ -97,11 +86,6 @@ AreBytes-bytes_from (suc n) bits zero =
     omega (arith, bits_number_below (take 8 bits), pow-le-pow_right {n = 2} (omega arith) {i = length (take 8 bits)} {j = 8} (omega (arith, length-take 8 bits)))
 AreBytes-bytes_from (suc n) bits (suc i) = AreBytes-bytes_from n (drop 8 bits) i
 
-AreBytes-append : (front back : List ℕ) → AreBytes front → AreBytes back → AreBytes (front ++ back)
-AreBytes-append [] back f b i = b i
-AreBytes-append (x ∷ front) back f b zero = f 0
-AreBytes-append (x ∷ front) back f b (suc i) = AreBytes-append front back (AreBytes-rest x front f) b i
-
 -- ---- bits that are all zero
 
 get_or-zeros : (n i : ℕ) → get_or (replicate n false) i false ≡ false
@@ -128,12 +112,6 @@ length-padded bits =
 pub take-padded : (bits : List Bool) → take (length bits) (padded bits) ≡ bits
 take-padded bits = take_at bits (replicate (8 * byte_count (length bits) - length bits) false) (length bits) refl
 
--- whole bytes before the bits are no part of the padding
-pub padded-append : (front back : List Bool) (n : ℕ) → length front ≡ 8 * n → padded (front ++ back) ≡ front ++ padded back
-padded-append front back n len =
-    let zeros : 8 * byte_count (length (front ++ back)) - length (front ++ back) ≡ 8 * byte_count (length back) - length back = omega (arith, length-append front back) in
-    rw zeros (append_assoc front back (replicate (8 * byte_count (length back) - length back) false))
-
 pub length-vector_bytes : (bits : List Bool) → length (vector_bytes bits) ≡ byte_count (length bits)
 unfolding vector_bytes
 length-vector_bytes bits = length-bytes_from (byte_count (length bits)) (padded bits)
@@ -154,19 +132,6 @@ take-bits_of-vector_bytes bits = rw (bits_of-vector_bytes bits) (take-padded bit
 pub vector_bytes_is : (bytes : List ℕ) (bits : List Bool) → AreBytes bytes → bits_of bytes ≡ padded bits → bytes ≡ vector_bytes bits
 vector_bytes_is bytes bits below same =
     bits_of_injective bytes (vector_bytes bits) below (AreBytes-vector_bytes bits) (same ∙ sym (bits_of-vector_bytes bits))
-
-pub vector_bytes-bits_of : (bytes : List ℕ) → AreBytes bytes → vector_bytes (bits_of bytes) ≡ bytes
-vector_bytes-bits_of bytes below =
-    let whole : 8 * byte_count (length (bits_of bytes)) - length (bits_of bytes) ≡ 0 = omega (arith, length-bits_of bytes) in
-    sym (vector_bytes_is bytes (bits_of bytes) below (sym (rw whole (append-nil (bits_of bytes)))))
-
-pub vector_bytes-append : (front back : List Bool) (n : ℕ) → length front ≡ 8 * n → vector_bytes (front ++ back) ≡ vector_bytes front ++ vector_bytes back
-vector_bytes-append front back n len =
-    let whole : 8 * byte_count (length front) - length front ≡ 0 = omega arith in
-    let no_padding : padded front ≡ front = rw whole (append-nil front) in
-    let same : bits_of (vector_bytes front ++ vector_bytes back) ≡ padded (front ++ back) =
-    rw (bits_of-append, bits_of-vector_bytes front, bits_of-vector_bytes back, no_padding) (sym (padded-append front back n len)) in
-    sym (vector_bytes_is (vector_bytes front ++ vector_bytes back) (front ++ back) (AreBytes-append (vector_bytes front) (vector_bytes back) (AreBytes-vector_bytes front) (AreBytes-vector_bytes back)) same)
 
 -- the byte with a number is the number of the eight bits there
 pub get_or-bytes_from : (n : ℕ) (bits : List Bool) (i : ℕ) → i < n → get_or (bytes_from n bits) i 0 ≡ bits_number (take 8 (drop (8 * i) bits))

@@ -1,6 +1,6 @@
 -- What an eye's reading by an exact reader says.
 use Rattle.std.proofs.Common.{◌≡◌, ℕ, ◌+◌, ◌-◌, ◌<◌, Bool, List, [], ◌∷◌, ◌++◌, length, take, Result, Ok, Err, refl, sym, ap, ◌∙◌, arith, append_assoc}
-use Rattle.std.specs.Prelude.{IfOk, IfErr}
+use Rattle.std.specs.Prelude.{IsOk, IfErr}
 use Rattle.std.proofs.lemmas.List.{length-append, length-drop, take_at}
 use Rattle.bit_vectors.specs.declared.fault.BitFault.{BitFault}
 use Rattle.bit_vectors.specs.declared.fault.BitFault.TheVariants.{Wrong, EndsEarly}
@@ -25,10 +25,10 @@ Gives-then_ok view see x mid result new reading next first h = rw first h
 
 -- ---- by an exact reader
 
-pub spelled_by : {A B : Type 0} (W : B → List Bool → Type 0) (f : List Bool → Reading B) → IsExact W f → (view : A → B) (old new : EyeState) (result : Result A BitFault) → Gives view result new (f (bits_left old))
-    → IfOk result (λ x. (word : List Bool) × W (view x) word × (bits_left old ≡ word ++ bits_left new))
-spelled_by W f exact view old new (Ok x) given = exact.read_is (bits_left old) (view x) (bits_left new) given
-spelled_by W f exact view old new (Err fault) given = tt
+pub only_read : {B : Type 0} (v w : B) (rest : List Bool) (new : EyeState) (result : Result (Unit {0}) BitFault) (reading : Reading B) → Gives (λ (u : Unit {0}). v) result new reading → reading ≡ Read w rest → IsOk result × (v ≡ w)
+only_read v w rest new (Ok u) reading given read = (refl, cc)
+only_read v w rest new (Err (Wrong bit)) reading given read = let wrong = given.0 in absurd cc
+only_read v w rest new (Err (EndsEarly bit)) reading given read = let short = given.0 in absurd cc
 
 only_value : {B : Type 0} (result : Result B BitFault) (new : EyeState) (reading : Reading B) (value : B) (rest : List Bool) → Gives (λ (x : B). x) result new reading → reading ≡ Read value rest → result ≡ Ok value
 only_value (Ok x) new reading value rest given is = cc

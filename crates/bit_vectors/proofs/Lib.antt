@@ -4,3 +4,5 @@ pub mod Places
 pub mod PenBits
 pub mod ExactReading
 pub mod EyeReading
+pub mod FrontReading
+pub mod SameWord

@@ -1,11 +1,12 @@
 -- The bits of a number, and the number of bits, undo each other.
-use Rattle.std.proofs.Common.{◌≡◌, ℕ, zero, suc, ◌+◌, ◌-◌, ◌*◌, ◌/◌, ◌%◌, ◌^◌, ◌<◌, ◌≤◌, Bool, true, false, cond, eqb, List, [], ◌∷◌, ◌++◌, length, get_or, take, refl, sym, ap, ◌∙◌, arith}
+use Rattle.std.proofs.Common.{◌≡◌, ℕ, zero, suc, ◌+◌, ◌-◌, ◌*◌, ◌/◌, ◌%◌, ◌^◌, ◌<◌, ◌≤◌, Bool, true, false, cond, eqb, List, [], ◌∷◌, ◌++◌, length, get_or, take, refl, ap, ◌∙◌, arith}
 use Rattle.std.specs.Int.{bit_at}
 use Rattle.std.proofs.lemmas.List.{length_push, length-take, take_more}
-use Rattle.std.proofs.Math.Nat.{pow-succ', pow-le-pow_right, div-div-eq-div-mul, add_comm}
-use Rattle.std.proofs.Common.{zero-add, add-one}
-use Rattle.std.proofs.lemmas.Nat.{pow-add, mod-pow-add, shr_split}
+use Rattle.std.proofs.Math.Nat.{pow-succ', pow-le-pow_right}
+use Rattle.std.proofs.Common.{add-one}
+use Rattle.std.proofs.lemmas.Nat.{mod-pow-add}
 use Rattle.std.proofs.lemmas.Nat.Bits.{bit_at_cat_low, bit_at_cat_high, bit_at-lt}
+use mir.Val.{bool_byte}
 use Rattle.bit_vectors.specs.Vectors.{number_bits, bits_number}
 
 pub length-number_bits : (width n : ℕ) → length (number_bits width n) ≡ width
@@ -26,18 +27,6 @@ unfolding number_bits
 number_bits_low zero a k b le = refl
 number_bits_low (suc w) a k b le =
     rw (bit_at_cat_low a k b w (omega arith), number_bits_low w a k b (omega arith)) refl
-
-pub number_bits-mod : (width k n : ℕ) → width ≤ k → number_bits width (n % 2 ^ k) ≡ number_bits width n
-number_bits-mod w k n le = sym (ap (number_bits w) (sym (shr_split n k)) ∙ number_bits_low w (n / 2 ^ k) k (n % 2 ^ k) le)
-
--- the high bits of a number, and then its low ones
-pub number_bits-add : (high low n : ℕ) → number_bits (high + low) n ≡ number_bits high (n / 2 ^ low) ++ number_bits low n
-unfolding number_bits
-number_bits-add zero low n = rw zero-add refl
-number_bits-add (suc high) low n =
-    let next : suc high + low ≡ suc (high + low) = omega arith in
-    let split : n / 2 ^ (high + low) ≡ n / 2 ^ low / 2 ^ high = rw (add_comm high low, pow-add 2 low high) (sym (div-div-eq-div-mul n (2 ^ low) (2 ^ high))) in
-    rw (next, number_bits-add high low n, split) refl
 
 weight : (bit : ℕ) (p : ℕ) → bit < 2 → cond (eqb bit 1) p 0 ≡ bit * p
 weight zero p lt = omega arith
@@ -98,3 +87,8 @@ bits_number-take_more bits n lt = rw (take_more bits n false lt) (bits_number-pu
 pub number_bits-more : (width n : ℕ) → number_bits (width + 1) n ≡ eqb (bit_at n width) 1 ∷ number_bits width n
 unfolding number_bits
 number_bits-more width n = rw add-one refl
+
+-- a bit as a number
+pub bool_byte_is : (bit : Bool) → bool_byte bit ≡ cond bit 1 0
+bool_byte_is true = refl
+bool_byte_is false = refl

@@ -1,7 +1,7 @@
 -- Reading a list of bits from its front: the value that its first bits spell and the bits after them, or the first
 -- fault. A reader is exact for words where it gives each word's value, and finds each fault at the first bit at which
 -- it can be seen.
-use Rattle.std.specs.Prelude.{◌≡◌, ℕ, ◌+◌, ◌-◌, ◌<◌, ◌≤◌, Bool, List, [], ◌∷◌, ◌++◌, length, take, Result, Ok, Err, if◌then◌else◌}
+use Rattle.std.specs.Prelude.{◌≡◌, ℕ, ◌+◌, ◌-◌, ◌<◌, ◌≤◌, nat_le, Bool, not, List, [], ◌∷◌, ◌++◌, length, take, drop, Result, Ok, Err, if◌then◌else◌}
 use Rattle.bit_vectors.specs.declared.fault.BitFault.{BitFault}
 use Rattle.bit_vectors.specs.declared.fault.BitFault.TheVariants.{Wrong, EndsEarly}
 use Rattle.bit_vectors.specs.Eye.{EyeState, bits_left}
@@ -27,6 +27,17 @@ bit_where ok (bit ∷ rest) = if ok bit then Read bit rest else WrongBit rest
 -- a test of a bit by which bits may come
 abbrev pub allowed : Bool → Bool → Bool → Bool
 allowed zero one bit = if bit then one else zero
+
+-- so many bits, whatever they are
+unfoldable pub front_at : ℕ → List Bool → Reading (List Bool)
+front_at count bits = if nat_le count (length bits) then Read (take count bits) (drop count bits) else TooShort
+
+-- the bits of a word, and no others
+unfoldable pub same_at : List Bool → List Bool → Reading (Unit {0})
+same_at [] bits = Read tt bits
+same_at (bit ∷ word) bits =
+    bit_where (allowed (not bit) bit) bits
+    >>= λ found rest. same_at word rest
 
 -- ---- what an eye's reading is
 

@@ -1,9 +1,12 @@
 //! Reading bytes bit by bit.
 
-ghost use Rattle.std.specs.Prelude.{◌≡◌, ◌+◌, ◌≤◌, ◌↔◌, [], ◌∷◌, length, IsNone, IfSome, OnSome, IfNone};
+ghost use Rattle.std.specs.Prelude.{◌≡◌, ◌+◌, ◌<◌, ◌≤◌, ◌↔◌, ◌++◌, [], ◌∷◌, length, take, drop, IsNone, IfSome, OnSome, IfNone, IsErr, IfErr, OnOk, OnErr};
 ghost use Rattle.bit_vectors.specs.Vectors.{bits_of};
 ghost use Rattle.bit_vectors.specs.Eye.{EyeState, bits_left};
+ghost use Rattle.bit_vectors.specs.Reading.{MovesOn, Gives, front_at};
 
+use crate::bits::Bits;
+use crate::fault::BitFault;
 use crate::packing::bit_in;
 use std::marker::Model;
 
@@ -68,5 +71,27 @@ impl<'a> BitEye<'a> {
         let bit = bit_in(self.bytes, self.place as usize);
         self.place += 1;
         Some(bit)
+    }
+
+    /// Takes as many bits as `into` has places, from place 0 up. No bit is wrong. Where the bits end early,
+    /// those that were left are the first of `into`, its other places stay, and the eye stands at the end.
+    pub fn take_bits(&mut self, into: &mut Bits) -> Result<(), BitFault>
+        ensures places { length into.new ≡ length into.old }
+        ensures bits { let left = bits_left self.old in
+            into.new ≡ take (length into.old) left ++ drop (length left) into.old }
+        ensures moves { MovesOn self.old self.new }
+        ensures taken { OnOk result (bits_left self.old ≡ into.new ++ bits_left self.new) }
+        ensures early { IsErr result ↔ (length (bits_left self.old) < length into.old) }
+        ensures fault { IfErr result (λ fault. fault ≡ BitFault.EndsEarly (length self.old.bits)) }
+        ensures at_end { OnErr result (self.new.place ≡ length self.old.bits) }
+        ensures reading { Gives (λ _. into.new) result self.new (front_at (length into.old) (bits_left self.old)) }
+    {
+        for place in 0..into.len() {
+            let Some(bit) = self.take() else {
+                return Err(BitFault::EndsEarly { bit: self.size() });
+            };
+            into.set(place, bit);
+        }
+        Ok(())
     }
 }

@@ -3,6 +3,7 @@
 ghost use Rattle.std.specs.Prelude.{◌≡◌, ◌+◌, ◌^◌, ◌<◌, ◌≤◌, [], ◌∷◌, ◌++◌, length, IfOk};
 ghost use Rattle.bit_vectors.specs.Vectors.{number_bits, byte_count, vector_bytes};
 
+use crate::bits::Bits;
 use crate::fault::NoMemory;
 use crate::packing::{first_bytes, write_bit};
 use std::alloc::Global;
@@ -62,6 +63,17 @@ impl BitPen {
     {
         for weight in (0..width).rev() {
             self.put((value >> weight) & 1 == 1);
+        }
+    }
+
+    /// Appends the bits of a vector, from place 0 up.
+    pub fn put_bits(&mut self, bits: &Bits)
+        requires { length self.old.bits + length bits.now ≤ self.old.room }
+        ensures bits { self.new.bits ≡ self.old.bits ++ bits.now }
+        ensures room { self.new.room ≡ self.old.room }
+    {
+        for place in 0..bits.len() {
+            self.put(bits.get(place));
         }
     }
 

@@ -1,6 +1,6 @@
 //! Each call that takes memory, with ample memory, and the texts of the faults.
 
-use crate::{BitFault, BitPen, Bits, NoMemory, SpareBit};
+use crate::{BitEye, BitFault, BitPen, Bits, NoMemory, SpareBit};
 use std::test::Fail;
 
 #[test]
@@ -11,6 +11,15 @@ fn vector_of_thirteen_places(rt: HostRuntime) -> Result<(), Fail> {
     assert_eq!(rt; vector.next_one_down(13), Some(12));
     assert_eq!(rt; vector.next_one_down(10), Some(6));
     assert_eq!(rt; vector.load(&[0x12, 0x3c]), Err(SpareBit));
+    let mut pen = BitPen::with_room(rt.alloc(), 13)?;
+    pen.put_bits(&vector);
+    assert_eq!(rt; pen.bytes(), [0x12, 0x38].as_slice());
+    let mut eye = BitEye::new(&[0xff]);
+    assert_eq!(rt;
+        eye.take_bits(&mut vector),
+        Err(BitFault::EndsEarly { bit: 8 })
+    );
+    assert_eq!(rt; vector.next_one_up(8), Some(10));
     Ok(())
 }
 

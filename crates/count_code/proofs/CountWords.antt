@@ -3,7 +3,7 @@ use Rattle.std.proofs.Common.{◌≡◌, ℕ, ◌+◌, ◌-◌, ◌*◌, ◌≤�
 use Rattle.std.proofs.lemmas.Bool.{ne_eqb, le-leb, lt-leb}
 use Rattle.bit_vectors.specs.Vectors.{number_bits}
 use Rattle.bit_vectors.proofs.NumberBits.{length-number_bits}
-use Rattle.count_code.specs.Code.{digits, count_bits}
+use Rattle.count_code.specs.Code.{digits, count_bits, end_bits}
 
 pub count_bits-one : count_bits 1 ≡ false ∷ []
 unfolding count_bits
@@ -23,7 +23,16 @@ length-count_bits-short a least most = rw (count_bits-short a least most) (omega
 pub length-count_bits-long : (a : ℕ) → 34 ≤ a → length (count_bits a) ≡ 3 + (2 * digits (a - 2) - 6)
 length-count_bits-long a least = rw (count_bits-long a least) (omega (arith, length-number_bits (2 * digits (a - 2) - 6) (a - 2)))
 
--- the first three bits, as numbers
+-- ---- short words, as numbers
+
+pub zero_in_one : number_bits 1 0 ≡ false ∷ []
+unfolding number_bits
+zero_in_one = refl
+
+pub two_in_two : number_bits 2 2 ≡ end_bits
+unfolding number_bits
+two_in_two = refl
+
 pub six_in_three : number_bits 3 6 ≡ true ∷ true ∷ false ∷ []
 unfolding number_bits
 six_in_three = refl

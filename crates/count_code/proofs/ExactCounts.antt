@@ -15,7 +15,7 @@ use Rattle.bit_vectors.proofs.ExactReading.{IsBitWhere, IsWordThen, IsExact-give
 use Rattle.count_code.specs.declared.count.Count.{Count}
 use Rattle.count_code.specs.declared.count.Count.TheVariants.{Value, End}
 use Rattle.count_code.specs.Code.{digits, count_bits}
-use Rattle.count_code.specs.Counts.{word_of, IsCount, IsWithin, IsCodeOf, number_at, long_at, above_one_at, after_one_at, count_at}
+use Rattle.count_code.specs.Counts.{word_of, IsCount, IsWithin, IsCodeOf, bounded_at, long_at, above_one_at, after_one_at, count_at}
 use Rattle.count_code.proofs.Digits.{power_le, power_more, HasDigits, digits_is, digits_of, digits_long}
 use Rattle.count_code.proofs.CountWords.{count_bits-one, count_bits-short, count_bits-long}
 use Rattle.count_code.proofs.Steps.{zero_fits, one_fits, bit_fits}
@@ -118,26 +118,26 @@ joined most so_far width n word bit front back f b w =
     let range = next_in so_far width n bit b.low b.high in
     record { low = range.0; high = range.1; fits = b.fits; is = rw (w, f, b.is, number_bits-suc width n, next_bit so_far width n bit b.low b.high) refl }
 
-pub IsExact-number_at : (most width so_far : ℕ) → so_far * 2 ^ width ≤ most → IsExact (IsNumberOf most so_far width) (number_at most so_far width)
-unfolding number_at
-IsExact-number_at most zero so_far fits =
+pub IsExact-bounded_at : (most width so_far : ℕ) → so_far * 2 ^ width ≤ most → IsExact (IsNumberOf most so_far width) (bounded_at most so_far width)
+unfolding bounded_at
+IsExact-bounded_at most zero so_far fits =
     IsExact-same (λ (u : ℕ) (word : List Bool). (u ≡ so_far) × (word ≡ [])) (IsNumberOf most so_far 0) (λ bits. Read so_far bits)
     (λ v word w. no_width_from most so_far v word fits w.0 w.1)
     (λ v word w. (omega (arith, w.low, w.high), w.is ∙ number_bits-zero v))
     (IsExact-give so_far)
-IsExact-number_at most (suc width) so_far fits =
+IsExact-bounded_at most (suc width) so_far fits =
     let test = allowed (zero_fits most so_far width) (one_fits most so_far width) in
     IsExact-same (IsWordThen (IsBitWhere (allowed (zero_fits most so_far width) (one_fits most so_far width))) (λ bit. IsNumberOf most (next_of so_far bit) width)) (IsNumberOf most so_far (suc width))
-    (λ bits. bit_where (allowed (zero_fits most so_far width) (one_fits most so_far width)) bits >>= λ bit rest. number_at most (next_of so_far bit) width rest)
+    (λ bits. bit_where (allowed (zero_fits most so_far width) (one_fits most so_far width)) bits >>= λ bit rest. bounded_at most (next_of so_far bit) width rest)
     (λ n word w. joined most so_far width n word w.0 w.1 w.2 w.3.1 w.4 w.5)
     (λ n word w.
     let parts = next_out so_far width n w.low w.high in
     let bit = eqb (bit_at n width) 1 in
     (eqb (bit_at n width) 1, eqb (bit_at n width) 1 ∷ [], number_bits width n, (allowed_next most so_far width (eqb (bit_at n width) 1) (below_most (next_of so_far (eqb (bit_at n width) 1) * 2 ^ width) n most parts.0 w.fits), refl), record { low = parts.0; high = parts.1; fits = w.fits; is = refl }, w.is ∙ number_bits-suc width n))
     (IsExact-then (IsBitWhere (allowed (zero_fits most so_far width) (one_fits most so_far width))) (λ bit. IsNumberOf most (next_of so_far bit) width)
-    (bit_where (allowed (zero_fits most so_far width) (one_fits most so_far width))) (λ bit. number_at most (next_of so_far bit) width)
+    (bit_where (allowed (zero_fits most so_far width) (one_fits most so_far width))) (λ bit. bounded_at most (next_of so_far bit) width)
     (IsExact-bit_where (allowed (zero_fits most so_far width) (one_fits most so_far width)) false (allowed_next most so_far width false (half_fits most so_far width fits)))
-    (λ bit word w. IsExact-number_at most width (next_of so_far bit) (bit_fits most so_far width bit w.0))
+    (λ bit word w. IsExact-bounded_at most width (next_of so_far bit) (bit_fits most so_far width bit w.0))
     (λ bit word w. (next_of so_far bit * 2 ^ width, number_bits width (next_of so_far bit * 2 ^ width), first_number most (next_of so_far bit) width (bit_fits most so_far width bit w.0))))
 
 -- ---- numbers after zeros
@@ -175,9 +175,6 @@ abbrev IsAfterZeros : ℕ → ℕ → Bool → ℕ → List Bool → Type 0
 IsAfterZeros most seen true = IsNumberOf most 1 (seen + 5)
 IsAfterZeros most seen false = IsLongOf most (seen + 1)
 
-one_power : (k : ℕ) → 1 * 2 ^ k ≡ 2 ^ k
-one_power k = omega arith
-
 two_powers : (seen : ℕ) → (1 + 1) * 2 ^ (seen + 5) ≡ 2 ^ (seen + 6)
 two_powers seen = let same_power : seen + 5 + 1 ≡ seen + 6 = omega arith in omega (arith, power_more (seen + 5), ap (λ (k : ℕ). 2 ^ k) same_power)
 
@@ -200,13 +197,13 @@ long_apart most seen n word may_be_zero l may =
       | inr ge ↦ (false, false ∷ [], number_bits (2 * digits n - 6 - (seen + 1)) n, (may ge, refl), record { low = omega (arith, next_zeros seen); fits = l.fits; is = refl }, l.is ∙ zero_follows seen n ge)
     ]
 
-last_exact : (most seen : ℕ) → 2 ^ (seen + 5) ≤ most → (bit : Bool) → allowed false true bit ≡ true → IsExact (IsAfterZeros most seen bit) (number_at most 1 (seen + 5))
-last_exact most seen low true ok = IsExact-number_at most (seen + 5) 1 (omega arith)
+last_exact : (most seen : ℕ) → 2 ^ (seen + 5) ≤ most → (bit : Bool) → allowed false true bit ≡ true → IsExact (IsAfterZeros most seen bit) (bounded_at most 1 (seen + 5))
+last_exact most seen low true ok = IsExact-bounded_at most (seen + 5) 1 (omega arith)
 last_exact most seen low false ok = absurd (false≢true ok)
 
 after_exact : (most more seen : ℕ) → 2 ^ (seen + 5) ≤ most → (2 ^ (seen + 1 + 5) ≤ most → IsExact (IsLongOf most (seen + 1)) (long_at most (seen + 1) more)) → (bit : Bool) → allowed (leb (2 ^ (seen + 6)) most) true bit ≡ true
-    → IsExact (IsAfterZeros most seen bit) (λ rest. cond bit (number_at most 1 (seen + 5) rest) (long_at most (seen + 1) more rest))
-after_exact most more seen low others true ok = IsExact-number_at most (seen + 5) 1 (omega arith)
+    → IsExact (IsAfterZeros most seen bit) (λ rest. cond bit (bounded_at most 1 (seen + 5) rest) (long_at most (seen + 1) more rest))
+after_exact most more seen low others true ok = IsExact-bounded_at most (seen + 5) 1 (omega arith)
 after_exact most more seen low others false ok = others (omega (arith, next_zeros seen, leb-true (2 ^ (seen + 6)) most ok))
 
 some_after : (most seen : ℕ) (may_be_zero : Bool) → 2 ^ (seen + 5) ≤ most → (may_be_zero ≡ true → 2 ^ (seen + 6) ≤ most) → (bit : Bool) → allowed may_be_zero true bit ≡ true → (n : ℕ) × (word : List Bool) × IsAfterZeros most seen bit n word
@@ -220,22 +217,22 @@ unfolding long_at
 IsExact-long_at most zero seen low high =
     let last : most < 2 ^ (seen + 6) = let e : seen + 6 + 0 ≡ seen + 6 = omega arith in rw e at high in
     IsExact-same (IsWordThen (IsBitWhere (allowed false true)) (IsAfterZeros most seen)) (IsLongOf most seen)
-    (λ bits. bit_where (allowed false true) bits >>= λ bit rest. number_at most 1 (seen + 5) rest)
+    (λ bits. bit_where (allowed false true) bits >>= λ bit rest. bounded_at most 1 (seen + 5) rest)
     (λ n word w. long_joined most seen n word w.0 w.1 w.2 w.3.1 w.4 w.5)
     (λ n word w. long_apart most seen n word false w (λ ge. absurd (too_high (2 ^ (seen + 6)) n most ge w.fits last)))
     (IsExact-then (IsBitWhere (allowed false true)) (IsAfterZeros most seen)
-    (bit_where (allowed false true)) (λ bit. number_at most 1 (seen + 5))
+    (bit_where (allowed false true)) (λ bit. bounded_at most 1 (seen + 5))
     (IsExact-bit_where (allowed false true) true refl)
     (λ bit word w. last_exact most seen low bit w.0)
     (λ bit word w. some_after most seen false low (λ e. absurd (false≢true e)) bit w.0))
 IsExact-long_at most (suc more) seen low high =
     let later : most < 2 ^ (seen + 1 + 6 + more) = let e : seen + 6 + suc more ≡ seen + 1 + 6 + more = omega arith in rw e at high in
     IsExact-same (IsWordThen (IsBitWhere (allowed (leb (2 ^ (seen + 6)) most) true)) (IsAfterZeros most seen)) (IsLongOf most seen)
-    (λ bits. bit_where (allowed (leb (2 ^ (seen + 6)) most) true) bits >>= λ bit rest. cond bit (number_at most 1 (seen + 5) rest) (long_at most (seen + 1) more rest))
+    (λ bits. bit_where (allowed (leb (2 ^ (seen + 6)) most) true) bits >>= λ bit rest. cond bit (bounded_at most 1 (seen + 5) rest) (long_at most (seen + 1) more rest))
     (λ n word w. long_joined most seen n word w.0 w.1 w.2 w.3.1 w.4 w.5)
     (λ n word w. long_apart most seen n word (leb (2 ^ (seen + 6)) most) w (λ ge. le-leb _ _ (below_most (2 ^ (seen + 6)) n most ge w.fits)))
     (IsExact-then (IsBitWhere (allowed (leb (2 ^ (seen + 6)) most) true)) (IsAfterZeros most seen)
-    (bit_where (allowed (leb (2 ^ (seen + 6)) most) true)) (λ bit rest. cond bit (number_at most 1 (seen + 5) rest) (long_at most (seen + 1) more rest))
+    (bit_where (allowed (leb (2 ^ (seen + 6)) most) true)) (λ bit rest. cond bit (bounded_at most 1 (seen + 5) rest) (long_at most (seen + 1) more rest))
     (IsExact-bit_where (allowed (leb (2 ^ (seen + 6)) most) true) true refl)
     (λ bit word w. after_exact most more seen low (λ fits. IsExact-long_at most more (seen + 1) fits later) bit w.0)
     (λ bit word w. some_after most seen (leb (2 ^ (seen + 6)) most) low (λ e. leb-true _ _ e) bit w.0))
@@ -274,11 +271,11 @@ above_apart limit n word a =
       | inr short ↦ (false, false ∷ [], number_bits 5 n, (refl, refl), record { low = omega arith; high = omega arith; fits = omega arith; is = refl }, a.1 ∙ rw (le-leb n 31 short) refl)
     ]
 
-tail_exact : (limit : ℕ) → (bit : Bool) → allowed true (leb 34 limit) bit ≡ true → IsExact (IsAboveOneTail limit bit) (λ rest. cond bit (long_at (limit - 2) 0 (limit - 2) rest) (number_at (limit - 2) 0 5 rest))
+tail_exact : (limit : ℕ) → (bit : Bool) → allowed true (leb 34 limit) bit ≡ true → IsExact (IsAboveOneTail limit bit) (λ rest. cond bit (long_at (limit - 2) 0 (limit - 2) rest) (bounded_at (limit - 2) 0 5 rest))
 tail_exact limit true ok =
     let long = leb-true 34 limit ok in
     IsExact-long_at (limit - 2) (limit - 2) 0 (omega arith) (below_power (limit - 2))
-tail_exact limit false ok = IsExact-number_at (limit - 2) 5 0 (omega arith)
+tail_exact limit false ok = IsExact-bounded_at (limit - 2) 5 0 (omega arith)
 
 some_tail : (limit : ℕ) (bit : Bool) → allowed true (leb 34 limit) bit ≡ true → (n : ℕ) × (word : List Bool) × IsAboveOneTail limit bit n word
 some_tail limit true ok =
@@ -290,11 +287,11 @@ pub IsExact-above_one_at : (limit : ℕ) → 2 ≤ limit → IsExact (IsAboveOne
 unfolding above_one_at
 IsExact-above_one_at limit two =
     IsExact-same (IsWordThen (IsBitWhere (allowed true (leb 34 limit))) (IsAboveOneTail limit)) (IsAboveOne limit)
-    (λ bits. bit_where (allowed true (leb 34 limit)) bits >>= λ bit rest. cond bit (long_at (limit - 2) 0 (limit - 2) rest) (number_at (limit - 2) 0 5 rest))
+    (λ bits. bit_where (allowed true (leb 34 limit)) bits >>= λ bit rest. cond bit (long_at (limit - 2) 0 (limit - 2) rest) (bounded_at (limit - 2) 0 5 rest))
     (λ n word w. above_joined limit n word w.0 w.1 w.2 two w.3.1 w.4 w.5)
     (above_apart limit)
     (IsExact-then (IsBitWhere (allowed true (leb 34 limit))) (IsAboveOneTail limit)
-    (bit_where (allowed true (leb 34 limit))) (λ bit rest. cond bit (long_at (limit - 2) 0 (limit - 2) rest) (number_at (limit - 2) 0 5 rest))
+    (bit_where (allowed true (leb 34 limit))) (λ bit rest. cond bit (long_at (limit - 2) 0 (limit - 2) rest) (bounded_at (limit - 2) 0 5 rest))
     (IsExact-bit_where (allowed true (leb 34 limit)) false refl)
     (λ bit word w. tail_exact limit bit w.0)
     (λ bit word w. some_tail limit bit w.0))

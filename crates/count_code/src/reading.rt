@@ -1,9 +1,10 @@
-//! Counts from bits.
+//! Numbers and counts from bits.
 
-ghost use Rattle.std.specs.Prelude.{◌≡◌, ◌+◌, ◌-◌, ◌*◌, ◌^◌, ◌≤◌, ◌++◌, Bool, List, Ok, IfOk, IfErr, IsTrue};
+ghost use Rattle.std.specs.Prelude.{◌≡◌, ◌+◌, ◌-◌, ◌*◌, ◌^◌, ◌<◌, ◌≤◌, ◌↔◌, ◌++◌, Bool, List, length, Ok, IfOk, IsErr, IfErr, OnErr, IsTrue};
+ghost use Rattle.bit_vectors.specs.Vectors.{number_bits};
 ghost use Rattle.bit_vectors.specs.Eye.{bits_left};
 ghost use Rattle.bit_vectors.specs.Reading.{Gives, MovesOn, IsFirstFault, bit_where, allowed};
-ghost use Rattle.count_code.specs.Counts.{word_of, IsWithin, IsCode, number_at, long_at, above_one_at, after_one_at, count_at};
+ghost use Rattle.count_code.specs.Counts.{word_of, IsWithin, IsCode, number_at, bounded_at, long_at, above_one_at, after_one_at, count_at};
 ghost use Rattle.count_code.specs.declared.count.Count.{Count};
 
 use crate::count::Count;
@@ -22,6 +23,28 @@ pub fn take_count(eye: &mut BitEye, limit: u32) -> Result<Count, BitFault>
     ensures reading { Gives (λ count. count) result eye.new (count_at limit (bits_left eye.old)) }
 {
     read_count(eye, limit)
+}
+
+/// Takes a number of `width` bits, at most 32, the greatest weight first. No bit is wrong. Where the bits
+/// end early, the eye stands at the end.
+pub fn take_number(eye: &mut BitEye, width: u32) -> Result<u32, BitFault>
+    requires { width ≤ 32 }
+    ensures moves { MovesOn eye.old eye.new }
+    ensures number { IfOk result (λ n. bits_left eye.old ≡ number_bits width n ++ bits_left eye.new) }
+    ensures fits { IfOk result (λ n. n < 2 ^ width) }
+    ensures early { IsErr result ↔ (length (bits_left eye.old) < width) }
+    ensures fault { IfErr result (λ fault. fault ≡ BitFault.EndsEarly (length eye.old.bits)) }
+    ensures at_end { OnErr result (eye.new.place ≡ length eye.old.bits) }
+    ensures reading { Gives (λ n. n) result eye.new (number_at width (bits_left eye.old)) }
+{
+    let mut number = 0;
+    for _ in 0..width {
+        let Some(bit) = eye.take() else {
+            return Err(BitFault::EndsEarly { bit: eye.size() });
+        };
+        number = 2 * number + u32::from(bit);
+    }
+    Ok(number)
 }
 
 /// Takes a count or the end, as `count_at` reads them.
@@ -65,12 +88,12 @@ fn above_one(eye: &mut BitEye, limit: u32) -> Result<u32, BitFault>
     if take_allowed(eye, true, 34 <= limit)? {
         take_long(eye, limit - 2)
     } else {
-        take_number(eye, limit - 2, 0, 5)
+        take_bounded(eye, limit - 2, 0, 5)
     }
 }
 
 /// Takes a bit, which is wrong where it is not allowed.
-fn take_allowed(eye: &mut BitEye, zero: bool, one: bool) -> Result<bool, BitFault>
+pub fn take_allowed(eye: &mut BitEye, zero: bool, one: bool) -> Result<bool, BitFault>
     ensures moves { MovesOn eye.old eye.new }
     ensures right { IfOk result (λ bit. IsTrue (allowed zero one bit)) }
     ensures reading { Gives (λ bit. bit) result eye.new (bit_where (allowed zero one) (bits_left eye.old)) }
@@ -86,12 +109,12 @@ fn take_allowed(eye: &mut BitEye, zero: bool, one: bool) -> Result<bool, BitFaul
 }
 
 /// Takes the last `width` bits of a number that is at most `most` and begins with `so_far`.
-fn take_number(eye: &mut BitEye, most: u32, so_far: u32, width: u32) -> Result<u32, BitFault>
+fn take_bounded(eye: &mut BitEye, most: u32, so_far: u32, width: u32) -> Result<u32, BitFault>
     requires most { most ≤ 49150 }
     requires so_far { so_far * 2 ^ width ≤ most }
     requires width { width ≤ 15 }
     ensures moves { MovesOn eye.old eye.new }
-    ensures reading { Gives (λ n. n) result eye.new (number_at most so_far width (bits_left eye.old)) }
+    ensures reading { Gives (λ n. n) result eye.new (bounded_at most so_far width (bits_left eye.old)) }
     ensures most { IfOk result (λ n. n ≤ most) }
 {
     let mut number = so_far;
@@ -118,5 +141,5 @@ fn take_long(eye: &mut BitEye, most: u32) -> Result<u32, BitFault>
     while !take_allowed(eye, 1 << digits <= most, true)? {
         digits += 1;
     }
-    take_number(eye, most, 1, digits - 1)
+    take_bounded(eye, most, 1, digits - 1)
 }

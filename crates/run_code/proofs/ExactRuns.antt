@@ -4,12 +4,11 @@ use Rattle.std.specs.Prelude.{IsOk, OnOk}
 use Rattle.std.proofs.lemmas.Bool.{cases_lt, cases_eq}
 use Rattle.std.proofs.lemmas.List.{length-set, length-replicate, get_or-set_same, get_or-set_other, get_or_past, ext_get_or}
 use Rattle.bit_vectors.specs.declared.fault.BitFault.{BitFault}
-use Rattle.bit_vectors.specs.declared.fault.BitFault.TheVariants.{Wrong, EndsEarly}
 use Rattle.bit_vectors.specs.Vectors.{NoneIsOne}
 use Rattle.bit_vectors.specs.Eye.{EyeState, bits_left}
 use Rattle.bit_vectors.specs.Reading.{Reading, Read, Gives, IsExact}
 use Rattle.bit_vectors.proofs.ExactReading.{IsWordThen, IsExact-give, IsExact-same, IsExact-then}
-use Rattle.bit_vectors.proofs.EyeReading.{Gives-then_err}
+use Rattle.bit_vectors.proofs.EyeReading.{Gives-then_err, only_read}
 use Rattle.count_code.specs.declared.count.Count.{Count}
 use Rattle.count_code.specs.declared.count.Count.TheVariants.{Value, End}
 use Rattle.count_code.specs.Code.{count_bits, end_bits}
@@ -182,11 +181,6 @@ run_taken f v old new (Ok u) given =
 run_taken f v old new (Err fault) given = tt
 
 -- a reading that gives a value is an answer Ok
-pub only_read : {B : Type 0} (v w : B) (rest : List Bool) (new : EyeState) (result : Result (Unit {0}) BitFault) (reading : Reading B) → Gives (λ (u : Unit {0}). v) result new reading → reading ≡ Read w rest → IsOk result × (v ≡ w)
-only_read v w rest new (Ok u) reading given read = (refl, cc)
-only_read v w rest new (Err (Wrong bit)) reading given read = let wrong = given.0 in absurd cc
-only_read v w rest new (Err (EndsEarly bit)) reading given read = let short = given.0 in absurd cc
-
 pub run_only : (f : ℕ) (v : List Bool) (old new : EyeState) (result : Result (Unit {0}) BitFault) → Gives (λ (u : Unit {0}). v) result new (vector_at f (bits_left old))
     → (w rest : List Bool) → length w ≡ f → bits_left old ≡ run_bits w ++ rest → IsOk result × (v ≡ w)
 run_only f v old new result given w rest len parts = only_read v w rest new result (vector_at f (bits_left old)) given (ap (vector_at f) parts ∙ (IsExact-vector_at f).reads w (run_bits w) rest (len, refl))

@@ -4,5 +4,4 @@ pub mod Filling
 pub mod InverseBits
 pub mod RunWords
 pub mod ExactRuns
-pub mod SameWord
 pub mod ExtractedBits

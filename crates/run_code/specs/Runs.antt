@@ -1,7 +1,7 @@
 -- The word of a vector's runs (CCSDS 124.0-B-1): for each one, from the highest place down, the count of places from the
 -- one before it, and then the end of the counts. The first is counted from the number of places.
-use Rattle.std.specs.Prelude.{◌≡◌, ℕ, zero, suc, ◌-◌, Bool, true, false, not, List, [], ◌∷◌, ◌++◌, length, replicate, slice_set}
-use Rattle.bit_vectors.specs.Reading.{Reading, Read, TooShort, ◌>>=◌, bit_where, allowed}
+use Rattle.std.specs.Prelude.{◌≡◌, ℕ, zero, suc, ◌-◌, Bool, true, false, List, [], ◌∷◌, ◌++◌, length, replicate, slice_set}
+use Rattle.bit_vectors.specs.Reading.{Reading, Read, TooShort, ◌>>=◌}
 use Rattle.count_code.specs.declared.count.Count.{Count}
 use Rattle.count_code.specs.declared.count.Count.TheVariants.{Value, End}
 use Rattle.count_code.specs.Code.{count_bits, end_bits}
@@ -40,10 +40,3 @@ ones_at (suc most) below v bits =
 -- a vector with so many places
 unfoldable pub vector_at : ℕ → List Bool → Reading (List Bool)
 vector_at f bits = ones_at (suc f) f (replicate f false) bits
-
--- the bits of a word, and no others
-unfoldable pub same_at : List Bool → List Bool → Reading (Unit {0})
-same_at [] bits = Read tt bits
-same_at (bit ∷ word) bits =
-    bit_where (allowed (not bit) bit) bits
-    >>= λ found rest. same_at word rest

@@ -1,18 +1,14 @@
-use Rattle.std.proofs.Common.{◌≡◌, ℕ, ◌+◌, ◌-◌, ◌*◌, ◌<◌, ◌≤◌, Bool, true, false, cond, List, length, get_or, take, drop, refl, sym, ◌∙◌, arith}
+use Rattle.std.proofs.Common.{◌≡◌, ℕ, ◌+◌, ◌-◌, ◌*◌, ◌<◌, ◌≤◌, Bool, true, false, List, length, get_or, take, drop, refl, sym, ◌∙◌, arith}
 use mir.Val.{bool_byte}
 use Rattle.std.proofs.lemmas.List.{length-drop, get_or-drop}
 use Rattle.bit_vectors.specs.Vectors.{padded, bits_number, byte_count}
-use Rattle.bit_vectors.proofs.NumberBits.{bits_number_take_below, bits_number-take_more}
+use Rattle.bit_vectors.proofs.NumberBits.{bits_number_take_below, bits_number-take_more, bool_byte_is}
 use Rattle.bit_vectors.proofs.ByteBits.{length-padded, get_or-padded, get_or-vector_bytes}
 use Rattle.bit_vectors.proofs.packing.byte_of.Goals as goal
 
 -- the bits from this byte on
 abbrev from_byte : List Bool → ℕ → List Bool
 from_byte places index = drop (8 * index) (padded places)
-
-bool_byte_is : (bit : Bool) → bool_byte bit ≡ cond bit 1 0
-bool_byte_is true = refl
-bool_byte_is false = refl
 
 bool_byte_most : (bit : Bool) → bool_byte bit ≤ 1
 bool_byte_most true = omega arith

@@ -20,4 +20,4 @@ pub returns-clause-reading : goal.returns-clause-reading
 returns-clause-reading c =
     let i = c.loop-digits.invariant in
     let read = rw (power_fits_is c.args.most c.loop-digits.digits i.short, c.if-not-branch.false) at c.in_ok-take_allowed.ensures.reading in
-    long_end c.args.eye.now c.loop-digits.eye c.take_allowed.new.eye c.take_number.new.eye c.args.most c.loop-digits.digits c.take_number.result c.requires.least i read c.take_number.ensures.reading
+    long_end c.args.eye.now c.loop-digits.eye c.take_allowed.new.eye c.take_bounded.new.eye c.args.most c.loop-digits.digits c.take_bounded.result c.requires.least i read c.take_bounded.ensures.reading

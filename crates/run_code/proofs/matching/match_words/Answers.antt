@@ -6,7 +6,8 @@ use Rattle.count_code.specs.Code.{count_bits}
 use Rattle.run_code.specs.Runs.{runs_from}
 use Rattle.run_code.proofs.Ones.{ones_below, ones_below-one, ones_below-none}
 use Rattle.run_code.proofs.RunWords.{run_bits_is, runs_from-cons, runs_from-nil}
-use Rattle.run_code.proofs.SameWord.{same_fault, same_more, two_in_two}
+use Rattle.bit_vectors.proofs.SameWord.{same_fault, same_more}
+use Rattle.count_code.proofs.CountWords.{two_in_two}
 use Rattle.run_code.proofs.matching.match_words.Goals as goal
 
 pub loop-place-init : goal.loop-place-init

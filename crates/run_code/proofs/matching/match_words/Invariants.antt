@@ -1,7 +1,7 @@
 use Rattle.std.proofs.Common.{◌≡◌, ◌≤◌, length}
 use Rattle.bit_vectors.specs.Eye.{bits_left}
-use Rattle.bit_vectors.specs.Reading.{MovesOn}
-use Rattle.run_code.specs.Runs.{runs_from, run_bits, same_at}
+use Rattle.bit_vectors.specs.Reading.{MovesOn, same_at}
+use Rattle.run_code.specs.Runs.{runs_from, run_bits}
 use Rattle.run_code.proofs.Ones.{ones_below}
 use Rattle.run_code.proofs.matching.match_words.Given as goal
 

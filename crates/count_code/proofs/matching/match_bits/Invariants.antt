@@ -1,9 +1,8 @@
 use Rattle.std.proofs.Common.{◌≡◌}
 use Rattle.bit_vectors.specs.Vectors.{number_bits}
 use Rattle.bit_vectors.specs.Eye.{bits_left}
-use Rattle.bit_vectors.specs.Reading.{MovesOn}
-use Rattle.run_code.specs.Runs.{same_at}
-use Rattle.run_code.proofs.matching.match_number.Given as goal
+use Rattle.bit_vectors.specs.Reading.{MovesOn, same_at}
+use Rattle.count_code.proofs.matching.match_bits.Given as goal
 
 -- matching the bits of lower weight gives what matching from the start gives
 abbrev pub invariant-loop-weight : goal.invariant-loop-weight

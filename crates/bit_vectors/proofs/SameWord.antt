@@ -1,17 +1,12 @@
 -- Reading one word and no other.
 use Rattle.std.proofs.Common.{◌≡◌, ◌+◌, ◌-◌, Bool, true, false, List, [], ◌∷◌, ◌++◌, take, Result, Ok, Err, refl, ap, ◌∙◌}
-use Rattle.std.proofs.Math.Bool.{beq}
 use Rattle.std.specs.Prelude.{not, IsOk, IfErr, OnOk}
 use Rattle.bit_vectors.specs.declared.fault.BitFault.{BitFault}
 use Rattle.bit_vectors.specs.declared.fault.BitFault.TheVariants.{Wrong, EndsEarly}
-use Rattle.bit_vectors.specs.Vectors.{number_bits}
 use Rattle.bit_vectors.specs.Eye.{EyeState, bits_left}
-use Rattle.bit_vectors.specs.Reading.{Read, WrongBit, TooShort, ◌>>=◌, bit_where, allowed, MovesOn, Gives, IsExact, IsFirstFault}
+use Rattle.bit_vectors.specs.Reading.{Read, ◌>>=◌, bit_where, allowed, same_at, MovesOn, Gives, IsExact, IsFirstFault}
 use Rattle.bit_vectors.proofs.ExactReading.{IsBitWhere, IsWordThen, IsExact-give, IsExact-bit_where, IsExact-same, IsExact-then}
-use Rattle.bit_vectors.proofs.EyeReading.{Gives-then_err, fault_by}
-use Rattle.count_code.specs.Code.{end_bits}
-use Rattle.run_code.specs.Runs.{same_at}
-use Rattle.run_code.proofs.ExactRuns.{only_read}
+use Rattle.bit_vectors.proofs.EyeReading.{Gives-then_ok, Gives-then_err, only_read, fault_by}
 
 -- ---- one word after another
 
@@ -33,41 +28,24 @@ same_more a b left rest read = same_at-append a b left ∙ rw read refl
 
 pub same_then : (a b : List Bool) (old mid new : EyeState) (result : Result (Unit {0}) BitFault) → same_at a (bits_left old) ≡ Read tt (bits_left mid) → Gives (λ (u : Unit {0}). tt) result new (same_at b (bits_left mid))
     → Gives (λ (u : Unit {0}). tt) result new (same_at (a ++ b) (bits_left old))
-same_then a b old mid new result read given = rw (same_more a b (bits_left old) (bits_left mid) read) given
+same_then a b old mid new result read given =
+    rw (same_at-append a b (bits_left old)) (Gives-then_ok (λ (u : Unit {0}). tt) (λ (u : Unit {0}). tt) tt mid result new (same_at a (bits_left old)) (λ u rest. same_at b rest) read given)
 
--- ---- one bit
+-- ---- one bit after another
 
-pub same_none : (wanted : Bool) → same_at (wanted ∷ []) [] ≡ TooShort
+pub same_at-none : (bits : List Bool) → same_at [] bits ≡ Read tt bits
 unfolding same_at
-same_none wanted = refl
+same_at-none bits = refl
 
-pub same_wrong : (wanted bit : Bool) (rest : List Bool) → not (beq bit wanted) ≡ true → same_at (wanted ∷ []) (bit ∷ rest) ≡ WrongBit rest
+pub same_at-more : (bit found : Bool) (word bits rest : List Bool) → bit_where (allowed (not bit) bit) bits ≡ Read found rest → same_at (bit ∷ word) bits ≡ same_at word rest
 unfolding same_at
-same_wrong true true rest ne = absurd cc
-same_wrong true false rest ne = refl
-same_wrong false true rest ne = refl
-same_wrong false false rest ne = absurd cc
+same_at-more bit found word bits rest read = rw read refl
 
-pub same_right : (wanted bit : Bool) (rest : List Bool) → not (beq bit wanted) ≡ false → same_at (wanted ∷ []) (bit ∷ rest) ≡ Read tt rest
+pub same_at-fault : (bit : Bool) (word : List Bool) (old new : EyeState) (fault : BitFault) → Gives (λ (found : Bool). found) (Err fault) new (bit_where (allowed (not bit) bit) (bits_left old))
+    → Gives (λ (u : Unit {0}). tt) (Err fault) new (same_at (bit ∷ word) (bits_left old))
 unfolding same_at
-same_right true true rest eq = refl
-same_right true false rest eq = absurd cc
-same_right false true rest eq = absurd cc
-same_right false false rest eq = refl
-
-pub same_all : (bits : List Bool) → same_at [] bits ≡ Read tt bits
-unfolding same_at
-same_all bits = refl
-
--- ---- short words, as numbers
-
-pub zero_in_one : number_bits 1 0 ≡ false ∷ []
-unfolding number_bits
-zero_in_one = refl
-
-pub two_in_two : number_bits 2 2 ≡ end_bits
-unfolding number_bits
-two_in_two = refl
+same_at-fault bit word old new fault given =
+    Gives-then_err (λ (found : Bool). found) (λ (u : Unit {0}). tt) fault new (bit_where (allowed (not bit) bit) (bits_left old)) (λ found rest. same_at word rest) given
 
 -- ---- exact
 

@@ -1,0 +1,97 @@
+-- So many bits from the front of those that are left, one after the other.
+use Rattle.std.proofs.Common.{◌≡◌, ℕ, ◌+◌, ◌-◌, ◌<◌, ◌≤◌, Bool, false, List, [], ◌∷◌, ◌++◌, length, get_or, take, drop, replicate, refl, sym, ap, ◌∙◌, arith, inl, inr}
+use Rattle.std.proofs.lemmas.Bool.{cases_lt, le-leb, lt-leb}
+use Rattle.std.proofs.lemmas.List.{length-append, length-take-le, length-drop, length-replicate, take_at, drop_at, take-append-drop, drop_more}
+use Rattle.bit_vectors.specs.Eye.{EyeState, bits_left}
+use Rattle.bit_vectors.specs.Reading.{Reading, Read, WrongBit, TooShort, MovesOn, CanBegin, IsWrongBefore, IsExact, front_at}
+use Rattle.bit_vectors.proofs.EyeReading.{MovesOn-refl, MovesOn-then}
+
+-- so many bits were taken
+pub record HasTaken (old eye : EyeState) (count : ℕ) : Type 0 where
+  pub moves : MovesOn old eye
+  pub enough : count ≤ length (bits_left old)
+  pub left : bits_left eye ≡ drop count (bits_left old)
+
+pub HasTaken-none : (eye : EyeState) → HasTaken eye eye 0
+HasTaken-none eye = record { moves = MovesOn-refl eye; enough = omega arith; left = refl }
+
+-- there is one more
+one_left : (old eye : EyeState) (count : ℕ) (bit : Bool) (rest : List Bool) → HasTaken old eye count → bits_left eye ≡ bit ∷ rest → count < length (bits_left old)
+one_left old eye count bit rest taken next =
+    omega (arith, taken.enough, ap (λ (bits : List Bool). length bits) (sym taken.left ∙ next), length-drop count (bits_left old))
+
+next_parts : (bits : List Bool) (count : ℕ) (bit : Bool) (rest : List Bool) → count < length bits → drop count bits ≡ bit ∷ rest → (get_or bits count false ≡ bit) × (drop (count + 1) bits ≡ rest)
+next_parts bits count bit rest lt next = let e = drop_more bits count false lt in (cc, cc)
+
+pub next_is : (old eye : EyeState) (count : ℕ) (bit : Bool) (rest : List Bool) → HasTaken old eye count → bits_left eye ≡ bit ∷ rest → get_or (bits_left old) count false ≡ bit
+next_is old eye count bit rest taken next =
+    (next_parts (bits_left old) count bit rest (one_left old eye count bit rest taken next) (sym taken.left ∙ next)).0
+
+pub HasTaken-more : (old eye new : EyeState) (count : ℕ) (bit : Bool) → HasTaken old eye count → MovesOn eye new → bits_left eye ≡ bit ∷ bits_left new → HasTaken old new (count + 1)
+HasTaken-more old eye new count bit taken moves next = record {
+  moves = MovesOn-then old eye new taken.moves moves;
+  enough = omega (arith, one_left old eye count bit (bits_left new) taken next);
+  left = sym (next_parts (bits_left old) count bit (bits_left new) (one_left old eye count bit (bits_left new) taken next) (sym taken.left ∙ next)).1;
+}
+
+-- all that were left
+pub HasTaken-all : (old eye : EyeState) (count : ℕ) → HasTaken old eye count → bits_left eye ≡ [] → length (bits_left old) ≡ count
+HasTaken-all old eye count taken none =
+    omega (arith, taken.enough, ap (λ (bits : List Bool). length bits) (sym taken.left ∙ none), length-drop count (bits_left old))
+
+-- ---- what reading them gives
+
+pub front_at-enough : (count : ℕ) (bits : List Bool) → count ≤ length bits → front_at count bits ≡ Read (take count bits) (drop count bits)
+unfolding front_at
+front_at-enough count bits le = rw (le-leb count (length bits) le) refl
+
+pub front_at-short : (count : ℕ) (bits : List Bool) → length bits < count → front_at count bits ≡ TooShort
+unfolding front_at
+front_at-short count bits lt = rw (lt-leb count (length bits) lt) refl
+
+pub front_at-taken : (old eye : EyeState) (count : ℕ) → HasTaken old eye count → front_at count (bits_left old) ≡ Read (take count (bits_left old)) (bits_left eye)
+front_at-taken old eye count taken = rw taken.left (front_at-enough count (bits_left old) taken.enough)
+
+-- ---- exact
+
+-- a list of so many bits, which is its own word
+abbrev pub IsFront : ℕ → List Bool → List Bool → Type 0
+IsFront count front word = (length front ≡ count) × (word ≡ front)
+
+same_read : (a b r s : List Bool) → ◌≡◌ {A = Reading (List Bool)} (Read a r) (Read b s) → (a ≡ b) × (r ≡ s)
+same_read a b r s e = (cc, cc)
+
+front_read_is : (count : ℕ) (bits front rest : List Bool) → front_at count bits ≡ Read front rest → (word : List Bool) × IsFront count front word × (bits ≡ word ++ rest)
+front_read_is count bits front rest e =
+    elim (cases_lt (length bits) count) [
+      | inl short ↦ let none = front_at-short count bits short in absurd cc
+      | inr enough ↦
+          let same = same_read (take count bits) front (drop count bits) rest (sym (front_at-enough count bits enough) ∙ e) in
+          (front, (rw (← same.0) (length-take-le count bits enough), refl), rw (← same.0, ← same.1) (sym (take-append-drop count bits)))
+    ]
+
+front_short_is : (count : ℕ) (bits : List Bool) → front_at count bits ≡ TooShort → CanBegin (λ word. (front : List Bool) × IsFront count front word) bits
+front_short_is count bits e =
+    elim (cases_lt (length bits) count) [
+      | inl short ↦
+          let rest = replicate (count - length bits) false in
+          (rest, (bits ++ rest, (omega (arith, length-append bits rest, length-replicate (count - length bits) false), refl)))
+      | inr enough ↦ let read = front_at-enough count bits enough in absurd cc
+    ]
+
+front_wrong_is : (count : ℕ) (bits rest : List Bool) → front_at count bits ≡ WrongBit rest → IsWrongBefore (λ word. (front : List Bool) × IsFront count front word) bits rest
+front_wrong_is count bits rest e =
+    elim (cases_lt (length bits) count) [
+      | inl short ↦ let none = front_at-short count bits short in absurd cc
+      | inr enough ↦ let read = front_at-enough count bits enough in absurd cc
+    ]
+
+pub IsExact-front_at : (count : ℕ) → IsExact (IsFront count) (front_at count)
+IsExact-front_at count = record {
+  reads = λ front word rest w.
+      let len : length word ≡ count = rw w.1 w.0 in
+      front_at-enough count (word ++ rest) (omega (arith, length-append word rest)) ∙ rw (take_at word rest count len, drop_at word rest count len, w.1) refl;
+  read_is = front_read_is count;
+  wrong_is = front_wrong_is count;
+  short_is = front_short_is count;
+}
