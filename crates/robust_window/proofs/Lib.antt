@@ -1,3 +1,4 @@
+pub mod Earlier
 pub mod Levels
 pub mod OfHistories
 pub mod Ranges

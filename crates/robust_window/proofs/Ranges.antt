@@ -1,6 +1,6 @@
 -- Tests over the numbers from one up to another.
-use Rattle.std.proofs.Common.{max, subst, ◌≡◌, ℕ, zero, suc, ◌+◌, ◌-◌, ◌<◌, ◌≤◌, Bool, true, false, cond, [], ◌∷◌, Some, get_or, refl, sym, ap, ◌∙◌, ◌⊎◌, inl, inr, arith, add-one}
-use Rattle.std.specs.Prelude.{reverse, find}
+use Rattle.std.proofs.Common.{max, subst, ◌≡◌, ℕ, zero, suc, ◌+◌, ◌-◌, ◌<◌, ◌≤◌, Bool, true, false, cond, [], ◌∷◌, Some, get_or, refl, sym, ap, ◌∙◌, ◌⊎◌, inl, inr, arith, add-one, map, List}
+use Rattle.std.specs.Prelude.{reverse, find, ◌||◌, ◌&&◌}
 use Rattle.std.specs.List.{count_by, list_all, list_any, range_with_len}
 use Rattle.std.specs.Cmp.{both_ways}
 use Rattle.std.proofs.lemmas.Bool.{and_from, cases_eq, cases_lt}
@@ -242,3 +242,36 @@ find_greatest p a (suc n) v ge lt passes none =
           ap (λ b. cond b (Some (a + n)) (find p (reverse (range_with_len a n)))) (none (a + n) (omega arith) (omega arith))
           ∙ find_greatest p a n v ge (omega arith) passes (λ w above below. none w above (omega arith))
     ]
+
+-- ---- tests that agree
+
+pub map_same : {A : Type 0} (p q : ℕ → A) (a n : ℕ) → ((s : ℕ) → s < a + n → p s ≡ q s) → map p (range_with_len a n) ≡ map q (range_with_len a n)
+map_same p q a zero same = refl
+map_same p q a (suc n) same =
+    ap (λ x. x ∷ map p (range_with_len (a + 1) n)) (same a (omega arith))
+    ∙ ap (λ xs. q a ∷ xs) (map_same p q (a + 1) n (λ s lt. same s (omega arith)))
+
+-- what goes over a list by a test of each element
+fold_same : {B : Type 0} (whole : (ℕ → Bool) → List ℕ → B) (next : Bool → B → B) → ((p q : ℕ → Bool) → whole p [] ≡ whole q []) → ((p : ℕ → Bool) (x : ℕ) (xs : List ℕ) → whole p (x ∷ xs) ≡ next (p x) (whole p xs)) → (p q : ℕ → Bool) (a n : ℕ) → ((s : ℕ) → s < a + n → p s ≡ q s) → whole p (range_with_len a n) ≡ whole q (range_with_len a n)
+fold_same whole next none more p q a zero same = none p q
+fold_same whole next none more p q a (suc n) same =
+    more p a (range_with_len (a + 1) n)
+    ∙ ap (λ b. next b (whole p (range_with_len (a + 1) n))) (same a (omega arith))
+    ∙ ap (next (q a)) (fold_same whole next none more p q (a + 1) n (λ s lt. same s (omega arith)))
+    ∙ sym (more q a (range_with_len (a + 1) n))
+
+steps_same : {B : Type 0} (whole : (ℕ → Bool) → List ℕ → B) (next : Bool → B → B) → ((p q : ℕ → Bool) → whole p [] ≡ whole q []) → ((p : ℕ → Bool) (x : ℕ) (xs : List ℕ) → whole p (x ∷ xs) ≡ next (p x) (whole p xs)) → (p q : ℕ → Bool) (from to : ℕ) → ((s : ℕ) → s < to → p s ≡ q s) → whole p (steps_from from to) ≡ whole q (steps_from from to)
+steps_same whole next none more p q from to same =
+    elim (cases_lt from to) [
+      | inl lt ↦ fold_same whole next none more p q from (to - from) (λ s within. same s (omega arith))
+      | inr ge ↦ let empty : to - from ≡ 0 = omega arith in ap (λ n. whole p (range_with_len from n)) empty ∙ none p q ∙ sym (ap (λ n. whole q (range_with_len from n)) empty)
+    ]
+
+pub any_same : (p q : ℕ → Bool) (from to : ℕ) → ((s : ℕ) → s < to → p s ≡ q s) → list_any p (steps_from from to) ≡ list_any q (steps_from from to)
+any_same = steps_same (λ p xs. list_any p xs) (λ b rest. b || rest) (λ p q. refl) (λ p x xs. refl)
+
+pub all_same : (p q : ℕ → Bool) (from to : ℕ) → ((s : ℕ) → s < to → p s ≡ q s) → list_all p (steps_from from to) ≡ list_all q (steps_from from to)
+all_same = steps_same (λ p xs. list_all p xs) (λ b rest. b && rest) (λ p q. refl) (λ p x xs. refl)
+
+pub count_same : (p q : ℕ → Bool) (from to : ℕ) → ((s : ℕ) → s < to → p s ≡ q s) → count_by p (steps_from from to) ≡ count_by q (steps_from from to)
+count_same = steps_same (λ p xs. count_by p xs) (λ b rest. cond b 1 0 + rest) (λ p q. refl) (λ p x xs. sum_by-cons (λ y. cond (p y) 1 0) x xs)

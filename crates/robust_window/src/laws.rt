@@ -3,7 +3,7 @@
 ghost use Rattle.std.specs.Prelude.{◌≡◌, ℕ, ◌+◌, ◌-◌, ◌<◌, ◌≤◌, ◌↔◌, IsTrue, Contains, true, false, [], ◌∷◌, length, map};
 ghost use Rattle.std.specs.List.{range_with_len};
 ghost use Rattle.bit_vectors.specs.Vectors.{IsOne};
-ghost use Rattle.mask_update.specs.Histories.{History, IsValid, robust_at};
+ghost use Rattle.mask_update.specs.Histories.{History, IsValid, Step, robust_at, with_step};
 ghost use Rattle.mask_update.specs.Masks.{change_at};
 ghost use Rattle.mask_update.specs.Worked.{last, none};
 ghost use Rattle.robust_window.specs.Changes.{most_level};
@@ -34,6 +34,16 @@ pub fn effective_level()
 /// 'Twice' holds where two steps within the effective robustness level take a new mask.
 pub fn new_mask_twice()
     ensures { (h : History) (t : ℕ) → t < length h.steps → IsTrue (twice_at h t) ↔ Twice h t }
+{}
+
+/// One more step leaves the recent changes, the effective robustness level and 'twice' of the steps before it.
+pub fn earlier_steps_stay()
+    ensures recent { (h : History) (step : Step) (t : ℕ) → t < length h.steps →
+        recent_at (with_step h step) t ≡ recent_at h t }
+    ensures level { (h : History) (step : Step) (t : ℕ) → t < length h.steps →
+        level_at (with_step h step) t ≡ level_at h t }
+    ensures twice { (h : History) (step : Step) (t : ℕ) → t < length h.steps →
+        twice_at (with_step h step) t ≡ twice_at h t }
 {}
 
 /// A worked history: place 7 enters the mask at step 1 and leaves it at step 5, the second new mask.
