@@ -7,7 +7,7 @@ use Rattle.std.proofs.lemmas.List.Folds.{Any-from_list_any, list_any_at}
 use Rattle.robust_window.specs.Changes.{MaskStep, is_quiet, is_quiet_back, level_of, mask_step, most_level}
 use Rattle.robust_window.proofs.Ranges.{find_greatest, list_all-from_range, list_all-not_in_range, true_or}
 
-list_any-zeros : (n : ℕ) → list_any (λ (bit : Bool). bit) (replicate n false) ≡ false
+pub list_any-zeros : (n : ℕ) → list_any (λ (bit : Bool). bit) (replicate n false) ≡ false
 list_any-zeros zero = refl
 list_any-zeros (suc n) = list_any-zeros n
 
