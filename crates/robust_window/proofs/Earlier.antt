@@ -5,11 +5,11 @@ use Rattle.std.specs.List.{count_by, list_all, list_any, range_with_len}
 use Rattle.std.proofs.lemmas.Bool.{cases_order, false≢true}
 use Rattle.std.proofs.lemmas.List.{length_push}
 use Rattle.std.proofs.lemmas.List.FromFn.{length-map-range_with_len, map-range_with_len_more}
-use Rattle.mask_update.specs.Histories.{History, Step, with_step}
+use Rattle.mask_update.specs.Histories.{History, Step, latest_step, with_step}
 use Rattle.mask_update.specs.Masks.{vector_of}
 use Rattle.mask_update.proofs.Standing.{change_at-before, step_at-before}
 use Rattle.mask_update.proofs.StepByStep.{vector_of_same}
-use Rattle.robust_window.specs.Changes.{MaskStep, changes_place, is_quiet, is_quiet_back, level_of, mask_step, most_level, recent_of, steps_from, takes_new_mask, twice_of}
+use Rattle.robust_window.specs.Changes.{MaskStep, changes_place, is_quiet, is_quiet_back, latest_change, level_of, mask_step, most_level, recent_of, steps_from, takes_new_mask, twice_of}
 use Rattle.robust_window.specs.Histories.{level_at, mask_step_at, mask_steps, recent_at, twice_at}
 use Rattle.robust_window.proofs.Levels.{IsGreatest, level_of-greatest}
 use Rattle.robust_window.proofs.Ranges.{all_same, any_same, count_same, map_same}
@@ -85,3 +85,7 @@ level_at-before h step t lt = level_of-same (mask_steps (with_step h step)) (mas
 
 pub twice_at-before : (h : History) (step : Step) (t : ℕ) → t < length h.steps → twice_at (with_step h step) t ≡ twice_at h t
 twice_at-before h step t lt = twice_of-same (mask_steps (with_step h step)) (mask_steps h) t (agree-before h step t lt)
+
+-- the latest of a history's changes is that of its latest step
+pub latest_change-is : (h : History) → latest_change (mask_steps h) ≡ latest_step h
+latest_change-is h = ap (λ n. n - 1) (length-map-range_with_len (mask_step_at h) 0 (length h.steps))
