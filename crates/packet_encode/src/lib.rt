@@ -8,4 +8,6 @@ mod encoder;
 mod laws;
 
 pub use encoder::{Encoder, room};
-pub use laws::worked_forms;
+pub use laws::{
+    forced_packets, forms_of_histories, packets_have_room, packets_of_the_past, worked_forms, worked_packets,
+};
