@@ -1,5 +1,5 @@
 -- How many bits the parts of a packet have.
-use Rattle.std.proofs.Common.{◌≡◌, ℕ, ◌+◌, ◌-◌, ◌*◌, ◌^◌, ◌<◌, ◌≤◌, Bool, true, false, cond, List, [], ◌∷◌, ◌++◌, length, map, drop, Option, Some, None, refl, sym, ap, ◌∙◌, ◌⊎◌, inl, inr, arith}
+use Rattle.std.proofs.Common.{◌≡◌, ℕ, ◌+◌, ◌-◌, ◌*◌, ◌<◌, ◌≤◌, Bool, true, false, cond, List, [], ◌∷◌, ◌++◌, length, drop, Option, Some, None, ap, ◌∙◌, ◌⊎◌, inl, inr, arith}
 use Rattle.std.specs.Prelude.{IfSome, count_by, nat_lt, not, ◌&&◌}
 use Rattle.std.specs.List.{list_any}
 use Rattle.std.proofs.lemmas.Bool.{cases_eq, cases_lt}
@@ -8,11 +8,11 @@ use Rattle.std.proofs.lemmas.List.Sums.{count_by-le-length}
 use Rattle.std.proofs.lemmas.Simd.{length-zip2}
 use Rattle.bit_vectors.specs.Vectors.{number_bits}
 use Rattle.bit_vectors.proofs.NumberBits.{length-number_bits}
-use Rattle.count_code.specs.Code.{count_bits, digits}
+use Rattle.count_code.specs.Code.{count_bits}
 use Rattle.count_code.proofs.CountWords.{count_bits-one, length-count_bits-long, length-count_bits-short}
 use Rattle.count_code.proofs.Digits.{digits_most, digits_of}
 use Rattle.run_code.specs.Edges.{edges}
-use Rattle.run_code.specs.Extraction.{bits_up, extract, inverse_up}
+use Rattle.run_code.specs.Extraction.{bits_up, inverse_up}
 use Rattle.run_code.specs.Places.{places_up}
 use Rattle.run_code.specs.Runs.{run_bits}
 use Rattle.run_code.proofs.InverseBits.{length-bits_at}
@@ -54,8 +54,14 @@ unfolding change_bits
 change_bits-most form =
     let there = list_any (λ bit. bit) form.recent && nat_lt 0 form.level in
     let rest = cond there (direction_bits form.recent form.directions) [] in
-    omega (arith, length-append (run_bits form.recent) (number_bits 4 form.level ++ rest), length-append (number_bits 4 form.level) rest,
-    run_bits_most form.recent, length-number_bits 4 form.level, directions_most there form.recent form.directions)
+    omega (
+      arith,
+      length-append (run_bits form.recent) (number_bits 4 form.level ++ rest),
+      length-append (number_bits 4 form.level) rest,
+      run_bits_most form.recent,
+      length-number_bits 4 form.level,
+      directions_most there form.recent form.directions,
+    )
 
 length-edges : (mask : List Bool) → 1 ≤ length mask → length (edges mask) ≡ length mask
 length-edges mask some =

@@ -1,14 +1,14 @@
 -- When a packet has directions, and the first part of its bits.
 use Rattle.std.proofs.Common.{◌≡◌, ℕ, ◌<◌, Bool, true, false, cond, List, [], ◌∷◌, ◌++◌, length, replicate, Option, Some, None, refl, sym, ap, ◌∙◌, arith, append_assoc}
-use Rattle.std.specs.Prelude.{Contains, nat_lt, not, ◌&&◌, ◌||◌}
+use Rattle.std.specs.Prelude.{Contains, nat_lt, ◌&&◌}
 use Rattle.std.specs.List.{list_any}
-use Rattle.std.proofs.lemmas.Bool.{and_from, le-leb, lt-leb, ltb-true}
+use Rattle.std.proofs.lemmas.Bool.{and_from, le-leb}
 use Rattle.std.proofs.lemmas.List.{append-nil}
 use Rattle.std.proofs.lemmas.List.Folds.{list_any_at}
 use Rattle.bit_vectors.specs.Vectors.{number_bits, without_bits}
 use Rattle.robust_window.proofs.Levels.{list_any-zeros}
 use Rattle.run_code.specs.Runs.{run_bits}
-use Rattle.packet_encode.specs.Forms.{Directions, Form, change_bits, direction_bits}
+use Rattle.packet_encode.specs.Forms.{Form, change_bits, direction_bits}
 use Rattle.packet_encode.specs.Packets.{directions_of}
 
 pub has_one : List Bool → Bool

@@ -1,13 +1,13 @@
 -- Later steps leave the packets of the steps before them.
-use Rattle.std.proofs.Common.{◌≡◌, ℕ, zero, suc, ◌+◌, ◌-◌, ◌<◌, ◌≤◌, Bool, List, [], ◌∷◌, ◌++◌, length, take, refl, sym, ap, ◌∙◌, arith}
+use Rattle.std.proofs.Common.{◌≡◌, ℕ, zero, suc, ◌+◌, ◌-◌, ◌<◌, ◌≤◌, Bool, List, length, take, sym, ap, ◌∙◌, arith}
 use Rattle.std.proofs.lemmas.List.{length-take, take_all, take_more}
 use Rattle.bit_vectors.specs.Vectors.{padded}
-use Rattle.mask_update.specs.Histories.{History, Step, flags_at, input_at, latest_step, no_step, step_at, with_step}
+use Rattle.mask_update.specs.Histories.{History, Step, flags_at, input_at, no_step, step_at, with_step}
 use Rattle.mask_update.specs.Masks.{mask_at}
 use Rattle.mask_update.proofs.Standing.{mask_at-before, step_at-before}
 use Rattle.robust_window.specs.Histories.{level_at, recent_at, twice_at}
 use Rattle.robust_window.proofs.Earlier.{level_at-before, recent_at-before, twice_at-before}
-use Rattle.packet_encode.specs.Forms.{Form, form_bits}
+use Rattle.packet_encode.specs.Forms.{form_bits}
 use Rattle.packet_encode.specs.Packets.{AgreeUpTo, form_at, packet_at}
 use Rattle.packet_encode.proofs.OfHistories.{form_of-same}
 

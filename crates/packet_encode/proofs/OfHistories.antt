@@ -1,6 +1,6 @@
 -- The forms of histories.
-use Rattle.std.proofs.Common.{◌≡◌, ℕ, ◌+◌, ◌*◌, ◌<◌, ◌≤◌, Bool, true, false, cond, List, [], ◌∷◌, ◌++◌, length, get_or, Option, Some, None, refl, sym, ap, ◌∙◌, arith}
-use Rattle.std.specs.Prelude.{IfSome, count_by, nat_lt, not, ◌&&◌}
+use Rattle.std.proofs.Common.{◌≡◌, ℕ, ◌+◌, ◌*◌, ◌<◌, ◌≤◌, Bool, true, false, cond, List, ◌++◌, length, get_or, Option, Some, None, refl, sym, ap, ◌∙◌, arith}
+use Rattle.std.specs.Prelude.{IfSome, nat_lt, not, ◌&&◌}
 use Rattle.std.specs.List.{list_any}
 use Rattle.std.proofs.lemmas.Bool.{and_parts, leb-true}
 use Rattle.std.proofs.lemmas.Simd.{length-zip2}
@@ -13,9 +13,8 @@ use Rattle.mask_update.proofs.StepByStep.{length-mask_at}
 use Rattle.robust_window.specs.Histories.{IsLevel, level_at, recent_at, twice_at}
 use Rattle.robust_window.proofs.Levels.{some_one}
 use Rattle.robust_window.proofs.OfHistories.{IsLevel-level_at, length-recent_at}
-use Rattle.run_code.specs.Extraction.{extract}
 use Rattle.run_code.proofs.ExtractedBits.{length-extract}
-use Rattle.packet_encode.specs.Forms.{AreDirections, Content, Directions, Fits, FitsPlaces, Form, HasPlaces, IsForm, Part, Whole, change_bits, data_bits, form_bits, wide_by}
+use Rattle.packet_encode.specs.Forms.{AreDirections, Directions, Fits, FitsPlaces, Form, HasPlaces, IsForm, change_bits, data_bits, form_bits, wide_by}
 use Rattle.packet_encode.specs.Packets.{content_of, directions_of, form_at, form_of, sent_of}
 use Rattle.packet_encode.proofs.Bounds.{HasMost, form_bits-most, ones_most}
 

@@ -1,5 +1,5 @@
 -- The packets of a history (CCSDS 124.0-B-1): the form of each step, and its bits.
-use Rattle.std.specs.Prelude.{◌≡◌, ℕ, ◌+◌, nat_lt, Bool, ◌&&◌, if◌then◌else◌, List, [], ◌∷◌, ◌++◌, length, take, Option, None, Some}
+use Rattle.std.specs.Prelude.{◌≡◌, ℕ, ◌+◌, nat_lt, Bool, ◌&&◌, if◌then◌else◌, List, length, take, Option, None, Some}
 use Rattle.std.specs.List.{list_any}
 use Rattle.bit_vectors.specs.declared.flags.Flags.{Flags}
 use Rattle.bit_vectors.specs.Vectors.{padded, without_bits}

@@ -9,5 +9,9 @@ mod laws;
 
 pub use encoder::{Encoder, room};
 pub use laws::{
-    forced_packets, forms_of_histories, packets_have_room, packets_of_the_past, worked_forms, worked_packets,
+    forced_packets, forms_of_histories, packets_have_room, packets_of_the_past, worked_forms,
+    worked_packets,
 };
+
+#[cfg(test)]
+mod tests;

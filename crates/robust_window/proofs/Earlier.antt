@@ -1,5 +1,5 @@
 -- More steps leave the window values of the steps before them.
-use Rattle.std.proofs.Common.{◌≡◌, ℕ, ◌+◌, ◌-◌, ◌<◌, ◌≤◌, Bool, true, false, List, [], ◌∷◌, ◌++◌, length, map, get_or, refl, sym, ap, ◌∙◌, inl, inr, max, min, arith, add-one}
+use Rattle.std.proofs.Common.{◌≡◌, ℕ, ◌+◌, ◌-◌, ◌<◌, ◌≤◌, Bool, false, List, [], ◌∷◌, ◌++◌, length, map, get_or, refl, sym, ap, ◌∙◌, inl, inr, max, arith}
 use Rattle.std.specs.Prelude.{nat_le, not}
 use Rattle.std.specs.List.{count_by, list_all, list_any, range_with_len}
 use Rattle.std.proofs.lemmas.Bool.{cases_order, false≢true}
@@ -9,9 +9,9 @@ use Rattle.mask_update.specs.Histories.{History, Step, latest_step, with_step}
 use Rattle.mask_update.specs.Masks.{vector_of}
 use Rattle.mask_update.proofs.Standing.{change_at-before, step_at-before}
 use Rattle.mask_update.proofs.StepByStep.{vector_of_same}
-use Rattle.robust_window.specs.Changes.{MaskStep, changes_place, is_quiet, is_quiet_back, latest_change, level_of, mask_step, most_level, recent_of, steps_from, takes_new_mask, twice_of}
+use Rattle.robust_window.specs.Changes.{MaskStep, changes_place, is_quiet, is_quiet_back, latest_change, level_of, mask_step, recent_of, steps_from, takes_new_mask, twice_of}
 use Rattle.robust_window.specs.Histories.{level_at, mask_step_at, mask_steps, recent_at, twice_at}
-use Rattle.robust_window.proofs.Levels.{IsGreatest, level_of-greatest}
+use Rattle.robust_window.proofs.Levels.{level_of-greatest}
 use Rattle.robust_window.proofs.Ranges.{all_same, any_same, count_same, map_same}
 use Rattle.robust_window.proofs.Standing.{mask_step-before}
 

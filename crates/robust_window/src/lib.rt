@@ -5,7 +5,9 @@ mod laws;
 mod scan;
 mod window;
 
-pub use laws::{earlier_steps_stay, effective_level, new_mask_twice, recent_changes, worked_window};
+pub use laws::{
+    earlier_steps_stay, effective_level, new_mask_twice, recent_changes, worked_window,
+};
 pub use window::Window;
 
 #[cfg(test)]

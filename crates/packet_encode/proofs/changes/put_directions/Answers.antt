@@ -1,9 +1,9 @@
-use Rattle.std.proofs.Common.{◌≡◌, ◌+◌, ◌<◌, ◌≤◌, ◌++◌, length, Bool, List, [], ◌∷◌, true, false, None, Option, ap, sym, ◌∙◌, arith}
+use Rattle.std.proofs.Common.{◌++◌, length, [], ◌∷◌, true, ap, sym, ◌∙◌, arith}
 use Rattle.std.proofs.lemmas.List.{length-append, length_push}
 use Rattle.bit_vectors.specs.Vectors.{without_bits}
 use Rattle.run_code.specs.Extraction.{inverse_up}
 use Rattle.run_code.proofs.ExtractedBits.{inverse_is}
-use Rattle.packet_encode.specs.Forms.{Directions, direction_bits, wide_by}
+use Rattle.packet_encode.specs.Forms.{direction_bits, wide_by}
 use Rattle.packet_encode.proofs.Bounds.{length-inverse_up, ones_most}
 use Rattle.packet_encode.proofs.Directions.{appended, directions-none, directions-some, none_left, some_left}
 use Rattle.packet_encode.proofs.changes.put_directions.Goals as goal
@@ -23,8 +23,15 @@ returns-then-is_zero-clause-wide c = λ level above.
 
 pub put-requires-3 : goal.put-requires-3
 put-requires-3 c =
-    omega (arith, ap length c.put_inverse_up.ensures.bits, length-append c.put-2.new.self.bits (inverse_up c.args.mask.now c.args.recent.now),
-    length-inverse_up c.args.mask.now c.args.recent.now, ones_most c.args.recent.now, ap length c.put-2.ensures.bits, length_push c.args.pen.now.bits true)
+    omega (
+      arith,
+      ap length c.put_inverse_up.ensures.bits,
+      length-append c.put-2.new.self.bits (inverse_up c.args.mask.now c.args.recent.now),
+      length-inverse_up c.args.mask.now c.args.recent.now,
+      ones_most c.args.recent.now,
+      ap length c.put-2.ensures.bits,
+      length_push c.args.pen.now.bits true,
+    )
 
 pub returns-clause-bits : goal.returns-clause-bits
 returns-clause-bits c = λ level above.
@@ -42,6 +49,14 @@ returns-clause-wide c = λ level above.
 
 pub returns-clause-most : goal.returns-clause-most
 returns-clause-most c =
-    omega (arith, ap length c.put-3.ensures.bits, length_push c.put_inverse_up.new.pen.bits c.args.twice,
-    ap length c.put_inverse_up.ensures.bits, length-append c.put-2.new.self.bits (inverse_up c.args.mask.now c.args.recent.now),
-    length-inverse_up c.args.mask.now c.args.recent.now, ones_most c.args.recent.now, ap length c.put-2.ensures.bits, length_push c.args.pen.now.bits true)
+    omega (
+      arith,
+      ap length c.put-3.ensures.bits,
+      length_push c.put_inverse_up.new.pen.bits c.args.twice,
+      ap length c.put_inverse_up.ensures.bits,
+      length-append c.put-2.new.self.bits (inverse_up c.args.mask.now c.args.recent.now),
+      length-inverse_up c.args.mask.now c.args.recent.now,
+      ones_most c.args.recent.now,
+      ap length c.put-2.ensures.bits,
+      length_push c.args.pen.now.bits true,
+    )

@@ -1,18 +1,17 @@
-use Rattle.std.proofs.Common.{◌≡◌, ℕ, ◌+◌, ◌*◌, ◌<◌, ◌≤◌, ◌++◌, length, Bool, List, [], ◌∷◌, cond, refl, ap, sym, ◌∙◌, subst, arith}
+use Rattle.std.proofs.Common.{◌≡◌, ℕ, ◌<◌, ◌++◌, length, cond, refl, ap, sym, ◌∙◌, subst, arith}
 use Rattle.bit_vectors.specs.declared.flags.Flags.{Flags}
 use Rattle.bit_vectors.specs.Vectors.{or_bits, padded}
 use Rattle.mask_update.specs.Histories.{History, Step, flags_after, flags_at, input_at, latest_step, step_at, step_of}
-use Rattle.mask_update.specs.Masks.{Running, change_at, mask_at}
+use Rattle.mask_update.specs.Masks.{change_at, mask_at}
 use Rattle.mask_update.specs.Masks.{StandsFor as MasksStandFor}
 use Rattle.mask_update.proofs.Standing.{latest_step-with_step, step_at-last}
 use Rattle.robust_window.specs.Changes.{latest_change, level_of, recent_of, twice_of}
 use Rattle.robust_window.specs.Histories.{level_at, mask_step_at, mask_steps, recent_at, twice_at}
-use Rattle.robust_window.specs.Window.{Kept}
 use Rattle.robust_window.specs.Window.{StandsFor as WindowStandsFor}
 use Rattle.robust_window.proofs.Earlier.{latest_change-is, mask_steps-push}
 use Rattle.packet_encode.specs.Encoder.{EncoderState, StandsFor}
-use Rattle.packet_encode.specs.Forms.{Form, change_bits, data_bits, form_bits, wide_by}
-use Rattle.packet_encode.specs.Packets.{content_of, directions_of, form_at, form_of, sent_of, with_input}
+use Rattle.packet_encode.specs.Forms.{change_bits, data_bits, form_bits}
+use Rattle.packet_encode.specs.Packets.{content_of, form_at, form_of, sent_of, with_input}
 use Rattle.packet_encode.proofs.OfHistories.{form_of-most, form_of-same, written_is}
 use Rattle.packet_encode.proofs.encoder.Encoder.encode.Goals as goal
 
@@ -95,6 +94,9 @@ returns-clause-most c =
     c.step.ensures.places ∙ ap (λ (e : EncoderState). length e.masks.mask) c.self.view_is ∙ sym c.requires.places in
     let recent_len : length c.step-2.new.self.recent ≡ length c.args.input.now =
     c.step-2.ensures.places ∙ c.self.invariant.places ∙ ap (λ (e : EncoderState). length e.masks.mask) c.self.view_is ∙ sym c.requires.places in
-    omega (arith, ap length (written c),
-    form_of-most c.step.new.self.mask c.step-2.new.self.recent c.step-2.new.self.level c.step-2.new.self.twice c.args.input.now c.forced-flags.result (length c.args.input.now)
-    (omega (arith, c.mask-mask.ensures.vector.0, ap length c.mask-mask.ensures.kept)) (omega (arith, c.mask-mask.ensures.vector.1, ap length c.mask-mask.ensures.kept)) mask_len recent_len refl)
+    omega (
+      arith,
+      ap length (written c),
+      form_of-most c.step.new.self.mask c.step-2.new.self.recent c.step-2.new.self.level c.step-2.new.self.twice c.args.input.now c.forced-flags.result (length c.args.input.now)
+          (omega (arith, c.mask-mask.ensures.vector.0, ap length c.mask-mask.ensures.kept)) (omega (arith, c.mask-mask.ensures.vector.1, ap length c.mask-mask.ensures.kept)) mask_len recent_len refl,
+    )
