@@ -1,13 +1,15 @@
 -- When a packet has directions, and the first part of its bits.
-use Rattle.std.proofs.Common.{◌≡◌, ℕ, ◌<◌, Bool, true, false, cond, List, [], ◌∷◌, ◌++◌, length, replicate, Option, Some, None, refl, sym, ap, ◌∙◌, arith, append_assoc}
+use Rattle.std.proofs.Common.{◌≡◌, ℕ, ◌+◌, ◌*◌, ◌<◌, ◌≤◌, Bool, true, false, cond, List, [], ◌∷◌, ◌++◌, length, replicate, Option, Some, None, refl, sym, ap, ◌∙◌, arith, append_assoc}
 use Rattle.std.specs.Prelude.{Contains, nat_lt, ◌&&◌}
 use Rattle.std.specs.List.{list_any}
 use Rattle.std.proofs.lemmas.Bool.{and_from, le-leb}
-use Rattle.std.proofs.lemmas.List.{append-nil}
+use Rattle.std.proofs.lemmas.List.{append-nil, length-append}
 use Rattle.std.proofs.lemmas.List.Folds.{list_any_at}
 use Rattle.bit_vectors.specs.Vectors.{number_bits, without_bits}
+use Rattle.bit_vectors.proofs.NumberBits.{length-number_bits}
 use Rattle.robust_window.proofs.Levels.{list_any-zeros}
 use Rattle.run_code.specs.Runs.{run_bits}
+use Rattle.run_code.proofs.RunWords.{run_bits_most}
 use Rattle.packet_encode.specs.Forms.{Form, change_bits, direction_bits}
 use Rattle.packet_encode.specs.Packets.{directions_of}
 
@@ -89,6 +91,10 @@ no_change form none = ap (λ b. b && nat_lt 0 form.level) none
 pub front_is : (old runs numbered taken recent : List Bool) (taken_level level : ℕ) → runs ≡ old ++ run_bits taken → numbered ≡ runs ++ number_bits 4 taken_level → taken ≡ recent → taken_level ≡ level → numbered ≡ (old ++ run_bits recent) ++ number_bits 4 level
 front_is old runs numbered taken recent taken_level level run number same same_level =
     number ∙ ap (λ bits. bits ++ number_bits 4 taken_level) (run ∙ ap (λ v. old ++ run_bits v) same) ∙ ap (λ n. (old ++ run_bits recent) ++ number_bits 4 n) same_level
+
+pub front_most : (old runs numbered taken : List Bool) (level : ℕ) → runs ≡ old ++ run_bits taken → numbered ≡ runs ++ number_bits 4 level → length numbered ≤ length old + (4 * length taken + 6)
+front_most old runs numbered taken level run number =
+    omega (arith, ap length number, length-append runs (number_bits 4 level), length-number_bits 4 level, ap length run, length-append old (run_bits taken), run_bits_most taken)
 
 pub short_bits : (old : List Bool) (form : Form) → (has_one form.recent && nat_lt 0 form.level) ≡ false → (old ++ run_bits form.recent) ++ number_bits 4 form.level ≡ old ++ change_bits form
 short_bits old form none =

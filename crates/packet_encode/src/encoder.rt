@@ -56,6 +56,8 @@ impl Encoder {
     /// Starts with this mask of `f` places, a required robustness of at most 7, and no input taken. Takes the memory
     /// for every vector that `encode` fills.
     pub fn open(alloc: Global, f: u32, robust: u8, mask: &Bits) -> Result<Encoder, NoMemory>
+        requires some { 1 ≤ f }
+        requires most { f ≤ 49152 }
         requires places { length mask.now ≡ f }
         requires robust { robust ≤ 7 }
         ensures stands { IfOk result (λ encoder. StandsFor (no_steps mask.now) encoder) }
@@ -63,7 +65,6 @@ impl Encoder {
         ensures robust { IfOk result (λ encoder. encoder.robust ≡ robust) }
         ensures taken { IfOk result (λ encoder. encoder.masks.taken ≡ 0) }
     {
-        let _places = mask.len();
         Ok(Encoder {
             masks: Masks::open(alloc, mask)?,
             window: Window::open(alloc, f, robust)?,

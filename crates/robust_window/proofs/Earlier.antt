@@ -16,10 +16,10 @@ use Rattle.robust_window.proofs.Ranges.{all_same, any_same, count_same, map_same
 use Rattle.robust_window.proofs.Standing.{mask_step-before}
 
 -- the steps are the same up to a number
-abbrev AgreeUpTo : List MaskStep → List MaskStep → ℕ → Type 0
-AgreeUpTo steps others t = (s : ℕ) → s ≤ t → mask_step steps s ≡ mask_step others s
+abbrev SameSteps : List MaskStep → List MaskStep → ℕ → Type 0
+SameSteps steps others t = (s : ℕ) → s ≤ t → mask_step steps s ≡ mask_step others s
 
-recent_of-same : (steps others : List MaskStep) (t : ℕ) → AgreeUpTo steps others t → recent_of steps t ≡ recent_of others t
+recent_of-same : (steps others : List MaskStep) (t : ℕ) → SameSteps steps others t → recent_of steps t ≡ recent_of others t
 unfolding recent_of
 recent_of-same steps others t agree =
     ap (λ (m : MaskStep). vector_of (length m.change) (λ place. list_any (changes_place steps place) (steps_from (max 1 (t - m.robust)) (t + 1)))) (agree t (omega arith))
@@ -30,14 +30,14 @@ recent_of-same steps others t agree =
 is_quiet_back_to : List MaskStep → ℕ → ℕ → ℕ → Bool
 is_quiet_back_to steps t level robust = list_all (is_quiet steps) (steps_from (t - level) (t - robust))
 
-quiet_same : (steps others : List MaskStep) (t level : ℕ) → AgreeUpTo steps others t → is_quiet_back steps t level ≡ is_quiet_back others t level
+quiet_same : (steps others : List MaskStep) (t level : ℕ) → SameSteps steps others t → is_quiet_back steps t level ≡ is_quiet_back others t level
 unfolding is_quiet_back_to
 quiet_same steps others t level agree =
     ap (λ (m : MaskStep). is_quiet_back_to steps t level m.robust) (agree t (omega arith))
     ∙ all_same (is_quiet steps) (is_quiet others) (t - level) (t - (mask_step others t).robust)
     (λ s lt. ap (λ (m : MaskStep). not (list_any (λ bit. bit) m.change)) (agree s (omega arith)))
 
-level_of-same : (steps others : List MaskStep) (t : ℕ) → AgreeUpTo steps others t → level_of steps t ≡ level_of others t
+level_of-same : (steps others : List MaskStep) (t : ℕ) → SameSteps steps others t → level_of steps t ≡ level_of others t
 level_of-same steps others t agree =
     let robust = (mask_step others t).robust in
     let one = level_of-greatest steps t robust (ap (λ (m : MaskStep). m.robust) (agree t (omega arith))) in
@@ -52,7 +52,7 @@ level_of-same steps others t agree =
       ]
     ]
 
-twice_of-same : (steps others : List MaskStep) (t : ℕ) → AgreeUpTo steps others t → twice_of steps t ≡ twice_of others t
+twice_of-same : (steps others : List MaskStep) (t : ℕ) → SameSteps steps others t → twice_of steps t ≡ twice_of others t
 unfolding twice_of
 twice_of-same steps others t agree =
     ap (λ v. nat_le 2 (count_by (takes_new_mask steps) (steps_from (t - v) (t + 1)))) (level_of-same steps others t agree)
@@ -72,7 +72,7 @@ mask_steps-push h step =
     ∙ ap (λ xs. xs ++ mask_step_at (with_step h step) (length h.steps) ∷ [])
     (map_same (mask_step_at (with_step h step)) (mask_step_at h) 0 (length h.steps) (λ s lt. mask_step_at-before h step s (omega arith)))
 
-agree-before : (h : History) (step : Step) (t : ℕ) → t < length h.steps → AgreeUpTo (mask_steps (with_step h step)) (mask_steps h) t
+agree-before : (h : History) (step : Step) (t : ℕ) → t < length h.steps → SameSteps (mask_steps (with_step h step)) (mask_steps h) t
 agree-before h step t lt s le =
     ap (λ steps. mask_step steps s) (mask_steps-push h step)
     ∙ mask_step-before (mask_steps h) (mask_step_at (with_step h step) (length h.steps)) s (omega (arith, length-map-range_with_len (mask_step_at h) 0 (length h.steps)))

@@ -1,11 +1,9 @@
 use Rattle.std.proofs.Common.{◌≡◌, ◌<◌, ◌++◌, length, ap, sym, ◌∙◌, arith}
-use Rattle.std.proofs.lemmas.List.{length-append}
 use Rattle.bit_vectors.specs.Vectors.{number_bits}
 use Rattle.run_code.specs.Runs.{run_bits}
-use Rattle.bit_vectors.proofs.NumberBits.{length-number_bits}
 use Rattle.packet_encode.specs.Forms.{direction_bits, wide_by}
 use Rattle.packet_encode.specs.Packets.{directions_of}
-use Rattle.packet_encode.proofs.Directions.{directions-level_zero, directions-none, front_is, has_one, has_one-some, has_one-without, has_one-zeros, long_bits, no_change, no_level, short_bits}
+use Rattle.packet_encode.proofs.Directions.{directions-level_zero, directions-none, front_is, front_most, has_one, has_one-some, has_one-without, has_one-zeros, long_bits, no_change, no_level, short_bits}
 use Rattle.packet_encode.proofs.changes.put_changes.Goals as goal
 use Rattle.packet_encode.proofs.changes.put_changes.Goals.{then-level-eq0-via-then-level-eq0, then-level-eq0-via-else-level-eq0+then-is_zero}
 
@@ -34,29 +32,11 @@ returns-then-level-eq0-clause-wide c =
 
 pub returns-then-level-eq0-clause-most : goal.returns-then-level-eq0-clause-most
 returns-then-level-eq0-clause-most c =
-    omega (
-      arith,
-      ap length c.put_number.ensures.bits,
-      length-append c.put_runs.new.pen.bits (number_bits 4 c.from.result),
-      length-number_bits 4 c.from.result,
-      ap length c.put_runs.ensures.bits,
-      length-append c.args.pen.now.bits (run_bits c.recent-recent.result.now),
-      c.put_runs.ensures.most,
-      ap length c.recent-recent.ensures.kept,
-    )
+    omega (arith, front_most c.args.pen.now.bits c.put_runs.new.pen.bits c.put_number.new.self.bits c.recent-recent.result.now c.from.result c.put_runs.ensures.bits c.put_number.ensures.bits, ap length c.recent-recent.ensures.kept)
 
 pub put_directions-requires-clause-room : goal.put_directions-requires-clause-room
 put_directions-requires-clause-room c =
-    omega (
-      arith,
-      ap length c.put_number.ensures.bits,
-      length-append c.put_runs.new.pen.bits (number_bits 4 c.from.result),
-      length-number_bits 4 c.from.result,
-      ap length c.put_runs.ensures.bits,
-      length-append c.args.pen.now.bits (run_bits c.recent-recent.result.now),
-      c.put_runs.ensures.most,
-      ap length c.recent-recent.ensures.kept,
-    )
+    omega (arith, front_most c.args.pen.now.bits c.put_runs.new.pen.bits c.put_number.new.self.bits c.recent-recent.result.now c.from.result c.put_runs.ensures.bits c.put_number.ensures.bits, ap length c.recent-recent.ensures.kept)
 
 pub returns-clause-bits : goal.returns-clause-bits
 returns-clause-bits c = λ form recent level directions.
@@ -74,14 +54,4 @@ returns-clause-bits c = λ form recent level directions.
 
 pub returns-clause-most : goal.returns-clause-most
 returns-clause-most c =
-    omega (
-      arith,
-      c.put_directions.ensures.most,
-      ap length c.put_number.ensures.bits,
-      length-append c.put_runs.new.pen.bits (number_bits 4 c.from.result),
-      length-number_bits 4 c.from.result,
-      ap length c.put_runs.ensures.bits,
-      length-append c.args.pen.now.bits (run_bits c.recent-recent.result.now),
-      c.put_runs.ensures.most,
-      ap length c.recent-recent.ensures.kept,
-    )
+    omega (arith, c.put_directions.ensures.most, front_most c.args.pen.now.bits c.put_runs.new.pen.bits c.put_number.new.self.bits c.recent-recent.result.now c.from.result c.put_runs.ensures.bits c.put_number.ensures.bits, ap length c.recent-recent.ensures.kept)
