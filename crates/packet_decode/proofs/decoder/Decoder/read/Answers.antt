@@ -81,4 +81,3 @@ returns-in-Spelled-clause-latest c =
     latest_is c.args.self.now c.self.inside.latest c.self.inside.shown c.self.view_is c.self.invariant.latest _ c.args.t c.new-eye.result c.args.bytes.now c.self.invariant.draft.content c.new-eye.ensures.bits c.new-eye.ensures.place
     c.take_whole_packet.new.next c.take_whole_packet.new.draft.mask c.take_whole_packet.new.draft.content _ told
     c.swap.new.x c.swap-in-Spelled.new.x c.swap-in-Spelled-2.new.x c.swap.ensures.x_after c.swap-in-Spelled.ensures.x_after c.swap-in-Spelled-2.ensures.x_after
-
