@@ -12,7 +12,7 @@ use Rattle.packet_decode.specs.declared.draft.Latest.{Latest}
 use Rattle.packet_decode.specs.State.{State, IsState, Change, change_of}
 use Rattle.packet_decode.specs.Spelling.{Spells}
 use Rattle.packet_decode.specs.Answers.{Says, IsExactAnswer}
-use Rattle.packet_decode.specs.PacketReading.{Outcome, Spelled, Opaque, Found, Tells, whole_packet_at, answer_to, answer_of}
+use Rattle.packet_decode.specs.PacketReading.{Spelled, Opaque, Found, Tells, whole_packet_at, answer_to, answer_of}
 use Rattle.packet_decode.specs.Parts.{state_by, state_of, IsLatest}
 use Rattle.packet_decode.specs.Decoding.{Decoding}
 use Rattle.packet_decode.proofs.ExactAnswers.{answer_of-exact}
