@@ -6,7 +6,7 @@ use Rattle.bit_vectors.specs.Reading.{Reading, Read, WrongBit, TooShort, ◌>>=�
 
 -- ---- two ways to cut a list
 
-cut_longer : (a b c d : List Bool) → a ++ b ≡ c ++ d → length a ≤ length c → (m : List Bool) × (c ≡ a ++ m) × (b ≡ m ++ d)
+pub cut_longer : (a b c d : List Bool) → a ++ b ≡ c ++ d → length a ≤ length c → (m : List Bool) × (c ≡ a ++ m) × (b ≡ m ++ d)
 cut_longer [] b c d e le = (c, refl, e)
 cut_longer (x ∷ a) b [] d e le = absurd (omega arith)
 cut_longer (x ∷ a) b (y ∷ c) d e le =
@@ -17,7 +17,7 @@ cut_longer (x ∷ a) b (y ∷ c) d e le =
 
 -- ---- single steps
 
-read_same : {A : Type 0} (x y : A) (r s : List Bool) → ◌≡◌ {A = Reading A} (Read x r) (Read y s) → (x ≡ y) × (r ≡ s)
+pub read_same : {A : Type 0} (x y : A) (r s : List Bool) → ◌≡◌ {A = Reading A} (Read x r) (Read y s) → (x ≡ y) × (r ≡ s)
 read_same x y r s e = (cc, cc)
 
 heads_same : (a b : Bool) (r s : List Bool) → a ∷ r ≡ b ∷ s → a ≡ b

@@ -1,4 +1,6 @@
-pub mod Reference
-pub mod Packets
-pub mod ReferenceReading
+pub mod State
+pub mod Spelling
+pub mod Answers
+pub mod PacketReading
+pub mod Parts
 pub mod Decoding

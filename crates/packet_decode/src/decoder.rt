@@ -1,12 +1,19 @@
 //! The decoder: the latest written packet, and the reading of the next.
 
-ghost use Rattle.std.specs.Prelude.{◌≡◌, ℕ, ◌^◌, ◌<◌, ◌≤◌, ◌↔◌, Bool, false, List, length, replicate, Some, None, IfSome, IfOk};
+ghost use Rattle.std.specs.Prelude.{◌≡◌, ◌^◌, ◌<◌, ◌≤◌, ◌↔◌, Bool, false, List, length, replicate, Some, None, Ok, IfSome, IfNone, IfOk};
 ghost use Rattle.bit_vectors.specs.Vectors.{IsVector, bits_of};
-ghost use Rattle.packet_decode.specs.Packets.{SpellsSent};
+ghost use Rattle.packet_encode.specs.Forms.{Form};
+ghost use Rattle.packet_decode.specs.State.{IsState};
+ghost use Rattle.packet_decode.specs.Spelling.{Spells};
+ghost use Rattle.packet_decode.specs.Answers.{Says, IsExactAnswer};
+ghost use Rattle.packet_decode.specs.PacketReading.{Opaque, answer_to};
+ghost use Rattle.packet_decode.specs.Parts.{state_by};
 ghost use Rattle.packet_decode.specs.Decoding.{number_of, mask_of, content_of};
 
-use crate::reference::{Vectors, agrees, is_in_reach, take_reference};
-use bit_vectors::{BitEye, Bits, NoMemory};
+use crate::change::FirstPart;
+use crate::draft::{DataKind, Draft, Latest};
+use crate::packet::take_whole_packet;
+use bit_vectors::{BitEye, BitFault, Bits, NoMemory};
 use std::alloc::Global;
 use std::marker::Model;
 use std::mem::swap;
@@ -14,43 +21,36 @@ use std::mem::swap;
 /// What the data of a packet were.
 #[derive(Clone, Copy, Debug, PartialEq, Eq)]
 pub enum Reading {
-    /// A packet that is now the latest written one.
+    /// They spell a packet, which is now the latest written one.
     Written,
-    /// Of a form that is not read, or no packet that follows the latest written one.
-    NotYet,
+    /// No packet was written so far, and they don't stand alone.
+    Unsynced,
+    /// They don't stand alone, and the latest written packet is too far back for their effective robustness level.
+    Gap { level: u8 },
 }
 
 /// Reads the data of packets with vectors of 1 to 49,152 places, and keeps the latest written packet.
-/// Contracts see the number of places and that packet.
+/// Contracts see the number of places, that packet, the recent changes of its mask and its effective robustness
+/// level.
 #[derive(Debug, Drop)]
 pub struct Decoder {
-    last: Option<u64>,
-    known: Vectors,
-    sent: Vectors,
-    runs: Bits,
-}
-
-/// Two vectors of `f` zeros.
-fn zeros(alloc: Global, f: u32) -> Result<Vectors, NoMemory>
-    requires some { 1 ≤ f }
-    requires most { f ≤ 49152 }
-    ensures mask { IfOk result (λ v. v.mask ≡ replicate f false) }
-    ensures content { IfOk result (λ v. v.content ≡ replicate f false) }
-{
-    let mask = Bits::zeros(alloc, f)?;
-    let content = Bits::zeros(alloc, f)?;
-    Ok(Vectors { mask, content })
+    latest: Latest,
+    shown: FirstPart,
+    next: FirstPart,
+    deduced: Bits,
+    draft: Draft,
 }
 
 impl Model for Decoder {
-    ghost use Rattle.std.specs.Prelude.{◌≡◌, length};
-    ghost use Rattle.packet_decode.specs.Decoding.{Decoding, IsDecoder, state_of};
+    ghost use Rattle.std.specs.Prelude.{length};
+    ghost use Rattle.packet_decode.specs.Decoding.{Decoding};
+    ghost use Rattle.packet_decode.specs.Parts.{IsDecoder, state_of};
 
     ghost Value = { Decoding };
 
-    ghost view = { λ d. record { places = length d.known.content; state = state_of d.last d.known } };
+    ghost view = { λ d. record { places = length d.latest.content; state = state_of d.latest; recent = d.shown.recent; level = d.shown.level } };
 
-    ghost invariant = { λ d. IsDecoder d.last d.known d.sent d.runs };
+    ghost invariant = { λ d. IsDecoder d.latest d.shown d.next d.deduced d.draft };
 }
 
 impl Decoder {
@@ -58,59 +58,73 @@ impl Decoder {
     pub fn open(alloc: Global, f: u32) -> Result<Decoder, NoMemory>
         requires some { 1 ≤ f }
         requires most { f ≤ 49152 }
-        ensures { IfOk result (λ d. d ≡ record { places = f; state = None }) }
+        ensures { IfOk result (λ d. d ≡ record { places = f; state = None; recent = replicate f false; level = 0 }) }
     {
-        let known = zeros(alloc, f)?;
-        let sent = zeros(alloc, f)?;
-        let runs = Bits::zeros(alloc, f)?;
+        let latest = Latest::none(alloc, f)?;
+        let shown = FirstPart::zeros(alloc, f)?;
+        let next = FirstPart::zeros(alloc, f)?;
+        let deduced = Bits::zeros(alloc, f)?;
+        let draft = Draft::zeros(alloc, f)?;
         Ok(Decoder {
-            last: None,
-            known,
-            sent,
-            runs,
+            latest,
+            shown,
+            next,
+            deduced,
+            draft,
         })
     }
 
     /// Reads the data of the packet with the number `t`, at most 65,536 bytes. Where they spell a packet, that
-    /// is then the latest one; else nothing changes.
-    pub fn read(&mut self, t: u64, bytes: &[u8]) -> Reading
+    /// is then the latest one; else nothing changes. A fault names the first bit after which the data can neither
+    /// spell a packet nor be those of one that can't be understood (CCSDS 124.0-B-1).
+    pub fn read(&mut self, t: u64, bytes: &[u8]) -> Result<Reading, BitFault>
         requires number { t < 2 ^ 62 }
         requires later { IfSome (number_of self.old.state) (λ last. last < t) }
         requires size { length bytes.now ≤ 65536 }
-        // Written exactly where the bits spell a packet.
-        ensures written { (result ≡ Reading.Written) ↔
-            ((mask : List Bool) × (content : List Bool) × SpellsSent self.old.places self.old.state t (bits_of bytes.now) mask content) }
-        // That packet is then the latest written one.
-        ensures latest { (mask content : List Bool) → SpellsSent self.old.places self.old.state t (bits_of bytes.now) mask content →
-            self.new.state ≡ Some (record { number = t; mask = mask; content = content }) }
-        ensures unchanged { result ≡ Reading.NotYet → self.new ≡ self.old }
+        // Each answer comes exactly where it is the right one, and a fault names the first bit.
+        ensures exact { IsExactAnswer self.old.places self.old.state t (bits_of bytes.now) result }
+        // Written, Unsynced and Gap come exactly where the bits say so.
+        ensures says { (reading : Reading) → (result ≡ Ok reading) ↔
+            Says self.old.places self.old.state t (bits_of bytes.now) reading }
+        // The packet that the bits spell is then the latest written one.
+        ensures latest { (form : Form) (mask content : List Bool) →
+            Spells self.old.places self.old.state t (bits_of bytes.now) form mask content →
+            self.new ≡ record {
+              places = self.old.places;
+              state = Some (record { number = t; mask = mask; content = content });
+              recent = form.recent;
+              level = form.level;
+            } }
+        ensures unchanged { (result ≡ Ok Reading.Written → ⊥) → self.new ≡ self.old }
         ensures places { self.new.places ≡ self.old.places }
     {
         let mut eye = BitEye::new(bytes);
-        let Some(level) = take_reference(
+        let kind = take_whole_packet(
             &mut eye,
             t,
-            self.last,
-            &self.known.mask,
-            &mut self.runs,
-            &mut self.sent,
-        ) else {
-            return Reading::NotYet;
-        };
-        let in_reach = is_in_reach(self.last, t, level);
-        if !agrees(in_reach, &self.known.content, &self.sent) {
-            return Reading::NotYet;
+            &self.latest,
+            &mut self.next,
+            &mut self.deduced,
+            &mut self.draft,
+        )?;
+        match kind {
+            DataKind::Opaque => Ok(missed(self.latest.number, self.next.level())),
+            DataKind::Spelled => {
+                swap(&mut self.shown, &mut self.next);
+                swap(&mut self.latest.mask, &mut self.draft.mask);
+                swap(&mut self.latest.content, &mut self.draft.content);
+                self.latest.number = Some(t);
+                Ok(Reading::Written)
+            }
         }
-        swap(&mut self.known, &mut self.sent);
-        self.last = Some(t);
-        Reading::Written
     }
 
     /// The number of the latest written packet, and nothing before the first.
     pub fn last(&self) -> Option<u64>
-        ensures { result ≡ number_of self.now.state }
+        ensures number { result ≡ number_of self.now.state }
+        ensures state { IsState self.now.places self.now.state }
     {
-        self.last
+        self.latest.number
     }
 
     /// The content of the latest written packet, and zeros before the first.
@@ -119,7 +133,7 @@ impl Decoder {
         ensures places { length result.now ≡ self.now.places }
         ensures vector { IsVector result.now }
     {
-        &self.known.content
+        &self.latest.content
     }
 
     /// The mask of the latest written packet, and zeros before the first.
@@ -127,6 +141,33 @@ impl Decoder {
         ensures mask { result.now ≡ mask_of self.now.places self.now.state }
         ensures places { length result.now ≡ self.now.places }
     {
-        &self.known.mask
+        &self.latest.mask
+    }
+
+    /// The recent changes of the mask by the latest written packet, and zeros before the first.
+    pub fn recent(&self) -> &Bits
+        ensures recent { result.now ≡ self.now.recent }
+        ensures first { IfNone self.now.state (result.now ≡ replicate self.now.places false) }
+        ensures places { length result.now ≡ self.now.places }
+    {
+        self.shown.recent()
+    }
+
+    /// The effective robustness level of the latest written packet, from 0 to 15, and 0 before the first.
+    pub fn level(&self) -> u8
+        ensures level { result ≡ self.now.level }
+        ensures first { IfNone self.now.state (result ≡ 0) }
+    {
+        self.shown.level()
+    }
+}
+
+/// The answer to an opaque front of this level.
+fn missed(last: Option<u64>, level: u8) -> Reading
+    ensures { (mask content : List Bool) → result ≡ answer_to (state_by last mask content) level Opaque }
+{
+    match last {
+        None => Reading::Unsynced,
+        Some(_) => Reading::Gap { level },
     }
 }

@@ -1,52 +1,67 @@
-//! Laws of packets: what holds of their definitions alone.
+//! What the definitions mean.
 
-ghost use Rattle.std.specs.Prelude.{◌≡◌, ℕ, ◌*◌, ◌<◌, ◌≤◌, ◌↔◌, Bool, true, false, List, [], ◌∷◌, ◌++◌, length, replicate, Some, None, IfSome};
-ghost use Rattle.bit_vectors.specs.Vectors.{bits_of, padded};
-ghost use Rattle.run_code.specs.Edges.{edges};
-ghost use Rattle.run_code.specs.Extraction.{SameOutside};
-ghost use Rattle.packet_encode.specs.Forms.{Form, Part, IsForm, form_bits};
-ghost use Rattle.packet_decode.specs.Reference.{IsReference, reference_form};
-ghost use Rattle.packet_decode.specs.Packets.{State, InReach, Spells, HasOpaqueFront, SpellsSent};
-ghost use Rattle.packet_decode.specs.Decoding.{number_of, mask_of, content_of};
-ghost use Rattle.packet_decode.specs.ReferenceReading.{reference_of};
+ghost use Rattle.std.specs.Prelude.{◌≡◌, ℕ, Bool, true, List, [], ◌∷◌, ◌++◌, length, Some, None, Result, Ok, Err};
+ghost use Rattle.bit_vectors.specs.Vectors.{bits_of};
+ghost use Rattle.packet_encode.specs.Forms.{Form, Part};
+ghost use Rattle.packet_decode.specs.State.{State, IsState};
+ghost use Rattle.packet_decode.specs.Spelling.{Spells, HasOpaqueFront};
+ghost use Rattle.packet_decode.specs.Answers.{SpellsPacket, Says, IsSoundAnswer, IsExactAnswer};
+ghost use Rattle.packet_decode.specs.PacketReading.{answer_of};
 
-/// Under a state of vectors of f places, bits spell a packet with no recent change, a sent mask and whole content
-/// exactly where they are those of its form, padded, and where in reach its mask is the latest one's and its content is
-/// the latest one's outside the mask. Out of reach, mask and content are free.
-pub fn reference_packets()
-    ensures { (f t : ℕ) (state : State) (bits mask content : List Bool) → IfSome state (λ latest. length latest.mask ≡ f) →
-        SpellsSent f state t bits mask content ↔
-        ((level : ℕ) × (level < 16) × (length mask ≡ f) × (length content ≡ f) × (bits ≡ padded (form_bits (reference_form f level mask content)))
-        × (InReach state t level → IfSome state (λ latest. (mask ≡ latest.mask) × SameOutside mask latest.content content))) }
+use crate::decoder::Reading;
+use bit_vectors::BitFault;
+
+/// The answer that reading from left to right gives is exact, for every list of bits: what it says holds, and its
+/// fault is the first bit at which the bits can't be those of a packet nor of an opaque front.
+pub fn reading_is_exact()
+    ensures { (f t : ℕ) (state : State) (bits : List Bool) → IsState f state →
+        IsExactAnswer f state t bits (answer_of f state t bits) }
 {}
 
-/// Whole bytes spell such a packet exactly where a reading from left to right gives its mask and its content, and
-/// where in reach the content is the latest one's outside the mask.
-pub fn reading_is_spelling()
-    ensures { (f t bytes : ℕ) (state : State) (bits mask content : List Bool) → IfSome state (λ latest. length latest.mask ≡ f) →
-        length bits ≡ 8 * bytes → length mask ≡ f →
-        SpellsSent f state t bits mask content ↔
-        ((level : ℕ) × (reference_of f (number_of state) (mask_of f state) t bits ≡ Some (record { level = level; edges = edges mask; content = content }))
-        × (InReach state t level → SameOutside mask (content_of f state) content)) }
+/// No other answer is exact.
+pub fn one_exact_answer()
+    ensures { (f t : ℕ) (state : State) (bits : List Bool) (answer : Result Reading BitFault) → IsState f state →
+        IsExactAnswer f state t bits answer → answer ≡ answer_of f state t bits }
 {}
 
-/// The bits and the state determine the mask and the content.
+/// An exact answer is sound.
+pub fn exact_answers_are_sound()
+    ensures { (f t : ℕ) (state : State) (bits : List Bool) (answer : Result Reading BitFault) →
+        IsExactAnswer f state t bits answer → IsSoundAnswer f state t bits answer }
+{}
+
+/// Sound answers differ in faults alone: where one of them says that bits are written, unsynced or after a gap, each
+/// other one says the same.
+pub fn sound_answers_agree()
+    ensures { (f t : ℕ) (state : State) (bits : List Bool) (reading : Reading) (answer : Result Reading BitFault) →
+        IsState f state → IsSoundAnswer f state t bits (Ok reading) → IsSoundAnswer f state t bits answer → answer ≡ Ok reading }
+{}
+
+/// At most one of these holds: that the bits spell a packet, that they have an opaque front with nothing known, and
+/// that they have one, of one level, with something known.
+pub fn one_reading()
+    ensures { (f t : ℕ) (state : State) (bits : List Bool) (reading other : Reading) → IsState f state →
+        Says f state t bits reading → Says f state t bits other → reading ≡ other }
+{}
+
+/// The bits and the state determine the form, the mask and the content.
 pub fn one_packet()
-    ensures { (f t : ℕ) (state : State) (bits mask content other_mask other_content : List Bool) →
-        SpellsSent f state t bits mask content → SpellsSent f state t bits other_mask other_content →
-        (mask ≡ other_mask) × (content ≡ other_content) }
+    ensures { (f t : ℕ) (state : State) (bits mask content other_mask other_content : List Bool) (form other : Form) →
+        IsState f state →
+        Spells f state t bits form mask content → Spells f state t bits other other_mask other_content →
+        (form ≡ other) × (mask ≡ other_mask) × (content ≡ other_content) }
 {}
 
-/// The bits of such a form, padded, determine it.
-pub fn one_form()
-    ensures { (f : ℕ) (form other : Form) → IsForm f form → IsReference f form → IsForm f other → IsReference f other →
-        padded (form_bits form) ≡ padded (form_bits other) → form ≡ other }
+/// Where bits spell a packet, the first bit after them is wrong, whatever it is and whatever follows.
+pub fn no_further_bit()
+    ensures { (f t : ℕ) (state : State) (bits more : List Bool) (bit : Bool) → IsState f state → SpellsPacket f state t bits →
+        answer_of f state t (bits ++ bit ∷ more) ≡ Err (BitFault.Wrong (length bits)) }
 {}
 
-/// Where bits spell a packet, no packet is spelled by them and eight bits or more after them.
-pub fn no_further_byte()
-    ensures { (f t : ℕ) (state : State) (bits more mask content other_mask other_content : List Bool) → 8 ≤ length more →
-        SpellsSent f state t bits mask content → ¬ SpellsSent f state t (bits ++ more) other_mask other_content }
+/// What follows an opaque front is not looked at.
+pub fn opaque_fronts_go_on()
+    ensures { (f t level : ℕ) (state : State) (bits more : List Bool) →
+        HasOpaqueFront f state t bits level → HasOpaqueFront f state t (bits ++ more) level }
 {}
 
 /// Worked packets of 8 places.
@@ -57,8 +72,26 @@ pub fn worked_packets()
         (bits_of (0x01 ∷ [])) (bits_of (0xB1 ∷ [])) }
     // With nothing known they can't be understood.
     ensures opaque { HasOpaqueFront 8 None 2 (bits_of (0x44 ∷ 0xC0 ∷ [])) 2 }
+    ensures unsynced { answer_of 8 None 2 (bits_of (0x44 ∷ 0xC0 ∷ [])) ≡ Ok Reading.Unsynced }
     // Level 0, the mask 0F, the content A5.
-    ensures sent { SpellsSent 8 None 0 (bits_of (0x81 ∷ 0x61 ∷ 0x5C ∷ 0x6A ∷ 0x50 ∷ [])) (bits_of (0x0F ∷ [])) (bits_of (0xA5 ∷ [])) }
-    // Without mask and whole content nothing that is read so far is spelled, whatever is known.
-    ensures no_packet { (state : State) (t : ℕ) (mask content : List Bool) → ¬ SpellsSent 8 state t (bits_of (0x82 ∷ [])) mask content }
+    ensures alone { answer_of 8 None 0 (bits_of (0x81 ∷ 0x61 ∷ 0x5C ∷ 0x6A ∷ 0x50 ∷ [])) ≡ Ok Reading.Written }
+    // The number of places is 9 and not 8.
+    ensures places { answer_of 8 None 0 (bits_of (0x85 ∷ 0xB8 ∷ 0xF6 ∷ 0x00 ∷ [])) ≡ Err (BitFault.Wrong 18) }
+    // Two packets before this one are missing, which level 0 doesn't reach over and level 2 does.
+    ensures gap { answer_of 8 (Some (record { number = 0; mask = bits_of (0x00 ∷ []); content = bits_of (0xB0 ∷ []) })) 3 (bits_of (0x82 ∷ [])) ≡ Ok (Reading.Gap 0) }
+    ensures no_gap { answer_of 8 (Some (record { number = 0; mask = bits_of (0x00 ∷ []); content = bits_of (0xB0 ∷ []) })) 3 (bits_of (0x8A ∷ [])) ≡ Ok Reading.Written }
+    // Place 7 became predictable, and is extracted again.
+    ensures predictable { answer_of 8 (Some (record { number = 4; mask = bits_of (0x01 ∷ []); content = bits_of (0x01 ∷ []) })) 5 (bits_of (0x47 ∷ 0xF0 ∷ [])) ≡ Ok Reading.Written }
+    // A one in its padding, a byte after it, the end before its directions, no byte.
+    ensures padding { answer_of 8 (Some (record { number = 4; mask = bits_of (0x01 ∷ []); content = bits_of (0x01 ∷ []) })) 5 (bits_of (0x47 ∷ 0xF8 ∷ [])) ≡ Err (BitFault.Wrong 12) }
+    ensures further { answer_of 8 (Some (record { number = 4; mask = bits_of (0x01 ∷ []); content = bits_of (0x01 ∷ []) })) 5 (bits_of (0x47 ∷ 0xF0 ∷ 0x00 ∷ [])) ≡ Err (BitFault.Wrong 16) }
+    ensures early { answer_of 8 (Some (record { number = 4; mask = bits_of (0x01 ∷ []); content = bits_of (0x01 ∷ []) })) 5 (bits_of (0x47 ∷ [])) ≡ Err (BitFault.EndsEarly 8) }
+    ensures empty { answer_of 8 (Some (record { number = 4; mask = bits_of (0x01 ∷ []); content = bits_of (0x01 ∷ []) })) 5 (bits_of []) ≡ Err (BitFault.EndsEarly 0) }
+    // Directions without a place, and neither a mask nor a content after the bit that promises one of them.
+    ensures no_direction { answer_of 8 (Some (record { number = 0; mask = bits_of (0x00 ∷ []); content = bits_of (0xB0 ∷ []) })) 1 (bits_of (0x43 ∷ 0x00 ∷ [])) ≡ Err (BitFault.Wrong 8) }
+    ensures neither { answer_of 8 (Some (record { number = 0; mask = bits_of (0x00 ∷ []); content = bits_of (0xB0 ∷ []) })) 1 (bits_of (0x84 ∷ 0x00 ∷ [])) ≡ Err (BitFault.Wrong 8) }
+    // Mask and content are sent as they must be, the mask is another one, and the content differs at place 0.
+    ensures sent { answer_of 8 (Some (record { number = 0; mask = bits_of (0x00 ∷ []); content = bits_of (0xB0 ∷ []) })) 1 (bits_of (0x42 ∷ 0x4B ∷ 0x8D ∷ 0x62 ∷ [])) ≡ Ok Reading.Written }
+    ensures other_mask { answer_of 8 (Some (record { number = 0; mask = bits_of (0x00 ∷ []); content = bits_of (0xB0 ∷ []) })) 1 (bits_of (0x42 ∷ 0x5B ∷ 0x8D ∷ 0x62 ∷ [])) ≡ Err (BitFault.Wrong 11) }
+    ensures other_content { answer_of 8 (Some (record { number = 0; mask = bits_of (0x00 ∷ []); content = bits_of (0xB0 ∷ []) })) 1 (bits_of (0x42 ∷ 0x4B ∷ 0x8C ∷ 0x62 ∷ [])) ≡ Err (BitFault.Wrong 23) }
 {}

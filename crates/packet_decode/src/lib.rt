@@ -1,13 +1,22 @@
 //! Reading the data of packets of compressed housekeeping (CCSDS 124.0-B-1).
 #![tactic(auto)]
 
+mod bit;
+mod change;
+mod content;
+mod data;
 mod decoder;
+mod directions;
+mod draft;
 mod laws;
-mod reference;
+mod mask;
+mod packet;
+mod padding;
 
 pub use decoder::{Decoder, Reading};
 pub use laws::{
-    no_further_byte, one_form, one_packet, reading_is_spelling, reference_packets, worked_packets,
+    exact_answers_are_sound, no_further_bit, one_exact_answer, one_packet, one_reading,
+    opaque_fronts_go_on, reading_is_exact, sound_answers_agree, worked_packets,
 };
 
 #[cfg(test)]

@@ -195,6 +195,9 @@ ones_below_apart (suc n) len v le =
 pub places_down_apart : (v : List Bool) → AreApart (places_down v) (length v)
 places_down_apart v = rw (places_down_is v) (ones_below_apart (length v) (length v) v (omega arith))
 
+pub in_places_down : (v : List Bool) (k : ℕ) → Contains (places_down v) k → get_or v k false ≡ true
+in_places_down v k c = (in_ones_below (length v) v k (rw (places_down_is v) at c)).1
+
 below_has : (bit : Bool) (n k : ℕ) (places : List ℕ) → Contains places k → Contains (cond bit (n ∷ places) places) k
 below_has true n k places c = Contains-later n k places c
 below_has false n k places c = c

@@ -1,13 +1,13 @@
-use Rattle.std.proofs.Common.{◌≡◌, ℕ, true, false, [], ◌∷◌, None, refl, sym, ◌∙◌, arith}
-use Rattle.std.proofs.lemmas.Option.{none-some}
-use Rattle.bit_vectors.specs.Vectors.{number_bits, bits_of, bits_number}
+use Rattle.std.proofs.Common.{true, false, [], ◌∷◌, None, refl, arith}
+use Rattle.bit_vectors.specs.Vectors.{number_bits, bits_number}
+use Rattle.bit_vectors.specs.Reading.{front_at, same_at}
 use Rattle.count_code.specs.Code.{count_bits}
+use Rattle.count_code.specs.Counts.{number_at, bounded_at, long_at, above_one_at, after_one_at, count_at}
 use Rattle.run_code.specs.Places.{ones_from}
-use Rattle.run_code.specs.Runs.{run_bits, runs_from}
+use Rattle.run_code.specs.Runs.{run_bits, runs_from, ones_at, vector_at}
+use Rattle.run_code.specs.Extraction.{filled_at, inverse_at}
 use Rattle.packet_encode.specs.Forms.{Form, Part, change_bits, form_bits}
-use Rattle.packet_decode.specs.ReferenceReading.{after, are_zeros_below, reference_of}
-use Rattle.packet_decode.proofs.ReferencePackets.{reference_bits, HasParts-read}
-use Rattle.packet_decode.proofs.Spelling.{SpellsSent-parts, SpellsSent-from}
+use Rattle.packet_decode.specs.PacketReading.{kept_at, named_at, directions_at, change_at, from_edges, mask_at, whole_at, whole_with, part_with, content_at, unsent_at, maskless_at, masked_at, sent_at, data_at, parts_at, padding_at, end_at, packet_at, whole_packet_at}
 use Rattle.packet_decode.proofs.laws.worked_packets.Goals as goal
 
 one_bit : Form
@@ -38,16 +38,62 @@ returns-clause-opaque c = record {
   bits_are = refl;
 }
 
+pub returns-clause-unsynced : goal.returns-clause-unsynced
+unfolding number_bits bits_number count_bits bounded_at long_at above_one_at after_one_at count_at ones_from run_bits runs_from ones_at vector_at same_at filled_at inverse_at front_at number_at kept_at named_at directions_at change_at from_edges mask_at whole_at whole_with part_with content_at unsent_at maskless_at masked_at sent_at data_at parts_at padding_at end_at packet_at whole_packet_at
+returns-clause-unsynced c = refl
+
+pub returns-clause-alone : goal.returns-clause-alone
+unfolding number_bits bits_number count_bits bounded_at long_at above_one_at after_one_at count_at ones_from run_bits runs_from ones_at vector_at same_at filled_at inverse_at front_at number_at kept_at named_at directions_at change_at from_edges mask_at whole_at whole_with part_with content_at unsent_at maskless_at masked_at sent_at data_at parts_at padding_at end_at packet_at whole_packet_at
+returns-clause-alone c = refl
+
+pub returns-clause-places : goal.returns-clause-places
+unfolding number_bits bits_number count_bits bounded_at long_at above_one_at after_one_at count_at ones_from run_bits runs_from ones_at vector_at same_at filled_at inverse_at front_at number_at kept_at named_at directions_at change_at from_edges mask_at whole_at whole_with part_with content_at unsent_at maskless_at masked_at sent_at data_at parts_at padding_at end_at packet_at whole_packet_at
+returns-clause-places c = refl
+
+pub returns-clause-gap : goal.returns-clause-gap
+unfolding number_bits bits_number count_bits bounded_at long_at above_one_at after_one_at count_at ones_from run_bits runs_from ones_at vector_at same_at filled_at inverse_at front_at number_at kept_at named_at directions_at change_at from_edges mask_at whole_at whole_with part_with content_at unsent_at maskless_at masked_at sent_at data_at parts_at padding_at end_at packet_at whole_packet_at
+returns-clause-gap c = refl
+
+pub returns-clause-no_gap : goal.returns-clause-no_gap
+unfolding number_bits bits_number count_bits bounded_at long_at above_one_at after_one_at count_at ones_from run_bits runs_from ones_at vector_at same_at filled_at inverse_at front_at number_at kept_at named_at directions_at change_at from_edges mask_at whole_at whole_with part_with content_at unsent_at maskless_at masked_at sent_at data_at parts_at padding_at end_at packet_at whole_packet_at
+returns-clause-no_gap c = refl
+
+pub returns-clause-predictable : goal.returns-clause-predictable
+unfolding number_bits bits_number count_bits bounded_at long_at above_one_at after_one_at count_at ones_from run_bits runs_from ones_at vector_at same_at filled_at inverse_at front_at number_at kept_at named_at directions_at change_at from_edges mask_at whole_at whole_with part_with content_at unsent_at maskless_at masked_at sent_at data_at parts_at padding_at end_at packet_at whole_packet_at
+returns-clause-predictable c = refl
+
+pub returns-clause-padding : goal.returns-clause-padding
+unfolding number_bits bits_number count_bits bounded_at long_at above_one_at after_one_at count_at ones_from run_bits runs_from ones_at vector_at same_at filled_at inverse_at front_at number_at kept_at named_at directions_at change_at from_edges mask_at whole_at whole_with part_with content_at unsent_at maskless_at masked_at sent_at data_at parts_at padding_at end_at packet_at whole_packet_at
+returns-clause-padding c = refl
+
+pub returns-clause-further : goal.returns-clause-further
+unfolding number_bits bits_number count_bits bounded_at long_at above_one_at after_one_at count_at ones_from run_bits runs_from ones_at vector_at same_at filled_at inverse_at front_at number_at kept_at named_at directions_at change_at from_edges mask_at whole_at whole_with part_with content_at unsent_at maskless_at masked_at sent_at data_at parts_at padding_at end_at packet_at whole_packet_at
+returns-clause-further c = refl
+
+pub returns-clause-early : goal.returns-clause-early
+unfolding number_bits bits_number count_bits bounded_at long_at above_one_at after_one_at count_at ones_from run_bits runs_from ones_at vector_at same_at filled_at inverse_at front_at number_at kept_at named_at directions_at change_at from_edges mask_at whole_at whole_with part_with content_at unsent_at maskless_at masked_at sent_at data_at parts_at padding_at end_at packet_at whole_packet_at
+returns-clause-early c = refl
+
+pub returns-clause-empty : goal.returns-clause-empty
+unfolding number_bits bits_number count_bits bounded_at long_at above_one_at after_one_at count_at ones_from run_bits runs_from ones_at vector_at same_at filled_at inverse_at front_at number_at kept_at named_at directions_at change_at from_edges mask_at whole_at whole_with part_with content_at unsent_at maskless_at masked_at sent_at data_at parts_at padding_at end_at packet_at whole_packet_at
+returns-clause-empty c = refl
+
+pub returns-clause-no_direction : goal.returns-clause-no_direction
+unfolding number_bits bits_number count_bits bounded_at long_at above_one_at after_one_at count_at ones_from run_bits runs_from ones_at vector_at same_at filled_at inverse_at front_at number_at kept_at named_at directions_at change_at from_edges mask_at whole_at whole_with part_with content_at unsent_at maskless_at masked_at sent_at data_at parts_at padding_at end_at packet_at whole_packet_at
+returns-clause-no_direction c = refl
+
+pub returns-clause-neither : goal.returns-clause-neither
+unfolding number_bits bits_number count_bits bounded_at long_at above_one_at after_one_at count_at ones_from run_bits runs_from ones_at vector_at same_at filled_at inverse_at front_at number_at kept_at named_at directions_at change_at from_edges mask_at whole_at whole_with part_with content_at unsent_at maskless_at masked_at sent_at data_at parts_at padding_at end_at packet_at whole_packet_at
+returns-clause-neither c = refl
+
 pub returns-clause-sent : goal.returns-clause-sent
-unfolding number_bits count_bits ones_from run_bits runs_from reference_bits
-returns-clause-sent c =
-    SpellsSent-from 8 None 0 (bits_of (0x81 ∷ 0x61 ∷ 0x5C ∷ 0x6A ∷ 0x50 ∷ [])) 0 (bits_of (0x0F ∷ [])) (bits_of (0xA5 ∷ [])) tt
-    (record { level_fits = omega arith; mask_places = refl; content_places = refl; bits_are = refl }) (λ near. absurd near)
+unfolding number_bits bits_number count_bits bounded_at long_at above_one_at after_one_at count_at ones_from run_bits runs_from ones_at vector_at same_at filled_at inverse_at front_at number_at kept_at named_at directions_at change_at from_edges mask_at whole_at whole_with part_with content_at unsent_at maskless_at masked_at sent_at data_at parts_at padding_at end_at packet_at whole_packet_at
+returns-clause-sent c = refl
 
-nothing_read : (t : ℕ) → reference_of 8 None [] t (bits_of (0x82 ∷ [])) ≡ None
-unfolding number_bits bits_number count_bits after are_zeros_below reference_of
-nothing_read t = refl
+pub returns-clause-other_mask : goal.returns-clause-other_mask
+unfolding number_bits bits_number count_bits bounded_at long_at above_one_at after_one_at count_at ones_from run_bits runs_from ones_at vector_at same_at filled_at inverse_at front_at number_at kept_at named_at directions_at change_at from_edges mask_at whole_at whole_with part_with content_at unsent_at maskless_at masked_at sent_at data_at parts_at padding_at end_at packet_at whole_packet_at
+returns-clause-other_mask c = refl
 
-pub returns-clause-no_packet : goal.returns-clause-no_packet
-returns-clause-no_packet c = λ state t mask content s.
-    none-some _ (sym (nothing_read t) ∙ HasParts-read 8 None [] t (bits_of (0x82 ∷ [])) s.form.level mask content (SpellsSent-parts 8 state t (bits_of (0x82 ∷ [])) mask content s) (λ near. absurd cc))
+pub returns-clause-other_content : goal.returns-clause-other_content
+unfolding number_bits bits_number count_bits bounded_at long_at above_one_at after_one_at count_at ones_from run_bits runs_from ones_at vector_at same_at filled_at inverse_at front_at number_at kept_at named_at directions_at change_at from_edges mask_at whole_at whole_with part_with content_at unsent_at maskless_at masked_at sent_at data_at parts_at padding_at end_at packet_at whole_packet_at
+returns-clause-other_content c = refl

@@ -1,88 +1,83 @@
-use Rattle.std.proofs.Common.{◌≡◌, ℕ, Bool, List, length, drop, Option, Some, None, refl, sym, ap, subst, ◌∙◌}
-use Rattle.std.proofs.lemmas.Bool.{both_ways}
+use Rattle.std.proofs.Common.{◌≡◌, ap, sym, ◌∙◌, Ok, Err}
+use Rattle.std.proofs.lemmas.Result.{err_from_is_err_and}
 use Rattle.bit_vectors.specs.Vectors.{bits_of}
-use Rattle.bit_vectors.specs.Eye.{EyeState, bits_left}
-use Rattle.bit_vectors.proofs.ByteBits.{length-bits_of}
-use Rattle.run_code.specs.Edges.{edges}
-use Rattle.packet_decode.specs.declared.reference.Vectors.{Vectors}
-use Rattle.packet_decode.specs.Decoding.{Decoding, state_of}
-use Rattle.packet_decode.specs.Packets.{SpellsSent}
-use Rattle.packet_decode.specs.ReferenceReading.{Reference, reference_of}
-use Rattle.packet_decode.proofs.Knowledge.{none_spelled, same_mask, same_content, unlike_spelled, read_spelled}
+use Rattle.packet_decode.specs.State.{IsState}
+use Rattle.packet_decode.specs.declared.decoder.Reading.TheVariants.{Written}
+use Rattle.packet_decode.specs.PacketReading.{answer_of, Spelled, Opaque}
+use Rattle.packet_decode.specs.Parts.{outcome_of}
+use Rattle.packet_decode.specs.declared.draft.DataKind.{DataKind}
+use Rattle.packet_decode.proofs.DecoderAnswers.{exact_by, says_by, spelled_by, has_state, not_missed, fault_is, reading_is, latest_is}
 use Rattle.packet_decode.proofs.decoder.Decoder.read.Goals as goal
 
-abbrev decoding_of : Option ℕ → Vectors → Decoding
-decoding_of last known = record { places = length known.content; state = state_of last known }
+-- ---- a fault
 
--- the eye sees the bits of the bytes, and the vectors have the decoder's places
-reading_is : (last : Option ℕ) (known : List Bool) (t places f : ℕ) (eye : EyeState) (bytes : List ℕ) (o : Option Reference) → places ≡ f → eye.bits ≡ bits_of bytes → eye.place ≡ 0
-    → reference_of places last known t (bits_left eye) ≡ o → reference_of f last known t (bits_of bytes) ≡ o
-reading_is last known t places f eye bytes o same bits start read =
-    let left : bits_left eye ≡ bits_of bytes = ap (λ (n : ℕ). drop n eye.bits) start ∙ bits in
-    subst (λ (n : ℕ). reference_of n last known t (bits_of bytes) ≡ o) same (subst (λ (bs : List Bool). reference_of places last known t bs ≡ o) left read)
+fault_answer : (c : goal.After-from_residual) → answer_of c.args.self.now.places c.args.self.now.state c.args.t (bits_of c.args.bytes.now) ≡ c.from_residual.result
+fault_answer c =
+    let p = err_from_is_err_and c.from_residual.result c.from_residual.ensures.1 in
+    fault_is c.args.self.now c.self.inside.latest c.self.inside.shown c.self.view_is c.self.invariant.latest_vectors _ c.args.t c.new-eye.result c.args.bytes.now c.self.invariant.draft_vectors.content c.new-eye.ensures.bits c.new-eye.ensures.place
+    (λ (kind : DataKind). record { change = c.take_whole_packet.new.next; outcome = outcome_of kind c.take_whole_packet.new.draft.mask c.take_whole_packet.new.draft.content })
+    c.in_err-kind.field-0.0 c.take_whole_packet.new.eye c.take_whole_packet.ensures.moves.bits c.in_err-kind.ensures.reading
+    ∙ sym (p.1 ∙ ap Err p.2)
 
--- a packet is spelled for the decoder where it is for its parts
-within : (d : Decoding) (last : Option ℕ) (known : Vectors) (t : ℕ) (bits mask content : List Bool) → decoding_of last known ≡ d → SpellsSent d.places d.state t bits mask content → SpellsSent (length known.content) (state_of last known) t bits mask content
-within d last known t bits mask content view = subst (λ (x : Decoding). SpellsSent x.places x.state t bits mask content) (sym view)
+fault_has : (c : goal.After-from_residual) → IsState c.args.self.now.places c.args.self.now.state
+fault_has c = has_state c.args.self.now c.self.inside.latest c.self.inside.shown c.self.view_is c.self.invariant.latest_vectors
 
-outside : (d : Decoding) (last : Option ℕ) (known : Vectors) (t : ℕ) (bits mask content : List Bool) → decoding_of last known ≡ d → SpellsSent (length known.content) (state_of last known) t bits mask content → SpellsSent d.places d.state t bits mask content
-outside d last known t bits mask content view = subst (λ (x : Decoding). SpellsSent x.places x.state t bits mask content) view
+pub returns-in_err-kind-clause-exact : goal.returns-in_err-kind-clause-exact
+returns-in_err-kind-clause-exact c = exact_by c.args.self.now.places c.args.self.now.state c.args.t (bits_of c.args.bytes.now) (fault_has c) c.from_residual.result (fault_answer c)
 
-none_read : (c : goal.In_default) (mask content : List Bool) → SpellsSent c.args.self.now.places c.args.self.now.state c.args.t (bits_of c.args.bytes.now) mask content → ⊥
-none_read c mask content s =
-    let read = reading_is c.self.inside.last c.self.inside.known.mask c.args.t (length c.self.inside.sent.content) (length c.self.inside.known.content) c.new-eye.result c.args.bytes.now None
-    c.self.invariant.sent_content c.new-eye.ensures.bits c.new-eye.ensures.place c.in_default.ensures.reference in
-    none_spelled c.self.inside.last c.self.inside.known (length c.self.inside.known.content) c.args.t c.self.invariant.known_mask (bits_of c.args.bytes.now) mask content read
-    (within c.args.self.now c.self.inside.last c.self.inside.known c.args.t (bits_of c.args.bytes.now) mask content c.self.view_is s)
+pub returns-in_err-kind-clause-says : goal.returns-in_err-kind-clause-says
+returns-in_err-kind-clause-says c = says_by c.args.self.now.places c.args.self.now.state c.args.t (bits_of c.args.bytes.now) (fault_has c) c.from_residual.result (fault_answer c)
 
-pub returns-in_default-clause-written : goal.returns-in_default-clause-written
-returns-in_default-clause-written c = ((λ e. absurd cc), λ s. absurd (none_read c s.0 s.1 s.2))
+pub returns-in_err-kind-clause-latest : goal.returns-in_err-kind-clause-latest
+returns-in_err-kind-clause-latest c form mask content s =
+    let p = err_from_is_err_and c.from_residual.result c.from_residual.ensures.1 in
+    let written = spelled_by c.args.self.now.places c.args.self.now.state c.args.t (bits_of c.args.bytes.now) (fault_has c) c.from_residual.result (fault_answer c) form mask content s in
+    absurd cc
 
-pub returns-in_default-clause-latest : goal.returns-in_default-clause-latest
-returns-in_default-clause-latest c = λ mask content s. absurd (none_read c mask content s)
+-- ---- an opaque front
 
--- what was read of the decoder's bytes
-abbrev ReadOf : Option ℕ → Vectors → ℕ → List ℕ → ℕ → Vectors → Type 0
-ReadOf last known t bytes level sent =
-    reference_of (length known.content) last known.mask t (bits_of bytes) ≡ Some (record { level = level; edges = edges sent.mask; content = sent.content })
+opaque_answer : (c : goal.After-missed) → answer_of c.args.self.now.places c.args.self.now.state c.args.t (bits_of c.args.bytes.now) ≡ Ok c.missed.result
+opaque_answer c =
+    let told = rw c.in-Opaque.is at c.in_ok-kind.ensures.reading in
+    let missed_is = c.missed.ensures c.self.inside.latest.mask c.self.inside.latest.content in
+    reading_is c.args.self.now c.self.inside.latest c.self.inside.shown c.self.view_is c.self.invariant.latest_vectors _ c.args.t c.new-eye.result c.args.bytes.now c.self.invariant.draft_vectors.content c.new-eye.ensures.bits c.new-eye.ensures.place
+    (record { change = c.take_whole_packet.new.next; outcome = Opaque }) c.take_whole_packet.new.eye c.take_whole_packet.ensures.moves.bits told
+    ∙ ap Ok (rw (sym c.level.ensures) (sym missed_is))
 
-unlike : (c : goal.Then-not-agrees) (mask content : List Bool) → SpellsSent c.args.self.now.places c.args.self.now.state c.args.t (bits_of c.args.bytes.now) mask content → ⊥
-unlike c mask content s =
-    let read : ReadOf c.self.inside.last c.self.inside.known c.args.t c.args.bytes.now c.in-Some.level c.take_reference.new.sent =
-    reading_is c.self.inside.last c.self.inside.known.mask c.args.t (length c.self.inside.sent.content) (length c.self.inside.known.content) c.new-eye.result c.args.bytes.now _
-    c.self.invariant.sent_content c.new-eye.ensures.bits c.new-eye.ensures.place c.in-Some.ensures.reference in
-    unlike_spelled c.self.inside.last c.self.inside.known (length c.self.inside.known.content) c.args.t c.self.invariant.known_mask (bits_of c.args.bytes.now) mask content c.in-Some.level
-    c.take_reference.new.sent.mask c.take_reference.new.sent.content read
-    (λ kept. both_ways c.agrees.result c.if-not-agrees.true (c.agrees.ensures.1 (λ near. kept (sym c.is_in_reach-in_reach.ensures ∙ near))))
-    (within c.args.self.now c.self.inside.last c.self.inside.known c.args.t (bits_of c.args.bytes.now) mask content c.self.view_is s)
+opaque_has : (c : goal.After-missed) → IsState c.args.self.now.places c.args.self.now.state
+opaque_has c = has_state c.args.self.now c.self.inside.latest c.self.inside.shown c.self.view_is c.self.invariant.latest_vectors
 
-pub returns-then-not-agrees-clause-written : goal.returns-then-not-agrees-clause-written
-returns-then-not-agrees-clause-written c = ((λ e. absurd cc), λ s. absurd (unlike c s.0 s.1 s.2))
+pub returns-in-Opaque-clause-exact : goal.returns-in-Opaque-clause-exact
+returns-in-Opaque-clause-exact c = exact_by c.args.self.now.places c.args.self.now.state c.args.t (bits_of c.args.bytes.now) (opaque_has c) (Ok c.missed.result) (opaque_answer c)
 
-pub returns-then-not-agrees-clause-latest : goal.returns-then-not-agrees-clause-latest
-returns-then-not-agrees-clause-latest c = λ mask content s. absurd (unlike c mask content s)
+pub returns-in-Opaque-clause-says : goal.returns-in-Opaque-clause-says
+returns-in-Opaque-clause-says c = says_by c.args.self.now.places c.args.self.now.state c.args.t (bits_of c.args.bytes.now) (opaque_has c) (Ok c.missed.result) (opaque_answer c)
 
-pub returns-clause-written : goal.returns-clause-written
-returns-clause-written c =
-    let read : ReadOf c.self.inside.last c.self.inside.known c.args.t c.args.bytes.now c.in-Some.level c.take_reference.new.sent =
-    reading_is c.self.inside.last c.self.inside.known.mask c.args.t (length c.self.inside.sent.content) (length c.self.inside.known.content) c.new-eye.result c.args.bytes.now _
-    c.self.invariant.sent_content c.new-eye.ensures.bits c.new-eye.ensures.place c.in-Some.ensures.reference in
-    let spelled = read_spelled c.self.inside.last c.self.inside.known (length c.self.inside.known.content) c.args.t c.self.invariant.known_mask (bits_of c.args.bytes.now) (length c.args.bytes.now) c.in-Some.level
-    c.take_reference.new.sent.mask c.take_reference.new.sent.content (length-bits_of c.args.bytes.now) (c.in-Some.ensures.mask ∙ c.self.invariant.sent_mask) read
-    (λ near. c.agrees.ensures.0 c.if-not-agrees.false (c.is_in_reach-in_reach.ensures ∙ near)) in
-    ((λ e. (c.take_reference.new.sent.mask, c.take_reference.new.sent.content, outside c.args.self.now c.self.inside.last c.self.inside.known c.args.t (bits_of c.args.bytes.now) c.take_reference.new.sent.mask c.take_reference.new.sent.content c.self.view_is spelled)), λ s. refl)
+pub returns-in-Opaque-clause-latest : goal.returns-in-Opaque-clause-latest
+returns-in-Opaque-clause-latest c form mask content s =
+    let written = spelled_by c.args.self.now.places c.args.self.now.state c.args.t (bits_of c.args.bytes.now) (opaque_has c) (Ok c.missed.result) (opaque_answer c) form mask content s in
+    not_missed c.self.inside.latest c.level.result c.missed.result (c.missed.ensures c.self.inside.latest.mask c.self.inside.latest.content) written
 
--- the new state is that of what was read
-written_is : (t : ℕ) (after sent : Vectors) (mask content : List Bool) → after ≡ sent → sent.mask ≡ mask → sent.content ≡ content → state_of (Some t) after ≡ Some (record { number = t; mask = mask; content = content })
-written_is t after sent mask content swapped mask_is content_is = ap (state_of (Some t)) swapped ∙ cc
+-- ---- a packet
 
-pub returns-clause-latest : goal.returns-clause-latest
-returns-clause-latest c =
-    let read : ReadOf c.self.inside.last c.self.inside.known c.args.t c.args.bytes.now c.in-Some.level c.take_reference.new.sent =
-    reading_is c.self.inside.last c.self.inside.known.mask c.args.t (length c.self.inside.sent.content) (length c.self.inside.known.content) c.new-eye.result c.args.bytes.now _
-    c.self.invariant.sent_content c.new-eye.ensures.bits c.new-eye.ensures.place c.in-Some.ensures.reference in
-    λ mask content s.
-    let spelled = within c.args.self.now c.self.inside.last c.self.inside.known c.args.t (bits_of c.args.bytes.now) mask content c.self.view_is s in
-    written_is c.args.t c.swap.new.x c.take_reference.new.sent mask content c.swap.ensures.x_after
-    (same_mask c.self.inside.last c.self.inside.known (length c.self.inside.known.content) c.args.t c.self.invariant.known_mask (bits_of c.args.bytes.now) mask content c.in-Some.level c.take_reference.new.sent.mask c.take_reference.new.sent.content read spelled)
-    (same_content c.self.inside.last c.self.inside.known (length c.self.inside.known.content) c.args.t c.self.invariant.known_mask (bits_of c.args.bytes.now) mask content c.in-Some.level c.take_reference.new.sent.mask c.take_reference.new.sent.content read spelled)
+spelled_answer : (c : goal.After-self-1) → answer_of c.args.self.now.places c.args.self.now.state c.args.t (bits_of c.args.bytes.now) ≡ Ok Written
+spelled_answer c =
+    let told = rw c.in-Spelled.is at c.in_ok-kind.ensures.reading in
+    reading_is c.args.self.now c.self.inside.latest c.self.inside.shown c.self.view_is c.self.invariant.latest_vectors _ c.args.t c.new-eye.result c.args.bytes.now c.self.invariant.draft_vectors.content c.new-eye.ensures.bits c.new-eye.ensures.place
+    (record { change = c.take_whole_packet.new.next; outcome = Spelled c.take_whole_packet.new.draft.mask c.take_whole_packet.new.draft.content }) c.take_whole_packet.new.eye c.take_whole_packet.ensures.moves.bits told
+
+spelled_has : (c : goal.After-self-1) → IsState c.args.self.now.places c.args.self.now.state
+spelled_has c = has_state c.args.self.now c.self.inside.latest c.self.inside.shown c.self.view_is c.self.invariant.latest_vectors
+
+pub returns-in-Spelled-clause-exact : goal.returns-in-Spelled-clause-exact
+returns-in-Spelled-clause-exact c = exact_by c.args.self.now.places c.args.self.now.state c.args.t (bits_of c.args.bytes.now) (spelled_has c) (Ok Written) (spelled_answer c)
+
+pub returns-in-Spelled-clause-says : goal.returns-in-Spelled-clause-says
+returns-in-Spelled-clause-says c = says_by c.args.self.now.places c.args.self.now.state c.args.t (bits_of c.args.bytes.now) (spelled_has c) (Ok Written) (spelled_answer c)
+
+pub returns-in-Spelled-clause-latest : goal.returns-in-Spelled-clause-latest
+returns-in-Spelled-clause-latest c =
+    let told = rw c.in-Spelled.is at c.in_ok-kind.ensures.reading in
+    latest_is c.args.self.now c.self.inside.latest c.self.inside.shown c.self.view_is c.self.invariant.latest_vectors _ c.args.t c.new-eye.result c.args.bytes.now c.self.invariant.draft_vectors.content c.new-eye.ensures.bits c.new-eye.ensures.place
+    c.take_whole_packet.new.next c.take_whole_packet.new.draft.mask c.take_whole_packet.new.draft.content _ told
+    c.swap.new.x c.swap-in-Spelled.new.x c.swap-in-Spelled-2.new.x c.swap.ensures.x_after c.swap-in-Spelled.ensures.x_after c.swap-in-Spelled-2.ensures.x_after

@@ -1,0 +1,281 @@
+-- Reading the parts after the first is exact, by a deduced mask or none and a known content or none.
+use Rattle.std.proofs.Common.{◌≡◌, ℕ, Bool, true, false, cond, List, [], ◌∷◌, ◌++◌, length, get_or, replicate, Option, Some, None, refl, sym, ap, ◌∙◌, subst, inl, inr}
+use Rattle.std.specs.Prelude.{IfSome, ◌||◌}
+use Rattle.std.proofs.lemmas.Bool.{true≢false}
+use Rattle.std.proofs.lemmas.List.{length-replicate}
+use Rattle.std.proofs.lemmas.Simd.{length-zip2}
+use Rattle.bit_vectors.specs.Vectors.{or_bits}
+use Rattle.bit_vectors.specs.Reading.{front_at, same_at, IsExact}
+use Rattle.bit_vectors.proofs.ExactReading.{IsWordThen, IsExact-give, IsExact-same, IsExact-then}
+use Rattle.bit_vectors.proofs.SameWord.{IsExact-same_at}
+use Rattle.bit_vectors.proofs.FrontReading.{IsFront, IsExact-front_at}
+use Rattle.count_code.specs.Code.{count_bits}
+use Rattle.run_code.specs.Places.{places_down}
+use Rattle.run_code.specs.Edges.{edges}
+use Rattle.run_code.specs.Extraction.{extract, SameOutside, filled_at}
+use Rattle.run_code.specs.Runs.{run_bits, IsRunWordOf, vector_at}
+use Rattle.run_code.proofs.ExactRuns.{IsExact-vector_at}
+use Rattle.run_code.proofs.Filling.{IsFilling, IsExact-filled_at}
+use Rattle.run_code.proofs.Ones.{one_or_zero, places_down_apart, in_places_down, places_down_has}
+use Rattle.packet_encode.specs.Forms.{Directions, wide_by}
+use Rattle.packet_decode.specs.State.{Change}
+use Rattle.packet_decode.specs.PacketReading.{Outcome, Spelled, Opaque, kept_at, from_edges, mask_at, whole_at, whole_with, part_with, content_at, unsent_at, maskless_at, masked_at, sent_at, data_at}
+use Rattle.packet_decode.proofs.EdgeMasks.{edges-from_edges, length-from_edges, length_edges, from_edges-edges}
+use Rattle.packet_decode.proofs.Readers.{HasWord, IsImage, IsExact-map, IsBitThen, IsExact-bit, NoWord, IsExact-one, IsAfter, IsExact-after}
+use Rattle.packet_decode.proofs.KeptContent.{IsKept, IsExact-kept_at}
+
+-- ---- the mask
+
+-- a sent mask of f places and its word; where one is deduced, it is that one
+abbrev pub IsMaskWord : ℕ → Option (List Bool) → List Bool → List Bool → Type 0
+IsMaskWord f None mask word = (length mask ≡ f) × (word ≡ run_bits (edges mask))
+IsMaskWord f (Some deduced) mask word = (mask ≡ deduced) × (word ≡ run_bits (edges mask))
+
+mask_joined : (f : ℕ) (mask word : List Bool) → IsImage from_edges (IsRunWordOf f) mask word → IsMaskWord f None mask word
+mask_joined f mask word (runs, is, same) =
+    subst (λ (m : List Bool). IsMaskWord f None m word) (sym same) (length-from_edges runs ∙ is.0, is.1 ∙ ap run_bits (sym (edges-from_edges runs)))
+
+mask_apart : (f : ℕ) (mask word : List Bool) → IsMaskWord f None mask word → IsImage from_edges (IsRunWordOf f) mask word
+mask_apart f mask word (len, is) = (edges mask, (length_edges mask ∙ len, is), sym (from_edges-edges mask))
+
+pub IsExact-mask_at : (f : ℕ) (deduced : Option (List Bool)) → IsExact (IsMaskWord f deduced) (mask_at f deduced)
+unfolding mask_at
+IsExact-mask_at f None =
+    IsExact-same (IsImage from_edges (IsRunWordOf f)) (IsMaskWord f None) (mask_at f None) (mask_joined f) (mask_apart f) (IsExact-map from_edges (IsRunWordOf f) (vector_at f) (IsExact-vector_at f))
+IsExact-mask_at f (Some deduced) =
+    IsExact-same (IsImage (λ (u : Unit {0}). deduced) (λ u word. word ≡ run_bits (edges deduced))) (IsMaskWord f (Some deduced)) (mask_at f (Some deduced))
+    (λ mask word w. (w.2, w.1 ∙ ap (λ (m : List Bool). run_bits (edges m)) (sym w.2)))
+    (λ mask word w. (tt, w.1 ∙ ap (λ (m : List Bool). run_bits (edges m)) w.0, w.0))
+    (IsExact-map (λ (u : Unit {0}). deduced) (λ u word. word ≡ run_bits (edges deduced)) (same_at (run_bits (edges deduced))) (IsExact-same_at (run_bits (edges deduced))))
+
+-- ---- the whole content
+
+-- a vector of f places that is the known one outside these
+abbrev pub AgreesWith : ℕ → List Bool → Option (List Bool) → List Bool → Type 0
+AgreesWith f places known content = (length content ≡ f) × IfSome known (λ was. SameOutside places was content)
+
+abbrev IsContentWord : ℕ → List Bool → Option (List Bool) → List Bool → List Bool → Type 0
+IsContentWord f places known content word = AgreesWith f places known content × (word ≡ count_bits f ++ content)
+
+-- the vectors that are given have f places
+abbrev pub AllPlaces : ℕ → Option (List Bool) → Type 0
+AllPlaces f known = IfSome known (λ was. length was ≡ f)
+
+IsExact-whole_at : (f : ℕ) (places : List Bool) (known : Option (List Bool)) → length places ≡ f → AllPlaces f known → IsExact (IsContentWord f places known) (whole_at f places known)
+unfolding whole_at
+IsExact-whole_at f places None len all =
+    IsExact-same (IsAfter (count_bits f) (IsFront f)) (IsContentWord f places None) (whole_at f places None)
+    (λ content word (back, is, parts). ((is.0, tt), parts ∙ ap (λ (x : List Bool). count_bits f ++ x) is.1))
+    (λ content word (is, parts). (content, (is.0, refl), parts))
+    (IsExact-after (count_bits f) (IsFront f) (front_at f) (IsExact-front_at f) (replicate f false, replicate f false, (length-replicate f false, refl)))
+IsExact-whole_at f places (Some known) len all =
+    IsExact-same (IsAfter (count_bits f) (IsKept places known)) (IsContentWord f places (Some known)) (whole_at f places (Some known))
+    (λ content word (back, is, parts). ((is.0 ∙ all, is.1), parts ∙ ap (λ (x : List Bool). count_bits f ++ x) is.2))
+    (λ content word (is, parts). (content, (is.0 ∙ sym all, is.1, refl), parts))
+    (IsExact-after (count_bits f) (IsKept places known) (kept_at places known) (IsExact-kept_at places known (len ∙ sym all)) (known, known, (refl, λ place bound. refl, refl)))
+
+-- a content that agrees
+agreeing : (f : ℕ) (places : List Bool) (known : Option (List Bool)) → AllPlaces f known → HasWord (IsContentWord f places known)
+agreeing f places None all = (replicate f false, count_bits f ++ replicate f false, ((length-replicate f false, tt), refl))
+agreeing f places (Some known) all = (known, count_bits f ++ known, ((all, λ place bound. refl), refl))
+
+-- the places that are extracted
+abbrev pub places_of : Change → List Bool → List Bool
+places_of change mask = wide_by change.directions change.recent mask
+
+abbrev pub IsWhole : ℕ → Change → List Bool → Option (List Bool) → Outcome → List Bool → Type 0
+IsWhole f change mask known (Spelled m content) word = (m ≡ mask) × AgreesWith f (places_of change mask) known content × (word ≡ count_bits f ++ content)
+IsWhole f change mask known Opaque word = ⊥
+
+whole_joined : (f : ℕ) (change : Change) (mask : List Bool) (known : Option (List Bool)) (o : Outcome) (word : List Bool) → IsImage (Spelled mask) (IsContentWord f (places_of change mask) known) o word → IsWhole f change mask known o word
+whole_joined f change mask known o word (content, is, same) = subst (λ (x : Outcome). IsWhole f change mask known x word) (sym same) (refl, is.0, is.1)
+
+whole_apart : (f : ℕ) (change : Change) (mask : List Bool) (known : Option (List Bool)) (o : Outcome) (word : List Bool) → IsWhole f change mask known o word → IsImage (Spelled mask) (IsContentWord f (places_of change mask) known) o word
+whole_apart f change mask known (Spelled m content) word (same, is, bits) = (content, (is, bits), ap (λ (x : List Bool). Spelled x content) same)
+whole_apart f change mask known Opaque word is = absurd is
+
+length-wide_by : (recent mask : List Bool) (directions : Option Directions) → length mask ≡ length recent → length (wide_by directions recent mask) ≡ length mask
+length-wide_by recent mask None len = refl
+length-wide_by recent mask (Some directions) len = by_twice directions.twice
+  where
+    by_twice : (twice : Bool) → length (cond twice (or_bits mask recent) mask) ≡ length mask
+    by_twice true = length-zip2 (λ (a b : Bool). a || b) mask recent len
+    by_twice false = refl
+
+pub length-places_of : (f : ℕ) (change : Change) (mask : List Bool) → length change.recent ≡ f → length mask ≡ f → length (places_of change mask) ≡ f
+length-places_of f change mask recent len = length-wide_by change.recent mask change.directions (len ∙ sym recent) ∙ len
+
+IsExact-whole_with : (f : ℕ) (change : Change) (mask : List Bool) (known : Option (List Bool)) → length change.recent ≡ f → length mask ≡ f → AllPlaces f known → IsExact (IsWhole f change mask known) (whole_with f change mask known)
+unfolding whole_with
+IsExact-whole_with f change mask known recent len all =
+    IsExact-same (IsImage (Spelled mask) (IsContentWord f (places_of change mask) known)) (IsWhole f change mask known) (whole_with f change mask known) (whole_joined f change mask known) (whole_apart f change mask known)
+    (IsExact-map (Spelled mask) (IsContentWord f (places_of change mask) known) (whole_at f (places_of change mask) known) (IsExact-whole_at f (places_of change mask) known (length-places_of f change mask recent len) all))
+
+some_whole : (f : ℕ) (change : Change) (mask : List Bool) (known : Option (List Bool)) → AllPlaces f known → HasWord (IsWhole f change mask known)
+some_whole f change mask known all = let a = agreeing f (places_of change mask) known all in (Spelled mask a.0, a.1, (refl, a.2.0, a.2.1))
+
+-- ---- the extracted bits
+
+abbrev pub IsPart : Change → List Bool → Option (List Bool) → Outcome → List Bool → Type 0
+IsPart change mask None (Spelled m content) word = ⊥
+IsPart change mask None Opaque word = word ≡ []
+IsPart change mask (Some known) (Spelled m content) word = (m ≡ mask) × AgreesWith (length known) (places_of change mask) (Some known) content × (word ≡ extract content (places_of change mask))
+IsPart change mask (Some known) Opaque word = ⊥
+
+part_joined : (change : Change) (mask known : List Bool) (o : Outcome) (word : List Bool) → IsImage (Spelled mask) (IsFilling (places_down (places_of change mask)) known) o word → IsPart change mask (Some known) o word
+part_joined change mask known o word (content, is, same) =
+    subst (λ (x : Outcome). IsPart change mask (Some known) x word) (sym same) (
+      refl,
+      (is.0.same_length, λ place bound. is.0.others place (λ c. true≢false (sym (in_places_down (places_of change mask) place c) ∙ bound))),
+      is.1,
+    )
+
+part_apart : (change : Change) (mask known : List Bool) (o : Outcome) (word : List Bool) → IsPart change mask (Some known) o word → IsImage (Spelled mask) (IsFilling (places_down (places_of change mask)) known) o word
+part_apart change mask known (Spelled m content) word (same, agrees, is) = (
+  content,
+  (
+    record {
+      same_length = agrees.0;
+      others = λ k out.
+          elim (one_or_zero (get_or (places_of change mask) k false)) [
+            | inl one ↦ absurd (out (places_down_has (places_of change mask) k one))
+            | inr none ↦ agrees.1 k none
+          ];
+    },
+    is,
+  ),
+  ap (λ (x : List Bool). Spelled x content) same,
+)
+part_apart change mask known Opaque word is = absurd is
+
+nothing_joined : (change : Change) (mask : List Bool) (o : Outcome) (word : List Bool) → (o ≡ Opaque) × (word ≡ []) → IsPart change mask None o word
+nothing_joined change mask o word (opaque, none) = subst (λ (x : Outcome). IsPart change mask None x word) (sym opaque) none
+
+nothing_apart : (change : Change) (mask : List Bool) (o : Outcome) (word : List Bool) → IsPart change mask None o word → (o ≡ Opaque) × (word ≡ [])
+nothing_apart change mask (Spelled m content) word is = absurd is
+nothing_apart change mask Opaque word is = (refl, is)
+
+IsExact-part_with : (change : Change) (mask : List Bool) (known : Option (List Bool)) → AllPlaces (length (places_of change mask)) known → IsExact (IsPart change mask known) (part_with change mask known)
+unfolding part_with
+IsExact-part_with change mask None all =
+    IsExact-same (λ (o : Outcome) (word : List Bool). (o ≡ Opaque) × (word ≡ [])) (IsPart change mask None) (part_with change mask None) (nothing_joined change mask) (nothing_apart change mask) (IsExact-give Opaque)
+IsExact-part_with change mask (Some known) all =
+    IsExact-same (IsImage (Spelled mask) (IsFilling (places_down (places_of change mask)) known)) (IsPart change mask (Some known)) (part_with change mask (Some known)) (part_joined change mask known) (part_apart change mask known)
+    (IsExact-map (Spelled mask) (IsFilling (places_down (places_of change mask)) known) (filled_at (places_down (places_of change mask)) known) (IsExact-filled_at (places_down (places_of change mask)) known (rw all (places_down_apart (places_of change mask)))))
+
+some_part : (change : Change) (mask : List Bool) (known : Option (List Bool)) → HasWord (IsPart change mask known)
+some_part change mask None = (Opaque, [], refl)
+some_part change mask (Some known) = (Spelled mask known, extract known (places_of change mask), (refl, (refl, λ place bound. refl), refl))
+
+-- ---- either
+
+abbrev pub IsContent : ℕ → Change → List Bool → Option (List Bool) → Outcome → List Bool → Type 0
+IsContent f change mask known = IsBitThen (IsWhole f change mask known) (IsPart change mask known)
+
+all_of_places : (f n : ℕ) (known : Option (List Bool)) → f ≡ n → AllPlaces f known → AllPlaces n known
+all_of_places f n known same all = subst (λ (k : ℕ). AllPlaces k known) same all
+
+-- ---- all parts after the first
+
+-- too little to understand them
+abbrev pub IsNothing : Outcome → List Bool → Type 0
+IsNothing o word = (o ≡ Opaque) × (word ≡ [])
+
+abbrev pub IsUnsent : Change → Option (List Bool) → Option (List Bool) → Outcome → List Bool → Type 0
+IsUnsent change None known = IsNothing
+IsUnsent change (Some mask) known = IsPart change mask known
+
+abbrev pub IsMaskless : ℕ → Change → Option (List Bool) → Option (List Bool) → Outcome → List Bool → Type 0
+IsMaskless f change None known = IsNothing
+IsMaskless f change (Some mask) known = IsBitThen (IsWhole f change mask known) NoWord
+
+abbrev pub IsMasked : ℕ → Change → Option (List Bool) → Option (List Bool) → Outcome → List Bool → Type 0
+IsMasked f change deduced known = IsWordThen (IsMaskWord f deduced) (λ mask. IsContent f change mask known)
+
+abbrev pub IsSent : ℕ → Change → Option (List Bool) → Option (List Bool) → Outcome → List Bool → Type 0
+IsSent f change deduced known = IsBitThen (IsMasked f change deduced known) (IsMaskless f change deduced known)
+
+abbrev pub IsData : ℕ → Change → Option (List Bool) → Option (List Bool) → Outcome → List Bool → Type 0
+IsData f change deduced known = IsBitThen (IsUnsent change deduced known) (IsSent f change deduced known)
+
+-- there is a mask, and after each a content
+mask_of_places : (f : ℕ) (deduced : Option (List Bool)) → AllPlaces f deduced → (mask word : List Bool) → IsMaskWord f deduced mask word → length mask ≡ f
+mask_of_places f None all mask word is = is.0
+mask_of_places f (Some deduced) all mask word is = ap (λ (m : List Bool). length m) is.0 ∙ all
+
+some_mask : (f : ℕ) (deduced : Option (List Bool)) → HasWord (IsMaskWord f deduced)
+some_mask f None = (replicate f false, run_bits (edges (replicate f false)), (length-replicate f false, refl))
+some_mask f (Some deduced) = (deduced, run_bits (edges deduced), (refl, refl))
+
+some_content : (f : ℕ) (change : Change) (mask : List Bool) (known : Option (List Bool)) → HasWord (IsContent f change mask known)
+some_content f change mask known = let p = some_part change mask known in (p.0, false ∷ p.1, p.2)
+
+some_masked : (f : ℕ) (change : Change) (deduced known : Option (List Bool)) → HasWord (IsMasked f change deduced known)
+some_masked f change deduced known =
+    let m = some_mask f deduced in
+    let c = some_content f change m.0 known in
+    (c.0, m.1 ++ c.1, (m.0, m.1, c.1, m.2, c.2, refl))
+
+some_maskless : (f : ℕ) (change : Change) (deduced known : Option (List Bool)) → AllPlaces f known → HasWord (IsMaskless f change deduced known)
+some_maskless f change None known all = (Opaque, [], (refl, refl))
+some_maskless f change (Some mask) known all = let w = some_whole f change mask known all in (w.0, true ∷ w.1, w.2)
+
+some_unsent : (change : Change) (deduced known : Option (List Bool)) → HasWord (IsUnsent change deduced known)
+some_unsent change None known = (Opaque, [], (refl, refl))
+some_unsent change (Some mask) known = some_part change mask known
+
+some_sent : (f : ℕ) (change : Change) (deduced known : Option (List Bool)) → HasWord (IsSent f change deduced known)
+some_sent f change deduced known = let m = some_masked f change deduced known in (m.0, true ∷ m.1, m.2)
+
+pub some_data : (f : ℕ) (change : Change) (deduced known : Option (List Bool)) → HasWord (IsData f change deduced known)
+some_data f change deduced known = let u = some_unsent change deduced known in (u.0, true ∷ u.1, u.2)
+
+module _ (f : ℕ) (change : Change) (known : Option (List Bool)) (recent : length change.recent ≡ f) (content_places : AllPlaces f known) where
+  part_exact : (mask : List Bool) → length mask ≡ f → IsExact (IsPart change mask known) (part_with change mask known)
+  part_exact mask len = IsExact-part_with change mask known (all_of_places f (length (places_of change mask)) known (sym (length-places_of f change mask recent len)) content_places)
+
+  content_exact : (mask : List Bool) → length mask ≡ f → IsExact (IsContent f change mask known) (content_at f change mask known)
+  unfolding content_at
+  content_exact mask len =
+      IsExact-bit (IsWhole f change mask known) (IsPart change mask known) (whole_with f change mask known) (part_with change mask known)
+      (IsExact-whole_with f change mask known recent len content_places)
+      (part_exact mask len)
+      (some_whole f change mask known content_places)
+      (some_part change mask known)
+
+  masked_exact : (deduced : Option (List Bool)) → AllPlaces f deduced → IsExact (IsMasked f change deduced known) (masked_at f change deduced known)
+  unfolding masked_at
+  masked_exact deduced mask_places =
+      IsExact-then (IsMaskWord f deduced) (λ mask. IsContent f change mask known) (mask_at f deduced) (λ mask rest. content_at f change mask known rest)
+      (IsExact-mask_at f deduced)
+      (λ mask word w. content_exact mask (mask_of_places f deduced mask_places mask word w))
+      (λ mask word w. some_content f change mask known)
+
+  maskless_exact : (deduced : Option (List Bool)) → AllPlaces f deduced → IsExact (IsMaskless f change deduced known) (maskless_at f change deduced known)
+  unfolding maskless_at
+  maskless_exact None mask_places = IsExact-give Opaque
+  maskless_exact (Some mask) mask_places =
+      IsExact-one (IsWhole f change mask known) (whole_with f change mask known) (IsExact-whole_with f change mask known recent mask_places content_places) (some_whole f change mask known content_places)
+
+  unsent_exact : (deduced : Option (List Bool)) → AllPlaces f deduced → IsExact (IsUnsent change deduced known) (unsent_at change deduced known)
+  unfolding unsent_at
+  unsent_exact None mask_places = IsExact-give Opaque
+  unsent_exact (Some mask) mask_places = part_exact mask mask_places
+
+  sent_exact : (deduced : Option (List Bool)) → AllPlaces f deduced → IsExact (IsSent f change deduced known) (sent_at f change deduced known)
+  unfolding sent_at
+  sent_exact deduced mask_places =
+      IsExact-bit (IsMasked f change deduced known) (IsMaskless f change deduced known) (masked_at f change deduced known) (maskless_at f change deduced known)
+      (masked_exact deduced mask_places)
+      (maskless_exact deduced mask_places)
+      (some_masked f change deduced known)
+      (some_maskless f change deduced known content_places)
+
+  pub IsExact-data_at : (deduced : Option (List Bool)) → AllPlaces f deduced → IsExact (IsData f change deduced known) (data_at f change deduced known)
+  unfolding data_at
+  IsExact-data_at deduced mask_places =
+      IsExact-bit (IsUnsent change deduced known) (IsSent f change deduced known) (unsent_at change deduced known) (sent_at f change deduced known)
+      (unsent_exact deduced mask_places)
+      (sent_exact deduced mask_places)
+      (some_unsent change deduced known)
+      (some_sent f change deduced known)

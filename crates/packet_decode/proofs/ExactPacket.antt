@@ -1,0 +1,143 @@
+-- Reading a packet with its padding is exact.
+use Rattle.std.proofs.Common.{◌≡◌, ℕ, ◌-◌, ◌*◌, eqb, leb, Bool, true, false, cond, List, [], ◌++◌, length, replicate, Option, Some, None, refl, sym, ap, ◌∙◌, subst}
+use Rattle.std.specs.Prelude.{IfSome, not, ◌&&◌, ◌||◌}
+use Rattle.std.proofs.lemmas.Simd.{length-zip2}
+use Rattle.bit_vectors.specs.Vectors.{xor_bits, or_bits, without_bits, byte_count}
+use Rattle.bit_vectors.specs.Reading.{Read, ◌>>=◌, IsExact}
+use Rattle.bit_vectors.proofs.ExactReading.{IsWordThen, IsExact-give, IsExact-same, IsExact-then}
+use Rattle.bit_vectors.proofs.SameWord.{IsExact-same_at}
+use Rattle.packet_encode.specs.Forms.{Directions, AreDirections}
+use Rattle.packet_decode.specs.State.{State, IsState, Change, unpredictable, mask_after}
+use Rattle.packet_decode.specs.PacketReading.{Outcome, Spelled, Opaque, Found, deduced_by, known_by, change_at, data_at, parts_at, padding_at, packet_at}
+use Rattle.packet_decode.proofs.Readers.{IsImage, IsExact-map, IsExact-by, IsCounted, counted, IsExact-counted, counted_then}
+use Rattle.packet_decode.proofs.ExactChange.{bare, IsChange, IsChangeWord, IsExact-change_at}
+use Rattle.packet_decode.proofs.ExactData.{AllPlaces, IsData, some_data, IsExact-data_at}
+
+-- ---- what the state gives has f places
+
+length-unpredictable : (recent : List Bool) (level : ℕ) (o : Option Directions) → IfSome o (AreDirections (bare recent level)) → length (unpredictable recent o) ≡ length recent
+length-unpredictable recent level None are = refl
+length-unpredictable recent level (Some directions) are = length-zip2 (λ (a b : Bool). a && not b) recent directions.predictable (sym are.places)
+
+pub length-mask_after : (f : ℕ) (mask : List Bool) (change : Change) → length mask ≡ f → IsChange f change → length (mask_after mask change) ≡ f
+length-mask_after f mask change len is = by_level (eqb change.level 0)
+  where
+    same : length mask ≡ length change.recent
+    same = len ∙ sym is.recent
+
+    kept : length (without_bits mask change.recent) ≡ length mask
+    kept = length-zip2 (λ (a b : Bool). a && not b) mask change.recent same
+
+    rest : length (unpredictable change.recent change.directions) ≡ length change.recent
+    rest = length-unpredictable change.recent change.level change.directions is.directions
+
+    by_level : (zero : Bool) → length (cond zero (xor_bits mask change.recent) (or_bits (without_bits mask change.recent) (unpredictable change.recent change.directions))) ≡ f
+    by_level true = length-zip2 (λ (a b : Bool). cond a (not b) b) mask change.recent same ∙ len
+    by_level false = length-zip2 (λ (a b : Bool). a || b) (without_bits mask change.recent) (unpredictable change.recent change.directions) (kept ∙ same ∙ sym rest) ∙ kept ∙ len
+
+deduced_places : (f : ℕ) (state : State) (t : ℕ) (change : Change) → IsState f state → IsChange f change → AllPlaces f (deduced_by state t change)
+deduced_places f None t change has is = tt
+deduced_places f (Some latest) t change has is = by_reach (leb (t - 1 - latest.number) change.level)
+  where
+    by_reach : (near : Bool) → AllPlaces f (cond near (Some (mask_after latest.mask change)) None)
+    by_reach true = length-mask_after f latest.mask change has.mask_places is
+    by_reach false = tt
+
+known_places : (f : ℕ) (state : State) (t : ℕ) (change : Change) → IsState f state → AllPlaces f (known_by state t change)
+known_places f None t change has = tt
+known_places f (Some latest) t change has = by_reach (leb (t - 1 - latest.number) change.level)
+  where
+    by_reach : (near : Bool) → AllPlaces f (cond near (Some latest.content) None)
+    by_reach true = has.content_places
+    by_reach false = tt
+
+-- ---- all parts
+
+abbrev found_of : Change → Outcome → Found
+found_of change outcome = record { change = change; outcome = outcome }
+
+abbrev IsDataBy : ℕ → State → ℕ → Change → Outcome → List Bool → Type 0
+IsDataBy f state t change = IsData f change (deduced_by state t change) (known_by state t change)
+
+abbrev IsPartsThen : ℕ → State → ℕ → Found → List Bool → Type 0
+IsPartsThen f state t = IsWordThen (IsChangeWord f) (λ change. IsImage (found_of change) (IsDataBy f state t change))
+
+-- the bits of a first part and of the others
+pub record IsParts (f : ℕ) (state : State) (t : ℕ) (found : Found) (word : List Bool) : Type 0 where
+  pub front : List Bool
+  pub back : List Bool
+  pub first : IsChangeWord f found.change front
+  pub others : IsData f found.change (deduced_by state t found.change) (known_by state t found.change) found.outcome back
+  pub parts : word ≡ front ++ back
+
+parts_joined : (f : ℕ) (state : State) (t : ℕ) (found : Found) (word : List Bool) → IsPartsThen f state t found word → IsParts f state t found word
+parts_joined f state t found word (change, front, back, first, (outcome, others, is), parts) =
+    subst (λ (x : Found). IsParts f state t x word) (sym is) (record { front = front; back = back; first = first; others = others; parts = parts })
+
+parts_apart : (f : ℕ) (state : State) (t : ℕ) (found : Found) (word : List Bool) → IsParts f state t found word → IsPartsThen f state t found word
+parts_apart f state t found word h = (found.change, h.front, h.back, h.first, (found.outcome, h.others, refl), h.parts)
+
+IsExact-parts_at : (f : ℕ) (state : State) (t : ℕ) → IsState f state → IsExact (IsParts f state t) (parts_at f state t)
+unfolding parts_at
+IsExact-parts_at f state t has =
+    IsExact-same (IsPartsThen f state t) (IsParts f state t) (parts_at f state t) (parts_joined f state t) (parts_apart f state t)
+    (IsExact-then (IsChangeWord f) (λ change. IsImage (found_of change) (IsDataBy f state t change))
+    (change_at f) (λ change rest. data_at f change (deduced_by state t change) (known_by state t change) rest >>= λ outcome last. Read (found_of change outcome) last)
+    (IsExact-change_at f)
+    (λ change word w. IsExact-map (found_of change) (IsDataBy f state t change) (data_at f change (deduced_by state t change) (known_by state t change))
+    (IsExact-data_at f change (known_by state t change) w.0.recent (known_places f state t change has) (deduced_by state t change) (deduced_places f state t change has w.0)))
+    (λ change word w. let d = some_data f change (deduced_by state t change) (known_by state t change) in (found_of change d.0, d.1, (d.0, d.2, refl))))
+
+-- ---- the padding
+
+-- a packet that is spelled is padded
+abbrev pub padding_word : Outcome → ℕ → List Bool
+padding_word (Spelled mask content) used = replicate (8 * byte_count used - used) false
+padding_word Opaque used = []
+
+IsExact-padding_at : (outcome : Outcome) (used : ℕ) → IsExact (λ (u : Unit {0}) (word : List Bool). word ≡ padding_word outcome used) (padding_at outcome used)
+unfolding padding_at
+IsExact-padding_at (Spelled mask content) used = IsExact-same_at (replicate (8 * byte_count used - used) false)
+IsExact-padding_at Opaque used =
+    IsExact-same (λ (u : Unit {0}) (word : List Bool). (u ≡ tt) × (word ≡ [])) (λ (u : Unit {0}) (word : List Bool). word ≡ []) (padding_at Opaque used) (λ u word w. w.1) (λ u word w. (refl, w)) (IsExact-give tt)
+
+-- ---- a packet
+
+-- the bits of all parts, padded where a packet is spelled
+pub record IsPacket (f : ℕ) (state : State) (t : ℕ) (found : Found) (word : List Bool) : Type 0 where
+  pub body : List Bool
+  pub parts : IsParts f state t found body
+  pub bits : word ≡ body ++ padding_word found.outcome (length body)
+
+abbrev IsPadding : Found × ℕ → Found → List Bool → Type 0
+IsPadding found = IsImage (λ (u : Unit {0}). found.0) (λ u word. word ≡ padding_word found.0.outcome found.1)
+
+abbrev IsPacketThen : ℕ → State → ℕ → Found → List Bool → Type 0
+IsPacketThen f state t = IsWordThen (IsCounted (IsParts f state t)) IsPadding
+
+packet_joined : (f : ℕ) (state : State) (t : ℕ) (found : Found) (word : List Bool) → IsPacketThen f state t found word → IsPacket f state t found word
+packet_joined f state t found word (counted, body, back, parts, (u, padding, is), all) =
+    subst (λ (x : Found). IsPacket f state t x word) (sym is) (record {
+      body = body;
+      parts = parts.0;
+      bits = all ∙ ap (λ (x : List Bool). body ++ x) (padding ∙ ap (padding_word counted.0.outcome) parts.1);
+    })
+
+packet_apart : (f : ℕ) (state : State) (t : ℕ) (found : Found) (word : List Bool) → IsPacket f state t found word → IsPacketThen f state t found word
+packet_apart f state t found word h = ((found, length h.body), h.body, padding_word found.outcome (length h.body), (h.parts, refl), (tt, refl, refl), h.bits)
+
+packet_at_counts : (f : ℕ) (state : State) (t : ℕ) (bits : List Bool) → packet_at f state t bits
+    ≡ (counted (length bits) (parts_at f state t bits) >>= λ found rest. padding_at found.0.outcome found.1 rest >>= λ u last. Read found.0 last)
+unfolding packet_at
+packet_at_counts f state t bits = counted_then (length bits) (parts_at f state t bits) (λ found used rest. padding_at found.outcome used rest >>= λ u last. Read found last)
+
+pub IsExact-packet_at : (f : ℕ) (state : State) (t : ℕ) → IsState f state → IsExact (IsPacket f state t) (packet_at f state t)
+IsExact-packet_at f state t has =
+    IsExact-same (IsPacketThen f state t) (IsPacket f state t) (packet_at f state t) (packet_joined f state t) (packet_apart f state t)
+    (IsExact-by (IsPacketThen f state t) (λ bits. counted (length bits) (parts_at f state t bits) >>= λ found rest. padding_at found.0.outcome found.1 rest >>= λ u last. Read found.0 last) (packet_at f state t)
+    (packet_at_counts f state t)
+    (IsExact-then (IsCounted (IsParts f state t)) IsPadding
+    (λ bits. counted (length bits) (parts_at f state t bits)) (λ found rest. padding_at found.0.outcome found.1 rest >>= λ u last. Read found.0 last)
+    (IsExact-counted (IsParts f state t) (parts_at f state t) (IsExact-parts_at f state t has))
+    (λ found word w. IsExact-map (λ (u : Unit {0}). found.0) (λ u word. word ≡ padding_word found.0.outcome found.1) (padding_at found.0.outcome found.1) (IsExact-padding_at found.0.outcome found.1))
+    (λ found word w. (found.0, padding_word found.0.outcome found.1, (tt, refl, refl)))))

@@ -1,0 +1,26 @@
+-- Where no directions can be sent.
+use Rattle.std.proofs.Common.{◌≡◌, ℕ, zero, suc, Bool, true, false, List, length, replicate, None, refl}
+use Rattle.std.specs.Prelude.{◌&&◌}
+use Rattle.std.specs.List.{list_any}
+use Rattle.bit_vectors.specs.Reading.{Read}
+use Rattle.packet_decode.specs.PacketReading.{directions_at}
+
+no_one : (count : ℕ) → list_any (λ (bit : Bool). bit) (replicate count false) ≡ false
+no_one zero = refl
+no_one (suc count) = no_one count
+
+nor : (bit : Bool) → (bit && false) ≡ false
+nor true = refl
+nor false = refl
+
+-- without a change
+pub no_change : (recent : List Bool) (level : ℕ) (bits : List Bool) → recent ≡ replicate (length recent) false → directions_at recent level bits ≡ Read None bits
+unfolding directions_at
+no_change recent level bits none =
+    let any : list_any (λ (bit : Bool). bit) recent ≡ false = rw none (no_one (length recent)) in
+    rw any refl
+
+-- at level 0
+pub no_level : (recent bits : List Bool) → directions_at recent 0 bits ≡ Read None bits
+unfolding directions_at
+no_level recent bits = rw (nor (list_any (λ (bit : Bool). bit) recent)) refl

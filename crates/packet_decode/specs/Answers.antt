@@ -1,0 +1,52 @@
+-- The answers to the bits of a packet: what each of them says, exactly or only soundly.
+use Rattle.std.specs.Prelude.{◌≡◌, ℕ, ◌+◌, ◌<◌, ◌⊎◌, List, ◌++◌, Bool, length, take, IsSome, IsNone, Result, Ok, Err}
+use Rattle.bit_vectors.specs.declared.fault.BitFault.{BitFault}
+use Rattle.bit_vectors.specs.declared.fault.BitFault.TheVariants.{Wrong, EndsEarly}
+use Rattle.packet_encode.specs.Forms.{Form}
+use Rattle.packet_decode.specs.declared.decoder.Reading.{Reading}
+use Rattle.packet_decode.specs.declared.decoder.Reading.TheVariants.{Written, Unsynced, Gap}
+use Rattle.packet_decode.specs.State.{State}
+use Rattle.packet_decode.specs.Spelling.{Spells, HasOpaqueFront}
+
+-- the bits spell a packet
+abbrev pub SpellsPacket : ℕ → State → ℕ → List Bool → Type 0
+SpellsPacket f state t bits = (form : Form) × (mask : List Bool) × (content : List Bool) × Spells f state t bits form mask content
+
+-- they have an opaque front, of some level
+abbrev pub IsOpaque : ℕ → State → ℕ → List Bool → Type 0
+IsOpaque f state t bits = (level : ℕ) × HasOpaqueFront f state t bits level
+
+-- some bits that begin with these spell a packet or have an opaque front
+abbrev pub Viable : ℕ → State → ℕ → List Bool → Type 0
+Viable f state t bits = (rest : List Bool) × (SpellsPacket f state t (bits ++ rest) ⊎ IsOpaque f state t (bits ++ rest))
+
+-- ---- answers
+
+-- the place is one of the bits, and after its bit nothing can be read
+pub record IsHopeless (f : ℕ) (state : State) (t : ℕ) (bits : List Bool) (bit : ℕ) : Type 0 where
+  pub inside : bit < length bits
+  pub hopeless : Viable f state t (take (bit + 1) bits) → ⊥
+
+-- all bits are read, and neither spell a packet nor have an opaque front
+pub record IsIncomplete (f : ℕ) (state : State) (t : ℕ) (bits : List Bool) (bit : ℕ) : Type 0 where
+  pub all : bit ≡ length bits
+  pub not_spelled : SpellsPacket f state t bits → ⊥
+  pub not_opaque : IsOpaque f state t bits → ⊥
+
+-- what the bits say: a packet is spelled, or they have an opaque front, and nothing or something is known
+abbrev pub Says : ℕ → State → ℕ → List Bool → Reading → Type 0
+Says f state t bits Written = SpellsPacket f state t bits
+Says f state t bits Unsynced = IsOpaque f state t bits × IsNone state
+Says f state t bits (Gap level) = HasOpaqueFront f state t bits level × IsSome state
+
+-- an answer that is right, where the bit of a fault may come later than the first at which it can be seen
+abbrev pub IsSoundAnswer : ℕ → State → ℕ → List Bool → Result Reading BitFault → Type 0
+IsSoundAnswer f state t bits (Ok reading) = Says f state t bits reading
+IsSoundAnswer f state t bits (Err (Wrong bit)) = IsHopeless f state t bits bit
+IsSoundAnswer f state t bits (Err (EndsEarly bit)) = IsIncomplete f state t bits bit
+
+-- an answer whose fault is the first: the bits before it are viable
+abbrev pub IsExactAnswer : ℕ → State → ℕ → List Bool → Result Reading BitFault → Type 0
+IsExactAnswer f state t bits (Ok reading) = Says f state t bits reading
+IsExactAnswer f state t bits (Err (Wrong bit)) = IsHopeless f state t bits bit × Viable f state t (take bit bits)
+IsExactAnswer f state t bits (Err (EndsEarly bit)) = IsIncomplete f state t bits bit × Viable f state t bits

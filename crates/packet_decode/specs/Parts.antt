@@ -1,0 +1,58 @@
+-- What the values stand for by which packets are read.
+use Rattle.std.specs.Prelude.{◌≡◌, ℕ, ◌-◌, nat_le, List, Bool, false, replicate, IfNone, length, Option, None, Some}
+use Rattle.bit_vectors.specs.Vectors.{IsVector}
+use Rattle.packet_encode.specs.Forms.{Directions}
+use Rattle.packet_decode.specs.declared.draft.DataKind.{DataKind}
+use Rattle.packet_decode.specs.declared.draft.DataKind.TheVariants.{Spelled as SpelledKind, Opaque as OpaqueKind}
+use Rattle.packet_decode.specs.declared.draft.Draft.{Draft}
+use Rattle.packet_decode.specs.declared.draft.Latest.{Latest}
+use Rattle.packet_decode.specs.State.{State, Change}
+use Rattle.packet_decode.specs.PacketReading.{Outcome, Spelled, Opaque}
+
+-- directions, where it was sent whether all recent changes are extracted
+abbrev pub directions_of : Option Bool → List Bool → Option Directions
+directions_of None predictable = None
+directions_of (Some twice) predictable = Some (record { predictable = predictable; twice = twice })
+
+-- what the parts after the first one say
+abbrev pub outcome_of : DataKind → List Bool → List Bool → Outcome
+outcome_of SpelledKind mask content = Spelled mask content
+outcome_of OpaqueKind mask content = Opaque
+
+-- the state
+abbrev pub state_by : Option ℕ → List Bool → List Bool → State
+state_by None mask content = None
+state_by (Some number) mask content = Some (record { number = number; mask = mask; content = content })
+
+abbrev pub state_of : Latest → State
+state_of latest = state_by latest.number latest.mask latest.content
+
+-- whether the packet with the number t and this level is in reach of that with the latest number
+abbrev pub reaches : Option ℕ → ℕ → ℕ → Bool
+reaches None t level = false
+reaches (Some number) t level = nat_le (t - 1 - number) level
+
+-- the latest packet's vectors have so many places
+pub record IsLatest (f : ℕ) (latest : Latest) : Type 0 where
+  pub mask : length latest.mask ≡ f
+  pub content : length latest.content ≡ f
+
+-- all vectors of a draft have so many places
+pub record IsDraft (f : ℕ) (draft : Draft) : Type 0 where
+  pub mask : length draft.mask ≡ f
+  pub content : length draft.content ≡ f
+  pub places : length draft.places ≡ f
+  pub spare : length draft.spare ≡ f
+
+-- What holds of the parts of a decoder: the latest packet and its first part, and what is filled as the next one is read.
+pub record IsDecoder (latest : Latest) (shown next : Change) (deduced : List Bool) (draft : Draft) : Type 0 where
+  pub vector : IsVector latest.content
+  pub latest_vectors : IsLatest (length latest.content) latest
+  pub shown_places : length shown.recent ≡ length latest.content
+  pub next_places : length next.recent ≡ length latest.content
+  pub deduced_places : length deduced ≡ length latest.content
+  pub draft_vectors : IsDraft (length latest.content) draft
+  pub first_mask : IfNone latest.number (latest.mask ≡ replicate (length latest.content) false)
+  pub first_content : IfNone latest.number (latest.content ≡ replicate (length latest.content) false)
+  pub first_recent : IfNone latest.number (shown.recent ≡ replicate (length latest.content) false)
+  pub first_level : IfNone latest.number (shown.level ≡ 0)

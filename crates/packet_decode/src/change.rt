@@ -1,0 +1,118 @@
+//! The first part of a packet: the recent changes of the mask, the effective robustness level, and the
+//! directions of the changes where they are sent (CCSDS 124.0-B-1).
+
+ghost use Rattle.std.specs.Prelude.{◌≡◌, ◌≤◌, false, length, replicate, None, IfOk};
+ghost use Rattle.bit_vectors.specs.Vectors.{IsVector};
+ghost use Rattle.bit_vectors.specs.Eye.{bits_left};
+ghost use Rattle.bit_vectors.specs.Reading.{MovesOn, Gives};
+ghost use Rattle.packet_encode.specs.Forms.{wide_by};
+ghost use Rattle.packet_decode.specs.State.{mask_after};
+ghost use Rattle.packet_decode.specs.PacketReading.{change_at};
+
+use crate::directions::take_directions;
+use bit_vectors::{BitEye, BitFault, Bits, NoMemory};
+use count_code::take_number;
+use run_code::take_runs;
+use std::alloc::Global;
+use std::marker::Model;
+
+/// The first part of a packet.
+#[derive(Debug, Drop)]
+pub struct FirstPart {
+    recent: Bits,
+    level: u8,
+    predictable: Bits,
+    twice: Option<bool>,
+}
+
+impl Model for FirstPart {
+    ghost use Rattle.std.specs.Prelude.{◌≡◌, length};
+    ghost use Rattle.bit_vectors.specs.Vectors.{IsVector};
+    ghost use Rattle.packet_decode.specs.State.{Change};
+    ghost use Rattle.packet_decode.specs.Parts.{directions_of};
+
+    ghost Value = { Change };
+
+    ghost view = { λ p. record { recent = p.recent; level = p.level; directions = directions_of p.twice p.predictable } };
+
+    ghost invariant = { λ p. length p.predictable ≡ length p.recent };
+}
+
+impl FirstPart {
+    /// No change of `f` places, and level 0.
+    pub fn zeros(alloc: Global, f: u32) -> Result<FirstPart, NoMemory>
+        requires some { 1 ≤ f }
+        requires most { f ≤ 49152 }
+        ensures { IfOk result (λ part. part ≡ record { recent = replicate f false; level = 0; directions = None }) }
+    {
+        let recent = Bits::zeros(alloc, f)?;
+        let predictable = Bits::zeros(alloc, f)?;
+        Ok(FirstPart {
+            recent,
+            level: 0,
+            predictable,
+            twice: None,
+        })
+    }
+
+    /// Takes the first part of a packet of as many places. After a fault it is any.
+    #[tactic(auto, unfolding(crate::specs::PacketReading::change_at))]
+    pub fn take(&mut self, eye: &mut BitEye) -> Result<(), BitFault>
+        ensures places { length self.new.recent ≡ length self.old.recent }
+        ensures moves { MovesOn eye.old eye.new }
+        ensures reading { Gives (λ _. self.new) result eye.new (change_at (length self.old.recent) (bits_left eye.old)) }
+    {
+        take_runs(eye, &mut self.recent)?;
+        self.level = take_number(eye, 4)? as u8;
+        self.twice = take_directions(eye, &self.recent, self.level, &mut self.predictable)?;
+        Ok(())
+    }
+
+    /// The recent changes of the mask.
+    pub fn recent(&self) -> &Bits
+        ensures { result.now ≡ self.now.recent }
+    {
+        &self.recent
+    }
+
+    /// The effective robustness level.
+    pub fn level(&self) -> u8
+        ensures { result ≡ self.now.level }
+    {
+        self.level
+    }
+
+    /// Makes `mask` the mask after it. `spare` has any bits then.
+    pub fn deduce(&self, mask: &mut Bits, spare: &mut Bits)
+        requires mask { length mask.old ≡ length self.now.recent }
+        requires spare { length spare.old ≡ length self.now.recent }
+        ensures mask { mask.new ≡ mask_after mask.old self.now }
+        ensures mask_places { length mask.new ≡ length mask.old }
+        ensures spare_places { length spare.new ≡ length spare.old }
+    {
+        if self.recent.is_zero() {
+            return;
+        }
+        if self.level == 0 {
+            mask.xor_in(&self.recent);
+            return;
+        }
+        spare.copy_from(&self.recent);
+        if self.twice.is_some() {
+            spare.drop_in(&self.predictable);
+        }
+        mask.drop_in(&self.recent);
+        mask.or_in(spare);
+    }
+
+    /// Makes `places`, which are those of the mask, the extracted ones.
+    pub fn widen(&self, places: &mut Bits)
+        requires { length places.old ≡ length self.now.recent }
+        ensures extracted { places.new ≡ wide_by self.now.directions self.now.recent places.old }
+        ensures places { length places.new ≡ length places.old }
+    {
+        if self.twice == Some(true) {
+            places.or_in(&self.recent);
+        }
+    }
+}

@@ -1,0 +1,132 @@
+//! The content of a packet: all of it, or its extracted bits (CCSDS 124.0-B-1).
+
+ghost use Rattle.std.specs.Prelude.{◌≡◌, length, IfSome, Some};
+ghost use Rattle.std.specs.Option.{option_map};
+ghost use Rattle.bit_vectors.specs.Eye.{bits_left};
+ghost use Rattle.bit_vectors.specs.Reading.{MovesOn, Gives};
+ghost use Rattle.packet_decode.specs.State.{Change};
+ghost use Rattle.packet_decode.specs.PacketReading.{Tells, kept_at, whole_with, part_with, content_at};
+ghost use Rattle.packet_decode.specs.Parts.{IsDraft, outcome_of};
+
+use crate::bit::take_bit;
+use crate::change::FirstPart;
+use crate::draft::{DataKind, Draft};
+use bit_vectors::{BitEye, BitFault, Bits};
+use count_code::match_count;
+use run_code::take_into;
+
+/// Takes whether the content is whole, and the content, under the mask of the draft. Where nothing is known,
+/// extracted bits are too little to be understood.
+#[tactic(auto, unfolding(crate::specs::PacketReading::content_at))]
+pub fn take_content(
+    eye: &mut BitEye,
+    change: &FirstPart,
+    known: Option<&Bits>,
+    draft: &mut Draft,
+) -> Result<DataKind, BitFault>
+    requires change { length change.now.recent ≡ length draft.old.content }
+    requires known { IfSome known (λ v. length v.now ≡ length draft.old.content) }
+    requires draft { IsDraft (length draft.old.content) draft.old }
+    ensures draft { IsDraft (length draft.old.content) draft.new }
+    ensures moves { MovesOn eye.old eye.new }
+    ensures reading { Tells (λ kind. outcome_of kind draft.new.mask draft.new.content) result eye.new
+        (content_at (length draft.old.content) change.now draft.old.mask (option_map (λ v. v.now) known.entry) (bits_left eye.old)) }
+{
+    if take_bit(eye)? {
+        take_whole(eye, change, known, draft)
+    } else {
+        take_part(eye, change, known, draft)
+    }
+}
+
+/// Takes the extracted bits, where a content is known.
+#[tactic(auto, unfolding(crate::specs::PacketReading::part_with))]
+pub fn take_part(
+    eye: &mut BitEye,
+    change: &FirstPart,
+    known: Option<&Bits>,
+    draft: &mut Draft,
+) -> Result<DataKind, BitFault>
+    requires change { length change.now.recent ≡ length draft.old.content }
+    requires known { IfSome known (λ v. length v.now ≡ length draft.old.content) }
+    requires draft { IsDraft (length draft.old.content) draft.old }
+    ensures draft { IsDraft (length draft.old.content) draft.new }
+    ensures moves { MovesOn eye.old eye.new }
+    ensures reading { Tells (λ kind. outcome_of kind draft.new.mask draft.new.content) result eye.new
+        (part_with change.now draft.old.mask (option_map (λ v. v.now) known.entry) (bits_left eye.old)) }
+{
+    let Some(known) = known else {
+        return Ok(DataKind::Opaque);
+    };
+    draft.places.copy_from(&draft.mask);
+    change.widen(&mut draft.places);
+    draft.content.copy_from(known);
+    take_into(eye, &mut draft.content, &draft.places)?;
+    Ok(DataKind::Spelled)
+}
+
+/// Takes the whole content. Where one is known, it is that outside the extracted places.
+#[tactic(auto, unfolding(crate::specs::PacketReading::whole_with, crate::specs::PacketReading::whole_at))]
+pub fn take_whole(
+    eye: &mut BitEye,
+    change: &FirstPart,
+    known: Option<&Bits>,
+    draft: &mut Draft,
+) -> Result<DataKind, BitFault>
+    requires change { length change.now.recent ≡ length draft.old.content }
+    requires known { IfSome known (λ v. length v.now ≡ length draft.old.content) }
+    requires draft { IsDraft (length draft.old.content) draft.old }
+    ensures draft { IsDraft (length draft.old.content) draft.new }
+    ensures moves { MovesOn eye.old eye.new }
+    ensures reading { Tells (λ kind. outcome_of kind draft.new.mask draft.new.content) result eye.new
+        (whole_with (length draft.old.content) change.now draft.old.mask (option_map (λ v. v.now) known.entry) (bits_left eye.old)) }
+{
+    match_count(eye, draft.content.len())?;
+    let Some(known) = known else {
+        eye.take_bits(&mut draft.content)?;
+        return Ok(DataKind::Spelled);
+    };
+    draft.places.copy_from(&draft.mask);
+    change.widen(&mut draft.places);
+    take_kept(
+        eye,
+        known,
+        &draft.places,
+        &mut draft.content,
+        &mut draft.spare,
+    )?;
+    Ok(DataKind::Spelled)
+}
+
+/// Takes a content that is the known one outside these places. The first bit that differs is wrong. It is
+/// taken at once, so that the eye may stand behind a wrong bit. `spare` has any bits then.
+fn take_kept(
+    eye: &mut BitEye,
+    known: &Bits,
+    places: &Bits,
+    content: &mut Bits,
+    spare: &mut Bits,
+) -> Result<(), BitFault>
+    requires known { length known.now ≡ length content.old }
+    requires places { length places.now ≡ length content.old }
+    requires spare { length spare.old ≡ length content.old }
+    ensures content_places { length content.new ≡ length content.old }
+    ensures spare_places { length spare.new ≡ length spare.old }
+    ensures moves { MovesOn eye.old eye.new }
+    ensures reading { Tells (λ _. content.new) result eye.new (kept_at places.now known.now (bits_left eye.old)) }
+{
+    let start = eye.at();
+    let left = eye.size() - start;
+    content.copy_from(known);
+    let taken = eye.take_bits(content);
+    spare.copy_from(content);
+    spare.xor_in(known);
+    spare.drop_in(places);
+    match spare.next_one_up(0) {
+        Some(place) => {
+            prove!(place < left);
+            Err(BitFault::Wrong { bit: start + place })
+        }
+        None => taken,
+    }
+}
