@@ -1,5 +1,6 @@
 pub mod Transfers
 pub mod Runs
+pub mod Courses
 pub mod Logs
 pub mod Readings
 pub mod Held

@@ -1,7 +1,8 @@
 -- How the parts of a run join.
-use Rattle.std.proofs.Common.{◌≡◌, ℕ, List, [], ◌++◌, Option, refl, sym, ap, ◌∙◌, subst}
+use Rattle.std.proofs.Common.{◌≡◌, ℕ, List, [], ◌++◌, refl, sym, ap, ◌∙◌, subst}
 use Rattle.std.specs.Io.KnownBytes.{prepend_known, append_known}
 use Rattle.desk_ports.specs.declared.desk.Inlet.TheVariants as inlet
+use Rattle.desk_ports.specs.declared.desk.Outlet.{Outlet}
 use Rattle.desk_ports.specs.declared.desk.Outlet.TheVariants as outlet
 use Rattle.desk_ports.specs.Meanings.{Meanings, Moves, Adds, IsReadyIn, IsReadyOut, left, made}
 use Rattle.desk_ports.specs.Runs.{Ran, with_bytes}
@@ -65,8 +66,6 @@ Ran-notes a b xs p =
 pub Ran-ready_in : (a b : Meanings) (xs us rs : List ℕ) → Ran a b xs us rs → IsReadyIn a inlet.Main → IsReadyIn b inlet.Main
 Ran-ready_in a b xs us rs p h = subst (λ m. IsReadyIn m inlet.Main) (sym p.others) h
 
-pub Ran-ready_out : (a b : Meanings) (xs us rs : List ℕ) → Ran a b xs us rs → IsReadyOut a outlet.Main → IsReadyOut b outlet.Main
-Ran-ready_out a b xs us rs p h = subst (λ m. IsReadyOut m outlet.Main) (sym p.others) h
-
-pub Ran-ready_report : (a b : Meanings) (xs us rs : List ℕ) → Ran a b xs us rs → IsReadyOut a outlet.Report → IsReadyOut b outlet.Report
-Ran-ready_report a b xs us rs p h = subst (λ m. IsReadyOut m outlet.Report) (sym p.others) h
+pub Ran-ready_out : (a b : Meanings) (o : Outlet) (xs us rs : List ℕ) → Ran a b xs us rs → IsReadyOut a o → IsReadyOut b o
+Ran-ready_out a b outlet.Main xs us rs p h = subst (λ m. IsReadyOut m outlet.Main) (sym p.others) h
+Ran-ready_out a b outlet.Report xs us rs p h = subst (λ m. IsReadyOut m outlet.Report) (sym p.others) h

@@ -10,10 +10,6 @@ use Rattle.desk_ports.specs.declared.desk.Outlet.{Outlet}
 use Rattle.desk_ports.specs.declared.desk.Outlet.TheVariants as outlet
 use Rattle.desk_ports.specs.Meanings.{Meanings, Counts, Moves, Adds, AddsFront, IsReadyIn, IsReadyOut, Rises, left, with_left, made, with_made}
 
-with_left-same : (m : Meanings) (i : Inlet) → m ≡ with_left m i (left m i)
-with_left-same m inlet.Side = refl
-with_left-same m inlet.Main = refl
-
 with_left-with_left : (m : Meanings) (i : Inlet) (a b : Option (List ℕ)) → with_left (with_left m i a) i b ≡ with_left m i b
 with_left-with_left m inlet.Side a b = refl
 with_left-with_left m inlet.Main a b = refl
@@ -21,10 +17,6 @@ with_left-with_left m inlet.Main a b = refl
 IsReadyIn-with_left : (m : Meanings) (i : Inlet) (a : Option (List ℕ)) → IsReadyIn m i → IsReadyIn (with_left m i a) i
 IsReadyIn-with_left m inlet.Side a h = h
 IsReadyIn-with_left m inlet.Main a h = h
-
-with_made-same : (m : Meanings) (o : Outlet) → m ≡ with_made m o (made m o)
-with_made-same m outlet.Main = refl
-with_made-same m outlet.Report = refl
 
 with_made-with_made : (m : Meanings) (o : Outlet) (a b : Option (List ℕ)) → with_made (with_made m o a) o b ≡ with_made m o b
 with_made-with_made m outlet.Main a b = refl
@@ -50,10 +42,6 @@ pub append_known-then : (a : Option (List ℕ)) (xs ys : List ℕ) → append_kn
 append_known-then None xs ys = refl
 append_known-then (Some zs) xs ys = ap Some (append_assoc zs xs ys)
 
--- no bytes were moved
-pub Moves-none : (m : Meanings) (i : Inlet) → Moves m m i []
-Moves-none m i = record { moved = prepend_known-none (left m i); others = with_left-same m i }
-
 -- bytes and then more bytes were moved
 pub Moves-then : (a b c : Meanings) (i : Inlet) (xs ys : List ℕ) → Moves a b i xs → Moves b c i ys → Moves a c i (xs ++ ys)
 Moves-then a b c i xs ys p q = record {
@@ -64,10 +52,6 @@ Moves-then a b c i xs ys p q = record {
 -- an opened inlet stays opened
 pub Moves-ready : (a b : Meanings) (i : Inlet) (xs : List ℕ) → Moves a b i xs → IsReadyIn a i → IsReadyIn b i
 Moves-ready a b i xs p h = subst (λ m. IsReadyIn m i) (sym p.others) (IsReadyIn-with_left a i (left b i) h)
-
--- no bytes were added
-pub Adds-none : (m : Meanings) (o : Outlet) → Adds m m o []
-Adds-none m o = record { added = append_known-none (made m o); others = with_made-same m o }
 
 -- bytes and then more bytes were added
 pub Adds-then : (a b c : Meanings) (o : Outlet) (xs ys : List ℕ) → Adds a b o xs → Adds b c o ys → Adds a c o (xs ++ ys)

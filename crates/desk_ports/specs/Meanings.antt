@@ -1,5 +1,5 @@
 -- What a desk means: the bytes that come and go, the names, and what each call does to them.
-use Rattle.std.specs.Prelude.{◌≡◌, ℕ, ◌+◌, ◌-◌, ◌^◌, ◌≤◌, min, Bool, true, false, IsTrue, List, [], ◌++◌, Option, Some, None, IfSome, unwrap_or}
+use Rattle.std.specs.Prelude.{◌≡◌, ℕ, ◌+◌, ◌-◌, ◌^◌, ◌≤◌, min, Bool, true, false, IsTrue, List, [], ◌++◌, Option, Some, None, Result, Ok, Err, IfSome, unwrap_or}
 use Rattle.std.specs.Option.{option_map}
 use Rattle.std.specs.Ordering.{nat_cmp}
 use Rattle.std.specs.FinMap as map
@@ -129,6 +129,24 @@ Rose old new = min (old + 1) (2 ^ 64 - 1) ≤ new
 pub record Rises (old new : Counts) : Type 0 where
   pub reads : old.reads ≤ new.reads
   pub writes : old.writes ≤ new.writes
+
+-- a reading failed: the count of reading rose, and neither count fell
+abbrev pub FailsToRead : Counts → Counts → Type 0
+FailsToRead old new = Rose old.reads new.reads × Rises old new × (new.writes ≡ old.writes)
+
+-- a writing failed: the count of writing rose, and neither count fell
+abbrev pub FailsToWrite : Counts → Counts → Type 0
+FailsToWrite old new = Rose old.writes new.writes × Rises old new × (new.reads ≡ old.reads)
+
+-- after a call that reads: Err comes only where a reading failed, and otherwise both counts are as before
+abbrev pub HasReadCause : {T E : Type 0} → Counts → Counts → Result T E → Type 0
+HasReadCause old new (Ok done) = new ≡ old
+HasReadCause old new (Err failed) = FailsToRead old new
+
+-- after a call that writes: Err comes only where a writing failed, and otherwise both counts are as before
+abbrev pub HasWriteCause : {T E : Type 0} → Counts → Counts → Result T E → Type 0
+HasWriteCause old new (Ok done) = new ≡ old
+HasWriteCause old new (Err failed) = FailsToWrite old new
 
 -- the meanings of a desk that tells no content and grants every name, by what was opened
 abbrev pub untold : Bool → Bool → Bool → Bool → Meanings

@@ -1,6 +1,6 @@
 ghost use Rattle.std.specs.Prelude.{◌≡◌, ◌<◌, ◌≤◌, ℕ, List, length, take, IsTrue, IfOk, OnOk, OnErr};
 ghost use Rattle.std.specs.Io.KnownBytes.{IsAtEnd};
-ghost use Rattle.desk_ports.specs.Meanings.{Meanings, Counts, Opens, Begins, Moves, Adds, Keeps, IsReadyIn, IsReadyOut, Rises, Rose, left};
+ghost use Rattle.desk_ports.specs.Meanings.{Meanings, Counts, Opens, Begins, Moves, Adds, Keeps, IsReadyIn, IsReadyOut, HasReadCause, HasWriteCause, left};
 
 use thiserror::Error;
 
@@ -37,20 +37,14 @@ pub trait Desk {
         requires { IsTrue ((meaning self.old).grants_in name.now) }
         ensures opened { OnOk result (Opens (meaning self.old) (meaning self.new) inlet name.now) }
         ensures unchanged { OnErr result (meaning self.new ≡ meaning self.old) }
-        ensures cause { OnErr result (Rose (counts self.old).reads (counts self.new).reads) }
-        ensures steady { OnOk result (counts self.new ≡ counts self.old) }
-        ensures other_count { (counts self.new).writes ≡ (counts self.old).writes }
-        ensures rises { Rises (counts self.old) (counts self.new) };
+        ensures cause { HasReadCause (counts self.old) (counts self.new) result };
 
     /// Opens an output by its name. Nothing has been written to it then.
     fn open_out(&mut self, outlet: Outlet, name: &str) -> Result<(), Failed>
         requires { IsTrue ((meaning self.old).grants_out name.now) }
         ensures opened { OnOk result (Begins (meaning self.old) (meaning self.new) outlet name.now) }
         ensures unchanged { OnErr result (meaning self.new ≡ meaning self.old) }
-        ensures cause { OnErr result (Rose (counts self.old).writes (counts self.new).writes) }
-        ensures steady { OnOk result (counts self.new ≡ counts self.old) }
-        ensures other_count { (counts self.new).reads ≡ (counts self.old).reads }
-        ensures rises { Rises (counts self.old) (counts self.new) };
+        ensures cause { HasWriteCause (counts self.old) (counts self.new) result };
 
     /// Moves the next bytes of an input to the front of `buf`, and tells how many: 0 exactly at the end.
     fn read(&mut self, inlet: Inlet, buf: &mut [u8]) -> Result<usize, Failed>
@@ -60,10 +54,7 @@ pub trait Desk {
         ensures moved { IfOk result (λ n. Moves (meaning self.old) (meaning self.new) inlet (take n buf.new)) }
         ensures at_end { IfOk result (λ n. n ≡ 0 → IsAtEnd (left (meaning self.new) inlet)) }
         ensures unchanged { OnErr result (meaning self.new ≡ meaning self.old) }
-        ensures cause { OnErr result (Rose (counts self.old).reads (counts self.new).reads) }
-        ensures steady { OnOk result (counts self.new ≡ counts self.old) }
-        ensures other_count { (counts self.new).writes ≡ (counts self.old).writes }
-        ensures rises { Rises (counts self.old) (counts self.new) };
+        ensures cause { HasReadCause (counts self.old) (counts self.new) result };
 
     /// Appends some of the bytes, at least one, to an output, and tells how many.
     fn write(&mut self, outlet: Outlet, bytes: &[u8]) -> Result<usize, Failed>
@@ -73,18 +64,12 @@ pub trait Desk {
         ensures progress { IfOk result (λ n. 0 < n) }
         ensures added { IfOk result (λ n. Adds (meaning self.old) (meaning self.new) outlet (take n bytes.now)) }
         ensures unchanged { OnErr result (meaning self.new ≡ meaning self.old) }
-        ensures cause { OnErr result (Rose (counts self.old).writes (counts self.new).writes) }
-        ensures steady { OnOk result (counts self.new ≡ counts self.old) }
-        ensures other_count { (counts self.new).reads ≡ (counts self.old).reads }
-        ensures rises { Rises (counts self.old) (counts self.new) };
+        ensures cause { HasWriteCause (counts self.old) (counts self.new) result };
 
     /// Ends an output: what was written to it is then kept under its name.
     fn finish(&mut self, outlet: Outlet) -> Result<(), Failed>
         requires { IsReadyOut (meaning self.old) outlet }
         ensures kept { OnOk result (Keeps (meaning self.old) (meaning self.new) outlet) }
         ensures unchanged { OnErr result (meaning self.new ≡ meaning self.old) }
-        ensures cause { OnErr result (Rose (counts self.old).writes (counts self.new).writes) }
-        ensures steady { OnOk result (counts self.new ≡ counts self.old) }
-        ensures other_count { (counts self.new).reads ≡ (counts self.old).reads }
-        ensures rises { Rises (counts self.old) (counts self.new) };
+        ensures cause { HasWriteCause (counts self.old) (counts self.new) result };
 }

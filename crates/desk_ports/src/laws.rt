@@ -1,9 +1,11 @@
 //! What the definitions of a desk's calls mean together.
 
-ghost use Rattle.std.specs.Prelude.{◌≡◌, ◌++◌, ℕ, List, Some, IsSome, IfSome};
+ghost use Rattle.std.specs.Prelude.{◌≡◌, ◌++◌, ℕ, List, Option, Some, IsSome, IfSome};
+ghost use Rattle.std.specs.Io.KnownBytes.{append_known};
 ghost use Rattle.desk_ports.specs.declared.desk.Inlet.{Inlet};
 ghost use Rattle.desk_ports.specs.declared.desk.Outlet.{Outlet};
 ghost use Rattle.desk_ports.specs.Meanings.{Meanings, Moves, Adds, Keeps, Opens, left, made, outgoing};
+ghost use Rattle.desk_ports.specs.Courses.{Course, Ends, owed};
 
 /// Two reads are one read of both pieces, and two writes one write.
 pub fn pieces_join()
@@ -18,4 +20,14 @@ pub fn finished_is_held()
     ensures { (a b c : Meanings) (outlet : Outlet) (inlet : Inlet) (name bytes : List ℕ) → IsSome a.held
         → (outgoing a outlet).name ≡ Some name → made a outlet ≡ Some bytes → Keeps a b outlet → Opens b c inlet name
         → IfSome (left c inlet) (λ rest. rest ≡ bytes) }
+{}
+
+/// Where the desk tells its input, a run to its end has added to the outputs exactly what the course of
+/// that input owes, and it ended as that course does.
+pub fn runs_follow_their_course<F>()
+    ensures { (course_of : List ℕ → Course F) (a b : Meanings) (ending : Option F) (input : List ℕ)
+        → left a Inlet.Main ≡ Some input → Ends course_of a b ending
+        → (made b Outlet.Main ≡ append_known (made a Outlet.Main) (owed (course_of input)).output)
+        × (made b Outlet.Report ≡ append_known (made a Outlet.Report) (owed (course_of input)).report)
+        × ((course_of input).ending ≡ ending) }
 {}

@@ -7,14 +7,18 @@ mod file;
 mod laws;
 mod log;
 mod memory;
+mod row;
+mod stop;
 mod transfer;
 mod written;
 
 pub use calls::Call;
 pub use desk::{Desk, Failed, Inlet, Outlet};
 pub use file::FileDesk;
-pub use laws::{finished_is_held, pieces_join};
+pub use laws::{finished_is_held, pieces_join, runs_follow_their_course};
 pub use memory::MemDesk;
+pub use row::{ROW_BYTES, Row};
+pub use stop::Stop;
 pub use transfer::{fill, write_all};
 
 #[cfg(test)]

@@ -1,7 +1,7 @@
 ghost use Rattle.std.specs.Prelude.{◌≡◌, ◌≤◌, ◌<◌, ◌↔◌, ◌⊎◌, length, min, take, Some, None, IsTrue, IsOk, IsErr, IfOk, OnOk, OnErr};
 ghost use Rattle.std.specs.FinMap as map;
 ghost use Rattle.std.specs.Io.KnownBytes.{IsAtEnd};
-ghost use Rattle.desk_ports.specs.Meanings.{Opens, Begins, Moves, Adds, Keeps, IsReadyIn, IsReadyOut, Rises, Rose, left, kept_at};
+ghost use Rattle.desk_ports.specs.Meanings.{Opens, Begins, Moves, Adds, Keeps, IsReadyIn, IsReadyOut, HasReadCause, HasWriteCause, left, kept_at};
 ghost use Rattle.desk_ports.specs.MemState.{empty_desk, mem_left, mem_made, mem_meanings, mem_counts, next_count, capped, also_failing, IsNamed, IsCalled, read_fault, write_fault, refusal};
 
 use crate::calls::{Call, Plan};
@@ -212,10 +212,7 @@ impl Desk for MemDesk {
         requires { IsTrue ((mem_meanings self.old).grants_in name.now) }
         ensures opened { OnOk result (Opens (mem_meanings self.old) (mem_meanings self.new) inlet name.now) }
         ensures unchanged { OnErr result (mem_meanings self.new ≡ mem_meanings self.old) }
-        ensures cause { OnErr result (Rose (mem_counts self.old).reads (mem_counts self.new).reads) }
-        ensures steady { OnOk result (mem_counts self.new ≡ mem_counts self.old) }
-        ensures other_count { (mem_counts self.new).writes ≡ (mem_counts self.old).writes }
-        ensures rises { Rises (mem_counts self.old) (mem_counts self.new) }
+        ensures cause { HasReadCause (mem_counts self.old) (mem_counts self.new) result }
 
         // It fails exactly where `fail` named it, and where the name was never put or finished.
         ensures fails { IsErr result ↔ (IsNamed self.old Call.OpenIn ⊎ (map.get self.old.held name.now ≡ None)) }
@@ -237,10 +234,7 @@ impl Desk for MemDesk {
         requires { IsTrue ((mem_meanings self.old).grants_out name.now) }
         ensures opened { OnOk result (Begins (mem_meanings self.old) (mem_meanings self.new) outlet name.now) }
         ensures unchanged { OnErr result (mem_meanings self.new ≡ mem_meanings self.old) }
-        ensures cause { OnErr result (Rose (mem_counts self.old).writes (mem_counts self.new).writes) }
-        ensures steady { OnOk result (mem_counts self.new ≡ mem_counts self.old) }
-        ensures other_count { (mem_counts self.new).reads ≡ (mem_counts self.old).reads }
-        ensures rises { Rises (mem_counts self.old) (mem_counts self.new) }
+        ensures cause { HasWriteCause (mem_counts self.old) (mem_counts self.new) result }
 
         // It fails where `fail` named it, and otherwise only where a growth was refused.
         ensures named { IsNamed self.old Call.OpenOut → IsErr result × (self.new.faults ≡ write_fault self.old.faults) }
@@ -269,10 +263,7 @@ impl Desk for MemDesk {
         ensures moved { IfOk result (λ n. Moves (mem_meanings self.old) (mem_meanings self.new) inlet (take n buf.new)) }
         ensures at_end { IfOk result (λ n. n ≡ 0 → IsAtEnd (left (mem_meanings self.new) inlet)) }
         ensures unchanged { OnErr result (mem_meanings self.new ≡ mem_meanings self.old) }
-        ensures cause { OnErr result (Rose (mem_counts self.old).reads (mem_counts self.new).reads) }
-        ensures steady { OnOk result (mem_counts self.new ≡ mem_counts self.old) }
-        ensures other_count { (mem_counts self.new).writes ≡ (mem_counts self.old).writes }
-        ensures rises { Rises (mem_counts self.old) (mem_counts self.new) }
+        ensures cause { HasReadCause (mem_counts self.old) (mem_counts self.new) result }
 
         // It fails exactly where `fail` named it. It moves as many bytes as are left and fit, in the size of a piece.
         ensures fails { IsErr result ↔ IsNamed self.old Call.Read }
@@ -303,10 +294,7 @@ impl Desk for MemDesk {
         ensures progress { IfOk result (λ n. 0 < n) }
         ensures added { IfOk result (λ n. Adds (mem_meanings self.old) (mem_meanings self.new) outlet (take n bytes.now)) }
         ensures unchanged { OnErr result (mem_meanings self.new ≡ mem_meanings self.old) }
-        ensures cause { OnErr result (Rose (mem_counts self.old).writes (mem_counts self.new).writes) }
-        ensures steady { OnOk result (mem_counts self.new ≡ mem_counts self.old) }
-        ensures other_count { (mem_counts self.new).reads ≡ (mem_counts self.old).reads }
-        ensures rises { Rises (mem_counts self.old) (mem_counts self.new) }
+        ensures cause { HasWriteCause (mem_counts self.old) (mem_counts self.new) result }
 
         // It takes all the bytes, in the size of a piece.
         // It fails where `fail` named it, and otherwise only where a growth was refused.
@@ -334,10 +322,7 @@ impl Desk for MemDesk {
         requires { IsReadyOut (mem_meanings self.old) outlet }
         ensures kept { OnOk result (Keeps (mem_meanings self.old) (mem_meanings self.new) outlet) }
         ensures unchanged { OnErr result (mem_meanings self.new ≡ mem_meanings self.old) }
-        ensures cause { OnErr result (Rose (mem_counts self.old).writes (mem_counts self.new).writes) }
-        ensures steady { OnOk result (mem_counts self.new ≡ mem_counts self.old) }
-        ensures other_count { (mem_counts self.new).reads ≡ (mem_counts self.old).reads }
-        ensures rises { Rises (mem_counts self.old) (mem_counts self.new) }
+        ensures cause { HasWriteCause (mem_counts self.old) (mem_counts self.new) result }
 
         // It fails where `fail` named it, and otherwise only where a growth was refused.
         ensures named { IsNamed self.old Call.Finish → IsErr result × (self.new.faults ≡ write_fault self.old.faults) }

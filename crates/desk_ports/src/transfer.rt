@@ -1,6 +1,6 @@
 ghost use Rattle.std.specs.Prelude.{◌≡◌, ◌<◌, ◌≤◌, ◌++◌, ℕ, List, length, take, IfOk, OnOk, OnErr};
 ghost use Rattle.std.specs.Io.KnownBytes.{IsAtEnd};
-ghost use Rattle.desk_ports.specs.Meanings.{Moves, Adds, AddsFront, IsReadyIn, IsReadyOut, Rises, Rose, left};
+ghost use Rattle.desk_ports.specs.Meanings.{Moves, Adds, AddsFront, IsReadyIn, IsReadyOut, HasReadCause, HasWriteCause, left};
 
 use crate::desk::{Desk, Failed, Inlet, Outlet};
 
@@ -12,8 +12,7 @@ pub fn fill<D: Desk>(desk: &mut D, inlet: Inlet, buf: &mut [u8]) -> Result<usize
     ensures moved { IfOk result (λ n. Moves (D.meaning desk.old) (D.meaning desk.new) inlet (take n buf.new)) }
     ensures at_end { IfOk result (λ n. n < length buf.old → IsAtEnd (left (D.meaning desk.new) inlet)) }
     ensures lost { OnErr result ((bytes : List ℕ) × (length bytes < length buf.old) × Moves (D.meaning desk.old) (D.meaning desk.new) inlet bytes) }
-    ensures cause { OnErr result (Rose (D.counts desk.old).reads (D.counts desk.new).reads) }
-    ensures rises { Rises (D.counts desk.old) (D.counts desk.new) }
+    ensures cause { HasReadCause (D.counts desk.old) (D.counts desk.new) result }
 {
     let mut filled = 0;
     while filled < buf.len() {
@@ -31,8 +30,7 @@ pub fn write_all<D: Desk>(desk: &mut D, outlet: Outlet, bytes: &[u8]) -> Result<
     requires { IsReadyOut (D.meaning desk.old) outlet }
     ensures added { OnOk result (Adds (D.meaning desk.old) (D.meaning desk.new) outlet bytes.now) }
     ensures front { OnErr result (AddsFront (D.meaning desk.old) (D.meaning desk.new) outlet bytes.now) }
-    ensures cause { OnErr result (Rose (D.counts desk.old).writes (D.counts desk.new).writes) }
-    ensures rises { Rises (D.counts desk.old) (D.counts desk.new) }
+    ensures cause { HasWriteCause (D.counts desk.old) (D.counts desk.new) result }
 {
     let mut sent = 0;
     while sent < bytes.len() {

@@ -1,103 +1,158 @@
 -- What stands at the front of bytes, for every reader of them.
-use Rattle.std.proofs.Common.{◌≡◌, refl, [], ◌∷◌, Bool, true, false, ◌&&◌, nat_le, if◌then◌else◌, ℕ, ◌+◌, ◌<◌, ◌≤◌, List, ◌++◌, length, take, drop, get_or, Fits, w8, All, Result, Ok, Err, OnErr, sym, ap, subst, ◌∙◌, length-take, length-drop, arith}
-use Rattle.std.proofs.lemmas.List.{get_or_default, flat_map_more, length-take-le, take-append-drop, take_at}
+use Rattle.std.proofs.Common.{◌≡◌, refl, [], ◌∷◌, Bool, true, false, ◌==◌, nat_le, ℕ, ◌+◌, ◌*◌, ◌/◌, ◌%◌, ◌^◌, ◌<◌, ◌≤◌, List, ◌++◌, length, take, drop, get_or, Fits, w8, All, Option, Some, None, sym, ap, subst, ◌∙◌, length-take, length-drop, arith}
+use Rattle.std.proofs.lemmas.List.{get_or_default, length-take-le, take-append-drop, take_at, drop_at}
 use Rattle.std.proofs.lemmas.List.Elements.{All-take, All-drop}
 use Rattle.std.proofs.lemmas.Grind.{common_steps}
 use Rattle.packet_store.specs.declared.header.Header.{Header}
-use Rattle.packet_store.specs.SpacePackets.{Packet, Other, IsHeader, IsPacket, BeginsWithPacket, header_of, header_bytes, header_at, plain_header, is_plain, space_packet, store_bytes, front, front_after}
+use Rattle.packet_store.specs.SpacePackets.{IsHeader, IsPacket, Packet, bit, header_of, header_at, packet_bytes, plain_header, plain_packet, space_packet, is_chosen, is_misshapen}
+use Rattle.packet_store.specs.Walks.{IsGood, Good, by_checks, front_after, front}
 
--- a packet is read back, whatever follows it
-pub front-space_packet : (apid count : ℕ) (body rest : List ℕ) → IsPacket apid count body → front apid (space_packet apid count body ++ rest) ≡ Packet count body rest
-front-space_packet apid count body rest packet = grind (arith, common_steps)
+is_one : (n : ℕ) → n ≡ 1 → (n == 1) ≡ true
+is_one n e = ap (λ m. m == 1) e
 
-Packet-same : (count other_count : ℕ) (body rest other_body other_rest : List ℕ) → Packet count body rest ≡ Packet other_count other_body other_rest → (count ≡ other_count) × (body ≡ other_body) × (rest ≡ other_rest)
-Packet-same count other_count body rest other_body other_rest e = (cc, cc, cc)
+is_none : (n : ℕ) → n ≡ 0 → (n == 1) ≡ false
+is_none n e = ap (λ m. m == 1) e
 
--- equal bytes begin with equal packets of an APID
-pub space_packet-same : (apid count other_count : ℕ) (body rest other_body other_rest : List ℕ) → IsPacket apid count body → IsPacket apid other_count other_body → space_packet apid count body ++ rest ≡ space_packet apid other_count other_body ++ other_rest → (count ≡ other_count) × (body ≡ other_body) × (rest ≡ other_rest)
-space_packet-same apid count other_count body rest other_body other_rest packet other e =
-    let one = front-space_packet apid count body rest packet in
-    let two = front-space_packet apid other_count other_body other_rest other in
-    Packet-same count other_count body rest other_body other_rest (sym one ∙ (ap (front apid) e ∙ two))
+-- six bytes of a header spell it
+first_bits : (v : ℕ) (t s : Bool) (a : ℕ) → a < 8 → ((v * 2 ^ 5 + bit t * 2 ^ 4 + bit s * 2 ^ 3 + a) / 2 ^ 5 ≡ v) × (((v * 2 ^ 5 + bit t * 2 ^ 4 + bit s * 2 ^ 3 + a) / 2 ^ 4 % 2 == 1) ≡ t) × (((v * 2 ^ 5 + bit t * 2 ^ 4 + bit s * 2 ^ 3 + a) / 2 ^ 3 % 2 == 1) ≡ s) × ((v * 2 ^ 5 + bit t * 2 ^ 4 + bit s * 2 ^ 3 + a) % 2 ^ 3 ≡ a)
+first_bits v true true a low = (omega arith, is_one _ (omega arith), is_one _ (omega arith), omega arith)
+first_bits v true false a low = (omega arith, is_one _ (omega arith), is_none _ (omega arith), omega arith)
+first_bits v false true a low = (omega arith, is_none _ (omega arith), is_one _ (omega arith), omega arith)
+first_bits v false false a low = (omega arith, is_none _ (omega arith), is_none _ (omega arith), omega arith)
 
--- what is read as something else begins with no packet
-pub Other-BeginsWithPacket : (apid : ℕ) (bytes : List ℕ) → front apid bytes ≡ Other → ¬ BeginsWithPacket apid bytes
-Other-BeginsWithPacket apid bytes other b =
-    let read = front-space_packet apid b.count b.body b.rest b.packet in
-    let same : Packet b.count b.body b.rest ≡ Other = sym read ∙ (ap (front apid) (sym b.joined) ∙ other) in
-    cc
-
--- the data of a packet that stands at the front of the room fit
-pub IsPacket-of_room : (apid : ℕ) (h : Header) (room : List ℕ) → apid ≤ 2046 → IsHeader h → length room ≡ 65542 → ((k : ℕ) → Fits w8 (get_or room k 0)) → IsPacket apid h.count (drop 6 (take (h.length + 7) room))
-IsPacket-of_room apid h room chosen fields full fit =
-    let bytes : All (λ b. b < 256) room = λ k d within. rw (get_or_default room k d 0 within) (omega (arith, fit k)) in
+pub header_at-header_of : (h : Header) → IsHeader h
+    → header_at (h.version * 2 ^ 5 + bit h.telecommand * 2 ^ 4 + bit h.secondary * 2 ^ 3 + h.apid / 256) (h.apid % 256) (h.sequence * 2 ^ 6 + h.count / 256) (h.count % 256) (h.length / 256) (h.length % 256) ≡ h
+header_at-header_of h fields =
+    let high : h.apid / 256 < 8 = omega (arith, fields.apid_bits) in
+    let first = first_bits h.version h.telecommand h.secondary (h.apid / 256) high in
+    let apid : (h.version * 2 ^ 5 + bit h.telecommand * 2 ^ 4 + bit h.secondary * 2 ^ 3 + h.apid / 256) % 2 ^ 3 * 256 + h.apid % 256 ≡ h.apid = ap (λ n. n * 256 + h.apid % 256) first.3 ∙ omega arith in
+    let sequence : (h.sequence * 2 ^ 6 + h.count / 256) / 2 ^ 6 ≡ h.sequence = omega (arith, fields.count_bits) in
+    let count : (h.sequence * 2 ^ 6 + h.count / 256) % 2 ^ 6 * 256 + h.count % 256 ≡ h.count = omega (arith, fields.count_bits) in
+    let length : h.length / 256 * 256 + h.length % 256 ≡ h.length = omega arith in λ i.
     record {
-      chosen = chosen;
-      counted = fields.count_bits;
-      some = simp (length-drop, length-take) (omega arith);
-      most = simp (length-drop, length-take) (omega arith);
-      bytes = All-drop (λ b. b < 256) 6 (take (h.length + 7) room) (All-take (λ b. b < 256) (h.length + 7) room bytes);
+      version = first.0 i;
+      telecommand = first.1 i;
+      secondary = first.2 i;
+      apid = apid i;
+      sequence = sequence i;
+      count = count i;
+      length = length i;
     }
 
-pub OnErr-any : {T E : Type 0} {P : Type 0} (r : Result T E) → P → OnErr r P
-OnErr-any (Ok x) p = tt
-OnErr-any (Err e) p = p
+is_long : (n : ℕ) (xs ys : List ℕ) → length xs ≡ n → nat_le n (length (xs ++ ys)) ≡ true
+is_long n xs ys e = grind (arith, common_steps)
 
--- one packet more at the end of a store
-pub store_bytes-push : (apid count : ℕ) (body : List ℕ) (packets : List (ℕ × List ℕ)) → store_bytes apid packets ++ space_packet apid count body ≡ store_bytes apid (packets ++ (count, body) ∷ [])
-store_bytes-push apid count body packets =
-    let packet = λ (p : ℕ × List ℕ). space_packet apid p.0 p.1 in
-    flat_map_more packet [] packets (count, body)
+is_zero : (n : ℕ) → n ≡ 0 → (n == 0) ≡ true
+is_zero n e = ap (λ m. m == 0) e
 
--- six bytes are those of the header that is read from them
+-- a good packet is read back, whatever follows it
+pub front-good : (chosen : Option ℕ) (p : Packet) (rest : List ℕ) → IsGood chosen p → front chosen (packet_bytes p ++ rest) ≡ Good p rest
+front-good chosen p rest good =
+    let behind = p.body ++ rest in
+    let version = is_zero p.header.version good.version in
+    let long = is_long (p.header.length + 1) p.body rest good.whole in
+    let taken = take_at p.body rest (p.header.length + 1) good.whole in
+    let left = drop_at p.body rest (p.header.length + 1) good.whole in
+    let checked : front_after chosen p.header behind ≡ Good p rest = λ i. by_checks (version i) (good.shape i) (long i) (Good (record { header = p.header; body = taken i }) (left i)) in
+    ap (λ h. front_after chosen h behind) (header_at-header_of p.header good.fields) ∙ checked
+
+by_checks-Good : (v s l : Bool) (q p : Packet) (left rest : List ℕ) → by_checks v s l (Good q left) ≡ Good p rest → (v ≡ true) × (s ≡ false) × (l ≡ true) × (q ≡ p) × (left ≡ rest)
+by_checks-Good false s l q p left rest e = absurd cc
+by_checks-Good true true l q p left rest e = absurd cc
+by_checks-Good true false false q p left rest e = absurd cc
+by_checks-Good true false true q p left rest e = (refl, refl, refl, cc, cc)
+
+from_zero : (n : ℕ) → (n == 0) ≡ true → n ≡ 0
+from_zero n e = grind (arith, common_steps)
+
+from_long : (m n : ℕ) → nat_le m n ≡ true → m ≤ n
+from_long m n e = grind (arith, common_steps)
+
+-- six bytes are those of the header that they spell
 header_of-header_at : (a b c d e f : ℕ) → a < 256 → b < 256 → c < 256 → d < 256 → e < 256 → f < 256 → header_of (header_at a b c d e f) ≡ a ∷ b ∷ c ∷ d ∷ e ∷ f ∷ []
 header_of-header_at a b c d e f ua ub uc ud ue uf = grind (arith, common_steps)
 
--- a header of the one shape, and of this APID, is that of a packet
-is_plain-plain_header : (apid : ℕ) (h : Header) → is_plain apid h ≡ true → h ≡ plain_header apid h.count (h.length + 1)
-is_plain-plain_header apid h plain = grind (arith, common_steps)
+IsHeader-header_at : (a b c d e f : ℕ) → a < 256 → b < 256 → c < 256 → d < 256 → e < 256 → f < 256 → IsHeader (header_at a b c d e f)
+IsHeader-header_at a b c d e f ua ub uc ud ue uf = record { version_bits = omega arith; apid_bits = omega arith; sequence_bits = omega arith; count_bits = omega arith; length_bits = omega arith }
 
-chosen-Packet : (t : Bool) (count other_count : ℕ) (body rest other_body other_rest : List ℕ) → (if t then Packet count body rest else Other) ≡ Packet other_count other_body other_rest → (t ≡ true) × (count ≡ other_count) × (body ≡ other_body) × (rest ≡ other_rest)
-chosen-Packet true count other_count body rest other_body other_rest e = (refl, cc, cc, cc)
-chosen-Packet false count other_count body rest other_body other_rest e = cc
-
-both_true : (s t : Bool) → (s && t) ≡ true → (s ≡ true) × (t ≡ true)
-both_true true true e = (refl, refl)
-both_true true false e = cc
-both_true false t e = cc
-
--- what is read as a packet behind a header is that packet
-front_after-Packet : (apid : ℕ) (h : Header) (bytes : List ℕ) (count : ℕ) (body rest : List ℕ) → front_after apid h bytes ≡ Packet count body rest → (h ≡ plain_header apid count (length body)) × (bytes ≡ body ++ rest) × (length body ≡ h.length + 1)
-front_after-Packet apid h bytes count body rest e =
-    let read = chosen-Packet (is_plain apid h && nat_le (h.length + 1) (length bytes)) h.count count (take (h.length + 1) bytes) (drop (h.length + 1) bytes) body rest e in
-    let tests = both_true (is_plain apid h) (nat_le (h.length + 1) (length bytes)) read.0 in
-    let long : h.length + 1 ≤ length bytes = grind (arith, common_steps) in
-    let plain = is_plain-plain_header apid h tests.0 in
-    let size : length body ≡ h.length + 1 = ap length (sym read.2) ∙ length-take-le (h.length + 1) bytes long in
-    let joined = take-append-drop (h.length + 1) bytes in
-    (plain ∙ (ap (λ n. plain_header apid n (h.length + 1)) read.1 ∙ ap (plain_header apid count) (sym size)), sym joined ∙ (ap (λ l. l ++ drop (h.length + 1) bytes) read.2 ∙ ap (λ l. body ++ l) read.3), size)
-
--- what is read as a packet is one, and the bytes begin with it
-pub front-Packet : (apid : ℕ) (bytes : List ℕ) (count : ℕ) (body rest : List ℕ) → apid ≤ 2046 → All (λ b. b < 256) bytes → front apid bytes ≡ Packet count body rest → IsPacket apid count body × (bytes ≡ space_packet apid count body ++ rest)
-front-Packet apid (a ∷ b ∷ c ∷ d ∷ e ∷ f ∷ bytes) count body rest chosen all read =
+-- what is read as a good packet is one, and the bytes begin with it
+pub front-Good : (chosen : Option ℕ) (bytes : List ℕ) (p : Packet) (rest : List ℕ) → All (λ b. b < 256) bytes → front chosen bytes ≡ Good p rest → IsGood chosen p × (bytes ≡ packet_bytes p ++ rest)
+front-Good chosen (a ∷ b ∷ c ∷ d ∷ e ∷ f ∷ bytes) p rest all read =
     let byte = λ (k : ℕ) (within : k < length (a ∷ b ∷ c ∷ d ∷ e ∷ f ∷ bytes)). all k 0 within in
     let h = header_at a b c d e f in
-    let parts = front_after-Packet apid h bytes count body rest read in
-    let start = header_of-header_at a b c d e f (byte 0 (omega arith)) (byte 1 (omega arith)) (byte 2 (omega arith)) (byte 3 (omega arith)) (byte 4 (omega arith)) (byte 5 (omega arith)) in
-    let spelled : header_bytes apid count (length body) ≡ a ∷ b ∷ c ∷ d ∷ e ∷ f ∷ [] = ap header_of (sym parts.0) ∙ start in
-    let joined : space_packet apid count body ++ rest ≡ a ∷ b ∷ c ∷ d ∷ e ∷ f ∷ bytes = ap (λ l. l ++ (body ++ rest)) spelled ∙ ap (λ l. a ∷ b ∷ c ∷ d ∷ e ∷ f ∷ l) (sym parts.1) in
-    let same_count = ap (λ (other : Header). other.count) parts.0 in
-    let low = byte 3 (omega arith) in
-    let length_high = byte 4 (omega arith) in
-    let length_low = byte 5 (omega arith) in
-    let tail : All (λ n. n < 256) (body ++ rest) = subst (All (λ n. n < 256)) parts.1 (All-drop (λ n. n < 256) 6 (a ∷ b ∷ c ∷ d ∷ e ∷ f ∷ bytes) all) in (
-      record {
-        chosen = chosen;
-        counted = omega (arith, same_count, low);
-        some = omega (arith, parts.2);
-        most = omega (arith, parts.2, length_high, length_low);
-        bytes = subst (All (λ n. n < 256)) (take_at body rest (length body) refl) (All-take (λ n. n < 256) (length body) (body ++ rest) tail);
-      },
-      sym joined,
+    let size = h.length + 1 in
+    let q : Packet = record { header = h; body = take size bytes } in
+    let checks = by_checks-Good (h.version == 0) (is_misshapen chosen h) (nat_le size (length bytes)) q p (drop size bytes) rest read in
+    let long = from_long size (length bytes) checks.2 in
+    let spelled = header_of-header_at a b c d e f (byte 0 (omega arith)) (byte 1 (omega arith)) (byte 2 (omega arith)) (byte 3 (omega arith)) (byte 4 (omega arith)) (byte 5 (omega arith)) in
+    let good : IsGood chosen q = record {
+      fields = IsHeader-header_at a b c d e f (byte 0 (omega arith)) (byte 1 (omega arith)) (byte 2 (omega arith)) (byte 3 (omega arith)) (byte 4 (omega arith)) (byte 5 (omega arith));
+      version = from_zero h.version checks.0;
+      shape = checks.1;
+      whole = length-take-le size bytes long;
+      bytes = All-take (λ n. n < 256) size bytes (All-drop (λ n. n < 256) 6 (a ∷ b ∷ c ∷ d ∷ e ∷ f ∷ bytes) all);
+    } in
+    let joined : packet_bytes q ++ drop size bytes ≡ a ∷ b ∷ c ∷ d ∷ e ∷ f ∷ bytes = ap (λ l. (l ++ take size bytes) ++ drop size bytes) spelled ∙ ap (λ l. a ∷ b ∷ c ∷ d ∷ e ∷ f ∷ l) (take-append-drop size bytes) in
+    (subst (IsGood chosen) checks.3 good, sym joined ∙ (ap (λ x. packet_bytes x ++ drop size bytes) checks.3 ∙ ap (λ l. packet_bytes p ++ l) checks.4))
+front-Good chosen bytes p rest all read = absurd cc
+
+-- behind a good packet fewer bytes are left
+pub front-shorter : (chosen : Option ℕ) (bytes : List ℕ) (p : Packet) (rest : List ℕ) → front chosen bytes ≡ Good p rest → length rest < length bytes
+front-shorter chosen (a ∷ b ∷ c ∷ d ∷ e ∷ f ∷ bytes) p rest read =
+    let h = header_at a b c d e f in
+    let size = h.length + 1 in
+    let q : Packet = record { header = h; body = take size bytes } in
+    let checks = by_checks-Good (h.version == 0) (is_misshapen chosen h) (nat_le size (length bytes)) q p (drop size bytes) rest read in
+    omega (arith, ap length checks.4, length-drop size bytes)
+front-shorter chosen bytes p rest read = absurd cc
+
+Good-same : (p q : Packet) (left rest : List ℕ) → Good p left ≡ Good q rest → (p ≡ q) × (left ≡ rest)
+Good-same p q left rest e = (cc, cc)
+
+-- equal bytes begin with equal good packets
+pub packet_bytes-same : (chosen : Option ℕ) (p q : Packet) (left rest : List ℕ) → IsGood chosen p → IsGood chosen q → packet_bytes p ++ left ≡ packet_bytes q ++ rest → (p ≡ q) × (left ≡ rest)
+packet_bytes-same chosen p q left rest one other e = Good-same p q left rest (sym (front-good chosen p left one) ∙ (ap (front chosen) e ∙ front-good chosen q rest other))
+
+plain_shape : (chosen : Option ℕ) (apid count size : ℕ) → is_misshapen chosen (plain_header apid count size) ≡ false
+plain_shape None apid count size = refl
+plain_shape (Some other) apid count size = grind (arith, common_steps)
+
+-- a packet of the one shape is a good one, whichever APID is chosen
+pub IsGood-plain : (chosen : Option ℕ) (apid count : ℕ) (body : List ℕ) → IsPacket apid count body → IsGood chosen (plain_packet apid count body)
+IsGood-plain chosen apid count body packet = record {
+  fields = record { version_bits = omega arith; apid_bits = omega (arith, packet.chosen); sequence_bits = omega arith; count_bits = omega (arith, packet.counted); length_bits = omega (arith, packet.most, packet.some) };
+  version = refl;
+  shape = plain_shape chosen apid count (length body);
+  whole = omega (arith, packet.some);
+  bytes = packet.bytes;
+}
+
+-- equal bytes begin with equal packets of the one shape and of an APID
+pub space_packet-same : (apid count other_count : ℕ) (body rest other_body other_rest : List ℕ) → IsPacket apid count body → IsPacket apid other_count other_body → space_packet apid count body ++ rest ≡ space_packet apid other_count other_body ++ other_rest → (count ≡ other_count) × (body ≡ other_body) × (rest ≡ other_rest)
+space_packet-same apid count other_count body rest other_body other_rest packet other e =
+    let same = packet_bytes-same None (plain_packet apid count body) (plain_packet apid other_count other_body) rest other_rest (IsGood-plain None apid count body packet) (IsGood-plain None apid other_count other_body other) e in
+    (ap (λ (p : Packet). p.header.count) same.0, ap (λ (p : Packet). p.body) same.0, same.1)
+
+is_misshapen-plain : (apid : ℕ) (h : Header) → is_chosen (Some apid) h ≡ true → is_misshapen (Some apid) h ≡ false → h.version ≡ 0 → h ≡ plain_header apid h.count (h.length + 1)
+is_misshapen-plain apid h chosen shape version = grind (arith, common_steps)
+
+-- a good packet of the chosen APID has the one shape
+pub IsGood-chosen : (apid : ℕ) (p : Packet) → apid ≤ 2046 → IsGood (Some apid) p → is_chosen (Some apid) p.header ≡ true → IsPacket apid p.header.count p.body × (p ≡ plain_packet apid p.header.count p.body)
+IsGood-chosen apid p few good chosen =
+    let plain = is_misshapen-plain apid p.header chosen good.shape good.version in
+    let bits = good.fields in (
+      record { chosen = few; counted = omega (arith, bits.count_bits); some = omega (arith, good.whole); most = omega (arith, good.whole, bits.length_bits); bytes = good.bytes },
+      λ i. record { header = (plain ∙ ap (plain_header apid p.header.count) (sym good.whole)) i; body = p.body },
     )
-front-Packet apid bytes count body rest chosen all read = cc
+
+-- the data of a packet that stands at the front of a room fit
+pub IsGood-of_room : (chosen : Option ℕ) (h : Header) (room : List ℕ) → IsHeader h → h.version ≡ 0 → is_misshapen chosen h ≡ false → length room ≡ 65542 → ((k : ℕ) → Fits w8 (get_or room k 0)) → IsGood chosen (record { header = h; body = drop 6 (take (h.length + 7) room) })
+IsGood-of_room chosen h room fields version shape full fit =
+    let bytes : All (λ b. b < 256) room = λ k d within. rw (get_or_default room k d 0 within) (omega (arith, fit k)) in
+    record {
+      fields = fields;
+      version = version;
+      shape = shape;
+      whole = simp (length-drop, length-take) (omega (arith, fields.length_bits));
+      bytes = All-drop (λ b. b < 256) 6 (take (h.length + 7) room) (All-take (λ b. b < 256) (h.length + 7) room bytes);
+    }

@@ -1,7 +1,12 @@
--- Space Packets (CCSDS 133.0-B-2) of one shape: version 0, telemetry, no secondary header, unsegmented.
-use Rattle.std.specs.Prelude.{◌≡◌, ℕ, ◌+◌, ◌-◌, ◌*◌, ◌/◌, ◌%◌, ◌^◌, ◌<◌, ◌≤◌, Bool, false, not, ◌&&◌, ◌==◌, nat_le, if◌then◌else◌, List, [], ◌∷◌, ◌++◌, length, take, drop, All}
+-- Space Packets (CCSDS 133.0-B-2): primary headers, and packets of the one shape of this profile (version 0, telemetry,
+-- no secondary header, unsegmented).
+use Rattle.std.specs.Prelude.{ℕ, ◌+◌, ◌-◌, ◌*◌, ◌/◌, ◌%◌, ◌^◌, ◌<◌, ◌≤◌, Bool, false, not, ◌&&◌, ◌==◌, if◌then◌else◌, List, [], ◌∷◌, ◌++◌, length, All, Option, Some, None}
 use Rattle.std.specs.List.{flat_map}
 use Rattle.packet_store.specs.declared.header.Header.{Header}
+
+-- the number of the sequence counts: behind the last count the first comes again
+abbrev pub period : ℕ
+period = 16384
 
 -- the fields are within their bits
 pub record IsHeader (h : Header) : Type 0 where
@@ -21,6 +26,18 @@ header_of h =
     ∷ (h.sequence * 2 ^ 6 + h.count / 256) ∷ h.count % 256
     ∷ h.length / 256 ∷ h.length % 256 ∷ []
 
+-- the fields that six bytes spell
+abbrev pub header_at : ℕ → ℕ → ℕ → ℕ → ℕ → ℕ → Header
+header_at a b c d e f = record {
+  version = a / 2 ^ 5;
+  telecommand = a / 2 ^ 4 % 2 == 1;
+  secondary = a / 2 ^ 3 % 2 == 1;
+  apid = a % 2 ^ 3 * 256 + b;
+  sequence = c / 2 ^ 6;
+  count = c % 2 ^ 6 * 256 + d;
+  length = e * 256 + f;
+}
+
 -- the header of a packet of the one shape with this many data bytes
 abbrev pub plain_header : ℕ → ℕ → ℕ → Header
 plain_header apid count size = record {
@@ -36,60 +53,38 @@ plain_header apid count size = record {
 abbrev pub header_bytes : ℕ → ℕ → ℕ → List ℕ
 header_bytes apid count size = header_of (plain_header apid count size)
 
--- the packet of an APID with this count and these data bytes
+-- a packet: its primary header and its data bytes
+pub record Packet : Type 0 where
+  pub header : Header
+  pub body : List ℕ
+
+abbrev pub packet_bytes : Packet → List ℕ
+packet_bytes p = header_of p.header ++ p.body
+
+-- the packet of the one shape of an APID with this count and these data bytes
+abbrev pub plain_packet : ℕ → ℕ → List ℕ → Packet
+plain_packet apid count body = record { header = plain_header apid count (length body); body = body }
+
 abbrev pub space_packet : ℕ → ℕ → List ℕ → List ℕ
-space_packet apid count body = header_bytes apid count (length body) ++ body
+space_packet apid count body = packet_bytes (plain_packet apid count body)
 
 -- there is such a packet; the APID 2047 is that of idle packets
 pub record IsPacket (apid count : ℕ) (body : List ℕ) : Type 0 where
   pub chosen : apid ≤ 2046
-  pub counted : count < 16384
+  pub counted : count < period
   pub some : 1 ≤ length body
   pub most : length body ≤ 65536
   pub bytes : All (λ b. b < 256) body
 
--- packets of one APID, one after the other: each has its count and its data bytes
+-- packets of the one shape and of one APID, one after the other: each has its count and its data bytes
 abbrev pub store_bytes : ℕ → List (ℕ × List ℕ) → List ℕ
 store_bytes apid packets = flat_map (λ p. space_packet apid p.0 p.1) packets
 
--- the bytes begin with a packet of this APID
-pub record BeginsWithPacket (apid : ℕ) (bytes : List ℕ) : Type 0 where
-  pub count : ℕ
-  pub body : List ℕ
-  pub rest : List ℕ
-  pub packet : IsPacket apid count body
-  pub joined : bytes ≡ space_packet apid count body ++ rest
+-- the header is of the chosen APID, where one is chosen
+abbrev pub is_chosen : Option ℕ → Header → Bool
+is_chosen None h = false
+is_chosen (Some apid) h = h.apid == apid
 
--- the fields that six bytes spell
-abbrev pub header_at : ℕ → ℕ → ℕ → ℕ → ℕ → ℕ → Header
-header_at a b c d e f = record {
-  version = a / 2 ^ 5;
-  telecommand = a / 2 ^ 4 % 2 == 1;
-  secondary = a / 2 ^ 3 % 2 == 1;
-  apid = a % 2 ^ 3 * 256 + b;
-  sequence = c / 2 ^ 6;
-  count = c % 2 ^ 6 * 256 + d;
-  length = e * 256 + f;
-}
-
--- the header is that of a packet of the one shape and of this APID
-abbrev pub is_plain : ℕ → Header → Bool
-is_plain apid h = h.version == 0 && not h.telecommand && not h.secondary && h.apid == apid && h.sequence == 3
-
--- what stands at the front of some bytes: nothing, a packet before the rest, or something else
-pub data Front : Type 0 where
-  End : Front
-  Packet : ℕ → List ℕ → List ℕ → Front
-  Other : Front
-
--- the same where a header was read, from the bytes after it
-abbrev pub front_after : ℕ → Header → List ℕ → Front
-front_after apid h bytes =
-    if is_plain apid h && nat_le (h.length + 1) (length bytes)
-    then Packet h.count (take (h.length + 1) bytes) (drop (h.length + 1) bytes)
-    else Other
-
-abbrev pub front : ℕ → List ℕ → Front
-front apid [] = End
-front apid (a ∷ b ∷ c ∷ d ∷ e ∷ f ∷ bytes) = front_after apid (header_at a b c d e f) bytes
-front apid (a ∷ bytes) = Other
+-- the header is of the chosen APID and not of the one shape
+abbrev pub is_misshapen : Option ℕ → Header → Bool
+is_misshapen chosen h = is_chosen chosen h && not (not h.telecommand && not h.secondary && h.sequence == 3)

@@ -1,18 +1,49 @@
 ghost use Rattle.std.specs.Prelude.{◌≡◌};
+ghost use Rattle.packet_store.specs.Faults.{store_fault, stop_of};
 ghost use Rattle.packet_store.specs.declared.fault.StoreFault.TheVariants as fault;
 
-use desk_ports::Failed;
+use desk_ports::{Failed, Stop};
 use thiserror::Error;
 
-/// Why a store is not read on.
+/// What is wrong with the bytes of a store at a place.
+#[derive(Clone, Copy, Debug, PartialEq, Eq)]
+pub enum StoreKind {
+    /// They end inside a packet.
+    Cut,
+    /// They begin a packet of another version.
+    Version,
+    /// They begin a packet of the chosen APID that has another shape.
+    Shape,
+}
+
+/// Why a walk over a store ends before the store does.
+#[derive(Clone, Copy, Debug, PartialEq, Eq)]
+pub enum WalkFault {
+    /// From this byte on there is no good packet.
+    Bad { byte: u64, kind: StoreKind },
+    /// A byte follows the 4,294,967,296th packet.
+    TooMany,
+}
+
+/// Why a store is not read on. A byte is named by its offset in the store.
 #[derive(Clone, Copy, Debug, PartialEq, Eq, Error)]
 pub enum StoreFault {
-    /// What comes next in the input is no packet that the reader takes.
-    #[error("the store does not go on with a packet that can be read yet")]
-    NotYet,
+    /// The store ends inside the packet that begins with this byte.
+    #[error("store packet at byte {byte} is cut")]
+    Cut { byte: u64 },
+    /// The packet that begins with this byte has another version than 0.
+    #[error("store packet at byte {byte} has another version")]
+    Version { byte: u64 },
+    /// The packet of the chosen APID that begins with this byte is a telecommand, has a secondary
+    /// header, or is segmented.
+    #[error("store packet at byte {byte} has another shape")]
+    Shape { byte: u64 },
     /// The desk could not read.
-    #[error("the store could not be read")]
+    #[error("reading failed")]
     ReadFault,
+    /// A byte follows the 4,294,967,296th packet.
+    #[error("too many packets")]
+    TooMany,
 }
 
 impl From<Failed> for StoreFault {
@@ -20,5 +51,35 @@ impl From<Failed> for StoreFault {
 
     fn from(_failed: Failed) -> StoreFault {
         StoreFault::ReadFault
+    }
+}
+
+impl From<WalkFault> for StoreFault {
+    ghost from_gives = { λ f e. e ≡ store_fault f };
+
+    fn from(fault: WalkFault) -> StoreFault {
+        match fault {
+            WalkFault::Bad { byte, kind } => match kind {
+                StoreKind::Cut => StoreFault::Cut { byte },
+                StoreKind::Version => StoreFault::Version { byte },
+                StoreKind::Shape => StoreFault::Shape { byte },
+            },
+            WalkFault::TooMany => StoreFault::TooMany,
+        }
+    }
+}
+
+impl From<StoreFault> for Stop<WalkFault> {
+    ghost from_gives = { λ f e. e ≡ stop_of f };
+
+    fn from(fault: StoreFault) -> Stop<WalkFault> {
+        let bad = |byte, kind| Stop::Data(WalkFault::Bad { byte, kind });
+        match fault {
+            StoreFault::Cut { byte } => bad(byte, StoreKind::Cut),
+            StoreFault::Version { byte } => bad(byte, StoreKind::Version),
+            StoreFault::Shape { byte } => bad(byte, StoreKind::Shape),
+            StoreFault::TooMany => Stop::Data(WalkFault::TooMany),
+            StoreFault::ReadFault => Stop::ReadFault,
+        }
     }
 }

@@ -1,8 +1,11 @@
 ghost use Rattle.std.specs.Prelude.{◌≡◌, ◌+◌, ◌<◌, ◌≤◌};
-ghost use Rattle.packet_store.specs.SpacePackets.{IsHeader, header_of, header_bytes, is_plain};
+ghost use Rattle.packet_store.specs.SpacePackets.{IsHeader, header_of, header_bytes, is_chosen, is_misshapen};
 
 /// The bytes of a primary header.
 pub const HEADER_BYTES: usize = 6;
+
+/// The period of the sequence counts: they run from 0 to 16,383, and behind the last comes 0 again.
+pub const PERIOD: u64 = 16_384;
 
 /// The value of the sequence flags for a packet that is not segmented.
 pub const UNSEGMENTED: u8 = 3;
@@ -34,16 +37,23 @@ impl Header {
         usize::from(self.length) + 1
     }
 
-    /// Whether it is the header of an unsegmented telemetry packet of version 0 and of this APID,
-    /// with no secondary header.
-    pub fn is_plain(&self, apid: u16) -> bool
-        ensures { result ≡ is_plain apid self.now }
+    /// Whether it is of the chosen APID, if one is chosen.
+    pub fn is_chosen(&self, chosen: Option<u16>) -> bool
+        ensures { result ≡ is_chosen chosen self.now }
     {
-        self.version == 0
-            && !self.telecommand
-            && !self.secondary
-            && self.apid == apid
-            && self.sequence == UNSEGMENTED
+        match chosen {
+            Some(apid) => self.apid == apid,
+            None => false,
+        }
+    }
+
+    /// Whether it is of the chosen APID and not that of an unsegmented telemetry packet with no
+    /// secondary header.
+    pub fn is_misshapen(&self, chosen: Option<u16>) -> bool
+        ensures { result ≡ is_misshapen chosen self.now }
+    {
+        self.is_chosen(chosen)
+            && (self.telecommand || self.secondary || self.sequence != UNSEGMENTED)
     }
 }
 
@@ -51,7 +61,7 @@ impl Header {
 /// and `size` data bytes.
 pub fn header_bytes(apid: u16, count: u16, size: u32) -> [u8; HEADER_BYTES]
     requires apid_bits { apid ≤ 2047 }
-    requires count_bits { count < 16384 }
+    requires count_bits { count < PERIOD }
     requires some { 1 ≤ size }
     requires most { size ≤ 65536 }
     ensures { result ≡ header_bytes apid count size }

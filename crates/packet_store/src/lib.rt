@@ -6,11 +6,16 @@ mod header;
 mod laws;
 mod packet;
 mod reader;
+mod writer;
 
-pub use fault::StoreFault;
-pub use header::{Header, header_bytes, read_header};
-pub use laws::{only_packets_are_read, packets_are_read_back, packets_are_told_apart};
+pub use fault::{StoreFault, StoreKind, WalkFault};
+pub use header::{Header, PERIOD, header_bytes, read_header};
+pub use laws::{
+    good_packets_are_walked, only_good_packets_are_read, packets_are_told_apart, stores_are_walked,
+    walks_are_exact, walks_of_fronts, worked_walks,
+};
 pub use reader::{StoreReader, Taken};
+pub use writer::StoreWriter;
 
 #[cfg(test)]
 mod tests;

@@ -1,20 +1,20 @@
-ghost use Rattle.std.specs.Prelude.{◌≡◌, ◌≢◌, ◌<◌, ◌≤◌, ◌^◌, ◌⊎◌, ℕ, List, [], length, IsTrue, IfOk, OnErr, IfSome};
+ghost use Rattle.std.specs.Prelude.{◌≡◌, ◌<◌, ◌≤◌, List, [], length, Some, IsTrue, IfOk, IfErr};
 ghost use Rattle.std.specs.Io.KnownBytes.{IsAtEnd};
-ghost use Rattle.desk_ports.specs.Meanings.{Moves, IsReadyIn, Rises, Rose, left};
-ghost use Rattle.packet_store.specs.SpacePackets.{BeginsWithPacket, space_packet};
+ghost use Rattle.desk_ports.specs.Meanings.{Moves, IsReadyIn, left};
 ghost use Rattle.packet_store.specs.Answers.{IfGiven, OnEnd, OnStop};
-ghost use Rattle.packet_store.specs.StoreReader.{Gives, opened, stopped};
+ghost use Rattle.packet_store.specs.Faults.{HasStoreCause};
+ghost use Rattle.packet_store.specs.StoreReader.{Takes, AfterFault, opened, stopped};
 
 use crate::fault::StoreFault;
 use crate::header::HEADER_BYTES;
-use crate::packet::{read_end, read_packet};
+use crate::packet::{is_at_end, read_packet};
 use bit_vectors::NoMemory;
 use desk_ports::{Desk, Inlet};
 use std::alloc::Global;
 use std::marker::Model;
 
 /// The bytes of the longest Space Packet: its header, and 65,536 data bytes.
-const ROOM: usize = HEADER_BYTES + 65_536;
+pub const PACKET_BYTES: usize = HEADER_BYTES + 65_536;
 
 /// The number of packets that one reader gives at most.
 const MOST_PACKETS: u64 = 1 << 32;
@@ -28,14 +28,15 @@ pub struct Taken {
     pub count: u16,
 }
 
-/// Reads a store packet by packet from the main inlet of a desk.
+/// Reads a store packet by packet from the main inlet of a desk: its walk for the chosen APID.
 ///
-/// A packet that it takes is an unsegmented telemetry packet of version 0 (CCSDS 133.0-B-2) on the
-/// chosen APID, with no secondary header.
+/// A packet of the chosen APID is an unsegmented telemetry packet of version 0 (CCSDS 133.0-B-2) with
+/// no secondary header. Packets of other APIDs may be of any type and shape; they have version 0 too.
 #[derive(Drop)]
 pub struct StoreReader {
-    apid: u16,
+    chosen: Option<u16>,
     taken: u64,
+    offset: u64,
     live: bool,
     held: usize,
     room: Vec<u8>,
@@ -47,72 +48,69 @@ impl Model for StoreReader {
 
     ghost Value = { ReaderState };
 
-    ghost view = { λ r. state_of r.apid r.taken r.live r.held r.room.items };
+    ghost view = { λ r. state_of r.chosen r.taken r.offset r.live r.held r.room.items };
 
-    ghost invariant = { λ r. IsReader r.apid r.taken r.held (vec_len r.room) };
+    ghost invariant = { λ r. IsReader r.taken r.offset r.held (vec_len r.room) };
 }
 
 impl StoreReader {
-    /// A reader of the packets of an APID, which is no idle one. It takes the room for every packet.
+    /// A reader of a store for a chosen APID, which is no idle one. It takes the room for every packet.
     pub fn open(alloc: Global, apid: u16) -> Result<StoreReader, NoMemory>
         requires { apid ≤ 2046 }
-        ensures { IfOk result (λ reader. reader ≡ opened apid) }
+        ensures { IfOk result (λ reader. reader ≡ opened (Some apid)) }
     {
-        let room = vec![in alloc; 0; ROOM]?;
+        let room = vec![in alloc; 0; PACKET_BYTES]?;
         Ok(StoreReader {
-            apid,
+            chosen: Some(apid),
             taken: 0,
+            offset: 0,
             live: true,
             held: 0,
             room,
         })
     }
 
-    /// Takes the next packet from the input. None: the input is at its end.
+    /// Takes the next packet from the input. None: the input ends on a packet boundary.
     ///
-    /// After None or a fault the reader is no longer live. NotYet stands for whatever else comes next:
-    /// a packet of another APID, version or shape, one that is cut off, or a byte after the
-    /// 4,294,967,296th packet. It takes no memory.
+    /// The packets are those of the walk over the store, in order, those of other APIDs too, and a fault
+    /// of the store is how that walk ends. After None or a fault the reader is no longer live. It takes
+    /// no memory.
     pub fn next<D: Desk>(&mut self, desk: &mut D) -> Result<Option<Taken>, StoreFault>
         requires live { IsTrue self.old.live }
         requires open { IsReadyIn (D.meaning desk.old) Inlet.Main }
 
-        // Some: this packet was taken from the input, and nothing else.
-        ensures some { IfGiven result (λ t. Moves (D.meaning desk.old) (D.meaning desk.new) Inlet.Main
-            (space_packet self.old.apid t.count self.new.body)) }
-        ensures given { IfGiven result (λ t. Gives self.old self.new t.count) }
-        ensures chosen { IfGiven result (λ t. IsTrue t.chosen) }
+        // Some: the next packet of the walk was taken.
+        ensures some { IfGiven result (Takes self.old self.new (D.meaning desk.old) (D.meaning desk.new)) }
 
         // None: nothing was left.
         ensures none { OnEnd result (Moves (D.meaning desk.old) (D.meaning desk.new) Inlet.Main []) }
         ensures at_end { OnEnd result (IsAtEnd (left (D.meaning desk.old) Inlet.Main)) }
 
-        // NotYet: bytes are left, and they begin with no such packet or come after the last that may be given.
-        ensures bytes_left { result ≡ Err StoreFault.NotYet → IfSome (left (D.meaning desk.old) Inlet.Main) (λ input. input ≢ []) }
-        ensures not_yet { result ≡ Err StoreFault.NotYet → IfSome (left (D.meaning desk.old) Inlet.Main) (λ input.
-            (self.old.taken ≡ 2 ^ 32) ⊎ (¬ BeginsWithPacket self.old.apid input)) }
-
-        // ReadFault: the desk failed to read in this call.
-        ensures read_fault { result ≡ Err StoreFault.ReadFault → Rose (D.counts desk.old).reads (D.counts desk.new).reads }
-        ensures lost { OnErr result ((bytes : List ℕ) × Moves (D.meaning desk.old) (D.meaning desk.new) Inlet.Main bytes) }
+        // A fault of the store is how its walk ends. ReadFault comes where the desk failed to read in this call.
+        ensures fault { IfErr result (AfterFault self.old (D.meaning desk.old) (D.meaning desk.new)) }
+        ensures cause { HasStoreCause (D.counts desk.old) (D.counts desk.new) result }
 
         ensures stopped { OnStop result (self.new ≡ stopped self.old) }
-        ensures rises { Rises (D.counts desk.old) (D.counts desk.new) }
     {
         self.live = false;
         self.held = 0;
         if self.taken == MOST_PACKETS {
-            read_end(desk, &mut self.room[..1])?;
-            return Ok(None);
+            if is_at_end(desk, &mut self.room[..1])? {
+                return Ok(None);
+            }
+            return Err(StoreFault::TooMany);
         }
-        let Some(header) = read_packet(desk, self.apid, &mut self.room)? else {
-            return Ok(None);
+        let header = match read_packet(desk, self.chosen, &mut self.room) {
+            Ok(Some(header)) => header,
+            Ok(None) => return Ok(None),
+            Err(fault) => return Err(fault.at(self.offset)),
         };
         self.live = true;
         self.held = HEADER_BYTES + header.size();
         self.taken += 1;
+        self.offset += self.held as u64;
         Ok(Some(Taken {
-            chosen: true,
+            chosen: header.is_chosen(self.chosen),
             count: header.count,
         }))
     }

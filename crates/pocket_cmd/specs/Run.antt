@@ -1,22 +1,37 @@
 -- What the parts of a run of `restore` leave, by their answers: what was read, and what was written.
-use Rattle.std.specs.Prelude.{◌≡◌, ℕ, ◌^◌, ◌<◌, Bool, true, false, IsTrue, List, [], ◌++◌, length, None, Result, Ok, Err, IfSome}
+use Rattle.std.specs.Prelude.{◌≡◌, ℕ, ◌^◌, ◌<◌, ◌≤◌, Bool, true, false, IsTrue, List, [], ◌++◌, length, Some, None, Result, Ok, Err, IfSome, unwrap_or}
 use Rattle.std.specs.Io.KnownBytes.{IsAtEnd}
 use Rattle.bit_vectors.specs.Vectors.{vector_bytes}
-use Rattle.desk_ports.specs.Meanings.{Meanings, left}
+use Rattle.desk_ports.specs.Meanings.{Meanings, Counts, FailsToRead, FailsToWrite, left}
 use Rattle.desk_ports.specs.Runs.{Ran}
 use Rattle.desk_ports.specs.declared.desk.Inlet.TheVariants as inlet
 use Rattle.packet_decode.specs.Decoding.{Decoding, number_of}
 use Rattle.packet_decode.specs.Packets.{State}
 use Rattle.packet_store.specs.SpacePackets.{space_packet, store_bytes}
 use Rattle.packet_store.specs.StoreReader.{ReaderState}
+use Rattle.packet_store.specs.declared.fault.StoreFault.{StoreFault}
+use Rattle.packet_store.specs.declared.fault.StoreFault.TheVariants as fault
 use Rattle.pocket_cmd.specs.PlainStore.{IsNextPlain, ArePlain, IsPlainStore, IsLongestPlain, IsStuck}
 use Rattle.pocket_cmd.specs.Report.{restored_bytes}
 use Rattle.pocket_cmd.specs.declared.status.Refusal.{Refusal}
 use Rattle.pocket_cmd.specs.declared.status.Refusal.TheVariants.{BadWords, NotYet, ReadFault, WriteFault, NoMemory}
 
+-- what a fault of the store means where the packet with the number t is read
+abbrev pub refusal_of : StoreFault → ℕ → Refusal
+refusal_of fault.ReadFault t = ReadFault
+refusal_of (fault.Cut byte) t = NotYet t
+refusal_of (fault.Version byte) t = NotYet t
+refusal_of (fault.Shape byte) t = NotYet t
+refusal_of fault.TooMany t = NotYet t
+
+-- the chosen APID of a reader
+abbrev pub apid_of : ReaderState → ℕ
+apid_of reader = unwrap_or reader.chosen 0
+
 -- the reader and the decoder stand before the packet with the number t
 pub record StandBefore (f apid t : ℕ) (reader : ReaderState) (decoder : Decoding) : Type 0 where
-  pub chosen : reader.apid ≡ apid
+  pub chosen : reader.chosen ≡ Some apid
+  pub few : apid ≤ 2046
   pub taken : reader.taken ≡ t
   pub live : IsTrue reader.live
   pub places : decoder.places ≡ f
@@ -70,3 +85,12 @@ AfterPackets f apid old new (Err WriteFault) =
     × (front : List ℕ) × (rest : List ℕ) × (front ++ rest ≡ restored_bytes contents) × Ran old new store front []
 AfterPackets f apid old new (Err (BadWords word)) = ⊥
 AfterPackets f apid old new (Err NoMemory) = ⊥
+
+-- why a run ended: of every answer but a fault of the desk both counts are as before
+abbrev pub HasRefusalCause : {T : Type 0} → Counts → Counts → Result T Refusal → Type 0
+HasRefusalCause old new (Ok done) = new ≡ old
+HasRefusalCause old new (Err ReadFault) = FailsToRead old new
+HasRefusalCause old new (Err WriteFault) = FailsToWrite old new
+HasRefusalCause old new (Err (NotYet t)) = new ≡ old
+HasRefusalCause old new (Err (BadWords word)) = new ≡ old
+HasRefusalCause old new (Err NoMemory) = new ≡ old

@@ -1,16 +1,23 @@
 //! The packets of a store, one after the other, from the input to the output.
 ghost use Rattle.std.specs.Prelude.{◌≡◌, ◌+◌, ◌≤◌, ◌<◌, ◌^◌, length, true, IsTrue, None, Ok, Err};
 ghost use Rattle.bit_vectors.specs.Vectors.{byte_count};
-ghost use Rattle.desk_ports.specs.Meanings.{IsReadyIn, IsReadyOut, Rises, Rose};
-ghost use Rattle.pocket_cmd.specs.Run.{StandBefore, AfterReading, AfterTurn, AfterPackets};
+ghost use Rattle.desk_ports.specs.Meanings.{IsReadyIn, IsReadyOut};
+ghost use Rattle.pocket_cmd.specs.Run.{StandBefore, AfterReading, AfterTurn, AfterPackets, HasRefusalCause, apid_of, refusal_of};
 
 use crate::status::Refusal;
 use desk_ports::{Desk, Inlet, Outlet, write_all};
 use packet_decode::{Decoder, Reading};
-use packet_store::{StoreFault, StoreReader};
+use packet_store::{PERIOD, StoreFault, StoreReader};
 
-/// The period of the sequence counts.
-const PERIOD: u64 = 16_384;
+/// What a fault of the store means where the packet with the number `t` is read.
+fn refusal_of(fault: StoreFault, t: u64) -> Refusal
+    ensures { result ≡ refusal_of fault t }
+{
+    match fault {
+        StoreFault::ReadFault => Refusal::ReadFault,
+        _ => Refusal::NotYet { t },
+    }
+}
 
 /// Reads the packet with the number `t` into the decoder. False: the store is at its end.
 fn read_next<D: Desk>(
@@ -19,21 +26,22 @@ fn read_next<D: Desk>(
     decoder: &mut Decoder,
     t: u64,
 ) -> Result<bool, Refusal>
-    requires place { StandBefore decoder.old.places reader.old.apid t reader.old decoder.old }
+    requires place { StandBefore decoder.old.places (apid_of reader.old) t reader.old decoder.old }
     requires few { t ≤ 2 ^ 32 }
     requires open { IsReadyIn (D.meaning desk.old) Inlet.Main }
-    ensures read { AfterReading decoder.old.places reader.old.apid t decoder.old.state decoder.new.state (D.meaning desk.old) (D.meaning desk.new) result }
-    ensures place { result ≡ Ok true → StandBefore decoder.old.places reader.old.apid (t + 1) reader.new decoder.new }
+    ensures read { AfterReading decoder.old.places (apid_of reader.old) t decoder.old.state decoder.new.state (D.meaning desk.old) (D.meaning desk.new) result }
+    ensures place { result ≡ Ok true → StandBefore decoder.old.places (apid_of reader.old) (t + 1) reader.new decoder.new }
     ensures few { result ≡ Ok true → t < 2 ^ 32 }
-    ensures cause { result ≡ Err Refusal.ReadFault → Rose (D.counts desk.old).reads (D.counts desk.new).reads }
-    ensures rises { Rises (D.counts desk.old) (D.counts desk.new) }
+    ensures cause { HasRefusalCause (D.counts desk.old) (D.counts desk.new) result }
 {
     let taken = match reader.next(desk) {
         Ok(Some(taken)) => taken,
         Ok(None) => return Ok(false),
-        Err(StoreFault::NotYet) => return Err(Refusal::NotYet { t }),
-        Err(StoreFault::ReadFault) => return Err(Refusal::ReadFault),
+        Err(fault) => return Err(refusal_of(fault, t)),
     };
+    if !taken.chosen {
+        return Err(Refusal::NotYet { t });
+    }
     if u64::from(taken.count) != t % PERIOD {
         return Err(Refusal::NotYet { t });
     }
@@ -52,17 +60,15 @@ fn restore_next<D: Desk>(
     line: &mut [u8],
     t: u64,
 ) -> Result<bool, Refusal>
-    requires place { StandBefore decoder.old.places reader.old.apid t reader.old decoder.old }
+    requires place { StandBefore decoder.old.places (apid_of reader.old) t reader.old decoder.old }
     requires few { t ≤ 2 ^ 32 }
     requires line { length line.old ≡ byte_count decoder.old.places }
     requires open { IsReadyIn (D.meaning desk.old) Inlet.Main }
     requires open_out { IsReadyOut (D.meaning desk.old) Outlet.Main }
-    ensures turned { AfterTurn decoder.old.places reader.old.apid t decoder.old.state decoder.new.state (D.meaning desk.old) (D.meaning desk.new) result }
-    ensures place { result ≡ Ok true → StandBefore decoder.old.places reader.old.apid (t + 1) reader.new decoder.new }
+    ensures turned { AfterTurn decoder.old.places (apid_of reader.old) t decoder.old.state decoder.new.state (D.meaning desk.old) (D.meaning desk.new) result }
+    ensures place { result ≡ Ok true → StandBefore decoder.old.places (apid_of reader.old) (t + 1) reader.new decoder.new }
     ensures few { result ≡ Ok true → t < 2 ^ 32 }
-    ensures read_cause { result ≡ Err Refusal.ReadFault → Rose (D.counts desk.old).reads (D.counts desk.new).reads }
-    ensures write_cause { result ≡ Err Refusal.WriteFault → Rose (D.counts desk.old).writes (D.counts desk.new).writes }
-    ensures rises { Rises (D.counts desk.old) (D.counts desk.new) }
+    ensures cause { HasRefusalCause (D.counts desk.old) (D.counts desk.new) result }
 {
     if !read_next(desk, reader, decoder, t)? {
         return Ok(false);
@@ -81,15 +87,13 @@ pub fn restore_packets<D: Desk>(
     decoder: &mut Decoder,
     line: &mut [u8],
 ) -> Result<u64, Refusal>
-    requires place { StandBefore decoder.old.places reader.old.apid 0 reader.old decoder.old }
+    requires place { StandBefore decoder.old.places (apid_of reader.old) 0 reader.old decoder.old }
     requires fresh { decoder.old.state ≡ None }
     requires line { length line.old ≡ byte_count decoder.old.places }
     requires open { IsReadyIn (D.meaning desk.old) Inlet.Main }
     requires open_out { IsReadyOut (D.meaning desk.old) Outlet.Main }
-    ensures restored { AfterPackets decoder.old.places reader.old.apid (D.meaning desk.old) (D.meaning desk.new) result }
-    ensures read_cause { result ≡ Err Refusal.ReadFault → Rose (D.counts desk.old).reads (D.counts desk.new).reads }
-    ensures write_cause { result ≡ Err Refusal.WriteFault → Rose (D.counts desk.old).writes (D.counts desk.new).writes }
-    ensures rises { Rises (D.counts desk.old) (D.counts desk.new) }
+    ensures restored { AfterPackets decoder.old.places (apid_of reader.old) (D.meaning desk.old) (D.meaning desk.new) result }
+    ensures cause { HasRefusalCause (D.counts desk.old) (D.counts desk.new) result }
 {
     let mut t = 0;
     'packets: while restore_next(desk, reader, decoder, line, t)? {

@@ -1,8 +1,8 @@
 //! The command `restore`: from a store to the restored packets and the report.
 ghost use Rattle.std.specs.Prelude.{◌≡◌, ◌≤◌, Err, IsTrue};
-ghost use Rattle.desk_ports.specs.Meanings.{Rises, Rose};
 ghost use Rattle.pocket_cmd.specs.Command.{view_restoration};
 ghost use Rattle.pocket_cmd.specs.Outcome.{AfterRestore};
+ghost use Rattle.pocket_cmd.specs.Run.{HasRefusalCause};
 
 use crate::command::Restoration;
 use crate::stages::{finish_all, open_all, restore_all};
@@ -22,10 +22,7 @@ pub fn restore<D: Desk>(alloc: Global, told: &Restoration<'_>, desk: &mut D) -> 
     requires output { IsTrue ((D.meaning desk.old).grants_out told.now.output.now) }
     requires report { IsTrue ((D.meaning desk.old).grants_out told.now.report.now) }
     ensures restored { AfterRestore (view_restoration told.now) (D.meaning desk.old) (D.meaning desk.new) result }
-    ensures untouched { result ≡ Err Refusal.NoMemory → D.counts desk.new ≡ D.counts desk.old }
-    ensures read_cause { result ≡ Err Refusal.ReadFault → Rose (D.counts desk.old).reads (D.counts desk.new).reads }
-    ensures write_cause { result ≡ Err Refusal.WriteFault → Rose (D.counts desk.old).writes (D.counts desk.new).writes }
-    ensures rises { Rises (D.counts desk.old) (D.counts desk.new) }
+    ensures cause { HasRefusalCause (D.counts desk.old) (D.counts desk.new) result }
 {
     let mut reader = StoreReader::open(alloc, told.apid as u16)?;
     let mut decoder = Decoder::open(alloc, told.bits)?;

@@ -1,9 +1,9 @@
 //! The stages of `restore` over a desk: opening its names, the run, and finishing its outputs.
 ghost use Rattle.std.specs.Prelude.{◌≡◌, length, None, Err, IsTrue};
 ghost use Rattle.bit_vectors.specs.Vectors.{byte_count};
-ghost use Rattle.desk_ports.specs.Meanings.{IsReadyIn, IsReadyOut, Rises, Rose};
+ghost use Rattle.desk_ports.specs.Meanings.{IsReadyIn, IsReadyOut};
 ghost use Rattle.pocket_cmd.specs.Command.{view_restoration};
-ghost use Rattle.pocket_cmd.specs.Run.{StandBefore};
+ghost use Rattle.pocket_cmd.specs.Run.{StandBefore, HasRefusalCause, apid_of};
 ghost use Rattle.pocket_cmd.specs.Stages.{AfterOpening, AfterRun, AfterFinishing};
 
 use crate::command::Restoration;
@@ -20,9 +20,7 @@ pub fn open_all<D: Desk>(desk: &mut D, told: &Restoration<'_>) -> Result<(), Ref
     requires output { IsTrue ((D.meaning desk.old).grants_out told.now.output.now) }
     requires report { IsTrue ((D.meaning desk.old).grants_out told.now.report.now) }
     ensures opened { AfterOpening (view_restoration told.now) (D.meaning desk.old) (D.meaning desk.new) result }
-    ensures read_cause { result ≡ Err Refusal.ReadFault → Rose (D.counts desk.old).reads (D.counts desk.new).reads }
-    ensures write_cause { result ≡ Err Refusal.WriteFault → Rose (D.counts desk.old).writes (D.counts desk.new).writes }
-    ensures rises { Rises (D.counts desk.old) (D.counts desk.new) }
+    ensures cause { HasRefusalCause (D.counts desk.old) (D.counts desk.new) result }
 {
     let Ok(()) = desk.open_in(Inlet::Main, told.input) else {
         return Err(Refusal::ReadFault);
@@ -43,16 +41,14 @@ pub fn restore_all<D: Desk>(
     decoder: &mut Decoder,
     line: &mut [u8],
 ) -> Result<(), Refusal>
-    requires place { StandBefore decoder.old.places reader.old.apid 0 reader.old decoder.old }
+    requires place { StandBefore decoder.old.places (apid_of reader.old) 0 reader.old decoder.old }
     requires fresh { decoder.old.state ≡ None }
     requires line { length line.old ≡ byte_count decoder.old.places }
     requires input { IsReadyIn (D.meaning desk.old) Inlet.Main }
     requires output { IsReadyOut (D.meaning desk.old) Outlet.Main }
     requires report { IsReadyOut (D.meaning desk.old) Outlet.Report }
-    ensures restored { AfterRun decoder.old.places reader.old.apid (D.meaning desk.old) (D.meaning desk.new) result }
-    ensures read_cause { result ≡ Err Refusal.ReadFault → Rose (D.counts desk.old).reads (D.counts desk.new).reads }
-    ensures write_cause { result ≡ Err Refusal.WriteFault → Rose (D.counts desk.old).writes (D.counts desk.new).writes }
-    ensures rises { Rises (D.counts desk.old) (D.counts desk.new) }
+    ensures restored { AfterRun decoder.old.places (apid_of reader.old) (D.meaning desk.old) (D.meaning desk.new) result }
+    ensures cause { HasRefusalCause (D.counts desk.old) (D.counts desk.new) result }
 {
     let Ok(()) = write_header(desk) else {
         return Err(Refusal::WriteFault);
@@ -69,8 +65,7 @@ pub fn finish_all<D: Desk>(desk: &mut D) -> Result<(), Refusal>
     requires output { IsReadyOut (D.meaning desk.old) Outlet.Main }
     requires report { IsReadyOut (D.meaning desk.old) Outlet.Report }
     ensures finished { AfterFinishing (D.meaning desk.old) (D.meaning desk.new) result }
-    ensures write_cause { result ≡ Err Refusal.WriteFault → Rose (D.counts desk.old).writes (D.counts desk.new).writes }
-    ensures rises { Rises (D.counts desk.old) (D.counts desk.new) }
+    ensures cause { HasRefusalCause (D.counts desk.old) (D.counts desk.new) result }
 {
     let Ok(()) = desk.finish(Outlet::Main) else {
         return Err(Refusal::WriteFault);

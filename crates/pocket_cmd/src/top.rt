@@ -4,6 +4,7 @@ ghost use Rattle.std.specs.String.{string_bytes};
 ghost use Rattle.desk_ports.specs.Meanings.{Rises, Rose};
 ghost use Rattle.pocket_cmd.specs.Command.{Restoration, Restore, command_of};
 ghost use Rattle.pocket_cmd.specs.Outcome.{IsDone, IsHeldUp, IsCutOff, IsCutShort, IsHalfKept, AfterCommand, IsDoneUnlessFailed, IsHeldUpUnlessFailed, given};
+ghost use Rattle.pocket_cmd.specs.Run.{HasRefusalCause};
 ghost use Rattle.pocket_cmd.specs.PlainStore.{IsPlainStore, IsLongestPlain};
 ghost use Rattle.pocket_cmd.specs.Words.{Gives};
 
@@ -87,11 +88,7 @@ fn run<D: Desk>(alloc: Global, words: &[String], desk: &mut D) -> Result<(), Ref
     requires reports { (name : List ℕ) → Gives (map string_bytes words.now) (codes "report") name
         → IsTrue ((D.meaning desk.old).grants_out name) }
     ensures ran { AfterCommand (command_of (map string_bytes words.now)) (D.meaning desk.old) (D.meaning desk.new) result }
-    ensures untouched { (word : ℕ) → result ≡ Err (Refusal.BadWords word) → D.counts desk.new ≡ D.counts desk.old }
-    ensures no_memory { result ≡ Err Refusal.NoMemory → D.counts desk.new ≡ D.counts desk.old }
-    ensures read_cause { result ≡ Err Refusal.ReadFault → Rose (D.counts desk.old).reads (D.counts desk.new).reads }
-    ensures write_cause { result ≡ Err Refusal.WriteFault → Rose (D.counts desk.old).writes (D.counts desk.new).writes }
-    ensures rises { Rises (D.counts desk.old) (D.counts desk.new) }
+    ensures cause { HasRefusalCause (D.counts desk.old) (D.counts desk.new) result }
 {
     match command_of(words) {
         Err(word) => Err(Refusal::BadWords { word }),

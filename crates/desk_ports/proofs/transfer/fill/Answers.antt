@@ -1,7 +1,7 @@
-use Rattle.std.proofs.Common.{◌-◌, length, sym, subst, rules, arith}
+use Rattle.std.proofs.Common.{◌-◌, length, sym, subst, ◌∙◌, rules, arith}
 use Rattle.std.proofs.lemmas.Grind.{common_steps}
 use Rattle.desk_ports.specs.Meanings.{Moves}
-use Rattle.desk_ports.proofs.Transfers.{Moves-then, Moves-ready, Rises-then, take-put_mid-add}
+use Rattle.desk_ports.proofs.Transfers.{Moves-then, Moves-ready, take-put_mid-add}
 use Rattle.desk_ports.proofs.transfer.fill.Goals as goal
 
 pub loop-filled-preserved : goal.loop-filled-preserved
@@ -17,5 +17,5 @@ loop-filled-preserved g c =
       within = grind (arith, common_steps);
       moved = subst (Moves first after c.args.inlet) (sym joined) (Moves-then first before after c.args.inlet _ _ kept.moved read.moved);
       ready = Moves-ready before after c.args.inlet _ read.moved kept.ready;
-      rises = Rises-then _ _ _ kept.rises read.rises;
+      steady = read.cause ∙ kept.steady;
     }

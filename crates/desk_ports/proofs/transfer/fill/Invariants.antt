@@ -1,5 +1,5 @@
-use Rattle.std.proofs.Common.{length, take, ◌-◌, ◌≤◌}
-use Rattle.desk_ports.specs.Meanings.{Moves, IsReadyIn, Rises}
+use Rattle.std.proofs.Common.{◌≡◌, length, take, ◌-◌, ◌≤◌}
+use Rattle.desk_ports.specs.Meanings.{Moves, IsReadyIn}
 use Rattle.desk_ports.proofs.transfer.fill.Given as goal
 
 -- the front of the buffer came from the desk, and nothing else happened
@@ -11,7 +11,7 @@ invariant-loop-filled g l =
       within : l.filled ≤ length l.buf;
       moved : Moves (meaning l.fn.desk) (meaning l.desk) l.inlet (take l.filled l.buf);
       ready : IsReadyIn (meaning l.desk) l.inlet;
-      rises : Rises (counts l.fn.desk) (counts l.desk);
+      steady : counts l.desk ≡ counts l.fn.desk;
     }
 
 abbrev pub decreases-loop-filled : goal.decreases-loop-filled

@@ -1,9 +1,9 @@
-use Rattle.std.proofs.Common.{OnErr, Ok, Err, take, sym, subst, arith}
+use Rattle.std.proofs.Common.{OnErr, Ok, Err, take, sym, subst, ◌∙◌, arith}
 use Rattle.std.proofs.Math.Seq.{take-add}
 use Rattle.std.proofs.lemmas.List.{take_rest}
 use Rattle.std.proofs.lemmas.Grind.{common_steps}
 use Rattle.desk_ports.specs.Meanings.{Adds, AddsFront}
-use Rattle.desk_ports.proofs.Transfers.{Adds-then, Adds-ready, AddsFront-take, Rises-then}
+use Rattle.desk_ports.proofs.Transfers.{Adds-then, Adds-ready, AddsFront-take}
 use Rattle.desk_ports.proofs.transfer.write_all.Goals as goal
 
 pub loop-sent-preserved : goal.loop-sent-preserved
@@ -20,7 +20,7 @@ loop-sent-preserved g c =
       within = grind (arith, common_steps);
       added = subst (Adds first after c.args.outlet) (sym joined) (Adds-then first before after c.args.outlet _ _ kept.added rest);
       ready = Adds-ready before after c.args.outlet _ wrote.added kept.ready;
-      rises = Rises-then _ _ _ kept.rises wrote.rises;
+      steady = wrote.cause ∙ kept.steady;
     }
 
 pub returns-in_err-sent-clause-front : goal.returns-in_err-sent-clause-front

@@ -1,5 +1,5 @@
-use Rattle.std.proofs.Common.{length, take, ◌-◌, ◌≤◌}
-use Rattle.desk_ports.specs.Meanings.{Adds, IsReadyOut, Rises}
+use Rattle.std.proofs.Common.{◌≡◌, length, take, ◌-◌, ◌≤◌}
+use Rattle.desk_ports.specs.Meanings.{Adds, IsReadyOut}
 use Rattle.desk_ports.proofs.transfer.write_all.Given as goal
 
 -- a front of the bytes was added, and nothing else happened
@@ -11,7 +11,7 @@ invariant-loop-sent g l =
       within : l.sent ≤ length l.bytes;
       added : Adds (meaning l.fn.desk) (meaning l.desk) l.outlet (take l.sent l.bytes);
       ready : IsReadyOut (meaning l.desk) l.outlet;
-      rises : Rises (counts l.fn.desk) (counts l.desk);
+      steady : counts l.desk ≡ counts l.fn.desk;
     }
 
 abbrev pub decreases-loop-sent : goal.decreases-loop-sent

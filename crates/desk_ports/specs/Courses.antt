@@ -1,0 +1,117 @@
+-- What a command owes for its input, and what a run of it leaves of a desk, by its answer. Every command reads one input
+-- to its end and writes up to two outputs.
+use Rattle.std.specs.Prelude.{◌≡◌, ℕ, Bool, true, false, List, [], ◌++◌, Option, Some, None, Result, Ok, Err, IfSome}
+use Rattle.desk_ports.specs.declared.desk.Inlet.TheVariants as inlet
+use Rattle.desk_ports.specs.declared.stop.Stop.{Stop}
+use Rattle.desk_ports.specs.declared.stop.Stop.TheVariants.{Data, ReadFault, WriteFault}
+use Rattle.desk_ports.specs.Meanings.{Meanings, Counts, FailsToRead, FailsToWrite, left}
+use Rattle.desk_ports.specs.Runs.{Ran}
+
+-- bytes of the main output and of the report
+pub record Outputs : Type 0 where
+  pub output : List ℕ
+  pub report : List ℕ
+
+abbrev pub no_outputs : Outputs
+no_outputs = record { output = []; report = [] }
+
+abbrev pub to_output : List ℕ → Outputs
+to_output bytes = record { output = bytes; report = [] }
+
+abbrev pub to_report : List ℕ → Outputs
+to_report bytes = record { output = []; report = bytes }
+
+-- these bytes and then those
+abbrev pub put : Outputs → Outputs → Outputs
+put first more = record { output = first.output ++ more.output; report = first.report ++ more.report }
+
+-- What a command owes for an input: what stands when the input's end is met, what a whole input adds to that, and the fault
+-- of the data, if there is one.
+pub record Course (F : Type 0) : Type 0 where
+  pub before : Outputs
+  pub after : Outputs
+  pub ending : Option F
+
+abbrev pub by_ending : {F : Type 0} → Option F → Outputs → Outputs → Outputs
+by_ending None before after = put before after
+by_ending (Some fault) before after = before
+
+-- all that is owed: what a whole input adds is not owed where there is a fault
+abbrev pub owed : {F : Type 0} → Course F → Outputs
+owed course = by_ending course.ending course.before course.after
+
+-- the same course where this stands already
+abbrev pub behind : {F : Type 0} → Outputs → Course F → Course F
+behind stand course = record course { before = put stand course.before }
+
+-- what stands is the front of all that is owed
+pub record AreFronts (stand all : Outputs) : Type 0 where
+  pub rest : Outputs
+  pub joined : put stand rest ≡ all
+
+-- The input is these bytes, where the desk tells it. A front of it was taken, this was added to the outputs, and nothing
+-- else changed.
+pub record Went (old new : Meanings) (input : List ℕ) (stand : Outputs) : Type 0 where
+  pub taken : List ℕ
+  pub rest : List ℕ
+  pub split : taken ++ rest ≡ input
+  pub told : IfSome (left new inlet.Main) (λ bytes. bytes ≡ rest)
+  pub ran : Ran old new taken stand.output stand.report
+
+-- the course of the input ends so, and all that it owes stands
+pub record Ends {F : Type 0} (course_of : List ℕ → Course F) (old new : Meanings) (ending : Option F) : Type 0 where
+  pub input : List ℕ
+  pub went : Went old new input (owed (course_of input))
+  pub ends : (course_of input).ending ≡ ending
+
+-- a reading failed: what stands is what the bytes owe that were taken, with none of what a whole input adds
+pub record IsCutOff {F : Type 0} (course_of : List ℕ → Course F) (old new : Meanings) : Type 0 where
+  pub taken : List ℕ
+  pub ran : Ran old new taken (course_of taken).before.output (course_of taken).before.report
+
+-- a writing failed: what stands is a front of what the input owes
+pub record IsCutShort {F : Type 0} (course_of : List ℕ → Course F) (old new : Meanings) : Type 0 where
+  pub input : List ℕ
+  pub stand : Outputs
+  pub went : Went old new input stand
+  pub fronts : AreFronts stand (owed (course_of input))
+
+-- after a run that ended before it was done
+abbrev pub AfterStop : {F : Type 0} → (List ℕ → Course F) → Meanings → Meanings → Stop F → Type 0
+AfterStop course_of old new (Data fault) = Ends course_of old new (Some fault)
+AfterStop course_of old new ReadFault = IsCutOff course_of old new
+AfterStop course_of old new WriteFault = IsCutShort course_of old new
+
+-- after a run, by its answer
+abbrev pub AfterRun : {T F : Type 0} → (List ℕ → Course F) → Meanings → Meanings → Result T (Stop F) → Type 0
+AfterRun course_of old new (Ok done) = Ends course_of old new None
+AfterRun course_of old new (Err stop) = AfterStop course_of old new stop
+
+-- Part of a run is done: some bytes were taken, and what the course owes for any bytes behind them is what stands and what
+-- another course owes for those.
+pub record Reaches {F : Type 0} (course_of here : List ℕ → Course F) (old new : Meanings) : Type 0 where
+  pub taken : List ℕ
+  pub stand : Outputs
+  pub ran : Ran old new taken stand.output stand.report
+  pub goes_on : (rest : List ℕ) → course_of (taken ++ rest) ≡ behind stand (here rest)
+
+-- the end of a whole input was met: what stands is all that is owed but this last part
+pub record IsAtLast {F : Type 0} (course_of : List ℕ → Course F) (old new : Meanings) (last : Outputs) : Type 0 where
+  pub input : List ℕ
+  pub stand : Outputs
+  pub went : Went old new input stand
+  pub ends : course_of input ≡ record { before = stand; after = last; ending = None }
+
+-- after a turn of a run, by its answer: true where the run goes on with another course, false where only the last part
+-- is owed
+abbrev pub AfterTurn : {F : Type 0} → (List ℕ → Course F) → (List ℕ → Course F) → Outputs → Meanings → Meanings → Result Bool (Stop F) → Type 0
+AfterTurn here next last old new (Ok true) = Reaches here next old new
+AfterTurn here next last old new (Ok false) = IsAtLast here old new last
+AfterTurn here next last old new (Err stop) = AfterStop here old new stop
+
+-- why a run ended: of every answer but a fault of the desk both counts are as before
+abbrev pub HasCause : {T F : Type 0} → Counts → Counts → Result T (Stop F) → Type 0
+HasCause old new (Ok done) = new ≡ old
+HasCause old new (Err (Data fault)) = new ≡ old
+HasCause old new (Err ReadFault) = FailsToRead old new
+HasCause old new (Err WriteFault) = FailsToWrite old new

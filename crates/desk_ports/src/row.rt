@@ -1,0 +1,58 @@
+ghost use Rattle.std.specs.Prelude.{◌≡◌, ◌+◌, ◌≤◌, ◌++◌, [], length, decimal};
+
+use arrayvec::ArrayString;
+use itoa::Buffer;
+use std::marker::Model;
+
+/// The bytes that a row has at most.
+pub const ROW_BYTES: usize = 128;
+
+/// A row of a text that is put together before it is written in one piece. It takes no memory.
+#[derive(Drop)]
+pub struct Row {
+    text: ArrayString<ROW_BYTES>,
+}
+
+impl Model for Row {
+    ghost use Rattle.std.specs.Prelude.{List, ℕ};
+
+    ghost Value = { List ℕ };
+
+    ghost view = { λ row. row.text.bytes };
+}
+
+impl Row {
+    /// An empty row.
+    pub fn new() -> Row
+        ensures { result ≡ [] }
+    {
+        Row {
+            text: ArrayString::new(),
+        }
+    }
+
+    /// Appends a text.
+    pub fn put_text(&mut self, text: &str)
+        requires { length self.old + length text.now ≤ ROW_BYTES }
+        ensures { self.new ≡ self.old ++ text.now }
+    {
+        self.text.push_str(text);
+    }
+
+    /// Appends a number in decimal digits, of which it has at most 20.
+    pub fn put_number(&mut self, number: u64)
+        requires { length self.old + 20 ≤ ROW_BYTES }
+        ensures digits { self.new ≡ self.old ++ decimal number }
+        ensures few { length self.new ≤ length self.old + 20 }
+    {
+        let mut buffer = Buffer::new();
+        self.text.push_str(buffer.format(number));
+    }
+
+    /// The bytes of the row.
+    pub fn as_bytes(&self) -> &[u8]
+        ensures { result.now ≡ self.now }
+    {
+        self.text.as_bytes()
+    }
+}

@@ -1,0 +1,7 @@
+/// Why a run over a desk ended before it was done: its data have a fault, or the desk failed.
+#[derive(Clone, Copy, Debug, PartialEq, Eq)]
+pub enum Stop<F> {
+    Data(F),
+    ReadFault,
+    WriteFault,
+}
