@@ -94,6 +94,9 @@ fn scripts(rt: HostRuntime) -> Result<(), Fail> {
 fn long_texts(rt: HostRuntime) -> Result<(), Fail> {
     let text = vec![in rt.alloc(); b'p'; 1_048_577]?;
     assert_eq!(rt; flags(rt.alloc(), &text, 0), Err(SideFault::TooLong));
-    assert_eq!(rt; flags(rt.alloc(), &text[1..], 0), Err(SideFault::Row { row: 1 }));
+    assert_eq!(rt;
+        flags(rt.alloc(), &text[1..], 0),
+        Err(SideFault::Row { row: 1 })
+    );
     Ok(())
 }
