@@ -1,6 +1,12 @@
 -- What stands behind a word.
-use Rattle.std.proofs.Common.{◌≡◌, Bool, true, false, List, [], ◌∷◌, ◌++◌, Option, Some, None, refl, ap, ◌∙◌}
-use Rattle.packet_decode.specs.ReferenceReading.{◌>>=◌, after}
+use Rattle.std.proofs.Common.{◌≡◌, Bool, true, false, List, [], ◌∷◌, ◌++◌, Option, Some, None, Result, Ok, Err, refl, ap}
+use Rattle.std.specs.Prelude.{MatchOption}
+use Rattle.std.specs.Result.{result_ok}
+use Rattle.bit_vectors.specs.declared.fault.BitFault.{BitFault}
+use Rattle.bit_vectors.specs.Eye.{EyeState, bits_left}
+use Rattle.bit_vectors.specs.Reading.{Gives, same_at}
+use Rattle.bit_vectors.proofs.SameWord.{matched, matched_only}
+use Rattle.packet_decode.specs.ReferenceReading.{after}
 
 pub after_word : (word rest : List Bool) → after word (word ++ rest) ≡ Some rest
 unfolding after
@@ -17,41 +23,6 @@ after_is (true ∷ word) (false ∷ bits) rest e = absurd cc
 after_is (false ∷ word) (true ∷ bits) rest e = absurd cc
 after_is (false ∷ word) (false ∷ bits) rest e = ap (λ (bs : List Bool). false ∷ bs) (after_is word bits rest e)
 
--- a word is its front and what stands behind that
-pub after-append : (front back bits : List Bool) → after (front ++ back) bits ≡ (after front bits >>= after back)
-unfolding after
-after-append [] back bits = refl
-after-append (b ∷ front) back [] = refl
-after-append (true ∷ front) back (true ∷ bits) = after-append front back bits
-after-append (true ∷ front) back (false ∷ bits) = refl
-after-append (false ∷ front) back (true ∷ bits) = refl
-after-append (false ∷ front) back (false ∷ bits) = after-append front back bits
-
--- where its front stands, the word is there exactly where its back is
-pub after-front : (word front back bits left : List Bool) → word ≡ front ++ back → after front bits ≡ Some left → after word bits ≡ after back left
-after-front word front back bits left is there =
-    ap (λ (w : List Bool). after w bits) is ∙ after-append front back bits ∙ ap (λ (o : Option (List Bool)). o >>= after back) there
-
-pub after-not_front : (word front back bits : List Bool) → word ≡ front ++ back → after front bits ≡ None → after word bits ≡ None
-after-not_front word front back bits is there =
-    ap (λ (w : List Bool). after w bits) is ∙ after-append front back bits ∙ ap (λ (o : Option (List Bool)). o >>= after back) there
-
-pub after-same : (bit : Bool) (word bits : List Bool) → after (bit ∷ word) (bit ∷ bits) ≡ after word bits
-unfolding after
-after-same true word bits = refl
-after-same false word bits = refl
-
-pub after-other : (bit other : Bool) (word bits : List Bool) → (other ≡ bit → ⊥) → after (bit ∷ word) (other ∷ bits) ≡ None
-unfolding after
-after-other true true word bits differs = absurd (differs refl)
-after-other true false word bits differs = refl
-after-other false true word bits differs = refl
-after-other false false word bits differs = absurd (differs refl)
-
-pub after-end : (bit : Bool) (word : List Bool) → after (bit ∷ word) [] ≡ None
-unfolding after
-after-end bit word = refl
-
 none_of : (o : Option (List Bool)) → ((rest : List Bool) → o ≡ Some rest → ⊥) → o ≡ None
 none_of None never = refl
 none_of (Some rest) never = absurd (never rest refl)
@@ -59,3 +30,9 @@ none_of (Some rest) never = absurd (never rest refl)
 -- a word that does not begin the bits
 pub after-none : (word bits : List Bool) → ((rest : List Bool) → bits ≡ word ++ rest → ⊥) → after word bits ≡ None
 after-none word bits never = none_of (after word bits) (λ rest e. never rest (after_is word bits rest e))
+
+-- reading a word and no other tells what stands behind it
+pub after_matched : (word : List Bool) (old new : EyeState) (result : Result (Unit {0}) BitFault) → Gives (λ (u : Unit {0}). tt) result new (same_at word (bits_left old))
+    → MatchOption (result_ok result) (after word (bits_left old) ≡ None) (λ u. after word (bits_left old) ≡ Some (bits_left new))
+after_matched word old new (Ok u) given = rw (matched word old new (Ok u) given) (after_word word (bits_left new))
+after_matched word old new (Err fault) given = after-none word (bits_left old) (λ rest parts. let ok = matched_only word old new (Err fault) given rest parts in absurd cc)

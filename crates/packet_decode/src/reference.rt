@@ -1,14 +1,16 @@
 //! Reading the parts of a packet with no recent change, a sent mask and whole content.
 
 ghost use Rattle.std.specs.Prelude.{◌≡◌, ◌<◌, ◌≤◌, ◌↔◌, length, IsTrue, Some, None, MatchOption, IfSome, OnSome};
+ghost use Rattle.bit_vectors.specs.Vectors.{number_bits};
 ghost use Rattle.bit_vectors.specs.Eye.{bits_left};
+ghost use Rattle.count_code.specs.Code.{count_bits};
 ghost use Rattle.run_code.specs.Edges.{edges as edges_of};
 ghost use Rattle.run_code.specs.Extraction.{SameOutside};
 ghost use Rattle.run_code.specs.Runs.{run_bits, vector_at as runs_at};
 ghost use Rattle.packet_decode.specs.ReferenceReading.{after, number_at, front_at, reaches, read_of, edges_at, are_zeros_below, reference_of};
 
-use crate::count::{match_count, match_number};
 use bit_vectors::{BitEye, Bits};
+use count_code::{match_count, match_number};
 use run_code::{edges, from_edges, match_runs, take_runs};
 
 /// The two vectors of a packet, which have as many places.
@@ -18,6 +20,27 @@ pub struct Vectors {
     pub mask: Bits,
     /// The content.
     pub content: Bits,
+}
+
+/// Takes the bits of a number, and gives nothing where others stand there.
+fn pass_number(eye: &mut BitEye<'_>, value: u32, width: u32) -> Option<()>
+    requires { width ≤ 32 }
+    ensures { MatchOption result
+        (after (number_bits width value) (bits_left eye.old) ≡ None)
+        (λ _. after (number_bits width value) (bits_left eye.old) ≡ Some (bits_left eye.new)) }
+{
+    match_number(eye, value, width).ok()
+}
+
+/// Takes the code of a count, and gives nothing where other bits stand there.
+fn pass_count(eye: &mut BitEye<'_>, count: u32) -> Option<()>
+    requires some { 1 ≤ count }
+    requires most { count ≤ 49152 }
+    ensures { MatchOption result
+        (after (count_bits count) (bits_left eye.old) ≡ None)
+        (λ _. after (count_bits count) (bits_left eye.old) ≡ Some (bits_left eye.new)) }
+{
+    match_count(eye, count).ok()
 }
 
 /// Takes the effective robustness level, which has four bits.
@@ -155,13 +178,13 @@ pub fn take_reference(
     ensures content { length sent.new.content ≡ length sent.old.content }
     ensures runs { length runs.new ≡ length runs.old }
 {
-    match_number(eye, 0b10, 2)?;
+    pass_number(eye, 0b10, 2)?;
     let level = take_level(eye)?;
-    match_number(eye, 0b01, 2)?;
+    pass_number(eye, 0b01, 2)?;
     let in_reach = is_in_reach(last, t, level);
     take_mask(eye, in_reach, known, runs, &mut sent.mask)?;
-    match_number(eye, 0b1, 1)?;
-    match_count(eye, sent.content.len())?;
+    pass_number(eye, 0b1, 1)?;
+    pass_count(eye, sent.content.len())?;
     take_vector(eye, &mut sent.content)?;
     if take_padding(eye) { Some(level) } else { None }
 }

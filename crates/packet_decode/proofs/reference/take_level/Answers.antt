@@ -1,16 +1,12 @@
-use Rattle.std.proofs.Common.{◌≡◌, ℕ, ◌^◌, ◌<◌, ◌≤◌, Bool, true, false, cond, List, [], ◌∷◌, ◌++◌, Some, refl, ap, arith}
+use Rattle.std.proofs.Common.{◌≡◌, ℕ, ◌^◌, ◌<◌, ◌≤◌, Bool, true, false, List, [], ◌∷◌, ◌++◌, Some, refl, ap, arith}
 use mir.Val.{bool_byte}
 use Rattle.std.proofs.Math.Pow.{pow_mono}
 use Rattle.bit_vectors.specs.Vectors.{bits_number}
 use Rattle.bit_vectors.specs.Eye.{bits_left}
-use Rattle.bit_vectors.proofs.NumberBits.{bits_number_below, bits_number-push}
+use Rattle.bit_vectors.proofs.NumberBits.{bits_number_below, bits_number-push, bool_byte_is}
 use Rattle.packet_decode.specs.ReferenceReading.{number_at}
 use Rattle.packet_decode.proofs.Taking.{Taken, Taken-none, Taken-more, front_at-taken}
 use Rattle.packet_decode.proofs.reference.take_level.Goals as goal
-
-bool_byte_is : (bit : Bool) → bool_byte bit ≡ cond bit 1 0
-bool_byte_is true = refl
-bool_byte_is false = refl
 
 bool_byte_most : (bit : Bool) → bool_byte bit ≤ 1
 bool_byte_most true = omega arith

@@ -1,0 +1,9 @@
+pub mod Orders
+pub mod Places
+pub mod Naming
+pub mod FlagRows
+pub mod CopyRows
+pub mod Records
+pub mod RowTexts
+pub mod Numbers
+pub mod RightRows

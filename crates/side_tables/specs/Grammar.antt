@@ -1,0 +1,91 @@
+-- Which records are rows.
+use Rattle.std.specs.Prelude.{ℕ, ◌+◌, ◌==◌, nat_le, Bool, ◌&&◌, ◌||◌, if◌then◌else◌, List, length, count_by, codes, Option, None, Some}
+use Rattle.std.specs.List.{list_all}
+use Rattle.std.specs.Str.{bytes_eq}
+use Rattle.csv.specs.Records.{field_at}
+use Rattle.bit_vectors.specs.declared.flags.Flags.{Flags}
+use Rattle.side_tables.specs.declared.rows.FlagRow.{FlagRow}
+use Rattle.side_tables.specs.declared.rows.CopyRow.{CopyRow}
+use Rattle.side_tables.specs.declared.span.Span.{Span}
+use Rattle.side_tables.specs.Numbers.{number_of}
+use Rattle.side_tables.specs.Texts.{records_of, bad_row}
+use Rattle.std.specs.List.{filter_map}
+
+infixl 10 ◌>>=◌
+abbrev pub ◌>>=◌ : {A B : Type 0} → Option A → (A → Option B) → Option B
+None >>= f = None
+(Some x) >>= f = f x
+
+-- the number that a field says: a plain decimal of 32 bits that is not below a least one
+abbrev pub number_at : List (List ℕ) → ℕ → ℕ → Option ℕ
+number_at fields place least = field_at fields place >>= number_of least 4294967295
+
+-- the span that three fields from a place on say: the first number, the last and the step
+abbrev pub span_at : List (List ℕ) → ℕ → Option Span
+span_at fields place = do
+  first ← number_at fields place 0
+  last ← number_at fields (place + 1) first
+  step ← number_at fields (place + 2) 1
+  Some (record { first = first; last = last; step = step })
+
+-- how often a letter stands in a text
+abbrev pub count_of : List ℕ → ℕ → ℕ
+count_of letters letter = count_by (λ other. other == letter) letters
+
+abbrev pub has : List ℕ → ℕ → Bool
+has letters letter = nat_le 1 (count_of letters letter)
+
+abbrev pub is_letter : ℕ → Bool
+is_letter letter = (letter == 112) || ((letter == 102) || (letter == 114))
+
+-- no letter but `p`, `f` and `r`, each at most once, and one at least
+abbrev pub are_letters : List ℕ → Bool
+are_letters letters =
+    nat_le 1 (length letters) && (list_all is_letter letters
+    && (nat_le (count_of letters 112) 1 && (nat_le (count_of letters 102) 1 && nat_le (count_of letters 114) 1)))
+
+-- the flags that letters name, in any order
+abbrev pub flags_named : List ℕ → Option Flags
+flags_named letters = if are_letters letters then Some (record { p = has letters 112; f = has letters 102; r = has letters 114 }) else None
+
+-- a row of a schedule: first, last, step and flags
+abbrev pub flag_row_of : List (List ℕ) → Option FlagRow
+flag_row_of fields =
+    if length fields == 4 then (do
+      span ← span_at fields 0
+      flags ← field_at fields 3 >>= flags_named
+      Some (record { first = span.first; last = span.last; step = span.step; flags = flags }))
+    else None
+
+abbrev pub copy_row : Span → ℕ → CopyRow
+copy_row span copies = record { first = span.first; last = span.last; step = span.step; copies = copies }
+
+-- `drop`, first, last, step: no copies
+abbrev pub drop_row_of : List (List ℕ) → Option CopyRow
+drop_row_of fields = if length fields == 4 then (span_at fields 1 >>= λ span. Some (copy_row span 0)) else None
+
+-- `repeat`, first, last, step, extra: one copy and 1 to 8 more
+abbrev pub repeat_row_of : List (List ℕ) → Option CopyRow
+repeat_row_of fields =
+    if length fields == 5 then (do
+      span ← span_at fields 1
+      extra ← field_at fields 4 >>= number_of 1 8
+      Some (copy_row span (1 + extra)))
+    else None
+
+-- a row of a script
+abbrev pub copy_row_of : List (List ℕ) → Option CopyRow
+copy_row_of fields = field_at fields 0 >>= λ word. if bytes_eq word (codes "drop") then drop_row_of fields else if bytes_eq word (codes "repeat") then repeat_row_of fields else None
+
+-- the rows of a schedule's and of a script's text, and the number of the first record that is none
+abbrev pub flag_rows_of : List ℕ → List FlagRow
+flag_rows_of text = filter_map flag_row_of (records_of text)
+
+abbrev pub copy_rows_of : List ℕ → List CopyRow
+copy_rows_of text = filter_map copy_row_of (records_of text)
+
+abbrev pub bad_flag_row : List ℕ → Option ℕ
+bad_flag_row text = bad_row flag_row_of (records_of text)
+
+abbrev pub bad_copy_row : List ℕ → Option ℕ
+bad_copy_row text = bad_row copy_row_of (records_of text)

@@ -1,0 +1,27 @@
+-- What a text of comma-separated values says.
+use Rattle.std.specs.Prelude.{◌≡◌, ℕ, ◌<◌, ◌≤◌, List, length, Option, None, Some, is_none}
+use Rattle.std.specs.List.{filter_map, position_from}
+use Rattle.csv.specs.Reading.{records, default_config, strip_bom}
+use Rattle.side_tables.specs.declared.fault.SideFault.{SideFault}
+use Rattle.side_tables.specs.declared.fault.SideFault.TheVariants.{TooLong, Row, NoMemory}
+
+-- The records of a text, each as its fields: with no header row, a comma between fields, and any number of fields, as
+-- the crate `csv` reads them.
+abbrev pub records_of : List ℕ → List (List (List ℕ))
+records_of text = records default_config (strip_bom text)
+
+-- the number of the first record that is no row, counted from 1
+abbrev pub bad_row : {R : Type 0} → (List (List ℕ) → Option R) → List (List (List ℕ)) → Option ℕ
+bad_row row_of rows = position_from (λ fields. is_none (row_of fields)) 1 rows
+
+-- a text within the limit whose records are these rows
+pub record AreRowsOf {R : Type 0} (row_of : List (List ℕ) → Option R) (text : List ℕ) (rows : List R) : Type 0 where
+  pub within : length text ≤ 1048576
+  pub right : bad_row row_of (records_of text) ≡ None
+  pub are : rows ≡ filter_map row_of (records_of text)
+
+-- why a text is none of rows: its length, or, within the limit, the first record that is no row, or want of memory
+abbrev pub IsFaultOf : {R : Type 0} → (List (List ℕ) → Option R) → List ℕ → SideFault → Type 0
+IsFaultOf row_of text TooLong = 1048576 < length text
+IsFaultOf row_of text (Row row) = (length text ≤ 1048576) × (bad_row row_of (records_of text) ≡ Some row)
+IsFaultOf row_of text NoMemory = length text ≤ 1048576

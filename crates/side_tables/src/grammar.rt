@@ -1,0 +1,138 @@
+//! Which records are rows.
+
+ghost use Rattle.std.specs.Prelude.{◌≡◌, ◌<◌};
+ghost use Rattle.std.specs.List.{list_all};
+ghost use Rattle.csv.specs.Records.{fields_of};
+ghost use Rattle.side_tables.specs.Grammar.{number_at, span_at, flags_named, are_letters, is_letter, count_of, flag_row_of, drop_row_of, repeat_row_of, copy_row_of};
+
+use crate::decimal::number;
+use crate::rows::{CopyRow, FlagRow};
+use crate::span::Span;
+use crate::text::TextRow;
+use bit_vectors::Flags;
+use csv::ByteRecord;
+
+impl TextRow for FlagRow {
+    ghost row_of = { flag_row_of };
+
+    fn from_record(fields: &ByteRecord) -> Option<FlagRow> {
+        if fields.len() != 4 {
+            return None;
+        }
+        let span = span_at(fields, 0)?;
+        let flags = flags_named(fields.get(3)?)?;
+        Some(FlagRow {
+            first: span.first,
+            last: span.last,
+            step: span.step,
+            flags,
+        })
+    }
+}
+
+impl TextRow for CopyRow {
+    ghost row_of = { copy_row_of };
+
+    fn from_record(fields: &ByteRecord) -> Option<CopyRow> {
+        match fields.get(0)? {
+            b"drop" => drop_row(fields),
+            b"repeat" => repeat_row(fields),
+            _ => None,
+        }
+    }
+}
+
+/// The packets that are dropped.
+fn drop_row(fields: &ByteRecord) -> Option<CopyRow>
+    ensures { result ≡ drop_row_of (fields_of fields.now) }
+{
+    if fields.len() != 4 {
+        return None;
+    }
+    let span = span_at(fields, 1)?;
+    Some(CopyRow {
+        first: span.first,
+        last: span.last,
+        step: span.step,
+        copies: 0,
+    })
+}
+
+/// The packets that are repeated.
+fn repeat_row(fields: &ByteRecord) -> Option<CopyRow>
+    ensures { result ≡ repeat_row_of (fields_of fields.now) }
+{
+    if fields.len() != 5 {
+        return None;
+    }
+    let span = span_at(fields, 1)?;
+    let extra = number(fields.get(4)?, 1, 8)?;
+    Some(CopyRow {
+        first: span.first,
+        last: span.last,
+        step: span.step,
+        copies: 1 + extra as u8,
+    })
+}
+
+/// The first and last number and the step that three fields say.
+fn span_at(fields: &ByteRecord, place: usize) -> Option<Span>
+    requires { place < 4 }
+    ensures { result ≡ span_at (fields_of fields.now) place }
+{
+    let first = number_at(fields, place, 0)?;
+    let last = number_at(fields, place + 1, first)?;
+    let step = number_at(fields, place + 2, 1)?;
+    Some(Span { first, last, step })
+}
+
+/// The number that a field says, where it is not below a least one.
+fn number_at(fields: &ByteRecord, place: usize, least: u32) -> Option<u32>
+    ensures { result ≡ number_at (fields_of fields.now) place least }
+{
+    number(fields.get(place)?, least, u32::MAX)
+}
+
+/// The flags that letters name: `p`, `f` and `r`, each at most once and in any order.
+fn flags_named(letters: &[u8]) -> Option<Flags>
+    ensures { result ≡ flags_named letters.now }
+{
+    if !are_letters(letters) {
+        return None;
+    }
+    Some(Flags {
+        p: count_of(letters, b'p') >= 1,
+        f: count_of(letters, b'f') >= 1,
+        r: count_of(letters, b'r') >= 1,
+    })
+}
+
+/// Whether there are no letters but `p`, `f` and `r`, each at most once, and one at least.
+fn are_letters(letters: &[u8]) -> bool
+    ensures { result ≡ are_letters letters.now }
+{
+    !letters.is_empty()
+        && has_only_letters(letters)
+        && count_of(letters, b'p') <= 1
+        && count_of(letters, b'f') <= 1
+        && count_of(letters, b'r') <= 1
+}
+
+/// Whether there is no byte but `p`, `f` and `r`.
+fn has_only_letters(letters: &[u8]) -> bool
+    ensures { result ≡ list_all is_letter letters.now }
+{
+    for letter in letters {
+        if !matches!(letter, b'p' | b'f' | b'r') {
+            return false;
+        }
+    }
+    true
+}
+
+/// How often a letter stands there.
+fn count_of(letters: &[u8], letter: u8) -> usize
+    ensures { result ≡ count_of letters.now letter }
+{
+    letters.iter().filter(|other| **other == letter).count()
+}

@@ -1,0 +1,21 @@
+//! Schedules and scripts: tables that give flags and copies to packets by their number.
+#![tactic(auto)]
+
+mod decimal;
+mod fault;
+mod grammar;
+mod order;
+mod rows;
+mod schedule;
+mod script;
+mod span;
+mod text;
+
+pub use decimal::number;
+pub use fault::SideFault;
+pub use rows::{CopyRow, FlagRow};
+pub use schedule::Schedule;
+pub use script::Script;
+
+#[cfg(test)]
+mod tests;

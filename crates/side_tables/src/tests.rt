@@ -1,0 +1,99 @@
+//! Texts of schedules and scripts, with what they must say.
+
+use crate::{CopyRow, FlagRow, Schedule, Script, SideFault};
+use bit_vectors::Flags;
+use std::alloc::Global;
+use std::test::Fail;
+
+/// The flags that a text gives to a packet, as their letters.
+fn flags(alloc: Global, text: &[u8], t: u32) -> Result<&'static str, SideFault> {
+    let flags = Schedule::read(alloc, text)?.flags(t);
+    Ok(match (flags.p, flags.f, flags.r) {
+        (false, false, false) => "",
+        (true, false, false) => "p",
+        (false, true, false) => "f",
+        (false, false, true) => "r",
+        (true, true, false) => "pf",
+        (true, false, true) => "pr",
+        (false, true, true) => "fr",
+        (true, true, true) => "pfr",
+    })
+}
+
+/// How many copies of a packet a text gives.
+fn times(alloc: Global, text: &[u8], t: u32) -> Result<u8, SideFault> {
+    Ok(Script::read(alloc, text)?.times(t))
+}
+
+#[test]
+fn schedules(rt: HostRuntime) -> Result<(), Fail> {
+    let rows: [(&str, u32, Result<&str, SideFault>); 14] = [
+        ("", 0, Ok("")),
+        ("3,5,2,p", 3, Ok("p")),
+        ("3,5,2,p", 4, Ok("")),
+        ("3,5,2,p", 5, Ok("p")),
+        ("3,5,2,p", 7, Ok("")),
+        ("0,9,1,f\r\n5,5,1,rp\n", 5, Ok("pfr")),
+        ("\"0\",9,1,\"p\"", 9, Ok("p")),
+        ("\u{feff}7,4294967295,4294967288,r", 4_294_967_295, Ok("r")),
+        ("1,5,0,p", 0, Err(SideFault::Row { row: 1 })),
+        ("\n\n1,5,0,p", 0, Err(SideFault::Row { row: 1 })),
+        ("0,9,1,f\n5,9,1,pp", 0, Err(SideFault::Row { row: 2 })),
+        ("5,4,1,p", 0, Err(SideFault::Row { row: 1 })),
+        ("00,4,1,p", 0, Err(SideFault::Row { row: 1 })),
+        ("0,4294967296,1,p", 0, Err(SideFault::Row { row: 1 })),
+    ];
+    for (text, t, wanted) in rows {
+        assert_eq!(rt; flags(rt.alloc(), text.as_bytes(), t), wanted);
+    }
+    let flags = Flags {
+        p: true,
+        f: false,
+        r: true,
+    };
+    let row = FlagRow {
+        first: 1,
+        last: 9,
+        step: 4,
+        flags,
+    };
+    let schedule = Schedule::with_rows(rt.alloc(), &[row])?;
+    assert_eq!(rt; schedule.flags(5), flags);
+    Ok(())
+}
+
+#[test]
+fn scripts(rt: HostRuntime) -> Result<(), Fail> {
+    let rows: [(&str, u32, Result<u8, SideFault>); 10] = [
+        ("", 0, Ok(1)),
+        ("drop,2,2,1", 2, Ok(0)),
+        ("drop,2,2,1", 3, Ok(1)),
+        ("repeat,0,3,1,8", 0, Ok(9)),
+        ("drop,0,9,1\nrepeat,5,5,1,1", 5, Ok(2)),
+        ("repeat,5,5,1,1\ndrop,0,9,1", 5, Ok(0)),
+        ("repeat,0,3,1,9", 0, Err(SideFault::Row { row: 1 })),
+        ("repeat,0,3,1,0", 0, Err(SideFault::Row { row: 1 })),
+        ("drop,0,3", 0, Err(SideFault::Row { row: 1 })),
+        ("drop,0,3,1\nDrop,0,3,1", 0, Err(SideFault::Row { row: 2 })),
+    ];
+    for (text, t, wanted) in rows {
+        assert_eq!(rt; times(rt.alloc(), text.as_bytes(), t), wanted);
+    }
+    let row = CopyRow {
+        first: 1,
+        last: 9,
+        step: 4,
+        copies: 3,
+    };
+    let script = Script::with_rows(rt.alloc(), &[row])?;
+    assert_eq!(rt; script.times(9), 3);
+    Ok(())
+}
+
+#[test]
+fn long_texts(rt: HostRuntime) -> Result<(), Fail> {
+    let text = vec![in rt.alloc(); b'p'; 1_048_577]?;
+    assert_eq!(rt; flags(rt.alloc(), &text, 0), Err(SideFault::TooLong));
+    assert_eq!(rt; flags(rt.alloc(), &text[1..], 0), Err(SideFault::Row { row: 1 }));
+    Ok(())
+}
