@@ -11,7 +11,7 @@ use Rattle.mask_update.specs.Masks.{Moved, MovedBetween, NoNewMask, build_at, ch
 use Rattle.mask_update.proofs.NewMasks.{NoNewMask-from, latest_new_mask-none}
 use Rattle.mask_update.proofs.StepByStep.{length-mask_at}
 
-place_of : (f : ℕ) (p : ℕ → Bool) (k : ℕ) → k < f → get_or (vector_of f p) k false ≡ p k
+pub place_of : (f : ℕ) (p : ℕ → Bool) (k : ℕ) → k < f → get_or (vector_of f p) k false ≡ p k
 place_of f p k lt = get_or-map-range_with_len p 0 f k k false lt (omega arith)
 
 differ_true : (a b : Bool) → (if a then not b else b) ≡ true → b ≢ a

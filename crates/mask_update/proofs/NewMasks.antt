@@ -8,7 +8,7 @@ use Rattle.std.proofs.lemmas.List.Folds.{list_any-append}
 use Rattle.mask_update.specs.Histories.{History}
 use Rattle.mask_update.specs.Masks.{NoNewMask, has_moved, has_moved_between, latest_new_mask, new_mask_at, second_latest_new_mask, steps_between}
 
-range_push : (a n j : ℕ) → a + n ≡ j → range_with_len a (suc n) ≡ range_with_len a n ++ j ∷ []
+pub range_push : (a n j : ℕ) → a + n ≡ j → range_with_len a (suc n) ≡ range_with_len a n ++ j ∷ []
 range_push a zero j e = let same : a ≡ j = omega arith in ap (λ x. x ∷ []) same
 range_push a (suc n) j e = ap (λ xs. a ∷ xs) (range_push (a + 1) n j (omega arith))
 

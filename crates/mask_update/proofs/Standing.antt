@@ -51,7 +51,7 @@ mask_at-before h step (suc t) le =
     ∙ ap (λ mask. next_mask (new_mask_at h (suc t)) (moved_at h (suc t)) (build_at h t) mask) (mask_at-before h step t (omega arith))
     ∙ sym (mask_at-suc h t)
 
-change_at-zero : (h : History) → change_at h 0 ≡ replicate h.places false
+pub change_at-zero : (h : History) → change_at h 0 ≡ replicate h.places false
 unfolding change_at
 change_at-zero h = refl
 

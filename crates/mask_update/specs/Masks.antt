@@ -89,10 +89,12 @@ pub record StandsFor (h : History) (value : Running) : Type 0 where
   pub change : value.change ≡ change_at h (latest_step h)
   pub taken : value.taken ≡ length h.steps
 
--- the running vectors have one length, that of a vector, and the number of inputs its bound
+-- The running vectors have one length, that of a vector, and the number of inputs its bound. Before the first input there
+-- is no change.
 pub record AreRunning (previous build mask change : List Bool) (taken : ℕ) : Type 0 where
   pub vector : IsVector mask
   pub previous_len : length previous ≡ length mask
   pub build_len : length build ≡ length mask
   pub change_len : length change ≡ length mask
   pub most : taken ≤ 4294967296
+  pub start : taken ≡ 0 → change ≡ replicate (length mask) false

@@ -67,6 +67,8 @@ impl Masks {
         // Whatever history it stood for, it now stands for that history with this input and this flag.
         ensures stands { (h : History) (step : Step) → StandsFor h self.old
             → step.input ≡ input.now → step.flags.p ≡ new_mask → StandsFor (with_step h step) self.new }
+        // The first input changes nothing.
+        ensures first { self.old.taken ≡ 0 → self.new.change ≡ replicate (length self.new.mask) false }
         ensures places { length self.new.mask ≡ length self.old.mask }
         ensures taken { self.new.taken ≡ self.old.taken + 1 }
     {
@@ -79,7 +81,8 @@ impl Masks {
 
     /// The standard's recurrences. The previous input is then its difference from `input`.
     fn advance(&mut self, input: &Bits, new_mask: bool)
-        requires { length input.now ≡ length self.old.mask }
+        requires places { length input.now ≡ length self.old.mask }
+        requires some { 0 < self.old.taken }
         ensures build { let moved = xor_bits self.old.previous input.now in
             self.new.build ≡ next_build new_mask moved self.old.build }
         ensures mask { let moved = xor_bits self.old.previous input.now in

@@ -90,6 +90,9 @@ impl FirstPart {
         ensures mask_places { length mask.new ≡ length mask.old }
         ensures spare_places { length spare.new ≡ length spare.old }
     {
+        if self.recent.is_zero() {
+            return;
+        }
         if self.level == 0 {
             mask.xor_in(&self.recent);
             return;

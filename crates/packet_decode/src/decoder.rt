@@ -90,10 +90,11 @@ impl Decoder {
         ensures latest { (form : Form) (mask content : List Bool) →
             Spells self.old.places self.old.state t (bits_of bytes.now) form mask content →
             self.new ≡ record {
-                places = self.old.places;
-                state = Some (record { number = t; mask = mask; content = content });
-                recent = form.recent;
-                level = form.level } }
+              places = self.old.places;
+              state = Some (record { number = t; mask = mask; content = content });
+              recent = form.recent;
+              level = form.level;
+            } }
         ensures unchanged { (result ≡ Ok Reading.Written → ⊥) → self.new ≡ self.old }
         ensures places { self.new.places ≡ self.old.places }
     {

@@ -1,0 +1,4 @@
+pub mod Bounds
+pub mod Directions
+pub mod Earlier
+pub mod OfHistories

@@ -1,1 +1,3 @@
+pub mod Encoder
 pub mod Forms
+pub mod Packets

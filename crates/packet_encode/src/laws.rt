@@ -1,8 +1,47 @@
 //! What the definitions of packets mean.
 
-ghost use Rattle.std.specs.Prelude.{◌≡◌, true, false, [], ◌∷◌, Some, None};
-ghost use Rattle.bit_vectors.specs.Vectors.{bits_of, padded};
-ghost use Rattle.packet_encode.specs.Forms.{Form, Whole, Part, form_bits};
+ghost use Rattle.std.specs.Prelude.{◌≡◌, ℕ, ◌+◌, ◌*◌, ◌<◌, ◌≤◌, true, false, [], ◌∷◌, length, Some, None};
+ghost use Rattle.bit_vectors.specs.Vectors.{bits_of, byte_count, padded};
+ghost use Rattle.mask_update.specs.Histories.{History, IsValid, Step, input_at, robust_at, with_step};
+ghost use Rattle.mask_update.specs.Masks.{mask_at};
+ghost use Rattle.packet_encode.specs.Forms.{Fits, Form, IsForm, Whole, Part, form_bits};
+ghost use Rattle.packet_encode.specs.Packets.{AgreeUpTo, form_at, packet_at};
+ghost use Rattle.robust_window.specs.Worked.{worked};
+
+/// The packet of each step of a valid history has a form, which fits the mask.
+pub fn forms_of_histories()
+    ensures is_form { (h : History) (t : ℕ) → IsValid h → t < length h.steps → IsForm h.places (form_at h t) }
+    ensures fits { (h : History) (t : ℕ) → IsValid h → t < length h.steps → Fits (form_at h t) (mask_at h t) }
+{}
+
+/// The bits of each packet of a valid history are at most 10 for each place and 43 more, and so at most 65,536 bytes.
+pub fn packets_have_room()
+    ensures bits { (h : History) (t : ℕ) → IsValid h → t < length h.steps →
+        length (form_bits (form_at h t)) ≤ 10 * h.places + 43 }
+    ensures bytes { (h : History) (t : ℕ) → IsValid h → t < length h.steps →
+        byte_count (length (form_bits (form_at h t))) ≤ 65536 }
+{}
+
+/// The packet of a forced step of a valid history carries the mask and the whole content.
+pub fn forced_packets()
+    ensures mask { (h : History) (t : ℕ) → IsValid h → t < length h.steps → t ≤ robust_at h t →
+        (form_at h t).sent ≡ Some (mask_at h t) }
+    ensures content { (h : History) (t : ℕ) → IsValid h → t < length h.steps → t ≤ robust_at h t →
+        (form_at h t).content ≡ Whole (input_at h t) }
+{}
+
+/// What comes later does not change a packet: two histories that agree up to a step have the same packet there.
+pub fn packets_of_the_past()
+    ensures more { (h : History) (step : Step) (t : ℕ) → t < length h.steps →
+        packet_at (with_step h step) t ≡ packet_at h t }
+    ensures same { (h other : History) (t : ℕ) → t < length h.steps → AgreeUpTo h other t →
+        packet_at h t ≡ packet_at other t }
+{}
+
+/// A packet of a worked history: place 7 leaves the mask at the second new mask, and is extracted all the same.
+pub fn worked_packets()
+    ensures { packet_at worked 5 ≡ bits_of (0x47 ∷ 0xF0 ∷ []) }
+{}
 
 /// Worked packets of 8 places.
 pub fn worked_forms()

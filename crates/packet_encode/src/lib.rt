@@ -1,6 +1,17 @@
-//! Packets of compressed housekeeping (CCSDS 124.0-B-1): what forms there are, and the bits of each.
+//! Packets of compressed housekeeping (CCSDS 124.0-B-1): what forms there are, the bits of each, and the packet of each
+//! step of a history.
 #![tactic(auto)]
 
+mod changes;
+mod data;
+mod encoder;
 mod laws;
 
-pub use laws::worked_forms;
+pub use encoder::{Encoder, room};
+pub use laws::{
+    forced_packets, forms_of_histories, packets_have_room, packets_of_the_past, worked_forms,
+    worked_packets,
+};
+
+#[cfg(test)]
+mod tests;

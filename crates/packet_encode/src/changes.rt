@@ -1,0 +1,74 @@
+//! The first part of a packet: the recent changes of the mask, the effective robustness level and the directions
+//! (CCSDS 124.0-B-1).
+
+ghost use Rattle.std.specs.Prelude.{◌≡◌, ℕ, ◌+◌, ◌*◌, ◌<◌, ◌≤◌, ◌++◌, length, if◌then◌else◌};
+ghost use Rattle.bit_vectors.specs.Vectors.{or_bits};
+ghost use Rattle.packet_encode.specs.Forms.{Form, change_bits, direction_bits, wide_by};
+ghost use Rattle.packet_encode.specs.Packets.{directions_of};
+
+use bit_vectors::{BitPen, Bits};
+use robust_window::Window;
+use run_code::{put_inverse_up, put_runs};
+
+/// The width in which an effective robustness level is written.
+const LEVEL_BITS: u32 = 4;
+
+/// Appends the recent changes and the level of a window that has taken a step, and the directions, where there are
+/// changes and a level. Answers whether all recent changes are extracted. `spare` has any bits then.
+pub(crate) fn put_changes(pen: &mut BitPen, mask: &Bits, window: &Window, spare: &mut Bits) -> bool
+    requires taken { 0 < window.now.taken }
+    requires places { length window.now.recent ≡ length mask.now }
+    requires spare { length spare.old ≡ length mask.now }
+    requires room { length pen.old.bits + (5 * length mask.now + 8) ≤ pen.old.room }
+    ensures bits { (form : Form) → form.recent ≡ window.now.recent → form.level ≡ window.now.level
+        → form.directions ≡ directions_of mask.now form.recent form.level window.now.twice
+        → pen.new.bits ≡ pen.old.bits ++ change_bits form }
+    ensures wide { let recent = window.now.recent in
+        wide_by (directions_of mask.now recent window.now.level window.now.twice) recent mask.now
+        ≡ (if result then or_bits mask.now recent else mask.now) }
+    ensures most { length pen.new.bits ≤ length pen.old.bits + (5 * length mask.now + 8) }
+    ensures room { pen.new.room ≡ pen.old.room }
+    ensures spare { length spare.new ≡ length spare.old }
+{
+    let recent = window.recent();
+    let level = window.effective();
+    put_runs(pen, recent);
+    pen.put_number(u32::from(level), LEVEL_BITS);
+    if level == 0 || recent.is_zero() {
+        return false;
+    }
+    put_directions(pen, mask, recent, window.twice(), spare)
+}
+
+/// Appends a zero where the mask has all recent changes. Else appends a one, for each of them whether it became
+/// predictable, and whether all are extracted, which it answers.
+fn put_directions(
+    pen: &mut BitPen,
+    mask: &Bits,
+    recent: &Bits,
+    twice: bool,
+    spare: &mut Bits,
+) -> bool
+    requires places { length recent.now ≡ length mask.now }
+    requires spare { length spare.old ≡ length mask.now }
+    requires room { length pen.old.bits + (length mask.now + 2) ≤ pen.old.room }
+    ensures bits { (level : ℕ) → 0 < level → pen.new.bits
+        ≡ pen.old.bits ++ direction_bits recent.now (directions_of mask.now recent.now level twice) }
+    ensures wide { (level : ℕ) → 0 < level →
+        wide_by (directions_of mask.now recent.now level twice) recent.now mask.now
+        ≡ (if result then or_bits mask.now recent.now else mask.now) }
+    ensures most { length pen.new.bits ≤ length pen.old.bits + (length mask.now + 2) }
+    ensures room { pen.new.room ≡ pen.old.room }
+    ensures spare { length spare.new ≡ length spare.old }
+{
+    spare.copy_from(recent);
+    spare.drop_in(mask);
+    if spare.is_zero() {
+        pen.put(false);
+        return false;
+    }
+    pen.put(true);
+    put_inverse_up(pen, mask, recent);
+    pen.put(twice);
+    twice
+}

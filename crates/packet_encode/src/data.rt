@@ -1,0 +1,97 @@
+//! The second part of a packet: the mask and the content, whole or in part (CCSDS 124.0-B-1).
+
+ghost use Rattle.std.specs.Prelude.{◌≡◌, ◌+◌, ◌*◌, ◌≤◌, ◌++◌, length, if◌then◌else◌};
+ghost use Rattle.bit_vectors.specs.Vectors.{or_bits};
+ghost use Rattle.count_code.specs.Code.{count_bits};
+ghost use Rattle.run_code.specs.Extraction.{extract};
+ghost use Rattle.packet_encode.specs.Forms.{data_bits, mask_bits};
+ghost use Rattle.packet_encode.specs.Packets.{content_of, sent_of};
+
+use bit_vectors::{BitPen, Bits, Flags};
+use count_code::put_count;
+use run_code::{edges, put_extract, put_runs};
+
+/// Appends a one where neither the mask nor the whole content is sent, and else a zero, the mask where it is sent,
+/// and whether the content is whole; then the content, or its bits at the places of the mask, and of the recent
+/// changes where `wide` says so. `spare` has any bits then.
+pub(crate) fn put_data(
+    pen: &mut BitPen,
+    input: &Bits,
+    flags: Flags,
+    mask: &Bits,
+    recent: &Bits,
+    wide: bool,
+    spare: &mut Bits,
+)
+    requires places { length mask.now ≡ length input.now }
+    requires recent { length recent.now ≡ length input.now }
+    requires spare { length spare.old ≡ length input.now }
+    requires room { length pen.old.bits + (5 * length input.now + 34) ≤ pen.old.room }
+    ensures bits { let places = if wide then or_bits mask.now recent.now else mask.now in
+        pen.new.bits ≡ pen.old.bits ++ data_bits (sent_of flags.f mask.now) (content_of flags.r input.now places) }
+    ensures room { pen.new.room ≡ pen.old.room }
+    ensures spare { length spare.new ≡ length spare.old }
+{
+    let is_short = !flags.f && !flags.r;
+    pen.put(is_short);
+    if !is_short {
+        put_mask(pen, flags.f, mask, spare);
+        pen.put(flags.r);
+    }
+    if flags.r {
+        put_whole(pen, input);
+    } else {
+        put_part(pen, input, mask, recent, wide, spare);
+    }
+}
+
+/// Appends whether the mask is sent, and where it is, the runs of its edges.
+fn put_mask(pen: &mut BitPen, send: bool, mask: &Bits, spare: &mut Bits)
+    requires spare { length spare.old ≡ length mask.now }
+    requires room { length pen.old.bits + (4 * length mask.now + 3) ≤ pen.old.room }
+    ensures bits { pen.new.bits ≡ pen.old.bits ++ mask_bits (sent_of send mask.now) }
+    ensures most { length pen.new.bits ≤ length pen.old.bits + (4 * length mask.now + 3) }
+    ensures room { pen.new.room ≡ pen.old.room }
+    ensures spare { length spare.new ≡ length spare.old }
+{
+    pen.put(send);
+    if send {
+        edges(mask, spare);
+        put_runs(pen, spare);
+    }
+}
+
+/// Appends the number of places and all bits of the content.
+fn put_whole(pen: &mut BitPen, content: &Bits)
+    requires { length pen.old.bits + (length content.now + 29) ≤ pen.old.room }
+    ensures bits { pen.new.bits ≡ pen.old.bits ++ (count_bits (length content.now) ++ content.now) }
+    ensures room { pen.new.room ≡ pen.old.room }
+{
+    put_count(pen, content.len());
+    pen.put_bits(content);
+}
+
+/// Appends the bits of the content at the places of the mask, and of the recent changes where `wide` says so.
+fn put_part(
+    pen: &mut BitPen,
+    content: &Bits,
+    mask: &Bits,
+    recent: &Bits,
+    wide: bool,
+    spare: &mut Bits,
+)
+    requires places { length mask.now ≡ length content.now }
+    requires recent { length recent.now ≡ length content.now }
+    requires spare { length spare.old ≡ length content.now }
+    requires room { length pen.old.bits + length content.now ≤ pen.old.room }
+    ensures bits { pen.new.bits
+        ≡ pen.old.bits ++ extract content.now (if wide then or_bits mask.now recent.now else mask.now) }
+    ensures room { pen.new.room ≡ pen.old.room }
+    ensures spare { length spare.new ≡ length spare.old }
+{
+    spare.copy_from(mask);
+    if wide {
+        spare.or_in(recent);
+    }
+    put_extract(pen, content, spare);
+}

@@ -1,0 +1,157 @@
+//! Worked packets, through the encoder.
+
+ghost use Rattle.std.specs.Prelude.{◌≡◌, ◌+◌, ◌*◌, ◌≤◌, length};
+
+use crate::{Encoder, room};
+use bit_vectors::{BitPen, Bits, Flags, NoMemory, byte_len};
+use std::alloc::Global;
+use std::test::Fail;
+
+const NONE: Flags = Flags {
+    p: false,
+    f: false,
+    r: false,
+};
+
+const NEW_MASK: Flags = Flags {
+    p: true,
+    f: false,
+    r: false,
+};
+
+const WHOLE: Flags = Flags {
+    p: false,
+    f: true,
+    r: true,
+};
+
+/// An encoder with its input and its pen.
+#[derive(Drop)]
+struct Sender {
+    encoder: Encoder,
+    input: Bits,
+    pen: BitPen,
+    is_ready: bool,
+    ghost places: { length input ≡ length encoder.masks.mask },
+    ghost room: { 10 * length input + 43 ≤ pen.room },
+}
+
+impl Sender {
+    fn open(alloc: Global, places: u32, robust: u8, first_mask: &[u8]) -> Result<Sender, NoMemory> {
+        let places = places.clamp(1, 49_152);
+        let mut input = Bits::zeros(alloc, places)?;
+        let is_ready = first_mask.len() == byte_len(places) as usize
+            && input.load(first_mask).is_ok();
+        Ok(Sender {
+            encoder: Encoder::open(alloc, places, robust.min(7), &input)?,
+            input,
+            pen: BitPen::with_room(alloc, room(places))?,
+            is_ready,
+        })
+    }
+
+    // Whether the packet of the next input has these bytes.
+    fn packs(&mut self, input: &[u8], flags: Flags, data: &[u8]) -> bool {
+        if !self.is_ready
+            || self.encoder.taken() >= 4_294_967_296
+            || input.len() != byte_len(self.input.len()) as usize
+            || self.input.load(input).is_err()
+        {
+            return false;
+        }
+        self.pen.clear();
+        self.encoder.encode(&self.input, flags, &mut self.pen);
+        self.pen.bytes() == data
+    }
+}
+
+// Levels above the required robustness, and at it.
+fn levels(alloc: Global) -> Result<bool, NoMemory> {
+    let mut sender = Sender::open(alloc, 8, 1, &[0x00])?;
+    Ok(
+        sender.packs(&[0xB0], NONE, &[0x85, 0xB8, 0xD6, 0x00])
+            && sender.packs(&[0xB1], NONE, &[0x42, 0x4B, 0x8D, 0x62])
+            && sender.packs(&[0xB1], NONE, &[0x44, 0xC0])
+            && sender.packs(&[0xB3], NONE, &[0xC0, 0x85, 0xC0]),
+    )
+}
+
+// The mask is made new twice, and a place becomes predictable.
+fn new_masks(alloc: Global) -> Result<bool, NoMemory> {
+    let mut sender = Sender::open(alloc, 8, 1, &[0x00])?;
+    Ok(
+        sender.packs(&[0x00], NONE, &[0x85, 0xB8, 0xC0, 0x00])
+            && sender.packs(&[0x01], NONE, &[0x42, 0x4B, 0x8C, 0x02])
+            && sender.packs(&[0x01], NONE, &[0x44, 0xC0])
+            && sender.packs(&[0x01], NEW_MASK, &[0x87])
+            && sender.packs(&[0x01], NONE, &[0x8B])
+            && sender.packs(&[0x01], NEW_MASK, &[0x47, 0xF0]),
+    )
+}
+
+// Mask and whole content are sent again.
+fn whole_again(alloc: Global) -> Result<bool, NoMemory> {
+    let mut sender = Sender::open(alloc, 8, 1, &[0x00])?;
+    Ok(
+        sender.packs(&[0x00], NONE, &[0x85, 0xB8, 0xC0, 0x00])
+            && sender.packs(&[0x01], NONE, &[0x42, 0x4B, 0x8C, 0x02])
+            && sender.packs(&[0x03], NONE, &[0x22, 0x70])
+            && sender.packs(&[0x03], NONE, &[0xC0, 0x85, 0xC0])
+            && sender.packs(&[0x03], NONE, &[0x87, 0x80])
+            && sender.packs(&[0x03], NONE, &[0x8B, 0x80])
+            && sender.packs(&[0x03], WHOLE, &[0x8D, 0x60, 0x5C, 0x60, 0x30]),
+    )
+}
+
+// No robustness is required: with a first mask, and with level 0 at the last packet.
+fn not_robust(alloc: Global) -> Result<bool, NoMemory> {
+    let mut masked = Sender::open(alloc, 8, 0, &[0x0F])?;
+    let mut sender = Sender::open(alloc, 8, 0, &[0x00])?;
+    Ok(
+        masked.packs(&[0xA5], NONE, &[0x81, 0x61, 0x5C, 0x6A, 0x50])
+            && masked.packs(&[0xA6], NONE, &[0x86, 0xC0])
+            && sender.packs(&[0x00], NONE, &[0x81, 0xB8, 0xC0, 0x00])
+            && sender.packs(&[0x01], NONE, &[0x42, 0xC0])
+            && sender.packs(&[0x03], NONE, &[0xC0, 0x83, 0x80]),
+    )
+}
+
+// One place, and thirteen.
+fn other_lengths(alloc: Global) -> Result<bool, NoMemory> {
+    let mut one = Sender::open(alloc, 1, 0, &[0x00])?;
+    let mut thirteen = Sender::open(alloc, 13, 0, &[0x00, 0x00])?;
+    Ok(
+        one.packs(&[0x80], NONE, &[0x81, 0xA8])
+            && one.packs(&[0x00], NONE, &[0x42, 0x80])
+            && one.packs(&[0x80], NONE, &[0x83])
+            && thirteen.packs(&[0x12, 0x38], NONE, &[0x81, 0xB9, 0x62, 0x47]),
+    )
+}
+
+#[test]
+fn worked_packets(rt: HostRuntime) -> Result<(), Fail> {
+    assert!(rt; levels(rt.alloc())?);
+    assert!(rt; new_masks(rt.alloc())?);
+    assert!(rt; whole_again(rt.alloc())?);
+    assert!(rt; not_robust(rt.alloc())?);
+    assert!(rt; other_lengths(rt.alloc())?);
+    Ok(())
+}
+
+// The longest vectors: a packet of zeros, and one in which every second place has moved.
+#[test]
+fn longest_vectors(rt: HostRuntime) -> Result<(), Fail> {
+    let mut input = Bits::zeros(rt.alloc(), 49_152)?;
+    let mut encoder = Encoder::open(rt.alloc(), 49_152, 0, &input)?;
+    let mut pen = BitPen::with_room(rt.alloc(), room(49_152))?;
+    encoder.encode(&input, NONE, &mut pen);
+    assert_eq!(rt; pen.len(), 49_192);
+    assert_eq!(rt; pen.bytes().len(), 6_149);
+    let bytes = vec![in rt.alloc(); 0xAA; 6_144]?;
+    assert!(rt; input.load(&bytes).is_ok());
+    pen.clear();
+    encoder.encode(&input, WHOLE, &mut pen);
+    assert_eq!(rt; pen.len(), 294_959);
+    assert_eq!(rt; pen.bytes().len(), 36_870);
+    Ok(())
+}

@@ -1,0 +1,6 @@
+pub mod Earlier
+pub mod Levels
+pub mod OfHistories
+pub mod Ranges
+pub mod Scanning
+pub mod Standing

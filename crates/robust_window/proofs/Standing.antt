@@ -1,0 +1,204 @@
+-- The window follows one more step.
+use Rattle.std.proofs.Common.{◌≡◌, ℕ, zero, suc, ◌+◌, ◌-◌, ◌<◌, ◌≤◌, Bool, true, false, List, [], ◌∷◌, ◌++◌, length, drop, replicate, get_or, refl, sym, ap, ◌∙◌, ◌⊎◌, inl, inr, max, min, subst, arith}
+use Rattle.std.specs.Prelude.{All, Contains, nat_le}
+use Rattle.std.specs.List.{count_by, list_any, range_with_len}
+use Rattle.std.proofs.lemmas.Bool.{cases_lt, cases_eq}
+use Rattle.std.proofs.lemmas.List.{drop-append-le, get_or-drop, get_or-replicate, get_or_append_left, get_or_at, get_or_past, length-drop, length-replicate, length_push}
+use Rattle.std.proofs.lemmas.List.Elements.{All-append, All-cons, All-drop, All-nil}
+use Rattle.circular_buffer.specs.Buffer.{keep_last}
+use Rattle.mask_update.specs.Masks.{vector_of}
+use Rattle.mask_update.proofs.StepByStep.{vector_of_same}
+use Rattle.robust_window.specs.Changes.{IsQuiet, MaskStep, changes_place, latest_change, level_of, mask_step, most_level, no_mask_step, recent_of, steps_from, takes_new_mask, twice_of}
+use Rattle.robust_window.specs.Window.{HoldsLatest, Kept, StandsFor, change_back, new_mask_back}
+use Rattle.robust_window.proofs.Levels.{is_quiet-one, is_quiet-zeros, level_of-is}
+use Rattle.robust_window.proofs.Ranges.{any_back, count_back}
+use Rattle.robust_window.proofs.Scanning.{gathered}
+
+-- ---- the latest sixteen
+
+module _ {A : Type 0} where
+  pub keep_last-full : (xs : List A) (x : A) → length xs ≡ 16 → keep_last 16 (xs ++ x ∷ []) ≡ drop 1 xs ++ x ∷ []
+  keep_last-full xs x len =
+      let one : length (xs ++ x ∷ []) - 16 ≡ 1 = omega (arith, length_push xs x) in
+      ap (λ n. drop n (xs ++ x ∷ [])) one ∙ drop-append-le 1 xs (x ∷ []) (omega arith)
+
+  pub length-pushed : (xs : List A) (x : A) → length xs ≡ 16 → length (drop 1 xs ++ x ∷ []) ≡ 16
+  length-pushed xs x len = omega (arith, length_push (drop 1 xs) x, length-drop 1 xs)
+
+  pub latest_pushed : (xs : List A) (x d : A) → length xs ≡ 16 → get_or (drop 1 xs ++ x ∷ []) (15 - 0) d ≡ x
+  latest_pushed xs x d len = get_or_at (drop 1 xs) x [] d 15 (omega (arith, length-drop 1 xs))
+
+  pub earlier_pushed : (xs : List A) (x d : A) (back : ℕ) → length xs ≡ 16 → back < 15 → get_or (drop 1 xs ++ x ∷ []) (15 - suc back) d ≡ get_or xs (15 - back) d
+  earlier_pushed xs x d back len lt =
+      let at : 1 + (15 - suc back) ≡ 15 - back = omega arith in
+      get_or_append_left (drop 1 xs) (x ∷ []) d (15 - suc back) (omega (arith, length-drop 1 xs))
+      ∙ get_or-drop 1 xs (15 - suc back) d ∙ ap (λ i. get_or xs i d) at
+
+pub All-pushed : {A : Type 0} (P : A → Type 0) (xs : List A) (x : A) → All P xs → P x → All P (drop 1 xs ++ x ∷ [])
+All-pushed P xs x all one = All-append P (drop 1 xs) (x ∷ []) (All-drop P 1 xs all) (All-cons P x [] one (All-nil P))
+
+-- ---- the steps
+
+pub mask_step-before : (steps : List MaskStep) (step : MaskStep) (s : ℕ) → s < length steps → mask_step (steps ++ step ∷ []) s ≡ mask_step steps s
+mask_step-before steps step s lt = get_or_append_left steps (step ∷ []) no_mask_step s lt
+
+pub mask_step-last : (steps : List MaskStep) (step : MaskStep) → mask_step (steps ++ step ∷ []) (length steps) ≡ step
+mask_step-last steps step = get_or_at steps step [] no_mask_step (length steps) refl
+
+pub latest_change-push : (steps : List MaskStep) (step : MaskStep) → latest_change (steps ++ step ∷ []) ≡ length steps
+latest_change-push steps step = omega (arith, length_push steps step)
+
+-- ---- one more step
+
+module _ {A : Type 0} where
+  pub HoldsLatest-more : (old new : List A) (d none x : A) (value new_value : ℕ → A) (count : ℕ) → length old ≡ 16 → new ≡ drop 1 old ++ x ∷ [] → HoldsLatest (λ back. get_or old (15 - back) d) value none count → ((s : ℕ) → s < count → new_value s ≡ value s) → new_value count ≡ x → HoldsLatest (λ back. get_or new (15 - back) d) new_value none (count + 1)
+  HoldsLatest-more old new d none x value new_value count len new_is holds before last =
+      record { same = same; past = past }
+    where
+      same : (back : ℕ) → back < 16 → back < count + 1 → get_or new (15 - back) d ≡ new_value (count + 1 - 1 - back)
+      same zero lt within =
+          let at : count ≡ count + 1 - 1 - 0 = omega arith in
+          ap (λ xs. get_or xs (15 - 0) d) new_is ∙ latest_pushed old x d len ∙ sym last ∙ ap new_value at
+      same (suc back) lt within =
+          let at : count - 1 - back ≡ count + 1 - 1 - suc back = omega arith in
+          ap (λ xs. get_or xs (15 - suc back) d) new_is ∙ earlier_pushed old x d back len (omega arith)
+          ∙ holds.same back (omega arith) (omega arith) ∙ sym (before (count - 1 - back) (omega arith)) ∙ ap new_value at
+
+      past : (back : ℕ) → back < 16 → count + 1 ≤ back → get_or new (15 - back) d ≡ none
+      past zero lt le = absurd (omega arith)
+      past (suc back) lt le =
+          ap (λ xs. get_or xs (15 - suc back) d) new_is ∙ earlier_pushed old x d back len (omega arith) ∙ holds.past back (omega arith) (omega arith)
+
+zero_place : (n place : ℕ) → get_or (replicate n false) place false ≡ false
+zero_place n place =
+    elim (cases_lt place n) [
+      | inl lt ↦ get_or-replicate n place false false lt
+      | inr le ↦ get_or_past (replicate n false) place false (omega (arith, length-replicate {A = Bool} n false))
+    ]
+
+recent_of-is : (steps : List MaskStep) (t f robust : ℕ) → (mask_step steps t).robust ≡ robust → length (mask_step steps t).change ≡ f → vector_of f (λ place. list_any (changes_place steps place) (steps_from (max 1 (t - robust)) (t + 1))) ≡ recent_of steps t
+unfolding recent_of
+recent_of-is steps t f robust robust_is len =
+    ap (λ n. vector_of n (λ place. list_any (changes_place steps place) (steps_from (max 1 (t - robust)) (t + 1)))) (sym len)
+    ∙ ap (λ r. vector_of (length (mask_step steps t).change) (λ place. list_any (changes_place steps place) (steps_from (max 1 (t - r)) (t + 1)))) (sym robust_is)
+
+twice_of-is : (steps : List MaskStep) (t level : ℕ) → level_of steps t ≡ level → nat_le 2 (count_by (takes_new_mask steps) (steps_from (t - level) (t + 1))) ≡ twice_of steps t
+unfolding twice_of
+twice_of-is steps t level level_is = ap (λ v. nat_le 2 (count_by (takes_new_mask steps) (steps_from (t - v) (t + 1)))) (sym level_is)
+
+-- What the parts of a window are after a step, from those before it.
+pub record Moves (old new : Kept) (step : MaskStep) : Type 0 where
+  pub full : length old.changes ≡ 16
+  pub flags_full : length old.new_masks ≡ 16
+  pub robust_most : step.robust ≤ 7
+  pub places : length step.change ≡ length old.recent
+  pub start : old.taken ≡ 0 → step.change ≡ replicate (length step.change) false
+  pub changes : new.changes ≡ drop 1 old.changes ++ step.change ∷ []
+  pub new_masks : new.new_masks ≡ drop 1 old.new_masks ++ step.new_mask ∷ []
+  pub recent : new.recent ≡ gathered (length old.recent) new.changes (step.robust + 1)
+  pub recent_len : length new.recent ≡ length old.recent
+  pub level_least : step.robust ≤ new.level
+  pub level_most : new.level ≤ max step.robust (min old.taken 15)
+  pub quiet : (back : ℕ) → step.robust < back → back ≤ new.level → change_back new.changes back ≡ replicate (length (change_back new.changes back)) false
+  pub stops : new.level < max step.robust (min old.taken 15) → Contains (change_back new.changes (new.level + 1)) true
+  pub twice : new.twice ≡ nat_le 2 (count_by (new_mask_back new.new_masks) (range_with_len 0 (new.level + 1)))
+  pub taken : new.taken ≡ old.taken + 1
+
+pub StandsFor-next : (steps : List MaskStep) (step : MaskStep) (old new : Kept) → StandsFor steps old → Moves old new step → StandsFor (steps ++ step ∷ []) new
+StandsFor-next steps step old new stands moves =
+    record {
+      changes =
+          subst (λ n. HoldsLatest (change_back new.changes) change_at (replicate n false) (length after)) (sym moves.recent_len)
+          (subst (λ n. HoldsLatest (change_back new.changes) change_at (replicate f false) n) (sym (length_push steps step)) changes);
+      new_masks = subst (λ n. HoldsLatest (new_mask_back new.new_masks) (takes_new_mask after) false n) (sym (length_push steps step)) new_masks;
+      first = first;
+      recent = λ some. recent ∙ ap (recent_of after) (sym at);
+      level = λ some. sym level ∙ ap (level_of after) (sym at);
+      twice = λ some. twice ∙ ap (twice_of after) (sym at);
+      taken = moves.taken ∙ ap (λ n. n + 1) stands.taken ∙ sym (length_push steps step);
+    }
+  where
+    after : List MaskStep
+    after = steps ++ step ∷ []
+
+    t : ℕ
+    t = length steps
+
+    at : latest_change after ≡ t
+    at = latest_change-push steps step
+
+    f : ℕ
+    f = length old.recent
+
+    change_at : ℕ → List Bool
+    change_at s = (mask_step after s).change
+
+    last : mask_step after t ≡ step
+    last = mask_step-last steps step
+
+    changes : HoldsLatest (change_back new.changes) change_at (replicate f false) (t + 1)
+    changes =
+        HoldsLatest-more old.changes new.changes [] (replicate f false) step.change (λ s. (mask_step steps s).change) change_at t moves.full moves.changes stands.changes
+        (λ s lt. ap (λ (m : MaskStep). m.change) (mask_step-before steps step s lt)) (ap (λ (m : MaskStep). m.change) last)
+
+    new_masks : HoldsLatest (new_mask_back new.new_masks) (takes_new_mask after) false (t + 1)
+    new_masks =
+        HoldsLatest-more old.new_masks new.new_masks false false step.new_mask (takes_new_mask steps) (takes_new_mask after) t moves.flags_full moves.new_masks stands.new_masks
+        (λ s lt. ap (λ (m : MaskStep). m.new_mask) (mask_step-before steps step s lt)) (ap (λ (m : MaskStep). m.new_mask) last)
+
+    quiet_start : (t ≡ 0) ⊎ (t ≡ 0 → ⊥) → IsQuiet after 0
+    quiet_start (inl none) place =
+        ap (λ s. get_or (change_at s) place false) (sym none) ∙ ap (λ (m : MaskStep). get_or m.change place false) last
+        ∙ ap (λ v. get_or v place false) (moves.start (stands.taken ∙ none)) ∙ zero_place (length step.change) place
+    quiet_start (inr some) place =
+        ap (λ (m : MaskStep). get_or m.change place false) (mask_step-before steps step 0 (omega arith)) ∙ stands.first place
+
+    first : IsQuiet after 0
+    first = quiet_start (cases_eq t 0)
+
+    -- the change so many steps back is that of the step
+    change_is : (back : ℕ) → back < 16 → back ≤ t → change_back new.changes back ≡ change_at (t - back)
+    change_is back lt within =
+        let same : t + 1 - 1 - back ≡ t - back = omega arith in
+        changes.same back lt (omega arith) ∙ ap change_at same
+
+    recent : new.recent ≡ recent_of after t
+    recent =
+        moves.recent
+        ∙ vector_of_same f _ _ (λ place.
+        any_back t step.robust (λ back. get_or (change_back new.changes back) place false) (changes_place after place)
+        (record {
+          same = λ back lt within. ap (λ v. get_or v place false) (change_is back (omega (arith, moves.robust_most)) within);
+          none = λ back lt past. ap (λ v. get_or v place false) (changes.past back (omega (arith, moves.robust_most)) (omega arith)) ∙ zero_place f place;
+        })
+        (first place))
+        ∙ recent_of-is after t f step.robust (ap (λ (m : MaskStep). m.robust) last) (ap (λ (m : MaskStep). length m.change) last ∙ moves.places)
+
+    level : level_of after t ≡ new.level
+    level =
+        level_of-is after t step.robust new.level (ap (λ (m : MaskStep). m.robust) last) moves.level_least (omega (arith, moves.level_most, stands.taken))
+        (λ s ge lt. is_quiet-zeros after s (quiet_at s ge lt))
+        (λ less. is_quiet-one after (t - (new.level + 1)) (one_at less))
+      where
+        quiet_at : (s : ℕ) → t - new.level ≤ s → s < t - step.robust → change_at s ≡ replicate (length (change_at s)) false
+        quiet_at s ge lt =
+            let back : t - (t - s) ≡ s = omega arith in
+            let is : change_back new.changes (t - s) ≡ change_at s = change_is (t - s) (omega (arith, moves.level_most, moves.robust_most)) (omega arith) ∙ ap change_at back in
+            subst (λ v. v ≡ replicate (length v) false) is (moves.quiet (t - s) (omega arith) (omega arith))
+
+        one_at : new.level < most_level step.robust t → Contains (change_at (t - (new.level + 1))) true
+        one_at less =
+            subst (λ v. Contains v true) (change_is (new.level + 1) (omega (arith, moves.robust_most)) (omega (arith, moves.level_least))) (moves.stops (omega (arith, stands.taken)))
+
+    twice : new.twice ≡ twice_of after t
+    twice =
+        let from : t + 1 - (new.level + 1) ≡ t - new.level = omega arith in
+        moves.twice
+        ∙ ap (nat_le 2) (count_back t (new.level + 1) (new_mask_back new.new_masks) (takes_new_mask after) (record {
+          same = λ back lt within.
+              let same : t + 1 - 1 - back ≡ t - back = omega arith in
+              new_masks.same back (omega (arith, moves.level_most, moves.robust_most)) (omega arith) ∙ ap (takes_new_mask after) same;
+          none = λ back lt past. new_masks.past back (omega (arith, moves.level_most, moves.robust_most)) (omega arith);
+        }))
+        ∙ ap (λ a. nat_le 2 (count_by (takes_new_mask after) (steps_from a (t + 1)))) from
+        ∙ twice_of-is after t new.level level

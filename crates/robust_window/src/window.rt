@@ -1,0 +1,138 @@
+//! The window over the latest changes of a mask.
+
+ghost use Rattle.std.specs.Prelude.{◌≡◌, ◌+◌, ◌-◌, ◌<◌, ◌≤◌, List, [], ◌∷◌, ◌++◌, length, replicate, false, IfOk};
+ghost use Rattle.robust_window.specs.Changes.{MaskStep, latest_change, level_of, mask_step, recent_of, twice_of};
+ghost use Rattle.robust_window.specs.Window.{StandsFor, change_back};
+
+use crate::scan;
+use bit_vectors::{Bits, NoMemory};
+use circular_buffer::HeapCircularBuffer;
+use std::alloc::Global;
+use std::marker::Model;
+
+/// The greatest effective robustness level.
+const MOST_LEVEL: u64 = 15;
+
+/// Keeps the latest sixteen changes of a mask and their new-mask flags, and not the history (CCSDS 124.0-B-1).
+/// Contracts see them and the values at the latest step, and say for which changes they stand.
+#[derive(Debug, Drop)]
+pub struct Window {
+    changes: HeapCircularBuffer<Bits>,
+    new_masks: HeapCircularBuffer<bool>,
+    recent: Bits,
+    level: u8,
+    twice: bool,
+    robust: u8,
+    taken: u64,
+}
+
+impl Model for Window {
+    ghost use Rattle.robust_window.specs.Window.{Kept, IsWindow};
+
+    ghost Value = { Kept };
+
+    ghost view = { λ w. record {
+      changes = w.changes.items;
+      new_masks = w.new_masks.items;
+      recent = w.recent;
+      level = w.level;
+      twice = w.twice;
+      robust = w.robust;
+      taken = w.taken;
+    } };
+
+    ghost invariant = { λ w. IsWindow w.changes w.new_masks w.recent w.level w.robust w.taken };
+}
+
+impl Window {
+    /// Starts with no step taken, for vectors of `f` places and a required robustness of at most 7. Takes the
+    /// memory for every vector that `step` fills.
+    pub fn open(alloc: Global, f: u32, robust: u8) -> Result<Window, NoMemory>
+        requires some { 1 ≤ f }
+        requires most { f ≤ 49152 }
+        requires robust { robust ≤ 7 }
+        ensures stands { IfOk result (λ window. StandsFor [] window) }
+        ensures places { IfOk result (λ window. length window.recent ≡ f) }
+        ensures robust { IfOk result (λ window. window.robust ≡ robust) }
+        ensures taken { IfOk result (λ window. window.taken ≡ 0) }
+    {
+        Ok(Window {
+            changes: scan::zero_changes(alloc, f)?,
+            new_masks: scan::clear_flags(alloc)?,
+            recent: Bits::zeros(alloc, f)?,
+            level: 0,
+            twice: false,
+            robust,
+            taken: 0,
+        })
+    }
+
+    /// Takes the change of the mask at the next step, and whether it takes a new mask. The first step leaves the
+    /// mask and takes no new one.
+    pub fn step(&mut self, change: &Bits, new_mask: bool)
+        requires places { length change.now ≡ length self.old.recent }
+        requires most { self.old.taken < 4294967296 }
+        requires first_change { self.old.taken ≡ 0 → change.now ≡ replicate (length change.now) false }
+        requires first_new_mask { self.old.taken ≡ 0 → new_mask ≡ false }
+        // Whatever changes it stood for, it now stands for these and one more.
+        ensures stands { (steps : List MaskStep) (step : MaskStep) → StandsFor steps self.old
+            → step.change ≡ change.now → step.new_mask ≡ new_mask → step.robust ≡ self.old.robust
+            → StandsFor (steps ++ step ∷ []) self.new }
+        ensures places { length self.new.recent ≡ length self.old.recent }
+        ensures robust { self.new.robust ≡ self.old.robust }
+        ensures taken { self.new.taken ≡ self.old.taken + 1 }
+    {
+        let most = self.taken.min(MOST_LEVEL) as u8;
+        scan::push_change(&mut self.changes, change);
+        self.new_masks.push_back(new_mask);
+        scan::gather(&self.changes, self.robust + 1, &mut self.recent);
+        self.level = scan::quiet_level(&self.changes, self.robust, most);
+        self.twice = scan::has_two(&self.new_masks, self.level + 1);
+        self.taken += 1;
+    }
+
+    /// The recent changes: the places that the mask changed at the latest step or at one of those before it, as
+    /// many as the required robustness says. At least one step was taken.
+    pub fn recent(&self) -> &Bits
+        requires { 0 < self.now.taken }
+        ensures recent { (steps : List MaskStep) → StandsFor steps self.now
+            → result.now ≡ recent_of steps (latest_change steps) }
+        ensures kept { result.now ≡ self.now.recent }
+    {
+        &self.recent
+    }
+
+    /// The effective robustness level, at most 15. At least one step was taken.
+    pub fn effective(&self) -> u8
+        requires { 0 < self.now.taken }
+        ensures level { (steps : List MaskStep) → StandsFor steps self.now
+            → result ≡ level_of steps (latest_change steps) }
+        ensures kept { result ≡ self.now.level }
+        ensures most { result ≤ 15 }
+    {
+        self.level
+    }
+
+    /// Whether two steps or more within the effective robustness level of the latest one took a new mask. At least
+    /// one step was taken.
+    pub fn twice(&self) -> bool
+        requires { 0 < self.now.taken }
+        ensures twice { (steps : List MaskStep) → StandsFor steps self.now
+            → result ≡ twice_of steps (latest_change steps) }
+        ensures kept { result ≡ self.now.twice }
+    {
+        self.twice
+    }
+
+    /// The change of the mask so many steps before the latest one: at most 15, and below the number of steps taken.
+    pub fn past(&self, back: u8) -> &Bits
+        requires most { back ≤ 15 }
+        requires taken { back < self.now.taken }
+        ensures change { (steps : List MaskStep) → StandsFor steps self.now
+            → result.now ≡ (mask_step steps (latest_change steps - back)).change }
+        ensures kept { result.now ≡ change_back self.now.changes back }
+        ensures places { length result.now ≡ length self.now.recent }
+    {
+        scan::change_back(&self.changes, back)
+    }
+}
