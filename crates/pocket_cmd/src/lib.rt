@@ -5,9 +5,16 @@ mod chain;
 mod command;
 mod laws;
 mod opening;
+mod restore;
 mod run;
 mod status;
+mod top;
 mod words;
+mod work;
 
 pub use laws::commands_are_given;
 pub use status::{Refusal, Status, exit_code};
+pub use top::pocket;
+
+#[cfg(test)]
+mod tests;
