@@ -156,6 +156,7 @@ impl Decoder {
     /// The effective robustness level of the latest written packet, from 0 to 15, and 0 before the first.
     pub fn level(&self) -> u8
         ensures level { result ≡ self.now.level }
+        ensures most { result < 16 }
         ensures first { IfNone self.now.state (result ≡ 0) }
     {
         self.shown.level()

@@ -42,7 +42,7 @@ opaque_answer c =
     let missed_is = c.missed.ensures c.self.inside.latest.mask c.self.inside.latest.content in
     reading_is c.args.self.now c.self.inside.latest c.self.inside.shown c.self.view_is c.self.invariant.latest_vectors _ c.args.t c.new-eye.result c.args.bytes.now c.self.invariant.draft_vectors.content c.new-eye.ensures.bits c.new-eye.ensures.place
     (record { change = c.take_whole_packet.new.next; outcome = Opaque }) c.take_whole_packet.new.eye c.take_whole_packet.ensures.moves.bits told
-    ∙ ap Ok (rw (sym c.level.ensures) (sym missed_is))
+    ∙ ap Ok (rw (sym c.level.ensures.level) (sym missed_is))
 
 opaque_has : (c : goal.After-missed) → IsState c.args.self.now.places c.args.self.now.state
 opaque_has c = has_state c.args.self.now c.self.inside.latest c.self.inside.shown c.self.view_is c.self.invariant.latest_vectors
