@@ -14,7 +14,11 @@ use desk_ports::{Desk, Stop};
 use packet_store::WalkFault;
 
 /// Opens the names, runs the chain, and finishes both outputs.
-pub fn run<D: Desk, C: Chain + Drop>(desk: &mut D, names: &Names<'_>, chain: C) -> Result<(), Stop<WalkFault>>
+pub fn run<D: Desk, C: Chain + Drop>(
+    desk: &mut D,
+    names: &Names<'_>,
+    chain: C,
+) -> Result<(), Stop<WalkFault>>
     requires input { IsTrue ((D.meaning desk.old).grants_in names.now.input.now) }
     requires output { IsTrue ((D.meaning desk.old).grants_out names.now.output.now) }
     requires report { IsTrue ((D.meaning desk.old).grants_out names.now.report.now) }

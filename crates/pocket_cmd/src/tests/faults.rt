@@ -40,10 +40,26 @@ fn calls_that_fail(rt: HostRuntime) -> Result<(), Fail> {
         (Call::OpenOut, 3, whole),
         (Call::Read, 1, refused(Refusal::ReadFault, &[], HEADER)),
         (Call::Read, 10, refused(Refusal::ReadFault, &[], HEADER)),
-        (Call::Read, 11, refused(Refusal::ReadFault, &OUTPUT[..1], HEADER)),
-        (Call::Read, 20, refused(Refusal::ReadFault, &OUTPUT[..1], HEADER)),
-        (Call::Read, 21, refused(Refusal::ReadFault, &OUTPUT[..2], HEADER)),
-        (Call::Read, 30, refused(Refusal::ReadFault, OUTPUT, &REPORT[..34])),
+        (
+            Call::Read,
+            11,
+            refused(Refusal::ReadFault, &OUTPUT[..1], HEADER),
+        ),
+        (
+            Call::Read,
+            20,
+            refused(Refusal::ReadFault, &OUTPUT[..1], HEADER),
+        ),
+        (
+            Call::Read,
+            21,
+            refused(Refusal::ReadFault, &OUTPUT[..2], HEADER),
+        ),
+        (
+            Call::Read,
+            30,
+            refused(Refusal::ReadFault, OUTPUT, &REPORT[..34]),
+        ),
         (Call::Read, 31, whole),
         (Call::Finish, 1, unfinished),
         (Call::Finish, 2, half_finished),
@@ -70,13 +86,21 @@ fn cut_short(written: usize) -> Ending<'static> {
         37 => (3, 34),
         _ => (3, written - 3),
     };
-    refused(Refusal::WriteFault, front(OUTPUT, output), front(REPORT, report))
+    refused(
+        Refusal::WriteFault,
+        front(OUTPUT, output),
+        front(REPORT, report),
+    )
 }
 
 #[test]
 fn writes_that_fail(rt: HostRuntime) -> Result<(), Fail> {
     for written in 0..47u32 {
-        assert_ending(&rt, &failing(Call::Write, written + 1), &cut_short(written as usize))?;
+        assert_ending(
+            &rt,
+            &failing(Call::Write, written + 1),
+            &cut_short(written as usize),
+        )?;
     }
     let whole = done(OUTPUT, REPORT);
     assert_ending(&rt, &failing(Call::Write, 48), &whole)

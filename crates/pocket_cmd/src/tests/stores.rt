@@ -140,12 +140,22 @@ static WHOLE: [Row; 17] = [
 /// A store in hexadecimal, the packet at which it is wrong and how, and the packets that stand before.
 static FAULTY: [(&str, u64, StoreKind, &[u8]); 6] = [
     ("00 64 C0 00 00 03 85 B8 D6", 0, StoreKind::Cut, &[]),
-    ("00 64 C0 00 00 03 85 B8 D6 00 00 64 C0", 10, StoreKind::Cut, &[0xB0]),
+    (
+        "00 64 C0 00 00 03 85 B8 D6 00 00 64 C0",
+        10,
+        StoreKind::Cut,
+        &[0xB0],
+    ),
     ("00 64 C0 00 00 03 85", 0, StoreKind::Cut, &[]),
     ("20 64 C0 00 00 00 00", 0, StoreKind::Version, &[]),
     ("00 64 00 00 00 00 82", 0, StoreKind::Shape, &[]),
     // Another version is refused on another APID too, and the shape before the length is looked at.
-    ("00 64 C0 00 00 03 85 B8 D6 00 18 64 C0 00 00 09 82", 10, StoreKind::Shape, &[0xB0]),
+    (
+        "00 64 C0 00 00 03 85 B8 D6 00 18 64 C0 00 00 09 82",
+        10,
+        StoreKind::Shape,
+        &[0xB0],
+    ),
 ];
 
 fn of_store(words: &'static str, store: &'static str) -> Case<'static> {
@@ -156,7 +166,11 @@ fn of_store(words: &'static str, store: &'static str) -> Case<'static> {
 }
 
 /// Both with whole reads and with reads and writes of one byte.
-fn assert_both(rt: &(impl Abort + AllocGlobal), case: Case<'_>, wanted: &super::desk::Ending<'_>) -> Result<(), Fail> {
+fn assert_both(
+    rt: &(impl Abort + AllocGlobal),
+    case: Case<'_>,
+    wanted: &super::desk::Ending<'_>,
+) -> Result<(), Fail> {
     assert_ending(rt, &case, wanted)?;
     let one_byte = Case {
         one_byte: true,
