@@ -2,7 +2,6 @@
 //! directions of the changes where they are sent (CCSDS 124.0-B-1).
 
 ghost use Rattle.std.specs.Prelude.{◌≡◌, ◌<◌, ◌≤◌, false, length, replicate, None, IfOk};
-ghost use Rattle.bit_vectors.specs.Vectors.{IsVector};
 ghost use Rattle.bit_vectors.specs.Eye.{bits_left};
 ghost use Rattle.bit_vectors.specs.Reading.{MovesOn, Gives};
 ghost use Rattle.packet_encode.specs.Forms.{wide_by};

@@ -3,8 +3,7 @@
 ghost use Rattle.std.specs.Prelude.{◌≡◌, ◌<◌, length, IfSome};
 ghost use Rattle.bit_vectors.specs.Eye.{bits_left};
 ghost use Rattle.bit_vectors.specs.Reading.{MovesOn};
-ghost use Rattle.packet_decode.specs.State.{Change};
-ghost use Rattle.packet_decode.specs.PacketReading.{Found, Tells, parts_at, whole_packet_at};
+ghost use Rattle.packet_decode.specs.PacketReading.{Tells, parts_at, whole_packet_at};
 ghost use Rattle.packet_decode.specs.Parts.{IsLatest, IsDraft, outcome_of, state_of, reaches};
 
 use crate::change::FirstPart;
