@@ -3,3 +3,4 @@ mod Runs
 mod Sound
 mod Told
 mod Counted
+mod Receptions

@@ -3,3 +3,4 @@ pub mod Run
 pub mod Sound
 pub mod Report
 pub mod Told
+pub mod Reception
