@@ -4,3 +4,5 @@ mod Sound
 mod Told
 mod Counted
 mod Receptions
+mod Writings
+mod RestCourses

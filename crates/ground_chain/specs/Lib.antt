@@ -4,3 +4,4 @@ pub mod Sound
 pub mod Report
 pub mod Told
 pub mod Reception
+pub mod Restoring
