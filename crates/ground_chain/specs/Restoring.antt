@@ -111,7 +111,7 @@ pub record WroteFront (old new : Meanings) (all : Outputs) : Type 0 where
 
 -- the numbers of all arrivals stay the same as the store is read on, where the desk tells it
 abbrev pub KeepsNumbers : Progress → Progress → Meanings → Meanings → Type 0
-KeepsNumbers s t old new = IfSome (left old inlet.Main) (λ store. IfSome (left new inlet.Main) (λ rest. all_restored s store ≡ all_restored t rest))
+KeepsNumbers s t old new = IfSome (left old inlet.Main) (λ store. (rest : List ℕ) × (left new inlet.Main ≡ Some rest) × (all_restored s store ≡ all_restored t rest))
 
 -- the line has room for a vector, and the numbers are within their limits
 pub record IsRestoring (reader : ReaderState) (reception : Reception) (restored : Restored) (room : ℕ) : Type 0 where

@@ -50,11 +50,11 @@ impl Restorer {
         requires output { IsReadyOut (D.meaning desk.old) Outlet.Main }
         requires report { IsReadyOut (D.meaning desk.old) Outlet.Report }
         // What stands after each answer is what the store owes, all of it or up to where its walk or the desk ends it.
-        ensures ran { AfterRun (restore_course self.entry.places self.entry.apid) (D.meaning desk.old) (D.meaning desk.new) (as_run result) }
+        ensures ran { AfterRun (restore_course self.places self.apid) (D.meaning desk.old) (D.meaning desk.new) (as_run result) }
         ensures cause { HasCause (D.counts desk.old) (D.counts desk.new) (as_run result) }
         // Where the desk tells the store, the numbers are those of the run over it.
         ensures numbers { IfSome (left (D.meaning desk.old) Inlet.Main) (λ store.
-            IfOk result (λ restored. restored ≡ restored_of (store_run self.entry.places self.entry.apid store))) }
+            IfOk result (λ restored. restored ≡ restored_of (store_run self.places self.apid store))) }
     {
         let mut restoring = self.restoring;
         let restored = restoring.run(desk)?;
