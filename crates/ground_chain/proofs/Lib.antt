@@ -7,3 +7,4 @@ mod Receptions
 mod Writings
 mod RestCourses
 mod KeptNumbers
+mod Restorations
