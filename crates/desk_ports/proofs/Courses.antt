@@ -158,11 +158,11 @@ IfSome-IsAtEnd None at_end = tt
 IfSome-IsAtEnd (Some bytes) at_end = at_end
 
 -- the input is at its end
-pub IsAtLast-end : {F : Type 0} (here : List ℕ → Course F) (a b : Meanings) (last : Outputs) → Moves a b inlet.Main [] → IsAtEnd (left b inlet.Main) → here [] ≡ record { before = no_outputs; after = last; ending = None } → IsAtLast here a b last
+pub IsAtLast-end : {F : Type 0} (here : List ℕ → Course F) (a b : Meanings) (last : Outputs) → Moves a b inlet.Main [] → IsAtEnd (left a inlet.Main) → here [] ≡ record { before = no_outputs; after = last; ending = None } → IsAtLast here a b last
 IsAtLast-end here a b last moves at_end ends = record {
   input = [];
   stand = no_outputs;
-  went = record { taken = []; rest = []; split = refl; told = IfSome-IsAtEnd (left b inlet.Main) at_end; ran = Ran-moves a b [] moves };
+  went = record { taken = []; rest = []; split = refl; told = IfSome-IsAtEnd (left b inlet.Main) (subst IsAtEnd (moves.moved ∙ sym (prepend_known-none (left b inlet.Main))) at_end); ran = Ran-moves a b [] moves };
   ends = ends;
 }
 

@@ -1,5 +1,5 @@
 -- How the faults of a store end a run whose course is made from the walk over it.
-use Rattle.std.proofs.Common.{◌≡◌, ℕ, List, [], ◌++◌, Option, Some, Result, Err, ap, ◌∙◌}
+use Rattle.std.proofs.Common.{◌≡◌, ℕ, List, [], ◌++◌, Option, Some, Err, ap, ◌∙◌}
 use Rattle.desk_ports.specs.Meanings.{Meanings, Counts}
 use Rattle.desk_ports.specs.Courses.{Course, no_outputs, AfterStop, Ends, HasCause}
 use Rattle.desk_ports.proofs.Courses.{Ends-fault, IsCutOff-moves}

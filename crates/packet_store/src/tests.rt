@@ -1,32 +1,137 @@
+// What no clause says: that the calls answer with ample memory.
+ghost use Rattle.std.specs.Prelude.{◌≤◌, codes, IsTrue};
+ghost use Rattle.desk_ports.specs.Meanings.{IsReadyIn};
+
 use super::*;
+use bit_vectors::NoMemory;
+use desk_ports::{Desk, Failed, Inlet, MemDesk, Outlet};
+use std::alloc::Global;
 use std::test::Fail;
 
 const APID: u16 = 100;
 
+// A packet, and then a segmented telecommand packet of another APID with a secondary header.
+static TWO_PACKETS: [u8; 17] = [
+    0x00, 0x64, 0xC0, 0x00, 0x00, 0x03, 0x85, 0xB8, 0xC0, 0x00, 0x18, 0x65, 0x40, 0x05, 0x00, 0x00,
+    0xFF,
+];
+
+// A packet, and then a header that is cut.
+static CUT: [u8; 13] = [
+    0x00, 0x64, 0xC0, 0x00, 0x00, 0x03, 0x85, 0xB8, 0xC0, 0x00, 0x00, 0x64, 0xC0,
+];
+
+// A packet of version 1.
+static OTHER_VERSION: [u8; 7] = [0x20, 0x64, 0xC0, 0x00, 0x00, 0x00, 0x00];
+
+// A segment.
+static OTHER_SHAPE: [u8; 7] = [0x00, 0x64, 0x00, 0x00, 0x00, 0x00, 0x82];
+
+// The packets of a store of at most nine, and its fault.
+fn walked<D: Desk>(desk: &mut D, reader: &mut StoreReader) -> (u64, Option<StoreFault>)
+    requires live { IsTrue reader.old.live }
+    requires open { IsReadyIn (D.meaning desk.old) Inlet.Main }
+{
+    'packets: for packets in 0..10 {
+        match reader.next(desk) {
+            Ok(Some(_)) => {}
+            Ok(None) => return (packets, None),
+            Err(fault) => return (packets, Some(fault)),
+        }
+    }
+    (10, None)
+}
+
+fn walk_at<D: Desk>(
+    desk: &mut D,
+    reader: &mut StoreReader,
+) -> Result<(u64, Option<StoreFault>), Failed>
+    requires live { IsTrue reader.old.live }
+    requires granted { IsTrue ((D.meaning desk.old).grants_in (codes "store")) }
+{
+    desk.open_in(Inlet::Main, "store")?;
+    Ok(walked(desk, reader))
+}
+
+fn desk_with(alloc: Global, store: &[u8], size: u32) -> Result<MemDesk, NoMemory>
+    requires { 1 ≤ size }
+{
+    let mut desk = MemDesk::new(alloc);
+    desk.put("store", store)?;
+    desk.pieces(size);
+    Ok(desk)
+}
+
+fn walk_of(alloc: Global, store: &[u8], size: u32) -> Result<(u64, Option<StoreFault>), Fail>
+    requires { 1 ≤ size }
+{
+    let mut desk = desk_with(alloc, store, size)?;
+    let mut reader = StoreReader::open(alloc, APID)?;
+    Ok(walk_at(&mut desk, &mut reader)?)
+}
+
 #[test]
-fn a_reader_is_opened(rt: HostRuntime) -> Result<(), Fail> {
-    let reader = StoreReader::open(rt.alloc(), APID)?;
-    assert!(rt; reader.live());
+fn stores_and_their_ends(rt: HostRuntime) -> Result<(), Fail> {
+    for size in [1, 100] {
+        assert_eq!(rt; walk_of(rt.alloc(), &[], size)?, (0, None));
+        assert_eq!(rt; walk_of(rt.alloc(), &TWO_PACKETS, size)?, (2, None));
+        let cut = StoreFault::Cut { byte: 10 };
+        assert_eq!(rt; walk_of(rt.alloc(), &CUT, size)?, (1, Some(cut)));
+        let version = StoreFault::Version { byte: 0 };
+        assert_eq!(rt;
+            walk_of(rt.alloc(), &OTHER_VERSION, size)?,
+            (0, Some(version))
+        );
+        let shape = StoreFault::Shape { byte: 0 };
+        assert_eq!(rt; walk_of(rt.alloc(), &OTHER_SHAPE, size)?, (0, Some(shape)));
+    }
     Ok(())
 }
 
-// Headers of worked stores: a count, a number of data bytes, and the six bytes.
-const HEADERS: [(u16, u32, [u8; 6]); 3] = [
-    (0, 4, [0x00, 0x64, 0xC0, 0x00, 0x00, 0x03]),
-    (1, 4, [0x00, 0x64, 0xC0, 0x01, 0x00, 0x03]),
-    (1, 1, [0x00, 0x64, 0xC0, 0x01, 0x00, 0x00]),
+fn put_packets<D: Desk>(writer: &mut StoreWriter, desk: &mut D) -> Result<(), Failed>
+    requires { IsTrue ((D.meaning desk.old).grants_out (codes "store")) }
+{
+    desk.open_out(Outlet::Main, "store")?;
+    writer.put(desk, 0, &[0x85, 0xB8, 0xC0, 0x00])?;
+    writer.put(desk, 1, &[0x42])
+}
+
+fn desk_after(alloc: Global) -> Result<MemDesk, Fail> {
+    let mut writer = StoreWriter::open(alloc, APID)?;
+    let mut desk = MemDesk::new(alloc);
+    put_packets(&mut writer, &mut desk)?;
+    Ok(desk)
+}
+
+#[test]
+fn a_store_is_written(rt: HostRuntime) -> Result<(), Fail> {
+    let desk = desk_after(rt.alloc())?;
+    let store = [
+        0x00, 0x64, 0xC0, 0x00, 0x00, 0x03, 0x85, 0xB8, 0xC0, 0x00, 0x00, 0x64, 0xC0, 0x01, 0x00,
+        0x00, 0x42,
+    ];
+    assert_eq!(rt; desk.seen(Outlet::Main), store.as_slice());
+    Ok(())
+}
+
+// Headers: an APID, a count, a number of data bytes, and the six bytes.
+const HEADERS: [(u16, u16, u32, [u8; 6]); 4] = [
+    (APID, 0, 4, [0x00, 0x64, 0xC0, 0x00, 0x00, 0x03]),
+    (APID, 1, 4, [0x00, 0x64, 0xC0, 0x01, 0x00, 0x03]),
+    (APID, 1, 1, [0x00, 0x64, 0xC0, 0x01, 0x00, 0x00]),
+    (2047, 16_383, 65_536, [0x07, 0xFF, 0xFF, 0xFF, 0xFF, 0xFF]),
 ];
 
 #[test]
-fn headers_of_worked_stores(rt: HostRuntime) {
-    for (count, size, bytes) in HEADERS {
-        if u64::from(count) < PERIOD && size > 0 && size <= 65_536 {
-            assert_eq!(rt; header_bytes(APID, count, size), bytes);
+fn headers_both_ways(rt: HostRuntime) {
+    for (apid, count, size, bytes) in HEADERS {
+        if apid <= 2047 && u64::from(count) < PERIOD && size > 0 && size <= 65_536 {
+            assert_eq!(rt; header_bytes(apid, count, size), bytes);
         }
         let header = read_header(&bytes);
         assert_eq!(rt; header.version, 0);
         assert!(rt; !header.telecommand && !header.secondary);
-        assert_eq!(rt; header.apid, APID);
+        assert_eq!(rt; header.apid, apid);
         assert_eq!(rt; header.sequence, 3);
         assert_eq!(rt; header.count, count);
         assert_eq!(rt; header.size() as u32, size);
