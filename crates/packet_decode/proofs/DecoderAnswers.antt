@@ -12,7 +12,7 @@ use Rattle.packet_decode.specs.declared.draft.Latest.{Latest}
 use Rattle.packet_decode.specs.State.{State, IsState, Change, change_of}
 use Rattle.packet_decode.specs.Spelling.{Spells}
 use Rattle.packet_decode.specs.Answers.{Says, IsExactAnswer}
-use Rattle.packet_decode.specs.PacketReading.{Outcome, Spelled, Opaque, Found, Tells, whole_packet_at, answer_to, answer_of}
+use Rattle.packet_decode.specs.PacketReading.{Spelled, Opaque, Found, Tells, whole_packet_at, answer_to, answer_of}
 use Rattle.packet_decode.specs.Parts.{state_by, state_of, IsLatest}
 use Rattle.packet_decode.specs.Decoding.{Decoding}
 use Rattle.packet_decode.proofs.ExactAnswers.{answer_of-exact}
@@ -81,7 +81,7 @@ module _ (d : Decoding) (latest : Latest) (shown : Change) (view : decoding_of l
     latest_is next read_mask read_content rest told after new_mask new_content after_is mask_is content_is form mask content s =
         let same : ◌≡◌ {A = Found} (record { change = next; outcome = Spelled read_mask read_content }) (record { change = change_of form; outcome = Spelled mask content }) =
         (read_same (record { change = next; outcome = Spelled read_mask read_content }) (record { change = change_of form; outcome = Spelled mask content }) rest []
-            (sym told ∙ whole_is ∙ spells_read d.places d.state t has_state (bits_of bytes) form mask content s)).0 in
+        (sym told ∙ whole_is ∙ spells_read d.places d.state t has_state (bits_of bytes) form mask content s)).0 in
         let change_is : after ≡ change_of form = after_is ∙ ap (λ (x : Found). x.change) same in
         let outcome_is : Spelled read_mask read_content ≡ Spelled mask content = ap (λ (x : Found). x.outcome) same in
         let masks : new_mask ≡ mask = cc in

@@ -12,3 +12,4 @@ pub mod Telling
 pub mod NoDirections
 pub mod TakenContent
 pub mod DecoderAnswers
+pub mod UnchangedMask

@@ -1,5 +1,5 @@
 -- What a content that was taken at once tells, by where it differs from the known one.
-use Rattle.std.proofs.Common.{◌≡◌, ℕ, ◌+◌, ◌-◌, ◌<◌, ◌≤◌, ◌↔◌, Bool, true, false, cond, not, ◌&&◌, List, ◌++◌, length, get_or, take, drop, Result, Ok, Err, IsErr, IfErr, OnOk, refl, sym, ap, ◌∙◌, arith, inl, inr}
+use Rattle.std.proofs.Common.{◌≡◌, ℕ, ◌+◌, ◌<◌, ◌≤◌, ◌↔◌, Bool, true, false, cond, not, ◌&&◌, List, ◌++◌, length, get_or, take, drop, Result, Ok, Err, IsErr, IfErr, OnOk, refl, sym, ap, ◌∙◌, arith, inl, inr}
 use Rattle.std.proofs.lemmas.Bool.{cases_lt}
 use Rattle.std.proofs.lemmas.List.{length-drop, get_or_past, drop_at}
 use Rattle.std.proofs.lemmas.Simd.{length-zip2}
@@ -7,7 +7,7 @@ use Rattle.bit_vectors.specs.declared.fault.BitFault.{BitFault}
 use Rattle.bit_vectors.specs.declared.fault.BitFault.TheVariants.{Wrong, EndsEarly}
 use Rattle.bit_vectors.specs.Vectors.{xor_bits, without_bits}
 use Rattle.bit_vectors.specs.Eye.{EyeState, bits_left}
-use Rattle.bit_vectors.specs.Reading.{Read, WrongBit, TooShort}
+use Rattle.bit_vectors.specs.Reading.{Read, WrongBit}
 use Rattle.run_code.specs.Extraction.{SameOutside}
 use Rattle.packet_decode.specs.PacketReading.{kept_at, Tells}
 use Rattle.packet_decode.proofs.KeptContent.{kept_whole, kept_early, kept_wrong, differs_at, same_at_place}

@@ -45,14 +45,14 @@ pub record IsDraft (f : ℕ) (draft : Draft) : Type 0 where
   pub spare : length draft.spare ≡ f
 
 -- What holds of the parts of a decoder: the latest packet and its first part, and what is filled as the next one is read.
-pub record IsDecoder (last : Latest) (first following : Change) (mask : List Bool) (scratch : Draft) : Type 0 where
-  pub vector : IsVector last.content
-  pub latest : IsLatest (length last.content) last
-  pub shown : length first.recent ≡ length last.content
-  pub next : length following.recent ≡ length last.content
-  pub deduced : length mask ≡ length last.content
-  pub draft : IsDraft (length last.content) scratch
-  pub first_mask : IfNone last.number (last.mask ≡ replicate (length last.content) false)
-  pub first_content : IfNone last.number (last.content ≡ replicate (length last.content) false)
-  pub first_recent : IfNone last.number (first.recent ≡ replicate (length last.content) false)
-  pub first_level : IfNone last.number (first.level ≡ 0)
+pub record IsDecoder (latest : Latest) (shown next : Change) (deduced : List Bool) (draft : Draft) : Type 0 where
+  pub vector : IsVector latest.content
+  pub latest_vectors : IsLatest (length latest.content) latest
+  pub shown_places : length shown.recent ≡ length latest.content
+  pub next_places : length next.recent ≡ length latest.content
+  pub deduced_places : length deduced ≡ length latest.content
+  pub draft_vectors : IsDraft (length latest.content) draft
+  pub first_mask : IfNone latest.number (latest.mask ≡ replicate (length latest.content) false)
+  pub first_content : IfNone latest.number (latest.content ≡ replicate (length latest.content) false)
+  pub first_recent : IfNone latest.number (shown.recent ≡ replicate (length latest.content) false)
+  pub first_level : IfNone latest.number (shown.level ≡ 0)

@@ -1,8 +1,7 @@
 //! The first part of a packet: the recent changes of the mask, the effective robustness level, and the
 //! directions of the changes where they are sent (CCSDS 124.0-B-1).
 
-ghost use Rattle.std.specs.Prelude.{◌≡◌, ◌≤◌, false, length, replicate, None, IfOk};
-ghost use Rattle.bit_vectors.specs.Vectors.{IsVector};
+ghost use Rattle.std.specs.Prelude.{◌≡◌, ◌<◌, ◌≤◌, false, length, replicate, None, IfOk};
 ghost use Rattle.bit_vectors.specs.Eye.{bits_left};
 ghost use Rattle.bit_vectors.specs.Reading.{MovesOn, Gives};
 ghost use Rattle.packet_encode.specs.Forms.{wide_by};
@@ -21,13 +20,14 @@ use std::marker::Model;
 pub struct FirstPart {
     recent: Bits,
     level: u8,
+    /// The places that became predictable, where directions are sent.
     predictable: Bits,
+    /// Whether all recent changes are extracted, where directions are sent.
     twice: Option<bool>,
 }
 
 impl Model for FirstPart {
-    ghost use Rattle.std.specs.Prelude.{◌≡◌, length};
-    ghost use Rattle.bit_vectors.specs.Vectors.{IsVector};
+    ghost use Rattle.std.specs.Prelude.{◌≡◌, ◌<◌, length};
     ghost use Rattle.packet_decode.specs.State.{Change};
     ghost use Rattle.packet_decode.specs.Parts.{directions_of};
 
@@ -35,7 +35,7 @@ impl Model for FirstPart {
 
     ghost view = { λ p. record { recent = p.recent; level = p.level; directions = directions_of p.twice p.predictable } };
 
-    ghost invariant = { λ p. length p.predictable ≡ length p.recent };
+    ghost invariant = { λ p. (length p.predictable ≡ length p.recent) × (p.level < 16) };
 }
 
 impl FirstPart {
@@ -77,7 +77,8 @@ impl FirstPart {
 
     /// The effective robustness level.
     pub fn level(&self) -> u8
-        ensures { result ≡ self.now.level }
+        ensures level { result ≡ self.now.level }
+        ensures most { result < 16 }
     {
         self.level
     }
@@ -90,6 +91,9 @@ impl FirstPart {
         ensures mask_places { length mask.new ≡ length mask.old }
         ensures spare_places { length spare.new ≡ length spare.old }
     {
+        if self.recent.is_zero() {
+            return;
+        }
         if self.level == 0 {
             mask.xor_in(&self.recent);
             return;

@@ -3,8 +3,7 @@
 ghost use Rattle.std.specs.Prelude.{◌≡◌, length, IfSome, Some};
 ghost use Rattle.std.specs.Option.{option_map};
 ghost use Rattle.bit_vectors.specs.Eye.{bits_left};
-ghost use Rattle.bit_vectors.specs.Reading.{MovesOn, Gives};
-ghost use Rattle.packet_decode.specs.State.{Change};
+ghost use Rattle.bit_vectors.specs.Reading.{MovesOn};
 ghost use Rattle.packet_decode.specs.PacketReading.{Tells, kept_at, whole_with, part_with, content_at};
 ghost use Rattle.packet_decode.specs.Parts.{IsDraft, outcome_of};
 

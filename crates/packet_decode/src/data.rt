@@ -5,7 +5,7 @@ ghost use Rattle.std.specs.Prelude.{◌≡◌, length, IfSome, Some};
 ghost use Rattle.std.specs.Option.{option_map};
 ghost use Rattle.bit_vectors.specs.Eye.{bits_left};
 ghost use Rattle.bit_vectors.specs.Reading.{MovesOn};
-ghost use Rattle.packet_decode.specs.PacketReading.{Tells, unsent_at, maskless_at, masked_at, sent_at, data_at};
+ghost use Rattle.packet_decode.specs.PacketReading.{Tells, unsent_at, maskless_at, data_at};
 ghost use Rattle.packet_decode.specs.Parts.{IsDraft, outcome_of};
 
 use crate::bit::{take_bit, take_one};
@@ -16,7 +16,7 @@ use crate::mask::take_mask;
 use bit_vectors::{BitEye, BitFault, Bits};
 
 /// Takes the parts after the first one into the draft.
-#[tactic(auto, unfolding(crate::specs::PacketReading::data_at))]
+#[tactic(auto, unfolding(crate::specs::PacketReading::data_at, crate::specs::PacketReading::sent_at, crate::specs::PacketReading::masked_at))]
 pub fn take_data(
     eye: &mut BitEye,
     change: &FirstPart,
@@ -35,8 +35,11 @@ pub fn take_data(
 {
     if take_bit(eye)? {
         take_unsent(eye, change, deduced, known, draft)
+    } else if take_bit(eye)? {
+        take_mask(eye, deduced, &mut draft.mask, &mut draft.spare)?;
+        take_content(eye, change, known, draft)
     } else {
-        take_sent(eye, change, deduced, known, draft)
+        take_maskless(eye, change, deduced, known, draft)
     }
 }
 
@@ -63,53 +66,6 @@ fn take_unsent(
     };
     draft.mask.copy_from(mask);
     take_part(eye, change, known, draft)
-}
-
-/// Takes what follows where a mask or a whole content is sent.
-#[tactic(auto, unfolding(crate::specs::PacketReading::sent_at))]
-fn take_sent(
-    eye: &mut BitEye,
-    change: &FirstPart,
-    deduced: Option<&Bits>,
-    known: Option<&Bits>,
-    draft: &mut Draft,
-) -> Result<DataKind, BitFault>
-    requires change { length change.now.recent ≡ length draft.old.content }
-    requires deduced { IfSome deduced (λ v. length v.now ≡ length draft.old.content) }
-    requires known { IfSome known (λ v. length v.now ≡ length draft.old.content) }
-    requires draft { IsDraft (length draft.old.content) draft.old }
-    ensures draft { IsDraft (length draft.old.content) draft.new }
-    ensures moves { MovesOn eye.old eye.new }
-    ensures reading { Tells (λ kind. outcome_of kind draft.new.mask draft.new.content) result eye.new
-        (sent_at (length draft.old.content) change.now (option_map (λ v. v.now) deduced.entry) (option_map (λ v. v.now) known.entry) (bits_left eye.old)) }
-{
-    if take_bit(eye)? {
-        take_masked(eye, change, deduced, known, draft)
-    } else {
-        take_maskless(eye, change, deduced, known, draft)
-    }
-}
-
-/// Takes a sent mask and what follows.
-#[tactic(auto, unfolding(crate::specs::PacketReading::masked_at))]
-fn take_masked(
-    eye: &mut BitEye,
-    change: &FirstPart,
-    deduced: Option<&Bits>,
-    known: Option<&Bits>,
-    draft: &mut Draft,
-) -> Result<DataKind, BitFault>
-    requires change { length change.now.recent ≡ length draft.old.content }
-    requires deduced { IfSome deduced (λ v. length v.now ≡ length draft.old.content) }
-    requires known { IfSome known (λ v. length v.now ≡ length draft.old.content) }
-    requires draft { IsDraft (length draft.old.content) draft.old }
-    ensures draft { IsDraft (length draft.old.content) draft.new }
-    ensures moves { MovesOn eye.old eye.new }
-    ensures reading { Tells (λ kind. outcome_of kind draft.new.mask draft.new.content) result eye.new
-        (masked_at (length draft.old.content) change.now (option_map (λ v. v.now) deduced.entry) (option_map (λ v. v.now) known.entry) (bits_left eye.old)) }
-{
-    take_mask(eye, deduced, &mut draft.mask, &mut draft.spare)?;
-    take_content(eye, change, known, draft)
 }
 
 /// Takes what follows where the content must be whole, since no mask is sent.

@@ -90,10 +90,11 @@ impl Decoder {
         ensures latest { (form : Form) (mask content : List Bool) →
             Spells self.old.places self.old.state t (bits_of bytes.now) form mask content →
             self.new ≡ record {
-                places = self.old.places;
-                state = Some (record { number = t; mask = mask; content = content });
-                recent = form.recent;
-                level = form.level } }
+              places = self.old.places;
+              state = Some (record { number = t; mask = mask; content = content });
+              recent = form.recent;
+              level = form.level;
+            } }
         ensures unchanged { (result ≡ Ok Reading.Written → ⊥) → self.new ≡ self.old }
         ensures places { self.new.places ≡ self.old.places }
     {
@@ -155,6 +156,7 @@ impl Decoder {
     /// The effective robustness level of the latest written packet, from 0 to 15, and 0 before the first.
     pub fn level(&self) -> u8
         ensures level { result ≡ self.now.level }
+        ensures most { result < 16 }
         ensures first { IfNone self.now.state (result ≡ 0) }
     {
         self.shown.level()

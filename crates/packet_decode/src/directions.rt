@@ -3,7 +3,6 @@
 ghost use Rattle.std.specs.Prelude.{◌≡◌, length, true, Contains};
 ghost use Rattle.bit_vectors.specs.Eye.{bits_left};
 ghost use Rattle.bit_vectors.specs.Reading.{MovesOn, Gives};
-ghost use Rattle.packet_encode.specs.Forms.{Directions};
 ghost use Rattle.packet_decode.specs.PacketReading.{directions_at, named_at};
 ghost use Rattle.packet_decode.specs.Parts.{directions_of};
 

@@ -18,3 +18,6 @@ pub use laws::{
     exact_answers_are_sound, no_further_bit, one_exact_answer, one_packet, one_reading,
     opaque_fronts_go_on, reading_is_exact, sound_answers_agree, worked_packets,
 };
+
+#[cfg(test)]
+mod tests;

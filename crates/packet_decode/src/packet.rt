@@ -3,8 +3,7 @@
 ghost use Rattle.std.specs.Prelude.{◌≡◌, ◌<◌, length, IfSome};
 ghost use Rattle.bit_vectors.specs.Eye.{bits_left};
 ghost use Rattle.bit_vectors.specs.Reading.{MovesOn};
-ghost use Rattle.packet_decode.specs.State.{Change};
-ghost use Rattle.packet_decode.specs.PacketReading.{Found, Tells, parts_at, packet_at, whole_packet_at};
+ghost use Rattle.packet_decode.specs.PacketReading.{Tells, parts_at, whole_packet_at};
 ghost use Rattle.packet_decode.specs.Parts.{IsLatest, IsDraft, outcome_of, state_of, reaches};
 
 use crate::change::FirstPart;
@@ -15,7 +14,7 @@ use bit_vectors::{BitEye, BitFault, Bits};
 
 /// Takes the packet with the number `t` and the end, or an opaque front: its first part into `next`, and its
 /// mask and its content into the draft, where it has them. The eye stands at the first bit.
-#[tactic(auto, unfolding(crate::specs::PacketReading::whole_packet_at))]
+#[tactic(auto, unfolding(crate::specs::PacketReading::whole_packet_at, crate::specs::PacketReading::packet_at))]
 pub fn take_whole_packet(
     eye: &mut BitEye,
     t: u64,
@@ -37,36 +36,9 @@ pub fn take_whole_packet(
     ensures reading { Tells (λ kind. record { change = next.new; outcome = outcome_of kind draft.new.mask draft.new.content })
         result eye.new (whole_packet_at (length draft.old.content) (state_of latest.now) t (bits_left eye.old)) }
 {
-    let kind = take_packet(eye, t, latest, next, deduced, draft)?;
-    take_end(eye, kind)?;
-    Ok(kind)
-}
-
-/// Takes all parts of a packet and its padding.
-#[tactic(auto, unfolding(crate::specs::PacketReading::packet_at))]
-fn take_packet(
-    eye: &mut BitEye,
-    t: u64,
-    latest: &Latest,
-    next: &mut FirstPart,
-    deduced: &mut Bits,
-    draft: &mut Draft,
-) -> Result<DataKind, BitFault>
-    requires start { eye.old.place ≡ 0 }
-    requires later { IfSome latest.now.number (λ last. last < t) }
-    requires latest { IsLatest (length draft.old.content) latest.now }
-    requires next { length next.old.recent ≡ length draft.old.content }
-    requires deduced { length deduced.old ≡ length draft.old.content }
-    requires draft { IsDraft (length draft.old.content) draft.old }
-    ensures next { length next.new.recent ≡ length next.old.recent }
-    ensures deduced { length deduced.new ≡ length deduced.old }
-    ensures draft { IsDraft (length draft.old.content) draft.new }
-    ensures moves { MovesOn eye.old eye.new }
-    ensures reading { Tells (λ kind. record { change = next.new; outcome = outcome_of kind draft.new.mask draft.new.content })
-        result eye.new (packet_at (length draft.old.content) (state_of latest.now) t (bits_left eye.old)) }
-{
     let kind = take_parts(eye, t, latest, next, deduced, draft)?;
     take_padding(eye, kind)?;
+    take_end(eye, kind)?;
     Ok(kind)
 }
 

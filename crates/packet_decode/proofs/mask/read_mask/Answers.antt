@@ -1,5 +1,4 @@
-use Rattle.std.proofs.Common.{◌≡◌, List, Bool, length, None, refl, ap, sym, ◌∙◌}
-use Rattle.bit_vectors.specs.Eye.{bits_left}
+use Rattle.std.proofs.Common.{◌≡◌, refl, ap, sym, ◌∙◌}
 use Rattle.packet_decode.specs.PacketReading.{mask_at, from_edges as mask_of_edges}
 use Rattle.packet_decode.proofs.EdgeMasks.{from_edges-edges}
 use Rattle.packet_decode.proofs.mask.read_mask.Goals as goal

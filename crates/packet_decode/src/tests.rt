@@ -1,0 +1,203 @@
+//! Packets of 8 places, with their data and answers worked out by hand.
+
+use crate::{Decoder, Reading};
+use bit_vectors::{BitFault, Bits};
+use std::test::Fail;
+
+/// The data of packets, each with its number and the answer that it must have, and what a decoder that reads
+/// them in this order shows at the end.
+#[derive(Clone, Copy)]
+struct Run<'a> {
+    packets: &'a [(u64, &'a [u8], Answer)],
+    last: Option<u64>,
+    mask: u8,
+    content: u8,
+    recent: u8,
+    level: u8,
+}
+
+/// What the data must be answered.
+#[derive(Clone, Copy)]
+enum Answer {
+    Written,
+    Unsynced,
+    Gap(u8),
+    Early(u32),
+    Wrong(u32),
+}
+
+use Answer::{Early, Gap, Unsynced, Written, Wrong};
+
+impl Answer {
+    fn result(self) -> Result<Reading, BitFault> {
+        match self {
+            Written => Ok(Reading::Written),
+            Unsynced => Ok(Reading::Unsynced),
+            Gap(level) => Ok(Reading::Gap { level }),
+            Early(bit) => Err(BitFault::EndsEarly { bit }),
+            Wrong(bit) => Err(BitFault::Wrong { bit }),
+        }
+    }
+}
+
+/// Whether the data have their answer, where they may be read.
+fn answers(decoder: &mut Decoder, t: u64, data: &[u8], answer: Answer) -> bool {
+    if let Some(last) = decoder.last() {
+        if last >= t {
+            return false;
+        }
+    }
+    t <= 9 && data.len() <= 9 && decoder.read(t, data) == answer.result()
+}
+
+/// A vector of 8 places as a byte.
+fn byte(vector: &Bits) -> u8 {
+    let mut out = [0];
+    if vector.len() == 8 {
+        vector.store(&mut out);
+    }
+    out[0]
+}
+
+fn passes(decoder: &mut Decoder, run: &Run<'_>) -> bool {
+    for &(t, data, answer) in run.packets {
+        if !answers(decoder, t, data, answer) {
+            return false;
+        }
+    }
+    decoder.last() == run.last
+        && byte(decoder.mask()) == run.mask
+        && byte(decoder.content()) == run.content
+        && byte(decoder.recent()) == run.recent
+        && decoder.level() == run.level
+}
+
+/// Every front of each packet of a recording `B0 B1 B1 B3`, and the packet: mask and content, mask and content
+/// again, one extracted bit, two.
+const FRONTS: Run<'static> = Run {
+    packets: &[
+        (0, &[], Early(0)),
+        (0, &[0x85], Early(8)),
+        (0, &[0x85, 0xB8], Early(16)),
+        (0, &[0x85, 0xB8, 0xD6], Early(24)),
+        (0, &[0x85, 0xB8, 0xD6, 0x00], Written),
+        (1, &[], Early(0)),
+        (1, &[0x42], Early(8)),
+        (1, &[0x42, 0x4B], Early(16)),
+        (1, &[0x42, 0x4B, 0x8D], Early(24)),
+        (1, &[0x42, 0x4B, 0x8D, 0x62], Written),
+        (2, &[], Early(0)),
+        (2, &[0x44], Early(8)),
+        (2, &[0x44, 0xC0], Written),
+        (3, &[], Early(0)),
+        (3, &[0xC0], Early(8)),
+        (3, &[0xC0, 0x85], Early(16)),
+        (3, &[0xC0, 0x85, 0xC0], Written),
+    ],
+    last: Some(3),
+    mask: 0x03,
+    content: 0xB3,
+    recent: 0x02,
+    level: 1,
+};
+
+/// A place that became predictable and is extracted again: padding with a one, a byte after the packet, and
+/// every front of it.
+const DIRECTIONS: Run<'static> = Run {
+    packets: &[
+        (4, &[0x81, 0x2E, 0x30, 0x08], Written),
+        (5, &[0x47, 0xF8], Wrong(12)),
+        (5, &[0x47, 0xF0, 0x00], Wrong(16)),
+        (5, &[], Early(0)),
+        (5, &[0x47], Early(8)),
+        (5, &[0x47, 0xF0], Written),
+    ],
+    last: Some(5),
+    mask: 0x00,
+    content: 0x01,
+    recent: 0x01,
+    level: 3,
+};
+
+/// After two lost packets: two that can't be understood, and every front of one that stands alone.
+const ALONE: Run<'static> = Run {
+    packets: &[
+        (1, &[0x81, 0x2E, 0x30, 0x08], Written),
+        (4, &[], Early(0)),
+        (4, &[0x87], Gap(1)),
+        (4, &[0x87, 0x80], Gap(1)),
+        (5, &[], Early(0)),
+        (5, &[0x8B], Gap(2)),
+        (5, &[0x8B, 0x80], Gap(2)),
+        (6, &[], Early(0)),
+        (6, &[0x8D], Early(8)),
+        (6, &[0x8D, 0x60], Early(16)),
+        (6, &[0x8D, 0x60, 0x5C], Early(24)),
+        (6, &[0x8D, 0x60, 0x5C, 0x60], Early(32)),
+        (6, &[0x8D, 0x60, 0x5C, 0x60, 0x30], Written),
+    ],
+    last: Some(6),
+    mask: 0x03,
+    content: 0x03,
+    recent: 0x00,
+    level: 3,
+};
+
+/// A count above eight, a count of 34 or more, a ninth place, a ninth place; directions without a place; neither
+/// a mask nor a content; another mask; another content; and the packet.
+const FAULTS: Run<'static> = Run {
+    packets: &[
+        (0, &[0x85, 0xB8, 0xD6, 0x00], Written),
+        (1, &[0xD0], Wrong(3)),
+        (1, &[0xE0], Wrong(2)),
+        (1, &[0x00, 0x00], Wrong(8)),
+        (1, &[0x00, 0xC0], Wrong(9)),
+        (1, &[0x43, 0x00], Wrong(8)),
+        (1, &[0x43], Early(8)),
+        (1, &[0x84, 0x00], Wrong(8)),
+        (1, &[0x42, 0x5B, 0x8D, 0x62], Wrong(11)),
+        (1, &[0x42, 0x4B, 0x8C, 0x62], Wrong(23)),
+        (1, &[0x42, 0x4B, 0x8D, 0x62], Written),
+    ],
+    last: Some(1),
+    mask: 0x01,
+    content: 0xB1,
+    recent: 0x01,
+    level: 1,
+};
+
+/// A packet out of reach, and one whose level reaches back over it.
+const REACH: Run<'static> = Run {
+    packets: &[
+        (0, &[0x85, 0xB8, 0xD6, 0x00], Written),
+        (2, &[0x82], Gap(0)),
+        (3, &[0x8A], Written),
+    ],
+    last: Some(3),
+    mask: 0x00,
+    content: 0xB0,
+    recent: 0x00,
+    level: 2,
+};
+
+/// With nothing known: a content of nine places, and a packet that doesn't stand alone.
+const UNSYNCED: Run<'static> = Run {
+    packets: &[
+        (0, &[0x85, 0xB8, 0xF6, 0x00], Wrong(18)),
+        (5, &[0x82], Unsynced),
+    ],
+    last: None,
+    mask: 0x00,
+    content: 0x00,
+    recent: 0x00,
+    level: 0,
+};
+
+#[test]
+fn worked_data(rt: HostRuntime) -> Result<(), Fail> {
+    for run in [FRONTS, DIRECTIONS, ALONE, FAULTS, REACH, UNSYNCED] {
+        let mut decoder = Decoder::open(rt.alloc(), 8)?;
+        assert!(rt; passes(&mut decoder, &run));
+    }
+    Ok(())
+}
