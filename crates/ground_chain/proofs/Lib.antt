@@ -3,3 +3,8 @@ mod Runs
 mod Sound
 mod Told
 mod Counted
+mod Receptions
+mod Writings
+mod RestCourses
+mod KeptNumbers
+mod Restorations

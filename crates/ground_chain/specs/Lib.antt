@@ -3,3 +3,5 @@ pub mod Run
 pub mod Sound
 pub mod Report
 pub mod Told
+pub mod Reception
+pub mod Restoring

@@ -1,14 +1,21 @@
 //! The receiving end: from the packets that arrived to the restored packets and a report of those that can't be known.
 #![tactic(auto)]
 
+mod arrivals;
+mod fault;
 mod laws;
 mod report;
 mod restored;
+mod restorer;
+mod restoring;
 mod unwrap;
 mod verdict;
 
+pub use arrivals::Ground;
+pub use fault::RestoreFault;
 pub use laws::{every_number_once, numbers_are_the_next_ones, numbers_count_the_run, numbers_rise, one_exact_run, repeats_change_nothing, runs_grow, sound_runs_agree};
 pub use restored::Restored;
+pub use restorer::Restorer;
 pub use unwrap::Unwrap;
 pub use verdict::{Kind, Lost, Verdict};
 

@@ -1,4 +1,4 @@
-ghost use Rattle.std.specs.Prelude.{◌≡◌, ◌<◌, ◌^◌, None, IfSome};
+ghost use Rattle.std.specs.Prelude.{◌≡◌, ◌+◌, ◌<◌, ◌≤◌, ◌^◌, None, IfSome};
 ghost use Rattle.ground_chain.specs.Numbers.{number_after, latest_after, expected};
 
 use packet_store::PERIOD;
@@ -34,6 +34,7 @@ impl Unwrap {
         requires room { IfSome self.old (λ latest. latest < 2 ^ 61) }
         ensures number { result ≡ number_after self.old count }
         ensures latest { self.new ≡ latest_after self.old result }
+        ensures near { IfSome result (λ t. (expected self.old ≤ t) × (t < expected self.old + PERIOD)) }
     {
         let count = u64::from(count);
         let number = match self.latest {

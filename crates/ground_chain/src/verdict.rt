@@ -1,5 +1,8 @@
 //! What is said of each arrival.
 
+ghost use Rattle.std.specs.Prelude.{◌≡◌};
+ghost use Rattle.ground_chain.specs.Report.{is_written};
+
 use bit_vectors::BitFault;
 
 /// Numbers that did not arrive: all from the first to the last, at least one.
@@ -23,6 +26,15 @@ pub enum Kind {
     Gap { level: u8 },
     /// Its data are no packet, from this bit on.
     Refused { fault: BitFault },
+}
+
+impl Kind {
+    /// Whether the arrival is restored.
+    pub fn is_written(&self) -> bool
+        ensures { result ≡ is_written self.now }
+    {
+        matches!(self, Kind::Written)
+    }
 }
 
 /// An arrival: the numbers that are missing before it, its own number, and what became of it.

@@ -1,0 +1,47 @@
+use Rattle.std.proofs.Common.{◌≡◌, ℕ, List, Option, Some, None, refl, sym, ap, ◌∙◌, subst, rules}
+use Rattle.packet_decode.specs.Decoding.{Decoding}
+use Rattle.ground_chain.specs.declared.verdict.Verdict.{Verdict}
+use Rattle.ground_chain.specs.Numbers.{number_after, latest_after, expected}
+use Rattle.ground_chain.specs.Run.{Known, Judged, lost_from, kind_of, repeated}
+use Rattle.ground_chain.specs.Reception.{Reception, StandsFor, known_by, next_judged}
+use Rattle.ground_chain.proofs.Receptions.{judged_read, judged_repeat, stands_next}
+use Rattle.ground_chain.proofs.arrivals.Ground.arrive.Goals as goal
+
+pub returns-in_default-clause-stands : goal.returns-in_default-clause-stands
+returns-in_default-clause-stands c = λ arrivals stands.
+    let old : Reception = record { latest = c.self.inside.numbers; decoder = c.self.inside.decoder } in
+    let new : Reception = record { latest = c.next.new.self; decoder = c.self.inside.decoder } in
+    let none : number_after c.self.inside.numbers c.args.count ≡ None = search rules in
+    let same : c.next.new.self ≡ c.self.inside.numbers = search rules in
+    let known : known_by new ≡ (next_judged old c.args.count c.args.bytes.now).after =
+    ap (λ (latest : Option ℕ). record { latest = latest; state = c.self.inside.decoder.state }) same ∙ ap (λ (j : Judged). j.after) (judged_repeat old c.args.count c.args.bytes.now none) in
+    stands_next arrivals old new c.args.count c.args.bytes.now refl known (subst (StandsFor arrivals) (sym c.self.view_is) stands)
+
+pub returns-clause-verdict : goal.returns-clause-verdict
+returns-clause-verdict c =
+    let old : Reception = record { latest = c.self.inside.numbers; decoder = c.self.inside.decoder } in
+    let number : number_after c.self.inside.numbers c.args.count ≡ Some c.in-Some.t = sym c.next.ensures.number ∙ c.in-Some.is in
+    let lost = c.lost_from-lost.ensures.is ∙ ap (λ (n : ℕ). lost_from n c.in-Some.t) c.expected-expected.ensures in
+    let verdict : Verdict = record { lost = c.lost_from-lost.result; t = c.in-Some.t; kind = c.kind_of-kind.result } in
+    let is : verdict ≡ record { lost = lost_from (expected c.self.inside.numbers) c.in-Some.t; t = c.in-Some.t; kind = kind_of c.read.result } =
+    λ i. record { lost = lost i; t = c.in-Some.t; kind = c.kind_of-kind.ensures i } in
+    let judged = judged_read old c.read.new.self c.args.count c.in-Some.t c.args.bytes.now verdict c.read.result c.self.invariant number is c.read.ensures.exact c.read.ensures.latest c.read.ensures.unchanged in
+    ap (λ (j : Judged). j.verdict) judged ∙ ap (λ (r : Reception). (next_judged r c.args.count c.args.bytes.now).verdict) c.self.view_is
+
+pub returns-clause-known : goal.returns-clause-known
+returns-clause-known c =
+    let old : Reception = record { latest = c.self.inside.numbers; decoder = c.self.inside.decoder } in
+    let number : number_after c.self.inside.numbers c.args.count ≡ Some c.in-Some.t = sym c.next.ensures.number ∙ c.in-Some.is in
+    let lost = c.lost_from-lost.ensures.is ∙ ap (λ (n : ℕ). lost_from n c.in-Some.t) c.expected-expected.ensures in
+    let verdict : Verdict = record { lost = c.lost_from-lost.result; t = c.in-Some.t; kind = c.kind_of-kind.result } in
+    let is : verdict ≡ record { lost = lost_from (expected c.self.inside.numbers) c.in-Some.t; t = c.in-Some.t; kind = kind_of c.read.result } =
+    λ i. record { lost = lost i; t = c.in-Some.t; kind = c.kind_of-kind.ensures i } in
+    let judged = judged_read old c.read.new.self c.args.count c.in-Some.t c.args.bytes.now verdict c.read.result c.self.invariant number is c.read.ensures.exact c.read.ensures.latest c.read.ensures.unchanged in
+    let latest : c.next.new.self ≡ Some c.in-Some.t = c.next.ensures.latest ∙ ap (latest_after c.self.inside.numbers) c.in-Some.is in
+    ap (λ (n : Option ℕ). record { latest = n; state = c.read.new.self.state }) latest ∙ ap (λ (j : Judged). j.after) judged ∙ ap (λ (r : Reception). (next_judged r c.args.count c.args.bytes.now).after) c.self.view_is
+
+pub returns-clause-stands : goal.returns-clause-stands
+returns-clause-stands c = λ arrivals stands.
+    let new : Reception = record { latest = c.next.new.self; decoder = c.read.new.self } in
+    let places = c.read.ensures.places ∙ ap (λ (r : Reception). r.decoder.places) c.self.view_is in
+    stands_next arrivals c.args.self.now new c.args.count c.args.bytes.now places (returns-clause-known c) stands

@@ -1,0 +1,26 @@
+use Rattle.std.proofs.Common.{◌≡◌, Ok, Err, Result, sym, ap, ◌∙◌, subst}
+use Rattle.std.proofs.lemmas.Result.{err_from_is_err_and}
+use Rattle.desk_ports.specs.declared.stop.Stop.{Stop}
+use Rattle.desk_ports.specs.Courses.{AfterRun, Ends}
+use Rattle.packet_store.specs.declared.fault.WalkFault.{WalkFault}
+use Rattle.ground_chain.specs.declared.restored.Restored.{Restored}
+use Rattle.ground_chain.specs.Restoring.{Restoration, fault_of, as_run, restore_course}
+use Rattle.ground_chain.proofs.Restorations.{AfterRun-restored, as_run-stopped}
+use Rattle.ground_chain.proofs.restorer.Restorer.restore.Goals as goal
+
+pub returns-in_err-restored-clause-ran : goal.returns-in_err-restored-clause-ran
+returns-in_err-restored-clause-ran g c =
+    let a = g.D.Desk.meaning c.args.desk.now in
+    let b = g.D.Desk.meaning c.run.new.desk in
+    let stop = c.in_err-restored.field-0.0 in
+    let stopped : AfterRun {T = Restored} (restore_course c.args.self.places c.args.self.apid) a b (Err stop) =
+    subst (λ (r : Restoration). AfterRun {T = Restored} (restore_course r.places r.apid) a b (Err stop)) c.self.view_is (AfterRun-restored c.self.inside.restoring a b (Err stop) c.self.invariant c.in_err-restored.ensures.ran) in
+    let answered = subst (λ (r : Result Restored (Stop WalkFault)). AfterRun (restore_course c.args.self.places c.args.self.apid) a b r) (sym (as_run-stopped stop)) stopped in
+    let p = err_from_is_err_and c.from_residual.result c.from_residual.ensures.1 in
+    rw (p.1, p.2) answered
+
+pub returns-clause-ran : goal.returns-clause-ran
+returns-clause-ran g c =
+    let a = g.D.Desk.meaning c.args.desk.now in
+    let b = g.D.Desk.meaning c.run.new.desk in
+    subst (λ (r : Restoration). AfterRun (restore_course r.places r.apid) a b (Ok c.in_ok-restored.restored)) c.self.view_is (AfterRun-restored c.self.inside.restoring a b (Ok c.in_ok-restored.restored) c.self.invariant c.in_ok-restored.ensures.ran)

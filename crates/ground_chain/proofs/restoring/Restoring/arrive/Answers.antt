@@ -1,0 +1,45 @@
+use Rattle.std.proofs.Common.{◌≡◌, ℕ, true, List, Option, Some, None, refl, sym, ap, ◌∙◌, subst}
+use Rattle.desk_ports.specs.declared.desk.Outlet.TheVariants as outlet
+use Rattle.desk_ports.specs.Meanings.{Adds, AddsFront}
+use Rattle.packet_decode.specs.State.{Packet}
+use Rattle.packet_decode.specs.Decoding.{Decoding}
+use Rattle.ground_chain.specs.declared.verdict.Kind.{Kind}
+use Rattle.ground_chain.specs.declared.verdict.Verdict.{Verdict}
+use Rattle.ground_chain.specs.Run.{Known, Judged}
+use Rattle.ground_chain.specs.Report.{is_written, verdict_rows}
+use Rattle.ground_chain.specs.Reception.{Reception, next_judged}
+use Rattle.ground_chain.specs.Restoring.{Progress, WroteFront, judged_outputs}
+use Rattle.ground_chain.proofs.Writings.{OnErr-always, kind_written, content_written, front_rows, front_content}
+use Rattle.ground_chain.proofs.restoring.Restoring.arrive.Goals as goal
+
+pub returns-in_err-write_all-clause-front : goal.returns-in_err-write_all-clause-front
+returns-in_err-write_all-clause-front g c =
+    let a = g.D.Desk.meaning c.args.desk.now in
+    let b = g.D.Desk.meaning c.write_all.new.desk in
+    let inner = next_judged c.self.inside.arrivals c.args.count c.body.result.now in
+    let body = c.body.ensures ∙ ap (λ (s : Progress). s.reader.body) c.self.view_is in
+    let same : inner ≡ next_judged c.args.self.now.reception c.args.count c.args.self.now.reader.body = λ i. next_judged (c.self.view_is i).reception c.args.count (body i) in
+    let rows = c.as_bytes.ensures ∙ (c.rows_of.ensures ∙ ap verdict_rows c.arrive-verdict.ensures.verdict) in
+    let front = front_rows a b inner (subst (AddsFront a b outlet.Report) rows c.in_err-write_all.ensures.front) in
+    OnErr-always c.from_residual.result (WroteFront a b (judged_outputs (next_judged c.args.self.now.reception c.args.count c.args.self.now.reader.body)))
+    (subst (λ (j : Judged). WroteFront a b (judged_outputs j)) same front)
+
+pub returns-in_err-write_content-clause-front : goal.returns-in_err-write_content-clause-front
+returns-in_err-write_content-clause-front g c =
+    let a = g.D.Desk.meaning c.args.desk.now in
+    let b = g.D.Desk.meaning c.write_all.new.desk in
+    let d = g.D.Desk.meaning c.write_content.new.desk in
+    let inner = next_judged c.self.inside.arrivals c.args.count c.body.result.now in
+    let body = c.body.ensures ∙ ap (λ (s : Progress). s.reader.body) c.self.view_is in
+    let same : inner ≡ next_judged c.args.self.now.reception c.args.count c.args.self.now.reader.body = λ i. next_judged (c.self.view_is i).reception c.args.count (body i) in
+    let rows = c.as_bytes.ensures ∙ (c.rows_of.ensures ∙ ap verdict_rows c.arrive-verdict.ensures.verdict) in
+    let written : is_written c.arrive-verdict.result.kind ≡ true = sym c.is_written.ensures ∙ c.if-is_written.true in
+    let latest = c.arrive-verdict.ensures.written (kind_written c.arrive-verdict.result.kind written) in
+    let packet : Packet = record { number = c.arrive-verdict.result.t; mask = latest.mask; content = latest.content } in
+    let state = ap (λ (x : Decoding). x.state) latest.is in
+    let after = ap (λ (k : Known). k.state) c.arrive-verdict.ensures.known in
+    let kind : is_written inner.verdict.kind ≡ true = ap (λ (v : Verdict). is_written v.kind) (sym c.arrive-verdict.ensures.verdict) ∙ written in
+    let content = content_written inner c.arrive-verdict.new.self.decoder.places c.arrive-verdict.new.self.decoder.state packet kind after state in
+    let front = front_content a b d inner _ (subst (Adds a b outlet.Report) rows c.in_ok-write_all.ensures.added) c.in_err-write_content.ensures.front content in
+    OnErr-always c.from_residual-in_err-write_content.result (WroteFront a d (judged_outputs (next_judged c.args.self.now.reception c.args.count c.args.self.now.reader.body)))
+    (subst (λ (j : Judged). WroteFront a d (judged_outputs j)) same front)

@@ -1,0 +1,117 @@
+//! The arrivals, one after the other, with a verdict for each.
+
+ghost use Rattle.std.specs.Prelude.{◌≡◌, ◌+◌, ◌^◌, ◌<◌, ◌≤◌, ◌↔◌, ◌∷◌, ◌++◌, [], List, None, IfSome, IfOk, length};
+ghost use Rattle.ground_chain.specs.Numbers.{expected, number_after};
+ghost use Rattle.ground_chain.specs.Run.{Arrival, kind_of, lost_from};
+ghost use Rattle.ground_chain.specs.Reception.{AreLost, IsLatest, StandsFor, known_by, next_judged, nothing_arrived};
+
+use crate::unwrap::Unwrap;
+use crate::verdict::{Kind, Lost, Verdict};
+use bit_vectors::{BitFault, NoMemory};
+use packet_decode::{Decoder, Reading};
+use packet_store::PERIOD;
+use std::alloc::Global;
+use std::marker::Model;
+
+/// Gives each packet that arrives its number and its verdict, and keeps the latest written packet. Contracts see
+/// the latest number and the decoder, and say for which arrivals it stands.
+#[derive(Debug, Drop)]
+pub struct Ground {
+    numbers: Unwrap,
+    decoder: Decoder,
+}
+
+impl Model for Ground {
+    ghost use Rattle.ground_chain.specs.Reception.{Reception, IsReception};
+
+    ghost Value = { Reception };
+
+    ghost view = { λ g. record { latest = g.numbers; decoder = g.decoder } };
+
+    ghost invariant = { λ g. IsReception g.numbers g.decoder };
+}
+
+impl Ground {
+    /// Nothing has arrived. The vectors have `f` places. Takes all memory that `arrive` needs.
+    pub fn open(alloc: Global, f: u32) -> Result<Ground, NoMemory>
+        requires some { 1 ≤ f }
+        requires most { f ≤ 49152 }
+        ensures opened { IfOk result (λ g. g ≡ nothing_arrived f) }
+        ensures stands { IfOk result (λ g. StandsFor [] g) }
+    {
+        let decoder = Decoder::open(alloc, f)?;
+        Ok(Ground {
+            numbers: Unwrap::new(),
+            decoder,
+        })
+    }
+
+    /// Takes the next arrival, with this sequence count and these data bytes, at most 65,536. A repeat changes
+    /// nothing, and its data are not read. It takes no memory.
+    pub fn arrive(&mut self, count: u16, bytes: &[u8]) -> Verdict
+        requires count_bits { count < PERIOD }
+        requires latest { IfSome self.old.latest (λ latest. latest < 2 ^ 61) }
+        requires size { length bytes.now ≤ 65536 }
+        // The verdict is the run's next one, and what is known is what the run knows after it.
+        ensures verdict { result ≡ (next_judged self.old count bytes.now).verdict }
+        ensures known { known_by self.new ≡ (next_judged self.old count bytes.now).after }
+        ensures stands { (arrivals : List Arrival) → StandsFor arrivals self.old →
+            StandsFor (arrivals ++ record { count = count; body = bytes.now } ∷ []) self.new }
+        // Repeat comes exactly for the count of the latest number.
+        ensures repeat { (result.kind ≡ Kind.Repeat) ↔ (number_after self.old.latest count ≡ None) }
+        ensures repeated { result.kind ≡ Kind.Repeat → self.new ≡ self.old }
+        // Only a written packet changes the decoder.
+        ensures written { result.kind ≡ Kind.Written → IsLatest self.old.decoder self.new.decoder result.t bytes.now }
+        ensures unchanged { (result.kind ≡ Kind.Written → ⊥) → self.new.decoder ≡ self.old.decoder }
+        ensures places { self.new.decoder.places ≡ self.old.decoder.places }
+        ensures lost { IfSome result.lost AreLost }
+        ensures near { expected self.new.latest ≤ expected self.old.latest + PERIOD }
+    {
+        let expected = self.numbers.expected();
+        let Some(t) = self.numbers.next(count) else {
+            return Verdict {
+                lost: None,
+                t: expected - 1,
+                kind: Kind::Repeat,
+            };
+        };
+        let lost = lost_from(expected, t);
+        let kind = kind_of(self.decoder.read(t, bytes));
+        Verdict { lost, t, kind }
+    }
+
+    /// The decoder, whose packet is the latest written one.
+    pub fn decoder(&self) -> &Decoder
+        ensures { result.now ≡ self.now.decoder }
+    {
+        &self.decoder
+    }
+}
+
+/// The numbers from the expected one to the one before `t`, where there are any.
+fn lost_from(expected: u64, t: u64) -> Option<Lost>
+    requires { t < expected + PERIOD }
+    ensures is { result ≡ lost_from expected t }
+    ensures few { IfSome result AreLost }
+{
+    if expected < t {
+        Some(Lost {
+            first: expected,
+            last: t - 1,
+        })
+    } else {
+        None
+    }
+}
+
+/// What an answer to the data says of the arrival.
+fn kind_of(answer: Result<Reading, BitFault>) -> Kind
+    ensures { result ≡ kind_of answer }
+{
+    match answer {
+        Ok(Reading::Written) => Kind::Written,
+        Ok(Reading::Unsynced) => Kind::Unsynced,
+        Ok(Reading::Gap { level }) => Kind::Gap { level },
+        Err(fault) => Kind::Refused { fault },
+    }
+}

@@ -1,0 +1,63 @@
+//! The command `restore`: from a store to the restored packets and the report.
+
+ghost use Rattle.std.specs.Prelude.{◌≡◌, ◌≤◌, IfOk, IfSome};
+ghost use Rattle.desk_ports.specs.Meanings.{IsReadyIn, IsReadyOut, left};
+ghost use Rattle.desk_ports.specs.Courses.{AfterRun, HasCause};
+ghost use Rattle.ground_chain.specs.Report.{restored_of};
+ghost use Rattle.ground_chain.specs.Restoring.{as_run, restore_course, store_run};
+
+use crate::fault::RestoreFault;
+use crate::restored::Restored;
+use crate::restoring::Restoring;
+use bit_vectors::NoMemory;
+use desk_ports::{Desk, Inlet, Outlet};
+use std::alloc::Global;
+use std::marker::Model;
+
+/// Restores a store: reads it from the main inlet of a desk, and writes the content of each restored packet to the
+/// main outlet, and the report. Contracts see the places of the vectors and the chosen APID.
+#[derive(Drop)]
+pub struct Restorer {
+    restoring: Restoring,
+}
+
+impl Model for Restorer {
+    ghost use Rattle.ground_chain.specs.Restoring.{Restoration, restoration_of, IsRestorer};
+
+    ghost Value = { Restoration };
+
+    ghost view = { λ r. restoration_of r.restoring };
+
+    ghost invariant = { λ r. IsRestorer r.restoring };
+}
+
+impl Restorer {
+    /// A restorer of packets of a chosen APID, which is no idle one, with vectors of `f` places. It takes all
+    /// memory of the run.
+    pub fn open(alloc: Global, f: u32, apid: u16) -> Result<Restorer, NoMemory>
+        requires some { 1 ≤ f }
+        requires most { f ≤ 49152 }
+        requires chosen { apid ≤ 2046 }
+        ensures { IfOk result (λ restorer. restorer ≡ record { places = f; apid = apid }) }
+    {
+        let restoring = Restoring::open(alloc, f, apid)?;
+        Ok(Restorer { restoring })
+    }
+
+    /// Restores the store, and tells the numbers of its run. It takes no memory.
+    pub fn restore<D: Desk>(self, desk: &mut D) -> Result<Restored, RestoreFault>
+        requires input { IsReadyIn (D.meaning desk.old) Inlet.Main }
+        requires output { IsReadyOut (D.meaning desk.old) Outlet.Main }
+        requires report { IsReadyOut (D.meaning desk.old) Outlet.Report }
+        // What stands after each answer is what the store owes, all of it or up to where its walk or the desk ends it.
+        ensures ran { AfterRun (restore_course self.places self.apid) (D.meaning desk.old) (D.meaning desk.new) (as_run result) }
+        ensures cause { HasCause (D.counts desk.old) (D.counts desk.new) (as_run result) }
+        // Where the desk tells the store, the numbers are those of the run over it.
+        ensures numbers { IfSome (left (D.meaning desk.old) Inlet.Main) (λ store.
+            IfOk result (λ restored. restored ≡ restored_of (store_run self.places self.apid store))) }
+    {
+        let mut restoring = self.restoring;
+        let restored = restoring.run(desk)?;
+        Ok(restored)
+    }
+}
