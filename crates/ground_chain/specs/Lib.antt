@@ -5,3 +5,4 @@ pub mod Report
 pub mod Told
 pub mod Reception
 pub mod Restoring
+pub mod Worked

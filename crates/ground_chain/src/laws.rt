@@ -5,9 +5,16 @@ ghost use Rattle.std.specs.List.{range_with_len};
 ghost use Rattle.packet_store.specs.SpacePackets.{period};
 ghost use Rattle.ground_chain.specs.Numbers.{HasCount, number_after, expected};
 ghost use Rattle.ground_chain.specs.Run.{Arrival, Judged, judge, known_after, repeated, run};
-ghost use Rattle.ground_chain.specs.Report.{is_repeat, restored_of, run_bytes, run_rows};
+ghost use Rattle.ground_chain.specs.Report.{is_repeat, restored_of, run_bytes, run_report, run_rows};
 ghost use Rattle.ground_chain.specs.Sound.{IsExactRun, IsSoundRun, but_for_faults};
+ghost use Rattle.ground_chain.specs.Restoring.{restore_course, store_run};
+ghost use Rattle.ground_chain.specs.Worked.{arrival, written_verdict};
+ghost use Rattle.desk_ports.specs.Courses.{AreFronts, owed};
+ghost use Rattle.packet_store.specs.Walks.{walk};
 ghost use Rattle.ground_chain.specs.Told.{AreArrivals, run_numbers};
+
+use crate::verdict::Kind;
+use bit_vectors::BitFault;
 
 /// The first arrival has its count as its number. Any later one is a repeat exactly where it has the
 /// count of the latest number, and has otherwise the least greater number with its count.
@@ -72,4 +79,33 @@ pub fn numbers_count_the_run()
     ensures packets { (f : ℕ) (arrivals : List Arrival) → (restored_of (run f arrivals)).packets ≡ length arrivals }
     ensures listed { (f : ℕ) (arrivals : List Arrival) → AreArrivals arrivals → let restored = restored_of (run f arrivals) in
         restored.written + restored.listed ≡ expected (known_after f arrivals).latest }
+{}
+
+/// What a whole store owes is the restored packets and the report of the run over its packets of the chosen APID.
+pub fn whole_stores_owe_their_run()
+    ensures { (f apid : ℕ) (store : List ℕ) → (walk (Some apid) store).ending ≡ None →
+        owed (restore_course f apid store)
+        ≡ record { output = run_bytes (store_run f apid store); report = run_report (store_run f apid store) } }
+{}
+
+/// What a front of a store owes before its end is a front of what the store owes before its end.
+pub fn fronts_owe_fronts()
+    ensures { (f apid : ℕ) (front rest : List ℕ) → All (λ b. b < 256) front →
+        AreFronts (restore_course f apid front).before (restore_course f apid (front ++ rest)).before }
+{}
+
+/// Worked runs with vectors of 8 places: the verdicts of arrivals, each with its count and its data.
+pub fn worked_runs()
+    // Packets 1, 2 and 3 are sent, and 2 did not arrive. Level 2 reaches over it.
+    ensures lost { map (λ j. j.verdict) (run 8 (arrival 0 (0x85 ∷ 0xB8 ∷ 0xD6 ∷ 0x00 ∷ []) ∷ arrival 2 (0x82 ∷ []) ∷ arrival 3 (0x8A ∷ []) ∷ []))
+        ≡ written_verdict 0 ∷ record { lost = Some (record { first = 1; last = 1 }); t = 2; kind = Kind.Gap 0 } ∷ written_verdict 3 ∷ [] }
+    // A packet that comes twice.
+    ensures repeat { map (λ j. j.verdict) (run 8 (arrival 0 (0x85 ∷ 0xB8 ∷ 0xD6 ∷ 0x00 ∷ []) ∷ arrival 0 (0x85 ∷ 0xB8 ∷ 0xD6 ∷ 0x00 ∷ []) ∷ []))
+        ≡ written_verdict 0 ∷ record { lost = None; t = 0; kind = Kind.Repeat } ∷ [] }
+    // The first arrival comes late, and nothing is known.
+    ensures unsynced { map (λ j. j.verdict) (run 8 (arrival 5 (0x82 ∷ []) ∷ []))
+        ≡ record { lost = Some (record { first = 0; last = 4 }); t = 5; kind = Kind.Unsynced } ∷ [] }
+    // Directions without a place.
+    ensures wrong { map (λ j. j.verdict) (run 8 (arrival 0 (0x85 ∷ 0xB8 ∷ 0xD6 ∷ 0x00 ∷ []) ∷ arrival 1 (0x43 ∷ 0x00 ∷ []) ∷ []))
+        ≡ written_verdict 0 ∷ record { lost = None; t = 1; kind = Kind.Refused (BitFault.Wrong 8) } ∷ [] }
 {}

@@ -1,5 +1,6 @@
 use super::*;
 use packet_store::PERIOD;
+use std::test::Fail;
 
 // Counts of arrivals, one after the other, and their numbers.
 const ARRIVALS: [(u16, Option<u64>); 8] = [
@@ -31,4 +32,12 @@ fn numbers_at_the_corners(rt: HostRuntime) {
         assert_eq!(rt; numbered(&mut unwrap, count), number);
     }
     assert_eq!(rt; unwrap.last(), Some(49_150));
+}
+
+#[test]
+fn with_memory_all_is_opened(rt: HostRuntime) -> Result<(), Fail> {
+    let ground = Ground::open(rt.alloc(), 8)?;
+    assert_eq!(rt; ground.decoder().last(), None);
+    let _restorer = Restorer::open(rt.alloc(), 8, 100)?;
+    Ok(())
 }

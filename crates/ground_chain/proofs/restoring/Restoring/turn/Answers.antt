@@ -18,9 +18,7 @@ returns-in_default-clause-turned g c =
     let s : Progress = record { reader = c.self.inside.reader; reception = c.self.inside.arrivals; restored = c.self.inside.restored } in
     let moved : Moves a b inlet.Main [] = search rules in
     let before : IsAtEnd (left a inlet.Main) = search rules in
-    let at_end : IsAtEnd (left b inlet.Main) = subst IsAtEnd (moved.moved ∙ sym (prepend_known-none (left b inlet.Main))) before in
-    let last = to_report (end_row c.self.inside.restored) in
-    subst (λ (p : Progress). IsAtLast (rest_course p) a b (to_report (end_row c.self.inside.restored))) c.self.view_is (IsAtLast-end (rest_course s) a b (to_report (end_row c.self.inside.restored)) moved at_end (rest_course-none s))
+    subst (λ (p : Progress). IsAtLast (rest_course p) a b (to_report (end_row c.self.inside.restored))) c.self.view_is (IsAtLast-end (rest_course s) a b (to_report (end_row c.self.inside.restored)) moved before (rest_course-none s))
 
 pub returns-in_default-arrive-clause-turned : goal.returns-in_default-arrive-clause-turned
 returns-in_default-arrive-clause-turned g c =
