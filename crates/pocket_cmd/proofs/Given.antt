@@ -8,7 +8,8 @@ use Rattle.std.proofs.lemmas.List.Sums.{split_at_first, passes_at_first}
 use Rattle.std.proofs.lemmas.Slice.Eq.{bytes_eq-Decides}
 use Rattle.side_tables.specs.Numbers.{is_plain_decimal, number_of}
 use Rattle.pocket_cmd.specs.Words.{Value, Named, Numbered, Entry, entry_of, entry_with, read_as, read_name, read_value, numbered, is_equals_sign, kind_of, value_of, value_unless, first_faulty, verb_of, Gives}
-use Rattle.pocket_cmd.specs.Command.{Restoration, Command, Restore, IsGiven, restoration_of, with_values, with_verb, unless_faulty, command_of, name_in, number_in, ◌>>=◌}
+use Rattle.pocket_cmd.specs.Command.{Restoration, Command, Restore, IsGiven, IsRight, restoration_of, with_values, with_verb, unless_faulty, command_of, name_in, number_in, ◌>>=◌}
+use Rattle.pocket_cmd.specs.Courses.{names_of}
 use Rattle.pocket_cmd.specs.declared.words.Verb.{Verb}
 use Rattle.pocket_cmd.specs.declared.words.Verb.TheVariants as verb
 use Rattle.pocket_cmd.specs.declared.words.Kind.{Kind}
@@ -196,3 +197,20 @@ IsGiven-command_of (word ∷ words) r e = by_verb (verb_of word) e where
   by_verb : (o : Option Verb) → with_verb o words ≡ Ok (Restore r) → IsGiven (word ∷ words) r
   by_verb None e = absurd cc
   by_verb (Some verb.Restore) e = by_fault (first_faulty verb.Restore words) e
+
+-- what the words give to a command: values within their bounds, and its names
+pub record AreGiven (words : List (List ℕ)) (command : Command) : Type 0 where
+  pub right : IsRight command
+  pub input : Gives words (codes "in") (names_of command).input
+  pub output : Gives words (codes "out") (names_of command).output
+  pub report : Gives words (codes "report") (names_of command).report
+
+pub AreGiven-command_of : (words : List (List ℕ)) (command : Command) → command_of words ≡ Ok command → AreGiven words command
+AreGiven-command_of words (Restore r) e =
+    let given = IsGiven-command_of words r e in
+    record {
+      right = record { some = given.some; most = given.most; chosen = given.chosen };
+      input = given.named_input;
+      output = given.named_output;
+      report = given.named_report;
+    }
