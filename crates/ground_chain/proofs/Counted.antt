@@ -1,6 +1,5 @@
 -- The numbers of a run, arrival by arrival.
-use Rattle.std.proofs.Common.{◌≡◌, ℕ, zero, suc, ◌+◌, ◌-◌, ◌<◌, ◌≤◌, ltb, Bool, true, false, if◌then◌else◌, cond, List, [], ◌∷◌, length, Option, Some, None, Result, Ok, Err, refl, sym, ap, ◌∙◌, arith}
-use Rattle.std.specs.List.{sum_by, count_by}
+use Rattle.std.proofs.Common.{◌≡◌, ℕ, suc, ◌+◌, ◌-◌, ◌<◌, ◌≤◌, ltb, Bool, true, false, if◌then◌else◌, List, [], ◌∷◌, length, Option, Some, None, Result, Ok, Err, refl, ap, arith}
 use Rattle.std.proofs.lemmas.List.Sums.{sum_by-cons}
 use Rattle.std.proofs.lemmas.Grind.{common_steps}
 use Rattle.bit_vectors.specs.declared.fault.BitFault.{BitFault}
@@ -10,7 +9,7 @@ use Rattle.packet_decode.specs.PacketReading.{answer_of}
 use Rattle.bit_vectors.specs.Vectors.{bits_of}
 use Rattle.ground_chain.specs.declared.restored.Restored.{Restored}
 use Rattle.ground_chain.specs.Numbers.{number_after, expected}
-use Rattle.ground_chain.specs.Run.{Arrival, Known, Judged, lost_from, kind_of, verdict_of, judged_by, judge, run_from, known_from}
+use Rattle.ground_chain.specs.Run.{Arrival, Known, Judged, kind_of, judged_by, judge, run_from, known_from}
 use Rattle.ground_chain.specs.Report.{is_written, is_repeat, is_unwritten, lost_count, listed_by, restored_of, restored_by, added}
 use Rattle.ground_chain.specs.Told.{AreArrivals}
 use Rattle.ground_chain.proofs.Told.{IsLater, number_later, first_arrival, later_arrivals}

@@ -1,26 +1,24 @@
 -- What is owed for the rest of a store, packet by packet.
-use Rattle.std.proofs.Common.{◌≡◌, ℕ, ◌+◌, ◌≤◌, Bool, true, false, if◌then◌else◌, List, [], ◌∷◌, ◌++◌, length, map, Option, Some, None, Result, Ok, Err, IfSome, refl, sym, ap, ◌∙◌, subst, append-nil}
-use Rattle.std.specs.Io.KnownBytes.{IsAtEnd, prepend_known}
-use Rattle.std.specs.List.{filter, flat_map}
+use Rattle.std.proofs.Common.{◌≡◌, ℕ, Bool, true, false, if◌then◌else◌, List, [], ◌∷◌, ◌++◌, map, Option, None, refl, sym, ap, ◌∙◌, subst, append-nil}
+use Rattle.std.specs.List.{filter}
 use Rattle.std.proofs.lemmas.List.Concat.{flat_map-cons}
 use Rattle.desk_ports.specs.declared.desk.Inlet.TheVariants as inlet
-use Rattle.desk_ports.specs.Meanings.{Meanings, Moves, left}
+use Rattle.desk_ports.specs.Meanings.{Meanings, left}
 use Rattle.desk_ports.specs.Runs.{Ran}
-use Rattle.desk_ports.specs.Courses.{Outputs, Course, no_outputs, to_report, put, owed, behind, AreFronts, IsCutShort, Reaches, IsAtLast}
+use Rattle.desk_ports.specs.Courses.{no_outputs, to_report, put, owed, behind, AreFronts, IsCutShort, Reaches}
 use Rattle.desk_ports.proofs.Runs.{Ran-then, Ran-moves}
-use Rattle.desk_ports.proofs.Courses.{owed-behind, AreFronts-then, Reaches-moves, IsAtLast-end, IfSome-IsAtEnd, Went-ran, rest_of}
-use Rattle.packet_store.specs.declared.fault.WalkFault.{WalkFault}
+use Rattle.desk_ports.proofs.Courses.{owed-behind, AreFronts-then, Went-ran, rest_of}
 use Rattle.packet_store.specs.declared.reader.Taken.{Taken}
 use Rattle.packet_store.specs.SpacePackets.{Packet, is_chosen}
-use Rattle.packet_store.specs.Walks.{Walk, walked}
+use Rattle.packet_store.specs.Walks.{Walk}
 use Rattle.packet_store.specs.StoreReader.{ReaderState, Takes, walk_on}
 use Rattle.packet_store.proofs.Walks.{walk_from-none}
 use Rattle.packet_store.proofs.StoreCourses.{FollowsWalk}
 use Rattle.ground_chain.specs.declared.restored.Restored.{Restored}
-use Rattle.ground_chain.specs.Run.{Arrival, Known, Judged, judge, run_from}
+use Rattle.ground_chain.specs.Run.{Judged, run_from}
 use Rattle.ground_chain.specs.Report.{header_row, verdict_rows, written_bytes, run_bytes, run_rows, end_row, restored_of, restored_by, added}
-use Rattle.ground_chain.specs.Reception.{Reception, known_by, next_judged}
-use Rattle.ground_chain.specs.Restoring.{arrival_of, arrivals_of, store_run, restore_course, Progress, unread, rest_run, all_restored, rest_course, judged_outputs, Wrote, WroteFront, KeepsNumbers}
+use Rattle.ground_chain.specs.Reception.{known_by, next_judged}
+use Rattle.ground_chain.specs.Restoring.{arrival_of, arrivals_of, store_run, restore_course, Progress, unread, rest_run, all_restored, rest_course, judged_outputs, Wrote, WroteFront}
 use Rattle.ground_chain.proofs.Counted.{restored_of-cons, added-assoc, none-added, added-none}
 
 -- ---- the walk

@@ -1,16 +1,15 @@
 -- A run from a store's first byte, as the answer of a restorer.
-use Rattle.std.proofs.Common.{◌≡◌, ℕ, List, Option, Some, None, Result, Ok, Err, IfOk, IfSome, refl, sym, ap, ◌∙◌, subst}
+use Rattle.std.proofs.Common.{◌≡◌, ℕ, List, Result, Err, refl, sym, ap, ◌∙◌, subst}
 use Rattle.desk_ports.specs.declared.stop.Stop.{Stop}
 use Rattle.desk_ports.specs.declared.stop.Stop.TheVariants.{Data, ReadFault, WriteFault}
-use Rattle.desk_ports.specs.Meanings.{Meanings, Counts}
-use Rattle.desk_ports.specs.Courses.{Course, AfterRun, HasCause, behind, to_report}
+use Rattle.desk_ports.specs.Meanings.{Meanings}
+use Rattle.desk_ports.specs.Courses.{Course, AfterRun, behind, to_report}
 use Rattle.packet_store.specs.declared.fault.StoreKind.TheVariants as kind
 use Rattle.packet_store.specs.declared.fault.WalkFault.{WalkFault}
 use Rattle.packet_store.specs.declared.fault.WalkFault.TheVariants.{Bad, TooMany}
 use Rattle.ground_chain.specs.declared.restored.Restored.{Restored}
-use Rattle.ground_chain.specs.declared.fault.RestoreFault.{RestoreFault}
 use Rattle.ground_chain.specs.Report.{header_row, restored_of}
-use Rattle.ground_chain.specs.Restoring.{Progress, Restoration, restoration_of, IsRestorer, unread, fault_of, stop_by, as_run, store_run, restore_course, rest_course, rest_run, all_restored}
+use Rattle.ground_chain.specs.Restoring.{Progress, restoration_of, IsRestorer, fault_of, stop_by, as_run, store_run, restore_course, rest_course, all_restored}
 use Rattle.ground_chain.proofs.Counted.{none-added}
 use Rattle.ground_chain.proofs.RestCourses.{restore_course-first}
 

@@ -1,20 +1,16 @@
 -- The verdicts of a run tell of each number up to the last arrival once.
-use Rattle.std.proofs.Common.{◌≡◌, ℕ, zero, suc, ◌+◌, ◌-◌, ◌<◌, ◌≤◌, ◌==◌, ltb, Bool, true, false, if◌then◌else◌, List, [], ◌∷◌, ◌++◌, length, All, Option, Some, None, Result, Ok, Err, unwrap_or, refl, sym, ap, ◌∙◌, subst, append_assoc, append-nil, arith}
-use Rattle.std.specs.List.{range_with_len, flat_map, sum_by, count_by}
-use Rattle.std.proofs.lemmas.List.Elements.{All-cons, All-append}
+use Rattle.std.proofs.Common.{◌≡◌, ℕ, zero, suc, ◌+◌, ◌-◌, ◌<◌, ◌≤◌, ltb, Bool, true, false, if◌then◌else◌, List, [], ◌∷◌, ◌++◌, All, Option, Some, None, Result, Ok, Err, unwrap_or, refl, sym, ap, ◌∙◌, append_assoc, append-nil, arith}
+use Rattle.std.specs.List.{range_with_len}
+use Rattle.std.proofs.lemmas.List.Elements.{All-cons}
 use Rattle.std.proofs.lemmas.List.Concat.{flat_map-cons}
-use Rattle.std.proofs.lemmas.List.Sums.{sum_by-cons}
 use Rattle.std.proofs.lemmas.Grind.{common_steps}
 use Rattle.bit_vectors.specs.declared.fault.BitFault.{BitFault}
 use Rattle.packet_store.specs.SpacePackets.{period}
 use Rattle.packet_decode.specs.declared.decoder.Reading.{Reading as Answer}
 use Rattle.packet_decode.specs.declared.decoder.Reading.TheVariants.{Written, Unsynced, Gap}
-use Rattle.ground_chain.specs.declared.verdict.Kind.{Kind}
-use Rattle.ground_chain.specs.declared.verdict.Kind.TheVariants as kind
-use Rattle.ground_chain.specs.declared.verdict.Verdict.{Verdict}
 use Rattle.ground_chain.specs.Numbers.{number_after, expected}
-use Rattle.ground_chain.specs.Run.{Arrival, Known, Judged, lost_from, kind_of, verdict_of, repeated, judged_by, judge, run_from, known_from}
-use Rattle.ground_chain.specs.Report.{is_written, is_repeat, is_unwritten, lost_count, listed_by}
+use Rattle.ground_chain.specs.Run.{Arrival, Known, Judged, lost_from, kind_of, verdict_of, judged_by, judge, run_from, known_from}
+use Rattle.ground_chain.specs.Report.{is_repeat}
 use Rattle.ground_chain.specs.Told.{AreArrivals, lost_numbers, numbers_of, run_numbers}
 use Rattle.ground_chain.proofs.Distances.{number_after-above}
 

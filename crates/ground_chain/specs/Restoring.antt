@@ -1,5 +1,5 @@
 -- What restoring a store owes: the run over its packets of the chosen APID.
-use Rattle.std.specs.Prelude.{◌≡◌, ℕ, ◌+◌, ◌*◌, ◌^◌, ◌<◌, ◌≤◌, List, [], ◌++◌, length, map, Option, Some, None, IfSome, Result, Ok, Err, unwrap_or}
+use Rattle.std.specs.Prelude.{◌≡◌, ℕ, ◌*◌, ◌^◌, ◌≤◌, List, [], ◌++◌, map, Option, Some, IfSome, Result, Ok, Err, unwrap_or}
 use Rattle.std.specs.List.{filter}
 use Rattle.bit_vectors.specs.Vectors.{byte_count}
 use Rattle.desk_ports.specs.declared.desk.Inlet.TheVariants as inlet

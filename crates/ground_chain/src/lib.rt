@@ -14,7 +14,9 @@ mod verdict;
 pub use arrivals::Ground;
 pub use fault::RestoreFault;
 pub use laws::{
-    every_number_once, fronts_owe_fronts, numbers_are_the_next_ones, numbers_count_the_run, numbers_rise, one_exact_run, repeats_change_nothing, runs_grow, sound_runs_agree, whole_stores_owe_their_run, worked_runs,
+    every_number_once, fronts_owe_fronts, numbers_are_the_next_ones, numbers_count_the_run,
+    numbers_rise, one_exact_run, repeats_change_nothing, runs_grow, sound_runs_agree,
+    whole_stores_owe_their_run, worked_runs,
 };
 pub use restored::Restored;
 pub use restorer::Restorer;

@@ -45,8 +45,12 @@ fn put_own(row: &mut Row, t: u64, kind: &Kind)
         Kind::Written | Kind::Repeat => {}
         Kind::Unsynced => put_row(row, t, "unsynced", 0),
         Kind::Gap { level } => put_row(row, t, "gap", u64::from(*level)),
-        Kind::Refused { fault: BitFault::Wrong { bit } } => put_row(row, t, "wrong", u64::from(*bit)),
-        Kind::Refused { fault: BitFault::EndsEarly { bit } } => put_row(row, t, "early", u64::from(*bit)),
+        Kind::Refused {
+            fault: BitFault::Wrong { bit },
+        } => put_row(row, t, "wrong", u64::from(*bit)),
+        Kind::Refused {
+            fault: BitFault::EndsEarly { bit },
+        } => put_row(row, t, "early", u64::from(*bit)),
     }
 }
 

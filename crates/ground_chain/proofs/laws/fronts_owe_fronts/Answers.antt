@@ -1,12 +1,12 @@
 use Rattle.std.proofs.Common.{◌≡◌, ℕ, List, ◌++◌, length, map, Option, Some, sym, ap, ◌∙◌, append_assoc, arith}
-use Rattle.std.specs.List.{filter, flat_map}
+use Rattle.std.specs.List.{filter}
 use Rattle.std.proofs.lemmas.List.{map-append}
 use Rattle.std.proofs.lemmas.List.Elements.{filter-append}
 use Rattle.std.proofs.lemmas.Grind.{flat_map-append}
 use Rattle.packet_store.specs.SpacePackets.{Packet, is_chosen}
 use Rattle.packet_store.specs.Walks.{walk}
 use Rattle.packet_store.proofs.Walks.{IsLonger-walk_from}
-use Rattle.ground_chain.specs.Run.{Arrival, Judged, nothing_known, run_from, run, known_after}
+use Rattle.ground_chain.specs.Run.{Judged, nothing_known, run_from, run, known_after}
 use Rattle.ground_chain.specs.Report.{header_row, written_bytes, verdict_rows, run_bytes, run_rows}
 use Rattle.ground_chain.specs.Restoring.{arrival_of, arrivals_of, store_run}
 use Rattle.ground_chain.proofs.Runs.{run_from-append}

@@ -1,4 +1,4 @@
-use Rattle.std.proofs.Common.{◌+◌, arith}
+use Rattle.std.proofs.Common.{arith}
 use Rattle.ground_chain.specs.Run.{nothing_known}
 use Rattle.ground_chain.proofs.Counted.{run_counts, run_packets}
 use Rattle.ground_chain.proofs.laws.numbers_count_the_run.Goals as goal

@@ -1,8 +1,8 @@
-use Rattle.std.proofs.Common.{◌≡◌, ℕ, suc, ◌+◌, ◌<◌, ◌≤◌, List, [], ◌∷◌, ◌++◌, length, get_or, All, arith}
+use Rattle.std.proofs.Common.{◌<◌, List, [], ◌∷◌, ◌++◌, arith}
 use Rattle.std.proofs.lemmas.List.Elements.{All-cons}
 use Rattle.packet_store.specs.SpacePackets.{period}
 use Rattle.ground_chain.specs.Numbers.{number_after}
-use Rattle.ground_chain.specs.Run.{Arrival, Judged, nothing_known, known_after, run}
+use Rattle.ground_chain.specs.Run.{Arrival, nothing_known, known_after}
 use Rattle.ground_chain.specs.Told.{AreArrivals}
 use Rattle.ground_chain.proofs.Told.{first_arrival, later_arrivals, number_later, numbers_below, expected_own}
 use Rattle.ground_chain.proofs.laws.numbers_rise.Goals as goal
@@ -12,8 +12,8 @@ all_before [] more all = λ k d within. absurd (omega arith)
 all_before (a ∷ arrivals) more all =
     let rest = all_before arrivals more (later_arrivals a (arrivals ++ more) all) in
     at (first_arrival a (arrivals ++ more) all) rest where
-  at : a.count < period → AreArrivals arrivals → AreArrivals (a ∷ arrivals)
-  at here rest = All-cons (λ (x : Arrival). x.count < period) a arrivals here rest
+      at : a.count < period → AreArrivals arrivals → AreArrivals (a ∷ arrivals)
+      at here rest = All-cons (λ (x : Arrival). x.count < period) a arrivals here rest
 
 the_last : (arrivals : List Arrival) (a : Arrival) → AreArrivals (arrivals ++ a ∷ []) → a.count < period
 the_last [] a all = first_arrival a [] all

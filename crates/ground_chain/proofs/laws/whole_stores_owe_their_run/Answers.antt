@@ -1,5 +1,5 @@
-use Rattle.std.proofs.Common.{◌≡◌, ◌++◌, ap, ◌∙◌, append-nil, append_assoc}
-use Rattle.desk_ports.specs.Courses.{Course, by_ending}
+use Rattle.std.proofs.Common.{ap, ◌∙◌, append-nil, append_assoc}
+use Rattle.desk_ports.specs.Courses.{by_ending}
 use Rattle.ground_chain.specs.Report.{header_row, run_bytes, run_rows, end_row, restored_of}
 use Rattle.ground_chain.specs.Restoring.{restore_course, store_run}
 use Rattle.ground_chain.proofs.laws.whole_stores_owe_their_run.Goals as goal

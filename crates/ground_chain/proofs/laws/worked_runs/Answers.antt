@@ -1,4 +1,4 @@
-use Rattle.std.proofs.Common.{true, false, [], ◌∷◌, None, refl, arith}
+use Rattle.std.proofs.Common.{refl}
 use Rattle.bit_vectors.specs.Vectors.{number_bits, bits_number}
 use Rattle.bit_vectors.specs.Reading.{front_at, same_at}
 use Rattle.count_code.specs.Code.{count_bits}
@@ -6,7 +6,6 @@ use Rattle.count_code.specs.Counts.{number_at, bounded_at, long_at, above_one_at
 use Rattle.run_code.specs.Places.{ones_from}
 use Rattle.run_code.specs.Runs.{run_bits, runs_from, ones_at, vector_at}
 use Rattle.run_code.specs.Extraction.{filled_at, inverse_at}
-use Rattle.packet_encode.specs.Forms.{Form, Part, change_bits, form_bits}
 use Rattle.packet_decode.specs.PacketReading.{kept_at, named_at, directions_at, change_at, from_edges, mask_at, whole_at, whole_with, part_with, content_at, unsent_at, maskless_at, masked_at, sent_at, data_at, parts_at, padding_at, end_at, packet_at, whole_packet_at}
 use Rattle.ground_chain.proofs.laws.worked_runs.Goals as goal
 

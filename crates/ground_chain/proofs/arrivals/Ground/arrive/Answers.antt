@@ -1,8 +1,7 @@
-use Rattle.std.proofs.Common.{◌≡◌, ℕ, List, Option, Some, None, refl, sym, ap, ◌∙◌, subst, rules}
-use Rattle.packet_decode.specs.Decoding.{Decoding}
+use Rattle.std.proofs.Common.{◌≡◌, ℕ, Option, Some, None, refl, sym, ap, ◌∙◌, subst, rules}
 use Rattle.ground_chain.specs.declared.verdict.Verdict.{Verdict}
 use Rattle.ground_chain.specs.Numbers.{number_after, latest_after, expected}
-use Rattle.ground_chain.specs.Run.{Known, Judged, lost_from, kind_of, repeated}
+use Rattle.ground_chain.specs.Run.{Judged, lost_from, kind_of}
 use Rattle.ground_chain.specs.Reception.{Reception, StandsFor, known_by, next_judged}
 use Rattle.ground_chain.proofs.Receptions.{judged_read, judged_repeat, stands_next}
 use Rattle.ground_chain.proofs.arrivals.Ground.arrive.Goals as goal

@@ -1,10 +1,10 @@
-use Rattle.std.proofs.Common.{◌≡◌, Ok, Err, Result, sym, ap, ◌∙◌, subst}
+use Rattle.std.proofs.Common.{Ok, Err, Result, sym, subst}
 use Rattle.std.proofs.lemmas.Result.{err_from_is_err_and}
 use Rattle.desk_ports.specs.declared.stop.Stop.{Stop}
-use Rattle.desk_ports.specs.Courses.{AfterRun, Ends}
+use Rattle.desk_ports.specs.Courses.{AfterRun}
 use Rattle.packet_store.specs.declared.fault.WalkFault.{WalkFault}
 use Rattle.ground_chain.specs.declared.restored.Restored.{Restored}
-use Rattle.ground_chain.specs.Restoring.{Restoration, fault_of, as_run, restore_course}
+use Rattle.ground_chain.specs.Restoring.{Restoration, restore_course}
 use Rattle.ground_chain.proofs.Restorations.{AfterRun-restored, as_run-stopped}
 use Rattle.ground_chain.proofs.restorer.Restorer.restore.Goals as goal
 

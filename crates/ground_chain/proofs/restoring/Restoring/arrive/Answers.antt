@@ -1,13 +1,12 @@
-use Rattle.std.proofs.Common.{◌≡◌, ℕ, true, List, Option, Some, None, refl, sym, ap, ◌∙◌, subst}
+use Rattle.std.proofs.Common.{◌≡◌, true, sym, ap, ◌∙◌, subst}
 use Rattle.desk_ports.specs.declared.desk.Outlet.TheVariants as outlet
 use Rattle.desk_ports.specs.Meanings.{Adds, AddsFront}
 use Rattle.packet_decode.specs.State.{Packet}
 use Rattle.packet_decode.specs.Decoding.{Decoding}
-use Rattle.ground_chain.specs.declared.verdict.Kind.{Kind}
 use Rattle.ground_chain.specs.declared.verdict.Verdict.{Verdict}
 use Rattle.ground_chain.specs.Run.{Known, Judged}
 use Rattle.ground_chain.specs.Report.{is_written, verdict_rows}
-use Rattle.ground_chain.specs.Reception.{Reception, next_judged}
+use Rattle.ground_chain.specs.Reception.{next_judged}
 use Rattle.ground_chain.specs.Restoring.{Progress, WroteFront, judged_outputs}
 use Rattle.ground_chain.proofs.Writings.{OnErr-always, kind_written, content_written, front_rows, front_content}
 use Rattle.ground_chain.proofs.restoring.Restoring.arrive.Goals as goal

@@ -1,7 +1,7 @@
-use Rattle.std.proofs.Common.{◌≡◌, ◌+◌, true, false, List, Ok, Err, IfErr, refl, sym, ap, ◌∙◌, subst, rules, arith}
+use Rattle.std.proofs.Common.{refl, ◌∙◌, arith}
 use Rattle.std.proofs.lemmas.Result.{err_from_is_err_and}
 use Rattle.desk_ports.specs.declared.desk.Outlet.TheVariants as outlet
-use Rattle.desk_ports.specs.Courses.{AfterStop, Reaches, to_report}
+use Rattle.desk_ports.specs.Courses.{Reaches, to_report}
 use Rattle.desk_ports.proofs.Runs.{Ran-ready_in, Ran-ready_out}
 use Rattle.desk_ports.proofs.Courses.{Reaches-none, Reaches-then, AfterStop-behind, IsAtLast-behind}
 use Rattle.ground_chain.specs.Report.{end_row}

@@ -1,4 +1,4 @@
-use Rattle.std.proofs.Common.{◌≡◌, ◌+◌, ◌-◌, ◌^◌, ◌≤◌, IsTrue}
+use Rattle.std.proofs.Common.{◌≡◌, ◌-◌, ◌^◌, ◌≤◌, IsTrue}
 use Rattle.desk_ports.specs.Courses.{Reaches}
 use Rattle.desk_ports.specs.Meanings.{IsReadyIn, IsReadyOut}
 use Rattle.desk_ports.specs.declared.desk.Inlet.TheVariants as inlet

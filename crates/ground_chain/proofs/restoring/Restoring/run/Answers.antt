@@ -1,8 +1,8 @@
-use Rattle.std.proofs.Common.{◌≡◌, ℕ, List, Ok, Err, IfSome, refl, sym, ap, ◌∙◌, subst, rules}
+use Rattle.std.proofs.Common.{◌≡◌, ℕ, List, ap, ◌∙◌, subst}
 use Rattle.std.proofs.lemmas.Result.{err_from_is_err_and}
 use Rattle.desk_ports.specs.declared.desk.Outlet.TheVariants as outlet
-use Rattle.desk_ports.specs.Meanings.{Meanings, Adds, AddsFront}
-use Rattle.desk_ports.specs.Courses.{Course, AfterStop, IsAtLast, Reaches, behind, to_report}
+use Rattle.desk_ports.specs.Meanings.{Adds, AddsFront}
+use Rattle.desk_ports.specs.Courses.{Course, behind, to_report}
 use Rattle.desk_ports.proofs.Runs.{Ran-notes}
 use Rattle.desk_ports.proofs.Courses.{Reaches-notes, IsCutShort-notes, IsCutShort-last, AfterStop-behind, IsAtLast-behind, Ends-done}
 use Rattle.packet_store.specs.declared.fault.WalkFault.{WalkFault}

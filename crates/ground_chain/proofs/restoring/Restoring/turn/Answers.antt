@@ -1,11 +1,9 @@
-use Rattle.std.proofs.Common.{◌≡◌, ℕ, true, false, List, [], Option, Some, None, refl, sym, ap, ◌∙◌, subst, rules}
+use Rattle.std.proofs.Common.{[], subst, rules}
 use Rattle.std.specs.Io.KnownBytes.{IsAtEnd}
 use Rattle.desk_ports.specs.declared.desk.Inlet.TheVariants as inlet
-use Rattle.desk_ports.specs.Meanings.{Meanings, Moves, left}
+use Rattle.desk_ports.specs.Meanings.{Moves, left}
 use Rattle.desk_ports.specs.Courses.{IsAtLast, IsCutShort, Reaches, to_report}
 use Rattle.desk_ports.proofs.Courses.{IsAtLast-end, Reaches-moves}
-use Rattle.desk_ports.proofs.Transfers.{prepend_known-none}
-use Rattle.packet_store.specs.StoreReader.{Takes}
 use Rattle.ground_chain.specs.Report.{end_row}
 use Rattle.ground_chain.specs.Restoring.{Progress, rest_course}
 use Rattle.ground_chain.proofs.RestCourses.{Judges, passed_course, rest_course-none, IsCutShort-judged, Reaches-judged}
