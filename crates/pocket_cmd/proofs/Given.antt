@@ -7,7 +7,7 @@ use Rattle.std.proofs.lemmas.Bool.Decides.{nat_tests}
 use Rattle.std.proofs.lemmas.List.Sums.{split_at_first, passes_at_first}
 use Rattle.std.proofs.lemmas.Slice.Eq.{bytes_eq-Decides}
 use Rattle.side_tables.specs.Numbers.{is_plain_decimal, number_of}
-use Rattle.pocket_cmd.specs.Words.{Value, Named, Numbered, Entry, entry_of, entry_with, read_as, read_name, read_value, numbered, is_equals_sign, kind_of, value_of, value_unless, first_faulty, verb_of, Gives}
+use Rattle.pocket_cmd.specs.Words.{Value, Named, Numbered, Entry, entry_of, entry_with, read_as, numbered, is_equals_sign, kind_of, value_of, value_unless, first_faulty, verb_of, Gives}
 use Rattle.pocket_cmd.specs.Command.{Restoration, Command, Restore, IsGiven, IsRight, restoration_of, with_values, with_verb, unless_faulty, command_of, name_in, number_in, ◌>>=◌}
 use Rattle.pocket_cmd.specs.Courses.{names_of}
 use Rattle.pocket_cmd.specs.declared.words.Verb.{Verb}

@@ -1,5 +1,5 @@
 -- What opening and finishing the names of a command do to a desk.
-use Rattle.std.specs.Prelude.{◌≡◌, ℕ, ◌⊎◌, Bool, true, List, [], Result, Ok, Err, IfSome}
+use Rattle.std.specs.Prelude.{◌≡◌, ℕ, ◌⊎◌, true, List, [], Result, Ok, Err, IfSome}
 use Rattle.std.specs.Option.{option_map}
 use Rattle.desk_ports.specs.Meanings.{Meanings, Counts, FailsToRead, FailsToWrite, kept_at, kept_after, left, made, with_incoming, with_outgoing}
 use Rattle.desk_ports.specs.declared.desk.Inlet.TheVariants as inlet

@@ -1,5 +1,5 @@
 -- What the words of a command line say: a verb, and then `key=value` in any order.
-use Rattle.std.specs.Prelude.{ℕ, Bool, true, false, not, ◌&&◌, ◌||◌, ◌==◌, nat_lt, List, [], ◌∷◌, ◌++◌, length, take, find, slice_index_or, Contains, codes, Option, Some, None, is_some, if◌then◌else◌}
+use Rattle.std.specs.Prelude.{ℕ, Bool, true, false, not, ◌&&◌, ◌||◌, ◌==◌, nat_lt, List, [], ◌∷◌, ◌++◌, length, take, find, slice_index_or, Contains, codes, Option, Some, None, if◌then◌else◌}
 use Rattle.std.specs.List.{list_any, range_with_len, before_first, after_first, position_or_len}
 use Rattle.std.specs.Str.{bytes_eq}
 use Rattle.side_tables.specs.Numbers.{number_of}
