@@ -30,8 +30,8 @@ abbrev pub with_report : Meanings → List ℕ → Meanings
 with_report m name = with_outgoing m outlet.Report (record { made = option_map (λ _. []) (made m outlet.Report); name = option_map (λ _. name) m.report.name; ready = true })
 
 -- all names are opened, and the input has these bytes
-abbrev pub opened : Names → Meanings → List ℕ → Meanings
-opened names old bytes = with_report (with_output (with_input old bytes) names.output) names.report
+abbrev pub all_opened : Names → Meanings → List ℕ → Meanings
+all_opened names old bytes = with_report (with_output (with_input old bytes) names.output) names.report
 
 -- the bytes are those that are kept under a name, where the desk tells what it keeps
 abbrev pub AreKept : Meanings → List ℕ → List ℕ → Type 0
@@ -43,7 +43,7 @@ IsHalfOpened names old new bytes = (new ≡ with_input old bytes) ⊎ (new ≡ w
 
 -- after the opening of all names
 abbrev pub AfterOpening : Names → Meanings → Meanings → Result (Unit {0}) Unopened → Type 0
-AfterOpening names old new (Ok done) = (bytes : List ℕ) × AreKept old names.input bytes × (new ≡ opened names old bytes)
+AfterOpening names old new (Ok done) = (bytes : List ℕ) × AreKept old names.input bytes × (new ≡ all_opened names old bytes)
 AfterOpening names old new (Err unopened.Input) = new ≡ old
 AfterOpening names old new (Err unopened.Output) = (bytes : List ℕ) × AreKept old names.input bytes × IsHalfOpened names old new bytes
 
@@ -63,8 +63,8 @@ abbrev pub with_report_kept : Meanings → Meanings
 with_report_kept m = record m { held = kept_after m.held m.report.name (made m outlet.Report) }
 
 -- both are
-abbrev pub finished : Meanings → Meanings
-finished m = with_report_kept (with_output_kept m)
+abbrev pub all_finished : Meanings → Meanings
+all_finished m = with_report_kept (with_output_kept m)
 
 -- nothing was kept, or the output alone
 abbrev pub IsHalfKept : Meanings → Meanings → Type 0
@@ -72,5 +72,5 @@ IsHalfKept old new = (new ≡ old) ⊎ (new ≡ with_output_kept old)
 
 -- after the finishing of both outputs
 abbrev pub AfterFinishing : {E : Type 0} → Meanings → Meanings → Result (Unit {0}) E → Type 0
-AfterFinishing old new (Ok done) = new ≡ finished old
+AfterFinishing old new (Ok done) = new ≡ all_finished old
 AfterFinishing old new (Err failed) = IsHalfKept old new

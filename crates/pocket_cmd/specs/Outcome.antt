@@ -6,18 +6,18 @@ use Rattle.desk_ports.specs.declared.desk.Inlet.TheVariants as inlet
 use Rattle.desk_ports.specs.declared.stop.Stop.{Stop}
 use Rattle.desk_ports.specs.declared.stop.Stop.TheVariants.{Data, ReadFault, WriteFault}
 use Rattle.packet_store.specs.declared.fault.WalkFault.{WalkFault}
-use Rattle.pocket_cmd.specs.Openings.{Names, AreKept, opened, finished, IsHalfOpened, IsHalfKept}
+use Rattle.pocket_cmd.specs.Openings.{Names, AreKept, all_opened, all_finished, IsHalfOpened, IsHalfKept}
 
 -- the input has these bytes, which are those kept under its name, where the desk tells them; and this holds of the desk at
 -- which all names are opened
 pub record Behind (names : Names) (old : Meanings) (After : Meanings → Type 0) : Type 0 where
   pub input : List ℕ
   pub kept : AreKept old names.input input
-  pub after : After (opened names old input)
+  pub after : After (all_opened names old input)
 
 -- where the run has no fault, the outputs are finished
 abbrev pub finished_where : Option WalkFault → Meanings → Meanings
-finished_where None m = finished m
+finished_where None m = all_finished m
 finished_where (Some fault) m = m
 
 -- the run is done, and the outputs are finished where it has no fault

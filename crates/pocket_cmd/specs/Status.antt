@@ -22,9 +22,9 @@ refusal_by stop.ReadFault = ReadFault
 refusal_by stop.WriteFault = WriteFault
 
 -- the answer where a course ends so
-abbrev pub answer_of : Option WalkFault → Status
-answer_of None = Done
-answer_of (Some fault) = Refused (refusal_of fault)
+abbrev pub status_of : Option WalkFault → Status
+status_of None = Done
+status_of (Some fault) = Refused (refusal_of fault)
 
 -- the exit number of a refusal
 abbrev pub exit_number_of : Refusal → ℕ

@@ -5,7 +5,7 @@ ghost use Rattle.desk_ports.specs.Meanings.{Rose};
 ghost use Rattle.packet_store.specs.declared.fault.WalkFault.{WalkFault as Fault};
 ghost use Rattle.pocket_cmd.specs.Openings.{view_names};
 ghost use Rattle.pocket_cmd.specs.Outcome.{AfterCommand, Stands, IsUnread, IsUnwritten, given};
-ghost use Rattle.pocket_cmd.specs.Status.{HasStatusCause, answer_of};
+ghost use Rattle.pocket_cmd.specs.Status.{HasStatusCause, status_of};
 
 use crate::chain::Chain;
 use crate::opening::{Names, Unopened, finish_all, open_all};
@@ -42,11 +42,11 @@ pub fn perform<D: Desk, C: Chain + Drop>(desk: &mut D, names: &Names<'_>, chain:
     requires input { IsTrue ((D.meaning desk.old).grants_in names.now.input.now) }
     requires output { IsTrue ((D.meaning desk.old).grants_out names.now.output.now) }
     requires report { IsTrue ((D.meaning desk.old).grants_out names.now.report.now) }
-    ensures stands { (ending : Option Fault) → result ≡ answer_of ending
+    ensures stands { (ending : Option Fault) → result ≡ status_of ending
         → Stands (view_names names.now) (C.course chain) (D.meaning desk.old) (D.meaning desk.new) ending }
     ensures ends { (input : List ℕ) → given (D.meaning desk.old) names.now.input.now ≡ Some input
         → ¬ Rose (D.counts desk.old).reads (D.counts desk.new).reads → ¬ Rose (D.counts desk.old).writes (D.counts desk.new).writes
-        → result ≡ answer_of (C.course chain input).ending }
+        → result ≡ status_of (C.course chain input).ending }
     ensures read_fault { result ≡ Status.Refused Refusal.ReadFault
         → IsUnread (view_names names.now) (C.course chain) (D.meaning desk.old) (D.meaning desk.new) }
     ensures write_fault { result ≡ Status.Refused Refusal.WriteFault

@@ -6,7 +6,7 @@ ghost use Rattle.packet_store.specs.declared.fault.WalkFault.{WalkFault as Fault
 ghost use Rattle.pocket_cmd.specs.Command.{Command as Told, command_of};
 ghost use Rattle.pocket_cmd.specs.Courses.{course_of, names_of};
 ghost use Rattle.pocket_cmd.specs.Outcome.{Stands, IsUnread, IsUnwritten, given};
-ghost use Rattle.pocket_cmd.specs.Status.{HasStatusCause, answer_of};
+ghost use Rattle.pocket_cmd.specs.Status.{HasStatusCause, status_of};
 ghost use Rattle.pocket_cmd.specs.Words.{Gives};
 
 use crate::command::command_of;
@@ -40,7 +40,7 @@ pub fn pocket<D: Desk>(alloc: Global, words: &[String], desk: &mut D) -> Status
     ensures no_memory { result ≡ Status.Refused Refusal.NoMemory → D.meaning desk.new ≡ D.meaning desk.old }
 
     // Done, and each fault of the data: the course of the input ends so, and what it owes stands.
-    ensures stands { (ending : Option Fault) → result ≡ answer_of ending → (command : Told)
+    ensures stands { (ending : Option Fault) → result ≡ status_of ending → (command : Told)
         × (command_of (map string_bytes words.now) ≡ Ok command)
         × Stands (names_of command) (course_of command) (D.meaning desk.old) (D.meaning desk.new) ending }
 
@@ -48,7 +48,7 @@ pub fn pocket<D: Desk>(alloc: Global, words: &[String], desk: &mut D) -> Status
     ensures ends { (command : Told) (input : List ℕ) → command_of (map string_bytes words.now) ≡ Ok command
         → given (D.meaning desk.old) (names_of command).input ≡ Some input → result ≢ Status.Refused Refusal.NoMemory
         → ¬ Rose (D.counts desk.old).reads (D.counts desk.new).reads → ¬ Rose (D.counts desk.old).writes (D.counts desk.new).writes
-        → result ≡ answer_of (course_of command input).ending }
+        → result ≡ status_of (course_of command input).ending }
 
     // What stands after a fault of the desk.
     ensures read_fault { result ≡ Status.Refused Refusal.ReadFault → (command : Told)
