@@ -71,6 +71,10 @@ passed_course s reader a b given takes other rest =
       ending = same.1 i;
     }
 
+pub passed_numbers : (s : Progress) (reader : ReaderState) (a b : Meanings) (given : Taken) → Takes s.reader reader a b given → given.chosen ≡ false → (rest : List ℕ)
+    → all_restored s (reader.packet ++ rest) ≡ all_restored (record s { reader = reader }) rest
+passed_numbers s reader a b given takes other rest = ap (λ (l : List Judged). added s.restored (restored_of l)) (passed_rest s reader a b given takes other rest).0
+
 -- ---- a packet of the chosen APID
 
 -- one arrival was judged: what is kept and counted is what the run knows after it
@@ -139,6 +143,13 @@ rest_course-none s =
     let numbers = rest_numbers-none s in
     let ending = ap (λ (w : Walk). w.ending) (walk_from-none s.reader.chosen s.reader.taken s.reader.offset) in
     λ i. record { before = record { output = run_bytes (run i); report = run_rows (run i) }; after = to_report (end_row (numbers i)); ending = ending i }
+
+-- where no packet is walked nothing is owed
+pub rest_follows : (s : Progress) → FollowsWalk (rest_course s) s.reader
+rest_follows s = record {
+  nothing = λ bytes none. ap (λ (packets : List Packet). let run = run_from s.reception.decoder.places (known_by s.reception) (arrivals_of s.reader.chosen packets) in record { output = run_bytes run; report = run_rows run }) none;
+  ends = λ bytes. refl;
+}
 
 -- a whole store is owed from its first packet on, behind the report's first line
 pub restore_course-first : (f apid : ℕ) (store : List ℕ) → restore_course f apid store ≡ behind (to_report header_row) (rest_course (unread f apid) store)

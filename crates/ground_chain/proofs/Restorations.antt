@@ -35,3 +35,6 @@ AfterRun-restored s a b result is ran = subst (λ (course_of : List ℕ → Cour
 
 pub as_run-stopped : (stop : Stop WalkFault) → as_run {T = Restored} (Err (fault_of stop)) ≡ Err stop
 as_run-stopped stop = ap Err (stop_by-fault_of stop)
+
+pub all_restored-unread : (s : Progress) (store : List ℕ) → IsRestorer s → all_restored s store ≡ restored_of (store_run (restoration_of s).places (restoration_of s).apid store)
+all_restored-unread s store is = ap (λ (p : Progress). all_restored p store) is ∙ none-added (restored_of (store_run (restoration_of s).places (restoration_of s).apid store))

@@ -31,9 +31,20 @@ content_written j f state packet written same is =
     ap (λ (s : State). vector_bytes (content_of f s)) is
     ∙ (ap content_bytes (sym is ∙ same) ∙ ap (λ (b : Bool). if b then content_bytes j.after.state else []) (sym written))
 
+pub no_content : (j : Judged) → is_written j.verdict.kind ≡ false → [] ≡ written_bytes j
+no_content j other = ap (λ (b : Bool). if b then content_bytes j.after.state else []) (sym other)
+
 rows_then : (a b c : Meanings) (rows bytes : List ℕ) → Adds a b outlet.Report rows → Adds b c outlet.Main bytes → Ran a c [] bytes rows
 rows_then a b c rows bytes first next =
     subst (λ (l : List ℕ). Ran a c [] bytes l) (append-nil rows) (Ran-then a b c [] [] [] bytes rows [] (Ran-notes a b rows first) (Ran-adds b c bytes next))
+
+-- the rows and the content
+pub wrote_all : (a b c : Meanings) (j : Judged) (bytes : List ℕ) → Adds a b outlet.Report (verdict_rows j.verdict) → Adds b c outlet.Main bytes → bytes ≡ written_bytes j → Wrote a c (judged_outputs j)
+wrote_all a b c j bytes first next is = subst (λ (l : List ℕ). Ran a c [] l (verdict_rows j.verdict)) is (rows_then a b c (verdict_rows j.verdict) bytes first next)
+
+-- the rows alone
+pub wrote_rows : (a b : Meanings) (j : Judged) → Adds a b outlet.Report (verdict_rows j.verdict) → [] ≡ written_bytes j → Wrote a b (judged_outputs j)
+wrote_rows a b j first is = subst (λ (l : List ℕ). Ran a b [] l (verdict_rows j.verdict)) is (Ran-notes a b (verdict_rows j.verdict) first)
 
 -- a front of the rows
 pub front_rows : (a b : Meanings) (j : Judged) → AddsFront a b outlet.Report (verdict_rows j.verdict) → WroteFront a b (judged_outputs j)
