@@ -1,5 +1,5 @@
 -- How moves from an inlet and additions to an outlet join, for every loop over a desk.
-use Rattle.std.proofs.Common.{◌≡◌, ℕ, ◌+◌, ◌≤◌, List, [], ◌++◌, length, take, drop, take-append-drop, Option, Some, None, refl, sym, ap, ◌∙◌, subst, append_assoc, append-nil, arith}
+use Rattle.std.proofs.Common.{◌≡◌, ℕ, ◌+◌, ◌≤◌, List, [], ◌++◌, length, take, drop, take-append-drop, Option, Some, None, refl, sym, ap, ◌∙◌, subst, append_assoc, append-nil}
 use Rattle.std.proofs.lemmas.List.{take-append-le, length-take-le}
 use Rattle.std.proofs.Math.Seq.{take-append-add}
 use borrow.Rule.Slice.PartMut.{put_mid, post_of}
@@ -8,7 +8,7 @@ use Rattle.desk_ports.specs.declared.desk.Inlet.{Inlet}
 use Rattle.desk_ports.specs.declared.desk.Inlet.TheVariants as inlet
 use Rattle.desk_ports.specs.declared.desk.Outlet.{Outlet}
 use Rattle.desk_ports.specs.declared.desk.Outlet.TheVariants as outlet
-use Rattle.desk_ports.specs.Meanings.{Meanings, Counts, Moves, Adds, AddsFront, IsReadyIn, IsReadyOut, Rises, left, with_left, made, with_made}
+use Rattle.desk_ports.specs.Meanings.{Meanings, Moves, Adds, AddsFront, IsReadyIn, IsReadyOut, left, with_left, made, with_made}
 
 with_left-with_left : (m : Meanings) (i : Inlet) (a b : Option (List ℕ)) → with_left (with_left m i a) i b ≡ with_left m i b
 with_left-with_left m inlet.Side a b = refl
@@ -64,33 +64,9 @@ Adds-then a b c o xs ys p q = record {
 pub Adds-ready : (a b : Meanings) (o : Outlet) (xs : List ℕ) → Adds a b o xs → IsReadyOut a o → IsReadyOut b o
 Adds-ready a b o xs p h = subst (λ m. IsReadyOut m o) (sym p.others) (IsReadyOut-with_made a o (made b o) h)
 
--- bytes and then a front of more bytes were added
-pub AddsFront-then : (a b c : Meanings) (o : Outlet) (xs ys : List ℕ) → Adds a b o xs → AddsFront b c o ys → AddsFront a c o (xs ++ ys)
-AddsFront-then a b c o xs ys p q = record {
-  front = xs ++ q.front;
-  rest = q.rest;
-  joined = append_assoc xs q.front q.rest ∙ ap (λ l. xs ++ l) q.joined;
-  added = Adds-then a b c o xs q.front p q.added;
-}
-
--- a front of some bytes is a front of more
-pub AddsFront-more : (a b : Meanings) (o : Outlet) (xs ys : List ℕ) → AddsFront a b o xs → AddsFront a b o (xs ++ ys)
-AddsFront-more a b o xs ys p = record {
-  front = p.front;
-  rest = p.rest ++ ys;
-  joined = sym (append_assoc p.front p.rest ys) ∙ ap (λ l. l ++ ys) p.joined;
-  added = p.added;
-}
-
 -- a front was added, so far as some bytes go
 pub AddsFront-take : (a b : Meanings) (o : Outlet) (n : ℕ) (xs : List ℕ) → Adds a b o (take n xs) → AddsFront a b o xs
 AddsFront-take a b o n xs p = record { front = take n xs; rest = drop n xs; joined = take-append-drop n xs; added = p }
-
-pub Rises-none : (a : Counts) → Rises a a
-Rises-none a = record { reads = omega arith; writes = omega arith }
-
-pub Rises-then : (a b c : Counts) → Rises a b → Rises b c → Rises a c
-Rises-then a b c p q = record { reads = omega arith; writes = omega arith }
 
 -- after more bytes were read behind a full front, the front is longer by them
 pub take-put_mid-add : (xs ys : List ℕ) (a k n : ℕ) → a ≤ length xs → n ≤ length ys → take (a + n) (put_mid a k xs ys) ≡ take a xs ++ take n ys

@@ -4,7 +4,6 @@ pub mod Numbers
 pub mod Places
 pub mod Outcomes
 pub mod PlainStores
-pub mod Results
 pub mod Runs
 pub mod WholeRuns
 pub mod Stuck

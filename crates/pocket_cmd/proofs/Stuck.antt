@@ -1,26 +1,23 @@
 -- Where a packet was taken and can't be restored, or where the walk ends with a fault, the reading is stuck.
-use Rattle.std.proofs.Common.{◌≡◌, ◌≢◌, refl, ℕ, ◌≤◌, ◌^◌, ◌%◌, ◌==◌, ◌++◌, inl, inr, Bool, true, false, List, [], Option, None, Some, IfSome, Err, sym, ap, ◌∙◌, subst, arith}
+use Rattle.std.proofs.Common.{◌≡◌, refl, ℕ, ◌≤◌, ◌^◌, ◌++◌, inl, inr, Bool, List, [], Option, None, Some, IfSome, Err, sym, ap, ◌∙◌, subst, arith}
 use Rattle.std.proofs.lemmas.Bool.{cases_lt}
-use Rattle.std.proofs.lemmas.Grind.{common_steps}
 use Rattle.std.specs.Io.KnownBytes.{prepend_known}
-use Rattle.desk_ports.specs.Meanings.{Meanings, Counts, left}
+use Rattle.desk_ports.specs.Meanings.{Meanings, left}
 use Rattle.desk_ports.specs.Runs.{Ran}
 use Rattle.desk_ports.specs.declared.desk.Inlet.TheVariants as inlet
 use Rattle.desk_ports.proofs.Runs.{Ran-moves}
 use Rattle.bit_vectors.specs.Vectors.{bits_of}
 use Rattle.packet_decode.specs.Packets.{State, SpellsSent}
-use Rattle.packet_store.specs.SpacePackets.{Packet, packet_bytes, plain_packet, is_chosen}
+use Rattle.packet_store.specs.SpacePackets.{Packet, packet_bytes, plain_packet}
 use Rattle.packet_store.specs.Walks.{IsGood, Walk, walk_from, stopped_at}
 use Rattle.packet_store.specs.StoreReader.{ReaderState, Stops, AfterFault}
 use Rattle.packet_store.specs.declared.fault.StoreFault.{StoreFault}
 use Rattle.packet_store.specs.declared.fault.StoreFault.TheVariants as fault
 use Rattle.packet_store.specs.declared.fault.WalkFault.{WalkFault}
-use Rattle.packet_store.specs.declared.reader.Taken.{Taken}
-use Rattle.packet_store.specs.Faults.{HasStoreCause}
 use Rattle.packet_store.proofs.Packets.{packet_bytes-same, IsGood-plain}
 use Rattle.packet_store.proofs.Walks.{walk_from-none, walk_from-good}
 use Rattle.pocket_cmd.specs.PlainStore.{IsNextPlain, IsStuck}
-use Rattle.pocket_cmd.specs.Run.{AfterReading, HasRefusalCause, refusal_of}
+use Rattle.pocket_cmd.specs.Run.{AfterReading, refusal_of}
 
 same_some : {A : Type 0} {x y : A} → Some x ≡ Some y → x ≡ y
 same_some e = cc
@@ -36,21 +33,6 @@ IsStuck-taken f apid t state p (Some bytes) (Some left) good moved unfit =
       more = λ none. absurd cc;
       none = inr (λ packet content next rest at plain. unfit packet content next (packet_bytes-same (Some apid) p (plain_packet apid packet.0 packet.1) left rest good (IsGood-plain (Some apid) apid packet.0 packet.1 plain.whole) (sym joined ∙ at)).0 plain);
     }
-
-same_apid : (apid : ℕ) → (apid == apid) ≡ true
-same_apid apid = grind (arith, common_steps)
-
--- a packet of another APID
-pub IsStuck-other : (f apid t : ℕ) (state : State) (p : Packet) (before after : Option (List ℕ)) → IsGood (Some apid) p → before ≡ prepend_known (packet_bytes p) after → is_chosen (Some apid) p.header ≡ false → IfSome before (IsStuck f apid t state)
-IsStuck-other f apid t state p before after good moved other = IsStuck-taken f apid t state p before after good moved (λ packet content next same plain.
-    let chosen : is_chosen (Some apid) p.header ≡ true = ap (λ (q : Packet). is_chosen (Some apid) q.header) same ∙ same_apid apid in
-    let both : true ≡ false = sym chosen ∙ other in
-    cc)
-
--- a packet with another count
-pub IsStuck-count : (f apid t : ℕ) (state : State) (p : Packet) (before after : Option (List ℕ)) → IsGood (Some apid) p → before ≡ prepend_known (packet_bytes p) after → p.header.count ≢ t % 16384 → IfSome before (IsStuck f apid t state)
-IsStuck-count f apid t state p before after good moved other = IsStuck-taken f apid t state p before after good moved (λ packet content next same plain.
-    other (ap (λ (q : Packet). q.header.count) same ∙ plain.count))
 
 -- a packet that is not read
 pub IsStuck-unread : (f apid t : ℕ) (state : State) (p : Packet) (before after : Option (List ℕ)) → IsGood (Some apid) p → before ≡ prepend_known (packet_bytes p) after
@@ -94,10 +76,3 @@ AfterReading-fault f apid t state s a b (fault.Version byte) chosen taken few st
 AfterReading-fault f apid t state s a b (fault.Shape byte) chosen taken few stops = let stuck = IsStuck-stops f apid t state s a b _ chosen taken few stops in (refl, stuck.0, stuck.1)
 AfterReading-fault f apid t state s a b fault.TooMany chosen taken few stops = let stuck = IsStuck-stops f apid t state s a b _ chosen taken few stops in (refl, stuck.0, stuck.1)
 AfterReading-fault f apid t state s a b fault.ReadFault chosen taken few lost = (lost.lost, Ran-moves a b lost.lost lost.moved)
-
-pub HasRefusalCause-fault : (old new : Counts) (reason : StoreFault) (t : ℕ) → HasStoreCause {T = Option Taken} old new (Err reason) → HasRefusalCause {T = Bool} old new (Err (refusal_of reason t))
-HasRefusalCause-fault old new (fault.Cut byte) t cause = cause
-HasRefusalCause-fault old new (fault.Version byte) t cause = cause
-HasRefusalCause-fault old new (fault.Shape byte) t cause = cause
-HasRefusalCause-fault old new fault.TooMany t cause = cause
-HasRefusalCause-fault old new fault.ReadFault t cause = cause
