@@ -25,9 +25,6 @@ Latest old new t bits =
 abbrev pub Unchanged : Decoding → Decoding → Result Answer BitFault → Type 0
 Unchanged old new answer = (answer ≡ Ok Written → ⊥) → new ≡ old
 
-not_written : (answer : Answer) → ◌≡◌ {A = Result Answer BitFault} (Ok answer) (Ok Written) → answer ≡ Written
-not_written answer e = cc
-
 follows_read : (old new : Decoding) (t : ℕ) (bits : List Bool) (answer : Result Answer BitFault) → IsExactAnswer old.places old.state t bits answer → Latest old new t bits → Unchanged old new answer
     → Follows old.places old.state t bits new.state answer
 follows_read old new t bits (Ok Written) (form, mask, content, spells) latest unchanged =
