@@ -11,7 +11,7 @@ use Rattle.packet_decode.specs.Decoding.{Decoding}
 use Rattle.ground_chain.specs.declared.verdict.Verdict.{Verdict}
 use Rattle.ground_chain.specs.Numbers.{number_after, expected}
 use Rattle.ground_chain.specs.Run.{Arrival, Known, Judged, nothing_known, lost_from, kind_of, judged_by, judge, repeated, known_after}
-use Rattle.ground_chain.specs.Sound.{Follows, IsJudgedBy}
+use Rattle.ground_chain.specs.Sound.{IsStateAfter, IsJudgedBy}
 use Rattle.ground_chain.specs.Reception.{Reception, IsReception, StandsFor, known_by, next_judged}
 use Rattle.ground_chain.proofs.Runs.{known_from-append}
 use Rattle.ground_chain.proofs.Sound.{judged_only}
@@ -26,7 +26,7 @@ abbrev pub Unchanged : Decoding → Decoding → Result Answer BitFault → Type
 Unchanged old new answer = (answer ≡ Ok Written → ⊥) → new ≡ old
 
 follows_read : (old new : Decoding) (t : ℕ) (bits : List Bool) (answer : Result Answer BitFault) → IsExactAnswer old.places old.state t bits answer → Latest old new t bits → Unchanged old new answer
-    → Follows old.places old.state t bits new.state answer
+    → IsStateAfter old.places old.state t bits new.state answer
 follows_read old new t bits (Ok Written) (form, mask, content, spells) latest unchanged =
     record { form = form; mask = mask; content = content; spells = spells; is = ap (λ (d : Decoding). d.state) (latest form mask content spells) }
 follows_read old new t bits (Ok Unsynced) exact latest unchanged = ap (λ (d : Decoding). d.state) (unchanged (λ e. cc))

@@ -11,28 +11,28 @@ use Rattle.packet_decode.specs.PacketReading.{Outcome, Spelled, Opaque, Found, w
 use Rattle.packet_decode.proofs.ExactAnswers.{answer_of-exact}
 use Rattle.packet_decode.proofs.OneAnswer.{spells_read, says_answer, one_answer, sound_reading}
 use Rattle.ground_chain.specs.Numbers.{number_after}
-use Rattle.ground_chain.specs.Run.{Arrival, Known, Judged, kind_of, verdict_of, state_by, state_after, read_as, judged_by, judge, run_from, run}
-use Rattle.ground_chain.specs.Sound.{IsSpelled, Follows, IsJudgedBy, AreJudged, without_fault, but_for_faults}
+use Rattle.ground_chain.specs.Run.{Arrival, Known, Judged, kind_of, verdict_of, state_read, state_after, judge_as, judged_by, judge, run_from, run}
+use Rattle.ground_chain.specs.Sound.{IsSpelled, IsStateAfter, IsJudgedBy, AreJudged, without_fault, but_for_faults}
 
 module _ (f : ℕ) (state : State) (t : ℕ) (has : IsState f state) where
   -- ---- one answer, one state
 
   -- the state after bits that spell a packet is that packet
   spelled_state : (bits : List Bool) (next : State) → IsSpelled f state t bits next → state_after f state t bits ≡ next
-  spelled_state bits next s = ap (state_by state t) (spells_read f state t has bits s.form s.mask s.content s.spells) ∙ sym s.is
+  spelled_state bits next s = ap (state_read state t) (spells_read f state t has bits s.form s.mask s.content s.spells) ∙ sym s.is
 
-  follows_opaque : (bits : List Bool) (change : Change) (rest : List Bool) → Follows f state t bits state (answer_by state bits (Read (record { change = change; outcome = Opaque }) rest))
+  follows_opaque : (bits : List Bool) (change : Change) (rest : List Bool) → IsStateAfter f state t bits state (answer_by state bits (Read (record { change = change; outcome = Opaque }) rest))
   follows_opaque bits change rest = by_state state where
-    by_state : (s : State) → Follows f s t bits s (answer_by s bits (Read (record { change = change; outcome = Opaque }) rest))
+    by_state : (s : State) → IsStateAfter f s t bits s (answer_by s bits (Read (record { change = change; outcome = Opaque }) rest))
     by_state None = refl
     by_state (Some latest) = refl
 
   abbrev FollowsBy : List Bool → Reading Found → Type 0
-  FollowsBy bits r = whole_packet_at f state t bits ≡ r → IsExactAnswer f state t bits (answer_by state bits r) → Follows f state t bits (state_by state t r) (answer_by state bits r)
+  FollowsBy bits r = whole_packet_at f state t bits ≡ r → IsExactAnswer f state t bits (answer_by state bits r) → IsStateAfter f state t bits (state_read state t r) (answer_by state bits r)
 
   follows_read : (bits rest : List Bool) (change : Change) (o : Outcome) → FollowsBy bits (Read (record { change = change; outcome = o }) rest)
   follows_read bits rest change (Spelled mask content) is (form, m, i, spells) =
-      record { form = form; mask = m; content = i; spells = spells; is = ap (state_by state t) (sym is) ∙ ap (state_by state t) (spells_read f state t has bits form m i spells) }
+      record { form = form; mask = m; content = i; spells = spells; is = ap (state_read state t) (sym is) ∙ ap (state_read state t) (spells_read f state t has bits form m i spells) }
   follows_read bits rest change Opaque is exact = follows_opaque bits change rest
 
   follows_by : (bits : List Bool) (r : Reading Found) → FollowsBy bits r
@@ -41,21 +41,21 @@ module _ (f : ℕ) (state : State) (t : ℕ) (has : IsState f state) where
   follows_by bits TooShort is exact = refl
 
   -- the state of the run follows its answer
-  pub follows_answer : (bits : List Bool) → Follows f state t bits (state_after f state t bits) (answer_of f state t bits)
+  pub follows_answer : (bits : List Bool) → IsStateAfter f state t bits (state_after f state t bits) (answer_of f state t bits)
   follows_answer bits = follows_by bits (whole_packet_at f state t bits) refl (answer_of-exact f state t has bits)
 
   -- no other state does
-  one_state : (bits : List Bool) (next other : State) (answer : Result Answer BitFault) → Follows f state t bits next answer → Follows f state t bits other answer → next ≡ other
+  one_state : (bits : List Bool) (next other : State) (answer : Result Answer BitFault) → IsStateAfter f state t bits next answer → IsStateAfter f state t bits other answer → next ≡ other
   one_state bits next other (Ok Written) a b = sym (spelled_state bits next a) ∙ spelled_state bits other b
   one_state bits next other (Ok Unsynced) a b = a ∙ sym b
   one_state bits next other (Ok (Gap level)) a b = a ∙ sym b
   one_state bits next other (Err fault) a b = a ∙ sym b
 
-  pub state_is : (bits : List Bool) (next : State) → Follows f state t bits next (answer_of f state t bits) → next ≡ state_after f state t bits
+  pub state_is : (bits : List Bool) (next : State) → IsStateAfter f state t bits next (answer_of f state t bits) → next ≡ state_after f state t bits
   state_is bits next follows = one_state bits next (state_after f state t bits) (answer_of f state t bits) follows (follows_answer bits)
 
   -- a packet that is spelled has f places
-  IsState-follows : (bits : List Bool) (next : State) (answer : Result Answer BitFault) → Follows f state t bits next answer → IsState f next
+  IsState-follows : (bits : List Bool) (next : State) (answer : Result Answer BitFault) → IsStateAfter f state t bits next answer → IsState f next
   IsState-follows bits next (Ok Written) s = subst (IsState f) (sym s.is) (record { mask_places = s.spells.mask_places; content_places = s.spells.content_places })
   IsState-follows bits next (Ok Unsynced) same = subst (IsState f) (sym same) has
   IsState-follows bits next (Ok (Gap level)) same = subst (IsState f) (sym same) has
@@ -72,12 +72,12 @@ module _ (f : ℕ) (state : State) (t : ℕ) (has : IsState f state) where
   not_both fault reading e = cc
 
   alike : (bits : List Bool) (next after : State) (answer exact : Result Answer BitFault) → answer_of f state t bits ≡ exact → IsExactAnswer f state t bits exact → IsSoundAnswer f state t bits answer
-      → Follows f state t bits next answer → Follows f state t bits after exact → Alike bits next answer exact after
+      → IsStateAfter f state t bits next answer → IsStateAfter f state t bits after exact → Alike bits next answer exact after
   alike bits next after (Ok reading) exact is right sound a b =
       let same : exact ≡ Ok reading = sym is ∙ says_answer f state t has bits reading sound in
       record {
         kind = ap (λ (x : Result Answer BitFault). without_fault (kind_of x)) (sym same);
-        same = one_state bits next after (Ok reading) a (subst (Follows f state t bits after) same b);
+        same = one_state bits next after (Ok reading) a (subst (IsStateAfter f state t bits after) same b);
       }
   alike bits next after (Err fault) (Ok reading) is right sound a b = absurd (not_both fault reading (sound_reading f state t has bits reading (Err fault) right sound))
   alike bits next after (Err fault) (Err other) is right sound a b = record { kind = refl; same = a ∙ sym b }
@@ -100,7 +100,7 @@ module _ (f : ℕ) (known : Known) (has : IsState f known.state) where
   }
 
   read_same : (judged : Judged) (body : List ℕ) (t : ℕ) (answer : Result Answer BitFault) → answer ≡ answer_of f known.state t (bits_of body) → judged.verdict ≡ verdict_of known.latest t answer → judged.after.latest ≡ Some t
-      → judged.after.state ≡ state_after f known.state t (bits_of body) → judged ≡ read_as f known body t
+      → judged.after.state ≡ state_after f known.state t (bits_of body) → judged ≡ judge_as f known body t
   read_same judged body t answer same verdict latest state =
       let v = verdict ∙ ap (verdict_of known.latest t) same in
       λ i. record { verdict = v i; after = record { latest = latest i; state = state i } }
@@ -110,7 +110,7 @@ module _ (f : ℕ) (known : Known) (has : IsState f known.state) where
   judged_only body judged (Some t) is =
       let bits = bits_of body in
       let same = one_answer f known.state t has bits is.answer is.right in
-      read_same judged body t is.answer same is.verdict is.latest (state_is f known.state t has bits judged.after.state (subst (Follows f known.state t bits judged.after.state) same is.state))
+      read_same judged body t is.answer same is.verdict is.latest (state_is f known.state t has bits judged.after.state (subst (IsStateAfter f known.state t bits judged.after.state) same is.state))
 
   judged_alike : (body : List ℕ) (judged : Judged) (number : Option ℕ) → IsJudgedBy IsSoundAnswer f known body judged number → but_for_faults judged ≡ but_for_faults (judged_by f known body number)
   judged_alike body judged None is = ap but_for_faults is

@@ -30,7 +30,7 @@ abbrev pub StandsFor : List Arrival → Reception → Type 0
 StandsFor arrivals r = known_by r ≡ known_after r.decoder.places arrivals
 
 -- the decoder's latest packet is the one with the number t that the bits spell, and its first part tells the rest
-pub record IsLatest (old new : Decoding) (t : ℕ) (body : List ℕ) : Type 0 where
+pub record HasDecoded (old new : Decoding) (t : ℕ) (body : List ℕ) : Type 0 where
   pub form : Form
   pub mask : List Bool
   pub content : List Bool

@@ -62,7 +62,7 @@ as_run (Err fault) = Err (stop_by fault)
 -- ---- on the way
 
 -- a restorer that has read nothing: the places of its vectors, and the chosen APID
-pub record Restoration : Type 0 where
+pub record RestorerState : Type 0 where
   pub places : ℕ
   pub apid : ℕ
 
@@ -76,8 +76,8 @@ abbrev pub unread : ℕ → ℕ → Progress
 unread f apid = record { reader = opened (Some apid); reception = nothing_arrived f; restored = restored_of [] }
 
 -- the places and the APID of one that has read nothing
-abbrev pub restoration_of : Progress → Restoration
-restoration_of s = record { places = s.reception.decoder.places; apid = unwrap_or s.reader.chosen 0 }
+abbrev pub restorer_state : Progress → RestorerState
+restorer_state s = record { places = s.reception.decoder.places; apid = unwrap_or s.reader.chosen 0 }
 
 -- the run over what is left of the store
 abbrev pub rest_run : Progress → List ℕ → List Judged

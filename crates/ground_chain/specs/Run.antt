@@ -57,25 +57,25 @@ state_with state t (Spelled mask content) = Some (record { number = t; mask = ma
 state_with state t Opaque = state
 
 -- what was read of all bits, as the state after it: the packet with the number t where one is spelled, else as before
-abbrev pub state_by : State → ℕ → Reading Found → State
-state_by state t (Read found rest) = state_with state t found.outcome
-state_by state t (WrongBit rest) = state
-state_by state t TooShort = state
+abbrev pub state_read : State → ℕ → Reading Found → State
+state_read state t (Read found rest) = state_with state t found.outcome
+state_read state t (WrongBit rest) = state
+state_read state t TooShort = state
 
 -- the state after the bits of the packet with the number t
 abbrev pub state_after : ℕ → State → ℕ → List Bool → State
-state_after f state t bits = state_by state t (whole_packet_at f state t bits)
+state_after f state t bits = state_read state t (whole_packet_at f state t bits)
 
 -- an arrival with this number is read
-abbrev pub read_as : ℕ → Known → List ℕ → ℕ → Judged
-read_as f known body t = record {
+abbrev pub judge_as : ℕ → Known → List ℕ → ℕ → Judged
+judge_as f known body t = record {
   verdict = verdict_of known.latest t (answer_of f known.state t (bits_of body));
   after = record { latest = Some t; state = state_after f known.state t (bits_of body) };
 }
 
 abbrev pub judged_by : ℕ → Known → List ℕ → Option ℕ → Judged
 judged_by f known body None = repeated known
-judged_by f known body (Some t) = read_as f known body t
+judged_by f known body (Some t) = judge_as f known body t
 
 -- an arrival, by its number
 abbrev pub judge : ℕ → Known → Arrival → Judged

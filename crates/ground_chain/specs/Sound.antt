@@ -28,11 +28,11 @@ pub record IsSpelled (f : ℕ) (state : State) (t : ℕ) (bits : List Bool) (nex
   pub is : next ≡ Some (record { number = t; mask = mask; content = content })
 
 -- the state after an answer: a written packet is the latest one, and all other answers leave the state
-abbrev pub Follows : ℕ → State → ℕ → List Bool → State → Result Answer BitFault → Type 0
-Follows f state t bits next (Ok Written) = IsSpelled f state t bits next
-Follows f state t bits next (Ok Unsynced) = next ≡ state
-Follows f state t bits next (Ok (Gap level)) = next ≡ state
-Follows f state t bits next (Err fault) = next ≡ state
+abbrev pub IsStateAfter : ℕ → State → ℕ → List Bool → State → Result Answer BitFault → Type 0
+IsStateAfter f state t bits next (Ok Written) = IsSpelled f state t bits next
+IsStateAfter f state t bits next (Ok Unsynced) = next ≡ state
+IsStateAfter f state t bits next (Ok (Gap level)) = next ≡ state
+IsStateAfter f state t bits next (Err fault) = next ≡ state
 
 -- an arrival with the number t has a verdict with a right answer
 pub record IsReadAs (IsRight : Rightness) (f : ℕ) (known : Known) (body : List ℕ) (judged : Judged) (t : ℕ) : Type 0 where
@@ -40,7 +40,7 @@ pub record IsReadAs (IsRight : Rightness) (f : ℕ) (known : Known) (body : List
   pub right : IsRight f known.state t (bits_of body) answer
   pub verdict : judged.verdict ≡ verdict_of known.latest t answer
   pub latest : judged.after.latest ≡ Some t
-  pub state : Follows f known.state t (bits_of body) judged.after.state answer
+  pub state : IsStateAfter f known.state t (bits_of body) judged.after.state answer
 
 abbrev pub IsJudgedBy : Rightness → ℕ → Known → List ℕ → Judged → Option ℕ → Type 0
 IsJudgedBy IsRight f known body judged None = judged ≡ repeated known

@@ -22,11 +22,11 @@ pub struct Restorer {
 }
 
 impl Model for Restorer {
-    ghost use Rattle.ground_chain.specs.Restoring.{Restoration, restoration_of, IsRestorer};
+    ghost use Rattle.ground_chain.specs.Restoring.{RestorerState, restorer_state, IsRestorer};
 
-    ghost Value = { Restoration };
+    ghost Value = { RestorerState };
 
-    ghost view = { λ r. restoration_of r.restoring };
+    ghost view = { λ r. restorer_state r.restoring };
 
     ghost invariant = { λ r. IsRestorer r.restoring };
 }

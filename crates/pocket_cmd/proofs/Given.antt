@@ -7,13 +7,13 @@ use Rattle.std.proofs.lemmas.Bool.Decides.{nat_tests}
 use Rattle.std.proofs.lemmas.List.Sums.{split_at_first, passes_at_first}
 use Rattle.std.proofs.lemmas.Slice.Eq.{bytes_eq-Decides}
 use Rattle.side_tables.specs.Numbers.{is_plain_decimal, number_of}
-use Rattle.pocket_cmd.specs.Words.{Value, Named, Numbered, Entry, entry_of, entry_with, read_as, numbered, is_equals_sign, kind_of, value_of, value_unless, first_faulty, verb_of, Gives}
+use Rattle.pocket_cmd.specs.Words.{Value, Named, Numbered, Entry, entry_of, entry_with, read_as, numbered, is_equals_sign, key_kind, value_of, value_unless, first_faulty, verb_of, Assigns}
 use Rattle.pocket_cmd.specs.Command.{Restoration, Command, Restore, IsGiven, IsRight, restoration_of, with_values, with_verb, unless_faulty, command_of, name_in, number_in, ◌>>=◌}
 use Rattle.pocket_cmd.specs.Courses.{names_of}
 use Rattle.pocket_cmd.specs.declared.words.Verb.{Verb}
 use Rattle.pocket_cmd.specs.declared.words.Verb.TheVariants as verb
-use Rattle.pocket_cmd.specs.declared.words.Kind.{Kind}
-use Rattle.pocket_cmd.specs.declared.words.Kind.TheVariants.{Name, Number}
+use Rattle.pocket_cmd.specs.declared.words.KeyKind.{KeyKind}
+use Rattle.pocket_cmd.specs.declared.words.KeyKind.TheVariants.{Name, Number}
 use Rattle.pocket_cmd.specs.declared.words.Direction.{Direction}
 
 ltb-true : (m n : ℕ) → nat_lt m n ≡ true → m < n
@@ -40,15 +40,15 @@ entry_parts false key value entry e = absurd cc
 record IsEntry (v : Verb) (word : List ℕ) (entry : Entry) : Type 0 where
   text : List ℕ
   joined : word ≡ entry.key ++ 61 ∷ text
-  read : read_as (kind_of v entry.key) text ≡ Some entry.value
+  read : read_as (key_kind v entry.key) text ≡ Some entry.value
 
 entry_is : (v : Verb) (word : List ℕ) (entry : Entry) → entry_of v word ≡ Some entry → IsEntry v word entry
 entry_is v word entry e =
-    let parts = entry_parts (nat_lt (position_or_len is_equals_sign word) (length word)) (before_first is_equals_sign word) (read_as (kind_of v (before_first is_equals_sign word)) (after_first is_equals_sign word)) entry e in
+    let parts = entry_parts (nat_lt (position_or_len is_equals_sign word) (length word)) (before_first is_equals_sign word) (read_as (key_kind v (before_first is_equals_sign word)) (after_first is_equals_sign word)) entry e in
     record {
       text = after_first is_equals_sign word;
       joined = split_joined word (ltb-true _ _ parts.0) ∙ ap (λ k. k ++ 61 ∷ after_first is_equals_sign word) parts.1;
-      read = subst (λ k. read_as (kind_of v k) (after_first is_equals_sign word) ≡ Some entry.value) parts.1 parts.2;
+      read = subst (λ k. read_as (key_kind v k) (after_first is_equals_sign word) ≡ Some entry.value) parts.1 parts.2;
     }
 
 later : (word : List ℕ) (words : List (List ℕ)) (text : List ℕ) → Contains words text → Contains (word ∷ words) text
@@ -63,7 +63,7 @@ same_some e = cc
 record IsFound (v : Verb) (words : List (List ℕ)) (key : List ℕ) (value : Value) : Type 0 where
   text : List ℕ
   among : Contains words (key ++ 61 ∷ text)
-  read : read_as (kind_of v key) text ≡ Some value
+  read : read_as (key_kind v key) text ≡ Some value
 
 IsFound-later : (v : Verb) (word : List ℕ) (words : List (List ℕ)) (key : List ℕ) (value : Value) → IsFound v words key value → IsFound v (word ∷ words) key value
 IsFound-later v word words key value f = record { text = f.text; among = later word words (key ++ 61 ∷ f.text) f.among; read = f.read }
@@ -72,7 +72,7 @@ IsFound-here : (v : Verb) (word : List ℕ) (words : List (List ℕ)) (key : Lis
 IsFound-here v word words key entry same is = record {
   text = is.text;
   among = (0, omega arith, is.joined ∙ ap (λ k. k ++ 61 ∷ is.text) same);
-  read = subst (λ k. read_as (kind_of v k) is.text ≡ Some entry.value) same is.read;
+  read = subst (λ k. read_as (key_kind v k) is.text ≡ Some entry.value) same is.read;
 }
 
 -- the value of a key is that of a word
@@ -106,7 +106,7 @@ no_name : (o : Option ℕ) (direction : Direction) (name : List ℕ) → numbere
 no_name None direction name e = cc
 no_name (Some n) direction name e = cc
 
-read_is : (kind : Option Kind) (text name : List ℕ) (direction : Direction) → read_as kind text ≡ Some (Named direction name) → text ≡ name
+read_is : (kind : Option KeyKind) (text name : List ℕ) (direction : Direction) → read_as kind text ≡ Some (Named direction name) → text ≡ name
 read_is None text name direction e = absurd cc
 read_is (Some (Name other)) text name direction e = read_name_is (length text == 0) other direction text name e
 read_is (Some (Number low high)) text name direction e = absurd (no_name (number_of low high text) direction name e)
@@ -116,11 +116,11 @@ numbered_is None n e = absurd cc
 numbered_is (Some m) n e = cc
 
 -- a name that the words give to a key is in one of them
-Gives-name : (v : Verb) (words : List (List ℕ)) (key name : List ℕ) → name_in (value_of v words key) ≡ Some name → Gives words key name
-Gives-name v words key name e =
+Assigns-name : (v : Verb) (words : List (List ℕ)) (key name : List ℕ) → name_in (value_of v words key) ≡ Some name → Assigns words key name
+Assigns-name v words key name e =
     let is = name_is (value_of v words key) name e in
     let f = found v words key (Named is.0 name) is.1 in
-    subst (Gives words key) (read_is (kind_of v key) f.text name is.0 f.read) f.among
+    subst (Assigns words key) (read_is (key_kind v key) f.text name is.0 f.read) f.among
 
 within : (a b c : Bool) (x n : ℕ) → cond (a && b && c) (Some x) None ≡ Some n → (b ≡ true) × (c ≡ true) × (x ≡ n)
 within true true true x n e = (refl, refl, same_some e)
@@ -145,7 +145,7 @@ bind_ok (Ok x) f y e = (x, refl, e)
 bind_ok (Err word) f y e = absurd cc
 
 -- a number that the words give to a key of these bounds is within them
-number-given : (v : Verb) (words : List (List ℕ)) (key : List ℕ) (low high n : ℕ) → kind_of v key ≡ Some (Number low high) → number_in (value_of v words key) ≡ Some n → (low ≤ n) × (n ≤ high)
+number-given : (v : Verb) (words : List (List ℕ)) (key : List ℕ) (low high n : ℕ) → key_kind v key ≡ Some (Number low high) → number_in (value_of v words key) ≡ Some n → (low ≤ n) × (n ≤ high)
 number-given v words key low high n kind e =
     let f = found v words key (Numbered n) (number_is (value_of v words key) n e) in
     number_of-within low high n f.text (numbered_is (number_of low high f.text) n (subst (λ k. read_as k f.text ≡ Some (Numbered n)) kind f.read))
@@ -157,9 +157,9 @@ given_from words r input output report bits apid word = record {
   some = bits.0;
   most = bits.1;
   chosen = apid;
-  named_input = later word words _ (Gives-name verb.Restore words (codes "in") r.input input);
-  named_output = later word words _ (Gives-name verb.Restore words (codes "out") r.output output);
-  named_report = later word words _ (Gives-name verb.Restore words (codes "report") r.report report);
+  named_input = later word words _ (Assigns-name verb.Restore words (codes "in") r.input input);
+  named_output = later word words _ (Assigns-name verb.Restore words (codes "out") r.output output);
+  named_report = later word words _ (Assigns-name verb.Restore words (codes "report") r.report report);
 }
 
 given_by_words : (words : List (List ℕ)) (r : Restoration) → restoration_of words ≡ Ok r → (word : List ℕ) → IsGiven (word ∷ words) r
@@ -201,9 +201,9 @@ IsGiven-command_of (word ∷ words) r e = by_verb (verb_of word) e where
 -- what the words give to a command: values within their bounds, and its names
 pub record AreGiven (words : List (List ℕ)) (command : Command) : Type 0 where
   pub right : IsRight command
-  pub input : Gives words (codes "in") (names_of command).input
-  pub output : Gives words (codes "out") (names_of command).output
-  pub report : Gives words (codes "report") (names_of command).report
+  pub input : Assigns words (codes "in") (names_of command).input
+  pub output : Assigns words (codes "out") (names_of command).output
+  pub report : Assigns words (codes "report") (names_of command).report
 
 pub AreGiven-command_of : (words : List (List ℕ)) (command : Command) → command_of words ≡ Ok command → AreGiven words command
 AreGiven-command_of words (Restore r) e =

@@ -1,6 +1,6 @@
 -- The command that the words give, or the place of the first fault in them.
 use Rattle.std.specs.Prelude.{ℕ, ◌+◌, ◌≤◌, List, [], ◌∷◌, length, codes, Option, Some, None, ok_or, Result, Ok, Err}
-use Rattle.pocket_cmd.specs.Words.{Value, Named, Numbered, verb_of, first_faulty, value_of, Gives}
+use Rattle.pocket_cmd.specs.Words.{Value, Named, Numbered, verb_of, first_faulty, value_of, Assigns}
 use Rattle.pocket_cmd.specs.declared.words.Verb.{Verb}
 use Rattle.pocket_cmd.specs.declared.words.Verb.TheVariants as verb
 use Rattle.pocket_cmd.specs.declared.command.Restoration.{Restoration as Borrowed}
@@ -20,9 +20,9 @@ pub record IsGiven (words : List (List ℕ)) (r : Restoration) : Type 0 where
   pub some : 1 ≤ r.bits
   pub most : r.bits ≤ 49152
   pub chosen : r.apid ≤ 2046
-  pub named_input : Gives words (codes "in") r.input
-  pub named_output : Gives words (codes "out") r.output
-  pub named_report : Gives words (codes "report") r.report
+  pub named_input : Assigns words (codes "in") r.input
+  pub named_output : Assigns words (codes "out") r.output
+  pub named_report : Assigns words (codes "report") r.report
 
 -- the values of `restore` are within their bounds
 pub record AreRight (r : Restoration) : Type 0 where

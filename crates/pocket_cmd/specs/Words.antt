@@ -7,8 +7,8 @@ use Rattle.pocket_cmd.specs.declared.words.Verb.{Verb}
 use Rattle.pocket_cmd.specs.declared.words.Verb.TheVariants.{Restore}
 use Rattle.pocket_cmd.specs.declared.words.Direction.{Direction}
 use Rattle.pocket_cmd.specs.declared.words.Direction.TheVariants.{In, Out}
-use Rattle.pocket_cmd.specs.declared.words.Kind.{Kind}
-use Rattle.pocket_cmd.specs.declared.words.Kind.TheVariants.{Name, Number}
+use Rattle.pocket_cmd.specs.declared.words.KeyKind.{KeyKind}
+use Rattle.pocket_cmd.specs.declared.words.KeyKind.TheVariants.{Name, Number}
 use Rattle.pocket_cmd.specs.declared.words.Value.{Value as HeldValue}
 use Rattle.pocket_cmd.specs.declared.words.Value.TheVariants as held
 use Rattle.pocket_cmd.specs.declared.words.Entry.{Entry as Held}
@@ -18,8 +18,8 @@ abbrev pub verb_of : List ℕ → Option Verb
 verb_of word = if bytes_eq word (codes "restore") then Some Restore else None
 
 -- what a key of a verb takes
-abbrev pub kind_of : Verb → List ℕ → Option Kind
-kind_of Restore key =
+abbrev pub key_kind : Verb → List ℕ → Option KeyKind
+key_kind Restore key =
     if bytes_eq key (codes "in") then Some (Name In)
     else (if bytes_eq key (codes "out") || bytes_eq key (codes "report") then Some (Name Out)
     else (if bytes_eq key (codes "bits") then Some (Number 1 49152)
@@ -44,7 +44,7 @@ numbered None = None
 numbered (Some n) = Some (Numbered n)
 
 -- the value that a text is: a name, or a plain decimal within its bounds
-abbrev pub read_value : Kind → List ℕ → Option Value
+abbrev pub read_value : KeyKind → List ℕ → Option Value
 read_value (Name direction) text = read_name direction text
 read_value (Number low high) text = numbered (number_of low high text)
 
@@ -60,7 +60,7 @@ abbrev pub entry_with : List ℕ → Option Value → Option Entry
 entry_with key None = None
 entry_with key (Some value) = Some (record { key = key; value = value })
 
-abbrev pub read_as : Option Kind → List ℕ → Option Value
+abbrev pub read_as : Option KeyKind → List ℕ → Option Value
 read_as None text = None
 read_as (Some kind) text = read_value kind text
 
@@ -71,7 +71,7 @@ is_equals_sign c = c == 61
 abbrev pub entry_of : Verb → List ℕ → Option Entry
 entry_of verb word =
     if nat_lt (position_or_len is_equals_sign word) (length word)
-    then entry_with (before_first is_equals_sign word) (read_as (kind_of verb (before_first is_equals_sign word)) (after_first is_equals_sign word))
+    then entry_with (before_first is_equals_sign word) (read_as (key_kind verb (before_first is_equals_sign word)) (after_first is_equals_sign word))
     else None
 
 abbrev pub same_direction : Direction → Direction → Bool
@@ -116,5 +116,5 @@ value_of verb [] key = None
 value_of verb (word ∷ words) key = value_unless key (entry_of verb word) (value_of verb words key)
 
 -- one of the words gives this value to the key
-abbrev pub Gives : List (List ℕ) → List ℕ → List ℕ → Type 0
-Gives words key value = Contains words (key ++ 61 ∷ value)
+abbrev pub Assigns : List (List ℕ) → List ℕ → List ℕ → Type 0
+Assigns words key value = Contains words (key ++ 61 ∷ value)

@@ -7,7 +7,7 @@ ghost use Rattle.pocket_cmd.specs.Command.{Command as Told, command_of};
 ghost use Rattle.pocket_cmd.specs.Courses.{course_of, names_of};
 ghost use Rattle.pocket_cmd.specs.Outcome.{Stands, IsUnread, IsUnwritten, given};
 ghost use Rattle.pocket_cmd.specs.Status.{HasStatusCause, status_of};
-ghost use Rattle.pocket_cmd.specs.Words.{Gives};
+ghost use Rattle.pocket_cmd.specs.Words.{Assigns};
 
 use crate::command::command_of;
 use crate::status::{Refusal, Status};
@@ -24,11 +24,11 @@ pub fn pocket<D: Desk>(alloc: Global, words: &[String], desk: &mut D) -> Status
     requires few { length words.now < 2 ^ 32 }
 
     // The desk grants each name that the words give.
-    requires inputs { (name : List ℕ) → Gives (map string_bytes words.now) (codes "in") name
+    requires inputs { (name : List ℕ) → Assigns (map string_bytes words.now) (codes "in") name
         → IsTrue ((D.meaning desk.old).grants_in name) }
-    requires outputs { (name : List ℕ) → Gives (map string_bytes words.now) (codes "out") name
+    requires outputs { (name : List ℕ) → Assigns (map string_bytes words.now) (codes "out") name
         → IsTrue ((D.meaning desk.old).grants_out name) }
-    requires reports { (name : List ℕ) → Gives (map string_bytes words.now) (codes "report") name
+    requires reports { (name : List ℕ) → Assigns (map string_bytes words.now) (codes "report") name
         → IsTrue ((D.meaning desk.old).grants_out name) }
 
     // Words that give no command are refused at the first fault, and the desk is not called.

@@ -3,7 +3,7 @@ ghost use Rattle.std.specs.Prelude.{◌≡◌, ◌<◌, ◌^◌, length, map, If
 ghost use Rattle.std.specs.Option.{option_map};
 ghost use Rattle.std.specs.List.{list_any};
 ghost use Rattle.std.specs.String.{string_bytes};
-ghost use Rattle.pocket_cmd.specs.Words.{verb_of, kind_of, read_name, read_value, entry_of, view_value, view_entry, meet, clash, clash_with_some, is_faulty, first_faulty, value_of};
+ghost use Rattle.pocket_cmd.specs.Words.{verb_of, key_kind, read_name, read_value, entry_of, view_value, view_entry, meet, clash, clash_with_some, is_faulty, first_faulty, value_of};
 
 use side_tables::number;
 
@@ -23,7 +23,7 @@ pub enum Direction {
 
 /// What the value of a key has to be.
 #[derive(Clone, Copy, Debug, PartialEq, Eq)]
-pub enum Kind {
+pub enum KeyKind {
     /// The name of an input or an output; `-` is the standard one.
     Name(Direction),
     /// A plain decimal within these bounds.
@@ -55,28 +55,28 @@ pub fn verb_of(word: &str) -> Option<Verb>
 }
 
 /// What a key of this verb takes, where it is one.
-fn kind_of(verb: Verb, key: &str) -> Option<Kind>
-    ensures { result ≡ kind_of verb key.now }
+fn key_kind(verb: Verb, key: &str) -> Option<KeyKind>
+    ensures { result ≡ key_kind verb key.now }
 {
     match (verb, key) {
-        (Verb::Restore, "in") => Some(Kind::Name(Direction::In)),
-        (Verb::Restore, "out" | "report") => Some(Kind::Name(Direction::Out)),
-        (Verb::Restore, "bits") => Some(Kind::Number {
+        (Verb::Restore, "in") => Some(KeyKind::Name(Direction::In)),
+        (Verb::Restore, "out" | "report") => Some(KeyKind::Name(Direction::Out)),
+        (Verb::Restore, "bits") => Some(KeyKind::Number {
             low: 1,
             high: 49_152,
         }),
-        (Verb::Restore, "apid") => Some(Kind::Number { low: 0, high: 2046 }),
+        (Verb::Restore, "apid") => Some(KeyKind::Number { low: 0, high: 2046 }),
         _ => None,
     }
 }
 
 /// The value that a text is, where it is one of this kind.
-fn read_value(kind: Kind, text: &str) -> Option<Value<'_>>
+fn read_value(kind: KeyKind, text: &str) -> Option<Value<'_>>
     ensures { option_map view_value result ≡ read_value kind text.now }
 {
     match kind {
-        Kind::Name(direction) => name(direction, text),
-        Kind::Number { low, high } => Some(Value::Number(number(text.as_bytes(), low, high)?)),
+        KeyKind::Name(direction) => name(direction, text),
+        KeyKind::Number { low, high } => Some(Value::Number(number(text.as_bytes(), low, high)?)),
     }
 }
 
@@ -95,7 +95,7 @@ fn entry_of(verb: Verb, word: &str) -> Option<Entry<'_>>
     ensures { option_map view_entry result ≡ entry_of verb word.now }
 {
     let (key, text) = word.split_once('=')?;
-    let kind = kind_of(verb, key)?;
+    let kind = key_kind(verb, key)?;
     let value = read_value(kind, text)?;
     Some(Entry { key, value })
 }
