@@ -69,7 +69,7 @@ fn first_words(words: &[String]) -> &[String]
     ensures first { result.now ≡ take 1000 words.now }
     ensures few { length result.now ≤ 1000 }
 {
-    &words[..words.len().min(MOST_WORDS)]
+    &words[..MOST_WORDS.min(words.len())]
 }
 
 /// Prints a text on standard output.
