@@ -1,0 +1,3 @@
+pub mod RecordingWalks
+mod Readings
+mod CompressCourses
