@@ -6,7 +6,8 @@ use Rattle.desk_ports.specs.declared.desk.Outlet.TheVariants as outlet
 use Rattle.desk_ports.specs.declared.stop.Stop.TheVariants as stop
 use Rattle.desk_ports.specs.Meanings.{Meanings, Moves, Adds, AddsFront, Counts, left}
 use Rattle.desk_ports.specs.Courses.{Outputs, Course, no_outputs, to_output, put, behind, AfterStop, HasCause, IsCutShort, Reaches, IsAtLast, Ends}
-use Rattle.desk_ports.proofs.Courses.{Reaches-moves, Reaches-adds, Reaches-then, IsCutShort-adds, AfterStop-behind, IsAtLast-end, Ends-fault, IsCutOff-moves}
+use Rattle.desk_ports.proofs.Courses.{Reaches-none, Reaches-moves, Reaches-adds, Reaches-then, IsCutShort-adds, AfterStop-behind, IsAtLast-behind, Ends-done, Ends-fault, IsCutOff-moves}
+use Rattle.desk_ports.proofs.Runs.{Ran-none}
 use Rattle.side_tables.specs.Rows.{flags_of}
 use Rattle.mask_update.specs.Histories.{History, Step, step_of, with_step}
 use Rattle.mask_update.proofs.HistoriesOf.{length-history_of, history_of-push}
@@ -164,3 +165,62 @@ pub KeepsInputs-taken : (k : Compression) (inputs : List (List Bool)) (input : L
 KeepsInputs-taken k inputs input a b c takes adds =
     let same = ap (λ (m : Meanings). left m inlet.Main) adds.others in
     KeepsInputs-told k inputs (inputs ++ input ∷ []) takes.taken (left a inlet.Main) (left c inlet.Main) (takes.moved.moved ∙ ap (prepend_known takes.taken) (sym same)) (all_taken k inputs input a b takes)
+
+-- ---- the turns
+
+-- some inputs are taken, and all that they owe stands
+pub record IsBehind (k : Compression) (s : Progress) (old new : Meanings) : Type 0 where
+  pub inputs : List (List Bool)
+  pub taken : HasTaken k inputs s
+  pub reaches : Reaches (rest_course k []) (rest_course k inputs) old new
+  pub keeps : KeepsInputs k [] inputs old new
+
+IfSome-same : {A : Type 0} (o : Option A) (R : A → A → Type 0) → ((x : A) → R x x) → IfSome o (λ x. IfSome o (λ y. R x y))
+IfSome-same None R p = tt
+IfSome-same (Some x) R p = p x
+
+-- nothing was read
+pub IsBehind-none : (k : Compression) (s : Progress) (m : Meanings) → HasTaken k [] s → IsBehind k s m m
+IsBehind-none k s m taken = record {
+  inputs = [];
+  taken = taken;
+  reaches = Reaches-none (rest_course k []) m;
+  keeps = IfSome-same (left m inlet.Main) (λ bytes rest. all_inputs k [] bytes ≡ all_inputs k [] rest) (λ bytes. refl);
+}
+
+KeepsInputs-then : (k : Compression) (xs ys zs : List (List Bool)) (taken : List ℕ) (a b c : Option (List ℕ)) → b ≡ prepend_known taken c → IfSome a (λ p. IfSome b (λ q. all_inputs k xs p ≡ all_inputs k ys q)) → IfSome b (λ q. IfSome c (λ r. all_inputs k ys q ≡ all_inputs k zs r))
+    → IfSome a (λ p. IfSome c (λ r. all_inputs k xs p ≡ all_inputs k zs r))
+KeepsInputs-then k xs ys zs taken None b c moved first next = tt
+KeepsInputs-then k xs ys zs taken (Some p) None None moved first next = tt
+KeepsInputs-then k xs ys zs taken (Some p) None (Some r) moved first next = absurd cc
+KeepsInputs-then k xs ys zs taken (Some p) (Some q) None moved first next = tt
+KeepsInputs-then k xs ys zs taken (Some p) (Some q) (Some r) moved first next = first ∙ next
+
+-- one packet more
+pub IsBehind-then : (k : Compression) (s next : Progress) (a b c : Meanings) (behind : IsBehind k s a b) (input : List Bool) → HasTaken k (behind.inputs ++ input ∷ []) next → Reaches (rest_course k behind.inputs) (rest_course k (behind.inputs ++ input ∷ [])) b c
+    → KeepsInputs k behind.inputs (behind.inputs ++ input ∷ []) b c → IsBehind k next a c
+IsBehind-then k s next a b c behind input taken reaches keeps = record {
+  inputs = behind.inputs ++ input ∷ [];
+  taken = taken;
+  reaches = Reaches-then (rest_course k []) (rest_course k behind.inputs) (rest_course k (behind.inputs ++ input ∷ [])) a b c behind.reaches reaches;
+  keeps = KeepsInputs-then k [] behind.inputs (behind.inputs ++ input ∷ []) reaches.taken (left a inlet.Main) (left b inlet.Main) (left c inlet.Main) reaches.ran.input behind.keeps keeps;
+}
+
+-- the recording is at its end
+pub Ends-behind : (k : Compression) (s : Progress) (a b c : Meanings) (behind : IsBehind k s a b) → IsAtLast (rest_course k behind.inputs) b c no_outputs → Ends (rest_course k []) a c None
+Ends-behind k s a b c behind last =
+    Ends-done (rest_course k []) a c c no_outputs (IsAtLast-behind (rest_course k []) (rest_course k behind.inputs) a b c no_outputs behind.reaches last) (Ran-none c)
+
+all_inputs-none : (k : Compression) (inputs : List (List Bool)) → all_inputs k inputs [] ≡ inputs
+all_inputs-none k inputs = ap (λ (w : RecordingWalk). inputs ++ w.inputs) (recording_walk_from-none k.places (length inputs)) ∙ append-nil inputs
+
+-- the inputs that are taken are all of the recording
+pub IfSome-counted : (k : Compression) (inputs : List (List Bool)) (taken : List ℕ) (n : ℕ) (a b : Option (List ℕ)) → a ≡ prepend_known taken b → n ≡ length inputs → IsAtEnd b → IfSome a (λ p. IfSome b (λ q. all_inputs k [] p ≡ all_inputs k inputs q))
+    → IfSome a (λ p. n ≡ length (all_inputs k [] p))
+IfSome-counted k inputs taken n None b moved number at_end keeps = tt
+IfSome-counted k inputs taken n (Some p) None moved number at_end keeps = absurd cc
+IfSome-counted k inputs taken n (Some p) (Some q) moved number at_end keeps = number ∙ ap length (sym (keeps ∙ (ap (all_inputs k inputs) at_end ∙ all_inputs-none k inputs)))
+
+pub packets-behind : (k : Compression) (s : Progress) (n : ℕ) (a b : Meanings) → IsBehind k s a b → n ≡ s.encoder.masks.taken → IsAtEnd (left b inlet.Main) → IfSome (left a inlet.Main) (λ recording. n ≡ length (all_inputs k [] recording))
+packets-behind k s n a b behind number at_end =
+    IfSome-counted k behind.inputs behind.reaches.taken n (left a inlet.Main) (left b inlet.Main) behind.reaches.ran.input (number ∙ HasTaken-number k behind.inputs s behind.taken) at_end behind.keeps

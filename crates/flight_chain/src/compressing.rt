@@ -101,6 +101,8 @@ impl Compressing {
         ensures last { result ≡ Ok false → IsAtEnd (left (D.meaning desk.old) Inlet.Main) }
         ensures few { result ≡ Ok true → self.old.encoder.masks.taken < 4294967296 }
         ensures taken { result ≡ Ok true → self.new.encoder.masks.taken ≡ self.old.encoder.masks.taken + 1 }
+        ensures ready_in { result ≡ Ok true → IsReadyIn (D.meaning desk.new) Inlet.Main }
+        ensures ready_out { result ≡ Ok true → IsReadyOut (D.meaning desk.new) Outlet.Main }
     {
         let t = self.encoder.taken();
         let Some(t) = read_input(desk, t, &mut self.line, &mut self.input)? else {
@@ -114,6 +116,7 @@ impl Compressing {
 
     /// Writes the packet `t`, that of the input that was read.
     fn put<D: Desk>(&mut self, desk: &mut D, t: u32) -> Result<(), Failed>
+        requires input { IsReadyIn (D.meaning desk.old) Inlet.Main }
         requires output { IsReadyOut (D.meaning desk.old) Outlet.Main }
         requires most { self.old.encoder.masks.taken < 4294967296 }
         ensures stands { (h : History) → StandsFor h self.old.encoder
@@ -123,6 +126,8 @@ impl Compressing {
         ensures front { (h : History) → StandsFor h self.old.encoder → OnErr result (AddsFront (D.meaning desk.old) (D.meaning desk.new) Outlet.Main
             (space_packet self.old.apid (t % PERIOD) (data_at (with_input h self.old.encoder.robust self.old.input (flags_of self.old.rows t)) (length h.steps)))) }
         ensures cause { HasWriteCause (D.counts desk.old) (D.counts desk.new) result }
+        ensures ready_in { OnOk result (IsReadyIn (D.meaning desk.new) Inlet.Main) }
+        ensures ready_out { OnOk result (IsReadyOut (D.meaning desk.new) Outlet.Main) }
         ensures places { length self.new.encoder.masks.mask ≡ length self.old.encoder.masks.mask }
         ensures robust { self.new.encoder.robust ≡ self.old.encoder.robust }
         ensures taken { self.new.encoder.masks.taken ≡ self.old.encoder.masks.taken + 1 }

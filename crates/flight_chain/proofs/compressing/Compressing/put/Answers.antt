@@ -1,7 +1,9 @@
-use Rattle.std.proofs.Common.{◌≡◌, ℕ, ◌%◌, List, length, OnOk, OnErr, sym, ap, ◌∙◌, subst}
+use Rattle.std.proofs.Common.{Result, Ok, Err, [], ◌≡◌, ℕ, ◌%◌, List, length, OnOk, OnErr, sym, ap, ◌∙◌, subst}
 use Rattle.bit_vectors.specs.Vectors.{vector_bytes}
 use Rattle.desk_ports.specs.declared.desk.Outlet.TheVariants as outlet
-use Rattle.desk_ports.specs.Meanings.{Adds, AddsFront}
+use Rattle.desk_ports.specs.declared.desk.Inlet.TheVariants as inlet
+use Rattle.desk_ports.specs.Meanings.{Adds, AddsFront, IsReadyIn, IsReadyOut}
+use Rattle.desk_ports.proofs.Runs.{Ran-adds, Ran-ready_in, Ran-ready_out}
 use Rattle.mask_update.specs.Histories.{History}
 use Rattle.side_tables.specs.Rows.{flags_of}
 use Rattle.packet_encode.specs.Encoder.{StandsFor}
@@ -33,3 +35,19 @@ returns-clause-front g c = λ h stands.
     let a = g.D.Desk.meaning c.args.desk.now in
     let b = g.D.Desk.meaning c.put.new.desk in
     subst (λ (bytes : List ℕ). OnErr c.put.result (AddsFront a b outlet.Main bytes)) (packet_is g c h stands) c.put.ensures.front
+
+OnOk-then : {T E : Type 0} (r : Result T E) (P Q : Type 0) → (P → Q) → OnOk r P → OnOk r Q
+OnOk-then (Ok x) P Q on p = on p
+OnOk-then (Err e) P Q on p = tt
+
+pub returns-clause-ready_in : goal.returns-clause-ready_in
+returns-clause-ready_in g c =
+    let a = g.D.Desk.meaning c.args.desk.now in
+    let b = g.D.Desk.meaning c.put.new.desk in
+    OnOk-then c.put.result _ (IsReadyIn b inlet.Main) (λ adds. Ran-ready_in a b [] _ [] (Ran-adds a b _ adds) c.requires.input) c.put.ensures.added
+
+pub returns-clause-ready_out : goal.returns-clause-ready_out
+returns-clause-ready_out g c =
+    let a = g.D.Desk.meaning c.args.desk.now in
+    let b = g.D.Desk.meaning c.put.new.desk in
+    OnOk-then c.put.result _ (IsReadyOut b outlet.Main) (λ adds. Ran-ready_out a b outlet.Main [] _ [] (Ran-adds a b _ adds) c.requires.output) c.put.ensures.added
