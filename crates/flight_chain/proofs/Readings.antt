@@ -1,5 +1,5 @@
 -- What a reading of one packet tells of the walk.
-use Rattle.std.proofs.Common.{◌≡◌, ℕ, ◌+◌, ◌/◌, ◌^◌, ◌<◌, ◌≤◌, Bool, true, false, List, [], ◌∷◌, ◌++◌, length, take, drop, Option, Some, IfSome, refl, sym, ap, ◌∙◌, subst, length-append, append-nil, suc, zero, arith, inl, inr}
+use Rattle.std.proofs.Common.{◌≡◌, ℕ, ◌+◌, ◌^◌, ◌<◌, ◌≤◌, Bool, true, false, List, [], ◌∷◌, ◌++◌, length, take, drop, refl, sym, ap, ◌∙◌, length-append, append-nil, suc, zero, arith, inl, inr}
 use Rattle.std.specs.Prelude.{Contains}
 use Rattle.std.specs.Io.KnownBytes.{IsAtEnd}
 use Rattle.std.specs.List.{list_any}
@@ -10,11 +10,11 @@ use Rattle.desk_ports.specs.declared.desk.Inlet.TheVariants as inlet
 use Rattle.desk_ports.specs.Meanings.{Meanings, Moves, left}
 use Rattle.desk_ports.proofs.Courses.{rest_of, IfSome-rest_of, IfSome-IsAtEnd}
 use Rattle.flight_chain.specs.declared.fault.RecordFault.TheVariants.{CutRecord, SpareBit, TooMany}
-use Rattle.flight_chain.specs.Recordings.{first_packet, first_input, has_spare_bit, fault_at, RecordingWalk, recording_walk_from, behind_input}
+use Rattle.flight_chain.specs.Recordings.{first_packet, has_spare_bit, RecordingWalk, recording_walk_from, behind_input}
 use Rattle.flight_chain.specs.Reading.{Takes, Stops, Loses}
 use Rattle.flight_chain.proofs.RecordingWalks.{recording_walk_from-none, recording_walk_from-fault, recording_walk_from-packet, fault_at-too_many, fault_at-cut, fault_at-spare, fault_at-none}
 
-any_one : (bits : List Bool) → Contains bits true → list_any (λ (bit : Bool). bit) bits ≡ true
+pub any_one : (bits : List Bool) → Contains bits true → list_any (λ (bit : Bool). bit) bits ≡ true
 any_one [] (k, within, is) = absurd (omega arith)
 any_one (true ∷ bits) one = refl
 any_one (false ∷ bits) (zero, within, is) = absurd cc

@@ -1,7 +1,7 @@
 -- The walk over a recording: its equation, whatever the steps that it may take.
-use Rattle.std.proofs.Common.{◌≡◌, ℕ, zero, suc, ◌+◌, ◌-◌, ◌/◌, ◌^◌, ◌<◌, ◌≤◌, Bool, true, false, ◌==◌, if◌then◌else◌, List, [], ◌∷◌, ◌++◌, length, take, drop, Option, Some, None, refl, sym, ap, ◌∙◌, length-drop, arith}
-use Rattle.std.specs.Prelude.{nat_lt}
-use Rattle.std.proofs.lemmas.Bool.{lt-ltb, le-ltb}
+use Rattle.std.proofs.Common.{◌≡◌, ℕ, zero, suc, ◌+◌, ◌^◌, ◌<◌, ◌≤◌, Bool, true, false, ◌==◌, if◌then◌else◌, List, [], ◌∷◌, length, drop, Option, Some, None, refl, sym, ap, ◌∙◌, length-drop, arith}
+use Rattle.std.specs.Prelude.{nat_lt, ◌≢◌}
+use Rattle.std.proofs.lemmas.Bool.{lt-ltb, le-ltb, ltb-false, false≢true}
 use Rattle.std.proofs.lemmas.Grind.{common_steps}
 use Rattle.bit_vectors.specs.Vectors.{byte_count}
 use Rattle.flight_chain.specs.declared.fault.RecordFault.{RecordFault}
@@ -89,3 +89,26 @@ fault_at-spare f t bytes few long spare = checked f t bytes false false true (no
 pub fault_at-none : (f t : ℕ) (bytes : List ℕ) → t < 2 ^ 32 → byte_count f ≤ length bytes → has_spare_bit f bytes ≡ false → fault_at f t bytes ≡ None
 unfolding by_checks
 fault_at-none f t bytes few long spare = checked f t bytes false false false (not_full t few) (le-ltb (length bytes) (byte_count f) long) spare
+
+checks_passed : (t : ℕ) (full short spare : Bool) → by_checks t full short spare ≡ None → (full ≡ false) × (short ≡ false) × (spare ≡ false)
+unfolding by_checks
+checks_passed t true short spare none = absurd cc
+checks_passed t false true spare none = absurd cc
+checks_passed t false false true none = absurd cc
+checks_passed t false false false none = (refl, refl, refl)
+
+-- what bytes have that begin with a packet
+pub record BeginWithPacket (f t : ℕ) (bytes : List ℕ) : Type 0 where
+  pub few : t ≢ 2 ^ 32
+  pub long : byte_count f ≤ length bytes
+  pub spare : has_spare_bit f bytes ≡ false
+
+pub fault_at-told : (f t : ℕ) (bytes : List ℕ) → fault_at f t bytes ≡ None → BeginWithPacket f t bytes
+unfolding by_checks
+fault_at-told f t bytes none =
+    let passed = checks_passed t (t == 2 ^ 32) (nat_lt (length bytes) (byte_count f)) (has_spare_bit f bytes) none in
+    record {
+      few = λ full. false≢true (sym passed.0 ∙ is_full t full);
+      long = ltb-false (length bytes) (byte_count f) passed.1;
+      spare = passed.2;
+    }

@@ -7,7 +7,7 @@ use Rattle.desk_ports.specs.declared.stop.Stop.TheVariants as stop
 use Rattle.flight_chain.specs.declared.fault.RecordFault.{RecordFault}
 use Rattle.flight_chain.specs.declared.reading.Unread.{Unread}
 use Rattle.flight_chain.specs.declared.reading.Unread.TheVariants as unread
-use Rattle.flight_chain.specs.Recordings.{RecordingWalk, recording_walk_from, behind_input, stopped_at}
+use Rattle.flight_chain.specs.Recordings.{recording_walk_from, behind_input, stopped_at}
 
 -- The packet t with this input was taken, and nothing else. The walk goes on behind it.
 pub record Takes (f t : ℕ) (old new : Meanings) (input : List Bool) : Type 0 where

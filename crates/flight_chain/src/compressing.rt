@@ -136,7 +136,8 @@ impl Compressing {
         ensures input { self.new.input ≡ self.old.input }
     {
         self.pen.clear();
-        self.encoder.encode(&self.input, self.plan.flags(t), &mut self.pen);
+        self.encoder
+            .encode(&self.input, self.plan.flags(t), &mut self.pen);
         let count = (u64::from(t) % PERIOD) as u16;
         self.writer.put(desk, count, self.pen.bytes())
     }

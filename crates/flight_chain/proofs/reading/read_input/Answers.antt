@@ -1,7 +1,7 @@
-use Rattle.std.proofs.Common.{◌≡◌, ℕ, ◌+◌, ◌/◌, ◌^◌, ◌<◌, ◌≤◌, Bool, List, length, take, drop, true, refl, sym, ap, subst, ◌∙◌, rules, arith}
-use Rattle.std.proofs.lemmas.List.{length-take, length-take-le, take_all}
+use Rattle.std.proofs.Common.{◌≡◌, ◌^◌, ◌<◌, ◌≤◌, length, take, refl, sym, subst, arith}
+use Rattle.std.proofs.lemmas.List.{length-take-le, take_all}
 use Rattle.std.proofs.lemmas.Result.{err_from_is_err_and}
-use Rattle.bit_vectors.specs.Vectors.{bits_of, byte_count}
+use Rattle.bit_vectors.specs.Vectors.{byte_count}
 use Rattle.desk_ports.specs.Meanings.{Moves}
 use Rattle.desk_ports.specs.declared.desk.Inlet.TheVariants as inlet
 use Rattle.std.proofs.lemmas.Bool.{false≢true}

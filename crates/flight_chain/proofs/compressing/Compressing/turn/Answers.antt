@@ -1,16 +1,10 @@
-use Rattle.std.proofs.Common.{◌≡◌, ℕ, ◌%◌, Bool, List, [], ◌∷◌, ◌++◌, length, refl, sym, ap, ◌∙◌, subst}
+use Rattle.std.proofs.Common.{Bool, List, [], ◌∷◌, ◌++◌, sym, subst}
 use Rattle.std.proofs.lemmas.Result.{err_from_is_err_and}
 use Rattle.desk_ports.specs.declared.desk.Outlet.TheVariants as outlet
-use Rattle.desk_ports.specs.Meanings.{Meanings, Adds, AddsFront}
-use Rattle.desk_ports.specs.Courses.{no_outputs, IsCutShort, Reaches}
+use Rattle.desk_ports.specs.Meanings.{Adds, AddsFront}
+use Rattle.desk_ports.specs.Courses.{no_outputs, Reaches}
 use Rattle.desk_ports.proofs.Courses.{IsAtLast-end}
-use Rattle.side_tables.specs.Rows.{flags_of}
-use Rattle.packet_encode.specs.Packets.{with_input}
-use Rattle.packet_store.specs.SpacePackets.{period, space_packet}
-use Rattle.flight_chain.specs.Stores.{data_at}
-use Rattle.flight_chain.specs.declared.reading.Unread.{Unread}
-use Rattle.flight_chain.specs.Reading.{Takes, AfterUnread}
-use Rattle.flight_chain.specs.Compressing.{Compression, history_by, Progress, HasTaken, KeepsInputs, next_packet, rest_course}
+use Rattle.flight_chain.specs.Compressing.{history_by, HasTaken, KeepsInputs, rest_course}
 use Rattle.flight_chain.proofs.CompressCourses.{rest_course-none, Reaches-taken, IsCutShort-taken, KeepsInputs-taken, AfterStop-next, IsNext-read, HasTaken-next}
 use Rattle.flight_chain.proofs.compressing.Compressing.turn.Goals as goal
 
