@@ -4,8 +4,8 @@ use Rattle.std.specs.Io.KnownBytes.{IsAtEnd, prepend_known}
 use Rattle.desk_ports.specs.declared.desk.Inlet.TheVariants as inlet
 use Rattle.desk_ports.specs.declared.desk.Outlet.TheVariants as outlet
 use Rattle.desk_ports.specs.declared.stop.Stop.TheVariants as stop
-use Rattle.desk_ports.specs.Meanings.{Meanings, Adds, AddsFront, Counts, left}
-use Rattle.desk_ports.specs.Courses.{Course, no_outputs, to_output, behind, AfterStop, HasCause, IsCutShort, Reaches, IsAtLast, Ends}
+use Rattle.desk_ports.specs.Meanings.{Meanings, Adds, AddsFront, left}
+use Rattle.desk_ports.specs.Courses.{Course, no_outputs, to_output, behind, AfterStop, IsCutShort, Reaches, IsAtLast, Ends}
 use Rattle.desk_ports.proofs.Courses.{Reaches-none, Reaches-moves, Reaches-adds, Reaches-then, IsCutShort-adds, AfterStop-behind, IsAtLast-behind, Ends-done, Ends-fault, IsCutOff-moves}
 use Rattle.desk_ports.proofs.Runs.{Ran-none}
 use Rattle.side_tables.specs.Rows.{flags_of}
@@ -14,12 +14,11 @@ use Rattle.mask_update.proofs.HistoriesOf.{length-history_of, history_of-push}
 use Rattle.packet_encode.specs.Encoder.{StandsFor}
 use Rattle.packet_encode.specs.Packets.{with_input}
 use Rattle.packet_store.specs.SpacePackets.{period, space_packet}
-use Rattle.std.specs.Prelude.{Err}
 use Rattle.flight_chain.specs.declared.fault.RecordFault.{RecordFault}
 use Rattle.flight_chain.specs.declared.reading.Unread.{Unread}
 use Rattle.flight_chain.specs.declared.reading.Unread.TheVariants as unread
 use Rattle.flight_chain.specs.Recordings.{RecordingWalk, recording_walk_from, behind_input}
-use Rattle.flight_chain.specs.Reading.{Takes, AfterUnread, HasUnreadCause, stop_of}
+use Rattle.flight_chain.specs.Reading.{Takes, AfterUnread, stop_of}
 use Rattle.flight_chain.specs.Stores.{data_at}
 use Rattle.flight_chain.specs.Compressing.{Compression, history_by, Progress, HasTaken, all_inputs, next_packet, further_packets, rest_course, KeepsInputs}
 use Rattle.flight_chain.proofs.RecordingWalks.{recording_walk_from-none}
@@ -83,10 +82,6 @@ AfterStop-unread k inputs a b (unread.Data fault) stops =
     Ends-fault (rest_course k inputs) a b stops.taken stops.rest fault stops.moved stops.told (ap (λ (l : Course RecordFault). l.before) course) (ap (λ (l : Course RecordFault). l.ending) course)
 AfterStop-unread k inputs a b unread.ReadFault loses =
     IsCutOff-moves (rest_course k inputs) a b loses.lost loses.moved (ap (λ (l : List (List Bool)). to_output (further_packets k inputs l)) loses.none)
-
-pub HasCause-unread : (T S : Type 0) (old new : Counts) (u : Unread) → HasUnreadCause {T = T} old new (Err u) → HasCause {T = S} old new (Err (stop_of u))
-HasCause-unread T S old new (unread.Data fault) cause = cause
-HasCause-unread T S old new unread.ReadFault cause = cause
 
 -- ---- the histories
 
