@@ -1,0 +1,6 @@
+pub mod RecordingWalks
+pub mod Recordings
+pub mod Histories
+mod Readings
+mod CompressCourses
+mod Flights

@@ -1,0 +1,4 @@
+pub mod Recordings
+pub mod Stores
+pub mod Reading
+pub mod Compressing

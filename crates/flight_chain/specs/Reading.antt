@@ -1,0 +1,48 @@
+-- A reading of one packet of a recording: what stands after each of its answers.
+use Rattle.std.specs.Prelude.{◌≡◌, ℕ, ◌+◌, ◌^◌, ◌<◌, Bool, List, [], ◌++◌, length, Result, Ok, Err, IfSome}
+use Rattle.desk_ports.specs.Meanings.{Meanings, Counts, Moves, FailsToRead, left}
+use Rattle.desk_ports.specs.declared.desk.Inlet.TheVariants as inlet
+use Rattle.desk_ports.specs.declared.stop.Stop.{Stop}
+use Rattle.desk_ports.specs.declared.stop.Stop.TheVariants as stop
+use Rattle.flight_chain.specs.declared.fault.RecordFault.{RecordFault}
+use Rattle.flight_chain.specs.declared.reading.Unread.{Unread}
+use Rattle.flight_chain.specs.declared.reading.Unread.TheVariants as unread
+use Rattle.flight_chain.specs.Recordings.{recording_walk_from, behind_input, stopped_at}
+
+-- The packet t with this input was taken, and nothing else. The walk goes on behind it.
+pub record Takes (f t : ℕ) (old new : Meanings) (input : List Bool) : Type 0 where
+  pub taken : List ℕ
+  pub moved : Moves old new inlet.Main taken
+  pub places : length input ≡ f
+  pub few : t < 2 ^ 32
+  pub goes_on : (rest : List ℕ) → recording_walk_from f t (taken ++ rest) ≡ behind_input input (recording_walk_from f (t + 1) rest)
+
+-- The walk ends with this fault before the packet t.
+pub record Stops (f t : ℕ) (old new : Meanings) (fault : RecordFault) : Type 0 where
+  pub taken : List ℕ
+  pub rest : List ℕ
+  pub moved : Moves old new inlet.Main taken
+  pub told : IfSome (left new inlet.Main) (λ bytes. bytes ≡ rest)
+  pub ends : recording_walk_from f t (taken ++ rest) ≡ stopped_at fault (taken ++ rest)
+
+-- A reading failed: less than a packet is lost.
+pub record Loses (f t : ℕ) (old new : Meanings) : Type 0 where
+  pub lost : List ℕ
+  pub moved : Moves old new inlet.Main lost
+  pub none : (recording_walk_from f t lost).inputs ≡ []
+
+-- after a packet that was not read
+abbrev pub AfterUnread : ℕ → ℕ → Meanings → Meanings → Unread → Type 0
+AfterUnread f t old new (unread.Data fault) = Stops f t old new fault
+AfterUnread f t old new unread.ReadFault = Loses f t old new
+
+-- ReadFault comes only where a reading failed, and otherwise both counts are as before
+abbrev pub HasUnreadCause : {T : Type 0} → Counts → Counts → Result T Unread → Type 0
+HasUnreadCause old new (Ok done) = new ≡ old
+HasUnreadCause old new (Err (unread.Data fault)) = new ≡ old
+HasUnreadCause old new (Err unread.ReadFault) = FailsToRead old new
+
+-- the same, as a reason to end a run
+abbrev pub stop_of : Unread → Stop RecordFault
+stop_of (unread.Data fault) = stop.Data fault
+stop_of unread.ReadFault = stop.ReadFault

@@ -1,0 +1,76 @@
+-- Recordings: packets of one length one after the other, each the bytes of an input vector. The walk over one: the inputs of
+-- its packets in order, and how it ends.
+use Rattle.std.specs.Prelude.{ℕ, zero, suc, ◌+◌, ◌^◌, Bool, ◌==◌, nat_lt, if◌then◌else◌, List, [], ◌∷◌, length, take, drop, Option, Some, None}
+use Rattle.std.specs.List.{flat_map, list_any}
+use Rattle.bit_vectors.specs.Vectors.{bits_of, byte_count, vector_bytes}
+use Rattle.flight_chain.specs.declared.fault.RecordFault.{RecordFault}
+use Rattle.flight_chain.specs.declared.fault.RecordFault.TheVariants.{CutRecord, SpareBit, TooMany}
+
+-- the recording of these inputs
+abbrev pub recording_of : List (List Bool) → List ℕ
+recording_of inputs = flat_map vector_bytes inputs
+
+-- the bytes of the first packet, where vectors have f places
+abbrev pub first_packet : ℕ → List ℕ → List ℕ
+first_packet f bytes = take (byte_count f) bytes
+
+-- its input
+abbrev pub first_input : ℕ → List ℕ → List Bool
+first_input f bytes = take f (bits_of (first_packet f bytes))
+
+-- whether a bit of it that belongs to no place is one
+abbrev pub has_spare_bit : ℕ → List ℕ → Bool
+has_spare_bit f bytes = list_any (λ bit. bit) (drop f (bits_of (first_packet f bytes)))
+
+-- Why these bytes, which are some, don't begin with the packet t, the first reason deciding: no packet may have this
+-- number, they end inside it, or a spare bit is one.
+abbrev pub fault_at : ℕ → ℕ → List ℕ → Option RecordFault
+fault_at f t bytes =
+    if t == 2 ^ 32 then Some TooMany
+    else if nat_lt (length bytes) (byte_count f) then Some (CutRecord t)
+    else if has_spare_bit f bytes then Some (SpareBit t)
+    else None
+
+-- a walk: the inputs in order, the bytes behind their packets, and why these are not walked, none where nothing is left
+pub record RecordingWalk : Type 0 where
+  pub inputs : List (List Bool)
+  pub rest : List ℕ
+  pub ending : Option RecordFault
+
+abbrev pub walked : RecordingWalk
+walked = record { inputs = []; rest = []; ending = None }
+
+abbrev pub stopped_at : RecordFault → List ℕ → RecordingWalk
+stopped_at fault bytes = record { inputs = []; rest = bytes; ending = Some fault }
+
+-- one input, and then a walk
+abbrev pub behind_input : List Bool → RecordingWalk → RecordingWalk
+behind_input input walk = record walk { inputs = input ∷ walk.inputs }
+
+abbrev pub by_fault : Option RecordFault → List ℕ → RecordingWalk → RecordingWalk
+by_fault None bytes walk = walk
+by_fault (Some fault) bytes walk = stopped_at fault bytes
+
+-- one step of a walk, which goes on behind the packet t
+abbrev pub recording_step : ℕ → ℕ → List ℕ → (List ℕ → RecordingWalk) → RecordingWalk
+recording_step f t [] on = walked
+recording_step f t (b ∷ bytes) on =
+    by_fault (fault_at f t (b ∷ bytes)) (b ∷ bytes) (behind_input (first_input f (b ∷ bytes)) (on (drop (byte_count f) (b ∷ bytes))))
+
+-- the walk in at most so many steps
+unfoldable pub recording_walk_by : ℕ → ℕ → ℕ → List ℕ → RecordingWalk
+recording_walk_by zero f t bytes = walked
+recording_walk_by (suc steps) f t bytes = recording_step f t bytes (λ rest. recording_walk_by steps f (t + 1) rest)
+
+-- the walk over the rest of a recording, which goes on with the packet t
+unfoldable pub recording_walk_from : ℕ → ℕ → List ℕ → RecordingWalk
+recording_walk_from f t bytes = recording_walk_by (length bytes) f t bytes
+
+-- the walk over a recording, where vectors have f places
+abbrev pub recording_walk : ℕ → List ℕ → RecordingWalk
+recording_walk f bytes = recording_walk_from f 0 bytes
+
+-- why these bytes are not walked, where they stand behind t packets
+abbrev pub ending_at : ℕ → ℕ → List ℕ → Option RecordFault
+ending_at f t [] = None
+ending_at f t (b ∷ bytes) = fault_at f t (b ∷ bytes)

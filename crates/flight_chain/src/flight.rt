@@ -1,0 +1,73 @@
+//! The command `compress`: from a recording to the store of its compressed packets.
+
+ghost use Rattle.std.specs.Prelude.{◌≡◌, ◌≤◌, length, IfOk, IfSome};
+ghost use Rattle.desk_ports.specs.Meanings.{IsReadyIn, IsReadyOut, left};
+ghost use Rattle.desk_ports.specs.Courses.{AfterRun, HasCause};
+ghost use Rattle.flight_chain.specs.Recordings.{recording_walk};
+ghost use Rattle.flight_chain.specs.Compressing.{as_run, compress_course};
+
+use crate::compressing::Compressing;
+use crate::fault::FlightFault;
+use bit_vectors::{Bits, NoMemory};
+use desk_ports::{Desk, Inlet, Outlet};
+use side_tables::Schedule;
+use std::alloc::Global;
+use std::marker::Model;
+
+/// Compresses a recording: reads it from the main inlet of a desk, and writes the store of its packets to the main
+/// outlet. Contracts see the places of the vectors, the required robustness, the APID, the first mask and the rows of
+/// the schedule.
+#[derive(Drop)]
+pub struct Flight {
+    compressing: Compressing,
+}
+
+impl Model for Flight {
+    ghost use Rattle.flight_chain.specs.Compressing.{Compression, compression_of, IsUnread};
+
+    ghost Value = { Compression };
+
+    ghost view = { λ f. compression_of f.compressing };
+
+    ghost invariant = { λ f. IsUnread f.compressing };
+}
+
+impl Flight {
+    /// A flight whose vectors have `f` places, with a required robustness of at most 7, for packets of an APID which is
+    /// no idle one. It starts with this mask and gives each packet the flags of the schedule. It takes all memory of the
+    /// run.
+    pub fn open(
+        alloc: Global,
+        f: u32,
+        robust: u8,
+        apid: u16,
+        mask: &Bits,
+        plan: Schedule,
+    ) -> Result<Flight, NoMemory>
+        requires some { 1 ≤ f }
+        requires most { f ≤ 49152 }
+        requires places { length mask.now ≡ f }
+        requires robust { robust ≤ 7 }
+        requires chosen { apid ≤ 2046 }
+        ensures { IfOk result (λ flight. flight ≡ record { places = f; robust = robust; apid = apid; mask = mask.now; rows = plan }) }
+    {
+        let compressing = Compressing::open(alloc, f, robust, apid, mask, plan)?;
+        Ok(Flight { compressing })
+    }
+
+    /// Compresses the recording, and tells the number of its packets. It takes no memory.
+    pub fn compress<D: Desk>(self, desk: &mut D) -> Result<u64, FlightFault>
+        requires input { IsReadyIn (D.meaning desk.old) Inlet.Main }
+        requires output { IsReadyOut (D.meaning desk.old) Outlet.Main }
+        // What stands after each answer is what the recording owes, all of it or up to where its walk or the desk ends it.
+        ensures ran { AfterRun (compress_course self) (D.meaning desk.old) (D.meaning desk.new) (as_run result) }
+        ensures cause { HasCause (D.counts desk.old) (D.counts desk.new) (as_run result) }
+        // Where the desk tells the recording, the number is that of its packets.
+        ensures packets { IfSome (left (D.meaning desk.old) Inlet.Main) (λ recording.
+            IfOk result (λ packets. packets ≡ length (recording_walk self.places recording).inputs)) }
+    {
+        let mut compressing = self.compressing;
+        let packets = compressing.run(desk)?;
+        Ok(packets)
+    }
+}

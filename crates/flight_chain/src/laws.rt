@@ -1,0 +1,62 @@
+//! What the definitions of recordings and their stores mean.
+
+ghost use Rattle.std.specs.Prelude.{◌≡◌, ◌%◌, ◌≤◌, ◌<◌, ◌∷◌, [], ◌++◌, ℕ, Bool, List, None, All, length, take};
+ghost use Rattle.bit_vectors.specs.Vectors.{bits_of};
+ghost use Rattle.desk_ports.specs.Courses.{AreFronts, owed, to_output};
+ghost use Rattle.mask_update.specs.Histories.{History, Step, with_step};
+ghost use Rattle.packet_store.specs.SpacePackets.{period, space_packet};
+ghost use Rattle.flight_chain.specs.Recordings.{ending_at, recording_of, recording_walk, walked, behind_input, stopped_at};
+ghost use Rattle.flight_chain.specs.Stores.{data_at, store_of};
+ghost use Rattle.flight_chain.specs.Compressing.{Compression, compress_course, history_by};
+ghost use Rattle.flight_chain.specs.declared.fault.RecordFault.TheVariants.{CutRecord, SpareBit};
+
+/// A recording of inputs is whole, and its walk has these inputs.
+pub fn recordings_are_walked()
+    ensures { (f : ℕ) (inputs : List (List Bool)) → 1 ≤ f → All (λ input. length input ≡ f) inputs → length inputs ≤ 4294967296 →
+        recording_walk f (recording_of inputs) ≡ record { inputs = inputs; rest = []; ending = None } }
+{}
+
+/// The inputs of a walk are vectors of `f` places, and not too many. The recording of them, with the rest behind it, is the
+/// bytes, and the walk ends as that rest says.
+pub fn recording_walks_are_exact()
+    ensures places { (f : ℕ) (bytes : List ℕ) → 1 ≤ f → All (λ b. b < 256) bytes → All (λ input. length input ≡ f) (recording_walk f bytes).inputs }
+    ensures few { (f : ℕ) (bytes : List ℕ) → 1 ≤ f → All (λ b. b < 256) bytes → length (recording_walk f bytes).inputs ≤ 4294967296 }
+    ensures joined { (f : ℕ) (bytes : List ℕ) → 1 ≤ f → All (λ b. b < 256) bytes →
+        recording_of (recording_walk f bytes).inputs ++ (recording_walk f bytes).rest ≡ bytes }
+    ensures ends { (f : ℕ) (bytes : List ℕ) → 1 ≤ f → All (λ b. b < 256) bytes →
+        (recording_walk f bytes).ending ≡ ending_at f (length (recording_walk f bytes).inputs) (recording_walk f bytes).rest }
+{}
+
+/// The walk of a front of some bytes has a front of their inputs.
+pub fn walks_of_front_recordings()
+    ensures { (f : ℕ) (front rest : List ℕ) → 1 ≤ f →
+        (later : List (List Bool)) × ((recording_walk f (front ++ rest)).inputs ≡ (recording_walk f front).inputs ++ later) }
+{}
+
+/// One step more is one Space Packet more behind the same store: what comes later changes no packet.
+pub fn stores_grow()
+    ensures { (h : History) (step : Step) (apid : ℕ) → store_of (with_step h step) apid
+        ≡ store_of h apid ++ space_packet apid (length h.steps % period) (data_at (with_step h step) (length h.steps)) }
+{}
+
+/// What a whole recording owes is the store of the history of its inputs.
+pub fn whole_recordings_owe_their_store()
+    ensures { (k : Compression) (inputs : List (List Bool)) → 1 ≤ k.places → All (λ input. length input ≡ k.places) inputs →
+        length inputs ≤ 4294967296 →
+        owed (compress_course k (recording_of inputs)) ≡ to_output (store_of (history_by k inputs) k.apid) }
+{}
+
+/// What a front of a recording owes is a front of what the recording owes before its end.
+pub fn fronts_owe_fronts()
+    ensures { (k : Compression) (front rest : List ℕ) → 1 ≤ k.places →
+        AreFronts (compress_course k front).before (compress_course k (front ++ rest)).before }
+{}
+
+/// Walks over worked recordings.
+pub fn worked_recordings()
+    ensures whole { recording_walk 8 (0xB0 ∷ 0xB1 ∷ []) ≡ behind_input (bits_of (0xB0 ∷ [])) (behind_input (bits_of (0xB1 ∷ [])) walked) }
+    ensures empty { recording_walk 13 [] ≡ walked }
+    // 13 places have two bytes, whose last three bits are spare.
+    ensures cut { recording_walk 13 (0x12 ∷ 0x38 ∷ 0x12 ∷ []) ≡ behind_input (take 13 (bits_of (0x12 ∷ 0x38 ∷ []))) (stopped_at (CutRecord 1) (0x12 ∷ [])) }
+    ensures spare { recording_walk 13 (0x12 ∷ 0x39 ∷ 0x12 ∷ []) ≡ stopped_at (SpareBit 0) (0x12 ∷ 0x39 ∷ 0x12 ∷ []) }
+{}

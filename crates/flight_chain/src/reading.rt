@@ -1,0 +1,75 @@
+//! One packet of a recording.
+
+ghost use Rattle.std.specs.Prelude.{◌≡◌, ◌^◌, ◌≤◌, [], length, IfErr};
+ghost use Rattle.std.specs.Io.KnownBytes.{IsAtEnd};
+ghost use Rattle.bit_vectors.specs.Vectors.{byte_count};
+ghost use Rattle.desk_ports.specs.Meanings.{Moves, IsReadyIn, left};
+ghost use Rattle.packet_store.specs.Answers.{IfGiven, OnEnd};
+ghost use Rattle.flight_chain.specs.Reading.{Takes, AfterUnread, HasUnreadCause, stop_of};
+ghost use Rattle.flight_chain.specs.declared.reading.Unread.TheVariants as unread;
+
+use crate::fault::RecordFault;
+use bit_vectors::Bits;
+use desk_ports::{Desk, Failed, Inlet, Stop, fill};
+
+/// Why a packet is not read.
+#[derive(Clone, Copy)]
+pub enum Unread {
+    Data(RecordFault),
+    ReadFault,
+}
+
+impl From<Failed> for Unread {
+    ghost from_gives = { λ _ e. e ≡ unread.ReadFault };
+
+    fn from(_failed: Failed) -> Unread {
+        Unread::ReadFault
+    }
+}
+
+impl From<Unread> for Stop<RecordFault> {
+    ghost from_gives = { λ u e. e ≡ stop_of u };
+
+    fn from(unread: Unread) -> Stop<RecordFault> {
+        match unread {
+            Unread::Data(fault) => Stop::Data(fault),
+            Unread::ReadFault => Stop::ReadFault,
+        }
+    }
+}
+
+/// Reads the packet `t` of a recording into `line`, which has its length, and its vector into `input`, and tells its
+/// number. None: the recording is at its end.
+pub fn read_input<D: Desk>(
+    desk: &mut D,
+    t: u64,
+    line: &mut [u8],
+    input: &mut Bits,
+) -> Result<Option<u32>, Unread>
+    requires open { IsReadyIn (D.meaning desk.old) Inlet.Main }
+    requires number { t ≤ 2 ^ 32 }
+    requires some { 1 ≤ length input.old }
+    requires line { length line.old ≡ byte_count (length input.old) }
+    ensures number { IfGiven result (λ n. n ≡ t) }
+    ensures taken { IfGiven result (λ _. Takes (length input.old) t (D.meaning desk.old) (D.meaning desk.new) input.new) }
+    ensures none { OnEnd result (Moves (D.meaning desk.old) (D.meaning desk.new) Inlet.Main []) }
+    ensures at_end { OnEnd result (IsAtEnd (left (D.meaning desk.old) Inlet.Main)) }
+    ensures unread { IfErr result (AfterUnread (length input.old) t (D.meaning desk.old) (D.meaning desk.new)) }
+    ensures cause { HasUnreadCause (D.counts desk.old) (D.counts desk.new) result }
+    ensures places { length input.new ≡ length input.old }
+{
+    let moved = fill(desk, Inlet::Main, line)?;
+    if moved == 0 {
+        return Ok(None);
+    }
+    let Ok(t) = u32::try_from(t) else {
+        return Err(Unread::Data(RecordFault::TooMany));
+    };
+    if moved < line.len() {
+        return Err(Unread::Data(RecordFault::CutRecord { t }));
+    }
+    let Ok(()) = input.load(line) else {
+        return Err(Unread::Data(RecordFault::SpareBit { t }));
+    };
+    Ok(Some(t))
+}
