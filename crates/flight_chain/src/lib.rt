@@ -14,3 +14,6 @@ pub use laws::{
     stores_of_histories_are_walked, walks_of_front_recordings, whole_recordings_owe_their_store,
     worked_recordings,
 };
+
+#[cfg(test)]
+mod tests;
