@@ -1,6 +1,7 @@
 pub mod RecordingWalks
 pub mod Recordings
 pub mod Histories
+pub mod GoodStores
 mod Readings
 mod CompressCourses
 mod Flights

@@ -59,7 +59,7 @@ impl Compressing {
         requires places { length mask.now ≡ f }
         requires robust { robust ≤ 7 }
         requires chosen { apid ≤ 2046 }
-        ensures none { IfOk result (λ c. HasTaken (record { places = f; robust = robust; apid = apid; mask = mask.now; rows = plan }) [] c) }
+        ensures none { IfOk result (HasTaken (record { places = f; robust = robust; apid = apid; mask = mask.now; rows = plan }) []) }
     {
         Ok(Compressing {
             encoder: Encoder::open(alloc, f, robust, mask)?,
@@ -78,7 +78,8 @@ impl Compressing {
         ensures ran { (k : Compression) → HasTaken k [] self.old
             → AfterRun (rest_course k []) (D.meaning desk.old) (D.meaning desk.new) result }
         ensures cause { HasCause (D.counts desk.old) (D.counts desk.new) result }
-        ensures packets { (k : Compression) → HasTaken k [] self.old → IfSome (left (D.meaning desk.old) Inlet.Main) (λ recording.
+        ensures packets { (k : Compression) → HasTaken k [] self.old
+            → IfSome (left (D.meaning desk.old) Inlet.Main) (λ recording.
             IfOk result (λ packets. packets ≡ length (all_inputs k [] recording))) }
     {
         'turns: while self.turn(desk)? {}
@@ -121,10 +122,14 @@ impl Compressing {
         requires most { self.old.encoder.masks.taken < 4294967296 }
         ensures stands { (h : History) → StandsFor h self.old.encoder
             → StandsFor (with_input h self.old.encoder.robust self.old.input (flags_of self.old.rows t)) self.new.encoder }
-        ensures added { (h : History) → StandsFor h self.old.encoder → OnOk result (Adds (D.meaning desk.old) (D.meaning desk.new) Outlet.Main
-            (space_packet self.old.apid (t % PERIOD) (data_at (with_input h self.old.encoder.robust self.old.input (flags_of self.old.rows t)) (length h.steps)))) }
-        ensures front { (h : History) → StandsFor h self.old.encoder → OnErr result (AddsFront (D.meaning desk.old) (D.meaning desk.new) Outlet.Main
-            (space_packet self.old.apid (t % PERIOD) (data_at (with_input h self.old.encoder.robust self.old.input (flags_of self.old.rows t)) (length h.steps)))) }
+        ensures added { (h : History) → StandsFor h self.old.encoder
+            → OnOk result (Adds (D.meaning desk.old) (D.meaning desk.new) Outlet.Main
+            (space_packet self.old.apid (t % PERIOD)
+            (data_at (with_input h self.old.encoder.robust self.old.input (flags_of self.old.rows t)) (length h.steps)))) }
+        ensures front { (h : History) → StandsFor h self.old.encoder
+            → OnErr result (AddsFront (D.meaning desk.old) (D.meaning desk.new) Outlet.Main
+            (space_packet self.old.apid (t % PERIOD)
+            (data_at (with_input h self.old.encoder.robust self.old.input (flags_of self.old.rows t)) (length h.steps)))) }
         ensures cause { HasWriteCause (D.counts desk.old) (D.counts desk.new) result }
         ensures ready_in { OnOk result (IsReadyIn (D.meaning desk.new) Inlet.Main) }
         ensures ready_out { OnOk result (IsReadyOut (D.meaning desk.new) Outlet.Main) }

@@ -1,10 +1,12 @@
 //! What the definitions of recordings and their stores mean.
 
-ghost use Rattle.std.specs.Prelude.{◌≡◌, ◌%◌, ◌≤◌, ◌<◌, ◌∷◌, [], ◌++◌, ℕ, Bool, List, None, All, length, take};
+ghost use Rattle.std.specs.Prelude.{◌≡◌, ◌%◌, ◌≤◌, ◌<◌, ◌∷◌, [], ◌++◌, ℕ, Bool, List, Option, None, All, length, map, take};
+ghost use Rattle.std.specs.List.{range_with_len};
 ghost use Rattle.bit_vectors.specs.Vectors.{bits_of};
 ghost use Rattle.desk_ports.specs.Courses.{AreFronts, owed, to_output};
-ghost use Rattle.mask_update.specs.Histories.{History, Step, with_step};
-ghost use Rattle.packet_store.specs.SpacePackets.{period, space_packet};
+ghost use Rattle.mask_update.specs.Histories.{History, IsValid, Step, with_step};
+ghost use Rattle.packet_store.specs.SpacePackets.{period, plain_packet, space_packet};
+ghost use Rattle.packet_store.specs.Walks.{walk};
 ghost use Rattle.flight_chain.specs.Recordings.{ending_at, recording_of, recording_walk, walked, behind_input, stopped_at};
 ghost use Rattle.flight_chain.specs.Stores.{data_at, store_of};
 ghost use Rattle.flight_chain.specs.Compressing.{Compression, compress_course, history_by};
@@ -37,6 +39,13 @@ pub fn walks_of_front_recordings()
 pub fn stores_grow()
     ensures { (h : History) (step : Step) (apid : ℕ) → store_of (with_step h step) apid
         ≡ store_of h apid ++ space_packet apid (length h.steps % period) (data_at (with_step h step) (length h.steps)) }
+{}
+
+/// The store of a valid history is whole: its walk has a Space Packet of the one shape for each step, with the step's number
+/// as its count and the packet's bytes as its data.
+pub fn stores_of_histories_are_walked()
+    ensures { (chosen : Option ℕ) (h : History) (apid : ℕ) → IsValid h → apid ≤ 2046 → walk chosen (store_of h apid)
+        ≡ record { packets = map (λ t. plain_packet apid (t % period) (data_at h t)) (range_with_len 0 (length h.steps)); rest = []; ending = None } }
 {}
 
 /// What a whole recording owes is the store of the history of its inputs.

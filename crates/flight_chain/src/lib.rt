@@ -11,5 +11,9 @@ pub use fault::{FlightFault, RecordFault};
 pub use flight::Flight;
 pub use laws::{
     fronts_owe_fronts, recording_walks_are_exact, recordings_are_walked, stores_grow,
-    walks_of_front_recordings, whole_recordings_owe_their_store, worked_recordings,
+    stores_of_histories_are_walked, walks_of_front_recordings, whole_recordings_owe_their_store,
+    worked_recordings,
 };
+
+#[cfg(test)]
+mod tests;

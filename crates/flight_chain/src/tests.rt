@@ -1,0 +1,24 @@
+// What no clause says: that a flight opens with ample memory.
+ghost use Rattle.std.specs.Prelude.{◌≤◌};
+
+use super::*;
+use bit_vectors::{Bits, NoMemory};
+use side_tables::Schedule;
+use std::alloc::Global;
+use std::test::Fail;
+
+fn opens(alloc: Global, f: u32) -> Result<bool, NoMemory>
+    requires some { 1 ≤ f }
+    requires most { f ≤ 49152 }
+{
+    let mask = Bits::zeros(alloc, f)?;
+    let plan = Schedule::with_rows(alloc, &[])?;
+    Ok(Flight::open(alloc, f, 7, 2046, &mask, plan).is_ok())
+}
+
+#[test]
+fn flights_open(rt: HostRuntime) -> Result<(), Fail> {
+    assert!(rt; opens(rt.alloc(), 1)?);
+    assert!(rt; opens(rt.alloc(), 49_152)?);
+    Ok(())
+}
