@@ -15,3 +15,4 @@ pub mod DecoderAnswers
 pub mod UnchangedMask
 pub mod PlaceByStep
 pub mod WindowMask
+pub mod WindowContent

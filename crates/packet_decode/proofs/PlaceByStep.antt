@@ -1,5 +1,5 @@
 -- One place of input, mask, build and change, from step to step.
-use Rattle.std.proofs.Common.{◌≡◌, ℕ, zero, suc, ◌+◌, ◌<◌, ◌≤◌, Bool, true, false, cond, length, get_or, replicate, refl, sym, ap, ◌∙◌, ◌⊎◌, inl, inr, arith}
+use Rattle.std.proofs.Common.{◌≡◌, ℕ, zero, suc, ◌+◌, ◌<◌, ◌≤◌, Bool, true, false, cond, length, get_or, refl, sym, ap, ◌∙◌, ◌⊎◌, inl, inr, arith}
 use Rattle.std.specs.Prelude.{not, ◌||◌}
 use Rattle.std.proofs.lemmas.Bool.{cases_eq, true≢false, or_left, or_right}
 use Rattle.std.proofs.lemmas.List.{get_or-replicate}
@@ -59,7 +59,7 @@ same_bit true false none = absurd (true≢false none)
 same_bit false true none = absurd (true≢false none)
 same_bit false false none = refl
 
-none_left : (a b : Bool) → (a || b) ≡ false → a ≡ false
+pub none_left : (a b : Bool) → (a || b) ≡ false → a ≡ false
 none_left true b none = none
 none_left false b none = refl
 

@@ -1,20 +1,20 @@
 -- The mask that is deduced from a packet which the effective robustness level reaches.
-use Rattle.std.proofs.Common.{◌≡◌, ℕ, suc, ◌+◌, ◌-◌, ◌<◌, ◌≤◌, eqb, Bool, true, false, cond, List, length, get_or, Option, Some, None, refl, sym, ap, ◌∙◌, subst, ◌⊎◌, inl, inr, arith}
-use Rattle.std.specs.Prelude.{not, nat_lt, ◌&&◌, ◌||◌}
+use Rattle.std.proofs.Common.{◌≡◌, ℕ, suc, ◌+◌, ◌-◌, ◌<◌, ◌≤◌, Bool, true, false, cond, List, length, get_or, Option, refl, sym, ap, ◌∙◌, subst, inl, inr, arith}
+use Rattle.std.specs.Prelude.{not, ◌&&◌, ◌||◌}
 use Rattle.std.proofs.lemmas.Bool.{cases_eq, cases_lt, eq-eqb, ne_eqb, false≢true, false_from_ne_true}
 use Rattle.std.proofs.lemmas.List.{ext_get_or, get_or-replicate, get_or_default}
 use Rattle.std.proofs.lemmas.Simd.{length-zip2}
 use Rattle.bit_vectors.specs.Vectors.{IsOne, xor_bits, or_bits, without_bits}
 use Rattle.bit_vectors.proofs.Places.{get_or-zip2_all}
-use Rattle.mask_update.specs.Histories.{History, input_at, robust_at}
+use Rattle.mask_update.specs.Histories.{History, robust_at}
 use Rattle.mask_update.specs.Masks.{change_at, mask_at}
 use Rattle.mask_update.proofs.StepByStep.{length-mask_at}
 use Rattle.robust_window.specs.Histories.{IsLevel, level_at, recent_at, twice_at}
 use Rattle.robust_window.proofs.OfHistories.{IsLevel-level_at, length-recent_at, recent_at-places}
 use Rattle.packet_encode.specs.Forms.{Directions}
 use Rattle.packet_encode.specs.Packets.{directions_of, form_at}
-use Rattle.packet_encode.proofs.Directions.{directions-level_zero, directions-none, directions-some, has_one, has_one-some}
-use Rattle.packet_decode.specs.State.{Change, change_of, deduced_mask, mask_after, unpredictable}
+use Rattle.packet_encode.proofs.Directions.{directions-none, directions-some, has_one, has_one-some}
+use Rattle.packet_decode.specs.State.{deduced_mask, mask_after, unpredictable}
 use Rattle.packet_decode.specs.Histories.{written_at}
 use Rattle.packet_decode.proofs.PlaceByStep.{change_bit, change_bit-suc, mask_bit, same_bit, stays}
 
