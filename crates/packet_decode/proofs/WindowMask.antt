@@ -1,5 +1,5 @@
 -- The mask that is deduced from a packet which the effective robustness level reaches.
-use Rattle.std.proofs.Common.{◌≡◌, ℕ, suc, ◌+◌, ◌-◌, ◌<◌, ◌≤◌, Bool, true, false, cond, List, length, get_or, Option, refl, sym, ap, ◌∙◌, subst, inl, inr, arith}
+use Rattle.std.proofs.Common.{◌≡◌, ℕ, suc, ◌-◌, ◌<◌, ◌≤◌, Bool, true, false, cond, List, length, get_or, Option, refl, sym, ap, ◌∙◌, subst, inl, inr, arith}
 use Rattle.std.specs.Prelude.{not, ◌&&◌, ◌||◌}
 use Rattle.std.proofs.lemmas.Bool.{cases_eq, cases_lt, eq-eqb, ne_eqb, false≢true, false_from_ne_true}
 use Rattle.std.proofs.lemmas.List.{ext_get_or, get_or-replicate, get_or_default}
@@ -26,6 +26,7 @@ same_bits true false forth back = sym (forth refl)
 same_bits false true forth back = back refl
 same_bits false false forth back = refl
 
+-- a bit turned where another one differs from it is that one
 turned_back : (a b : Bool) → cond a (not (cond a (not b) b)) (cond a (not b) b) ≡ b
 turned_back true true = refl
 turned_back true false = refl
@@ -103,9 +104,7 @@ module _ (h : History) (earlier t : ℕ) (lt : t < length h.steps) (before : ear
     -- outside the recent changes the mask is that of the packet
     outside : get_or recent place false ≡ false → mask_bit h place t ≡ mask_bit h place earlier
     outside none =
-        let last : earlier + (t - earlier) ≡ t = omega arith in
-        ap (mask_bit h place) (sym last)
-        ∙ stays (mask_bit h place) earlier (t - earlier) (λ s ge below.
+        stays (mask_bit h place) earlier t (omega arith) (λ s ge below.
         same_bit (mask_bit h place s) (mask_bit h place (suc s))
         (sym (change_bit-suc h place s)
         ∙ false_from_ne_true (change_bit h place (suc s)) (λ one. false≢true (sym none ∙ changed-recent (suc s) (omega arith) (omega arith) one))))
@@ -149,30 +148,32 @@ module _ (h : History) (earlier t : ℕ) (lt : t < length h.steps) (before : ear
   kept_len : length kept ≡ h.places
   kept_len = length-zip2 _ old recent (old_len ∙ sym recent_len) ∙ old_len
 
-  deduced_by : (changed : List Bool) → length changed ≡ h.places → ((place : ℕ) → place < h.places → ((get_or old place false && not (get_or recent place false)) || get_or changed place false) ≡ get_or new place false)
+  -- what is left of the old mask with the new changes is the new mask, where it is so at each place
+  new_by_places : (changed : List Bool) → length changed ≡ h.places → ((place : ℕ) → place < h.places → ((get_or old place false && not (get_or recent place false)) || get_or changed place false) ≡ get_or new place false)
       → or_bits kept changed ≡ new
-  deduced_by changed len bits =
+  new_by_places changed len bits =
       let same : length kept ≡ length changed = kept_len ∙ sym len in
       ext_get_or false (or_bits kept changed) new (length-zip2 _ kept changed same ∙ kept_len ∙ sym new_len) (λ place below.
       get_or-zip2_all (λ a b. a || b) refl kept changed place same
       ∙ ap (λ b. b || get_or changed place false) (kept_bit place)
       ∙ bits place (omega (arith, length-zip2 (λ a b. a || b) kept changed same, kept_len)))
 
-  above_zero : (level_at h t ≡ 0 → ⊥) → (b : Bool) → has_one left ≡ b → or_bits kept (unpredictable recent directions) ≡ new
-  above_zero above false none =
+  -- above level 0: no place became predictable, or the directions name those that did
+  by_naming : (level_at h t ≡ 0 → ⊥) → (b : Bool) → has_one left ≡ b → or_bits kept (unpredictable recent directions) ≡ new
+  by_naming above false none =
       ap (λ d. or_bits kept (unpredictable recent d)) (directions-none new recent (level_at h t) (twice_at h t) none)
-      ∙ deduced_by recent recent_len (λ place within.
+      ∙ new_by_places recent recent_len (λ place within.
       all_unpredictable (get_or old place false) (get_or recent place false) (get_or new place false) (outside place within)
       (sym (left_bit place) ∙ false_from_ne_true (get_or left place false) (λ one. false≢true (sym none ∙ has_one-at left place (omega (arith, left_len, recent_len)) one))))
-  above_zero above true some =
+  by_naming above true some =
       ap (λ d. or_bits kept (unpredictable recent d)) (directions-some new recent (level_at h t) (twice_at h t) (omega arith) some)
-      ∙ deduced_by (without_bits recent left) (length-zip2 _ recent left (sym left_len) ∙ recent_len) (λ place within.
+      ∙ new_by_places (without_bits recent left) (length-zip2 _ recent left (sym left_len) ∙ recent_len) (λ place within.
       ap (λ b. (get_or old place false && not (get_or recent place false)) || b)
       (get_or-zip2_all (λ a b. a && not b) refl recent left place (sym left_len) ∙ ap (λ b. get_or recent place false && not b) (left_bit place))
       ∙ by_directions (get_or old place false) (get_or recent place false) (get_or new place false) (outside place within))
 
-  level_zero : level_at h t ≡ 0 → xor_bits old recent ≡ new
-  level_zero none =
+  by_turning : level_at h t ≡ 0 → xor_bits old recent ≡ new
+  by_turning none =
       let same : length old ≡ length recent = old_len ∙ sym recent_len in
       ext_get_or false (xor_bits old recent) new (length-zip2 _ old recent same ∙ old_len ∙ sym new_len) (λ place below.
       get_or-zip2_all (λ a b. cond a (not b) b) refl old recent place same
@@ -181,6 +182,6 @@ module _ (h : History) (earlier t : ℕ) (lt : t < length h.steps) (before : ear
   pub deduced_mask-is : deduced_mask (written_at h earlier) (form_at h t) ≡ mask_at h t
   deduced_mask-is =
       elim (cases_eq (level_at h t) 0) [
-        | inl none ↦ mask_after-level_zero old recent (level_at h t) directions none ∙ level_zero none
-        | inr above ↦ mask_after-level_above old recent (level_at h t) directions above ∙ above_zero above (has_one left) refl
+        | inl none ↦ mask_after-level_zero old recent (level_at h t) directions none ∙ by_turning none
+        | inr above ↦ mask_after-level_above old recent (level_at h t) directions above ∙ by_naming above (has_one left) refl
       ]
