@@ -13,3 +13,6 @@ pub mod NoDirections
 pub mod TakenContent
 pub mod DecoderAnswers
 pub mod UnchangedMask
+pub mod PlaceByStep
+pub mod WindowMask
+pub mod WindowContent

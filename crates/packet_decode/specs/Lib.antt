@@ -4,3 +4,4 @@ pub mod Answers
 pub mod PacketReading
 pub mod Parts
 pub mod Decoding
+pub mod Histories

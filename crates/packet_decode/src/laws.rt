@@ -1,9 +1,15 @@
 //! What the definitions mean.
 
-ghost use Rattle.std.specs.Prelude.{◌≡◌, ℕ, Bool, true, List, [], ◌∷◌, ◌++◌, length, Some, None, Result, Ok, Err};
+ghost use Rattle.std.specs.Prelude.{◌≡◌, ℕ, ◌<◌, Bool, true, List, [], ◌∷◌, ◌++◌, length, Some, None, Result, Ok, Err};
 ghost use Rattle.bit_vectors.specs.Vectors.{bits_of};
-ghost use Rattle.packet_encode.specs.Forms.{Form, Part};
-ghost use Rattle.packet_decode.specs.State.{State, IsState};
+ghost use Rattle.run_code.specs.Extraction.{SameOutside};
+ghost use Rattle.mask_update.specs.Histories.{History, IsValid, input_at};
+ghost use Rattle.mask_update.specs.Masks.{mask_at};
+ghost use Rattle.robust_window.specs.Histories.{level_at};
+ghost use Rattle.packet_encode.specs.Forms.{Form, Part, wide};
+ghost use Rattle.packet_encode.specs.Packets.{form_at};
+ghost use Rattle.packet_decode.specs.State.{InReach, State, IsState, deduced_mask};
+ghost use Rattle.packet_decode.specs.Histories.{written_at};
 ghost use Rattle.packet_decode.specs.Spelling.{Spells, HasOpaqueFront};
 ghost use Rattle.packet_decode.specs.Answers.{SpellsPacket, Says, IsSoundAnswer, IsExactAnswer};
 ghost use Rattle.packet_decode.specs.PacketReading.{answer_of};
@@ -62,6 +68,19 @@ pub fn no_further_bit()
 pub fn opaque_fronts_go_on()
     ensures { (f t level : ℕ) (state : State) (bits more : List Bool) →
         HasOpaqueFront f state t bits level → HasOpaqueFront f state t (bits ++ more) level }
+{}
+
+/// The law of the window. Let at most as many packets be missing between an earlier packet and that of a step as the
+/// effective robustness level of the step says. Then the mask that is deduced from the earlier packet is the mask of the
+/// step, and at each place that is not extracted the input of the step is that of the earlier one: a place that is
+/// neither masked nor extracted again has not moved since.
+pub fn law_of_the_window()
+    ensures mask { (h : History) (earlier t : ℕ) → earlier < t → t < length h.steps →
+        InReach (Some (written_at h earlier)) t (level_at h t) →
+        deduced_mask (written_at h earlier) (form_at h t) ≡ mask_at h t }
+    ensures content { (h : History) (earlier t : ℕ) → IsValid h → earlier < t → t < length h.steps →
+        InReach (Some (written_at h earlier)) t (level_at h t) →
+        SameOutside (wide (form_at h t) (mask_at h t)) (input_at h earlier) (input_at h t) }
 {}
 
 /// Worked packets of 8 places.
