@@ -1,0 +1,4 @@
+mod Tallies
+mod PlayCourses
+mod KeptNumbers
+mod Players

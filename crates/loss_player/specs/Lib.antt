@@ -1,0 +1,4 @@
+pub mod Played
+pub mod Tallies
+pub mod Report
+pub mod Playing

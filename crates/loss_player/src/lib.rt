@@ -1,0 +1,13 @@
+//! The link between both ends: from a store to what arrives of it, where a script drops packets and repeats them.
+#![tactic(auto)]
+
+mod fault;
+mod laws;
+mod played;
+mod player;
+mod playing;
+mod report;
+
+pub use fault::PlayFault;
+pub use played::Played;
+pub use player::Player;
