@@ -1,4 +1,5 @@
 mod Tallies
+mod Copies
 mod PlayCourses
 mod KeptNumbers
 mod Players

@@ -85,7 +85,7 @@ KeepsNumbers s t old new = IfSome (left old inlet.Main) (λ store. (rest : List 
 -- the numbers so far are those of the packets so far, and within their limits
 pub record IsPlaying (reader : ReaderState) (rows : List CopyRow) (tally : Tally) : Type 0 where
   pub packets : tally.played.packets ≤ reader.taken
-  pub tally : tally ≡ tally_of (copies_of rows) tally.played.packets
+  pub counted : tally ≡ tally_of (copies_of rows) tally.played.packets
   pub right : IsTally tally
 
 -- nothing is read

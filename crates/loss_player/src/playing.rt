@@ -5,7 +5,7 @@ ghost use Rattle.std.specs.Io.KnownBytes.{IsAtEnd};
 ghost use Rattle.desk_ports.specs.Meanings.{IsReadyIn, IsReadyOut, HasWriteCause, Adds, AddsFront, left};
 ghost use Rattle.desk_ports.specs.Courses.{AfterRun, AfterStop, AfterTurn, HasCause, IsAtLast, to_report};
 ghost use Rattle.side_tables.specs.Rows.{copies_of};
-ghost use Rattle.loss_player.specs.Played.{number_behind, repeated, times_of};
+ghost use Rattle.loss_player.specs.Played.{number_behind, played_of, repeated, times_of};
 ghost use Rattle.loss_player.specs.Report.{play_report};
 ghost use Rattle.loss_player.specs.Playing.{KeepsNumbers, all_numbers, rest_course, unread};
 
@@ -96,6 +96,7 @@ impl Playing {
         ensures turned { AfterTurn (rest_course self.old) (rest_course self.new) (to_report (play_report self.new.tally.played)) (D.meaning desk.old) (D.meaning desk.new) result }
         ensures cause { HasCause (D.counts desk.old) (D.counts desk.new) result }
         ensures numbers { OnOk result (KeepsNumbers self.old self.new (D.meaning desk.old) (D.meaning desk.new)) }
+        ensures counted { self.new.tally.played ≡ played_of (copies_of self.new.rows) self.new.tally.played.packets }
         ensures last { result ≡ Ok false → IsAtEnd (left (D.meaning desk.new) Inlet.Main) }
         ensures live { result ≡ Ok true → IsTrue self.new.reader.live }
         ensures few { result ≡ Ok true → self.old.reader.taken < 2 ^ 32 }
@@ -119,6 +120,7 @@ impl Playing {
         ensures reader { self.new.reader ≡ self.old.reader }
         ensures rows { self.new.rows ≡ self.old.rows }
         ensures packets { self.new.tally.played.packets ≡ number_behind chosen self.old.tally.played.packets }
+        ensures counted { self.new.tally.played ≡ played_of (copies_of self.new.rows) self.new.tally.played.packets }
         ensures added { OnOk result (Adds (D.meaning desk.old) (D.meaning desk.new) Outlet.Main
             (repeated (times_of chosen (copies_of self.old.rows) self.old.tally.played.packets) self.old.reader.packet)) }
         ensures front { OnErr result (AddsFront (D.meaning desk.old) (D.meaning desk.new) Outlet.Main
@@ -137,6 +139,7 @@ impl Playing {
         ensures reader { self.new.reader ≡ self.old.reader }
         ensures rows { self.new.rows ≡ self.old.rows }
         ensures packets { self.new.tally.played.packets ≡ self.old.tally.played.packets + 1 }
+        ensures counted { self.new.tally.played ≡ played_of (copies_of self.new.rows) self.new.tally.played.packets }
     {
         let copies = self.script.times(self.tally.played.packets as u32);
         self.tally.count(copies);
