@@ -3,3 +3,4 @@ mod Copies
 mod PlayCourses
 mod KeptNumbers
 mod Players
+mod PlayedPackets

@@ -1,4 +1,5 @@
 pub mod Played
+pub mod Copied
 pub mod Tallies
 pub mod Report
 pub mod Playing

@@ -1,1 +1,55 @@
-//! What the definitions of played stores mean.
+//! What the definitions of played stores and their reports mean.
+
+ghost use Rattle.std.specs.Prelude.{◌≡◌, ◌+◌, ◌<◌, ◌++◌, ◌∷◌, ℕ, List, [], not, None, Some, All, codes};
+ghost use Rattle.std.specs.List.{filter};
+ghost use Rattle.desk_ports.specs.Courses.{AreFronts, owed};
+ghost use Rattle.side_tables.specs.Rows.{copies_of};
+ghost use Rattle.packet_store.specs.SpacePackets.{is_chosen};
+ghost use Rattle.packet_store.specs.Walks.{walk};
+ghost use Rattle.loss_player.specs.Played.{played_bytes, played_of, played_packets, store_numbers};
+ghost use Rattle.loss_player.specs.Copied.{copied_from};
+ghost use Rattle.loss_player.specs.Report.{header_row, play_report};
+ghost use Rattle.loss_player.specs.Playing.{play_course};
+
+/// Where each packet arrives once, the played store is the store, up to where its walk ends. A script without rows
+/// says so.
+pub fn undisturbed_stores_are_unchanged()
+    ensures unchanged { (copies : ℕ → ℕ) (apid : ℕ) (store : List ℕ) → ((t : ℕ) → copies t ≡ 1) → All (λ b. b < 256) store →
+        played_bytes copies apid store ++ (walk (Some apid) store).rest ≡ store }
+    ensures no_rows { (t : ℕ) → copies_of [] t ≡ 1 }
+{}
+
+/// The packets of the chosen APID arrive in their order, each as often as its number says, and all others once.
+pub fn packets_arrive_by_their_copies()
+    ensures chosen { (copies : ℕ → ℕ) (apid : ℕ) (store : List ℕ) →
+        filter (λ p. is_chosen (Some apid) p.header) (played_packets copies apid store)
+        ≡ copied_from copies 0 (filter (λ p. is_chosen (Some apid) p.header) (walk (Some apid) store).packets) }
+    ensures others { (copies : ℕ → ℕ) (apid : ℕ) (store : List ℕ) →
+        filter (λ p. not (is_chosen (Some apid) p.header)) (played_packets copies apid store)
+        ≡ filter (λ p. not (is_chosen (Some apid) p.header)) (walk (Some apid) store).packets }
+{}
+
+/// What a whole store owes is the played store and the report of its numbers.
+pub fn whole_stores_owe_their_report()
+    ensures { (copies : ℕ → ℕ) (apid : ℕ) (store : List ℕ) → (walk (Some apid) store).ending ≡ None →
+        owed (play_course copies apid store)
+        ≡ record { output = played_bytes copies apid store; report = play_report (store_numbers copies apid store) } }
+{}
+
+/// What a front of a store owes before its end is a front of what the store owes before its end.
+pub fn fronts_owe_fronts()
+    ensures { (copies : ℕ → ℕ) (apid : ℕ) (front rest : List ℕ) → All (λ b. b < 256) front →
+        AreFronts (play_course copies apid front).before (play_course copies apid (front ++ rest)).before }
+{}
+
+/// Worked reports: of some packets, by the rows of a script.
+pub fn worked_reports()
+    // Four packets, of which the third is dropped.
+    ensures dropped { play_report (played_of (copies_of (record { first = 2; last = 2; step = 1; copies = 0 } ∷ [])) 4)
+        ≡ header_row ++ codes "4,3,1,0,0,2\n" }
+    // Nine copies of each.
+    ensures repeated { play_report (played_of (copies_of (record { first = 0; last = 3; step = 1; copies = 9 } ∷ [])) 4)
+        ≡ header_row ++ codes "4,4,0,32,0,1\n" }
+    // No packet.
+    ensures empty { play_report (played_of (copies_of []) 0) ≡ header_row ++ codes "0,0,0,0,-,0\n" }
+{}

@@ -9,5 +9,9 @@ mod playing;
 mod report;
 
 pub use fault::PlayFault;
+pub use laws::{
+    fronts_owe_fronts, packets_arrive_by_their_copies, undisturbed_stores_are_unchanged,
+    whole_stores_owe_their_report, worked_reports,
+};
 pub use played::Played;
 pub use player::Player;
