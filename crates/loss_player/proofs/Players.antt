@@ -1,5 +1,5 @@
 -- A run from a store's first byte, as the answer of a player.
-use Rattle.std.proofs.Common.{◌≡◌, ℕ, List, Result, Err, refl, ap, ◌∙◌, subst, zero-add}
+use Rattle.std.proofs.Common.{◌≡◌, ℕ, List, Result, Err, refl, ap, ◌∙◌, subst}
 use Rattle.desk_ports.specs.declared.stop.Stop.{Stop}
 use Rattle.desk_ports.specs.declared.stop.Stop.TheVariants.{Data, ReadFault, WriteFault}
 use Rattle.desk_ports.specs.Meanings.{Meanings}

@@ -1,12 +1,11 @@
 -- The numbers of the packets so far, packet by packet.
 use Rattle.std.proofs.Common.{◌≡◌, ℕ, zero, suc, ◌+◌, ◌-◌, ◌==◌, nat_lt, max, Bool, true, false, if◌then◌else◌, List, [], ◌∷◌, ◌++◌, length, Option, Some, None, refl, sym, ap, ◌∙◌, append-nil, zero-add, arith}
-use Rattle.std.specs.List.{filter, count_by, sum_by, range_with_len, last_or}
+use Rattle.std.specs.List.{filter, sum_by, range_with_len, last_or}
 use Rattle.std.proofs.Math.Nat.{max_comm}
 use Rattle.std.proofs.lemmas.List.{length_push}
 use Rattle.std.proofs.lemmas.List.Elements.{filter-append}
 use Rattle.std.proofs.lemmas.List.Sums.{sum_by_push}
 use Rattle.std.proofs.lemmas.Grind.{common_steps}
-use Rattle.loss_player.specs.declared.played.Played.{Played}
 use Rattle.loss_player.specs.declared.played.Tally.{Tally}
 use Rattle.loss_player.specs.Played.{delivered, first_of, widest_gap, played_of}
 use Rattle.loss_player.specs.Tallies.{tally_of, no_tally, first_with, widest_with, with_dropped, with_delivered, tally_with}

@@ -1,7 +1,6 @@
 -- The numbers of the packets so far, one packet after the other.
 use Rattle.std.specs.Prelude.{ℕ, ◌+◌, ◌-◌, ◌*◌, ◌<◌, ◌≤◌, ◌==◌, max, if◌then◌else◌, Option, Some, None, IfSome}
 use Rattle.std.specs.List.{last_or}
-use Rattle.loss_player.specs.declared.played.Played.{Played}
 use Rattle.loss_player.specs.declared.played.Tally.{Tally}
 use Rattle.loss_player.specs.Played.{delivered, played_of}
 

@@ -1,10 +1,10 @@
-use Rattle.std.proofs.Common.{List, ◌++◌, length, Some, sym, ap, ◌∙◌, arith}
+use Rattle.std.proofs.Common.{List, length, Some, sym, ap, ◌∙◌, arith}
 use Rattle.std.proofs.lemmas.Grind.{flat_map-append}
 use Rattle.packet_store.specs.SpacePackets.{Packet, packet_bytes}
 use Rattle.packet_store.specs.Walks.{walk, packets_bytes}
 use Rattle.packet_store.proofs.Walks.{IsLonger-walk_from}
 use Rattle.desk_ports.specs.Courses.{to_output}
-use Rattle.loss_player.specs.Played.{played_from, played_bytes, played_packets}
+use Rattle.loss_player.specs.Played.{played_from, played_packets}
 use Rattle.loss_player.proofs.PlayedPackets.{number_after, played_from-append}
 use Rattle.loss_player.proofs.laws.fronts_owe_fronts.Goals as goal
 

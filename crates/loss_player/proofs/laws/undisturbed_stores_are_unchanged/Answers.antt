@@ -1,4 +1,4 @@
-use Rattle.std.proofs.Common.{ℕ, List, ◌++◌, length, Some, refl, ap, ◌∙◌, arith}
+use Rattle.std.proofs.Common.{List, ◌++◌, length, Some, refl, ap, ◌∙◌, arith}
 use Rattle.packet_store.specs.SpacePackets.{Packet}
 use Rattle.packet_store.specs.Walks.{walk, packets_bytes}
 use Rattle.packet_store.proofs.Walks.{IsWalk-walk_from}
