@@ -4,3 +4,4 @@ mod PlayCourses
 mod KeptNumbers
 mod Players
 mod PlayedPackets
+mod Gaps

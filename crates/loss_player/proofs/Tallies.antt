@@ -94,7 +94,7 @@ tally_by copies n false is =
       latest = latest i;
     }
 
-tally_next : (copies : ℕ → ℕ) (n : ℕ) → tally_of copies (n + 1) ≡ tally_with (tally_of copies n) (copies n)
+pub tally_next : (copies : ℕ → ℕ) (n : ℕ) → tally_of copies (n + 1) ≡ tally_with (tally_of copies n) (copies n)
 tally_next copies n = tally_by copies n (copies n == 0) refl
 
 pub tally_none : (copies : ℕ → ℕ) → no_tally ≡ tally_of copies 0

@@ -1,5 +1,6 @@
 pub mod Played
 pub mod Copied
 pub mod Tallies
+pub mod Gaps
 pub mod Report
 pub mod Playing

@@ -1,6 +1,6 @@
 //! What the definitions of played stores and their reports mean.
 
-ghost use Rattle.std.specs.Prelude.{◌≡◌, ◌+◌, ◌<◌, ◌++◌, ◌∷◌, ℕ, List, [], not, None, Some, All, codes};
+ghost use Rattle.std.specs.Prelude.{◌≡◌, ◌+◌, ◌↔◌, ◌<◌, ◌++◌, ◌∷◌, ℕ, List, [], not, None, Some, All, codes};
 ghost use Rattle.std.specs.List.{filter};
 ghost use Rattle.desk_ports.specs.Courses.{AreFronts, owed};
 ghost use Rattle.side_tables.specs.Rows.{copies_of};
@@ -8,6 +8,7 @@ ghost use Rattle.packet_store.specs.SpacePackets.{is_chosen};
 ghost use Rattle.packet_store.specs.Walks.{walk};
 ghost use Rattle.loss_player.specs.Played.{played_bytes, played_of, played_packets, store_numbers};
 ghost use Rattle.loss_player.specs.Copied.{copied_from};
+ghost use Rattle.loss_player.specs.Gaps.{AreGapsShort, TellsShortGaps};
 ghost use Rattle.loss_player.specs.Report.{header_row, play_report};
 ghost use Rattle.loss_player.specs.Playing.{play_course};
 
@@ -40,6 +41,12 @@ pub fn whole_stores_owe_their_report()
 pub fn fronts_owe_fronts()
     ensures { (copies : ℕ → ℕ) (apid : ℕ) (front rest : List ℕ) → All (λ b. b < 256) front →
         AreFronts (play_course copies apid front).before (play_course copies apid (front ++ rest)).before }
+{}
+
+/// The report tells whether each gap is shorter than the period of the sequence counts: exactly then the first delivered
+/// number and the widest difference are below it.
+pub fn short_gaps_are_told()
+    ensures { (copies : ℕ → ℕ) (n : ℕ) → AreGapsShort copies n ↔ TellsShortGaps (played_of copies n) }
 {}
 
 /// Worked reports: of some packets, by the rows of a script.

@@ -10,7 +10,7 @@ mod report;
 
 pub use fault::PlayFault;
 pub use laws::{
-    fronts_owe_fronts, packets_arrive_by_their_copies, undisturbed_stores_are_unchanged,
+    fronts_owe_fronts, packets_arrive_by_their_copies, short_gaps_are_told, undisturbed_stores_are_unchanged,
     whole_stores_owe_their_report, worked_reports,
 };
 pub use played::Played;
