@@ -1,6 +1,6 @@
 //! What the definitions of played stores and their reports mean.
 
-ghost use Rattle.std.specs.Prelude.{◌≡◌, ◌+◌, ◌↔◌, ◌<◌, ◌++◌, ◌∷◌, ℕ, List, [], not, None, Some, All, codes};
+ghost use Rattle.std.specs.Prelude.{◌≡◌, ◌↔◌, ◌^◌, ◌≤◌, ◌<◌, ◌++◌, ◌∷◌, ℕ, List, [], length, not, None, Some, All, codes};
 ghost use Rattle.std.specs.List.{filter};
 ghost use Rattle.desk_ports.specs.Courses.{AreFronts, owed};
 ghost use Rattle.side_tables.specs.Rows.{copies_of};
@@ -28,6 +28,14 @@ pub fn packets_arrive_by_their_copies()
     ensures others { (copies : ℕ → ℕ) (apid : ℕ) (store : List ℕ) →
         filter (λ p. not (is_chosen (Some apid) p.header)) (played_packets copies apid store)
         ≡ filter (λ p. not (is_chosen (Some apid) p.header)) (walk (Some apid) store).packets }
+{}
+
+/// A played store is whole, and its walk has the packets that arrive, in their order.
+pub fn played_stores_are_walked()
+    ensures { (copies : ℕ → ℕ) (apid : ℕ) (store : List ℕ) → All (λ b. b < 256) store
+        → length (played_packets copies apid store) ≤ 2 ^ 32
+        → walk (Some apid) (played_bytes copies apid store)
+        ≡ record { packets = played_packets copies apid store; rest = []; ending = None } }
 {}
 
 /// What a whole store owes is the played store and the report of its numbers.
@@ -59,4 +67,22 @@ pub fn worked_reports()
         ≡ header_row ++ codes "4,4,0,32,0,1\n" }
     // No packet.
     ensures empty { play_report (played_of (copies_of []) 0) ≡ header_row ++ codes "0,0,0,0,-,0\n" }
+{}
+
+/// A worked store for the APID 100: its packet, one of the APID 101, its packet with the count of the first, an idle one,
+/// and its packet, of which the second is dropped and the third repeated.
+pub fn worked_stores()
+    ensures played { played_bytes (copies_of (record { first = 1; last = 1; step = 1; copies = 0 } ∷ record { first = 2; last = 2; step = 1; copies = 2 } ∷ [])) 100
+        (0x00 ∷ 0x64 ∷ 0xC0 ∷ 0x07 ∷ 0x00 ∷ 0x00 ∷ 0xA0
+        ∷ 0x00 ∷ 0x65 ∷ 0xC0 ∷ 0x07 ∷ 0x00 ∷ 0x00 ∷ 0xB0
+        ∷ 0x00 ∷ 0x64 ∷ 0xC0 ∷ 0x07 ∷ 0x00 ∷ 0x00 ∷ 0xA1
+        ∷ 0x07 ∷ 0xFF ∷ 0xC0 ∷ 0x00 ∷ 0x00 ∷ 0x00 ∷ 0xB1
+        ∷ 0x00 ∷ 0x64 ∷ 0xC0 ∷ 0x09 ∷ 0x00 ∷ 0x00 ∷ 0xA2 ∷ [])
+        ≡ (0x00 ∷ 0x64 ∷ 0xC0 ∷ 0x07 ∷ 0x00 ∷ 0x00 ∷ 0xA0
+        ∷ 0x00 ∷ 0x65 ∷ 0xC0 ∷ 0x07 ∷ 0x00 ∷ 0x00 ∷ 0xB0
+        ∷ 0x07 ∷ 0xFF ∷ 0xC0 ∷ 0x00 ∷ 0x00 ∷ 0x00 ∷ 0xB1
+        ∷ 0x00 ∷ 0x64 ∷ 0xC0 ∷ 0x09 ∷ 0x00 ∷ 0x00 ∷ 0xA2
+        ∷ 0x00 ∷ 0x64 ∷ 0xC0 ∷ 0x09 ∷ 0x00 ∷ 0x00 ∷ 0xA2 ∷ []) }
+    ensures numbers { played_of (copies_of (record { first = 1; last = 1; step = 1; copies = 0 } ∷ record { first = 2; last = 2; step = 1; copies = 2 } ∷ [])) 3
+        ≡ record { packets = 3; delivered = 2; dropped = 1; repeats = 1; first = Some 0; widest = 2 } }
 {}

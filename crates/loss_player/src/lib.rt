@@ -10,8 +10,9 @@ mod report;
 
 pub use fault::PlayFault;
 pub use laws::{
-    fronts_owe_fronts, packets_arrive_by_their_copies, short_gaps_are_told, undisturbed_stores_are_unchanged,
-    whole_stores_owe_their_report, worked_reports,
+    fronts_owe_fronts, packets_arrive_by_their_copies, played_stores_are_walked,
+    short_gaps_are_told, undisturbed_stores_are_unchanged, whole_stores_owe_their_report,
+    worked_reports, worked_stores,
 };
 pub use played::Played;
 pub use player::Player;
