@@ -1,10 +1,10 @@
 -- The first delivered number and the widest difference, as the packets are counted.
-use Rattle.std.proofs.Common.{◌≡◌, ℕ, zero, suc, ◌+◌, ◌-◌, ◌<◌, ◌≤◌, ◌==◌, ltb, max, Bool, true, false, ◌⊎◌, Option, Some, None, IfSome, if◌then◌else◌, unwrap_or, inl, inr, below_more, refl, sym, ap, ◌∙◌, subst, arith}
+use Rattle.std.proofs.Common.{◌≡◌, ℕ, zero, suc, ◌+◌, ◌-◌, ◌<◌, ◌≤◌, ◌==◌, ltb, max, Bool, true, false, ◌⊎◌, Option, Some, None, IfSome, if◌then◌else◌, unwrap_or, inl, inr, below_more, refl, sym, subst, arith}
 use Rattle.std.proofs.lemmas.Grind.{common_steps}
 use Rattle.packet_store.specs.SpacePackets.{period}
 use Rattle.loss_player.specs.declared.played.Tally.{Tally}
 use Rattle.loss_player.specs.Played.{played_of}
-use Rattle.loss_player.specs.Tallies.{tally_of, first_with, widest_with, with_dropped, with_delivered, tally_with}
+use Rattle.loss_player.specs.Tallies.{tally_of, first_with, widest_with, with_dropped, with_delivered}
 use Rattle.loss_player.specs.Gaps.{AreDropped, IsFirst, AreNext, AreGapsShort, TellsShortGaps}
 use Rattle.loss_player.proofs.Tallies.{tally_next}
 

@@ -1,9 +1,9 @@
 -- The walk over a played store.
-use Rattle.std.proofs.Common.{◌≡◌, ℕ, zero, suc, ◌+◌, ◌^◌, ◌≤◌, List, [], ◌∷◌, ◌++◌, length, replicate, All, Option, None, refl, ap, ◌∙◌, arith}
+use Rattle.std.proofs.Common.{◌≡◌, ℕ, suc, ◌+◌, ◌^◌, ◌≤◌, List, [], ◌∷◌, length, replicate, All, Option, None, ap, ◌∙◌, arith}
 use Rattle.std.proofs.lemmas.List.Concat.{flat_map-cons}
 use Rattle.std.proofs.lemmas.List.Elements.{All-append, All-replicate}
 use Rattle.packet_store.specs.SpacePackets.{Packet, packet_bytes, is_chosen}
-use Rattle.packet_store.specs.Walks.{IsGood, Walk, walk_from, behind_packet, packets_bytes}
+use Rattle.packet_store.specs.Walks.{IsGood, walk_from, behind_packet, packets_bytes}
 use Rattle.packet_store.proofs.Walks.{walk_from-good, walk_from-none}
 use Rattle.loss_player.specs.Played.{times_of, number_behind, played_from}
 

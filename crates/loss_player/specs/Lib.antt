@@ -4,3 +4,4 @@ pub mod Tallies
 pub mod Gaps
 pub mod Report
 pub mod Playing
+pub mod Worked

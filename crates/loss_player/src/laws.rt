@@ -11,6 +11,7 @@ ghost use Rattle.loss_player.specs.Copied.{copied_from};
 ghost use Rattle.loss_player.specs.Gaps.{AreGapsShort, TellsShortGaps};
 ghost use Rattle.loss_player.specs.Report.{header_row, play_report};
 ghost use Rattle.loss_player.specs.Playing.{play_course};
+ghost use Rattle.loss_player.specs.Worked.{copies_from, worked_store};
 
 /// Where each packet arrives once, the played store is the store, up to where its walk ends. A script without rows
 /// says so.
@@ -60,29 +61,28 @@ pub fn short_gaps_are_told()
 /// Worked reports: of some packets, by the rows of a script.
 pub fn worked_reports()
     // Four packets, of which the third is dropped.
-    ensures dropped { play_report (played_of (copies_of (record { first = 2; last = 2; step = 1; copies = 0 } ∷ [])) 4)
-        ≡ header_row ++ codes "4,3,1,0,0,2\n" }
+    ensures dropped { play_report (played_of (copies_of (copies_from 2 2 0 ∷ [])) 4) ≡ header_row ++ codes "4,3,1,0,0,2\n" }
     // Nine copies of each.
-    ensures repeated { play_report (played_of (copies_of (record { first = 0; last = 3; step = 1; copies = 9 } ∷ [])) 4)
-        ≡ header_row ++ codes "4,4,0,32,0,1\n" }
+    ensures repeated { play_report (played_of (copies_of (copies_from 0 3 9 ∷ [])) 4) ≡ header_row ++ codes "4,4,0,32,0,1\n" }
     // No packet.
     ensures empty { play_report (played_of (copies_of []) 0) ≡ header_row ++ codes "0,0,0,0,-,0\n" }
+    // A gap that is one less than the period of the sequence counts.
+    ensures short { play_report (played_of (copies_of (copies_from 6 16387 0 ∷ [])) 16389) ≡ header_row ++ codes "16389,7,16382,0,0,16383\n" }
+    // One that is as long as the period.
+    ensures long { play_report (played_of (copies_of (copies_from 6 16388 0 ∷ [])) 16390) ≡ header_row ++ codes "16390,7,16383,0,0,16384\n" }
+    // The last packet alone arrives.
+    ensures late { play_report (played_of (copies_of (copies_from 0 16382 0 ∷ [])) 16384) ≡ header_row ++ codes "16384,1,16383,0,16383,0\n" }
 {}
 
-/// A worked store for the APID 100: its packet, one of the APID 101, its packet with the count of the first, an idle one,
-/// and its packet, of which the second is dropped and the third repeated.
+/// A worked store for the APID 100, with packets of other APIDs and with a sequence count that comes again: its second
+/// packet is dropped, and the third arrives twice.
 pub fn worked_stores()
-    ensures played { played_bytes (copies_of (record { first = 1; last = 1; step = 1; copies = 0 } ∷ record { first = 2; last = 2; step = 1; copies = 2 } ∷ [])) 100
-        (0x00 ∷ 0x64 ∷ 0xC0 ∷ 0x07 ∷ 0x00 ∷ 0x00 ∷ 0xA0
-        ∷ 0x00 ∷ 0x65 ∷ 0xC0 ∷ 0x07 ∷ 0x00 ∷ 0x00 ∷ 0xB0
-        ∷ 0x00 ∷ 0x64 ∷ 0xC0 ∷ 0x07 ∷ 0x00 ∷ 0x00 ∷ 0xA1
-        ∷ 0x07 ∷ 0xFF ∷ 0xC0 ∷ 0x00 ∷ 0x00 ∷ 0x00 ∷ 0xB1
-        ∷ 0x00 ∷ 0x64 ∷ 0xC0 ∷ 0x09 ∷ 0x00 ∷ 0x00 ∷ 0xA2 ∷ [])
+    ensures played { played_bytes (copies_of (copies_from 1 1 0 ∷ copies_from 2 2 2 ∷ [])) 100 worked_store
         ≡ (0x00 ∷ 0x64 ∷ 0xC0 ∷ 0x07 ∷ 0x00 ∷ 0x00 ∷ 0xA0
         ∷ 0x00 ∷ 0x65 ∷ 0xC0 ∷ 0x07 ∷ 0x00 ∷ 0x00 ∷ 0xB0
         ∷ 0x07 ∷ 0xFF ∷ 0xC0 ∷ 0x00 ∷ 0x00 ∷ 0x00 ∷ 0xB1
         ∷ 0x00 ∷ 0x64 ∷ 0xC0 ∷ 0x09 ∷ 0x00 ∷ 0x00 ∷ 0xA2
         ∷ 0x00 ∷ 0x64 ∷ 0xC0 ∷ 0x09 ∷ 0x00 ∷ 0x00 ∷ 0xA2 ∷ []) }
-    ensures numbers { played_of (copies_of (record { first = 1; last = 1; step = 1; copies = 0 } ∷ record { first = 2; last = 2; step = 1; copies = 2 } ∷ [])) 3
+    ensures numbers { store_numbers (copies_of (copies_from 1 1 0 ∷ copies_from 2 2 2 ∷ [])) 100 worked_store
         ≡ record { packets = 3; delivered = 2; dropped = 1; repeats = 1; first = Some 0; widest = 2 } }
 {}
