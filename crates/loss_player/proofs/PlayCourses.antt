@@ -4,12 +4,14 @@ use Rattle.std.proofs.lemmas.List.Sums.{sum_by-cons}
 use Rattle.std.proofs.lemmas.Grind.{flat_map-append}
 use Rattle.desk_ports.specs.declared.desk.Outlet.TheVariants as outlet
 use Rattle.desk_ports.specs.Meanings.{Meanings, Adds, AddsFront}
-use Rattle.desk_ports.specs.Courses.{no_outputs, to_output, to_report, behind, IsCutShort, Reaches}
+use Rattle.desk_ports.specs.Courses.{Course, no_outputs, to_output, to_report, behind, IsCutShort, Reaches}
 use Rattle.desk_ports.proofs.Courses.{Reaches-moves, Reaches-adds, Reaches-then, IsCutShort-adds, AfterStop-behind}
 use Rattle.desk_ports.specs.declared.stop.Stop.TheVariants as stop
 use Rattle.side_tables.specs.declared.rows.CopyRow.{CopyRow}
 use Rattle.side_tables.specs.Rows.{copies_of}
+use Rattle.packet_store.specs.declared.header.Header.{Header}
 use Rattle.packet_store.specs.declared.reader.Taken.{Taken}
+use Rattle.packet_store.specs.declared.fault.WalkFault.{WalkFault}
 use Rattle.packet_store.specs.SpacePackets.{Packet, packet_bytes, is_chosen}
 use Rattle.packet_store.specs.Walks.{Walk, walk, packets_bytes}
 use Rattle.packet_store.specs.StoreReader.{ReaderState, Takes, walk_on}
@@ -17,7 +19,7 @@ use Rattle.packet_store.proofs.Walks.{walk_from-none}
 use Rattle.packet_store.proofs.StoreCourses.{FollowsWalk}
 use Rattle.loss_player.specs.Played.{times_of, number_behind, played_from, repeated, played_of, chosen_count, store_numbers}
 use Rattle.loss_player.specs.Report.{play_report}
-use Rattle.loss_player.specs.Playing.{play_course, Progress, unread, all_numbers, rest_course}
+use Rattle.loss_player.specs.Playing.{play_course, Progress, unread, next_copies, all_numbers, rest_course}
 use Rattle.loss_player.proofs.Copies.{packets_bytes-replicate}
 
 -- ---- one packet
@@ -37,15 +39,24 @@ chosen_count-cons chosen p packets =
     let one : Packet → ℕ = λ q. if is_chosen chosen q.header then 1 else 0 in
     sum_by-cons one p packets
 
+-- the packet that a reader gave
+abbrev packet_of : Header → ReaderState → Packet
+packet_of header reader = record { header = header; body = reader.body }
+
+-- how often a packet arrives that is read next
+abbrev times_at : Progress → Bool → ℕ
+times_at s own = times_of own (copies_of s.rows) s.tally.played.packets
+
+-- what is owed behind the copies of a packet
+abbrev behind_copies : Progress → Progress → Bool → List ℕ → List ℕ → Course WalkFault
+behind_copies s t own packet rest = behind (to_output (next_copies s own packet)) (rest_course t rest)
+
 -- the packets of the rest of a store that arrive
 abbrev rest_packets : Progress → List ℕ → List Packet
 rest_packets s bytes = played_from s.reader.chosen (copies_of s.rows) s.tally.played.packets (walk_on s.reader bytes).packets
 
 module _ (s t : Progress) (reader : ReaderState) (a b : Meanings) (given : Taken) (takes : Takes s.reader reader a b given) (is : Counts s t reader given.chosen) (rest : List ℕ) where
-  times : ℕ
-  times = times_of given.chosen (copies_of s.rows) s.tally.played.packets
-
-  walk_taken : (walk_on s.reader (reader.packet ++ rest)).packets ≡ record { header = takes.header; body = reader.body } ∷ (walk_on reader rest).packets
+  walk_taken : (walk_on s.reader (reader.packet ++ rest)).packets ≡ packet_of takes.header reader ∷ (walk_on reader rest).packets
   walk_taken = ap (λ (w : Walk). w.packets) (takes.goes_on rest)
 
   same_chosen : s.reader.chosen ≡ t.reader.chosen
@@ -54,28 +65,23 @@ module _ (s t : Progress) (reader : ReaderState) (a b : Meanings) (given : Taken
   rest_walk : (walk_on reader rest).packets ≡ (walk_on t.reader rest).packets
   rest_walk = ap (λ (r : ReaderState). (walk_on r rest).packets) (sym is.reader_is)
 
-  taken_packets : rest_packets s (reader.packet ++ rest) ≡ replicate (times_of given.chosen (copies_of s.rows) s.tally.played.packets) (record { header = takes.header; body = reader.body }) ++ rest_packets t rest
+  taken_packets : rest_packets s (reader.packet ++ rest) ≡ replicate (times_at s given.chosen) (packet_of takes.header reader) ++ rest_packets t rest
   taken_packets =
-      let p : Packet = record { header = takes.header; body = reader.body } in
-      let copies = copies_of s.rows in
-      let n = s.tally.played.packets in
-      let packets = (walk_on reader rest).packets in
       ap (played_from s.reader.chosen (copies_of s.rows) s.tally.played.packets) walk_taken
-      ∙ (ap (λ (own : Bool). replicate (times_of own (copies_of s.rows) s.tally.played.packets) (record { header = takes.header; body = reader.body }) ++ played_from s.reader.chosen (copies_of s.rows) (number_behind own s.tally.played.packets) (walk_on reader rest).packets) (sym takes.is_chosen)
+      ∙ (ap (λ (own : Bool). replicate (times_at s own) (packet_of takes.header reader) ++ played_from s.reader.chosen (copies_of s.rows) (number_behind own s.tally.played.packets) (walk_on reader rest).packets) (sym takes.is_chosen)
       ∙ (let chosen = same_chosen in let rows = sym is.rows in let number = sym is.packets in let on = rest_walk in
-      λ i. replicate (times_of given.chosen (copies_of s.rows) s.tally.played.packets) (record { header = takes.header; body = reader.body }) ++ played_from (chosen i) (copies_of (rows i)) (number i) (on i)))
+      λ i. replicate (times_at s given.chosen) (packet_of takes.header reader) ++ played_from (chosen i) (copies_of (rows i)) (number i) (on i)))
 
-  taken_bytes : packets_bytes (rest_packets s (reader.packet ++ rest)) ≡ repeated (times_of given.chosen (copies_of s.rows) s.tally.played.packets) reader.packet ++ packets_bytes (rest_packets t rest)
+  taken_bytes : packets_bytes (rest_packets s (reader.packet ++ rest)) ≡ next_copies s given.chosen reader.packet ++ packets_bytes (rest_packets t rest)
   taken_bytes =
-      let p : Packet = record { header = takes.header; body = reader.body } in
       ap packets_bytes taken_packets
-      ∙ (flat_map-append packet_bytes (replicate (times_of given.chosen (copies_of s.rows) s.tally.played.packets) (record { header = takes.header; body = reader.body })) (rest_packets t rest)
-      ∙ ap (λ (l : List ℕ). l ++ packets_bytes (rest_packets t rest)) (packets_bytes-replicate (times_of given.chosen (copies_of s.rows) s.tally.played.packets) (record { header = takes.header; body = reader.body }) ∙ ap (repeated (times_of given.chosen (copies_of s.rows) s.tally.played.packets)) (sym takes.packet)))
+      ∙ (flat_map-append packet_bytes (replicate (times_at s given.chosen) (packet_of takes.header reader)) (rest_packets t rest)
+      ∙ ap (λ (l : List ℕ). l ++ packets_bytes (rest_packets t rest)) (packets_bytes-replicate (times_at s given.chosen) (packet_of takes.header reader) ∙ ap (repeated (times_at s given.chosen)) (sym takes.packet)))
 
   taken_count : s.tally.played.packets + chosen_count s.reader.chosen (walk_on s.reader (reader.packet ++ rest)).packets ≡ t.tally.played.packets + chosen_count t.reader.chosen (walk_on t.reader rest).packets
   taken_count =
       ap (λ (l : List Packet). s.tally.played.packets + chosen_count s.reader.chosen l) walk_taken
-      ∙ (ap (λ (k : ℕ). s.tally.played.packets + k) (chosen_count-cons s.reader.chosen (record { header = takes.header; body = reader.body }) (walk_on reader rest).packets)
+      ∙ (ap (λ (k : ℕ). s.tally.played.packets + k) (chosen_count-cons s.reader.chosen (packet_of takes.header reader) (walk_on reader rest).packets)
       ∙ (ap (λ (b : Bool). s.tally.played.packets + ((if b then 1 else 0) + chosen_count s.reader.chosen (walk_on reader rest).packets)) (sym takes.is_chosen)
       ∙ (number_with given.chosen s.tally.played.packets (chosen_count s.reader.chosen (walk_on reader rest).packets)
       ∙ (let chosen = same_chosen in let number = sym is.packets in let on = rest_walk in λ i. number i + chosen_count (chosen i) (on i)))))
@@ -83,7 +89,7 @@ module _ (s t : Progress) (reader : ReaderState) (a b : Meanings) (given : Taken
   pub taken_numbers : all_numbers s (reader.packet ++ rest) ≡ all_numbers t rest
   taken_numbers = let rows = sym is.rows in let count = taken_count in λ i. played_of (copies_of (rows i)) (count i)
 
-  pub taken_course : rest_course s (reader.packet ++ rest) ≡ behind (to_output (repeated (times_of given.chosen (copies_of s.rows) s.tally.played.packets) reader.packet)) (rest_course t rest)
+  pub taken_course : rest_course s (reader.packet ++ rest) ≡ behind_copies s t given.chosen reader.packet rest
   taken_course =
       let ending = ap (λ (w : Walk). w.ending) (takes.goes_on rest) ∙ ap (λ (r : ReaderState). (walk_on r rest).ending) (sym is.reader_is) in
       let bytes = taken_bytes in
@@ -94,20 +100,19 @@ module _ (s t : Progress) (reader : ReaderState) (a b : Meanings) (given : Taken
 
 -- a packet was read and all its copies were written
 pub Reaches-played : (s t : Progress) (reader : ReaderState) (a b c : Meanings) (given : Taken) → Takes s.reader reader a b given → Counts s t reader given.chosen
-    → Adds b c outlet.Main (repeated (times_of given.chosen (copies_of s.rows) s.tally.played.packets) reader.packet) → Reaches (rest_course s) (rest_course t) a c
+    → Adds b c outlet.Main (next_copies s given.chosen reader.packet) → Reaches (rest_course s) (rest_course t) a c
 Reaches-played s t reader a b c given takes is added =
-    let copies = repeated (times_of given.chosen (copies_of s.rows) s.tally.played.packets) reader.packet in
-    Reaches-then (rest_course s) (λ rest. behind (to_output (repeated (times_of given.chosen (copies_of s.rows) s.tally.played.packets) reader.packet)) (rest_course t rest)) (rest_course t) a b c
-    (Reaches-moves (rest_course s) (λ rest. behind (to_output (repeated (times_of given.chosen (copies_of s.rows) s.tally.played.packets) reader.packet)) (rest_course t rest)) a b reader.packet takes.moved (λ rest. taken_course s t reader a b given takes is rest))
-    (Reaches-adds (rest_course t) b c (repeated (times_of given.chosen (copies_of s.rows) s.tally.played.packets) reader.packet) added)
+    Reaches-then (rest_course s) (behind_copies s t given.chosen reader.packet) (rest_course t) a b c
+    (Reaches-moves (rest_course s) (behind_copies s t given.chosen reader.packet) a b reader.packet takes.moved (λ rest. taken_course s t reader a b given takes is rest))
+    (Reaches-adds (rest_course t) b c (next_copies s given.chosen reader.packet) added)
 
 -- a packet was read and a front of its copies was written
 pub IsCutShort-played : (s t : Progress) (reader : ReaderState) (a b c : Meanings) (given : Taken) → Takes s.reader reader a b given → Counts s t reader given.chosen
-    → AddsFront b c outlet.Main (repeated (times_of given.chosen (copies_of s.rows) s.tally.played.packets) reader.packet) → IsCutShort (rest_course s) a c
+    → AddsFront b c outlet.Main (next_copies s given.chosen reader.packet) → IsCutShort (rest_course s) a c
 IsCutShort-played s t reader a b c given takes is cut =
-    AfterStop-behind (rest_course s) (λ rest. behind (to_output (repeated (times_of given.chosen (copies_of s.rows) s.tally.played.packets) reader.packet)) (rest_course t rest)) a b c stop.WriteFault
-    (Reaches-moves (rest_course s) (λ rest. behind (to_output (repeated (times_of given.chosen (copies_of s.rows) s.tally.played.packets) reader.packet)) (rest_course t rest)) a b reader.packet takes.moved (λ rest. taken_course s t reader a b given takes is rest))
-    (IsCutShort-adds (rest_course t) b c (repeated (times_of given.chosen (copies_of s.rows) s.tally.played.packets) reader.packet) cut)
+    AfterStop-behind (rest_course s) (behind_copies s t given.chosen reader.packet) a b c stop.WriteFault
+    (Reaches-moves (rest_course s) (behind_copies s t given.chosen reader.packet) a b reader.packet takes.moved (λ rest. taken_course s t reader a b given takes is rest))
+    (IsCutShort-adds (rest_course t) b c (next_copies s given.chosen reader.packet) cut)
 
 -- ---- nothing is left
 

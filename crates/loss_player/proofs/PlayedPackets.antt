@@ -15,7 +15,6 @@ once false copies t all = refl
 pub played_from-once : (chosen : Option ℕ) (copies : ℕ → ℕ) (t : ℕ) (packets : List Packet) → ((n : ℕ) → copies n ≡ 1) → played_from chosen copies t packets ≡ packets
 played_from-once chosen copies t [] all = refl
 played_from-once chosen copies t (p ∷ packets) all =
-    let own = is_chosen chosen p.header in
     ap (λ (n : ℕ). replicate n p ++ played_from chosen copies (number_behind (is_chosen chosen p.header) t) packets) (once (is_chosen chosen p.header) copies t all)
     ∙ ap (λ (l : List Packet). p ∷ l) (played_from-once chosen copies (number_behind (is_chosen chosen p.header) t) packets all)
 
@@ -45,9 +44,6 @@ own_step chosen copies t p false later is = ap (λ (l : List Packet). l ++ copie
 pub played_own : (chosen : Option ℕ) (copies : ℕ → ℕ) (t : ℕ) (packets : List Packet) → filter (own_of chosen) (played_from chosen copies t packets) ≡ copied_from copies t (filter (own_of chosen) packets)
 played_own chosen copies t [] = refl
 played_own chosen copies t (p ∷ packets) =
-    let own = own_of chosen p in
-    let on = number_behind (own_of chosen p) t in
-    let these = replicate (times_of (own_of chosen p) copies t) p in
     filter-append (own_of chosen) (replicate (times_of (own_of chosen p) copies t) p) (played_from chosen copies (number_behind (own_of chosen p) t) packets)
     ∙ (ap (λ (l : List Packet). filter (own_of chosen) (replicate (times_of (own_of chosen p) copies t) p) ++ l) (played_own chosen copies (number_behind (own_of chosen p) t) packets)
     ∙ own_step chosen copies t p (own_of chosen p) (filter (own_of chosen) packets) refl)
@@ -76,7 +72,5 @@ number_after chosen t (p ∷ packets) = number_after chosen (number_behind (is_c
 pub played_from-append : (chosen : Option ℕ) (copies : ℕ → ℕ) (t : ℕ) (xs ys : List Packet) → played_from chosen copies t (xs ++ ys) ≡ played_from chosen copies t xs ++ played_from chosen copies (number_after chosen t xs) ys
 played_from-append chosen copies t [] ys = refl
 played_from-append chosen copies t (p ∷ xs) ys =
-    let these = replicate (times_of (is_chosen chosen p.header) copies t) p in
-    let on = number_behind (is_chosen chosen p.header) t in
     ap (λ (l : List Packet). replicate (times_of (is_chosen chosen p.header) copies t) p ++ l) (played_from-append chosen copies (number_behind (is_chosen chosen p.header) t) xs ys)
     ∙ sym (append_assoc (replicate (times_of (is_chosen chosen p.header) copies t) p) (played_from chosen copies (number_behind (is_chosen chosen p.header) t) xs) (played_from chosen copies (number_after chosen (number_behind (is_chosen chosen p.header) t) xs) ys))

@@ -24,7 +24,6 @@ good_played chosen copies t [] all = all
 good_played chosen copies t (p ∷ packets) all =
     let here : IsGood chosen p = all 0 p (omega arith) in
     let more : All (IsGood chosen) packets = λ k d within. all (suc k) d (omega arith) in
-    let own = is_chosen chosen p.header in
     All-append (IsGood chosen) (replicate (times_of (is_chosen chosen p.header) copies t) p) (played_from chosen copies (number_behind (is_chosen chosen p.header) t) packets)
     (All-replicate (IsGood chosen) (times_of (is_chosen chosen p.header) copies t) p here)
     (good_played chosen copies (number_behind (is_chosen chosen p.header) t) packets more)

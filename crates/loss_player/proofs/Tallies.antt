@@ -8,7 +8,7 @@ use Rattle.std.proofs.lemmas.List.Sums.{sum_by_push}
 use Rattle.std.proofs.lemmas.Grind.{common_steps}
 use Rattle.loss_player.specs.declared.played.Tally.{Tally}
 use Rattle.loss_player.specs.Played.{delivered, first_of, widest_gap, played_of}
-use Rattle.loss_player.specs.Tallies.{tally_of, no_tally, first_with, widest_with, with_dropped, with_delivered, tally_with}
+use Rattle.loss_player.specs.Tallies.{tally_of, first_with, widest_with, with_dropped, with_delivered, tally_with}
 
 range-more : (n a : ℕ) → range_with_len a (n + 1) ≡ range_with_len a n ++ (a + n) ∷ []
 range-more zero a =
@@ -50,7 +50,6 @@ widest_gap-more (a ∷ b ∷ numbers) t =
 
 delivered_next : (copies : ℕ → ℕ) (n : ℕ) → delivered copies (n + 1) ≡ delivered copies n ++ (if nat_lt 0 (copies n) then n ∷ [] else [])
 delivered_next copies n =
-    let has = λ (t : ℕ). nat_lt 0 (copies t) in
     ap (filter (λ (t : ℕ). nat_lt 0 (copies t))) (range_next n) ∙ filter-append (λ (t : ℕ). nat_lt 0 (copies t)) (range_with_len 0 n) (n ∷ [])
 
 dropped_next : (copies : ℕ → ℕ) (n : ℕ) → (played_of copies (n + 1)).dropped ≡ (played_of copies n).dropped + (if copies n == 0 then 1 else 0)
@@ -80,7 +79,6 @@ tally_by copies n true is =
       latest = last_or None (same i);
     }
 tally_by copies n false is =
-    let numbers = delivered copies n in
     let more : delivered copies (n + 1) ≡ delivered copies n ++ n ∷ [] =
     delivered_next copies n ∙ ap (λ (b : Bool). delivered copies n ++ (if b then n ∷ [] else [])) (has_some (copies n) is) in
     let count = ap length more ∙ length_push (delivered copies n) n in
@@ -96,9 +94,6 @@ tally_by copies n false is =
 
 pub tally_next : (copies : ℕ → ℕ) (n : ℕ) → tally_of copies (n + 1) ≡ tally_with (tally_of copies n) (copies n)
 tally_next copies n = tally_by copies n (copies n == 0) refl
-
-pub tally_none : (copies : ℕ → ℕ) → no_tally ≡ tally_of copies 0
-tally_none copies = refl
 
 -- the numbers so far with one packet more
 tally_more : (copies : ℕ → ℕ) (old new : Tally) (times : ℕ) → old ≡ tally_of copies old.played.packets → times ≡ copies old.played.packets → new ≡ tally_with old times → new ≡ tally_of copies (old.played.packets + 1)

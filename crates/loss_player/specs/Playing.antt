@@ -1,5 +1,5 @@
 -- What playing a store owes: the played store and the play report.
-use Rattle.std.specs.Prelude.{◌≡◌, ℕ, ◌+◌, ◌≤◌, List, Some, IfSome, Result, Ok, Err, unwrap_or}
+use Rattle.std.specs.Prelude.{◌≡◌, ℕ, ◌+◌, ◌≤◌, Bool, List, Some, IfSome, Result, Ok, Err, unwrap_or}
 use Rattle.desk_ports.specs.declared.desk.Inlet.TheVariants as inlet
 use Rattle.desk_ports.specs.declared.stop.Stop.{Stop}
 use Rattle.desk_ports.specs.declared.stop.Stop.TheVariants as stop
@@ -16,7 +16,7 @@ use Rattle.loss_player.specs.declared.played.Played.{Played}
 use Rattle.loss_player.specs.declared.played.Tally.{Tally}
 use Rattle.loss_player.specs.declared.fault.PlayFault.{PlayFault}
 use Rattle.loss_player.specs.declared.fault.PlayFault.TheVariants as play
-use Rattle.loss_player.specs.Played.{played_from, played_bytes, played_of, chosen_count, store_numbers}
+use Rattle.loss_player.specs.Played.{times_of, repeated, played_from, played_bytes, played_of, chosen_count, store_numbers}
 use Rattle.loss_player.specs.Tallies.{IsTally, no_tally, tally_of}
 use Rattle.loss_player.specs.Report.{play_report}
 
@@ -65,6 +65,10 @@ unread apid rows = record { reader = opened (Some apid); rows = rows; tally = no
 -- the APID and the rows of one that has read nothing
 abbrev pub player_state : Progress → PlayerState
 player_state s = record { apid = unwrap_or s.reader.chosen 0; rows = s.rows }
+
+-- the copies of a packet of the chosen APID, or of another one, that is read next
+abbrev pub next_copies : Progress → Bool → List ℕ → List ℕ
+next_copies s own packet = repeated (times_of own (copies_of s.rows) s.tally.played.packets) packet
 
 -- the numbers of all packets
 abbrev pub all_numbers : Progress → List ℕ → Played

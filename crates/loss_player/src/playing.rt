@@ -5,9 +5,9 @@ ghost use Rattle.std.specs.Io.KnownBytes.{IsAtEnd};
 ghost use Rattle.desk_ports.specs.Meanings.{IsReadyIn, IsReadyOut, HasWriteCause, Adds, AddsFront, left};
 ghost use Rattle.desk_ports.specs.Courses.{AfterRun, AfterStop, AfterTurn, HasCause, IsAtLast, to_report};
 ghost use Rattle.side_tables.specs.Rows.{copies_of};
-ghost use Rattle.loss_player.specs.Played.{number_behind, played_of, repeated, times_of};
+ghost use Rattle.loss_player.specs.Played.{number_behind, played_of, repeated};
 ghost use Rattle.loss_player.specs.Report.{play_report};
-ghost use Rattle.loss_player.specs.Playing.{KeepsNumbers, all_numbers, rest_course, unread};
+ghost use Rattle.loss_player.specs.Playing.{KeepsNumbers, all_numbers, next_copies, rest_course, unread};
 
 use crate::played::{Played, Tally};
 use crate::report::write_report;
@@ -121,10 +121,8 @@ impl Playing {
         ensures rows { self.new.rows ≡ self.old.rows }
         ensures packets { self.new.tally.played.packets ≡ number_behind chosen self.old.tally.played.packets }
         ensures counted { self.new.tally.played ≡ played_of (copies_of self.new.rows) self.new.tally.played.packets }
-        ensures added { OnOk result (Adds (D.meaning desk.old) (D.meaning desk.new) Outlet.Main
-            (repeated (times_of chosen (copies_of self.old.rows) self.old.tally.played.packets) self.old.reader.packet)) }
-        ensures front { OnErr result (AddsFront (D.meaning desk.old) (D.meaning desk.new) Outlet.Main
-            (repeated (times_of chosen (copies_of self.old.rows) self.old.tally.played.packets) self.old.reader.packet)) }
+        ensures added { OnOk result (Adds (D.meaning desk.old) (D.meaning desk.new) Outlet.Main (next_copies self.old chosen self.old.reader.packet)) }
+        ensures front { OnErr result (AddsFront (D.meaning desk.old) (D.meaning desk.new) Outlet.Main (next_copies self.old chosen self.old.reader.packet)) }
         ensures cause { HasWriteCause (D.counts desk.old) (D.counts desk.new) result }
     {
         let times = if chosen { self.count() } else { 1 };

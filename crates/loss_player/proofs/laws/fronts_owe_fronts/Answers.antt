@@ -11,7 +11,6 @@ use Rattle.loss_player.proofs.laws.fronts_owe_fronts.Goals as goal
 pub returns : goal.returns
 returns c = λ copies apid front rest all.
     let longer = IsLonger-walk_from (length front) (Some apid) 0 0 front rest (omega arith) (omega arith) all in
-    let packets = (walk (Some apid) front).packets in
     let later = played_from (Some apid) copies (number_after (Some apid) 0 (walk (Some apid) front).packets) longer.later in
     let output =
     ap (λ (l : List Packet). packets_bytes (played_from (Some apid) copies 0 l)) longer.joined

@@ -8,7 +8,6 @@ use Rattle.loss_player.proofs.laws.undisturbed_stores_are_unchanged.Goals as goa
 pub returns : goal.returns
 returns c = record {
   unchanged = λ copies apid store once all.
-      let w = walk (Some apid) store in
       let joined = (IsWalk-walk_from (length store) (Some apid) 0 0 store (omega arith) (omega arith) all).joined in
       ap (λ (l : List Packet). packets_bytes l ++ (walk (Some apid) store).rest) (played_from-once (Some apid) copies 0 (walk (Some apid) store).packets once) ∙ joined;
   no_rows = λ t. refl;
