@@ -1,0 +1,8 @@
+mod Tallies
+mod Copies
+mod PlayCourses
+mod KeptNumbers
+mod Players
+mod PlayedPackets
+mod Gaps
+mod PlayedWalks

@@ -1,0 +1,29 @@
+-- The walk over a played store.
+use Rattle.std.proofs.Common.{◌≡◌, ℕ, suc, ◌+◌, ◌^◌, ◌≤◌, List, [], ◌∷◌, length, replicate, All, Option, None, ap, ◌∙◌, arith}
+use Rattle.std.proofs.lemmas.List.Concat.{flat_map-cons}
+use Rattle.std.proofs.lemmas.List.Elements.{All-append, All-replicate}
+use Rattle.packet_store.specs.SpacePackets.{Packet, packet_bytes, is_chosen}
+use Rattle.packet_store.specs.Walks.{IsGood, walk_from, behind_packet, packets_bytes}
+use Rattle.packet_store.proofs.Walks.{walk_from-good, walk_from-none}
+use Rattle.loss_player.specs.Played.{times_of, number_behind, played_from}
+
+-- good packets, one after the other, are walked
+pub walk_from-packets : (chosen : Option ℕ) (taken offset : ℕ) (packets : List Packet) → All (IsGood chosen) packets → taken + length packets ≤ 2 ^ 32
+    → walk_from chosen taken offset (packets_bytes packets) ≡ record { packets = packets; rest = []; ending = None }
+walk_from-packets chosen taken offset [] all few = walk_from-none chosen taken offset
+walk_from-packets chosen taken offset (p ∷ packets) all few =
+    let here : IsGood chosen p = all 0 p (omega arith) in
+    let more : All (IsGood chosen) packets = λ k d within. all (suc k) d (omega arith) in
+    ap (walk_from chosen taken offset) (flat_map-cons packet_bytes p packets)
+    ∙ (walk_from-good chosen taken offset p (packets_bytes packets) here (omega arith)
+    ∙ ap (behind_packet p) (walk_from-packets chosen (taken + 1) (offset + length (packet_bytes p)) packets more (omega arith)))
+
+-- what arrives of good packets is good
+pub good_played : (chosen : Option ℕ) (copies : ℕ → ℕ) (t : ℕ) (packets : List Packet) → All (IsGood chosen) packets → All (IsGood chosen) (played_from chosen copies t packets)
+good_played chosen copies t [] all = all
+good_played chosen copies t (p ∷ packets) all =
+    let here : IsGood chosen p = all 0 p (omega arith) in
+    let more : All (IsGood chosen) packets = λ k d within. all (suc k) d (omega arith) in
+    All-append (IsGood chosen) (replicate (times_of (is_chosen chosen p.header) copies t) p) (played_from chosen copies (number_behind (is_chosen chosen p.header) t) packets)
+    (All-replicate (IsGood chosen) (times_of (is_chosen chosen p.header) copies t) p here)
+    (good_played chosen copies (number_behind (is_chosen chosen p.header) t) packets more)

@@ -1,0 +1,63 @@
+//! The command `play`: from a store to the played store and the play report.
+
+ghost use Rattle.std.specs.Prelude.{◌≡◌, ◌≤◌, IfOk, IfSome};
+ghost use Rattle.desk_ports.specs.Meanings.{IsReadyIn, IsReadyOut, left};
+ghost use Rattle.desk_ports.specs.Courses.{AfterRun, HasCause};
+ghost use Rattle.side_tables.specs.Rows.{copies_of};
+ghost use Rattle.loss_player.specs.Played.{store_numbers};
+ghost use Rattle.loss_player.specs.Playing.{as_run, play_course};
+
+use crate::fault::PlayFault;
+use crate::played::Played;
+use crate::playing::Playing;
+use bit_vectors::NoMemory;
+use desk_ports::{Desk, Inlet, Outlet};
+use side_tables::Script;
+use std::alloc::Global;
+use std::marker::Model;
+
+/// Plays a store through a link: reads it from the main inlet of a desk, and writes each packet to the main outlet as
+/// often as it arrives, and the report. A script says so for the packets of the chosen APID, by their numbers in the
+/// store, and all others arrive once. Contracts see the chosen APID and the rows of the script.
+#[derive(Drop)]
+pub struct Player {
+    playing: Playing,
+}
+
+impl Model for Player {
+    ghost use Rattle.loss_player.specs.Playing.{PlayerState, player_state, IsPlayer};
+
+    ghost Value = { PlayerState };
+
+    ghost view = { λ p. player_state p.playing };
+
+    ghost invariant = { λ p. IsPlayer p.playing };
+}
+
+impl Player {
+    /// A player of packets of a chosen APID, which is no idle one, by this script. It takes all memory of the run.
+    pub fn open(alloc: Global, apid: u16, script: Script) -> Result<Player, NoMemory>
+        requires chosen { apid ≤ 2046 }
+        ensures { IfOk result (λ player. player ≡ record { apid = apid; rows = script }) }
+    {
+        let playing = Playing::open(alloc, apid, script)?;
+        Ok(Player { playing })
+    }
+
+    /// Plays the store, and tells the numbers of the played store. It takes no memory.
+    pub fn play<D: Desk>(self, desk: &mut D) -> Result<Played, PlayFault>
+        requires input { IsReadyIn (D.meaning desk.old) Inlet.Main }
+        requires output { IsReadyOut (D.meaning desk.old) Outlet.Main }
+        requires report { IsReadyOut (D.meaning desk.old) Outlet.Report }
+        // What stands after each answer is what the store owes, all of it or up to where its walk or the desk ends it.
+        ensures ran { AfterRun (play_course (copies_of self.rows) self.apid) (D.meaning desk.old) (D.meaning desk.new) (as_run result) }
+        ensures cause { HasCause (D.counts desk.old) (D.counts desk.new) (as_run result) }
+        // Where the desk tells the store, the numbers are those of its packets and their copies.
+        ensures numbers { IfSome (left (D.meaning desk.old) Inlet.Main) (λ store.
+            IfOk result (λ played. played ≡ store_numbers (copies_of self.rows) self.apid store)) }
+    {
+        let mut playing = self.playing;
+        let played = playing.run(desk)?;
+        Ok(played)
+    }
+}
