@@ -1,3 +1,4 @@
 pub mod Encoder
 pub mod Forms
 pub mod Packets
+pub mod Deliveries
