@@ -3,6 +3,7 @@ pub mod Run
 pub mod Sound
 pub mod Report
 pub mod Told
+pub mod Deliveries
 pub mod Reception
 pub mod Restoring
 pub mod Worked
