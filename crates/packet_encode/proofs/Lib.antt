@@ -1,4 +1,5 @@
 pub mod Bounds
 pub mod Directions
 pub mod Earlier
+pub mod Deliveries
 pub mod OfHistories

@@ -1,11 +1,12 @@
 //! What the definitions of packets mean.
 
-ghost use Rattle.std.specs.Prelude.{◌≡◌, ℕ, ◌+◌, ◌*◌, ◌<◌, ◌≤◌, true, false, [], ◌∷◌, length, Some, None};
+ghost use Rattle.std.specs.Prelude.{◌≡◌, ℕ, ◌↔◌, ◌+◌, ◌*◌, ◌<◌, ◌≤◌, true, false, [], ◌∷◌, length, Contains, Some, None};
 ghost use Rattle.bit_vectors.specs.Vectors.{bits_of, byte_count, padded};
 ghost use Rattle.mask_update.specs.Histories.{History, IsValid, Step, input_at, robust_at, with_step};
 ghost use Rattle.mask_update.specs.Masks.{mask_at};
 ghost use Rattle.packet_encode.specs.Forms.{Fits, Form, IsForm, Whole, Part, form_bits};
 ghost use Rattle.packet_encode.specs.Packets.{AgreeUpTo, form_at, packet_at};
+ghost use Rattle.packet_encode.specs.Deliveries.{IsLatestWritten, Listed, WrittenAt, count_to_last, is_written, latest_written, listed_numbers, written_numbers};
 ghost use Rattle.robust_window.specs.Worked.{worked};
 
 /// The packet of each step of a valid history has a form, which fits the mask.
@@ -36,6 +37,27 @@ pub fn packets_of_the_past()
         packet_at (with_step h step) t ≡ packet_at h t }
     ensures same { (h other : History) (t : ℕ) → t < length h.steps → AgreeUpTo h other t →
         packet_at h t ≡ packet_at other t }
+{}
+
+/// A packet is written exactly where it arrives and either it carries the mask and the whole content, or no more packets
+/// are unwritten since the latest written one than its effective robustness level; and the latest written one is the
+/// greatest number before it that is written.
+pub fn written_packets()
+    ensures is { (h : History) (copies : ℕ → ℕ) (t : ℕ) → (is_written h copies t ≡ true) ↔ WrittenAt h copies t }
+    ensures latest { (h : History) (copies : ℕ → ℕ) (t latest : ℕ) →
+        (latest_written h copies t ≡ Some latest) ↔ IsLatestWritten h copies t latest }
+    ensures none { (h : History) (copies : ℕ → ℕ) (t : ℕ) →
+        (latest_written h copies t ≡ None) ↔ ((s : ℕ) → s < t → WrittenAt h copies s → ⊥) }
+{}
+
+/// A packet is listed exactly where it is one up to the last arrival and not written; so each of these is either written
+/// or listed, and no other is either.
+pub fn listed_packets()
+    ensures written { (h : History) (copies : ℕ → ℕ) (t : ℕ) →
+        Contains (written_numbers h copies) t ↔ ((t < length h.steps) × WrittenAt h copies t) }
+    ensures listed { (h : History) (copies : ℕ → ℕ) (t : ℕ) → Contains (listed_numbers h copies) t ↔ Listed h copies t }
+    ensures heard { (h : History) (copies : ℕ → ℕ) (t : ℕ) → t < length h.steps → WrittenAt h copies t →
+        t < count_to_last copies (length h.steps) }
 {}
 
 /// A packet of a worked history: place 7 leaves the mask at the second new mask, and is extracted all the same.
