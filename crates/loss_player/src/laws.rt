@@ -13,6 +13,8 @@ ghost use Rattle.loss_player.specs.Report.{header_row, play_report};
 ghost use Rattle.loss_player.specs.Playing.{play_course};
 ghost use Rattle.loss_player.specs.Worked.{copies_from, worked_store};
 
+use packet_store::WalkFault;
+
 /// Where each packet arrives once, the played store is the store, up to where its walk ends. A script without rows
 /// says so.
 pub fn undisturbed_stores_are_unchanged()
@@ -31,12 +33,16 @@ pub fn packets_arrive_by_their_copies()
         ≡ filter (λ p. not (is_chosen (Some apid) p.header)) (walk (Some apid) store).packets }
 {}
 
-/// A played store is whole, and its walk has the packets that arrive, in their order.
+/// A played store is whole, and its walk has the packets that arrive, in their order. More packets than a store may have
+/// are too many.
 pub fn played_stores_are_walked()
-    ensures { (copies : ℕ → ℕ) (apid : ℕ) (store : List ℕ) → All (λ b. b < 256) store
+    ensures whole { (copies : ℕ → ℕ) (apid : ℕ) (store : List ℕ) → All (λ b. b < 256) store
         → length (played_packets copies apid store) ≤ 2 ^ 32
         → walk (Some apid) (played_bytes copies apid store)
         ≡ record { packets = played_packets copies apid store; rest = []; ending = None } }
+    ensures too_many { (copies : ℕ → ℕ) (apid : ℕ) (store : List ℕ) → All (λ b. b < 256) store
+        → 2 ^ 32 < length (played_packets copies apid store)
+        → (walk (Some apid) (played_bytes copies apid store)).ending ≡ Some WalkFault.TooMany }
 {}
 
 /// What a whole store owes is the played store and the report of its numbers.
