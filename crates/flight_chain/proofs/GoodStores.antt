@@ -26,7 +26,7 @@ some_bits form =
     omega (arith, ap length (form_bits-is form), length-append (change_bits form) (data_bits form.sent form.content), some_data form.sent form.content)
 
 -- the packet of a step is that of a Space Packet
-IsPacket-at : (h : History) (apid t : ℕ) → IsValid h → apid ≤ 2046 → t < length h.steps → IsPacket apid (numbered_data h t).0 (numbered_data h t).1
+pub IsPacket-at : (h : History) (apid t : ℕ) → IsValid h → apid ≤ 2046 → t < length h.steps → IsPacket apid (numbered_data h t).0 (numbered_data h t).1
 IsPacket-at h apid t valid chosen lt =
     let bits = form_bits (form_at h t) in
     let size = length-vector_bytes (form_bits (form_at h t)) in

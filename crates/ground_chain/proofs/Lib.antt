@@ -8,3 +8,4 @@ mod Writings
 mod RestCourses
 mod KeptNumbers
 mod Restorations
+pub mod PlayedHistories

@@ -4,6 +4,7 @@
 mod arrivals;
 mod fault;
 mod laws;
+mod played;
 mod report;
 mod restored;
 mod restorer;
@@ -18,6 +19,7 @@ pub use laws::{
     numbers_rise, one_exact_run, repeats_change_nothing, runs_grow, sound_runs_agree,
     whole_stores_owe_their_run, worked_runs,
 };
+pub use played::played_histories_arrive;
 pub use restored::Restored;
 pub use restorer::Restorer;
 pub use unwrap::Unwrap;

@@ -5,4 +5,4 @@ mod KeptNumbers
 mod Players
 mod PlayedPackets
 mod Gaps
-mod PlayedWalks
+pub mod PlayedWalks
