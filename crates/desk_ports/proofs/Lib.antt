@@ -4,3 +4,4 @@ pub mod Courses
 pub mod Logs
 pub mod Readings
 pub mod Held
+pub mod KeptInputs
