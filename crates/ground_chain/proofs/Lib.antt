@@ -6,5 +6,4 @@ mod Counted
 mod Receptions
 mod Writings
 mod RestCourses
-mod KeptNumbers
 mod Restorations
