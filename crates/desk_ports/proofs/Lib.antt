@@ -1,6 +1,8 @@
 pub mod Transfers
 pub mod Runs
 pub mod Courses
+pub mod GoesOn
 pub mod Logs
 pub mod Readings
 pub mod Held
+pub mod KeptInputs

@@ -95,6 +95,10 @@ pub record Reaches {F : Type 0} (course_of here : List ℕ → Course F) (old ne
   pub ran : Ran old new taken stand.output stand.report
   pub goes_on : (rest : List ℕ) → course_of (taken ++ rest) ≡ behind stand (here rest)
 
+-- What one function gives of the bytes still to come, the other gives of those that are left, where the desk tells them.
+abbrev pub GoesOn : {A : Type 0} → (List ℕ → A) → (List ℕ → A) → Meanings → Meanings → Type 0
+GoesOn here next old new = IfSome (left old inlet.Main) (λ bytes. (rest : List ℕ) × (left new inlet.Main ≡ Some rest) × (here bytes ≡ next rest))
+
 -- the end of a whole input was met: what stands is all that is owed but this last part
 pub record IsAtLast {F : Type 0} (course_of : List ℕ → Course F) (old new : Meanings) (last : Outputs) : Type 0 where
   pub input : List ℕ

@@ -5,3 +5,5 @@ pub mod FileDesk
 pub mod Log
 pub mod MemState
 pub mod MemDesk
+pub mod QuietState
+pub mod QuietDesk

@@ -1,11 +1,13 @@
 //! What the definitions of a desk's calls mean together.
 
-ghost use Rattle.std.specs.Prelude.{◌≡◌, ◌++◌, ℕ, List, Option, Some, IsSome, IfSome};
+ghost use Rattle.std.specs.Prelude.{◌≡◌, ◌++◌, ℕ, List, Option, Some, Result, IsSome, IfSome, IsOk};
 ghost use Rattle.std.specs.Io.KnownBytes.{append_known};
+ghost use Rattle.desk_ports.specs.declared.desk.Failed.{Failed};
 ghost use Rattle.desk_ports.specs.declared.desk.Inlet.{Inlet};
 ghost use Rattle.desk_ports.specs.declared.desk.Outlet.{Outlet};
-ghost use Rattle.desk_ports.specs.Meanings.{Meanings, Moves, Adds, Keeps, Opens, left, made, outgoing};
+ghost use Rattle.desk_ports.specs.Meanings.{Meanings, Moves, Adds, Keeps, Opens, Rose, HasReadCause, HasWriteCause, left, made, outgoing};
 ghost use Rattle.desk_ports.specs.Courses.{Course, Ends, owed};
+ghost use Rattle.desk_ports.specs.QuietState.{QuietState, quiet_meanings, quiet_counts};
 
 /// Two reads are one read of both pieces, and two writes one write.
 pub fn pieces_join()
@@ -30,4 +32,13 @@ pub fn runs_follow_their_course<F>()
         → (made b Outlet.Main ≡ append_known (made a Outlet.Main) (owed (course_of input)).output)
         × (made b Outlet.Report ≡ append_known (made a Outlet.Report) (owed (course_of input)).report)
         × ((course_of input).ending ≡ ending) }
+{}
+
+/// At a quiet desk neither count ever rises, so no call fails there; and the bytes still to come at an inlet are told.
+pub fn quiet_desks_never_fail<T>()
+    ensures reads { (old new : QuietState) → Rose (quiet_counts old).reads (quiet_counts new).reads → ⊥ }
+    ensures writes { (old new : QuietState) → Rose (quiet_counts old).writes (quiet_counts new).writes → ⊥ }
+    ensures read { (old new : QuietState) (answer : Result T Failed) → HasReadCause (quiet_counts old) (quiet_counts new) answer → IsOk answer }
+    ensures written { (old new : QuietState) (answer : Result T Failed) → HasWriteCause (quiet_counts old) (quiet_counts new) answer → IsOk answer }
+    ensures told { (desk : QuietState) (inlet : Inlet) → IsSome (left (quiet_meanings desk) inlet) }
 {}

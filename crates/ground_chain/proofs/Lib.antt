@@ -6,6 +6,5 @@ mod Counted
 mod Receptions
 mod Writings
 mod RestCourses
-mod KeptNumbers
 mod Restorations
 pub mod PlayedHistories

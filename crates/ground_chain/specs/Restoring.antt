@@ -1,11 +1,10 @@
 -- What restoring a store owes: the run over its packets of the chosen APID.
-use Rattle.std.specs.Prelude.{◌≡◌, ℕ, ◌*◌, ◌^◌, ◌≤◌, List, [], ◌++◌, map, Option, Some, IfSome, Result, Ok, Err, unwrap_or}
+use Rattle.std.specs.Prelude.{◌≡◌, ℕ, ◌*◌, ◌^◌, ◌≤◌, List, [], ◌++◌, map, Option, Some, Result, Ok, Err, unwrap_or}
 use Rattle.std.specs.List.{filter}
 use Rattle.bit_vectors.specs.Vectors.{byte_count}
-use Rattle.desk_ports.specs.declared.desk.Inlet.TheVariants as inlet
 use Rattle.desk_ports.specs.declared.stop.Stop.{Stop}
 use Rattle.desk_ports.specs.declared.stop.Stop.TheVariants as stop
-use Rattle.desk_ports.specs.Meanings.{Meanings, left}
+use Rattle.desk_ports.specs.Meanings.{Meanings}
 use Rattle.desk_ports.specs.Runs.{Ran}
 use Rattle.desk_ports.specs.Courses.{Outputs, Course, AreFronts, to_report}
 use Rattle.packet_store.specs.declared.fault.WalkFault.{WalkFault}
@@ -108,10 +107,6 @@ pub record WroteFront (old new : Meanings) (all : Outputs) : Type 0 where
   pub stand : Outputs
   pub wrote : Wrote old new stand
   pub fronts : AreFronts stand all
-
--- the numbers of all arrivals stay the same as the store is read on, where the desk tells it
-abbrev pub KeepsNumbers : Progress → Progress → Meanings → Meanings → Type 0
-KeepsNumbers s t old new = IfSome (left old inlet.Main) (λ store. (rest : List ℕ) × (left new inlet.Main ≡ Some rest) × (all_restored s store ≡ all_restored t rest))
 
 -- the line has room for a vector, and the numbers are within their limits
 pub record IsRestoring (reader : ReaderState) (reception : Reception) (restored : Restored) (room : ℕ) : Type 0 where

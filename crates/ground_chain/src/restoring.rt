@@ -5,11 +5,11 @@ ghost use Rattle.std.specs.Io.KnownBytes.{IsAtEnd};
 ghost use Rattle.desk_ports.specs.Meanings.{IsReadyIn, IsReadyOut, HasWriteCause, Adds, AddsFront, left};
 ghost use Rattle.bit_vectors.specs.Vectors.{vector_bytes};
 ghost use Rattle.packet_decode.specs.Decoding.{content_of};
-ghost use Rattle.desk_ports.specs.Courses.{AfterRun, AfterStop, AfterTurn, HasCause, IsAtLast, behind, to_report};
+ghost use Rattle.desk_ports.specs.Courses.{AfterRun, AfterStop, AfterTurn, GoesOn, HasCause, IsAtLast, behind, to_report};
 ghost use Rattle.ground_chain.specs.Numbers.{expected};
 ghost use Rattle.ground_chain.specs.Report.{added, end_row, header_row, restored_by};
 ghost use Rattle.ground_chain.specs.Reception.{known_by, next_judged};
-ghost use Rattle.ground_chain.specs.Restoring.{KeepsNumbers, Wrote, WroteFront, all_restored, judged_outputs, rest_course, unread};
+ghost use Rattle.ground_chain.specs.Restoring.{Wrote, WroteFront, all_restored, judged_outputs, rest_course, unread};
 
 use crate::arrivals::Ground;
 use crate::report::{HEADER, end_row, rows_of};
@@ -108,7 +108,7 @@ impl Restoring {
         requires report { IsReadyOut (D.meaning desk.old) Outlet.Report }
         ensures turned { AfterTurn (rest_course self.old) (rest_course self.new) (to_report (end_row self.new.restored)) (D.meaning desk.old) (D.meaning desk.new) result }
         ensures cause { HasCause (D.counts desk.old) (D.counts desk.new) result }
-        ensures numbers { OnOk result (KeepsNumbers self.old self.new (D.meaning desk.old) (D.meaning desk.new)) }
+        ensures numbers { OnOk result (GoesOn (all_restored self.old) (all_restored self.new) (D.meaning desk.old) (D.meaning desk.new)) }
         ensures last { result ≡ Ok false → IsAtEnd (left (D.meaning desk.new) Inlet.Main) }
         ensures live { result ≡ Ok true → IsTrue self.new.reader.live }
         ensures few { result ≡ Ok true → self.old.reader.taken < 2 ^ 32 }

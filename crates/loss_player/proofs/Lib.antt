@@ -1,7 +1,6 @@
 mod Tallies
 mod Copies
 mod PlayCourses
-mod KeptNumbers
 mod Players
 mod PlayedPackets
 mod Gaps

@@ -1,9 +1,7 @@
 -- What playing a store owes: the played store and the play report.
-use Rattle.std.specs.Prelude.{◌≡◌, ℕ, ◌+◌, ◌≤◌, Bool, List, Some, IfSome, Result, Ok, Err, unwrap_or}
-use Rattle.desk_ports.specs.declared.desk.Inlet.TheVariants as inlet
+use Rattle.std.specs.Prelude.{◌≡◌, ℕ, ◌+◌, ◌≤◌, Bool, List, Some, Result, Ok, Err, unwrap_or}
 use Rattle.desk_ports.specs.declared.stop.Stop.{Stop}
 use Rattle.desk_ports.specs.declared.stop.Stop.TheVariants as stop
-use Rattle.desk_ports.specs.Meanings.{Meanings, left}
 use Rattle.desk_ports.specs.Courses.{Course, to_output, to_report}
 use Rattle.side_tables.specs.declared.rows.CopyRow.{CopyRow}
 use Rattle.side_tables.specs.Rows.{copies_of}
@@ -81,10 +79,6 @@ rest_course s bytes = record {
   after = to_report (play_report (all_numbers s bytes));
   ending = (walk_on s.reader bytes).ending;
 }
-
--- the numbers of all packets stay the same as the store is read on, where the desk tells it
-abbrev pub KeepsNumbers : Progress → Progress → Meanings → Meanings → Type 0
-KeepsNumbers s t old new = IfSome (left old inlet.Main) (λ store. (rest : List ℕ) × (left new inlet.Main ≡ Some rest) × (all_numbers s store ≡ all_numbers t rest))
 
 -- the numbers so far are those of the packets so far, and within their limits
 pub record IsPlaying (reader : ReaderState) (rows : List CopyRow) (tally : Tally) : Type 0 where

@@ -3,11 +3,11 @@
 ghost use Rattle.std.specs.Prelude.{◌≡◌, ◌+◌, ◌^◌, ◌<◌, ◌≤◌, true, false, IsTrue, length, if◌then◌else◌, Ok, IfOk, IfErr, IfSome, OnOk, OnErr};
 ghost use Rattle.std.specs.Io.KnownBytes.{IsAtEnd};
 ghost use Rattle.desk_ports.specs.Meanings.{IsReadyIn, IsReadyOut, HasWriteCause, Adds, AddsFront, left};
-ghost use Rattle.desk_ports.specs.Courses.{AfterRun, AfterStop, AfterTurn, HasCause, IsAtLast, to_report};
+ghost use Rattle.desk_ports.specs.Courses.{AfterRun, AfterStop, AfterTurn, GoesOn, HasCause, IsAtLast, to_report};
 ghost use Rattle.side_tables.specs.Rows.{copies_of};
 ghost use Rattle.loss_player.specs.Played.{number_behind, played_of, repeated};
 ghost use Rattle.loss_player.specs.Report.{play_report};
-ghost use Rattle.loss_player.specs.Playing.{KeepsNumbers, all_numbers, next_copies, rest_course, unread};
+ghost use Rattle.loss_player.specs.Playing.{all_numbers, next_copies, rest_course, unread};
 
 use crate::played::{Played, Tally};
 use crate::report::write_report;
@@ -95,7 +95,7 @@ impl Playing {
         requires report { IsReadyOut (D.meaning desk.old) Outlet.Report }
         ensures turned { AfterTurn (rest_course self.old) (rest_course self.new) (to_report (play_report self.new.tally.played)) (D.meaning desk.old) (D.meaning desk.new) result }
         ensures cause { HasCause (D.counts desk.old) (D.counts desk.new) result }
-        ensures numbers { OnOk result (KeepsNumbers self.old self.new (D.meaning desk.old) (D.meaning desk.new)) }
+        ensures numbers { OnOk result (GoesOn (all_numbers self.old) (all_numbers self.new) (D.meaning desk.old) (D.meaning desk.new)) }
         ensures counted { self.new.tally.played ≡ played_of (copies_of self.new.rows) self.new.tally.played.packets }
         ensures last { result ≡ Ok false → IsAtEnd (left (D.meaning desk.new) Inlet.Main) }
         ensures live { result ≡ Ok true → IsTrue self.new.reader.live }

@@ -8,11 +8,11 @@ use Rattle.desk_ports.proofs.Transfers.{prepend_known-none}
 use Rattle.packet_store.specs.Faults.{stop_of}
 use Rattle.packet_store.specs.StoreReader.{ReaderState, stopped}
 use Rattle.packet_store.proofs.StoreCourses.{AfterStop-fault}
-use Rattle.ground_chain.proofs.KeptNumbers.{numbers_read}
-use Rattle.desk_ports.specs.Courses.{AfterStop, IsAtLast, IsCutShort, Reaches, to_report}
+use Rattle.desk_ports.specs.Courses.{AfterStop, GoesOn, IsAtLast, IsCutShort, Reaches, to_report}
+use Rattle.desk_ports.proofs.GoesOn.{GoesOn-moves}
 use Rattle.desk_ports.proofs.Courses.{IsAtLast-end, Reaches-moves}
 use Rattle.ground_chain.specs.Report.{end_row}
-use Rattle.ground_chain.specs.Restoring.{KeepsNumbers, Progress, all_restored, rest_course}
+use Rattle.ground_chain.specs.Restoring.{Progress, all_restored, rest_course}
 use Rattle.ground_chain.proofs.RestCourses.{judged_numbers, passed_numbers, rest_follows, Judges, passed_course, rest_course-none, IsCutShort-judged, Reaches-judged}
 use Rattle.ground_chain.proofs.restoring.Restoring.turn.Goals as goal
 
@@ -35,8 +35,8 @@ returns-in_default-clause-numbers g c =
     let t : Progress = record { reader = c.next.new.self; reception = c.self.inside.arrivals; restored = c.self.inside.restored } in
     let moved : Moves a b inlet.Main [] = search rules in
     let at_end : c.next.new.self ≡ stopped c.self.inside.reader = search rules in
-    let numbers = numbers_read s t a b [] moved.moved (λ rest. ap (λ (r : ReaderState). all_restored (record { reader = r; reception = c.self.inside.arrivals; restored = c.self.inside.restored }) rest) (sym at_end)) in
-    subst (λ (p : Progress). KeepsNumbers p t a b) c.self.view_is numbers
+    let numbers = GoesOn-moves (all_restored s) (all_restored t) a b [] moved.moved (λ rest. ap (λ (r : ReaderState). all_restored (record { reader = r; reception = c.self.inside.arrivals; restored = c.self.inside.restored }) rest) (sym at_end)) in
+    subst (λ (p : Progress). GoesOn (all_restored p) (all_restored t) a b) c.self.view_is numbers
 
 pub returns-in-Ok-clause-numbers : goal.returns-in-Ok-clause-numbers
 returns-in-Ok-clause-numbers g c =
@@ -53,8 +53,8 @@ returns-in-Ok-clause-numbers g c =
     } in
     let same = c.in-Ok.ensures.wrote.input ∙ sym (prepend_known-none (left d inlet.Main)) in
     let moved = told.some.moved.moved ∙ ap (prepend_known c.next.new.self.packet) same in
-    let numbers = numbers_read s c.arrive.new.self a d c.next.new.self.packet moved (λ rest. judged_numbers s c.arrive.new.self c.next.new.self a b c.in-Some.taken told.some c.if-taken.true is rest) in
-    subst (λ (p : Progress). KeepsNumbers p c.arrive.new.self a d) c.self.view_is numbers
+    let numbers = GoesOn-moves (all_restored s) (all_restored c.arrive.new.self) a d c.next.new.self.packet moved (λ rest. judged_numbers s c.arrive.new.self c.next.new.self a b c.in-Some.taken told.some c.if-taken.true is rest) in
+    subst (λ (p : Progress). GoesOn (all_restored p) (all_restored c.arrive.new.self) a d) c.self.view_is numbers
 
 pub returns-else-taken-clause-numbers : goal.returns-else-taken-clause-numbers
 returns-else-taken-clause-numbers g c =
@@ -63,8 +63,8 @@ returns-else-taken-clause-numbers g c =
     let s : Progress = record { reader = c.self.inside.reader; reception = c.self.inside.arrivals; restored = c.self.inside.restored } in
     let t : Progress = record { reader = c.next.new.self; reception = c.self.inside.arrivals; restored = c.self.inside.restored } in
     let told = rw c.in-Some.is at c.in_ok-taken.ensures in
-    let numbers = numbers_read s t a b c.next.new.self.packet told.some.moved.moved (λ rest. passed_numbers s c.next.new.self a b c.in-Some.taken told.some c.if-taken.false rest) in
-    subst (λ (p : Progress). KeepsNumbers p t a b) c.self.view_is numbers
+    let numbers = GoesOn-moves (all_restored s) (all_restored t) a b c.next.new.self.packet told.some.moved.moved (λ rest. passed_numbers s c.next.new.self a b c.in-Some.taken told.some c.if-taken.false rest) in
+    subst (λ (p : Progress). GoesOn (all_restored p) (all_restored t) a b) c.self.view_is numbers
 
 pub returns-in_default-clause-turned : goal.returns-in_default-clause-turned
 returns-in_default-clause-turned g c =

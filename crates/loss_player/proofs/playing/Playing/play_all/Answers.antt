@@ -1,12 +1,13 @@
-use Rattle.std.proofs.Common.{refl, ◌∙◌, arith}
+use Rattle.std.proofs.Common.{refl, sym, ◌∙◌, arith}
 use Rattle.std.proofs.lemmas.Result.{err_from_is_err_and}
 use Rattle.desk_ports.specs.declared.desk.Outlet.TheVariants as outlet
 use Rattle.desk_ports.specs.Courses.{Reaches, to_report}
 use Rattle.desk_ports.proofs.Runs.{Ran-ready_in, Ran-ready_out}
+use Rattle.desk_ports.proofs.GoesOn.{GoesOn-none, GoesOn-then, GoesOn-end}
 use Rattle.desk_ports.proofs.Courses.{Reaches-none, Reaches-then, AfterStop-behind, IsAtLast-behind}
 use Rattle.loss_player.specs.Report.{play_report}
-use Rattle.loss_player.specs.Playing.{rest_course}
-use Rattle.loss_player.proofs.KeptNumbers.{numbers_none, numbers_then, numbers_end}
+use Rattle.loss_player.specs.Playing.{all_numbers, rest_course}
+use Rattle.loss_player.proofs.PlayCourses.{rest_numbers-none}
 use Rattle.loss_player.proofs.playing.Playing.play_all.Goals as goal
 
 pub turns-init : goal.turns-init
@@ -16,7 +17,7 @@ turns-init g c =
       live = c.requires.live;
       few = c.requires.few;
       reaches = Reaches-none (rest_course c.args.self.now) m;
-      numbers = numbers_none c.args.self.now m;
+      numbers = GoesOn-none (all_numbers c.args.self.now) m;
       input = c.requires.input;
       output = c.requires.output;
       report = c.requires.report;
@@ -45,7 +46,7 @@ turns-preserved g c =
       live = told.live refl;
       few = omega (arith, told.taken refl, told.few refl);
       reaches = Reaches-then (rest_course c.args.self.now) (rest_course c.turns.self) (rest_course c.turn.new.self) a b d kept.reaches reaches;
-      numbers = numbers_then c.args.self.now c.turns.self c.turn.new.self a b d kept.numbers told.numbers;
+      numbers = GoesOn-then (all_numbers c.args.self.now) (all_numbers c.turns.self) (all_numbers c.turn.new.self) a b d kept.numbers told.numbers;
       input = Ran-ready_in b d _ _ _ reaches.ran kept.input;
       output = Ran-ready_out b d outlet.Main _ _ _ reaches.ran kept.output;
       report = Ran-ready_out b d outlet.Report _ _ _ reaches.ran kept.report;
@@ -66,4 +67,4 @@ returns-clause-numbers g c =
     let b = g.D.Desk.meaning c.turns.desk in
     let d = g.D.Desk.meaning c.turn.new.desk in
     let told = rw c.if-branch.false at c.in_ok-turn.ensures in
-    numbers_end c.args.self.now c.turn.new.self a d (numbers_then c.args.self.now c.turns.self c.turn.new.self a b d c.turns.invariant.numbers told.numbers) (told.last refl) c.turn.ensures.counted
+    GoesOn-end (all_numbers c.args.self.now) (all_numbers c.turn.new.self) a d c.turn.new.self.tally.played (GoesOn-then (all_numbers c.args.self.now) (all_numbers c.turns.self) (all_numbers c.turn.new.self) a b d c.turns.invariant.numbers told.numbers) (told.last refl) (rest_numbers-none c.turn.new.self ∙ sym c.turn.ensures.counted)

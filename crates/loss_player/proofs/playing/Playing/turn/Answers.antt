@@ -2,16 +2,16 @@ use Rattle.std.proofs.Common.{◌≡◌, ◌∙◌, [], sym, ap, subst, rules}
 use Rattle.std.specs.Io.KnownBytes.{IsAtEnd, prepend_known}
 use Rattle.std.proofs.lemmas.Result.{err_from_is_err_and}
 use Rattle.desk_ports.specs.declared.desk.Inlet.TheVariants as inlet
-use Rattle.desk_ports.specs.Meanings.{Moves, left}
-use Rattle.desk_ports.specs.Courses.{AfterStop, IsAtLast, IsCutShort, Reaches, to_report}
+use Rattle.desk_ports.specs.Meanings.{Meanings, Moves, left}
+use Rattle.desk_ports.specs.Courses.{AfterStop, GoesOn, IsAtLast, IsCutShort, Reaches, to_report}
+use Rattle.desk_ports.proofs.GoesOn.{GoesOn-moves}
 use Rattle.desk_ports.proofs.Courses.{IsAtLast-end}
 use Rattle.packet_store.specs.Faults.{stop_of}
 use Rattle.packet_store.specs.StoreReader.{ReaderState, stopped}
 use Rattle.packet_store.proofs.StoreCourses.{AfterStop-fault}
 use Rattle.loss_player.specs.declared.played.Tally.{Tally}
 use Rattle.loss_player.specs.Report.{play_report}
-use Rattle.loss_player.specs.Playing.{KeepsNumbers, Progress, all_numbers, rest_course}
-use Rattle.loss_player.proofs.KeptNumbers.{numbers_read, numbers_wrote}
+use Rattle.loss_player.specs.Playing.{Progress, all_numbers, rest_course}
 use Rattle.loss_player.proofs.PlayCourses.{Counts, IsCutShort-played, Reaches-played, rest_course-none, rest_follows, taken_numbers}
 use Rattle.loss_player.proofs.playing.Playing.turn.Goals as goal
 
@@ -44,8 +44,8 @@ returns-in_default-clause-numbers g c =
     let t : Progress = record { reader = c.next.new.self; rows = c.self.inside.script; tally = c.self.inside.tally } in
     let moved : Moves a b inlet.Main [] = search rules in
     let at_end : c.next.new.self ≡ stopped c.self.inside.reader = search rules in
-    let numbers = numbers_read s t a b [] moved.moved (λ rest. ap (λ (r : ReaderState). all_numbers (record { reader = r; rows = c.self.inside.script; tally = c.self.inside.tally }) rest) (sym at_end)) in
-    subst (λ (p : Progress). KeepsNumbers p t a b) c.self.view_is numbers
+    let numbers = GoesOn-moves (all_numbers s) (all_numbers t) a b [] moved.moved (λ rest. ap (λ (r : ReaderState). all_numbers (record { reader = r; rows = c.self.inside.script; tally = c.self.inside.tally }) rest) (sym at_end)) in
+    subst (λ (p : Progress). GoesOn (all_numbers p) (all_numbers t) a b) c.self.view_is numbers
 
 pub returns-in_default-deliver-clause-turned : goal.returns-in_default-deliver-clause-turned
 returns-in_default-deliver-clause-turned g c =
@@ -87,6 +87,6 @@ returns-clause-numbers g c =
       rows = c.deliver.ensures.rows;
       packets = c.deliver.ensures.packets;
     } in
-    let moved = told.some.moved.moved ∙ ap (prepend_known c.next.new.self.packet) (numbers_wrote b d _ c.in-Ok.ensures.added) in
-    let numbers = numbers_read s c.deliver.new.self a d c.next.new.self.packet moved (λ rest. taken_numbers s c.deliver.new.self c.next.new.self a b c.in-Some.taken told.some is rest) in
-    subst (λ (p : Progress). KeepsNumbers p c.deliver.new.self a d) c.self.view_is numbers
+    let moved = told.some.moved.moved ∙ ap (prepend_known c.next.new.self.packet) (sym (ap (λ (m : Meanings). left m inlet.Main) c.in-Ok.ensures.added.others)) in
+    let numbers = GoesOn-moves (all_numbers s) (all_numbers c.deliver.new.self) a d c.next.new.self.packet moved (λ rest. taken_numbers s c.deliver.new.self c.next.new.self a b c.in-Some.taken told.some is rest) in
+    subst (λ (p : Progress). GoesOn (all_numbers p) (all_numbers c.deliver.new.self) a d) c.self.view_is numbers
