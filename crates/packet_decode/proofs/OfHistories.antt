@@ -15,7 +15,8 @@ use Rattle.packet_encode.proofs.OfHistories.{form_at-fits, form_at-is_form, form
 use Rattle.packet_decode.specs.declared.decoder.Reading.TheVariants.{Written, Unsynced, Gap}
 use Rattle.packet_decode.specs.State.{InReach, IsState}
 use Rattle.packet_decode.specs.Spelling.{Follows, HasOpaqueFront, IsSentOf, Spells, StandsAlone, opaque_end}
-use Rattle.packet_decode.specs.Histories.{CarriesBoth, IsUnderstood, state_of, written_at}
+use Rattle.packet_encode.specs.Deliveries.{CarriesBoth}
+use Rattle.packet_decode.specs.Histories.{IsUnderstood, state_of, written_at}
 use Rattle.packet_decode.specs.PacketReading.{answer_of}
 use Rattle.packet_decode.proofs.OneAnswer.{says_answer}
 use Rattle.packet_decode.proofs.WindowContent.{content-kept}

@@ -24,8 +24,8 @@ count_to_last copies n = count_up_to (last_or None (arrivals copies n))
 -- ---- what is written
 
 -- the packet carries the mask and the whole content
-abbrev pub carries_all : Flags → Bool
-carries_all flags = flags.f && flags.r
+abbrev pub carries_both : Flags → Bool
+carries_both flags = flags.f && flags.r
 
 -- No more packets are unwritten since the latest written one than the level says. Where none was written, this doesn't hold.
 abbrev pub reaches : Option ℕ → ℕ → ℕ → Bool
@@ -34,7 +34,7 @@ reaches (Some latest) t level = nat_le (t - 1 - latest) level
 
 -- whether the packet t is written, where this is the latest one written before it
 abbrev pub is_written_behind : Option ℕ → History → (ℕ → ℕ) → ℕ → Bool
-is_written_behind latest h copies t = nat_lt 0 (copies t) && (carries_all (flags_at h t) || reaches latest t (level_at h t))
+is_written_behind latest h copies t = nat_lt 0 (copies t) && (carries_both (flags_at h t) || reaches latest t (level_at h t))
 
 -- the latest written one of the first t packets
 unfoldable pub latest_written : History → (ℕ → ℕ) → ℕ → Option ℕ
@@ -51,7 +51,10 @@ is_written h copies t = is_written_behind (latest_written h copies t) h copies t
 abbrev pub written_numbers : History → (ℕ → ℕ) → List ℕ
 written_numbers h copies = filter (is_written h copies) (range_with_len 0 (length h.steps))
 
--- the same as a fact, in two parts
+-- the same as facts
+abbrev pub CarriesBoth : History → ℕ → Type 0
+CarriesBoth h t = ((flags_at h t).f ≡ true) × ((flags_at h t).r ≡ true)
+
 abbrev pub IsReached : Option ℕ → ℕ → ℕ → Type 0
 IsReached None t level = ⊥
 IsReached (Some latest) t level = t - 1 - latest ≤ level
@@ -60,7 +63,7 @@ IsReached (Some latest) t level = t - 1 - latest ≤ level
 -- latest written one than its effective robustness level.
 pub record WrittenAt (h : History) (copies : ℕ → ℕ) (t : ℕ) : Type 0 where
   pub arrives : 1 ≤ copies t
-  pub known : (carries_all (flags_at h t) ≡ true) ⊎ IsReached (latest_written h copies t) t (level_at h t)
+  pub known : CarriesBoth h t ⊎ IsReached (latest_written h copies t) t (level_at h t)
 
 -- the packet is the latest written one of the first t
 pub record IsLatestWritten (h : History) (copies : ℕ → ℕ) (t latest : ℕ) : Type 0 where
