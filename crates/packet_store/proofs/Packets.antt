@@ -4,7 +4,7 @@ use Rattle.std.proofs.lemmas.List.{get_or_default, length-take-le, take-append-d
 use Rattle.std.proofs.lemmas.List.Elements.{All-take, All-drop}
 use Rattle.std.proofs.lemmas.Grind.{common_steps}
 use Rattle.packet_store.specs.declared.header.Header.{Header}
-use Rattle.packet_store.specs.SpacePackets.{IsHeader, IsPacket, Packet, bit, header_of, header_at, packet_bytes, plain_header, plain_packet, space_packet, is_chosen, is_misshapen}
+use Rattle.packet_store.specs.SpacePackets.{IsHeader, IsPacket, Packet, bit, header_of, header_at, packet_bytes, plain_header, plain_packet, is_misshapen}
 use Rattle.packet_store.specs.Walks.{IsGood, Good, by_checks, front_after, front}
 
 is_one : (n : ℕ) → n ≡ 1 → (n == 1) ≡ true
@@ -126,24 +126,6 @@ IsGood-plain chosen apid count body packet = record {
   whole = omega (arith, packet.some);
   bytes = packet.bytes;
 }
-
--- equal bytes begin with equal packets of the one shape and of an APID
-pub space_packet-same : (apid count other_count : ℕ) (body rest other_body other_rest : List ℕ) → IsPacket apid count body → IsPacket apid other_count other_body → space_packet apid count body ++ rest ≡ space_packet apid other_count other_body ++ other_rest → (count ≡ other_count) × (body ≡ other_body) × (rest ≡ other_rest)
-space_packet-same apid count other_count body rest other_body other_rest packet other e =
-    let same = packet_bytes-same None (plain_packet apid count body) (plain_packet apid other_count other_body) rest other_rest (IsGood-plain None apid count body packet) (IsGood-plain None apid other_count other_body other) e in
-    (ap (λ (p : Packet). p.header.count) same.0, ap (λ (p : Packet). p.body) same.0, same.1)
-
-is_misshapen-plain : (apid : ℕ) (h : Header) → is_chosen (Some apid) h ≡ true → is_misshapen (Some apid) h ≡ false → h.version ≡ 0 → h ≡ plain_header apid h.count (h.length + 1)
-is_misshapen-plain apid h chosen shape version = grind (arith, common_steps)
-
--- a good packet of the chosen APID has the one shape
-pub IsGood-chosen : (apid : ℕ) (p : Packet) → apid ≤ 2046 → IsGood (Some apid) p → is_chosen (Some apid) p.header ≡ true → IsPacket apid p.header.count p.body × (p ≡ plain_packet apid p.header.count p.body)
-IsGood-chosen apid p few good chosen =
-    let plain = is_misshapen-plain apid p.header chosen good.shape good.version in
-    let bits = good.fields in (
-      record { chosen = few; counted = omega (arith, bits.count_bits); some = omega (arith, good.whole); most = omega (arith, good.whole, bits.length_bits); bytes = good.bytes },
-      λ i. record { header = (plain ∙ ap (plain_header apid p.header.count) (sym good.whole)) i; body = p.body },
-    )
 
 -- the data of a packet that stands at the front of a room fit
 pub IsGood-of_room : (chosen : Option ℕ) (h : Header) (room : List ℕ) → IsHeader h → h.version ≡ 0 → is_misshapen chosen h ≡ false → length room ≡ 65542 → ((k : ℕ) → Fits w8 (get_or room k 0)) → IsGood chosen (record { header = h; body = drop 6 (take (h.length + 7) room) })

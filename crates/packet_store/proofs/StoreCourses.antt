@@ -1,14 +1,13 @@
 -- How the faults of a store end a run whose course is made from the walk over it.
-use Rattle.std.proofs.Common.{◌≡◌, ℕ, List, [], ◌++◌, Option, Some, Err, ap, ◌∙◌}
-use Rattle.desk_ports.specs.Meanings.{Meanings, Counts}
-use Rattle.desk_ports.specs.Courses.{Course, no_outputs, AfterStop, Ends, HasCause}
+use Rattle.std.proofs.Common.{◌≡◌, ℕ, List, [], ◌++◌, Some, ap, ◌∙◌}
+use Rattle.desk_ports.specs.Meanings.{Meanings}
+use Rattle.desk_ports.specs.Courses.{Course, no_outputs, AfterStop, Ends}
 use Rattle.desk_ports.proofs.Courses.{Ends-fault, IsCutOff-moves}
-use Rattle.packet_store.specs.declared.reader.Taken.{Taken}
 use Rattle.packet_store.specs.declared.fault.WalkFault.{WalkFault}
 use Rattle.packet_store.specs.declared.fault.StoreFault.{StoreFault}
 use Rattle.packet_store.specs.declared.fault.StoreFault.TheVariants.{Cut, Version, Shape, ReadFault, TooMany}
 use Rattle.packet_store.specs.Walks.{Walk}
-use Rattle.packet_store.specs.Faults.{stop_of, HasStoreCause}
+use Rattle.packet_store.specs.Faults.{stop_of}
 use Rattle.packet_store.specs.StoreReader.{ReaderState, walk_on, Stops, AfterFault}
 
 -- the course owes nothing where no packet is walked, and ends as the walk does
@@ -28,10 +27,3 @@ AfterStop-fault here s a b (Version byte) follows stops = Ends-stops here s a b 
 AfterStop-fault here s a b (Shape byte) follows stops = Ends-stops here s a b _ follows stops
 AfterStop-fault here s a b TooMany follows stops = Ends-stops here s a b _ follows stops
 AfterStop-fault here s a b ReadFault follows lost = IsCutOff-moves here a b lost.lost lost.moved (follows.nothing lost.lost lost.none)
-
-pub HasCause-fault : (T : Type 0) (old new : Counts) (reason : StoreFault) → HasStoreCause {T = Option Taken} old new (Err reason) → HasCause {T = T} old new (Err (stop_of reason))
-HasCause-fault T old new (Cut byte) cause = cause
-HasCause-fault T old new (Version byte) cause = cause
-HasCause-fault T old new (Shape byte) cause = cause
-HasCause-fault T old new TooMany cause = cause
-HasCause-fault T old new ReadFault cause = cause

@@ -1,4 +1,4 @@
-use Rattle.std.proofs.Common.{List, ◌<◌, ℕ, ◌≤◌, All, length, Some, arith}
+use Rattle.std.proofs.Common.{List, ◌<◌, ℕ, All, length, Some, arith}
 use Rattle.packet_store.specs.Walks.{IsGood, walk}
 use Rattle.packet_store.proofs.Walks.{IsWalk-walk_from}
 use Rattle.loss_player.specs.Played.{played_packets}
