@@ -1,5 +1,5 @@
 -- Which numbers are written and which are listed.
-use Rattle.std.proofs.Common.{◌≡◌, ℕ, zero, suc, ◌+◌, ◌<◌, ◌≤◌, Bool, true, false, cond, ◌⊎◌, List, [], ◌∷◌, ◌++◌, replicate, Contains, Option, Some, None, inl, inr, refl, sym, ap, subst, ◌∙◌, arith}
+use Rattle.std.proofs.Common.{◌≡◌, ℕ, zero, suc, ◌+◌, ◌<◌, ◌≤◌, Bool, true, false, cond, ◌⊎◌, List, [], ◌∷◌, ◌++◌, length, replicate, Contains, Option, Some, None, inl, inr, refl, sym, ap, subst, ◌∙◌, arith}
 use Rattle.std.proofs.lemmas.Bool.{cases_eq, cases_lt}
 use Rattle.std.proofs.lemmas.List.{append-nil}
 use Rattle.std.proofs.lemmas.Grind.{common_steps, flat_map-append}
@@ -7,7 +7,7 @@ use Rattle.std.specs.List.{filter, flat_map, last_or, range_with_len}
 use Rattle.std.proofs.lemmas.List.Elements.{filter-append, Contains-append_left, Contains-push, Contains-push_cases}
 use Rattle.mask_update.proofs.NewMasks.{range_push}
 use Rattle.mask_update.specs.Histories.{History}
-use Rattle.packet_encode.specs.Deliveries.{arrivals, count_to_last, count_up_to, is_written, latest_written, IsLatestWritten, WrittenAt}
+use Rattle.packet_encode.specs.Deliveries.{arrivals, count_to_last, count_up_to, is_written, latest_written, IsLatestWritten, Listed, WrittenAt}
 
 -- ---- the latest written one
 
@@ -144,3 +144,11 @@ arrived-heard copies (suc n) t below arrives = by_copies (copies n) refl (λ les
         let is : count_to_last copies (suc n) ≡ count_to_last copies n = count_to_last-none copies n none in
         omega (arith, heard, is)
     by_copies (suc c) some before order = let is : count_to_last copies (suc n) ≡ n + 1 = count_to_last-some copies n c some in omega (arith, below, is)
+
+-- each packet up to the last arrival is written or listed
+pub written_or_listed : (h : History) (copies : ℕ → ℕ) (t : ℕ) → t < count_to_last copies (length h.steps) → WrittenAt h copies t ⊎ Listed h copies t
+written_or_listed h copies t heard = by_test (is_written h copies t) refl
+  where
+    by_test : (b : Bool) → is_written h copies t ≡ b → WrittenAt h copies t ⊎ Listed h copies t
+    by_test true e = inl (written-from h copies t e)
+    by_test false e = inr (record { heard = heard; unwritten = λ written. let is = written-to h copies t written in grind (arith, common_steps) })

@@ -1,6 +1,6 @@
 //! What the definitions of packets mean.
 
-ghost use Rattle.std.specs.Prelude.{◌≡◌, ℕ, ◌↔◌, ◌+◌, ◌*◌, ◌<◌, ◌≤◌, true, false, [], ◌∷◌, length, Contains, Some, None};
+ghost use Rattle.std.specs.Prelude.{◌≡◌, ℕ, ◌↔◌, ◌⊎◌, ◌+◌, ◌*◌, ◌<◌, ◌≤◌, true, false, [], ◌∷◌, length, Contains, Some, None};
 ghost use Rattle.bit_vectors.specs.Vectors.{bits_of, byte_count, padded};
 ghost use Rattle.mask_update.specs.Histories.{History, IsValid, Step, input_at, robust_at, with_step};
 ghost use Rattle.mask_update.specs.Masks.{mask_at};
@@ -58,6 +58,8 @@ pub fn listed_packets()
     ensures listed { (h : History) (copies : ℕ → ℕ) (t : ℕ) → Contains (listed_numbers h copies) t ↔ Listed h copies t }
     ensures heard { (h : History) (copies : ℕ → ℕ) (t : ℕ) → t < length h.steps → WrittenAt h copies t →
         t < count_to_last copies (length h.steps) }
+    ensures each { (h : History) (copies : ℕ → ℕ) (t : ℕ) → t < count_to_last copies (length h.steps) →
+        WrittenAt h copies t ⊎ Listed h copies t }
 {}
 
 /// A packet of a worked history: place 7 leaves the mask at the second new mask, and is extracted all the same.

@@ -2,7 +2,7 @@ use Rattle.std.proofs.Common.{not, length, ap, arith}
 use Rattle.std.proofs.lemmas.Bool.{false_from_ne_true}
 use Rattle.std.proofs.lemmas.Grind.{common_steps}
 use Rattle.packet_encode.specs.Deliveries.{count_to_last, is_written}
-use Rattle.packet_encode.proofs.Deliveries.{arrived-heard, passing-from, passing-to, written-from, written-to}
+use Rattle.packet_encode.proofs.Deliveries.{arrived-heard, passing-from, passing-to, written-from, written-to, written_or_listed}
 use Rattle.packet_encode.proofs.laws.listed_packets.Goals as goal
 
 pub returns-clause-written : goal.returns-clause-written
@@ -21,3 +21,6 @@ returns-clause-listed c = λ h copies t. (
 
 pub returns-clause-heard : goal.returns-clause-heard
 returns-clause-heard c = λ h copies t below written. arrived-heard copies (length h.steps) t below written.arrives
+
+pub returns-clause-each : goal.returns-clause-each
+returns-clause-each c = λ h copies t heard. written_or_listed h copies t heard
