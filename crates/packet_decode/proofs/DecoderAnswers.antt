@@ -13,7 +13,7 @@ use Rattle.packet_decode.specs.State.{State, IsState, Change, change_of}
 use Rattle.packet_decode.specs.Spelling.{Spells}
 use Rattle.packet_decode.specs.Answers.{Says, IsExactAnswer}
 use Rattle.packet_decode.specs.PacketReading.{Spelled, Opaque, Found, Tells, whole_packet_at, answer_to, answer_of}
-use Rattle.packet_decode.specs.Parts.{state_by, state_of, IsLatest}
+use Rattle.packet_decode.specs.Parts.{state_by, kept_state, IsLatest}
 use Rattle.packet_decode.specs.Decoding.{Decoding}
 use Rattle.packet_decode.proofs.ExactAnswers.{answer_of-exact}
 use Rattle.packet_decode.proofs.OneAnswer.{spells_read, says_answer}
@@ -36,13 +36,13 @@ missed_by : (number : Option ℕ) (mask content : List Bool) (level : ℕ) (read
 missed_by None mask content level reading is written = absurd cc
 missed_by (Some number) mask content level reading is written = absurd cc
 
-pub not_missed : {A : Type 0} (latest : Latest) (level : ℕ) (reading : Answer) → reading ≡ answer_to (state_of latest) level Opaque → ◌≡◌ {A = Result Answer BitFault} (Ok reading) (Ok Written) → A
+pub not_missed : {A : Type 0} (latest : Latest) (level : ℕ) (reading : Answer) → reading ≡ answer_to (kept_state latest) level Opaque → ◌≡◌ {A = Result Answer BitFault} (Ok reading) (Ok Written) → A
 not_missed latest level reading is written = absurd (missed_by latest.number latest.mask latest.content level reading is written)
 
 -- ---- the parts of a decoder
 
 abbrev pub decoding_of : Latest → Change → Decoding
-decoding_of latest shown = record { places = length latest.content; state = state_of latest; recent = shown.recent; level = shown.level }
+decoding_of latest shown = record { places = length latest.content; state = kept_state latest; recent = shown.recent; level = shown.level }
 
 has_by : (f : ℕ) (number : Option ℕ) (mask content : List Bool) → length mask ≡ f → length content ≡ f → IsState f (state_by number mask content)
 has_by f None mask content mask_places content_places = tt
@@ -54,26 +54,26 @@ module _ (d : Decoding) (latest : Latest) (shown : Change) (view : decoding_of l
   has_state = subst (λ (x : Decoding). IsState x.places x.state) view (has_by (length latest.content) latest.number latest.mask latest.content vectors.mask vectors.content)
 
   module _ (f t : ℕ) (eye : EyeState) (bytes : List ℕ) (places : f ≡ length latest.content) (bits : eye.bits ≡ bits_of bytes) (start : eye.place ≡ 0) where
-    whole_is : whole_packet_at f (state_of latest) t (bits_left eye) ≡ whole_packet_at d.places d.state t (bits_of bytes)
+    whole_is : whole_packet_at f (kept_state latest) t (bits_left eye) ≡ whole_packet_at d.places d.state t (bits_of bytes)
     whole_is =
         let left : bits_left eye ≡ bits_of bytes = ap (λ (n : ℕ). drop n eye.bits) start ∙ bits in
-        ap (λ (n : ℕ). whole_packet_at n (state_of latest) t (bits_left eye)) places
-        ∙ ap (λ (b : List Bool). whole_packet_at (length latest.content) (state_of latest) t b) left
+        ap (λ (n : ℕ). whole_packet_at n (kept_state latest) t (bits_left eye)) places
+        ∙ ap (λ (b : List Bool). whole_packet_at (length latest.content) (kept_state latest) t b) left
         ∙ ap (λ (x : Decoding). whole_packet_at x.places x.state t (bits_of bytes)) view
 
-    pub fault_is : {A : Type 0} (see : A → Found) (fault : BitFault) (new : EyeState) → new.bits ≡ eye.bits → Tells see (Err fault) new (whole_packet_at f (state_of latest) t (bits_left eye))
+    pub fault_is : {A : Type 0} (see : A → Found) (fault : BitFault) (new : EyeState) → new.bits ≡ eye.bits → Tells see (Err fault) new (whole_packet_at f (kept_state latest) t (bits_left eye))
         → answer_of d.places d.state t (bits_of bytes) ≡ Err fault
     fault_is see fault new same told =
         answer_err d.places d.state t (bits_of bytes) see new (same ∙ bits) fault (subst (λ r. Tells see (Err fault) new r) whole_is told)
 
-    pub reading_is : (found : Found) (new : EyeState) → new.bits ≡ eye.bits → whole_packet_at f (state_of latest) t (bits_left eye) ≡ Read found (bits_left new)
-        → answer_of d.places d.state t (bits_of bytes) ≡ Ok (answer_to (state_of latest) found.change.level found.outcome)
+    pub reading_is : (found : Found) (new : EyeState) → new.bits ≡ eye.bits → whole_packet_at f (kept_state latest) t (bits_left eye) ≡ Read found (bits_left new)
+        → answer_of d.places d.state t (bits_of bytes) ≡ Ok (answer_to (kept_state latest) found.change.level found.outcome)
     reading_is found new same told =
         answer_ok d.places d.state t (bits_of bytes) (λ (x : Found). x) new (same ∙ bits) found (sym whole_is ∙ told)
         ∙ ap (λ (x : Decoding). Ok (answer_to x.state found.change.level found.outcome)) (sym view)
 
     -- after a packet that is spelled
-    pub latest_is : (next : Change) (read_mask read_content : List Bool) (rest : List Bool) → whole_packet_at f (state_of latest) t (bits_left eye) ≡ Read (record { change = next; outcome = Spelled read_mask read_content }) rest
+    pub latest_is : (next : Change) (read_mask read_content : List Bool) (rest : List Bool) → whole_packet_at f (kept_state latest) t (bits_left eye) ≡ Read (record { change = next; outcome = Spelled read_mask read_content }) rest
         → (after : Change) (new_mask new_content : List Bool) → after ≡ next → new_mask ≡ read_mask → new_content ≡ read_content
         → (form : Form) (mask content : List Bool) → Spells d.places d.state t (bits_of bytes) form mask content
         → decoding_of (record { number = Some t; mask = new_mask; content = new_content }) after

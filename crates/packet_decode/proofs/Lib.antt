@@ -16,3 +16,4 @@ pub mod UnchangedMask
 pub mod PlaceByStep
 pub mod WindowMask
 pub mod WindowContent
+pub mod OfHistories

@@ -24,8 +24,9 @@ abbrev pub state_by : Option ℕ → List Bool → List Bool → State
 state_by None mask content = None
 state_by (Some number) mask content = Some (record { number = number; mask = mask; content = content })
 
-abbrev pub state_of : Latest → State
-state_of latest = state_by latest.number latest.mask latest.content
+-- the state of a decoder that keeps this as the latest packet
+abbrev pub kept_state : Latest → State
+kept_state latest = state_by latest.number latest.mask latest.content
 
 -- whether the packet with the number t and this level is in reach of that with the latest number
 abbrev pub reaches : Option ℕ → ℕ → ℕ → Bool

@@ -44,11 +44,11 @@ pub struct Decoder {
 impl Model for Decoder {
     ghost use Rattle.std.specs.Prelude.{length};
     ghost use Rattle.packet_decode.specs.Decoding.{Decoding};
-    ghost use Rattle.packet_decode.specs.Parts.{IsDecoder, state_of};
+    ghost use Rattle.packet_decode.specs.Parts.{IsDecoder, kept_state};
 
     ghost Value = { Decoding };
 
-    ghost view = { λ d. record { places = length d.latest.content; state = state_of d.latest; recent = d.shown.recent; level = d.shown.level } };
+    ghost view = { λ d. record { places = length d.latest.content; state = kept_state d.latest; recent = d.shown.recent; level = d.shown.level } };
 
     ghost invariant = { λ d. IsDecoder d.latest d.shown d.next d.deduced d.draft };
 }

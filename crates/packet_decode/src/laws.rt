@@ -1,15 +1,15 @@
 //! What the definitions mean.
 
-ghost use Rattle.std.specs.Prelude.{◌≡◌, ℕ, ◌<◌, Bool, true, List, [], ◌∷◌, ◌++◌, length, Some, None, Result, Ok, Err};
+ghost use Rattle.std.specs.Prelude.{◌≡◌, ℕ, ◌<◌, Bool, true, List, [], ◌∷◌, ◌++◌, length, Option, Some, None, IfSome, Result, Ok, Err};
 ghost use Rattle.bit_vectors.specs.Vectors.{bits_of};
 ghost use Rattle.run_code.specs.Extraction.{SameOutside};
 ghost use Rattle.mask_update.specs.Histories.{History, IsValid, input_at};
 ghost use Rattle.mask_update.specs.Masks.{mask_at};
 ghost use Rattle.robust_window.specs.Histories.{level_at};
 ghost use Rattle.packet_encode.specs.Forms.{Form, Part, wide};
-ghost use Rattle.packet_encode.specs.Packets.{form_at};
+ghost use Rattle.packet_encode.specs.Packets.{form_at, packet_at};
 ghost use Rattle.packet_decode.specs.State.{InReach, State, IsState, deduced_mask};
-ghost use Rattle.packet_decode.specs.Histories.{written_at};
+ghost use Rattle.packet_decode.specs.Histories.{IsUnderstood, state_of, written_at};
 ghost use Rattle.packet_decode.specs.Spelling.{Spells, HasOpaqueFront};
 ghost use Rattle.packet_decode.specs.Answers.{SpellsPacket, Says, IsSoundAnswer, IsExactAnswer};
 ghost use Rattle.packet_decode.specs.PacketReading.{answer_of};
@@ -81,6 +81,31 @@ pub fn law_of_the_window()
     ensures content { (h : History) (earlier t : ℕ) → IsValid h → earlier < t → t < length h.steps →
         InReach (Some (written_at h earlier)) t (level_at h t) →
         SameOutside (wide (form_at h t) (mask_at h t)) (input_at h earlier) (input_at h t) }
+{}
+
+/// What a decoder reads of the packets of a valid history, when its latest written packet is that of an earlier step, or
+/// when none is written. It understands the packet of a step that carries the mask and the whole content, or whose
+/// effective robustness level reaches the latest one: the bits of the packet then spell it, with the mask and the input
+/// of the step. Every other packet has an opaque front.
+pub fn packets_of_histories_are_read()
+    ensures state { (h : History) (latest : Option ℕ) → IsValid h → IfSome latest (λ s. s < length h.steps) →
+        IsState h.places (state_of h latest) }
+    ensures spelled { (h : History) (latest : Option ℕ) (t : ℕ) → IsValid h → IfSome latest (λ s. s < t) → t < length h.steps →
+        IsUnderstood h latest t →
+        Spells h.places (state_of h latest) t (packet_at h t) (form_at h t) (mask_at h t) (input_at h t) }
+    ensures opaque { (h : History) (latest : Option ℕ) (t : ℕ) → IsValid h → IfSome latest (λ s. s < t) → t < length h.steps →
+        (IsUnderstood h latest t → ⊥) →
+        HasOpaqueFront h.places (state_of h latest) t (packet_at h t) (level_at h t) }
+    // So it writes what it understands, and misses the others.
+    ensures written { (h : History) (latest : Option ℕ) (t : ℕ) → IsValid h → IfSome latest (λ s. s < t) → t < length h.steps →
+        IsUnderstood h latest t →
+        answer_of h.places (state_of h latest) t (packet_at h t) ≡ Ok Reading.Written }
+    ensures unsynced { (h : History) (t : ℕ) → IsValid h → t < length h.steps →
+        (IsUnderstood h None t → ⊥) →
+        answer_of h.places (state_of h None) t (packet_at h t) ≡ Ok Reading.Unsynced }
+    ensures gap { (h : History) (latest t : ℕ) → IsValid h → latest < t → t < length h.steps →
+        (IsUnderstood h (Some latest) t → ⊥) →
+        answer_of h.places (state_of h (Some latest)) t (packet_at h t) ≡ Ok (Reading.Gap (level_at h t)) }
 {}
 
 /// Worked packets of 8 places.

@@ -4,7 +4,7 @@ ghost use Rattle.std.specs.Prelude.{◌≡◌, ◌<◌, length, IfSome};
 ghost use Rattle.bit_vectors.specs.Eye.{bits_left};
 ghost use Rattle.bit_vectors.specs.Reading.{MovesOn};
 ghost use Rattle.packet_decode.specs.PacketReading.{Tells, parts_at, whole_packet_at};
-ghost use Rattle.packet_decode.specs.Parts.{IsLatest, IsDraft, outcome_of, state_of, reaches};
+ghost use Rattle.packet_decode.specs.Parts.{IsLatest, IsDraft, outcome_of, kept_state, reaches};
 
 use crate::change::FirstPart;
 use crate::data::take_data;
@@ -34,7 +34,7 @@ pub fn take_whole_packet(
     ensures draft { IsDraft (length draft.old.content) draft.new }
     ensures moves { MovesOn eye.old eye.new }
     ensures reading { Tells (λ kind. record { change = next.new; outcome = outcome_of kind draft.new.mask draft.new.content })
-        result eye.new (whole_packet_at (length draft.old.content) (state_of latest.now) t (bits_left eye.old)) }
+        result eye.new (whole_packet_at (length draft.old.content) (kept_state latest.now) t (bits_left eye.old)) }
 {
     let kind = take_parts(eye, t, latest, next, deduced, draft)?;
     take_padding(eye, kind)?;
@@ -62,7 +62,7 @@ fn take_parts(
     ensures draft { IsDraft (length draft.old.content) draft.new }
     ensures moves { MovesOn eye.old eye.new }
     ensures reading { Tells (λ kind. record { change = next.new; outcome = outcome_of kind draft.new.mask draft.new.content })
-        result eye.new (parts_at (length draft.old.content) (state_of latest.now) t (bits_left eye.old)) }
+        result eye.new (parts_at (length draft.old.content) (kept_state latest.now) t (bits_left eye.old)) }
 {
     next.take(eye)?;
     if is_in_reach(latest.number, t, next.level()) {
