@@ -2,6 +2,9 @@ mod Distances
 mod Runs
 mod Sound
 mod Told
+mod LastArrivals
+mod HistoryPackets
+mod HistoryRuns
 mod Counted
 mod Receptions
 mod Writings

@@ -2,6 +2,7 @@
 #![tactic(auto)]
 
 mod arrivals;
+mod deliveries;
 mod fault;
 mod laws;
 mod report;
@@ -12,6 +13,7 @@ mod unwrap;
 mod verdict;
 
 pub use arrivals::Ground;
+pub use deliveries::{histories_are_known, no_packet_is_refused};
 pub use fault::RestoreFault;
 pub use laws::{
     every_number_once, fronts_owe_fronts, numbers_are_the_next_ones, numbers_count_the_run,

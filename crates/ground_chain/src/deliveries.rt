@@ -1,0 +1,29 @@
+//! What the run makes of the packets of a history, of which each arrives so many times.
+
+ghost use Rattle.std.specs.Prelude.{◌≡◌, ◌<◌, ◌++◌, ◌%◌, ℕ, length, All, List, Option, None, map};
+ghost use Rattle.std.specs.List.{flat_map, last_or};
+ghost use Rattle.mask_update.specs.Histories.{History, IsValid};
+ghost use Rattle.packet_encode.specs.Deliveries.{arrivals, count_up_to, latest_written};
+ghost use Rattle.packet_decode.specs.Histories.{state_of};
+ghost use Rattle.loss_player.specs.Gaps.{AreGapsShort};
+ghost use Rattle.ground_chain.specs.Run.{known_after, run};
+ghost use Rattle.ground_chain.specs.Report.{run_bytes, run_rows, run_report, restored_of};
+ghost use Rattle.ground_chain.specs.Deliveries.{arrival_at, history_arrivals, restored_bytes, listed_rows, row_text, delivered_numbers, report_text};
+
+use crate::verdict::Kind;
+use bit_vectors::BitFault;
+
+/// The ground knows where it is in a history, and what it has written of it. After each arrival the latest number is that
+/// of the packet, and the state is that of the latest packet so far that is written: its number, its mask and its input.
+pub fn histories_are_known()
+    ensures { (h : History) (copies : ℕ → ℕ) → IsValid h → AreGapsShort copies (length h.steps) →
+        (front rest : List ℕ) → front ++ rest ≡ arrivals copies (length h.steps) →
+        known_after h.places (map (arrival_at h) front)
+        ≡ record { latest = last_or None front; state = state_of h (latest_written h copies (count_up_to (last_or None front))) } }
+{}
+
+/// No packet of a history is refused.
+pub fn no_packet_is_refused()
+    ensures { (h : History) (copies : ℕ → ℕ) → IsValid h → AreGapsShort copies (length h.steps) →
+        All (λ j. (fault : BitFault) → j.verdict.kind ≡ Kind.Refused fault → ⊥) (run h.places (history_arrivals h copies)) }
+{}
