@@ -1,8 +1,7 @@
 -- One packet of a history, to a decoder whose latest written packet is that of an earlier step.
-use Rattle.std.proofs.Common.{◌≡◌, ℕ, zero, suc, ◌+◌, ◌-◌, ◌<◌, ◌≤◌, ◌⊎◌, ltb, leb, Bool, true, false, ◌&&◌, ◌||◌, if◌then◌else◌, List, length, Option, Some, None, Result, Ok, Err, refl, sym, ap, ◌∙◌, subst, inl, inr, arith}
+use Rattle.std.proofs.Common.{◌≡◌, ℕ, zero, suc, ◌+◌, ◌-◌, ◌<◌, ltb, Bool, true, false, ◌&&◌, ◌||◌, if◌then◌else◌, List, length, Option, Some, None, Ok, refl, sym, ap, ◌∙◌, subst, inl, inr, arith}
 use Rattle.std.specs.Prelude.{IfSome}
 use Rattle.std.proofs.lemmas.Bool.{and_parts, leb-true, lt-ltb, le-leb, both_ways}
-use Rattle.bit_vectors.specs.declared.fault.BitFault.{BitFault}
 use Rattle.bit_vectors.specs.declared.flags.Flags.{Flags}
 use Rattle.bit_vectors.specs.Vectors.{bits_of}
 use Rattle.bit_vectors.proofs.ByteBits.{bits_of-vector_bytes}
@@ -11,17 +10,17 @@ use Rattle.mask_update.specs.Masks.{mask_at}
 use Rattle.robust_window.specs.Histories.{level_at}
 use Rattle.packet_encode.specs.Forms.{form_bits}
 use Rattle.packet_encode.specs.Packets.{form_at, packet_at}
-use Rattle.packet_encode.specs.Deliveries.{carries_all, reaches, is_written_behind, is_written, latest_written}
+use Rattle.packet_encode.specs.Deliveries.{carries_all, reaches, is_written, latest_written}
 use Rattle.packet_decode.specs.declared.decoder.Reading.{Reading as Answer}
 use Rattle.packet_decode.specs.declared.decoder.Reading.TheVariants as answer
-use Rattle.packet_decode.specs.State.{State, IsState, InReach}
-use Rattle.packet_decode.specs.Histories.{CarriesBoth, IsUnderstood, state_of, written_at}
+use Rattle.packet_decode.specs.State.{IsState, InReach}
+use Rattle.packet_decode.specs.Histories.{IsUnderstood, state_of}
 use Rattle.packet_decode.specs.PacketReading.{answer_of}
 use Rattle.packet_decode.proofs.OneAnswer.{spells_read}
 use Rattle.packet_decode.proofs.OfHistories.{answer-gap, answer-unsynced, answer-written, state_of-is, understood-spelled}
 use Rattle.flight_chain.specs.Stores.{data_at}
 use Rattle.ground_chain.specs.declared.verdict.Kind.{Kind}
-use Rattle.ground_chain.specs.declared.verdict.Kind.TheVariants.{Written, Repeat, Unsynced, Gap, Refused}
+use Rattle.ground_chain.specs.declared.verdict.Kind.TheVariants.{Written, Unsynced, Gap}
 use Rattle.ground_chain.specs.Run.{kind_of, state_read, state_after}
 use Rattle.ground_chain.specs.Sound.{IsStateAfter}
 use Rattle.ground_chain.proofs.Sound.{follows_answer}

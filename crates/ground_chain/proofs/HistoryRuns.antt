@@ -4,19 +4,16 @@ use Rattle.std.specs.Prelude.{All}
 use Rattle.std.specs.List.{flat_map, last_or, range_with_len}
 use Rattle.std.proofs.lemmas.List.Elements.{All-append, All-cons, All-nil, All-replicate}
 use Rattle.bit_vectors.specs.declared.fault.BitFault.{BitFault}
-use Rattle.bit_vectors.specs.Vectors.{bits_of}
 use Rattle.packet_store.specs.SpacePackets.{period}
 use Rattle.mask_update.specs.Histories.{History, IsValid}
 use Rattle.robust_window.specs.Histories.{level_at}
 use Rattle.packet_encode.specs.Deliveries.{arrivals, count_up_to, is_written, latest_written}
 use Rattle.packet_decode.specs.Histories.{state_of}
-use Rattle.packet_decode.specs.PacketReading.{answer_of}
 use Rattle.loss_player.specs.Gaps.{AreGapsShort}
 use Rattle.flight_chain.specs.Stores.{data_at}
-use Rattle.ground_chain.specs.declared.verdict.Kind.{Kind}
-use Rattle.ground_chain.specs.declared.verdict.Kind.TheVariants.{Written, Repeat, Unsynced, Gap, Refused}
+use Rattle.ground_chain.specs.declared.verdict.Kind.TheVariants.{Written, Refused}
 use Rattle.ground_chain.specs.Numbers.{number_after, expected}
-use Rattle.ground_chain.specs.Run.{Arrival, Known, Judged, nothing_known, lost_from, judged_by, judge, repeated, run_from, known_from, known_after, run}
+use Rattle.ground_chain.specs.Run.{Known, Judged, nothing_known, lost_from, judged_by, judge, repeated, run_from, known_from, known_after, run}
 use Rattle.ground_chain.specs.Deliveries.{arrival_at, history_arrivals}
 use Rattle.ground_chain.proofs.LastArrivals.{copies_of, last_before, last-dropped, last-arrived, number-arrived, number-repeated}
 use Rattle.ground_chain.proofs.HistoryPackets.{missed_behind, kind_at, kind_read, state_next, latest_written-dropped}

@@ -1,12 +1,12 @@
 -- The latest of the first packets that arrives.
 use Rattle.std.proofs.Common.{◌≡◌, ℕ, zero, suc, ◌+◌, ◌-◌, ◌%◌, ◌<◌, ◌≤◌, ◌⊎◌, List, [], ◌∷◌, ◌++◌, replicate, Option, Some, None, refl, sym, ap, ◌∙◌, subst, append-nil, inl, inr, arith}
-use Rattle.std.specs.Prelude.{IfSome, ◌==◌, if◌then◌else◌, Bool, true, false}
+use Rattle.std.specs.Prelude.{IfSome, ◌==◌, if◌then◌else◌, Bool}
 use Rattle.std.specs.List.{flat_map, last_or, range_with_len}
 use Rattle.std.proofs.lemmas.Bool.{cases_lt, ne_eqb}
 use Rattle.std.proofs.lemmas.Grind.{flat_map-append}
 use Rattle.packet_store.specs.SpacePackets.{period}
 use Rattle.packet_encode.specs.Deliveries.{arrivals}
-use Rattle.loss_player.specs.Gaps.{AreDropped, IsFirst, AreNext, AreGapsShort}
+use Rattle.loss_player.specs.Gaps.{AreDropped, AreGapsShort}
 use Rattle.ground_chain.specs.Numbers.{distance, number_after, expected}
 use Rattle.ground_chain.proofs.Distances.{distance-repeat}
 use Rattle.ground_chain.proofs.Told.{range_then}
@@ -32,6 +32,10 @@ pub record IsLastBefore (copies : ℕ → ℕ) (t : ℕ) (latest : Option ℕ) :
   pub before : IfSome latest (λ s. s < t)
   pub arrives : IfSome latest (λ s. 1 ≤ copies s)
   pub none : AreDropped copies (expected latest) t
+
+pub expected-below : (t : ℕ) (latest : Option ℕ) → IfSome latest (λ s. s < t) → expected latest ≤ t
+expected-below t None before = omega arith
+expected-below t (Some s) before = omega arith
 
 module _ (copies : ℕ → ℕ) where
   -- ---- step by step

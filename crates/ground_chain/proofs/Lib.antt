@@ -5,6 +5,9 @@ mod Told
 mod LastArrivals
 mod HistoryPackets
 mod HistoryRuns
+mod HistoryBytes
+mod HistoryNumbers
+mod HistoryRows
 mod Counted
 mod Receptions
 mod Writings

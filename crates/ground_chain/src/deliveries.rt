@@ -27,3 +27,20 @@ pub fn no_packet_is_refused()
     ensures { (h : History) (copies : ℕ → ℕ) → IsValid h → AreGapsShort copies (length h.steps) →
         All (λ j. (fault : BitFault) → j.verdict.kind ≡ Kind.Refused fault → ⊥) (run h.places (history_arrivals h copies)) }
 {}
+
+/// The restored packets are the inputs of the packets of the history that are written, and of no other.
+pub fn written_packets_are_restored()
+    ensures { (h : History) (copies : ℕ → ℕ) → IsValid h → AreGapsShort copies (length h.steps) →
+        run_bytes (run h.places (history_arrivals h copies)) ≡ restored_bytes h copies }
+{}
+
+/// The report has a row for each packet up to the last arrival that is not written, where neighbouring lost ones stand
+/// as one row, and its last row has the numbers of the history and its copies.
+pub fn unwritten_packets_are_reported()
+    ensures rows { (h : History) (copies : ℕ → ℕ) → IsValid h → AreGapsShort copies (length h.steps) →
+        run_rows (run h.places (history_arrivals h copies)) ≡ flat_map row_text (listed_rows h copies) }
+    ensures numbers { (h : History) (copies : ℕ → ℕ) → IsValid h → AreGapsShort copies (length h.steps) →
+        restored_of (run h.places (history_arrivals h copies)) ≡ delivered_numbers h copies }
+    ensures report { (h : History) (copies : ℕ → ℕ) → IsValid h → AreGapsShort copies (length h.steps) →
+        run_report (run h.places (history_arrivals h copies)) ≡ report_text h copies }
+{}
