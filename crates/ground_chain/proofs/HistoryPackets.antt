@@ -114,7 +114,7 @@ module _ (h : History) (t : ℕ) (valid : IsValid h) (lt : t < length h.steps) w
 -- ---- among those that arrive
 
 module _ (h : History) (copies : ℕ → ℕ) where
-  next_written : (t : ℕ) → latest_written h copies (suc t) ≡ (if is_written h copies t then Some t else latest_written h copies t)
+  pub next_written : (t : ℕ) → latest_written h copies (suc t) ≡ (if is_written h copies t then Some t else latest_written h copies t)
   unfolding latest_written
   next_written t = refl
 

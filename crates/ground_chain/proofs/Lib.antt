@@ -8,6 +8,7 @@ mod HistoryRuns
 mod HistoryBytes
 mod HistoryNumbers
 mod HistoryRows
+mod Listings
 mod Counted
 mod Receptions
 mod Writings

@@ -1,9 +1,9 @@
 //! What the run makes of the packets of a history, of which each arrives so many times.
 
-ghost use Rattle.std.specs.Prelude.{◌≡◌, ◌<◌, ◌++◌, ◌%◌, ℕ, length, All, List, Option, None, map};
+ghost use Rattle.std.specs.Prelude.{◌≡◌, ◌<◌, ◌↔◌, ◌⊎◌, ◌++◌, ℕ, length, All, Contains, List, Option, None, Some, map};
 ghost use Rattle.std.specs.List.{flat_map, last_or};
 ghost use Rattle.mask_update.specs.Histories.{History, IsValid};
-ghost use Rattle.packet_encode.specs.Deliveries.{arrivals, count_up_to, latest_written};
+ghost use Rattle.packet_encode.specs.Deliveries.{arrivals, count_to_last, count_up_to, latest_written, listed_numbers, written_numbers, IsLatestWritten, Listed, WrittenAt};
 ghost use Rattle.packet_decode.specs.Histories.{state_of};
 ghost use Rattle.loss_player.specs.Gaps.{AreGapsShort};
 ghost use Rattle.ground_chain.specs.Run.{known_after, run};
@@ -43,4 +43,19 @@ pub fn unwritten_packets_are_reported()
         restored_of (run h.places (history_arrivals h copies)) ≡ delivered_numbers h copies }
     ensures report { (h : History) (copies : ℕ → ℕ) → IsValid h → AreGapsShort copies (length h.steps) →
         run_report (run h.places (history_arrivals h copies)) ≡ report_text h copies }
+{}
+
+/// The latest written packet before another is the greatest written number below it. The restored packets are those of
+/// the written numbers, the rows those of the listed numbers, and each packet up to the last arrival is written or listed.
+pub fn packets_are_written_or_listed()
+    ensures latest { (h : History) (copies : ℕ → ℕ) (t latest : ℕ) →
+        (latest_written h copies t ≡ Some latest) ↔ IsLatestWritten h copies t latest }
+    ensures none { (h : History) (copies : ℕ → ℕ) (t : ℕ) →
+        (latest_written h copies t ≡ None) ↔ ((s : ℕ) → s < t → WrittenAt h copies s → ⊥) }
+    ensures written { (h : History) (copies : ℕ → ℕ) (t : ℕ) →
+        Contains (written_numbers h copies) t ↔ (t < length h.steps) × WrittenAt h copies t }
+    ensures listed { (h : History) (copies : ℕ → ℕ) (t : ℕ) →
+        Contains (listed_numbers h copies) t ↔ Listed h copies t }
+    ensures each { (h : History) (copies : ℕ → ℕ) (t : ℕ) → t < count_to_last copies (length h.steps) →
+        WrittenAt h copies t ⊎ Listed h copies t }
 {}

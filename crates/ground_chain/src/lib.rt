@@ -14,8 +14,8 @@ mod verdict;
 
 pub use arrivals::Ground;
 pub use deliveries::{
-    histories_are_known, no_packet_is_refused, unwritten_packets_are_reported,
-    written_packets_are_restored,
+    histories_are_known, no_packet_is_refused, packets_are_written_or_listed,
+    unwritten_packets_are_reported, written_packets_are_restored,
 };
 pub use fault::RestoreFault;
 pub use laws::{
