@@ -57,7 +57,6 @@ kind-repeat false (Some s) level = refl
 count-copies : (h : History) (copies : ℕ → ℕ) (test : Judged → Bool) (t c : ℕ) → count_by test (judged_copies h copies t (suc c))
     ≡ cond (test (judged_first h copies t)) 1 0 + c * cond (test (repeated (known_at h copies (t + 1)))) 1 0
 count-copies h copies test t c =
-    let rest = repeated (known_at h copies (t + 1)) in
     sum_by-cons (λ (j : Judged). cond (test j) 1 0) (judged_first h copies t) (replicate c (repeated (known_at h copies (t + 1))))
     ∙ ap (λ (n : ℕ). cond (test (judged_first h copies t)) 1 0 + n) (sum_by-replicate (λ (j : Judged). cond (test j) 1 0) c (repeated (known_at h copies (t + 1))))
 
@@ -95,7 +94,6 @@ module _ (h : History) (copies : ℕ → ℕ) where
   -- no later packet is written
   written-heard : (n : ℕ) → filter (is_written h copies) (range_with_len 0 n) ≡ filter (is_written h copies) (range_with_len 0 (count_to_last copies n))
   written-heard n =
-      let last = count_to_last copies n in
       let le = last-below n in
       let later = filter-none (is_written h copies) (n - count_to_last copies n) (count_to_last copies n) (λ s from less. is_written-dropped h copies s ((last_before-is copies n).none s (omega (arith, less, le)) from)) in
       ap (λ (l : List ℕ). filter (is_written h copies) l) (sym (ranges (count_to_last copies n) n le))
@@ -105,7 +103,6 @@ module _ (h : History) (copies : ℕ → ℕ) where
   -- the written and the listed packets are all up to the last arrival
   all-heard : length (written_numbers h copies) + length (listed_numbers h copies) ≡ count_to_last copies (length h.steps)
   all-heard =
-      let range = range_with_len 0 (count_to_last copies (length h.steps)) in
       ap (λ (l : List ℕ). length l + length (listed_numbers h copies)) (written-heard (length h.steps))
       ∙ (length-filter_both (is_written h copies) (λ t. not (is_written h copies t)) (λ t. refl) (range_with_len 0 (count_to_last copies (length h.steps))) ∙ length-range_with_len 0 (count_to_last copies (length h.steps)))
 
@@ -116,14 +113,12 @@ module _ (h : History) (copies : ℕ → ℕ) where
   module _ (valid : IsValid h) (short : AreGapsShort copies (length h.steps)) where
     run-counts : (restored_of (run h.places (history_arrivals h copies))).written + (restored_of (run h.places (history_arrivals h copies))).listed ≡ count_to_last copies (length h.steps)
     run-counts =
-        let numbers = arrivals copies (length h.steps) in
         let last = ap (λ (known : Known). expected known.latest) (known-history h copies valid short (arrivals copies (length h.steps)) [] (append-nil (arrivals copies (length h.steps)))) in
         let counts = run_counts h.places nothing_known (history_arrivals h copies) (arrivals-counts (arrivals copies (length h.steps))) in
         omega (arith, last, counts)
 
     pub numbers-history : restored_of (run h.places (history_arrivals h copies)) ≡ delivered_numbers h copies
     numbers-history =
-        let range = range_with_len 0 (length h.steps) in
         let packets = run_packets h.places nothing_known (history_arrivals h copies) ∙ length-map (arrival_at h) (arrivals copies (length h.steps)) in
         let written = ap (λ (judged : List Judged). count_by (λ j. is_kind_written j.verdict.kind) judged) (run-packets h copies valid short) ∙ written-packets (range_with_len 0 (length h.steps)) in
         let repeats = ap (λ (judged : List Judged). count_by (λ j. is_repeat j.verdict.kind) judged) (run-packets h copies valid short) ∙ repeat-packets (range_with_len 0 (length h.steps)) in

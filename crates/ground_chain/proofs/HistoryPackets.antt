@@ -80,7 +80,6 @@ module _ (h : History) (t : ℕ) (valid : IsValid h) (lt : t < length h.steps) w
 
   read_written : (latest : Option ℕ) → IfSome latest (λ s. s < t) → IsUnderstood h latest t → IsReadOf h latest t (packet_at h t) true
   read_written latest before understood =
-      let state = state_of h latest in
       let spells = understood-spelled h t valid lt latest before understood in
       record {
         kind = ap kind_of (answer-written h t valid lt latest before understood);

@@ -96,7 +96,14 @@ range-split first t last le lt =
     ap (range_with_len first) (sym count)
     ∙ (sym (range_then (t - first) first (suc (last - (t + 1)))) ∙ ap (λ (k : ℕ). range_with_len first (t - first) ++ range_with_len k (suc (last - (t + 1)))) place)
 
+-- repeats have no row
+repeats-no-row : (known : Known) (n : ℕ) → flat_map (λ j. verdict_rows j.verdict) (replicate n (repeated known)) ≡ []
+repeats-no-row known zero = refl
+repeats-no-row known (suc n) = repeats-no-row known n
+
 module _ (h : History) (copies : ℕ → ℕ) where
+  -- ---- the rows of listed numbers
+
   abbrev is_unwritten_at : ℕ → Bool
   is_unwritten_at t = not (is_written h copies t)
 
@@ -108,7 +115,7 @@ module _ (h : History) (copies : ℕ → ℕ) where
 
   -- the listed numbers from one up to the one before another
   abbrev listed_between : ℕ → ℕ → List ℕ
-  listed_between first last = filter (λ t. not (is_written h copies t)) (range_with_len first (last - first))
+  listed_between first last = filter is_unwritten_at (range_with_len first (last - first))
 
   row-lost : (t : ℕ) → copies t ≡ 0 → cause_at h copies t ≡ Lost
   row-lost t none = ap (λ (n : ℕ). if n == 0 then Lost else cause_behind (latest_written h copies t) (level_at h t)) none
@@ -141,10 +148,10 @@ module _ (h : History) (copies : ℕ → ℕ) where
       later-apart last (record { first = t; last = t; cause = cause_at h copies t }) (rows_from more) other
   apart-by last t false more less apart = apart
 
-  later-rows : (k last t : ℕ) → last + 1 < t → joins last (rows_from (filter (λ s. not (is_written h copies s)) (range_with_len t k))) ≡ false
+  later-rows : (k last t : ℕ) → last + 1 < t → joins last (rows_from (filter is_unwritten_at (range_with_len t k))) ≡ false
   later-rows zero last t less = refl
   later-rows (suc k) last t less =
-      apart-by last t (is_unwritten_at t) (filter (λ s. not (is_written h copies s)) (range_with_len (t + 1) k)) less (later-rows k last (t + 1) (omega (arith, less)))
+      apart-by last t (is_unwritten_at t) (filter is_unwritten_at (range_with_len (t + 1) k)) less (later-rows k last (t + 1) (omega (arith, less)))
 
   -- ---- the row of an arrival
 
@@ -179,10 +186,6 @@ module _ (h : History) (copies : ℕ → ℕ) where
       ap (λ (rows : List ListedRow). flat_map row_text rows) rows
       ∙ (ap (λ (n : ℕ). flat_map row_text (record { first = first; last = n; cause = Lost } ∷ rows_from more)) last ∙ ap (λ (l : List ℕ). l ++ text_of more) (lost-text first t less))
 
-  repeats-no-row : (known : Known) (n : ℕ) → flat_map (λ j. verdict_rows j.verdict) (replicate n (repeated known)) ≡ []
-  repeats-no-row known zero = refl
-  repeats-no-row known (suc n) = repeats-no-row known n
-
   -- the rows of all copies of a packet that arrives
   arrived-text : (t c : ℕ) → run_rows (judged_copies h copies t (suc c)) ≡ lost_row (lost_from (expected (last_before copies t)) t) ++ own_row t (kind_at h copies t)
   arrived-text t c =
@@ -191,9 +194,6 @@ module _ (h : History) (copies : ℕ → ℕ) where
   -- ---- the rows up to the last arrival
 
   module _ (n : ℕ) where
-    abbrev heard : ℕ
-    heard = count_to_last copies n
-
     -- what is reported where the packet t is the next
     abbrev text_behind : Option ℕ → List ℕ
     text_behind latest = text_of (listed_between (expected latest) (count_to_last copies n))
@@ -212,11 +212,11 @@ module _ (h : History) (copies : ℕ → ℕ) where
         let dropped = (last_before-is copies t).none in
         let le = expected-below t (last_before copies t) (last_before-is copies t).before in
         let more = listed_between (t + 1) (count_to_last copies n) in
-        let own = filter (λ s. not (is_written h copies s)) (t ∷ range_with_len (t + 1) (count_to_last copies n - (t + 1))) in
-        let before = filter-all (λ s. not (is_written h copies s)) (t - first) first (λ s from less. ap not (is_written-dropped h copies s (dropped s (omega (arith, less, le)) from))) in
+        let own = filter is_unwritten_at (t ∷ range_with_len (t + 1) (count_to_last copies n - (t + 1))) in
+        let before = filter-all is_unwritten_at (t - first) first (λ s from less. ap not (is_written-dropped h copies s (dropped s (omega (arith, less, le)) from))) in
         let numbers : listed_between (expected (last_before copies t)) (count_to_last copies n) ≡ range_with_len first (t - first) ++ own =
-        ap (λ (l : List ℕ). filter (λ s. not (is_written h copies s)) l) (range-split first t last le (is_heard t c lt is))
-        ∙ (filter-append (λ s. not (is_written h copies s)) (range_with_len first (t - first)) (t ∷ range_with_len (t + 1) (last - (t + 1))) ∙ ap (λ (l : List ℕ). l ++ own) before) in
+        ap (λ (l : List ℕ). filter is_unwritten_at l) (range-split first t last le (is_heard t c lt is))
+        ∙ (filter-append is_unwritten_at (range_with_len first (t - first)) (t ∷ range_with_len (t + 1) (last - (t + 1))) ∙ ap (λ (l : List ℕ). l ++ own) before) in
         let apart = λ (s : ℕ) (e : s + 1 ≡ t). own-apart s t c is more (is_written h copies t) (later-rows (last - (t + 1)) s (t + 1) (omega (arith, e))) in
         ap (λ (l : List ℕ). flat_map row_text (rows_of h copies l)) numbers
         ∙ (lost-then (t - first) first t refl le dropped own apart
@@ -234,7 +234,7 @@ module _ (h : History) (copies : ℕ → ℕ) where
     packets-text zero t is =
         let end : n ≡ t = omega (arith, is) in
         let none : 0 ≡ count_to_last copies n - count_to_last copies n = omega arith in
-        ap (λ (k : ℕ). text_of (filter (λ s. not (is_written h copies s)) (range_with_len (count_to_last copies n) k))) none ∙ ap (λ (s : ℕ). text_behind (last_before copies s)) end
+        ap (λ (k : ℕ). text_of (filter is_unwritten_at (range_with_len (count_to_last copies n) k))) none ∙ ap (λ (s : ℕ). text_behind (last_before copies s)) end
     packets-text (suc k) t is =
         let lt : t < n = omega (arith, is) in
         let more : t + 1 + k ≡ n = omega (arith, is) in
@@ -245,4 +245,4 @@ module _ (h : History) (copies : ℕ → ℕ) where
       let all : 0 + length h.steps ≡ length h.steps = omega arith in
       let count : count_to_last copies (length h.steps) - 0 ≡ count_to_last copies (length h.steps) = omega arith in
       ap run_rows (run-packets h copies valid short)
-      ∙ (packets-text (length h.steps) (length h.steps) 0 all ∙ ap (λ (k : ℕ). text_of (filter (λ s. not (is_written h copies s)) (range_with_len 0 k))) count)
+      ∙ (packets-text (length h.steps) (length h.steps) 0 all ∙ ap (λ (k : ℕ). text_of (filter is_unwritten_at (range_with_len 0 k))) count)

@@ -9,6 +9,7 @@ mod HistoryBytes
 mod HistoryNumbers
 mod HistoryRows
 mod Listings
+mod ListedRows
 mod Counted
 mod Receptions
 mod Writings

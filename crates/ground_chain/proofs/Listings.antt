@@ -1,5 +1,5 @@
 -- Which numbers are those of written packets, and which of listed ones.
-use Rattle.std.proofs.Common.{◌≡◌, ℕ, zero, suc, ◌+◌, ◌-◌, ltb, ◌<◌, ◌≤◌, ◌⊎◌, ◌↔◌, List, [], ◌∷◌, length, Bool, true, false, not, cond, ◌&&◌, ◌||◌, if◌then◌else◌, Option, Some, None, refl, sym, ap, ◌∙◌, subst, inl, inr, arith}
+use Rattle.std.proofs.Common.{◌≡◌, ℕ, zero, suc, ◌+◌, ◌-◌, ltb, ◌<◌, ◌≤◌, ◌⊎◌, ◌↔◌, List, ◌∷◌, length, Bool, true, false, not, cond, ◌||◌, if◌then◌else◌, Option, Some, None, refl, sym, ap, ◌∙◌, subst, inl, inr, arith}
 use Rattle.std.specs.Prelude.{All}
 use Rattle.std.specs.List.{Contains, filter, range_with_len}
 use Rattle.std.proofs.lemmas.Bool.{and_from, and_parts, or_cases, both_ways, cases_eq, cases_lt, cases_order, cases_Bool, le-leb, leb-true, lt-ltb, ltb-true, not-true}

@@ -1,14 +1,14 @@
 //! What the run makes of the packets of a history, of which each arrives so many times.
 
-ghost use Rattle.std.specs.Prelude.{◌≡◌, ◌<◌, ◌↔◌, ◌⊎◌, ◌++◌, ℕ, length, All, Contains, List, Option, None, Some, map};
+ghost use Rattle.std.specs.Prelude.{◌≡◌, ◌<◌, ◌↔◌, ◌⊎◌, ◌∷◌, ◌++◌, ◌+◌, ℕ, length, All, Contains, List, Option, None, Some, map};
 ghost use Rattle.std.specs.List.{flat_map, last_or};
 ghost use Rattle.mask_update.specs.Histories.{History, IsValid};
-ghost use Rattle.packet_encode.specs.Deliveries.{arrivals, count_to_last, count_up_to, latest_written, listed_numbers, written_numbers, IsLatestWritten, Listed, WrittenAt};
+ghost use Rattle.packet_encode.specs.Deliveries.{Lost, arrivals, count_to_last, count_up_to, latest_written, listed_numbers, written_numbers, IsLatestWritten, Listed, WrittenAt};
 ghost use Rattle.packet_decode.specs.Histories.{state_of};
 ghost use Rattle.loss_player.specs.Gaps.{AreGapsShort};
 ghost use Rattle.ground_chain.specs.Run.{known_after, run};
 ghost use Rattle.ground_chain.specs.Report.{run_bytes, run_rows, run_report, restored_of};
-ghost use Rattle.ground_chain.specs.Deliveries.{arrival_at, history_arrivals, restored_bytes, listed_rows, row_text, delivered_numbers, report_text};
+ghost use Rattle.ground_chain.specs.Deliveries.{ListedRow, TellsOf, arrival_at, history_arrivals, restored_bytes, listed_rows, row_numbers, row_text, delivered_numbers, report_text};
 
 use crate::verdict::Kind;
 use bit_vectors::BitFault;
@@ -58,4 +58,13 @@ pub fn packets_are_written_or_listed()
         Contains (listed_numbers h copies) t ↔ Listed h copies t }
     ensures each { (h : History) (copies : ℕ → ℕ) (t : ℕ) → t < count_to_last copies (length h.steps) →
         WrittenAt h copies t ⊎ Listed h copies t }
+{}
+
+/// The rows tell of each listed packet once, rising, and by its own cause. Lost packets alone share a row, and all that
+/// are neighbours do.
+pub fn rows_tell_of_listed_packets()
+    ensures numbers { (h : History) (copies : ℕ → ℕ) → flat_map row_numbers (listed_rows h copies) ≡ listed_numbers h copies }
+    ensures causes { (h : History) (copies : ℕ → ℕ) → All (TellsOf h copies) (listed_rows h copies) }
+    ensures together { (h : History) (copies : ℕ → ℕ) (before after : List ListedRow) (row next : ListedRow) →
+        before ++ row ∷ next ∷ after ≡ listed_rows h copies → row.cause ≡ Lost → next.cause ≡ Lost → next.first ≡ row.last + 1 → ⊥ }
 {}

@@ -15,7 +15,7 @@ mod verdict;
 pub use arrivals::Ground;
 pub use deliveries::{
     histories_are_known, no_packet_is_refused, packets_are_written_or_listed,
-    unwritten_packets_are_reported, written_packets_are_restored,
+    rows_tell_of_listed_packets, unwritten_packets_are_reported, written_packets_are_restored,
 };
 pub use fault::RestoreFault;
 pub use laws::{
