@@ -2,6 +2,14 @@ mod Distances
 mod Runs
 mod Sound
 mod Told
+mod LastArrivals
+mod HistoryPackets
+mod HistoryRuns
+mod HistoryBytes
+mod HistoryNumbers
+mod HistoryRows
+mod Listings
+mod ListedRows
 mod Counted
 mod Receptions
 mod Writings

@@ -31,7 +31,7 @@ number_later (Some latest) count few = some_later latest count few (number_after
 
 -- ---- ranges
 
-range_then : (n a m : ℕ) → range_with_len a n ++ range_with_len (a + n) m ≡ range_with_len a (n + m)
+pub range_then : (n a m : ℕ) → range_with_len a n ++ range_with_len (a + n) m ≡ range_with_len a (n + m)
 range_then zero a m =
     let first : a + zero ≡ a = omega arith in
     let count : m ≡ zero + m = omega arith in

@@ -1,5 +1,5 @@
 -- What is restored of a history of which each packet arrives so many times.
-use Rattle.std.specs.Prelude.{◌≡◌, ℕ, ◌+◌, ◌-◌, ◌%◌, ◌==◌, Bool, true, false, ◌&&◌, if◌then◌else◌, List, [], ◌∷◌, ◌++◌, map, length, codes}
+use Rattle.std.specs.Prelude.{◌≡◌, ◌≤◌, ℕ, ◌+◌, ◌-◌, ◌%◌, ◌==◌, Bool, true, false, ◌&&◌, if◌then◌else◌, List, [], ◌∷◌, ◌++◌, map, length, codes}
 use Rattle.std.specs.Fmt.{decimal}
 use Rattle.std.specs.List.{flat_map, range_with_len, sum_by}
 use Rattle.bit_vectors.specs.Vectors.{vector_bytes}
@@ -34,6 +34,10 @@ abbrev pub is_lost : Cause → Bool
 is_lost Lost = true
 is_lost Unsynced = false
 is_lost (Gap level) = false
+
+-- the numbers of a row
+abbrev pub row_numbers : ListedRow → List ℕ
+row_numbers row = range_with_len row.first (row.last - row.first + 1)
 
 -- a row before others: neighbouring lost numbers stand as one row
 abbrev pub before_rows : ListedRow → List ListedRow → List ListedRow
@@ -71,3 +75,11 @@ delivered_numbers h copies = record {
 -- the report
 abbrev pub report_text : History → (ℕ → ℕ) → List ℕ
 report_text h copies = header_row ++ flat_map row_text (listed_rows h copies) ++ end_row (delivered_numbers h copies)
+
+-- ---- what the rows mean
+
+-- the row has at least one number, its cause is that of each of them, and only lost numbers stand together
+pub record TellsOf (h : History) (copies : ℕ → ℕ) (row : ListedRow) : Type 0 where
+  pub order : row.first ≤ row.last
+  pub cause : (t : ℕ) → row.first ≤ t → t ≤ row.last → cause_at h copies t ≡ row.cause
+  pub alone : is_lost row.cause ≡ false → row.first ≡ row.last

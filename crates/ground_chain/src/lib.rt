@@ -2,6 +2,7 @@
 #![tactic(auto)]
 
 mod arrivals;
+mod deliveries;
 mod fault;
 mod laws;
 mod played;
@@ -13,6 +14,10 @@ mod unwrap;
 mod verdict;
 
 pub use arrivals::Ground;
+pub use deliveries::{
+    histories_are_known, no_packet_is_refused, packets_are_written_or_listed,
+    rows_tell_of_listed_packets, unwritten_packets_are_reported, written_packets_are_restored,
+};
 pub use fault::RestoreFault;
 pub use laws::{
     every_number_once, fronts_owe_fronts, numbers_are_the_next_ones, numbers_count_the_run,

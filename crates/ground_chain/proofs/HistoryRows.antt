@@ -1,0 +1,248 @@
+-- The rows of the report on the packets of a history.
+use Rattle.std.proofs.Common.{◌≡◌, ℕ, zero, suc, ◌+◌, ◌-◌, ◌<◌, ◌≤◌, ◌⊎◌, ◌==◌, List, [], ◌∷◌, ◌++◌, length, replicate, Bool, true, false, not, ◌&&◌, cond, if◌then◌else◌, Option, Some, None, refl, sym, ap, ◌∙◌, append_assoc, append-nil, inl, inr, arith}
+use Rattle.std.specs.Prelude.{codes}
+use Rattle.std.specs.Fmt.{decimal}
+use Rattle.std.proofs.lemmas.Fmt.{decimal_digit}
+use Rattle.std.specs.List.{filter, flat_map, range_with_len}
+use Rattle.std.proofs.lemmas.Bool.{and_right, cases_lt, le-ltb, lt-ltb, ne_eqb, eq-eqb}
+use Rattle.std.proofs.lemmas.Grind.{flat_map-append}
+use Rattle.std.proofs.lemmas.List.Elements.{filter-append}
+use Rattle.mask_update.specs.Histories.{History, IsValid}
+use Rattle.robust_window.specs.Histories.{level_at}
+use Rattle.packet_encode.specs.Deliveries.{Cause, Lost, cause_behind, cause_at, count_to_last, is_written, latest_written}
+use Rattle.loss_player.specs.Gaps.{AreDropped, AreGapsShort}
+use Rattle.ground_chain.specs.declared.verdict.Kind.TheVariants as kind
+use Rattle.ground_chain.specs.Numbers.{expected}
+use Rattle.ground_chain.specs.Run.{Judged, Known, lost_from, repeated, run}
+use Rattle.ground_chain.specs.Report.{lost_row, own_row, verdict_rows, run_rows}
+use Rattle.ground_chain.specs.Deliveries.{ListedRow, history_arrivals, is_lost, before_rows, rows_of, listed_rows, row_text}
+use Rattle.ground_chain.proofs.Told.{range_then}
+use Rattle.ground_chain.proofs.LastArrivals.{last_before, last-dropped, last-arrived, last_before-is, expected-below}
+use Rattle.ground_chain.proofs.HistoryPackets.{missed_behind, kind_at, is_written-dropped}
+use Rattle.ground_chain.proofs.HistoryRuns.{known_at, judged_first, judged_copies, judged_at, run-packets}
+
+-- ---- one row before others
+
+-- the first of these rows is of lost numbers that follow this one
+abbrev joins : ℕ → List ListedRow → Bool
+joins last [] = false
+joins last (row ∷ rows) = is_lost row.cause && (row.first == last + 1)
+
+lost-before : (first last : ℕ) (rows : List ListedRow) → joins last rows ≡ false → before_rows (record { first = first; last = last; cause = Lost }) rows ≡ record { first = first; last = last; cause = Lost } ∷ rows
+lost-before first last [] apart = refl
+lost-before first last (next ∷ rows) apart =
+    ap (λ (b : Bool). if b then record next { first = first } ∷ rows else record { first = first; last = last; cause = Lost } ∷ next ∷ rows) apart
+
+lost-joins : (first last : ℕ) (rows : List ListedRow)
+    → before_rows (record { first = first; last = first; cause = Lost }) (record { first = first + 1; last = last; cause = Lost } ∷ rows) ≡ record { first = first; last = last; cause = Lost } ∷ rows
+lost-joins first last rows = by (first + 1 == first + 1) (eq-eqb (first + 1) (first + 1) refl) where
+  by : (b : Bool) → b ≡ true
+      → (if b then record { first = first; last = last; cause = Lost } ∷ rows else record { first = first; last = first; cause = Lost } ∷ record { first = first + 1; last = last; cause = Lost } ∷ rows)
+      ≡ record { first = first; last = last; cause = Lost } ∷ rows
+  by true is = refl
+  by false is = absurd cc
+
+missed-before : (t : ℕ) (latest : Option ℕ) (level : ℕ) (rows : List ListedRow) → before_rows (record { first = t; last = t; cause = cause_behind latest level }) rows ≡ record { first = t; last = t; cause = cause_behind latest level } ∷ rows
+missed-before t latest level [] = refl
+missed-before t None level (next ∷ rows) = refl
+missed-before t (Some s) level (next ∷ rows) = refl
+
+missed-apart : (last t : ℕ) (latest : Option ℕ) (level : ℕ) (rows : List ListedRow) → joins last (record { first = t; last = t; cause = cause_behind latest level } ∷ rows) ≡ false
+missed-apart last t None level rows = refl
+missed-apart last t (Some s) level rows = refl
+
+three-texts : (a b c d : List ℕ) → a ++ b ++ c ++ d ≡ a ++ (b ++ c ++ d)
+three-texts a b c d = ap (λ (l : List ℕ). l ++ d) (append_assoc a b c) ∙ append_assoc a (b ++ c) d
+
+missed-text : (t : ℕ) (latest : Option ℕ) (level : ℕ) → row_text (record { first = t; last = t; cause = cause_behind latest level }) ≡ own_row t (missed_behind latest level)
+missed-text t None level =
+    let before = decimal t ++ codes "," ++ decimal t ++ codes "," in
+    ap (λ (zero_text : List ℕ). before ++ (codes "unsynced" ++ codes "," ++ zero_text) ++ codes "\n") (sym (decimal_digit 0 (omega arith)))
+    ∙ ap (λ (l : List ℕ). l ++ codes "\n") (sym (three-texts before (codes "unsynced") (codes ",") (decimal 0)))
+missed-text t (Some s) level =
+    let before = decimal t ++ codes "," ++ decimal t ++ codes "," in
+    ap (λ (l : List ℕ). l ++ codes "\n") (sym (three-texts before (codes "gap") (codes ",") (decimal level)))
+
+later-apart : (last : ℕ) (row : ListedRow) (rows : List ListedRow) → (row.first == last + 1) ≡ false → joins last (before_rows row rows) ≡ false
+later-apart last row [] other = and_right (is_lost row.cause) (row.first == last + 1) other
+later-apart last row (next ∷ rows) other = by (is_lost row.cause && is_lost next.cause && (next.first == row.last + 1)) where
+  by : (b : Bool) → joins last (if b then record next { first = row.first } ∷ rows else row ∷ next ∷ rows) ≡ false
+  by true = and_right (is_lost next.cause) (row.first == last + 1) other
+  by false = and_right (is_lost row.cause) (row.first == last + 1) other
+
+-- the row of lost numbers up to the one before t
+lost-text : (first t : ℕ) → first < t → row_text (record { first = first; last = t - 1; cause = Lost }) ≡ lost_row (lost_from first t)
+lost-text first t less =
+    let before = decimal first ++ codes "," ++ decimal (t - 1) in
+    three-texts before (codes ",") (codes "lost,0") (codes "\n")
+    ∙ ap (λ (b : Bool). lost_row (if b then Some (record { first = first; last = t - 1 }) else None)) (sym (lt-ltb first t less))
+
+no-lost-text : (first t : ℕ) → t ≤ first → lost_row (lost_from first t) ≡ []
+no-lost-text first t le = ap (λ (b : Bool). lost_row (if b then Some (record { first = first; last = t - 1 }) else None)) (le-ltb first t le)
+
+-- ---- the numbers up to an arrival
+
+filter-all : (test : ℕ → Bool) (k first : ℕ) → ((s : ℕ) → first ≤ s → s < first + k → test s ≡ true) → filter test (range_with_len first k) ≡ range_with_len first k
+filter-all test zero first all = refl
+filter-all test (suc k) first all =
+    let here : test first ≡ true = all first (omega arith) (omega arith) in
+    let rest = filter-all test k (first + 1) (λ s le less. all s (omega (arith, le)) (omega (arith, less))) in
+    ap (λ (b : Bool). cond b (first ∷ filter test (range_with_len (first + 1) k)) (filter test (range_with_len (first + 1) k))) here ∙ ap (λ (l : List ℕ). first ∷ l) rest
+
+range-split : (first t last : ℕ) → first ≤ t → t < last → range_with_len first (last - first) ≡ range_with_len first (t - first) ++ t ∷ range_with_len (t + 1) (last - (t + 1))
+range-split first t last le lt =
+    let count : t - first + suc (last - (t + 1)) ≡ last - first = omega arith in
+    let place : first + (t - first) ≡ t = omega arith in
+    ap (range_with_len first) (sym count)
+    ∙ (sym (range_then (t - first) first (suc (last - (t + 1)))) ∙ ap (λ (k : ℕ). range_with_len first (t - first) ++ range_with_len k (suc (last - (t + 1)))) place)
+
+-- repeats have no row
+repeats-no-row : (known : Known) (n : ℕ) → flat_map (λ j. verdict_rows j.verdict) (replicate n (repeated known)) ≡ []
+repeats-no-row known zero = refl
+repeats-no-row known (suc n) = repeats-no-row known n
+
+module _ (h : History) (copies : ℕ → ℕ) where
+  -- ---- the rows of listed numbers
+
+  abbrev is_unwritten_at : ℕ → Bool
+  is_unwritten_at t = not (is_written h copies t)
+
+  abbrev rows_from : List ℕ → List ListedRow
+  rows_from numbers = rows_of h copies numbers
+
+  abbrev text_of : List ℕ → List ℕ
+  text_of numbers = flat_map row_text (rows_of h copies numbers)
+
+  -- the listed numbers from one up to the one before another
+  abbrev listed_between : ℕ → ℕ → List ℕ
+  listed_between first last = filter is_unwritten_at (range_with_len first (last - first))
+
+  row-lost : (t : ℕ) → copies t ≡ 0 → cause_at h copies t ≡ Lost
+  row-lost t none = ap (λ (n : ℕ). if n == 0 then Lost else cause_behind (latest_written h copies t) (level_at h t)) none
+
+  row-missed : (t c : ℕ) → copies t ≡ suc c → cause_at h copies t ≡ cause_behind (latest_written h copies t) (level_at h t)
+  row-missed t c is =
+      let some : copies t ≡ 0 → ⊥ = λ e. omega (arith, e, is) in
+      ap (λ (b : Bool). if b then Lost else cause_behind (latest_written h copies t) (level_at h t)) (ne_eqb (copies t) 0 some)
+
+  -- lost numbers in a row stand as one
+  lost-rows : (m first : ℕ) (more : List ℕ) → ((s : ℕ) → first ≤ s → s < first + suc m → copies s ≡ 0) → joins (first + m) (rows_from more) ≡ false
+      → rows_from (range_with_len first (suc m) ++ more) ≡ record { first = first; last = first + m; cause = Lost } ∷ rows_from more
+  lost-rows zero first more none apart =
+      let last : first ≡ first + 0 = omega arith in
+      let here = row-lost first (none first (omega arith) (omega arith)) in
+      ap (λ (cause : Cause). before_rows (record { first = first; last = first; cause = cause }) (rows_from more)) here
+      ∙ (ap (λ (n : ℕ). before_rows (record { first = first; last = n; cause = Lost }) (rows_from more)) last ∙ lost-before first (first + 0) (rows_from more) apart)
+  lost-rows (suc m) first more none apart =
+      let last : first + 1 + m ≡ first + suc m = omega arith in
+      let here = row-lost first (none first (omega arith) (omega arith)) in
+      let rest = lost-rows m (first + 1) more (λ s le less. none s (omega (arith, le)) (omega (arith, less))) (ap (λ (n : ℕ). joins n (rows_from more)) last ∙ apart) in
+      ap (λ (cause : Cause). before_rows (record { first = first; last = first; cause = cause }) (rows_from (range_with_len (first + 1) (suc m) ++ more))) here
+      ∙ (ap (λ (rows : List ListedRow). before_rows (record { first = first; last = first; cause = Lost }) rows) rest
+      ∙ (lost-joins first (first + 1 + m) (rows_from more) ∙ ap (λ (n : ℕ). record { first = first; last = n; cause = Lost } ∷ rows_from more) last))
+
+  -- a later number follows no earlier row
+  apart-by : (last t : ℕ) (unwritten : Bool) (more : List ℕ) → last + 1 < t → joins last (rows_from more) ≡ false → joins last (rows_from (cond unwritten (t ∷ more) more)) ≡ false
+  apart-by last t true more less apart =
+      let other : (t == last + 1) ≡ false = ne_eqb t (last + 1) (λ e. omega (arith, e, less)) in
+      later-apart last (record { first = t; last = t; cause = cause_at h copies t }) (rows_from more) other
+  apart-by last t false more less apart = apart
+
+  later-rows : (k last t : ℕ) → last + 1 < t → joins last (rows_from (filter is_unwritten_at (range_with_len t k))) ≡ false
+  later-rows zero last t less = refl
+  later-rows (suc k) last t less =
+      apart-by last t (is_unwritten_at t) (filter is_unwritten_at (range_with_len (t + 1) k)) less (later-rows k last (t + 1) (omega (arith, less)))
+
+  -- ---- the row of an arrival
+
+  own-rows : (t c : ℕ) → copies t ≡ suc c → (more : List ℕ) → rows_from (t ∷ more) ≡ record { first = t; last = t; cause = cause_behind (latest_written h copies t) (level_at h t) } ∷ rows_from more
+  own-rows t c is more =
+      ap (λ (cause : Cause). before_rows (record { first = t; last = t; cause = cause }) (rows_from more)) (row-missed t c is)
+      ∙ missed-before t (latest_written h copies t) (level_at h t) (rows_from more)
+
+  own-text : (t c : ℕ) → copies t ≡ suc c → (more : List ℕ) (written : Bool)
+      → text_of (cond (not written) (t ∷ more) more) ≡ own_row t (if written then kind.Written else missed_behind (latest_written h copies t) (level_at h t)) ++ text_of more
+  own-text t c is more true = refl
+  own-text t c is more false =
+      ap (λ (rows : List ListedRow). flat_map row_text rows) (own-rows t c is more)
+      ∙ ap (λ (l : List ℕ). l ++ text_of more) (missed-text t (latest_written h copies t) (level_at h t))
+
+  own-apart : (last t c : ℕ) → copies t ≡ suc c → (more : List ℕ) (written : Bool) → joins last (rows_from more) ≡ false → joins last (rows_from (cond (not written) (t ∷ more) more)) ≡ false
+  own-apart last t c is more true apart = apart
+  own-apart last t c is more false apart =
+      ap (joins last) (own-rows t c is more) ∙ missed-apart last t (latest_written h copies t) (level_at h t) (rows_from more)
+
+  -- lost numbers before t, and then others
+  lost-then : (d first t : ℕ) → t - first ≡ d → first ≤ t → AreDropped copies first t → (more : List ℕ) → ((last : ℕ) → last + 1 ≡ t → joins last (rows_from more) ≡ false)
+      → text_of (range_with_len first d ++ more) ≡ lost_row (lost_from first t) ++ text_of more
+  lost-then zero first t is le none more apart =
+      let past : t ≤ first = omega (arith, is) in
+      ap (λ (l : List ℕ). l ++ text_of more) (sym (no-lost-text first t past))
+  lost-then (suc m) first t is le none more apart =
+      let less : first < t = omega (arith, is) in
+      let next : first + m + 1 ≡ t = omega (arith, is) in
+      let last : first + m ≡ t - 1 = omega (arith, is) in
+      let rows = lost-rows m first more (λ s from less_s. none s (omega (arith, less_s, is)) from) (apart (first + m) next) in
+      ap (λ (rows : List ListedRow). flat_map row_text rows) rows
+      ∙ (ap (λ (n : ℕ). flat_map row_text (record { first = first; last = n; cause = Lost } ∷ rows_from more)) last ∙ ap (λ (l : List ℕ). l ++ text_of more) (lost-text first t less))
+
+  -- the rows of all copies of a packet that arrives
+  arrived-text : (t c : ℕ) → run_rows (judged_copies h copies t (suc c)) ≡ lost_row (lost_from (expected (last_before copies t)) t) ++ own_row t (kind_at h copies t)
+  arrived-text t c =
+      ap (λ (l : List ℕ). verdict_rows (judged_first h copies t).verdict ++ l) (repeats-no-row (known_at h copies (t + 1)) c) ∙ append-nil (verdict_rows (judged_first h copies t).verdict)
+
+  -- ---- the rows up to the last arrival
+
+  module _ (n : ℕ) where
+    -- what is reported where the packet t is the next
+    abbrev text_behind : Option ℕ → List ℕ
+    text_behind latest = text_of (listed_between (expected latest) (count_to_last copies n))
+
+    is_heard : (t c : ℕ) → t < n → copies t ≡ suc c → t < count_to_last copies n
+    is_heard t c lt is = by (cases_lt t (count_to_last copies n)) where
+      by : (t < count_to_last copies n) ⊎ (count_to_last copies n ≤ t) → t < count_to_last copies n
+      by (inl less) = less
+      by (inr le) = let none = (last_before-is copies n).none t lt le in absurd (omega (arith, none, is))
+
+    next-text : (t c : ℕ) → t < n → copies t ≡ suc c
+        → text_behind (last_before copies t) ≡ (lost_row (lost_from (expected (last_before copies t)) t) ++ own_row t (kind_at h copies t)) ++ text_behind (Some t)
+    next-text t c lt is =
+        let first = expected (last_before copies t) in
+        let last = count_to_last copies n in
+        let dropped = (last_before-is copies t).none in
+        let le = expected-below t (last_before copies t) (last_before-is copies t).before in
+        let more = listed_between (t + 1) (count_to_last copies n) in
+        let own = filter is_unwritten_at (t ∷ range_with_len (t + 1) (count_to_last copies n - (t + 1))) in
+        let before = filter-all is_unwritten_at (t - first) first (λ s from less. ap not (is_written-dropped h copies s (dropped s (omega (arith, less, le)) from))) in
+        let numbers : listed_between (expected (last_before copies t)) (count_to_last copies n) ≡ range_with_len first (t - first) ++ own =
+        ap (λ (l : List ℕ). filter is_unwritten_at l) (range-split first t last le (is_heard t c lt is))
+        ∙ (filter-append is_unwritten_at (range_with_len first (t - first)) (t ∷ range_with_len (t + 1) (last - (t + 1))) ∙ ap (λ (l : List ℕ). l ++ own) before) in
+        let apart = λ (s : ℕ) (e : s + 1 ≡ t). own-apart s t c is more (is_written h copies t) (later-rows (last - (t + 1)) s (t + 1) (omega (arith, e))) in
+        ap (λ (l : List ℕ). flat_map row_text (rows_of h copies l)) numbers
+        ∙ (lost-then (t - first) first t refl le dropped own apart
+        ∙ (ap (λ (l : List ℕ). lost_row (lost_from first t) ++ l) (own-text t c is more (is_written h copies t)) ∙ sym (append_assoc (lost_row (lost_from first t)) (own_row t (kind_at h copies t)) (text_behind (Some t)))))
+
+    packet-text : (t c : ℕ) → t < n → copies t ≡ c → (rest : List Judged) → run_rows rest ≡ text_behind (last_before copies (t + 1)) → run_rows (judged_copies h copies t c ++ rest) ≡ text_behind (last_before copies t)
+    packet-text t zero lt is rest same = same ∙ ap text_behind (last-dropped copies t is)
+    packet-text t (suc c) lt is rest same =
+        let here = lost_row (lost_from (expected (last_before copies t)) t) ++ own_row t (kind_at h copies t) in
+        flat_map-append (λ (j : Judged). verdict_rows j.verdict) (judged_copies h copies t (suc c)) rest
+        ∙ (ap (λ (l : List ℕ). l ++ run_rows rest) (arrived-text t c)
+        ∙ (ap (λ (l : List ℕ). here ++ l) (same ∙ ap text_behind (last-arrived copies t c is)) ∙ sym (next-text t c lt is)))
+
+    packets-text : (k t : ℕ) → t + k ≡ n → run_rows (flat_map (judged_at h copies) (range_with_len t k)) ≡ text_behind (last_before copies t)
+    packets-text zero t is =
+        let end : n ≡ t = omega (arith, is) in
+        let none : 0 ≡ count_to_last copies n - count_to_last copies n = omega arith in
+        ap (λ (k : ℕ). text_of (filter is_unwritten_at (range_with_len (count_to_last copies n) k))) none ∙ ap (λ (s : ℕ). text_behind (last_before copies s)) end
+    packets-text (suc k) t is =
+        let lt : t < n = omega (arith, is) in
+        let more : t + 1 + k ≡ n = omega (arith, is) in
+        packet-text t (copies t) lt refl (flat_map (judged_at h copies) (range_with_len (t + 1) k)) (packets-text k (t + 1) more)
+
+  pub rows-history : IsValid h → AreGapsShort copies (length h.steps) → run_rows (run h.places (history_arrivals h copies)) ≡ flat_map row_text (listed_rows h copies)
+  rows-history valid short =
+      let all : 0 + length h.steps ≡ length h.steps = omega arith in
+      let count : count_to_last copies (length h.steps) - 0 ≡ count_to_last copies (length h.steps) = omega arith in
+      ap run_rows (run-packets h copies valid short)
+      ∙ (packets-text (length h.steps) (length h.steps) 0 all ∙ ap (λ (k : ℕ). text_of (filter is_unwritten_at (range_with_len 0 k))) count)

@@ -1,0 +1,70 @@
+//! What the run makes of the packets of a history, of which each arrives so many times.
+
+ghost use Rattle.std.specs.Prelude.{◌≡◌, ◌<◌, ◌↔◌, ◌⊎◌, ◌∷◌, ◌++◌, ◌+◌, ℕ, length, All, Contains, List, Option, None, Some, map};
+ghost use Rattle.std.specs.List.{flat_map, last_or};
+ghost use Rattle.mask_update.specs.Histories.{History, IsValid};
+ghost use Rattle.packet_encode.specs.Deliveries.{Lost, arrivals, count_to_last, count_up_to, latest_written, listed_numbers, written_numbers, IsLatestWritten, Listed, WrittenAt};
+ghost use Rattle.packet_decode.specs.Histories.{state_of};
+ghost use Rattle.loss_player.specs.Gaps.{AreGapsShort};
+ghost use Rattle.ground_chain.specs.Run.{known_after, run};
+ghost use Rattle.ground_chain.specs.Report.{run_bytes, run_rows, run_report, restored_of};
+ghost use Rattle.ground_chain.specs.Deliveries.{ListedRow, TellsOf, arrival_at, history_arrivals, restored_bytes, listed_rows, row_numbers, row_text, delivered_numbers, report_text};
+
+use crate::verdict::Kind;
+use bit_vectors::BitFault;
+
+/// The ground knows where it is in a history, and what it has written of it. After each arrival the latest number is that
+/// of the packet, and the state is that of the latest packet so far that is written: its number, its mask and its input.
+pub fn histories_are_known()
+    ensures { (h : History) (copies : ℕ → ℕ) → IsValid h → AreGapsShort copies (length h.steps) →
+        (front rest : List ℕ) → front ++ rest ≡ arrivals copies (length h.steps) →
+        known_after h.places (map (arrival_at h) front)
+        ≡ record { latest = last_or None front; state = state_of h (latest_written h copies (count_up_to (last_or None front))) } }
+{}
+
+/// No packet of a history is refused.
+pub fn no_packet_is_refused()
+    ensures { (h : History) (copies : ℕ → ℕ) → IsValid h → AreGapsShort copies (length h.steps) →
+        All (λ j. (fault : BitFault) → j.verdict.kind ≡ Kind.Refused fault → ⊥) (run h.places (history_arrivals h copies)) }
+{}
+
+/// The restored packets are the inputs of the packets of the history that are written, and of no other.
+pub fn written_packets_are_restored()
+    ensures { (h : History) (copies : ℕ → ℕ) → IsValid h → AreGapsShort copies (length h.steps) →
+        run_bytes (run h.places (history_arrivals h copies)) ≡ restored_bytes h copies }
+{}
+
+/// The report has a row for each packet up to the last arrival that is not written, where neighbouring lost ones stand
+/// as one row, and its last row has the numbers of the history and its copies.
+pub fn unwritten_packets_are_reported()
+    ensures rows { (h : History) (copies : ℕ → ℕ) → IsValid h → AreGapsShort copies (length h.steps) →
+        run_rows (run h.places (history_arrivals h copies)) ≡ flat_map row_text (listed_rows h copies) }
+    ensures numbers { (h : History) (copies : ℕ → ℕ) → IsValid h → AreGapsShort copies (length h.steps) →
+        restored_of (run h.places (history_arrivals h copies)) ≡ delivered_numbers h copies }
+    ensures report { (h : History) (copies : ℕ → ℕ) → IsValid h → AreGapsShort copies (length h.steps) →
+        run_report (run h.places (history_arrivals h copies)) ≡ report_text h copies }
+{}
+
+/// The latest written packet before another is the greatest written number below it. The restored packets are those of
+/// the written numbers, the rows those of the listed numbers, and each packet up to the last arrival is written or listed.
+pub fn packets_are_written_or_listed()
+    ensures latest { (h : History) (copies : ℕ → ℕ) (t latest : ℕ) →
+        (latest_written h copies t ≡ Some latest) ↔ IsLatestWritten h copies t latest }
+    ensures none { (h : History) (copies : ℕ → ℕ) (t : ℕ) →
+        (latest_written h copies t ≡ None) ↔ ((s : ℕ) → s < t → WrittenAt h copies s → ⊥) }
+    ensures written { (h : History) (copies : ℕ → ℕ) (t : ℕ) →
+        Contains (written_numbers h copies) t ↔ (t < length h.steps) × WrittenAt h copies t }
+    ensures listed { (h : History) (copies : ℕ → ℕ) (t : ℕ) →
+        Contains (listed_numbers h copies) t ↔ Listed h copies t }
+    ensures each { (h : History) (copies : ℕ → ℕ) (t : ℕ) → t < count_to_last copies (length h.steps) →
+        WrittenAt h copies t ⊎ Listed h copies t }
+{}
+
+/// The rows tell of each listed packet once, rising, and by its own cause. Lost packets alone share a row, and all that
+/// are neighbours do.
+pub fn rows_tell_of_listed_packets()
+    ensures numbers { (h : History) (copies : ℕ → ℕ) → flat_map row_numbers (listed_rows h copies) ≡ listed_numbers h copies }
+    ensures causes { (h : History) (copies : ℕ → ℕ) → All (TellsOf h copies) (listed_rows h copies) }
+    ensures together { (h : History) (copies : ℕ → ℕ) (before after : List ListedRow) (row next : ListedRow) →
+        before ++ row ∷ next ∷ after ≡ listed_rows h copies → row.cause ≡ Lost → next.cause ≡ Lost → next.first ≡ row.last + 1 → ⊥ }
+{}
