@@ -10,7 +10,8 @@ use Rattle.mask_update.specs.Masks.{mask_at}
 use Rattle.robust_window.specs.Histories.{level_at}
 use Rattle.packet_encode.specs.Forms.{form_bits}
 use Rattle.packet_encode.specs.Packets.{form_at, packet_at}
-use Rattle.packet_encode.specs.Deliveries.{carries_all, reaches, is_written, latest_written}
+use Rattle.packet_encode.specs.Deliveries.{carries_both, reaches, is_written, latest_written}
+use Rattle.packet_encode.proofs.Deliveries.{latest_written-suc}
 use Rattle.packet_decode.specs.declared.decoder.Reading.{Reading as Answer}
 use Rattle.packet_decode.specs.declared.decoder.Reading.TheVariants as answer
 use Rattle.packet_decode.specs.State.{IsState, InReach}
@@ -36,8 +37,8 @@ kind_at h copies t = if is_written h copies t then Written else missed_behind (l
 
 -- ---- whether it is understood
 
-carries_both : (flags : Flags) → carries_all flags ≡ true → (flags.f ≡ true) × (flags.r ≡ true)
-carries_both flags is = and_parts flags.f flags.r is
+both_carried : (flags : Flags) → carries_both flags ≡ true → (flags.f ≡ true) × (flags.r ≡ true)
+both_carried flags is = and_parts flags.f flags.r is
 
 carries_either : (f r : Bool) → f ≡ true → r ≡ true → (f && r) ≡ true
 carries_either f r a b = ap (λ x. x && r) a ∙ b
@@ -50,18 +51,18 @@ reaches-from : (h : History) (latest : Option ℕ) (t level : ℕ) → InReach (
 reaches-from h None t level near = absurd near
 reaches-from h (Some s) t level near = le-leb (t - 1 - s) level near
 
-understood-true : (h : History) (latest : Option ℕ) (t : ℕ) (carries : Bool) → carries_all (flags_at h t) ≡ carries → (carries || reaches latest t (level_at h t)) ≡ true → IsUnderstood h latest t
-understood-true h latest t true carries is = inl (carries_both (flags_at h t) carries)
+understood-true : (h : History) (latest : Option ℕ) (t : ℕ) (carries : Bool) → carries_both (flags_at h t) ≡ carries → (carries || reaches latest t (level_at h t)) ≡ true → IsUnderstood h latest t
+understood-true h latest t true carries is = inl (both_carried (flags_at h t) carries)
 understood-true h latest t false carries is = inr (reaches-true h latest t (level_at h t) is)
 
-understood-from : (h : History) (latest : Option ℕ) (t : ℕ) (carries : Bool) → carries_all (flags_at h t) ≡ carries → IsUnderstood h latest t → (carries || reaches latest t (level_at h t)) ≡ true
+understood-from : (h : History) (latest : Option ℕ) (t : ℕ) (carries : Bool) → carries_both (flags_at h t) ≡ carries → IsUnderstood h latest t → (carries || reaches latest t (level_at h t)) ≡ true
 understood-from h latest t true carries is = refl
-understood-from h latest t false carries (inl both) = absurd (both_ways (carries_all (flags_at h t)) carries (carries_either (flags_at h t).f (flags_at h t).r both.0 both.1))
+understood-from h latest t false carries (inl both) = absurd (both_ways (carries_both (flags_at h t)) carries (carries_either (flags_at h t).f (flags_at h t).r both.0 both.1))
 understood-from h latest t false carries (inr near) = reaches-from h latest t (level_at h t) near
 
 -- whether the packet is understood
 abbrev pub understands : History → Option ℕ → ℕ → Bool
-understands h latest t = carries_all (flags_at h t) || reaches latest t (level_at h t)
+understands h latest t = carries_both (flags_at h t) || reaches latest t (level_at h t)
 
 -- ---- what is read of it
 
@@ -101,9 +102,9 @@ module _ (h : History) (t : ℕ) (valid : IsValid h) (lt : t < length h.steps) w
       record { kind = ap kind_of is; state = stays (Some s) (answer.Gap (level_at h t)) before is }
 
   read_packet : (latest : Option ℕ) → IfSome latest (λ s. s < t) → (understood : Bool) → understands h latest t ≡ understood → IsReadOf h latest t (packet_at h t) understood
-  read_packet latest before true is = read_written latest before (understood-true h latest t (carries_all (flags_at h t)) refl is)
+  read_packet latest before true is = read_written latest before (understood-true h latest t (carries_both (flags_at h t)) refl is)
   read_packet latest before false is =
-      read_missed latest before (λ understood. both_ways (understands h latest t) is (understood-from h latest t (carries_all (flags_at h t)) refl understood))
+      read_missed latest before (λ understood. both_ways (understands h latest t) is (understood-from h latest t (carries_both (flags_at h t)) refl understood))
 
   -- its bytes are read
   read_data : (latest : Option ℕ) → IfSome latest (λ s. s < t) → IsReadOf h latest t (bits_of (data_at h t)) (understands h latest t)
@@ -113,12 +114,8 @@ module _ (h : History) (t : ℕ) (valid : IsValid h) (lt : t < length h.steps) w
 -- ---- among those that arrive
 
 module _ (h : History) (copies : ℕ → ℕ) where
-  pub next_written : (t : ℕ) → latest_written h copies (suc t) ≡ (if is_written h copies t then Some t else latest_written h copies t)
-  unfolding latest_written
-  next_written t = refl
-
   pub latest_written-more : (t : ℕ) → latest_written h copies (t + 1) ≡ (if is_written h copies t then Some t else latest_written h copies t)
-  latest_written-more t = let next : t + 1 ≡ suc t = omega arith in ap (latest_written h copies) next ∙ next_written t
+  latest_written-more t = let next : t + 1 ≡ suc t = omega arith in ap (latest_written h copies) next ∙ latest_written-suc h copies t
 
   before-next : (t : ℕ) (latest : Option ℕ) (written : Bool) → IfSome latest (λ s. s < t) → IfSome (if written then Some t else latest) (λ s. s < suc t)
   before-next t latest true before = omega arith
@@ -133,7 +130,7 @@ module _ (h : History) (copies : ℕ → ℕ) where
   pub latest_written-before : (t : ℕ) → IfSome (latest_written h copies t) (λ s. s < t)
   latest_written-before zero = first_written
   latest_written-before (suc t) =
-      subst (λ (latest : Option ℕ). IfSome latest (λ s. s < suc t)) (sym (next_written t)) (before-next t (latest_written h copies t) (is_written h copies t) (latest_written-before t))
+      subst (λ (latest : Option ℕ). IfSome latest (λ s. s < suc t)) (sym (latest_written-suc h copies t)) (before-next t (latest_written h copies t) (is_written h copies t) (latest_written-before t))
 
   -- a packet that does not arrive is not written
   pub is_written-dropped : (t : ℕ) → copies t ≡ 0 → is_written h copies t ≡ false

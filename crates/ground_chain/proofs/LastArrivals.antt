@@ -1,15 +1,14 @@
 -- The latest of the first packets that arrives.
-use Rattle.std.proofs.Common.{◌≡◌, ℕ, zero, suc, ◌+◌, ◌-◌, ◌%◌, ◌<◌, ◌≤◌, ◌⊎◌, List, [], ◌∷◌, ◌++◌, replicate, Option, Some, None, refl, sym, ap, ◌∙◌, subst, append-nil, inl, inr, arith}
+use Rattle.std.proofs.Common.{◌≡◌, ℕ, zero, suc, ◌+◌, ◌-◌, ◌%◌, ◌<◌, ◌≤◌, ◌⊎◌, List, [], ◌∷◌, ◌++◌, replicate, Option, Some, None, refl, sym, ap, ◌∙◌, subst, inl, inr, arith}
 use Rattle.std.specs.Prelude.{IfSome, ◌==◌, if◌then◌else◌, Bool}
-use Rattle.std.specs.List.{flat_map, last_or, range_with_len}
+use Rattle.std.specs.List.{last_or}
 use Rattle.std.proofs.lemmas.Bool.{cases_lt, ne_eqb}
-use Rattle.std.proofs.lemmas.Grind.{flat_map-append}
 use Rattle.packet_store.specs.SpacePackets.{period}
 use Rattle.packet_encode.specs.Deliveries.{arrivals}
+use Rattle.packet_encode.proofs.Deliveries.{arrivals-suc}
 use Rattle.loss_player.specs.Gaps.{AreDropped, AreGapsShort}
 use Rattle.ground_chain.specs.Numbers.{distance, number_after, expected}
 use Rattle.ground_chain.proofs.Distances.{distance-repeat}
-use Rattle.ground_chain.proofs.Told.{range_then}
 
 last_or-append : {A : Type 0} (o : Option A) (xs ys : List A) → last_or o (xs ++ ys) ≡ last_or (last_or o xs) ys
 last_or-append o [] ys = refl
@@ -41,11 +40,7 @@ module _ (copies : ℕ → ℕ) where
   -- ---- step by step
 
   arrivals-more : (t : ℕ) → arrivals copies (t + 1) ≡ arrivals copies t ++ replicate (copies t) t
-  arrivals-more t =
-      let place : 0 + t ≡ t = omega arith in
-      ap (λ (l : List ℕ). flat_map (λ s. replicate (copies s) s) l) (sym (range_then t 0 1))
-      ∙ (flat_map-append (λ s. replicate (copies s) s) (range_with_len 0 t) (range_with_len (0 + t) 1)
-      ∙ (ap (λ (s : ℕ). arrivals copies t ++ (replicate (copies s) s ++ [])) place ∙ ap (λ (l : List ℕ). arrivals copies t ++ l) (append-nil (replicate (copies t) t))))
+  arrivals-more t = let next : t + 1 ≡ suc t = omega arith in ap (arrivals copies) next ∙ arrivals-suc copies t
 
   last-more : (t c : ℕ) → copies t ≡ c → last_before copies (t + 1) ≡ last_or (last_before copies t) (replicate c t)
   last-more t c is =

@@ -8,11 +8,11 @@ mod HistoryRuns
 mod HistoryBytes
 mod HistoryNumbers
 mod HistoryRows
-mod Listings
 mod ListedRows
 mod Counted
 mod Receptions
 mod Writings
 mod RestCourses
 mod Restorations
-pub mod PlayedHistories
+mod PlayedHistories
+pub mod DeliveredRuns

@@ -1,5 +1,5 @@
 -- The packets of a history, as they arrive from its played store.
-use Rattle.std.proofs.Common.{◌≡◌, ℕ, zero, suc, ◌+◌, ◌%◌, ◌^◌, ◌<◌, ◌≤◌, ◌==◌, Bool, true, false, cond, List, [], ◌∷◌, ◌++◌, length, map, replicate, All, Option, Some, None, refl, sym, ap, subst, ◌∙◌, arith}
+use Rattle.std.proofs.Common.{◌≡◌, ℕ, zero, suc, ◌+◌, ◌%◌, ◌^◌, ◌<◌, ◌≤◌, ◌==◌, Bool, true, cond, List, [], ◌∷◌, ◌++◌, length, map, replicate, All, Some, None, refl, sym, ap, subst, ◌∙◌, arith}
 use Rattle.std.specs.List.{filter, flat_map, range_with_len}
 use Rattle.std.proofs.lemmas.Grind.{common_steps}
 use Rattle.std.proofs.lemmas.List.{length-map, map-append}
@@ -10,7 +10,7 @@ use Rattle.mask_update.specs.Histories.{History, IsValid}
 use Rattle.packet_encode.specs.Deliveries.{arrivals}
 use Rattle.packet_store.specs.declared.fault.WalkFault.TheVariants as fault
 use Rattle.packet_store.specs.SpacePackets.{Packet, period, is_chosen, plain_packet}
-use Rattle.packet_store.specs.Walks.{IsGood, Walk, packets_bytes, walk, walk_from}
+use Rattle.packet_store.specs.Walks.{IsGood, Walk, walk}
 use Rattle.packet_store.proofs.Packets.{IsGood-plain}
 use Rattle.flight_chain.specs.Stores.{data_at, numbered_data, store_of}
 use Rattle.flight_chain.proofs.GoodStores.{IsPacket-at, walk-store_of}

@@ -21,7 +21,7 @@ stop_by-fault_of (Data TooMany) = refl
 stop_by-fault_of ReadFault = refl
 stop_by-fault_of WriteFault = refl
 
-abbrev course : Progress → List ℕ → Course WalkFault
+abbrev pub course : Progress → List ℕ → Course WalkFault
 course s bytes = behind (to_report header_row) (rest_course s bytes)
 
 -- nothing was read, so what is owed is what the store owes

@@ -1,12 +1,18 @@
 -- What is restored of a history of which each packet arrives so many times.
-use Rattle.std.specs.Prelude.{◌≡◌, ◌≤◌, ℕ, ◌+◌, ◌-◌, ◌%◌, ◌==◌, Bool, true, false, ◌&&◌, if◌then◌else◌, List, [], ◌∷◌, ◌++◌, map, length, codes}
+use Rattle.std.specs.Prelude.{◌≡◌, ◌≤◌, ℕ, ◌+◌, ◌-◌, ◌%◌, ◌==◌, Bool, true, false, ◌&&◌, if◌then◌else◌, List, [], ◌∷◌, ◌++◌, map, length, codes, Some}
 use Rattle.std.specs.Fmt.{decimal}
+use Rattle.std.specs.Io.KnownBytes.{append_known}
 use Rattle.std.specs.List.{flat_map, range_with_len, sum_by}
 use Rattle.bit_vectors.specs.Vectors.{vector_bytes}
-use Rattle.mask_update.specs.Histories.{History, input_at}
+use Rattle.desk_ports.specs.declared.desk.Inlet.TheVariants as inlet
+use Rattle.desk_ports.specs.declared.desk.Outlet.TheVariants as outlet
+use Rattle.desk_ports.specs.Meanings.{Meanings, left, made}
+use Rattle.mask_update.specs.Histories.{History, IsValid, input_at}
 use Rattle.packet_encode.specs.Deliveries.{Cause, Lost, Unsynced, Gap, arrivals, cause_at, listed_numbers, written_numbers}
 use Rattle.packet_store.specs.SpacePackets.{period}
-use Rattle.flight_chain.specs.Stores.{data_at}
+use Rattle.flight_chain.specs.Stores.{data_at, store_of}
+use Rattle.loss_player.specs.Gaps.{AreGapsShort}
+use Rattle.loss_player.specs.Played.{played_bytes}
 use Rattle.ground_chain.specs.declared.restored.Restored.{Restored}
 use Rattle.ground_chain.specs.Run.{Arrival}
 use Rattle.ground_chain.specs.Report.{header_row, end_row}
@@ -83,3 +89,20 @@ pub record TellsOf (h : History) (copies : ℕ → ℕ) (row : ListedRow) : Type
   pub order : row.first ≤ row.last
   pub cause : (t : ℕ) → row.first ≤ t → t ≤ row.last → cause_at h copies t ≡ row.cause
   pub alone : is_lost row.cause ≡ false → row.first ≡ row.last
+
+-- ---- what a run writes
+
+-- To the outputs were added the inputs of the written packets and the report of all others, and these are the numbers.
+pub record IsDelivered (h : History) (copies : ℕ → ℕ) (restored : Restored) (old new : Meanings) : Type 0 where
+  pub output : made new outlet.Main ≡ append_known (made old outlet.Main) (restored_bytes h copies)
+  pub report : made new outlet.Report ≡ append_known (made old outlet.Report) (report_text h copies)
+  pub numbers : restored ≡ delivered_numbers h copies
+
+-- The input is the played store of a valid history: each packet arrives so many times, with gaps that are shorter than the
+-- period of the sequence counts.
+pub record IsPlayed (f apid : ℕ) (h : History) (copies : ℕ → ℕ) (m : Meanings) : Type 0 where
+  pub valid : IsValid h
+  pub places : h.places ≡ f
+  pub chosen : apid ≤ 2046
+  pub gaps : AreGapsShort copies (length h.steps)
+  pub input : left m inlet.Main ≡ Some (played_bytes copies apid (store_of h apid))

@@ -1,17 +1,37 @@
 //! What the run makes of the packets of a history, of which each arrives so many times.
 
-ghost use Rattle.std.specs.Prelude.{◌≡◌, ◌<◌, ◌↔◌, ◌⊎◌, ◌∷◌, ◌++◌, ◌+◌, ℕ, length, All, Contains, List, Option, None, Some, map};
+ghost use Rattle.std.specs.Prelude.{◌≡◌, ◌<◌, ◌≤◌, ◌^◌, ◌∷◌, ◌++◌, ◌+◌, ℕ, length, All, List, None, Some, map};
 ghost use Rattle.std.specs.List.{flat_map, last_or};
 ghost use Rattle.mask_update.specs.Histories.{History, IsValid};
-ghost use Rattle.packet_encode.specs.Deliveries.{Lost, arrivals, count_to_last, count_up_to, latest_written, listed_numbers, written_numbers, IsLatestWritten, Listed, WrittenAt};
+ghost use Rattle.packet_encode.specs.Deliveries.{Lost, arrivals, count_up_to, latest_written, listed_numbers};
 ghost use Rattle.packet_decode.specs.Histories.{state_of};
+ghost use Rattle.packet_store.specs.Walks.{walk};
+ghost use Rattle.flight_chain.specs.Stores.{store_of};
 ghost use Rattle.loss_player.specs.Gaps.{AreGapsShort};
+ghost use Rattle.loss_player.specs.Played.{played_bytes};
+ghost use Rattle.desk_ports.specs.Courses.{owed};
+ghost use Rattle.ground_chain.specs.Restoring.{arrivals_of, restore_course, store_run};
 ghost use Rattle.ground_chain.specs.Run.{known_after, run};
 ghost use Rattle.ground_chain.specs.Report.{run_bytes, run_rows, run_report, restored_of};
 ghost use Rattle.ground_chain.specs.Deliveries.{ListedRow, TellsOf, arrival_at, history_arrivals, restored_bytes, listed_rows, row_numbers, row_text, delivered_numbers, report_text};
 
 use crate::verdict::Kind;
 use bit_vectors::BitFault;
+use packet_store::WalkFault;
+
+/// The played store of a valid history is whole, and what arrives from it are the packets of the history, each as often as
+/// its copies say; more copies than a store may have packets are too many.
+pub fn played_histories_arrive()
+    ensures whole { (h : History) (copies : ℕ → ℕ) (apid : ℕ) → IsValid h → apid ≤ 2046
+        → length (arrivals copies (length h.steps)) ≤ 2 ^ 32
+        → (walk (Some apid) (played_bytes copies apid (store_of h apid))).ending ≡ None }
+    ensures arrive { (h : History) (copies : ℕ → ℕ) (apid : ℕ) → IsValid h → apid ≤ 2046
+        → length (arrivals copies (length h.steps)) ≤ 2 ^ 32
+        → arrivals_of (Some apid) (walk (Some apid) (played_bytes copies apid (store_of h apid))).packets ≡ history_arrivals h copies }
+    ensures too_many { (h : History) (copies : ℕ → ℕ) (apid : ℕ) → IsValid h → apid ≤ 2046
+        → 2 ^ 32 < length (arrivals copies (length h.steps))
+        → (walk (Some apid) (played_bytes copies apid (store_of h apid))).ending ≡ Some WalkFault.TooMany }
+{}
 
 /// The ground knows where it is in a history, and what it has written of it. After each arrival the latest number is that
 /// of the packet, and the state is that of the latest packet so far that is written: its number, its mask and its input.
@@ -45,21 +65,6 @@ pub fn unwritten_packets_are_reported()
         run_report (run h.places (history_arrivals h copies)) ≡ report_text h copies }
 {}
 
-/// The latest written packet before another is the greatest written number below it. The restored packets are those of
-/// the written numbers, the rows those of the listed numbers, and each packet up to the last arrival is written or listed.
-pub fn packets_are_written_or_listed()
-    ensures latest { (h : History) (copies : ℕ → ℕ) (t latest : ℕ) →
-        (latest_written h copies t ≡ Some latest) ↔ IsLatestWritten h copies t latest }
-    ensures none { (h : History) (copies : ℕ → ℕ) (t : ℕ) →
-        (latest_written h copies t ≡ None) ↔ ((s : ℕ) → s < t → WrittenAt h copies s → ⊥) }
-    ensures written { (h : History) (copies : ℕ → ℕ) (t : ℕ) →
-        Contains (written_numbers h copies) t ↔ (t < length h.steps) × WrittenAt h copies t }
-    ensures listed { (h : History) (copies : ℕ → ℕ) (t : ℕ) →
-        Contains (listed_numbers h copies) t ↔ Listed h copies t }
-    ensures each { (h : History) (copies : ℕ → ℕ) (t : ℕ) → t < count_to_last copies (length h.steps) →
-        WrittenAt h copies t ⊎ Listed h copies t }
-{}
-
 /// The rows tell of each listed packet once, rising, and by its own cause. Lost packets alone share a row, and all that
 /// are neighbours do.
 pub fn rows_tell_of_listed_packets()
@@ -67,4 +72,16 @@ pub fn rows_tell_of_listed_packets()
     ensures causes { (h : History) (copies : ℕ → ℕ) → All (TellsOf h copies) (listed_rows h copies) }
     ensures together { (h : History) (copies : ℕ → ℕ) (before after : List ListedRow) (row next : ListedRow) →
         before ++ row ∷ next ∷ after ≡ listed_rows h copies → row.cause ≡ Lost → next.cause ≡ Lost → next.first ≡ row.last + 1 → ⊥ }
+{}
+
+/// What the played store of a valid history owes, where it is whole: the inputs of the packets that are written, and the
+/// report of all others up to the last arrival.
+pub fn played_histories_are_restored()
+    ensures outputs { (h : History) (copies : ℕ → ℕ) (apid : ℕ) → IsValid h → apid ≤ 2046 → AreGapsShort copies (length h.steps)
+        → (walk (Some apid) (played_bytes copies apid (store_of h apid))).ending ≡ None
+        → owed (restore_course h.places apid (played_bytes copies apid (store_of h apid)))
+        ≡ record { output = restored_bytes h copies; report = report_text h copies } }
+    ensures numbers { (h : History) (copies : ℕ → ℕ) (apid : ℕ) → IsValid h → apid ≤ 2046 → AreGapsShort copies (length h.steps)
+        → (walk (Some apid) (played_bytes copies apid (store_of h apid))).ending ≡ None
+        → restored_of (store_run h.places apid (played_bytes copies apid (store_of h apid))) ≡ delivered_numbers h copies }
 {}

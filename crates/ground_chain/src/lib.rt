@@ -5,7 +5,6 @@ mod arrivals;
 mod deliveries;
 mod fault;
 mod laws;
-mod played;
 mod report;
 mod restored;
 mod restorer;
@@ -15,8 +14,9 @@ mod verdict;
 
 pub use arrivals::Ground;
 pub use deliveries::{
-    histories_are_known, no_packet_is_refused, packets_are_written_or_listed,
-    rows_tell_of_listed_packets, unwritten_packets_are_reported, written_packets_are_restored,
+    histories_are_known, no_packet_is_refused, played_histories_are_restored,
+    played_histories_arrive, rows_tell_of_listed_packets, unwritten_packets_are_reported,
+    written_packets_are_restored,
 };
 pub use fault::RestoreFault;
 pub use laws::{
@@ -24,7 +24,6 @@ pub use laws::{
     numbers_rise, one_exact_run, repeats_change_nothing, runs_grow, sound_runs_agree,
     whole_stores_owe_their_run, worked_runs,
 };
-pub use played::played_histories_arrive;
 pub use restored::Restored;
 pub use restorer::Restorer;
 pub use unwrap::Unwrap;

@@ -1,8 +1,11 @@
 //! The command `restore`: from a store to the restored packets and the report.
 
-ghost use Rattle.std.specs.Prelude.{◌≡◌, ◌≤◌, IfOk, IfSome};
-ghost use Rattle.desk_ports.specs.Meanings.{IsReadyIn, IsReadyOut, left};
+ghost use Rattle.std.specs.Prelude.{◌≡◌, ◌≤◌, ◌^◌, ℕ, length, IsOk, IfOk, IfSome};
+ghost use Rattle.desk_ports.specs.Meanings.{IsReadyIn, IsReadyOut, Rose, left};
 ghost use Rattle.desk_ports.specs.Courses.{AfterRun, HasCause};
+ghost use Rattle.mask_update.specs.Histories.{History};
+ghost use Rattle.packet_encode.specs.Deliveries.{arrivals};
+ghost use Rattle.ground_chain.specs.Deliveries.{IsDelivered, IsPlayed};
 ghost use Rattle.ground_chain.specs.Report.{restored_of};
 ghost use Rattle.ground_chain.specs.Restoring.{as_run, restore_course, store_run};
 
@@ -55,6 +58,15 @@ impl Restorer {
         // Where the desk tells the store, the numbers are those of the run over it.
         ensures numbers { IfSome (left (D.meaning desk.old) Inlet.Main) (λ store.
             IfOk result (λ restored. restored ≡ restored_of (store_run self.places self.apid store))) }
+        // Whatever was lost or repeated, with gaps that are shorter than the period of the sequence counts: each packet up to
+        // the last arrival is written exactly as it was, or listed.
+        ensures headline { (h : History) (copies : ℕ → ℕ) → IsPlayed self.places self.apid h copies (D.meaning desk.old)
+            → IfOk result (λ restored. IsDelivered h copies restored (D.meaning desk.old) (D.meaning desk.new)) }
+        // Over a desk that doesn't fail the run of such a store is done, if it has no more packets than a store may have.
+        ensures complete { (h : History) (copies : ℕ → ℕ) → IsPlayed self.places self.apid h copies (D.meaning desk.old)
+            → length (arrivals copies (length h.steps)) ≤ 2 ^ 32
+            → ¬ Rose (D.counts desk.old).reads (D.counts desk.new).reads → ¬ Rose (D.counts desk.old).writes (D.counts desk.new).writes
+            → IsOk result }
     {
         let mut restoring = self.restoring;
         let restored = restoring.run(desk)?;

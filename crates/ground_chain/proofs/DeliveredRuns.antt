@@ -1,0 +1,89 @@
+-- What a run over the played store of a history writes.
+use Rattle.std.proofs.Common.{◌≡◌, ℕ, ◌++◌, ◌^◌, ◌<◌, ◌≤◌, ◌⊎◌, List, length, Some, None, Result, Ok, Err, IfSome, IsOk, inl, inr, append-nil, append_assoc, refl, sym, ap, ◌∙◌, subst}
+use Rattle.std.specs.Io.KnownBytes.{append_known}
+use Rattle.std.proofs.lemmas.Bool.{cases_lt}
+use Rattle.desk_ports.specs.declared.desk.Inlet.TheVariants as inlet
+use Rattle.desk_ports.specs.declared.desk.Outlet.TheVariants as outlet
+use Rattle.desk_ports.specs.declared.stop.Stop.{Stop}
+use Rattle.desk_ports.specs.declared.stop.Stop.TheVariants.{Data, ReadFault, WriteFault}
+use Rattle.desk_ports.specs.Meanings.{Meanings, Counts, Rose, left, made}
+use Rattle.desk_ports.specs.Courses.{AfterRun, HasCause, Outputs, by_ending, owed}
+use Rattle.desk_ports.proofs.Courses.{Ends-told}
+use Rattle.mask_update.specs.Histories.{History, IsValid}
+use Rattle.packet_encode.specs.Deliveries.{arrivals}
+use Rattle.packet_store.specs.declared.fault.WalkFault.{WalkFault}
+use Rattle.packet_store.specs.Walks.{Walk, walk}
+use Rattle.flight_chain.specs.Stores.{store_of}
+use Rattle.loss_player.specs.Gaps.{AreGapsShort}
+use Rattle.loss_player.specs.Played.{played_bytes}
+use Rattle.ground_chain.specs.declared.restored.Restored.{Restored}
+use Rattle.ground_chain.specs.Run.{run}
+use Rattle.ground_chain.specs.Report.{end_row, header_row, restored_of, run_bytes, run_report, run_rows}
+use Rattle.ground_chain.specs.Restoring.{restore_course, store_run}
+use Rattle.ground_chain.specs.Deliveries.{IsDelivered, IsPlayed, delivered_numbers, report_text, restored_bytes, history_arrivals}
+use Rattle.ground_chain.proofs.HistoryBytes.{bytes-history}
+use Rattle.ground_chain.proofs.HistoryNumbers.{numbers-history}
+use Rattle.ground_chain.proofs.HistoryRows.{rows-history}
+use Rattle.ground_chain.proofs.PlayedHistories.{arrivals-played, walk-played, walk-too_many}
+
+-- what a whole store owes
+pub owed-whole : (f apid : ℕ) (store : List ℕ) → (walk (Some apid) store).ending ≡ None
+    → owed (restore_course f apid store) ≡ record { output = run_bytes (store_run f apid store); report = run_report (store_run f apid store) }
+owed-whole f apid store whole =
+    let judged = store_run f apid store in
+    let output = append-nil (run_bytes judged) in
+    let report = append_assoc header_row (run_rows judged) (end_row (restored_of judged)) in
+    ap (λ ending. by_ending ending (restore_course f apid store).before (restore_course f apid store).after) whole ∙ λ i. record { output = output i; report = report i }
+
+module _ (h : History) (copies : ℕ → ℕ) (apid : ℕ) (valid : IsValid h) (chosen : apid ≤ 2046) where
+  -- a played store that is whole is not too long
+  few-whole : (walk (Some apid) (played_bytes copies apid (store_of h apid))).ending ≡ None → length (arrivals copies (length h.steps)) ≤ 2 ^ 32
+  few-whole whole = by_size (cases_lt (2 ^ 32) (length (arrivals copies (length h.steps))))
+    where
+      by_size : (2 ^ 32 < length (arrivals copies (length h.steps))) ⊎ (length (arrivals copies (length h.steps)) ≤ 2 ^ 32) → length (arrivals copies (length h.steps)) ≤ 2 ^ 32
+      by_size (inl many) = let too_many = sym (walk-too_many h copies apid valid chosen many) ∙ whole in absurd cc
+      by_size (inr few) = few
+
+  -- its run is that over the history's arrivals
+  run-played : (walk (Some apid) (played_bytes copies apid (store_of h apid))).ending ≡ None
+      → store_run h.places apid (played_bytes copies apid (store_of h apid)) ≡ run h.places (history_arrivals h copies)
+  run-played whole = ap (run h.places) (arrivals-played h copies apid valid chosen (few-whole whole))
+
+  module _ (short : AreGapsShort copies (length h.steps)) (whole : (walk (Some apid) (played_bytes copies apid (store_of h apid))).ending ≡ None) where
+    pub owed-played : owed (restore_course h.places apid (played_bytes copies apid (store_of h apid))) ≡ record { output = restored_bytes h copies; report = report_text h copies }
+    owed-played =
+        owed-whole h.places apid (played_bytes copies apid (store_of h apid)) whole
+        ∙ (ap (λ judged. record { output = run_bytes judged; report = run_report judged }) (run-played whole)
+        ∙ λ i. record { output = bytes-history h copies valid short i; report = header_row ++ rows-history h copies valid short i ++ end_row (numbers-history h copies valid short i) })
+
+    pub numbers-played : restored_of (store_run h.places apid (played_bytes copies apid (store_of h apid))) ≡ delivered_numbers h copies
+    numbers-played = ap restored_of (run-played whole) ∙ numbers-history h copies valid short
+
+-- what a run writes that is done
+pub IsDelivered-done : (f apid : ℕ) (h : History) (copies : ℕ → ℕ) (restored : Restored) (a b : Meanings) → IsPlayed f apid h copies a
+    → AfterRun (restore_course f apid) a b (Ok restored) → IfSome (left a inlet.Main) (λ store. restored ≡ restored_of (store_run f apid store))
+    → IsDelivered h copies restored a b
+IsDelivered-done f apid h copies restored a b played ran numbers =
+    let store : List ℕ = played_bytes copies apid (store_of h apid) in
+    let told = Ends-told (restore_course f apid) a b None store played.input ran in
+    let whole = told.2 in
+    let owed_is = subst (λ places. owed (restore_course places apid store) ≡ record { output = restored_bytes h copies; report = report_text h copies }) played.places (owed-played h copies apid played.valid played.chosen played.gaps whole) in
+    let numbers_are = subst (λ places. restored_of (store_run places apid store) ≡ delivered_numbers h copies) played.places (numbers-played h copies apid played.valid played.chosen played.gaps whole) in
+    record {
+      output = told.0 ∙ ap (λ (o : Outputs). append_known (made a outlet.Main) o.output) owed_is;
+      report = told.1 ∙ ap (λ (o : Outputs). append_known (made a outlet.Report) o.report) owed_is;
+      numbers = subst (λ left. IfSome left (λ store. restored ≡ restored_of (store_run f apid store))) played.input numbers ∙ numbers_are;
+    }
+
+-- a run over a desk that doesn't fail is done, where the played store is not too long
+pub IsOk-played : (f apid : ℕ) (h : History) (copies : ℕ → ℕ) (a b : Meanings) (old new : Counts) (result : Result Restored (Stop WalkFault)) → IsPlayed f apid h copies a
+    → length (arrivals copies (length h.steps)) ≤ 2 ^ 32 → AfterRun (restore_course f apid) a b result → HasCause old new result
+    → (Rose old.reads new.reads → ⊥) → (Rose old.writes new.writes → ⊥) → IsOk result
+IsOk-played f apid h copies a b old new (Ok restored) played few ran cause reads writes = refl
+IsOk-played f apid h copies a b old new (Err (Data reason)) played few ran cause reads writes =
+    let store : List ℕ = played_bytes copies apid (store_of h apid) in
+    let ends = (Ends-told (restore_course f apid) a b (Some reason) store played.input ran).2 in
+    let whole = ap (λ (w : Walk). w.ending) (walk-played h copies apid played.valid played.chosen few) in
+    let both = sym whole ∙ ends in absurd cc
+IsOk-played f apid h copies a b old new (Err ReadFault) played few ran cause reads writes = absurd (reads cause.0)
+IsOk-played f apid h copies a b old new (Err WriteFault) played few ran cause reads writes = absurd (writes cause.0)
