@@ -1,5 +1,5 @@
 -- What reading a side input, and opening and finishing the names of a command, do to a desk.
-use Rattle.std.specs.Prelude.{◌≡◌, ℕ, ◌<◌, ◌⊎◌, true, List, [], Option, Some, None, Result, Ok, Err, IfSome}
+use Rattle.std.specs.Prelude.{◌≡◌, ℕ, ◌<◌, ◌≤◌, ◌⊎◌, true, List, [], length, Option, Some, None, Result, Ok, Err, IfSome}
 use Rattle.std.specs.Option.{option_map}
 use Rattle.desk_ports.specs.Meanings.{Meanings, Counts, Kept, FailsToRead, FailsToWrite, kept_at, kept_after, left, made, with_incoming, with_outgoing}
 use Rattle.desk_ports.specs.declared.desk.Inlet.{Inlet}
@@ -43,6 +43,10 @@ IsSideText m side text = IfSome (side_given m side) (λ bytes. text ≡ bytes)
 -- the text of the side input has more than 1,048,576 bytes, where the desk tells it
 abbrev pub IsSideLong : Meanings → Option (List ℕ) → Type 0
 IsSideLong m side = IfSome (side_given m side) (λ bytes. 1048576 < length bytes)
+
+-- the side input of this name has at least so many bytes, where the desk tells it
+abbrev pub HasSideBytes : Meanings → List ℕ → ℕ → Type 0
+HasSideBytes m name n = IfSome (given m inlet.Side name) (λ bytes. n ≤ length bytes)
 
 -- the side input was opened and read to its end, where there is one
 abbrev pub with_side : Meanings → Option (List ℕ) → Meanings

@@ -1,7 +1,8 @@
 -- What a command leaves of a desk, by the way it ended.
 use Rattle.std.specs.Prelude.{◌≡◌, ◌≢◌, ℕ, ◌⊎◌, nat_lt, List, length, Option, Some, None, Result, Ok, Err, if◌then◌else◌}
 use Rattle.desk_ports.specs.Courses.{Course, Ends, IsCutOff, IsCutShort}
-use Rattle.desk_ports.specs.Meanings.{Meanings}
+use Rattle.desk_ports.specs.Meanings.{Meanings, Counts, Rose}
+use Rattle.desk_ports.specs.declared.desk.Inlet.TheVariants as inlet
 use Rattle.desk_ports.specs.declared.stop.Stop.{Stop}
 use Rattle.desk_ports.specs.declared.stop.Stop.TheVariants.{Data, ReadFault, WriteFault}
 use Rattle.pocket_cmd.specs.declared.fault.DataFault.{DataFault}
@@ -12,8 +13,8 @@ use Rattle.pocket_cmd.specs.declared.status.Refusal.{Refusal}
 use Rattle.pocket_cmd.specs.declared.status.Refusal.TheVariants as refusal
 use Rattle.pocket_cmd.specs.Command.{Names, Command, names_of}
 use Rattle.pocket_cmd.specs.Courses.{course_of, bad_row_of}
-use Rattle.pocket_cmd.specs.Status.{status_of}
-use Rattle.pocket_cmd.specs.Openings.{AreKept, IsSideText, IsSideLong, KeepsAll, with_side, all_opened, all_finished, IsHalfOpened, IsHalfKept}
+use Rattle.pocket_cmd.specs.Status.{status_of, status_by}
+use Rattle.pocket_cmd.specs.Openings.{AreKept, IsSideText, IsSideLong, KeepsAll, with_side, all_opened, all_finished, IsHalfOpened, IsHalfKept, given, side_given}
 
 -- ---- behind the side input
 
@@ -110,7 +111,26 @@ IsUnread command old new =
 abbrev pub IsUnwritten : Command → Meanings → Meanings → Type 0
 IsUnwritten command old new = BehindSide (names_of command).side old (λ text start. IsRunUnwritten (names_of command) (course_of command text) start new)
 
--- after a command, by its answer
+-- ---- by the answer
+
+-- after a command whose side input has this text
+abbrev pub AfterTextRefusal : Command → List ℕ → Meanings → Meanings → Refusal → Type 0
+AfterTextRefusal command text old new (refusal.BadWords word) = ⊥
+AfterTextRefusal command text old new refusal.SideTooLong = ⊥
+AfterTextRefusal command text old new (refusal.BadSide row) = (bad_row_of command text ≡ Some row) × (new ≡ old)
+AfterTextRefusal command text old new refusal.ReadFault = IsRunUnread (names_of command) (course_of command text) old new
+AfterTextRefusal command text old new refusal.WriteFault = IsRunUnwritten (names_of command) (course_of command text) old new
+AfterTextRefusal command text old new (refusal.CutRecord t) = RunStands (names_of command) (course_of command text) old new (Some (fault.CutRecord t))
+AfterTextRefusal command text old new (refusal.SpareBit t) = RunStands (names_of command) (course_of command text) old new (Some (fault.SpareBit t))
+AfterTextRefusal command text old new (refusal.BadStore byte kind) = RunStands (names_of command) (course_of command text) old new (Some (fault.BadStore byte kind))
+AfterTextRefusal command text old new refusal.TooMany = RunStands (names_of command) (course_of command text) old new (Some fault.TooMany)
+AfterTextRefusal command text old new refusal.NoMemory = new ≡ old
+
+abbrev pub AfterText : Command → List ℕ → Meanings → Meanings → Result (Unit {0}) Refusal → Type 0
+AfterText command text old new (Ok done) = RunStands (names_of command) (course_of command text) old new None
+AfterText command text old new (Err refusal) = AfterTextRefusal command text old new refusal
+
+-- after a command
 abbrev pub AfterRefusal : Command → Meanings → Meanings → Refusal → Type 0
 AfterRefusal command old new (refusal.BadWords word) = ⊥
 AfterRefusal command old new refusal.SideTooLong = IsTooLong command old new
@@ -127,12 +147,28 @@ abbrev pub AfterCommand : Command → Meanings → Meanings → Result (Unit {0}
 AfterCommand command old new (Ok done) = Stands command old new None
 AfterCommand command old new (Err refusal) = AfterRefusal command old new refusal
 
+-- ---- which answer
+
 -- the answer that the side text and the course of the input give
 abbrev pub by_row : Option ℕ → Status → Status
 by_row None status = status
 by_row (Some row) status = Refused (refusal.BadSide row)
 
+abbrev pub answer_by : Command → List ℕ → List ℕ → Status
+answer_by command text input = by_row (bad_row_of command text) (status_of (course_of command text input).ending)
+
 abbrev pub answer_to : Command → List ℕ → List ℕ → Status
-answer_to command text input =
-    if nat_lt 1048576 (length text) then Refused refusal.SideTooLong
-    else by_row (bad_row_of command text) (status_of (course_of command text input).ending)
+answer_to command text input = if nat_lt 1048576 (length text) then Refused refusal.SideTooLong else answer_by command text input
+
+-- where the input is told, memory was found and no count rose, the answer is this one
+abbrev pub IsAnsweredBy : Command → List ℕ → Meanings → Counts → Counts → Result (Unit {0}) Refusal → Type 0
+IsAnsweredBy command text m old new result =
+    (input : List ℕ) → given m inlet.Main (names_of command).input ≡ Some input → status_by result ≢ Refused refusal.NoMemory
+    → ¬ Rose old.reads new.reads → ¬ Rose old.writes new.writes → status_by result ≡ answer_by command text input
+
+-- the same where the side text is told, too
+abbrev pub IsAnswered : Command → Meanings → Counts → Counts → Result (Unit {0}) Refusal → Type 0
+IsAnswered command m old new result =
+    (text input : List ℕ) → side_given m (names_of command).side ≡ Some text → given m inlet.Main (names_of command).input ≡ Some input
+    → status_by result ≢ Refused refusal.NoMemory → ¬ Rose old.reads new.reads → ¬ Rose old.writes new.writes
+    → status_by result ≡ answer_to command text input

@@ -27,6 +27,10 @@ refusal_by (stop.Data fault) = refusal_of fault
 refusal_by stop.ReadFault = ReadFault
 refusal_by stop.WriteFault = WriteFault
 
+abbrev pub refused_by : Result (Unit {0}) (Stop DataFault) → Result (Unit {0}) Refusal
+refused_by (Ok done) = Ok done
+refused_by (Err stop) = Err (refusal_by stop)
+
 -- the refusal where a side input was not read, and where its text is no table
 abbrev pub refusal_at : Unread → Refusal
 refusal_at unread.TooLong = SideTooLong

@@ -52,6 +52,8 @@ impl Job {
         requires report { IsTrue (writes_report self) → IsReadyOut (D.meaning desk.old) Outlet.Report }
         ensures ran { AfterRun (job_course self) (D.meaning desk.old) (D.meaning desk.new) result }
         ensures cause { HasCause (D.counts desk.old) (D.counts desk.new) result }
+        ensures ready_out { OnOk result (IsReadyOut (D.meaning desk.new) Outlet.Main) }
+        ensures ready_report { IsReadyOut (D.meaning desk.old) Outlet.Report → OnOk result (IsReadyOut (D.meaning desk.new) Outlet.Report) }
     {
         match self {
             Job::Compress(flight) => compress(flight, desk),

@@ -1,5 +1,5 @@
 //! The first mask, which hexadecimal digits say.
-ghost use Rattle.std.specs.Prelude.{◌≡◌, ◌≤◌, length, take, IfOk};
+ghost use Rattle.std.specs.Prelude.{◌≡◌, ◌≤◌, false, length, take, IfOk, IfSome};
 ghost use Rattle.std.specs.Option.{option_map};
 ghost use Rattle.bit_vectors.specs.Vectors.{byte_count};
 ghost use Rattle.pocket_cmd.specs.Masks.{first_mask, has_spare_bit, is_mask, mask_bytes};
@@ -15,7 +15,7 @@ const MOST_BYTES: usize = 6144;
 pub fn is_mask(f: u32, text: Option<&str>) -> bool
     requires some { 1 ≤ f }
     requires most { f ≤ 49152 }
-    ensures { result ≡ is_mask f (option_map (λ text. text.now) text) }
+    ensures { result ≡ is_mask f (option_map (λ text. text.now) text.entry) }
 {
     match text {
         None => true,
@@ -27,7 +27,7 @@ pub fn is_mask(f: u32, text: Option<&str>) -> bool
 pub fn first_mask(alloc: Global, f: u32, text: Option<&str>) -> Result<Bits, NoMemory>
     requires some { 1 ≤ f }
     requires most { f ≤ 49152 }
-    ensures { IfOk result (λ mask. mask ≡ first_mask f (option_map (λ text. text.now) text)) }
+    ensures { IfOk result (λ mask. mask ≡ first_mask f (option_map (λ text. text.now) text.entry)) }
 {
     let mut mask = Bits::zeros(alloc, f)?;
     let Some(text) = text else {
@@ -43,7 +43,8 @@ pub fn first_mask(alloc: Global, f: u32, text: Option<&str>) -> Result<Bits, NoM
 fn mask_bytes(f: u32, text: &str) -> Option<[u8; MOST_BYTES]>
     requires some { 1 ≤ f }
     requires most { f ≤ 49152 }
-    ensures { option_map (take (byte_count f)) result ≡ mask_bytes f text.now }
+    ensures bytes { option_map (take (byte_count f)) result ≡ mask_bytes f text.now }
+    ensures spare { IfSome result (λ bytes. has_spare_bit f (take (byte_count f) bytes) ≡ false) }
 {
     let mut bytes = [0; MOST_BYTES];
     let front = &mut bytes[..byte_len(f) as usize];

@@ -1,7 +1,7 @@
 //! The names of a command: opening them before its run, and finishing its outputs after it.
 ghost use Rattle.std.specs.Prelude.{◌≡◌, IsTrue, IfSome, IsSome, IfErr, OnOk, OnErr};
 ghost use Rattle.std.specs.Option.{option_map};
-ghost use Rattle.desk_ports.specs.Meanings.{IsReadyOut, HasWriteCause};
+ghost use Rattle.desk_ports.specs.Meanings.{IsReadyIn, IsReadyOut, HasWriteCause};
 ghost use Rattle.pocket_cmd.specs.Openings.{view_names, AfterOpening, HasOpeningCause, AfterFinishing, with_report};
 ghost use Rattle.pocket_cmd.specs.declared.opening.Unopened.TheVariants as unopened;
 
@@ -30,6 +30,9 @@ pub fn open_all<D: Desk>(desk: &mut D, names: &Names<'_>) -> Result<(), Unopened
     requires report { IfSome names.now.report (λ name. IsTrue ((D.meaning desk.old).grants_out name.now)) }
     ensures opened { AfterOpening (view_names names.now) (D.meaning desk.old) (D.meaning desk.new) result }
     ensures cause { HasOpeningCause (D.counts desk.old) (D.counts desk.new) result }
+    ensures ready_in { OnOk result (IsReadyIn (D.meaning desk.new) Inlet.Main) }
+    ensures ready_out { OnOk result (IsReadyOut (D.meaning desk.new) Outlet.Main) }
+    ensures ready_report { OnOk result (IsSome names.now.report → IsReadyOut (D.meaning desk.new) Outlet.Report) }
 {
     let Ok(()) = desk.open_in(Inlet::Main, names.input) else {
         return Err(Unopened::Input);
@@ -43,9 +46,12 @@ pub fn open_all<D: Desk>(desk: &mut D, names: &Names<'_>) -> Result<(), Unopened
 /// Opens the report, where there is one.
 fn open_report<D: Desk>(desk: &mut D, name: Option<&str>) -> Result<(), Unopened>
     requires { IfSome name (λ name. IsTrue ((D.meaning desk.old).grants_out name.now)) }
-    ensures opened { OnOk result (D.meaning desk.new ≡ with_report (D.meaning desk.old) (option_map (λ name. name.now) name)) }
+    ensures opened { OnOk result (D.meaning desk.new ≡ with_report (D.meaning desk.old) (option_map (λ name. name.now) name.entry)) }
     ensures only { IfErr result (λ fault. fault ≡ unopened.Output) }
-    ensures report { OnErr result (IsSome name) }
+    ensures ready { OnOk result (IsSome name.entry → IsReadyOut (D.meaning desk.new) Outlet.Report) }
+    ensures ready_in { IsReadyIn (D.meaning desk.old) Inlet.Main → IsReadyIn (D.meaning desk.new) Inlet.Main }
+    ensures ready_out { IsReadyOut (D.meaning desk.old) Outlet.Main → IsReadyOut (D.meaning desk.new) Outlet.Main }
+    ensures report { OnErr result (IsSome name.entry) }
     ensures unchanged { OnErr result (D.meaning desk.new ≡ D.meaning desk.old) }
     ensures cause { HasWriteCause (D.counts desk.old) (D.counts desk.new) result }
 {
@@ -62,7 +68,7 @@ fn open_report<D: Desk>(desk: &mut D, name: Option<&str>) -> Result<(), Unopened
 pub fn finish_all<D: Desk>(desk: &mut D, report: Option<&str>) -> Result<(), Failed>
     requires output { IsReadyOut (D.meaning desk.old) Outlet.Main }
     requires report { IsSome report → IsReadyOut (D.meaning desk.old) Outlet.Report }
-    ensures finished { AfterFinishing (option_map (λ name. name.now) report) (D.meaning desk.old) (D.meaning desk.new) result }
+    ensures finished { AfterFinishing (option_map (λ name. name.now) report.entry) (D.meaning desk.old) (D.meaning desk.new) result }
     ensures cause { HasWriteCause (D.counts desk.old) (D.counts desk.new) result }
 {
     desk.finish(Outlet::Main)?;

@@ -16,7 +16,7 @@ pub fn run<D: Desk>(desk: &mut D, names: &Names<'_>, job: Job) -> Result<(), Sto
     requires input { IsTrue ((D.meaning desk.old).grants_in names.now.input.now) }
     requires output { IsTrue ((D.meaning desk.old).grants_out names.now.output.now) }
     requires report { IfSome names.now.report (λ name. IsTrue ((D.meaning desk.old).grants_out name.now)) }
-    requires writes { writes_report job ≡ is_some (view_names names.now).report }
+    requires writes { writes_report job ≡ is_some names.now.report }
     ensures ran { AfterNames (view_names names.now) (job_course job) (D.meaning desk.old) (D.meaning desk.new) result }
     ensures cause { HasCause (D.counts desk.old) (D.counts desk.new) result }
 {
@@ -25,7 +25,10 @@ pub fn run<D: Desk>(desk: &mut D, names: &Names<'_>, job: Job) -> Result<(), Sto
         Err(Unopened::Input) => return Err(Stop::ReadFault),
         Err(Unopened::Output) => return Err(Stop::WriteFault),
     }
-    job.run(desk)?;
+    match job.run(desk) {
+        Ok(()) => {}
+        Err(stop) => return Err(stop),
+    }
     match finish_all(desk, names.report) {
         Ok(()) => Ok(()),
         Err(_) => Err(Stop::WriteFault),

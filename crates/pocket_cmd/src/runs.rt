@@ -1,5 +1,5 @@
 //! The run of each command, with the faults that all commands have.
-ghost use Rattle.std.specs.Prelude.{◌≡◌};
+ghost use Rattle.std.specs.Prelude.{◌≡◌, OnOk};
 ghost use Rattle.desk_ports.specs.Courses.{AfterRun, HasCause};
 ghost use Rattle.desk_ports.specs.Meanings.{IsReadyIn, IsReadyOut};
 ghost use Rattle.flight_chain.specs.Compressing.{compress_course, stop_by as flight_stop};
@@ -23,6 +23,8 @@ pub fn compress<D: Desk>(flight: Flight, desk: &mut D) -> Result<(), Stop<DataFa
     requires output { IsReadyOut (D.meaning desk.old) Outlet.Main }
     ensures ran { AfterRun (λ input. with_fault of_recording (compress_course flight input)) (D.meaning desk.old) (D.meaning desk.new) result }
     ensures cause { HasCause (D.counts desk.old) (D.counts desk.new) result }
+    ensures ready_out { OnOk result (IsReadyOut (D.meaning desk.new) Outlet.Main) }
+    ensures ready_report { IsReadyOut (D.meaning desk.old) Outlet.Report → OnOk result (IsReadyOut (D.meaning desk.new) Outlet.Report) }
 {
     match flight.compress(desk) {
         Ok(_) => Ok(()),
@@ -38,6 +40,8 @@ pub fn play<D: Desk>(player: Player, desk: &mut D) -> Result<(), Stop<DataFault>
     ensures ran { AfterRun (λ input. with_fault of_store (play_course (copies_of player.rows) player.apid input))
         (D.meaning desk.old) (D.meaning desk.new) result }
     ensures cause { HasCause (D.counts desk.old) (D.counts desk.new) result }
+    ensures ready_out { OnOk result (IsReadyOut (D.meaning desk.new) Outlet.Main) }
+    ensures ready_report { IsReadyOut (D.meaning desk.old) Outlet.Report → OnOk result (IsReadyOut (D.meaning desk.new) Outlet.Report) }
 {
     match player.play(desk) {
         Ok(_) => Ok(()),
@@ -54,6 +58,8 @@ pub fn restore<D: Desk>(restorer: Restorer, desk: &mut D) -> Result<(), Stop<Dat
     ensures ran { AfterRun (λ input. with_fault of_store (restore_course restorer.places restorer.apid input))
         (D.meaning desk.old) (D.meaning desk.new) result }
     ensures cause { HasCause (D.counts desk.old) (D.counts desk.new) result }
+    ensures ready_out { OnOk result (IsReadyOut (D.meaning desk.new) Outlet.Main) }
+    ensures ready_report { IsReadyOut (D.meaning desk.old) Outlet.Report → OnOk result (IsReadyOut (D.meaning desk.new) Outlet.Report) }
 {
     match restorer.restore(desk) {
         Ok(_) => Ok(()),

@@ -1,17 +1,16 @@
 //! The work of a command.
-ghost use Rattle.std.specs.Prelude.{◌≡◌, ◌≢◌, ℕ, List, Some, IsTrue, IfSome};
-ghost use Rattle.desk_ports.specs.Meanings.{Rose};
+ghost use Rattle.std.specs.Prelude.{◌≡◌, ◌≤◌, length, IsTrue, IfSome};
 ghost use Rattle.pocket_cmd.specs.Command.{IsRight, names_of, view_command};
-ghost use Rattle.pocket_cmd.specs.Outcome.{AfterCommand, answer_to};
-ghost use Rattle.pocket_cmd.specs.Openings.{given, side_given};
-ghost use Rattle.pocket_cmd.specs.Status.{HasStatusCause, status_by};
+ghost use Rattle.pocket_cmd.specs.Outcome.{AfterCommand, AfterText, IsAnswered, IsAnsweredBy};
+ghost use Rattle.pocket_cmd.specs.Status.{HasStatusCause, refused_by, status_by};
 
 use crate::command::Command;
+use crate::fault::DataFault;
 use crate::job::Job;
 use crate::run::run;
 use crate::side::side_text;
-use crate::status::{Refusal, Status};
-use desk_ports::{Desk, Inlet};
+use crate::status::Refusal;
+use desk_ports::{Desk, Stop};
 use std::alloc::Global;
 
 /// Reads the side input of a command, takes the memory of its run, and runs it.
@@ -23,16 +22,42 @@ pub fn perform<D: Desk>(alloc: Global, command: &Command<'_>, desk: &mut D) -> R
     requires report { IfSome (names_of (view_command command.now)).report (λ name. IsTrue ((D.meaning desk.old).grants_out name)) }
     ensures after { AfterCommand (view_command command.now) (D.meaning desk.old) (D.meaning desk.new) result }
     ensures cause { HasStatusCause (D.counts desk.old) (D.counts desk.new) (status_by result) }
-    ensures ends { let command = view_command command.now in (text input : List ℕ)
-        → side_given (D.meaning desk.old) (names_of command).side ≡ Some text
-        → given (D.meaning desk.old) Inlet.Main (names_of command).input ≡ Some input
-        → status_by result ≢ Status.Refused Refusal.NoMemory
-        → ¬ Rose (D.counts desk.old).reads (D.counts desk.new).reads → ¬ Rose (D.counts desk.old).writes (D.counts desk.new).writes
-        → status_by result ≡ answer_to command text input }
+    ensures ends { IsAnswered (view_command command.now) (D.meaning desk.old) (D.counts desk.old) (D.counts desk.new) result }
 {
-    let names = command.names();
-    let text = side_text(alloc, desk, names.side)?;
-    let job = Job::of(alloc, command, &text)?;
-    run(desk, &names, job)?;
-    Ok(())
+    match side_text(alloc, desk, command.names().side) {
+        Ok(text) => perform_with(alloc, command, &text, desk),
+        Err(unread) => Err(unread.into()),
+    }
+}
+
+/// Takes the memory of a command's run, whose side input has this text, and runs it.
+fn perform_with<D: Desk>(
+    alloc: Global,
+    command: &Command<'_>,
+    text: &[u8],
+    desk: &mut D,
+) -> Result<(), Refusal>
+    requires right { IsRight (view_command command.now) }
+    requires within { length text.now ≤ 1048576 }
+    requires input { IsTrue ((D.meaning desk.old).grants_in (names_of (view_command command.now)).input) }
+    requires output { IsTrue ((D.meaning desk.old).grants_out (names_of (view_command command.now)).output) }
+    requires report { IfSome (names_of (view_command command.now)).report (λ name. IsTrue ((D.meaning desk.old).grants_out name)) }
+    ensures after { AfterText (view_command command.now) text.now (D.meaning desk.old) (D.meaning desk.new) result }
+    ensures cause { HasStatusCause (D.counts desk.old) (D.counts desk.new) (status_by result) }
+    ensures ends { IsAnsweredBy (view_command command.now) text.now (D.meaning desk.old) (D.counts desk.old) (D.counts desk.new) result }
+{
+    match Job::of(alloc, command, text) {
+        Ok(job) => refused_by(run(desk, &command.names(), job)),
+        Err(fault) => Err(fault.into()),
+    }
+}
+
+/// The refusal for a run that ended before it was done.
+fn refused_by(ended: Result<(), Stop<DataFault>>) -> Result<(), Refusal>
+    ensures { result ≡ refused_by ended }
+{
+    match ended {
+        Ok(()) => Ok(()),
+        Err(stop) => Err(stop.into()),
+    }
 }
