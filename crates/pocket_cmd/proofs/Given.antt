@@ -1,19 +1,22 @@
 -- What the words give to a command: values within their bounds, and no name that no word gives.
-use Rattle.std.proofs.Common.{◌≡◌, ℕ, ◌+◌, ◌<◌, ◌≤◌, ◌&&◌, Bool, true, false, cond, eqb, nat_lt, nat_le, List, [], ◌∷◌, ◌++◌, length, get_or, ◌==◌, Option, Some, None, Result, Ok, Err, ok_or, refl, ap, ◌∙◌, subst, codes, add-one, arith}
+use Rattle.std.proofs.Common.{◌≡◌, ℕ, ◌+◌, ◌<◌, ◌≤◌, ◌&&◌, Bool, true, false, cond, eqb, nat_lt, nat_le, sym, List, [], ◌∷◌, ◌++◌, length, get_or, ◌==◌, Option, Some, None, Result, Ok, Err, ok_or, refl, ap, ◌∙◌, subst, inl, inr, ◌⊎◌, codes, add-one, arith}
 use Rattle.std.specs.List.{Contains, before_first, after_first, position_or_len}
+use Rattle.std.specs.Prelude.{IfSome}
 use Rattle.std.specs.Str.{bytes_eq}
 use Rattle.std.specs.Str.Parse.{digits_value}
 use Rattle.std.proofs.lemmas.Bool.Decides.{nat_tests}
+use Rattle.std.proofs.lemmas.List.{length-replicate}
 use Rattle.std.proofs.lemmas.List.Sums.{split_at_first, passes_at_first}
 use Rattle.std.proofs.lemmas.Slice.Eq.{bytes_eq-Decides}
 use Rattle.side_tables.specs.Numbers.{is_plain_decimal, number_of}
-use Rattle.pocket_cmd.specs.Words.{Value, Named, Numbered, Entry, entry_of, entry_with, read_as, numbered, is_equals_sign, key_kind, value_of, value_unless, first_faulty, verb_of, Assigns}
-use Rattle.pocket_cmd.specs.Command.{Restoration, Command, Restore, IsGiven, IsRight, restoration_of, with_values, with_verb, unless_faulty, command_of, name_in, number_in, ◌>>=◌}
-use Rattle.pocket_cmd.specs.Courses.{names_of}
+use Rattle.pocket_cmd.specs.Words.{Value, Named, Numbered, Entry, entry_of, entry_with, read_as, numbered, is_equals_sign, key_kind, value_of, value_unless, first_faulty, verb_of, place_of, Plain, Assigns}
+use Rattle.pocket_cmd.specs.Command.{CompressValues, PlayValues, RestoreValues, Command, Compress, Play, Restore, names_of, AreRight, AreGiven, IsRight, IsPlaces, IsChosen, compress_values, play_values, restore_values, with_values, with_verb, unless_faulty, command_of, name_in, number_in, text_in, name_given, number_given, mask_given, ◌>>=◌}
+use Rattle.pocket_cmd.specs.Masks.{mask_of, no_mask}
+use Rattle.pocket_cmd.proofs.Masks.{length-mask_of}
 use Rattle.pocket_cmd.specs.declared.words.Verb.{Verb}
 use Rattle.pocket_cmd.specs.declared.words.Verb.TheVariants as verb
 use Rattle.pocket_cmd.specs.declared.words.KeyKind.{KeyKind}
-use Rattle.pocket_cmd.specs.declared.words.KeyKind.TheVariants.{Name, Number}
+use Rattle.pocket_cmd.specs.declared.words.KeyKind.TheVariants.{Name, Number, Text}
 use Rattle.pocket_cmd.specs.declared.words.Direction.{Direction}
 
 ltb-true : (m n : ℕ) → nat_lt m n ≡ true → m < n
@@ -91,10 +94,12 @@ name_is : (o : Option Value) (text : List ℕ) → name_in o ≡ Some text → (
 name_is None text e = absurd cc
 name_is (Some (Named direction other)) text e = (direction, ap (λ t. Some (Named direction t)) (same_some e))
 name_is (Some (Numbered n)) text e = absurd cc
+name_is (Some (Plain other)) text e = absurd cc
 
 number_is : (o : Option Value) (n : ℕ) → number_in o ≡ Some n → o ≡ Some (Numbered n)
 number_is None n e = absurd cc
 number_is (Some (Named direction text)) n e = absurd cc
+number_is (Some (Plain text)) n e = absurd cc
 number_is (Some (Numbered m)) n e = ap (λ k. Some (Numbered k)) (same_some e)
 
 -- a name that was read is its text, and a number is that of its text
@@ -109,6 +114,7 @@ no_name (Some n) direction name e = cc
 read_is : (kind : Option KeyKind) (text name : List ℕ) (direction : Direction) → read_as kind text ≡ Some (Named direction name) → text ≡ name
 read_is None text name direction e = absurd cc
 read_is (Some (Name other)) text name direction e = read_name_is (length text == 0) other direction text name e
+read_is (Some Text) text name direction e = absurd cc
 read_is (Some (Number low high)) text name direction e = absurd (no_name (number_of low high text) direction name e)
 
 numbered_is : (o : Option ℕ) (n : ℕ) → numbered o ≡ Some (Numbered n) → o ≡ Some n
@@ -136,7 +142,7 @@ number_of-within low high n text e =
     let below = leb-true (digits_value 10 text) high parts.1 in
     (omega (arith, above, parts.2), omega (arith, below, parts.2))
 
-ok_or-Some : {A : Type 0} (o : Option A) (missing : ℕ) (x : A) → ok_or o missing ≡ Ok x → o ≡ Some x
+pub ok_or-Some : {A : Type 0} (o : Option A) (missing : ℕ) (x : A) → ok_or o missing ≡ Ok x → o ≡ Some x
 ok_or-Some None missing x e = absurd cc
 ok_or-Some (Some y) missing x e = cc
 
@@ -145,72 +151,119 @@ bind_ok (Ok x) f y e = (x, refl, e)
 bind_ok (Err word) f y e = absurd cc
 
 -- a number that the words give to a key of these bounds is within them
-number-given : (v : Verb) (words : List (List ℕ)) (key : List ℕ) (low high n : ℕ) → key_kind v key ≡ Some (Number low high) → number_in (value_of v words key) ≡ Some n → (low ≤ n) × (n ≤ high)
+pub number-given : (v : Verb) (words : List (List ℕ)) (key : List ℕ) (low high n : ℕ) → key_kind v key ≡ Some (Number low high) → number_in (value_of v words key) ≡ Some n → (low ≤ n) × (n ≤ high)
 number-given v words key low high n kind e =
     let f = found v words key (Numbered n) (number_is (value_of v words key) n e) in
     number_of-within low high n f.text (numbered_is (number_of low high f.text) n (subst (λ k. read_as k f.text ≡ Some (Numbered n)) kind f.read))
 
--- the bounds and the names, from the parts
-given_from : (words : List (List ℕ)) (r : Restoration) → name_in (value_of verb.Restore words (codes "in")) ≡ Some r.input → name_in (value_of verb.Restore words (codes "out")) ≡ Some r.output
-    → name_in (value_of verb.Restore words (codes "report")) ≡ Some r.report → (1 ≤ r.bits) × (r.bits ≤ 49152) → r.apid ≤ 2046 → (word : List ℕ) → IsGiven (word ∷ words) r
-given_from words r input output report bits apid word = record {
-  some = bits.0;
-  most = bits.1;
-  chosen = apid;
-  named_input = later word words _ (Assigns-name verb.Restore words (codes "in") r.input input);
-  named_output = later word words _ (Assigns-name verb.Restore words (codes "out") r.output output);
-  named_report = later word words _ (Assigns-name verb.Restore words (codes "report") r.report report);
-}
+-- the same of what a verb is told
+named : (v : Verb) (words : List (List ℕ)) (key name word : List ℕ) → name_given v words key ≡ Ok name → Assigns (word ∷ words) key name
+named v words key name word e = later word words _ (Assigns-name v words key name (ok_or-Some (name_in (value_of v words key)) (length words + 1) name e))
 
-given_by_words : (words : List (List ℕ)) (r : Restoration) → restoration_of words ≡ Ok r → (word : List ℕ) → IsGiven (word ∷ words) r
-unfolding restoration_of
-given_by_words words r e word =
+within_bounds : (v : Verb) (words : List (List ℕ)) (key : List ℕ) (low high n : ℕ) → key_kind v key ≡ Some (Number low high) → number_given v words key ≡ Ok n → (low ≤ n) × (n ≤ high)
+within_bounds v words key low high n kind e = number-given v words key low high n kind (ok_or-Some (number_in (value_of v words key)) (length words + 1) n e)
+
+named_plan : (v : Verb) (words : List (List ℕ)) (word : List ℕ) (plan : Option (List ℕ)) → name_in (value_of v words (codes "plan")) ≡ plan
+    → IfSome plan (λ name. Assigns (word ∷ words) (codes "plan") name ⊎ Assigns (word ∷ words) (codes "script") name)
+named_plan v words word None e = tt
+named_plan v words word (Some name) e = inl (later word words _ (Assigns-name v words (codes "plan") name e))
+
+mask_places : (f : ℕ) (text : Option (List ℕ)) (place : ℕ) (mask : List Bool) → mask_given f text place ≡ Ok mask → length mask ≡ f
+mask_places f None place mask e = ap length (same_mask (sym e)) ∙ length-replicate f false where
+  same_mask : {x y : List Bool} → ◌≡◌ {A = Result (List Bool) ℕ} (Ok x) (Ok y) → x ≡ y
+  same_mask e = cc
+mask_places f (Some text) place mask e = length-mask_of f text mask (ok_or-Some (mask_of f text) place mask e)
+
+same_ok : {A : Type 0} (x y : A) → ◌≡◌ {A = Result A ℕ} (Ok x) (Ok y) → x ≡ y
+same_ok x y e = cc
+
+-- what the words give to a command: values within their bounds, and its names
+pub record IsCommand (words : List (List ℕ)) (command : Command) : Type 0 where
+  pub right : IsRight command
+  pub given : AreGiven words (names_of command)
+
+compress_given : (words : List (List ℕ)) (c : CompressValues) (word : List ℕ) → compress_values words ≡ Ok c → IsCommand (word ∷ words) (Compress c)
+unfolding compress_values
+compress_given words c word e =
+    let input = bind_ok _ _ c e in
+    let output = bind_ok _ _ c input.2 in
+    let bits = bind_ok _ _ c output.2 in
+    let apid = bind_ok _ _ c bits.2 in
+    let robust = bind_ok _ _ c apid.2 in
+    let mask = bind_ok _ _ c robust.2 in
+    let plan = name_in (value_of verb.Compress words (codes "plan")) in
+    let made : CompressValues = record { input = input.0; output = output.0; plan = plan; bits = bits.0; apid = apid.0; robust = robust.0; mask = mask.0 } in
+    let right : AreRight made = record {
+      bits = within_bounds verb.Compress words (codes "bits") 1 49152 bits.0 refl bits.1;
+      apid = (within_bounds verb.Compress words (codes "apid") 0 2046 apid.0 refl apid.1).1;
+      robust = (within_bounds verb.Compress words (codes "robust") 0 7 robust.0 refl robust.1).1;
+      mask = mask_places bits.0 (text_in (value_of verb.Compress words (codes "mask"))) (place_of verb.Compress words (codes "mask") + 1) mask.0 mask.1;
+    } in
+    let given : AreGiven (word ∷ words) (names_of (Compress made)) = record {
+      side = named_plan verb.Compress words word plan refl;
+      input = named verb.Compress words (codes "in") input.0 word input.1;
+      output = named verb.Compress words (codes "out") output.0 word output.1;
+      report = tt;
+    } in
+    subst (λ x. IsCommand (word ∷ words) (Compress x)) (same_ok made c mask.2) (record { right = right; given = given })
+
+play_given : (words : List (List ℕ)) (p : PlayValues) (word : List ℕ) → play_values words ≡ Ok p → IsCommand (word ∷ words) (Play p)
+unfolding play_values
+play_given words p word e =
+    let input = bind_ok _ _ p e in
+    let output = bind_ok _ _ p input.2 in
+    let report = bind_ok _ _ p output.2 in
+    let script = bind_ok _ _ p report.2 in
+    let apid = bind_ok _ _ p script.2 in
+    let made : PlayValues = record { input = input.0; output = output.0; report = report.0; script = script.0; apid = apid.0 } in
+    let given : AreGiven (word ∷ words) (names_of (Play made)) = record {
+      side = inr (named verb.Play words (codes "script") script.0 word script.1);
+      input = named verb.Play words (codes "in") input.0 word input.1;
+      output = named verb.Play words (codes "out") output.0 word output.1;
+      report = named verb.Play words (codes "report") report.0 word report.1;
+    } in
+    subst (λ x. IsCommand (word ∷ words) (Play x)) (same_ok made p apid.2)
+    (record { right = (within_bounds verb.Play words (codes "apid") 0 2046 apid.0 refl apid.1).1; given = given })
+
+restore_given : (words : List (List ℕ)) (r : RestoreValues) (word : List ℕ) → restore_values words ≡ Ok r → IsCommand (word ∷ words) (Restore r)
+unfolding restore_values
+restore_given words r word e =
     let input = bind_ok _ _ r e in
     let output = bind_ok _ _ r input.2 in
     let report = bind_ok _ _ r output.2 in
     let bits = bind_ok _ _ r report.2 in
     let apid = bind_ok _ _ r bits.2 in
-    let bits_within = number-given verb.Restore words (codes "bits") 1 49152 bits.0 refl (ok_or-Some (number_in (value_of verb.Restore words (codes "bits"))) (length words + 1) bits.0 bits.1) in
-    let apid_within = number-given verb.Restore words (codes "apid") 0 2046 apid.0 refl (ok_or-Some (number_in (value_of verb.Restore words (codes "apid"))) (length words + 1) apid.0 apid.1) in
-    let made : Restoration = record { input = input.0; output = output.0; report = report.0; bits = bits.0; apid = apid.0 } in
-    let given = given_from words made (ok_or-Some (name_in (value_of verb.Restore words (codes "in"))) (length words + 1) input.0 input.1) (ok_or-Some (name_in (value_of verb.Restore words (codes "out"))) (length words + 1) output.0 output.1)
-    (ok_or-Some (name_in (value_of verb.Restore words (codes "report"))) (length words + 1) report.0 report.1) bits_within apid_within.1 word in
-    subst (IsGiven (word ∷ words)) (same_ok made r apid.2) given where
-      same_ok : (x y : Restoration) → ◌≡◌ {A = Result Restoration ℕ} (Ok x) (Ok y) → x ≡ y
-      same_ok x y e = cc
+    let made : RestoreValues = record { input = input.0; output = output.0; report = report.0; bits = bits.0; apid = apid.0 } in
+    let given : AreGiven (word ∷ words) (names_of (Restore made)) = record {
+      side = tt;
+      input = named verb.Restore words (codes "in") input.0 word input.1;
+      output = named verb.Restore words (codes "out") output.0 word output.1;
+      report = named verb.Restore words (codes "report") report.0 word report.1;
+    } in
+    subst (λ x. IsCommand (word ∷ words) (Restore x)) (same_ok made r apid.2)
+    (record {
+      right = (within_bounds verb.Restore words (codes "bits") 1 49152 bits.0 refl bits.1, (within_bounds verb.Restore words (codes "apid") 0 2046 apid.0 refl apid.1).1);
+      given = given;
+    })
 
 -- the values of a command are within their bounds, and its names are those that words give
-pub IsGiven-command_of : (words : List (List ℕ)) (r : Restoration) → command_of words ≡ Ok (Restore r) → IsGiven words r
-IsGiven-command_of [] r e = absurd cc
-IsGiven-command_of (word ∷ words) r e = by_verb (verb_of word) e where
-  same_restoration : (x y : Restoration) → ◌≡◌ {A = Result Command ℕ} (Ok (Restore x)) (Ok (Restore y)) → x ≡ y
-  same_restoration x y e = cc
+pub IsCommand-command_of : (words : List (List ℕ)) (command : Command) → command_of words ≡ Ok command → IsCommand words command
+IsCommand-command_of [] command e = absurd cc
+IsCommand-command_of (word ∷ words) command e = by_verb (verb_of word) e where
+  made : {A : Type 0} (r : Result A ℕ) (form : A → Command) → ((x : A) → r ≡ Ok x → IsCommand (word ∷ words) (form x)) → (r >>= λ x. Ok (form x)) ≡ Ok command → IsCommand (word ∷ words) command
+  made r form given e =
+      let b = bind_ok r (λ x. Ok (form x)) command e in
+      subst (IsCommand (word ∷ words)) (same_ok (form b.0) command b.2) (given b.0 b.1)
 
-  by_values : (v : Result Restoration ℕ) → restoration_of words ≡ v → (v >>= λ x. Ok (Restore x)) ≡ Ok (Restore r) → IsGiven (word ∷ words) r
-  by_values (Ok x) at e = subst (IsGiven (word ∷ words)) (same_restoration x r e) (given_by_words words x at word)
-  by_values (Err n) at e = absurd cc
+  by_values : (v : Verb) → with_values v words ≡ Ok command → IsCommand (word ∷ words) command
+  by_values verb.Compress e = made (compress_values words) Compress (λ c at. compress_given words c word at) e
+  by_values verb.Play e = made (play_values words) Play (λ p at. play_given words p word at) e
+  by_values verb.Restore e = made (restore_values words) Restore (λ r at. restore_given words r word at) e
 
-  by_fault : (o : Option ℕ) → unless_faulty o (with_values verb.Restore words) ≡ Ok (Restore r) → IsGiven (word ∷ words) r
-  by_fault (Some n) e = absurd cc
-  by_fault None e = by_values (restoration_of words) refl e
+  by_fault : (v : Verb) (o : Option ℕ) → unless_faulty o (with_values v words) ≡ Ok command → IsCommand (word ∷ words) command
+  by_fault v (Some n) e = absurd cc
+  by_fault v None e = by_values v e
 
-  by_verb : (o : Option Verb) → with_verb o words ≡ Ok (Restore r) → IsGiven (word ∷ words) r
+  by_verb : (o : Option Verb) → with_verb o words ≡ Ok command → IsCommand (word ∷ words) command
   by_verb None e = absurd cc
-  by_verb (Some verb.Restore) e = by_fault (first_faulty verb.Restore words) e
-
--- what the words give to a command: values within their bounds, and its names
-pub record AreGiven (words : List (List ℕ)) (command : Command) : Type 0 where
-  pub right : IsRight command
-  pub input : Assigns words (codes "in") (names_of command).input
-  pub output : Assigns words (codes "out") (names_of command).output
-  pub report : Assigns words (codes "report") (names_of command).report
-
-pub AreGiven-command_of : (words : List (List ℕ)) (command : Command) → command_of words ≡ Ok command → AreGiven words command
-AreGiven-command_of words (Restore r) e =
-    let given = IsGiven-command_of words r e in
-    record {
-      right = record { some = given.some; most = given.most; chosen = given.chosen };
-      input = given.named_input;
-      output = given.named_output;
-      report = given.named_report;
-    }
+  by_verb (Some v) e = by_fault v (first_faulty v words) e

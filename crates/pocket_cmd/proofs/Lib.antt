@@ -1,2 +1,8 @@
 pub mod Places
+pub mod Faults
+pub mod Masks
 pub mod Given
+pub mod Opened
+pub mod Sides
+pub mod Performed
+pub mod Granted

@@ -1,15 +1,46 @@
--- What each command owes for the bytes of its input.
-use Rattle.std.specs.Prelude.{ℕ, List}
+-- What each command owes for the bytes of its input, by the text of its side input.
+use Rattle.std.specs.Prelude.{ℕ, List, Option, None}
+use Rattle.std.specs.Option.{option_map}
 use Rattle.desk_ports.specs.Courses.{Course}
+use Rattle.side_tables.specs.Grammar.{flag_rows_of, copy_rows_of, bad_flag_row, bad_copy_row}
+use Rattle.side_tables.specs.Rows.{copies_of}
 use Rattle.packet_store.specs.declared.fault.WalkFault.{WalkFault}
+use Rattle.packet_store.specs.declared.fault.WalkFault.TheVariants as walk_fault
+use Rattle.flight_chain.specs.declared.fault.RecordFault.{RecordFault}
+use Rattle.flight_chain.specs.declared.fault.RecordFault.TheVariants as record_fault
+use Rattle.flight_chain.specs.Compressing.{Compression, compress_course}
+use Rattle.loss_player.specs.Playing.{play_course}
 use Rattle.ground_chain.specs.Restoring.{restore_course}
-use Rattle.pocket_cmd.specs.Command.{Command, Restore}
-use Rattle.pocket_cmd.specs.Openings.{Names}
+use Rattle.pocket_cmd.specs.declared.fault.DataFault.{DataFault}
+use Rattle.pocket_cmd.specs.declared.fault.DataFault.TheVariants.{CutRecord, SpareBit, BadStore, TooMany}
+use Rattle.pocket_cmd.specs.Command.{Command, Compress, Play, Restore, CompressValues}
 
--- the names that a command opens
-abbrev pub names_of : Command → Names
-names_of (Restore r) = record { input = r.input; output = r.output; report = r.report }
+-- the fault of a recording, and of a store
+abbrev pub of_recording : RecordFault → DataFault
+of_recording (record_fault.CutRecord t) = CutRecord t
+of_recording (record_fault.SpareBit t) = SpareBit t
+of_recording record_fault.TooMany = TooMany
 
--- what a command owes for an input
-abbrev pub course_of : Command → List ℕ → Course WalkFault
-course_of (Restore r) = restore_course r.bits r.apid
+abbrev pub of_store : WalkFault → DataFault
+of_store (walk_fault.Bad byte kind) = BadStore byte kind
+of_store walk_fault.TooMany = TooMany
+
+-- the same course, its fault named otherwise
+abbrev pub with_fault : {F G : Type 0} → (F → G) → Course F → Course G
+with_fault name course = record { before = course.before; after = course.after; ending = option_map name course.ending }
+
+-- what `compress` is told, where its schedule has this text
+abbrev pub compression_by : CompressValues → List ℕ → Compression
+compression_by c text = record { places = c.bits; robust = c.robust; apid = c.apid; mask = c.mask; rows = flag_rows_of text }
+
+-- what a command owes, by the text of its side input, for an input
+abbrev pub course_of : Command → List ℕ → List ℕ → Course DataFault
+course_of (Compress c) text input = with_fault of_recording (compress_course (compression_by c text) input)
+course_of (Play p) text input = with_fault of_store (play_course (copies_of (copy_rows_of text)) p.apid input)
+course_of (Restore r) text input = with_fault of_store (restore_course r.bits r.apid input)
+
+-- the number of the first record of a side text that is no row
+abbrev pub bad_row_of : Command → List ℕ → Option ℕ
+bad_row_of (Compress c) text = bad_flag_row text
+bad_row_of (Play p) text = bad_copy_row text
+bad_row_of (Restore r) text = None

@@ -1,6 +1,8 @@
 pub mod Words
+pub mod Masks
 pub mod Command
-pub mod Openings
 pub mod Courses
+pub mod Openings
+pub mod Jobs
 pub mod Outcome
 pub mod Status

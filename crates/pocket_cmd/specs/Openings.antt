@@ -1,21 +1,71 @@
--- What opening and finishing the names of a command do to a desk.
-use Rattle.std.specs.Prelude.{◌≡◌, ℕ, ◌⊎◌, true, List, [], Result, Ok, Err, IfSome}
+-- What reading a side input, and opening and finishing the names of a command, do to a desk.
+use Rattle.std.specs.Prelude.{◌≡◌, ℕ, ◌<◌, ◌≤◌, ◌⊎◌, true, List, [], length, Option, Some, None, Result, Ok, Err, IfSome}
 use Rattle.std.specs.Option.{option_map}
-use Rattle.desk_ports.specs.Meanings.{Meanings, Counts, FailsToRead, FailsToWrite, kept_at, kept_after, left, made, with_incoming, with_outgoing}
+use Rattle.desk_ports.specs.Meanings.{Meanings, Counts, Kept, FailsToRead, FailsToWrite, kept_at, kept_after, left, made, with_incoming, with_outgoing}
+use Rattle.desk_ports.specs.declared.desk.Inlet.{Inlet}
 use Rattle.desk_ports.specs.declared.desk.Inlet.TheVariants as inlet
 use Rattle.desk_ports.specs.declared.desk.Outlet.TheVariants as outlet
 use Rattle.pocket_cmd.specs.declared.opening.Names.{Names as Held}
 use Rattle.pocket_cmd.specs.declared.opening.Unopened.{Unopened}
 use Rattle.pocket_cmd.specs.declared.opening.Unopened.TheVariants as unopened
-
--- the names that a command opens: those of its input, its output and its report
-pub record Names : Type 0 where
-  pub input : List ℕ
-  pub output : List ℕ
-  pub report : List ℕ
+use Rattle.pocket_cmd.specs.declared.side.Unread.{Unread}
+use Rattle.pocket_cmd.specs.declared.side.Unread.TheVariants as unread
+use Rattle.pocket_cmd.specs.Command.{Names}
 
 abbrev pub view_names : Held → Names
-view_names names = record { input = names.input.now; output = names.output.now; report = names.report.now }
+view_names names = record {
+  side = option_map (λ name. name.now) names.side;
+  input = names.input.now;
+  output = names.output.now;
+  report = option_map (λ name. name.now) names.report;
+}
+
+abbrev pub given_by : Option Kept → Option (List ℕ) → List ℕ → Option (List ℕ)
+given_by (Some kept) (Some rest) name = Some (kept_at kept name)
+given_by (Some kept) None name = None
+given_by None rest name = None
+
+-- the bytes of an input, where the desk tells what it keeps under the name and what is left of an input
+abbrev pub given : Meanings → Inlet → List ℕ → Option (List ℕ)
+given m i name = given_by m.held (left m i) name
+
+-- ---- the side input
+
+-- the text of a side input, where the desk tells it; none is read where there is none
+abbrev pub side_given : Meanings → Option (List ℕ) → Option (List ℕ)
+side_given m None = Some []
+side_given m (Some name) = given m inlet.Side name
+
+-- the text is that of the side input, where the desk tells it
+abbrev pub IsSideText : Meanings → Option (List ℕ) → List ℕ → Type 0
+IsSideText m side text = IfSome (side_given m side) (λ bytes. text ≡ bytes)
+
+-- the text of the side input has more than 1,048,576 bytes, where the desk tells it
+abbrev pub IsSideLong : Meanings → Option (List ℕ) → Type 0
+IsSideLong m side = IfSome (side_given m side) (λ bytes. 1048576 < length bytes)
+
+-- the side input of this name has at least so many bytes, where the desk tells it
+abbrev pub HasSideBytes : Meanings → List ℕ → ℕ → Type 0
+HasSideBytes m name n = IfSome (given m inlet.Side name) (λ bytes. n ≤ length bytes)
+
+-- the side input was opened and read to its end, where there is one
+abbrev pub with_side : Meanings → Option (List ℕ) → Meanings
+with_side m None = m
+with_side m (Some name) = with_incoming m inlet.Side (record { left = option_map (λ _. []) (left m inlet.Side); ready = true })
+
+-- nothing changed but the side input, where there is one
+abbrev pub KeepsAll : Option (List ℕ) → Meanings → Meanings → Type 0
+KeepsAll None old new = new ≡ old
+KeepsAll (Some name) old new = new ≡ record old { side = new.side }
+
+-- why a side input was not read: reading failed, and otherwise both counts are as before
+abbrev pub HasSideCause : {T : Type 0} → Counts → Counts → Result T Unread → Type 0
+HasSideCause old new (Ok text) = new ≡ old
+HasSideCause old new (Err unread.TooLong) = new ≡ old
+HasSideCause old new (Err unread.ReadFault) = FailsToRead old new
+HasSideCause old new (Err unread.NoMemory) = new ≡ old
+
+-- ---- opening
 
 -- the input is opened, and has these bytes
 abbrev pub with_input : Meanings → List ℕ → Meanings
@@ -25,11 +75,13 @@ with_input m bytes = with_incoming m inlet.Main (record { left = option_map (λ 
 abbrev pub with_output : Meanings → List ℕ → Meanings
 with_output m name = with_outgoing m outlet.Main (record { made = option_map (λ _. []) (made m outlet.Main); name = option_map (λ _. name) m.output.name; ready = true })
 
--- the report is opened under a name
-abbrev pub with_report : Meanings → List ℕ → Meanings
-with_report m name = with_outgoing m outlet.Report (record { made = option_map (λ _. []) (made m outlet.Report); name = option_map (λ _. name) m.report.name; ready = true })
+-- the report is opened under a name, where there is one
+abbrev pub with_report : Meanings → Option (List ℕ) → Meanings
+with_report m None = m
+with_report m (Some name) =
+    with_outgoing m outlet.Report (record { made = option_map (λ _. []) (made m outlet.Report); name = option_map (λ _. name) m.report.name; ready = true })
 
--- all names are opened, and the input has these bytes
+-- all names but that of the side input are opened, and the input has these bytes
 abbrev pub all_opened : Names → Meanings → List ℕ → Meanings
 all_opened names old bytes = with_report (with_output (with_input old bytes) names.output) names.report
 
@@ -37,9 +89,14 @@ all_opened names old bytes = with_report (with_output (with_input old bytes) nam
 abbrev pub AreKept : Meanings → List ℕ → List ℕ → Type 0
 AreKept m name bytes = IfSome m.held (λ kept. bytes ≡ kept_at kept name)
 
+-- what was opened before the report, where there is one, stands
+abbrev pub LacksReport : Names → Option (List ℕ) → Meanings → Meanings → List ℕ → Type 0
+LacksReport names None old new bytes = new ≡ with_input old bytes
+LacksReport names (Some report) old new bytes = (new ≡ with_input old bytes) ⊎ (new ≡ with_output (with_input old bytes) names.output)
+
 -- the output, or the report, was not opened: what was opened before it stands so
 abbrev pub IsHalfOpened : Names → Meanings → Meanings → List ℕ → Type 0
-IsHalfOpened names old new bytes = (new ≡ with_input old bytes) ⊎ (new ≡ with_output (with_input old bytes) names.output)
+IsHalfOpened names old new bytes = LacksReport names names.report old new bytes
 
 -- after the opening of all names
 abbrev pub AfterOpening : Names → Meanings → Meanings → Result (Unit {0}) Unopened → Type 0
@@ -55,22 +112,24 @@ HasOpeningCause old new (Err unopened.Output) = FailsToWrite old new
 
 -- ---- finishing
 
--- what the output made is kept under its name
+-- what the output made is kept under its name, and what the report made, where there is one
 abbrev pub with_output_kept : Meanings → Meanings
 with_output_kept m = record m { held = kept_after m.held m.output.name (made m outlet.Main) }
 
-abbrev pub with_report_kept : Meanings → Meanings
-with_report_kept m = record m { held = kept_after m.held m.report.name (made m outlet.Report) }
+abbrev pub with_report_kept : Option (List ℕ) → Meanings → Meanings
+with_report_kept None m = m
+with_report_kept (Some name) m = record m { held = kept_after m.held m.report.name (made m outlet.Report) }
 
--- both are
-abbrev pub all_finished : Meanings → Meanings
-all_finished m = with_report_kept (with_output_kept m)
+-- all are
+abbrev pub all_finished : Option (List ℕ) → Meanings → Meanings
+all_finished report m = with_report_kept report (with_output_kept m)
 
--- nothing was kept, or the output alone
-abbrev pub IsHalfKept : Meanings → Meanings → Type 0
-IsHalfKept old new = (new ≡ old) ⊎ (new ≡ with_output_kept old)
+-- nothing was kept, or the output alone where there is a report
+abbrev pub IsHalfKept : Option (List ℕ) → Meanings → Meanings → Type 0
+IsHalfKept None old new = new ≡ old
+IsHalfKept (Some report) old new = (new ≡ old) ⊎ (new ≡ with_output_kept old)
 
--- after the finishing of both outputs
-abbrev pub AfterFinishing : {E : Type 0} → Meanings → Meanings → Result (Unit {0}) E → Type 0
-AfterFinishing old new (Ok done) = new ≡ all_finished old
-AfterFinishing old new (Err failed) = IsHalfKept old new
+-- after the finishing of all outputs
+abbrev pub AfterFinishing : {E : Type 0} → Option (List ℕ) → Meanings → Meanings → Result (Unit {0}) E → Type 0
+AfterFinishing report old new (Ok done) = new ≡ all_finished report old
+AfterFinishing report old new (Err failed) = IsHalfKept report old new

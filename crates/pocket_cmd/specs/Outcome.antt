@@ -1,12 +1,22 @@
 -- What a command leaves of a desk, by the way it ended.
-use Rattle.std.specs.Prelude.{◌≡◌, ℕ, ◌⊎◌, List, Option, Some, None, Result, Ok, Err}
+use Rattle.std.specs.Prelude.{◌≡◌, ◌≢◌, ℕ, ◌⊎◌, nat_lt, List, length, Option, Some, None, Result, Ok, Err, if◌then◌else◌}
 use Rattle.desk_ports.specs.Courses.{Course, Ends, IsCutOff, IsCutShort}
-use Rattle.desk_ports.specs.Meanings.{Meanings, Kept, kept_at, left}
+use Rattle.desk_ports.specs.Meanings.{Meanings, Counts, Rose}
 use Rattle.desk_ports.specs.declared.desk.Inlet.TheVariants as inlet
 use Rattle.desk_ports.specs.declared.stop.Stop.{Stop}
 use Rattle.desk_ports.specs.declared.stop.Stop.TheVariants.{Data, ReadFault, WriteFault}
-use Rattle.packet_store.specs.declared.fault.WalkFault.{WalkFault}
-use Rattle.pocket_cmd.specs.Openings.{Names, AreKept, all_opened, all_finished, IsHalfOpened, IsHalfKept}
+use Rattle.pocket_cmd.specs.declared.fault.DataFault.{DataFault}
+use Rattle.pocket_cmd.specs.declared.fault.DataFault.TheVariants as fault
+use Rattle.pocket_cmd.specs.declared.status.Status.{Status}
+use Rattle.pocket_cmd.specs.declared.status.Status.TheVariants.{Refused}
+use Rattle.pocket_cmd.specs.declared.status.Refusal.{Refusal}
+use Rattle.pocket_cmd.specs.declared.status.Refusal.TheVariants as refusal
+use Rattle.pocket_cmd.specs.Command.{Names, Command, names_of}
+use Rattle.pocket_cmd.specs.Courses.{course_of, bad_row_of}
+use Rattle.pocket_cmd.specs.Status.{status_of, status_by}
+use Rattle.pocket_cmd.specs.Openings.{AreKept, IsSideText, IsSideLong, KeepsAll, with_side, all_opened, all_finished, IsHalfOpened, IsHalfKept, given, side_given}
+
+-- ---- behind the side input
 
 -- the input has these bytes, which are those kept under its name, where the desk tells them; and this holds of the desk at
 -- which all names are opened
@@ -16,29 +26,21 @@ pub record Behind (names : Names) (old : Meanings) (After : Meanings → Type 0)
   pub after : After (all_opened names old input)
 
 -- where the run has no fault, the outputs are finished
-abbrev pub finished_where : Option WalkFault → Meanings → Meanings
-finished_where None m = all_finished m
-finished_where (Some fault) m = m
+abbrev pub finished_where : Option DataFault → Option (List ℕ) → Meanings → Meanings
+finished_where None report m = all_finished report m
+finished_where (Some fault) report m = m
 
 -- the run is done, and the outputs are finished where it has no fault
-pub record IsRunOut (course : List ℕ → Course WalkFault) (ending : Option WalkFault) (start new : Meanings) : Type 0 where
+pub record IsRunOut (course : List ℕ → Course DataFault) (report : Option (List ℕ)) (ending : Option DataFault) (start new : Meanings) : Type 0 where
   pub end : Meanings
   pub ran : Ends course start end ending
-  pub is : new ≡ finished_where ending end
-
--- All that the course of the input owes stands, which ends so; nothing else changed but what opening and finishing change.
-abbrev pub Stands : Names → (List ℕ → Course WalkFault) → Meanings → Meanings → Option WalkFault → Type 0
-Stands names course old new ending = Behind names old (λ start. IsRunOut course ending start new)
-
--- reading failed: nothing changed, or what the bytes owe that were moved before the failing read stands, and nothing is kept
-abbrev pub IsUnread : Names → (List ℕ → Course WalkFault) → Meanings → Meanings → Type 0
-IsUnread names course old new = (new ≡ old) ⊎ Behind names old (λ start. IsCutOff course start new)
+  pub is : new ≡ finished_where ending report end
 
 -- the outputs of a run that has no fault were not finished
-pub record IsUnfinished (course : List ℕ → Course WalkFault) (start new : Meanings) : Type 0 where
+pub record IsUnfinished (course : List ℕ → Course DataFault) (report : Option (List ℕ)) (start new : Meanings) : Type 0 where
   pub end : Meanings
   pub ran : Ends course start end None
-  pub is : IsHalfKept end new
+  pub is : IsHalfKept report end new
 
 -- an output was not opened
 pub record IsUnopened (names : Names) (old new : Meanings) : Type 0 where
@@ -46,26 +48,127 @@ pub record IsUnopened (names : Names) (old new : Meanings) : Type 0 where
   pub kept : AreKept old names.input input
   pub is : IsHalfOpened names old new input
 
+-- all that the course of the input owes stands, which ends so
+abbrev pub RunStands : Names → (List ℕ → Course DataFault) → Meanings → Meanings → Option DataFault → Type 0
+RunStands names course old new ending = Behind names old (λ start. IsRunOut course names.report ending start new)
+
+-- reading failed: the input was not opened; or what the bytes owe that were moved before the failing read stands, and
+-- nothing is kept
+abbrev pub IsRunUnread : Names → (List ℕ → Course DataFault) → Meanings → Meanings → Type 0
+IsRunUnread names course old new = (new ≡ old) ⊎ Behind names old (λ start. IsCutOff course start new)
+
 -- writing failed: an output was not opened; or a front of what is owed stands, and nothing is kept; or the outputs were not
 -- finished
-abbrev pub IsUnwritten : Names → (List ℕ → Course WalkFault) → Meanings → Meanings → Type 0
-IsUnwritten names course old new =
+abbrev pub IsRunUnwritten : Names → (List ℕ → Course DataFault) → Meanings → Meanings → Type 0
+IsRunUnwritten names course old new =
     IsUnopened names old new
     ⊎ (Behind names old (λ start. IsCutShort course start new)
-    ⊎ Behind names old (λ start. IsUnfinished course start new))
+    ⊎ Behind names old (λ start. IsUnfinished course names.report start new))
 
--- after a command was run, by its answer
-abbrev pub AfterCommand : Names → (List ℕ → Course WalkFault) → Meanings → Meanings → Result (Unit {0}) (Stop WalkFault) → Type 0
-AfterCommand names course old new (Ok done) = Stands names course old new None
-AfterCommand names course old new (Err (Data fault)) = Stands names course old new (Some fault)
-AfterCommand names course old new (Err ReadFault) = IsUnread names course old new
-AfterCommand names course old new (Err WriteFault) = IsUnwritten names course old new
+-- after a run, by its answer
+abbrev pub AfterNames : Names → (List ℕ → Course DataFault) → Meanings → Meanings → Result (Unit {0}) (Stop DataFault) → Type 0
+AfterNames names course old new (Ok done) = RunStands names course old new None
+AfterNames names course old new (Err (Data fault)) = RunStands names course old new (Some fault)
+AfterNames names course old new (Err ReadFault) = IsRunUnread names course old new
+AfterNames names course old new (Err WriteFault) = IsRunUnwritten names course old new
 
-abbrev pub given_by : Option Kept → Option (List ℕ) → List ℕ → Option (List ℕ)
-given_by (Some kept) (Some rest) name = Some (kept_at kept name)
-given_by (Some kept) None name = None
-given_by None rest name = None
+-- ---- from the words on
 
--- the bytes of an input, where the desk tells what it keeps under the name and what is left of an input
-abbrev pub given : Meanings → List ℕ → Option (List ℕ)
-given m name = given_by m.held (left m inlet.Main) name
+-- the side input has this text, where the desk tells it, and is read; and this holds by the text from there on
+pub record BehindSide (side : Option (List ℕ)) (old : Meanings) (After : List ℕ → Meanings → Type 0) : Type 0 where
+  pub text : List ℕ
+  pub told : IsSideText old side text
+  pub after : After text (with_side old side)
+
+-- All that the course of the input owes stands, which ends so; nothing else changed but what reading the side input, opening
+-- and finishing change.
+abbrev pub Stands : Command → Meanings → Meanings → Option DataFault → Type 0
+Stands command old new ending =
+    BehindSide (names_of command).side old (λ text start. RunStands (names_of command) (course_of command text) start new ending)
+
+-- the side text is too long, and nothing changed but the side input
+pub record IsTooLong (command : Command) (old new : Meanings) : Type 0 where
+  pub long : IsSideLong old (names_of command).side
+  pub keeps : KeepsAll (names_of command).side old new
+
+-- this record of the side text is the first that is no row, and nothing changed but the side input
+abbrev pub HasBadRow : Command → Meanings → Meanings → ℕ → Type 0
+HasBadRow command old new row = BehindSide (names_of command).side old (λ text start. (bad_row_of command text ≡ Some row) × (new ≡ start))
+
+-- nothing changed but the side input
+abbrev pub IsUntouched : Command → Meanings → Meanings → Type 0
+IsUntouched command old new = KeepsAll (names_of command).side old new
+
+-- reading failed: nothing changed but the side input, or what the bytes owe that were moved before the failing read stands,
+-- and nothing is kept
+abbrev pub IsUnread : Command → Meanings → Meanings → Type 0
+IsUnread command old new =
+    IsUntouched command old new
+    ⊎ BehindSide (names_of command).side old (λ text start. IsRunUnread (names_of command) (course_of command text) start new)
+
+-- writing failed: an output was not opened; or a front of what is owed stands, and nothing is kept; or the outputs were not
+-- finished
+abbrev pub IsUnwritten : Command → Meanings → Meanings → Type 0
+IsUnwritten command old new = BehindSide (names_of command).side old (λ text start. IsRunUnwritten (names_of command) (course_of command text) start new)
+
+-- ---- by the answer
+
+-- after a command whose side input has this text
+abbrev pub AfterTextRefusal : Command → List ℕ → Meanings → Meanings → Refusal → Type 0
+AfterTextRefusal command text old new (refusal.BadWords word) = ⊥
+AfterTextRefusal command text old new refusal.SideTooLong = ⊥
+AfterTextRefusal command text old new (refusal.BadSide row) = (bad_row_of command text ≡ Some row) × (new ≡ old)
+AfterTextRefusal command text old new refusal.ReadFault = IsRunUnread (names_of command) (course_of command text) old new
+AfterTextRefusal command text old new refusal.WriteFault = IsRunUnwritten (names_of command) (course_of command text) old new
+AfterTextRefusal command text old new (refusal.CutRecord t) = RunStands (names_of command) (course_of command text) old new (Some (fault.CutRecord t))
+AfterTextRefusal command text old new (refusal.SpareBit t) = RunStands (names_of command) (course_of command text) old new (Some (fault.SpareBit t))
+AfterTextRefusal command text old new (refusal.BadStore byte kind) = RunStands (names_of command) (course_of command text) old new (Some (fault.BadStore byte kind))
+AfterTextRefusal command text old new refusal.TooMany = RunStands (names_of command) (course_of command text) old new (Some fault.TooMany)
+AfterTextRefusal command text old new refusal.NoMemory = new ≡ old
+
+abbrev pub AfterText : Command → List ℕ → Meanings → Meanings → Result (Unit {0}) Refusal → Type 0
+AfterText command text old new (Ok done) = RunStands (names_of command) (course_of command text) old new None
+AfterText command text old new (Err refusal) = AfterTextRefusal command text old new refusal
+
+-- after a command
+abbrev pub AfterRefusal : Command → Meanings → Meanings → Refusal → Type 0
+AfterRefusal command old new (refusal.BadWords word) = ⊥
+AfterRefusal command old new refusal.SideTooLong = IsTooLong command old new
+AfterRefusal command old new (refusal.BadSide row) = HasBadRow command old new row
+AfterRefusal command old new refusal.ReadFault = IsUnread command old new
+AfterRefusal command old new refusal.WriteFault = IsUnwritten command old new
+AfterRefusal command old new (refusal.CutRecord t) = Stands command old new (Some (fault.CutRecord t))
+AfterRefusal command old new (refusal.SpareBit t) = Stands command old new (Some (fault.SpareBit t))
+AfterRefusal command old new (refusal.BadStore byte kind) = Stands command old new (Some (fault.BadStore byte kind))
+AfterRefusal command old new refusal.TooMany = Stands command old new (Some fault.TooMany)
+AfterRefusal command old new refusal.NoMemory = IsUntouched command old new
+
+abbrev pub AfterCommand : Command → Meanings → Meanings → Result (Unit {0}) Refusal → Type 0
+AfterCommand command old new (Ok done) = Stands command old new None
+AfterCommand command old new (Err refusal) = AfterRefusal command old new refusal
+
+-- ---- which answer
+
+-- the answer that the side text and the course of the input give
+abbrev pub by_row : Option ℕ → Status → Status
+by_row None status = status
+by_row (Some row) status = Refused (refusal.BadSide row)
+
+abbrev pub answer_by : Command → List ℕ → List ℕ → Status
+answer_by command text input = by_row (bad_row_of command text) (status_of (course_of command text input).ending)
+
+abbrev pub answer_to : Command → List ℕ → List ℕ → Status
+answer_to command text input = if nat_lt 1048576 (length text) then Refused refusal.SideTooLong else answer_by command text input
+
+-- where the input is told, memory was found and no count rose, the answer is this one
+abbrev pub IsAnsweredBy : Command → List ℕ → Meanings → Counts → Counts → Result (Unit {0}) Refusal → Type 0
+IsAnsweredBy command text m old new result =
+    (input : List ℕ) → given m inlet.Main (names_of command).input ≡ Some input → status_by result ≢ Refused refusal.NoMemory
+    → ¬ Rose old.reads new.reads → ¬ Rose old.writes new.writes → status_by result ≡ answer_by command text input
+
+-- the same where the side text is told, too
+abbrev pub IsAnswered : Command → Meanings → Counts → Counts → Result (Unit {0}) Refusal → Type 0
+IsAnswered command m old new result =
+    (text input : List ℕ) → side_given m (names_of command).side ≡ Some text → given m inlet.Main (names_of command).input ≡ Some input
+    → status_by result ≢ Refused refusal.NoMemory → ¬ Rose old.reads new.reads → ¬ Rose old.writes new.writes
+    → status_by result ≡ answer_to command text input

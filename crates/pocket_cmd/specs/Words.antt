@@ -4,36 +4,75 @@ use Rattle.std.specs.List.{list_any, range_with_len, before_first, after_first, 
 use Rattle.std.specs.Str.{bytes_eq}
 use Rattle.side_tables.specs.Numbers.{number_of}
 use Rattle.pocket_cmd.specs.declared.words.Verb.{Verb}
-use Rattle.pocket_cmd.specs.declared.words.Verb.TheVariants.{Restore}
+use Rattle.pocket_cmd.specs.declared.words.Verb.TheVariants.{Compress, Play, Restore}
 use Rattle.pocket_cmd.specs.declared.words.Direction.{Direction}
 use Rattle.pocket_cmd.specs.declared.words.Direction.TheVariants.{In, Out}
 use Rattle.pocket_cmd.specs.declared.words.KeyKind.{KeyKind}
-use Rattle.pocket_cmd.specs.declared.words.KeyKind.TheVariants.{Name, Number}
+use Rattle.pocket_cmd.specs.declared.words.KeyKind.TheVariants.{Name, Number, Text}
 use Rattle.pocket_cmd.specs.declared.words.Value.{Value as HeldValue}
 use Rattle.pocket_cmd.specs.declared.words.Value.TheVariants as held
 use Rattle.pocket_cmd.specs.declared.words.Entry.{Entry as Held}
 
 -- the verb that a word names
 abbrev pub verb_of : List ℕ → Option Verb
-verb_of word = if bytes_eq word (codes "restore") then Some Restore else None
+verb_of word =
+    if bytes_eq word (codes "compress") then Some Compress
+    else (if bytes_eq word (codes "play") then Some Play
+    else (if bytes_eq word (codes "restore") then Some Restore
+    else None))
+
+-- the bits of a packet, an APID that is no idle one, and a required robustness
+abbrev pub bits_kind : KeyKind
+bits_kind = Number 1 49152
+
+abbrev pub apid_kind : KeyKind
+apid_kind = Number 0 2046
+
+abbrev pub robust_kind : KeyKind
+robust_kind = Number 0 7
+
+-- what the keys of each verb take
+abbrev pub compress_key : List ℕ → Option KeyKind
+compress_key key =
+    if bytes_eq key (codes "in") || bytes_eq key (codes "plan") then Some (Name In)
+    else (if bytes_eq key (codes "out") then Some (Name Out)
+    else (if bytes_eq key (codes "bits") then Some bits_kind
+    else (if bytes_eq key (codes "apid") then Some apid_kind
+    else (if bytes_eq key (codes "robust") then Some robust_kind
+    else (if bytes_eq key (codes "mask") then Some Text
+    else None)))))
+
+abbrev pub play_key : List ℕ → Option KeyKind
+play_key key =
+    if bytes_eq key (codes "in") || bytes_eq key (codes "script") then Some (Name In)
+    else (if bytes_eq key (codes "out") || bytes_eq key (codes "report") then Some (Name Out)
+    else (if bytes_eq key (codes "apid") then Some apid_kind
+    else None))
+
+abbrev pub restore_key : List ℕ → Option KeyKind
+restore_key key =
+    if bytes_eq key (codes "in") then Some (Name In)
+    else (if bytes_eq key (codes "out") || bytes_eq key (codes "report") then Some (Name Out)
+    else (if bytes_eq key (codes "bits") then Some bits_kind
+    else (if bytes_eq key (codes "apid") then Some apid_kind
+    else None)))
 
 -- what a key of a verb takes
 abbrev pub key_kind : Verb → List ℕ → Option KeyKind
-key_kind Restore key =
-    if bytes_eq key (codes "in") then Some (Name In)
-    else (if bytes_eq key (codes "out") || bytes_eq key (codes "report") then Some (Name Out)
-    else (if bytes_eq key (codes "bits") then Some (Number 1 49152)
-    else (if bytes_eq key (codes "apid") then Some (Number 0 2046)
-    else None)))
+key_kind Compress key = compress_key key
+key_kind Play key = play_key key
+key_kind Restore key = restore_key key
 
 -- a value as its key takes it
 pub data Value : Type 0 where
   Named : Direction → List ℕ → Value
   Numbered : ℕ → Value
+  Plain : List ℕ → Value
 
 abbrev pub view_value : HeldValue → Value
 view_value (held.Name direction text) = Named direction text.now
 view_value (held.Number n) = Numbered n
+view_value (held.Text text) = Plain text.now
 
 -- any text that is not empty for a name
 abbrev pub read_name : Direction → List ℕ → Option Value
@@ -43,10 +82,11 @@ abbrev pub numbered : Option ℕ → Option Value
 numbered None = None
 numbered (Some n) = Some (Numbered n)
 
--- the value that a text is: a name, or a plain decimal within its bounds
+-- the value that a text is: a name, a plain decimal within its bounds, or the text itself
 abbrev pub read_value : KeyKind → List ℕ → Option Value
 read_value (Name direction) text = read_name direction text
 read_value (Number low high) text = numbered (number_of low high text)
+read_value Text text = Some (Plain text)
 
 -- a word's key and its value
 pub record Entry : Type 0 where
@@ -84,7 +124,9 @@ same_direction Out Out = true
 abbrev pub meet : Value → Value → Bool
 meet (Named one text) (Named other again) = bytes_eq text again && (not (bytes_eq text (codes "-")) || same_direction one other)
 meet (Named one text) (Numbered n) = false
+meet (Named one text) (Plain other) = false
 meet (Numbered n) other = false
+meet (Plain text) other = false
 
 -- two words can't stand together: one key, or one name
 abbrev pub clash : Entry → Entry → Bool
@@ -114,6 +156,14 @@ value_unless key (Some entry) rest = if bytes_eq entry.key key then Some entry.v
 abbrev pub value_of : Verb → List (List ℕ) → List ℕ → Option Value
 value_of verb [] key = None
 value_of verb (word ∷ words) key = value_unless key (entry_of verb word) (value_of verb words key)
+
+abbrev pub has_key : List ℕ → Option Entry → Bool
+has_key key None = false
+has_key key (Some entry) = bytes_eq entry.key key
+
+-- the place of the first word that has the key, counted from 0
+abbrev pub place_of : Verb → List (List ℕ) → List ℕ → ℕ
+place_of verb words key = position_or_len (λ word. has_key key (entry_of verb word)) words
 
 -- one of the words gives this value to the key
 abbrev pub Assigns : List (List ℕ) → List ℕ → List ℕ → Type 0

@@ -1,8 +1,9 @@
 //! Laws of the definitions that the top call's contract cites.
 ghost use Rattle.std.specs.Prelude.{◌≡◌, ℕ, List, Ok};
-ghost use Rattle.pocket_cmd.specs.Command.{Restoration, Restore, IsGiven, command_of};
+ghost use Rattle.pocket_cmd.specs.Command.{Command, AreGiven, IsRight, command_of, names_of};
 
 /// A command's values are within their bounds, and each of its names is one that a word gives.
 pub fn commands_are_given()
-    ensures { (words : List (List ℕ)) (r : Restoration) → command_of words ≡ Ok (Restore r) → IsGiven words r }
+    ensures right { (words : List (List ℕ)) (command : Command) → command_of words ≡ Ok command → IsRight command }
+    ensures given { (words : List (List ℕ)) (command : Command) → command_of words ≡ Ok command → AreGiven words (names_of command) }
 {}

@@ -1,12 +1,15 @@
 //! The command of `pocket`: its words, its runs over a desk, its refusals with their texts and exit numbers.
 #![tactic(auto)]
 
-mod chain;
 mod command;
+mod fault;
+mod job;
 mod laws;
+mod mask;
 mod opening;
-mod restore;
 mod run;
+mod runs;
+mod side;
 mod status;
 mod top;
 mod words;

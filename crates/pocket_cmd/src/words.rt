@@ -1,15 +1,19 @@
 //! The words of the command line: the verb, and then `key=value` in any order.
-ghost use Rattle.std.specs.Prelude.{◌≡◌, ◌<◌, ◌^◌, length, map, IfSome};
+ghost use Rattle.std.specs.Prelude.{◌≡◌, ◌<◌, ◌≤◌, ◌^◌, length, map, IfSome};
 ghost use Rattle.std.specs.Option.{option_map};
 ghost use Rattle.std.specs.List.{list_any};
 ghost use Rattle.std.specs.String.{string_bytes};
-ghost use Rattle.pocket_cmd.specs.Words.{verb_of, key_kind, read_name, read_value, entry_of, view_value, view_entry, meet, clash, clash_with_some, is_faulty, first_faulty, value_of};
+ghost use Rattle.pocket_cmd.specs.Words.{verb_of, key_kind, read_name, read_value, entry_of, view_value, view_entry, meet, clash, clash_with_some, is_faulty, first_faulty, value_of, has_key, place_of, compress_key, play_key, restore_key};
 
 use side_tables::number;
 
 /// What the command is to do.
 #[derive(Clone, Copy, Debug, PartialEq, Eq)]
 pub enum Verb {
+    /// Makes the store of a recording.
+    Compress,
+    /// Drops and repeats the packets of a store.
+    Play,
     /// Gives back the packets that arrived, and lists all others.
     Restore,
 }
@@ -28,6 +32,22 @@ pub enum KeyKind {
     Name(Direction),
     /// A plain decimal within these bounds.
     Number { low: u32, high: u32 },
+    /// Any text.
+    Text,
+}
+
+impl KeyKind {
+    /// The bits of a packet.
+    const BITS: KeyKind = KeyKind::Number {
+        low: 1,
+        high: 49_152,
+    };
+
+    /// An APID which is no idle one.
+    const APID: KeyKind = KeyKind::Number { low: 0, high: 2046 };
+
+    /// A required robustness.
+    const ROBUST: KeyKind = KeyKind::Number { low: 0, high: 7 };
 }
 
 /// A value as its key takes it.
@@ -35,6 +55,7 @@ pub enum KeyKind {
 pub enum Value<'a> {
     Name(Direction, &'a str),
     Number(u32),
+    Text(&'a str),
 }
 
 /// A word `key=value` whose key is one of the verb's, with a value of that key.
@@ -49,6 +70,8 @@ pub fn verb_of(word: &str) -> Option<Verb>
     ensures { result ≡ verb_of word.now }
 {
     match word {
+        "compress" => Some(Verb::Compress),
+        "play" => Some(Verb::Play),
         "restore" => Some(Verb::Restore),
         _ => None,
     }
@@ -58,14 +81,46 @@ pub fn verb_of(word: &str) -> Option<Verb>
 fn key_kind(verb: Verb, key: &str) -> Option<KeyKind>
     ensures { result ≡ key_kind verb key.now }
 {
-    match (verb, key) {
-        (Verb::Restore, "in") => Some(KeyKind::Name(Direction::In)),
-        (Verb::Restore, "out" | "report") => Some(KeyKind::Name(Direction::Out)),
-        (Verb::Restore, "bits") => Some(KeyKind::Number {
-            low: 1,
-            high: 49_152,
-        }),
-        (Verb::Restore, "apid") => Some(KeyKind::Number { low: 0, high: 2046 }),
+    match verb {
+        Verb::Compress => compress_key(key),
+        Verb::Play => play_key(key),
+        Verb::Restore => restore_key(key),
+    }
+}
+
+fn compress_key(key: &str) -> Option<KeyKind>
+    ensures { result ≡ compress_key key.now }
+{
+    match key {
+        "in" | "plan" => Some(KeyKind::Name(Direction::In)),
+        "out" => Some(KeyKind::Name(Direction::Out)),
+        "bits" => Some(KeyKind::BITS),
+        "apid" => Some(KeyKind::APID),
+        "robust" => Some(KeyKind::ROBUST),
+        "mask" => Some(KeyKind::Text),
+        _ => None,
+    }
+}
+
+fn play_key(key: &str) -> Option<KeyKind>
+    ensures { result ≡ play_key key.now }
+{
+    match key {
+        "in" | "script" => Some(KeyKind::Name(Direction::In)),
+        "out" | "report" => Some(KeyKind::Name(Direction::Out)),
+        "apid" => Some(KeyKind::APID),
+        _ => None,
+    }
+}
+
+fn restore_key(key: &str) -> Option<KeyKind>
+    ensures { result ≡ restore_key key.now }
+{
+    match key {
+        "in" => Some(KeyKind::Name(Direction::In)),
+        "out" | "report" => Some(KeyKind::Name(Direction::Out)),
+        "bits" => Some(KeyKind::BITS),
+        "apid" => Some(KeyKind::APID),
         _ => None,
     }
 }
@@ -77,6 +132,7 @@ fn read_value(kind: KeyKind, text: &str) -> Option<Value<'_>>
     match kind {
         KeyKind::Name(direction) => name(direction, text),
         KeyKind::Number { low, high } => Some(Value::Number(number(text.as_bytes(), low, high)?)),
+        KeyKind::Text => Some(Value::Text(text)),
     }
 }
 
@@ -176,4 +232,27 @@ pub fn value_of<'a>(verb: Verb, words: &'a [String], key: &str) -> Option<Value<
         }
     }
     None
+}
+
+/// Whether a word has this key.
+fn has_key(verb: Verb, word: &str, key: &str) -> bool
+    ensures { result ≡ has_key key.now (entry_of verb word.now) }
+{
+    match entry_of(verb, word) {
+        None => false,
+        Some(entry) => entry.key == key,
+    }
+}
+
+/// The place of the first word that has the key, counted from 0; their number where none has it.
+pub fn place_of(verb: Verb, words: &[String], key: &str) -> usize
+    ensures place { result ≡ place_of verb (map string_bytes words.now) key.now }
+    ensures within { result ≤ length words.now }
+{
+    for (place, word) in words.iter().enumerate() {
+        if has_key(verb, word.as_str(), key) {
+            return place;
+        }
+    }
+    words.len()
 }

@@ -1,43 +1,63 @@
-//! The work of each command.
-ghost use Rattle.std.specs.Prelude.{◌≡◌, ◌≢◌, ℕ, List, Option, Some, IsTrue};
-ghost use Rattle.desk_ports.specs.Meanings.{Rose};
-ghost use Rattle.packet_store.specs.declared.fault.WalkFault.{WalkFault as Fault};
-ghost use Rattle.pocket_cmd.specs.Command.{IsRight, view_command};
-ghost use Rattle.pocket_cmd.specs.Courses.{course_of, names_of};
-ghost use Rattle.pocket_cmd.specs.Outcome.{Stands, IsUnread, IsUnwritten, given};
-ghost use Rattle.pocket_cmd.specs.Status.{HasStatusCause, status_of};
+//! The work of a command.
+ghost use Rattle.std.specs.Prelude.{◌≡◌, ◌≤◌, length, IsTrue, IfSome};
+ghost use Rattle.pocket_cmd.specs.Command.{IsRight, names_of, view_command};
+ghost use Rattle.pocket_cmd.specs.Outcome.{AfterCommand, AfterText, IsAnswered, IsAnsweredBy};
+ghost use Rattle.pocket_cmd.specs.Status.{HasStatusCause, refused_by, status_by};
 
-use crate::command::{Command, Restoration};
-use crate::run::perform;
-use crate::status::{Refusal, Status};
-use desk_ports::Desk;
-use ground_chain::Restorer;
+use crate::command::Command;
+use crate::fault::DataFault;
+use crate::job::Job;
+use crate::run::run;
+use crate::side::side_text;
+use crate::status::Refusal;
+use desk_ports::{Desk, Stop};
 use std::alloc::Global;
 
-/// Takes the memory of a command's run, and performs it.
-pub fn perform_command<D: Desk>(alloc: Global, command: &Command<'_>, desk: &mut D) -> Status
+/// Reads the side input of a command, takes the memory of its run, and runs it.
+pub fn perform<D: Desk>(alloc: Global, command: &Command<'_>, desk: &mut D) -> Result<(), Refusal>
     requires right { IsRight (view_command command.now) }
+    requires side { IfSome (names_of (view_command command.now)).side (λ name. IsTrue ((D.meaning desk.old).grants_in name)) }
     requires input { IsTrue ((D.meaning desk.old).grants_in (names_of (view_command command.now)).input) }
     requires output { IsTrue ((D.meaning desk.old).grants_out (names_of (view_command command.now)).output) }
-    requires report { IsTrue ((D.meaning desk.old).grants_out (names_of (view_command command.now)).report) }
-    ensures no_memory { result ≡ Status.Refused Refusal.NoMemory → D.meaning desk.new ≡ D.meaning desk.old }
-    ensures stands { let command = view_command command.now in (ending : Option Fault) → result ≡ status_of ending
-        → Stands (names_of command) (course_of command) (D.meaning desk.old) (D.meaning desk.new) ending }
-    ensures ends { let command = view_command command.now in (input : List ℕ)
-        → given (D.meaning desk.old) (names_of command).input ≡ Some input → result ≢ Status.Refused Refusal.NoMemory
-        → ¬ Rose (D.counts desk.old).reads (D.counts desk.new).reads → ¬ Rose (D.counts desk.old).writes (D.counts desk.new).writes
-        → result ≡ status_of (course_of command input).ending }
-    ensures read_fault { let command = view_command command.now in result ≡ Status.Refused Refusal.ReadFault
-        → IsUnread (names_of command) (course_of command) (D.meaning desk.old) (D.meaning desk.new) }
-    ensures write_fault { let command = view_command command.now in result ≡ Status.Refused Refusal.WriteFault
-        → IsUnwritten (names_of command) (course_of command) (D.meaning desk.old) (D.meaning desk.new) }
-    ensures words { (word : ℕ) → result ≢ Status.Refused (Refusal.BadWords word) }
-    ensures cause { HasStatusCause (D.counts desk.old) (D.counts desk.new) result }
+    requires report { IfSome (names_of (view_command command.now)).report (λ name. IsTrue ((D.meaning desk.old).grants_out name)) }
+    ensures after { AfterCommand (view_command command.now) (D.meaning desk.old) (D.meaning desk.new) result }
+    ensures cause { HasStatusCause (D.counts desk.old) (D.counts desk.new) (status_by result) }
+    ensures ends { IsAnswered (view_command command.now) (D.meaning desk.old) (D.counts desk.old) (D.counts desk.new) result }
 {
-    match command {
-        Command::Restore(told) => match Restorer::open(alloc, told.bits, told.apid as u16) {
-            Ok(restorer) => perform(desk, &told.names(), restorer),
-            Err(refused) => Status::Refused(refused.into()),
-        },
+    match side_text(alloc, desk, command.names().side) {
+        Ok(text) => perform_with(alloc, command, &text, desk),
+        Err(unread) => Err(unread.into()),
+    }
+}
+
+/// Takes the memory of a command's run, whose side input has this text, and runs it.
+fn perform_with<D: Desk>(
+    alloc: Global,
+    command: &Command<'_>,
+    text: &[u8],
+    desk: &mut D,
+) -> Result<(), Refusal>
+    requires right { IsRight (view_command command.now) }
+    requires within { length text.now ≤ 1048576 }
+    requires input { IsTrue ((D.meaning desk.old).grants_in (names_of (view_command command.now)).input) }
+    requires output { IsTrue ((D.meaning desk.old).grants_out (names_of (view_command command.now)).output) }
+    requires report { IfSome (names_of (view_command command.now)).report (λ name. IsTrue ((D.meaning desk.old).grants_out name)) }
+    ensures after { AfterText (view_command command.now) text.now (D.meaning desk.old) (D.meaning desk.new) result }
+    ensures cause { HasStatusCause (D.counts desk.old) (D.counts desk.new) (status_by result) }
+    ensures ends { IsAnsweredBy (view_command command.now) text.now (D.meaning desk.old) (D.counts desk.old) (D.counts desk.new) result }
+{
+    match Job::of(alloc, command, text) {
+        Ok(job) => refused_by(run(desk, &command.names(), job)),
+        Err(fault) => Err(fault.into()),
+    }
+}
+
+/// The refusal for a run that ended before it was done.
+fn refused_by(ended: Result<(), Stop<DataFault>>) -> Result<(), Refusal>
+    ensures { result ≡ refused_by ended }
+{
+    match ended {
+        Ok(()) => Ok(()),
+        Err(stop) => Err(stop.into()),
     }
 }

@@ -1,5 +1,8 @@
-use Rattle.pocket_cmd.proofs.Given.{IsGiven-command_of}
+use Rattle.pocket_cmd.proofs.Given.{IsCommand-command_of}
 use Rattle.pocket_cmd.proofs.laws.commands_are_given.Goals as goal
 
-pub returns : goal.returns
-returns c = IsGiven-command_of
+pub returns-clause-right : goal.returns-clause-right
+returns-clause-right c = λ words command e. (IsCommand-command_of words command e).right
+
+pub returns-clause-given : goal.returns-clause-given
+returns-clause-given c = λ words command e. (IsCommand-command_of words command e).given

@@ -1,24 +1,69 @@
-use Rattle.std.proofs.Common.{map, sym}
+use Rattle.std.proofs.Common.{map, sym, ◌∙◌, inl, inr, IfSome}
 use Rattle.std.specs.String.{string_bytes}
-use Rattle.pocket_cmd.specs.Command.{view_command}
-use Rattle.pocket_cmd.specs.Courses.{names_of}
-use Rattle.pocket_cmd.proofs.Given.{AreGiven-command_of}
+use Rattle.pocket_cmd.specs.declared.status.Refusal.TheVariants as refusal
+use Rattle.pocket_cmd.specs.Command.{names_of, view_command}
+use Rattle.pocket_cmd.proofs.Given.{IsCommand-command_of}
+use Rattle.pocket_cmd.proofs.Granted.{side_granted, report_granted, not_both, ends_for}
+use Rattle.pocket_cmd.proofs.Performed.{AfterRefusal-answer, Stands-answer}
 use Rattle.pocket_cmd.proofs.top.pocket.Goals as goal
 
-pub perform_command-requires-clause-right : goal.perform_command-requires-clause-right
-perform_command-requires-clause-right g c = (AreGiven-command_of (map string_bytes c.args.words.now) (view_command c.in-Ok.command) (sym c.in-Ok.ensures)).right
+pub perform-requires-clause-right : goal.perform-requires-clause-right
+perform-requires-clause-right g c = (IsCommand-command_of (map string_bytes c.args.words.now) (view_command c.in-Ok.command) (sym c.in-Ok.ensures)).right
 
-pub perform_command-requires-clause-input : goal.perform_command-requires-clause-input
-perform_command-requires-clause-input g c =
+pub perform-requires-clause-side : goal.perform-requires-clause-side
+perform-requires-clause-side g c =
     let command = view_command c.in-Ok.command in
-    c.requires.inputs (names_of command).input (AreGiven-command_of (map string_bytes c.args.words.now) command (sym c.in-Ok.ensures)).input
+    side_granted (map string_bytes c.args.words.now) (names_of command).side (g.D.Desk.meaning c.args.desk.now).grants_in c.requires.plans c.requires.scripts
+    (IsCommand-command_of (map string_bytes c.args.words.now) command (sym c.in-Ok.ensures)).given.side
 
-pub perform_command-requires-clause-output : goal.perform_command-requires-clause-output
-perform_command-requires-clause-output g c =
+pub perform-requires-clause-input : goal.perform-requires-clause-input
+perform-requires-clause-input g c =
     let command = view_command c.in-Ok.command in
-    c.requires.outputs (names_of command).output (AreGiven-command_of (map string_bytes c.args.words.now) command (sym c.in-Ok.ensures)).output
+    c.requires.inputs (names_of command).input (IsCommand-command_of (map string_bytes c.args.words.now) command (sym c.in-Ok.ensures)).given.input
 
-pub perform_command-requires-clause-report : goal.perform_command-requires-clause-report
-perform_command-requires-clause-report g c =
+pub perform-requires-clause-output : goal.perform-requires-clause-output
+perform-requires-clause-output g c =
     let command = view_command c.in-Ok.command in
-    c.requires.reports (names_of command).report (AreGiven-command_of (map string_bytes c.args.words.now) command (sym c.in-Ok.ensures)).report
+    c.requires.outputs (names_of command).output (IsCommand-command_of (map string_bytes c.args.words.now) command (sym c.in-Ok.ensures)).given.output
+
+pub perform-requires-clause-report : goal.perform-requires-clause-report
+perform-requires-clause-report g c =
+    let command = view_command c.in-Ok.command in
+    report_granted (map string_bytes c.args.words.now) (names_of command).report (g.D.Desk.meaning c.args.desk.now).grants_out c.requires.reports
+    (IsCommand-command_of (map string_bytes c.args.words.now) command (sym c.in-Ok.ensures)).given.report
+
+pub returns-in-Ok-clause-side_too_long : goal.returns-in-Ok-clause-side_too_long
+returns-in-Ok-clause-side_too_long g c = λ e. (view_command c.in-Ok.command, sym c.in-Ok.ensures, AfterRefusal-answer (view_command c.in-Ok.command) (g.D.Desk.meaning c.args.desk.now) (g.D.Desk.meaning c.perform.new.desk) c.perform.result refusal.SideTooLong c.perform.ensures.after (sym c.into.ensures ∙ e))
+
+pub returns-in-Ok-clause-bad_side : goal.returns-in-Ok-clause-bad_side
+returns-in-Ok-clause-bad_side g c = λ row e. (view_command c.in-Ok.command, sym c.in-Ok.ensures, AfterRefusal-answer (view_command c.in-Ok.command) (g.D.Desk.meaning c.args.desk.now) (g.D.Desk.meaning c.perform.new.desk) c.perform.result (refusal.BadSide row) c.perform.ensures.after (sym c.into.ensures ∙ e))
+
+pub returns-in-Ok-clause-no_memory : goal.returns-in-Ok-clause-no_memory
+returns-in-Ok-clause-no_memory g c = λ e. (view_command c.in-Ok.command, sym c.in-Ok.ensures, AfterRefusal-answer (view_command c.in-Ok.command) (g.D.Desk.meaning c.args.desk.now) (g.D.Desk.meaning c.perform.new.desk) c.perform.result refusal.NoMemory c.perform.ensures.after (sym c.into.ensures ∙ e))
+
+pub returns-in-Ok-clause-read_fault : goal.returns-in-Ok-clause-read_fault
+returns-in-Ok-clause-read_fault g c = λ e. (view_command c.in-Ok.command, sym c.in-Ok.ensures, AfterRefusal-answer (view_command c.in-Ok.command) (g.D.Desk.meaning c.args.desk.now) (g.D.Desk.meaning c.perform.new.desk) c.perform.result refusal.ReadFault c.perform.ensures.after (sym c.into.ensures ∙ e))
+
+pub returns-in-Ok-clause-write_fault : goal.returns-in-Ok-clause-write_fault
+returns-in-Ok-clause-write_fault g c = λ e. (view_command c.in-Ok.command, sym c.in-Ok.ensures, AfterRefusal-answer (view_command c.in-Ok.command) (g.D.Desk.meaning c.args.desk.now) (g.D.Desk.meaning c.perform.new.desk) c.perform.result refusal.WriteFault c.perform.ensures.after (sym c.into.ensures ∙ e))
+
+pub returns-in-Ok-clause-stands : goal.returns-in-Ok-clause-stands
+returns-in-Ok-clause-stands g c = λ ending e. (
+  view_command c.in-Ok.command,
+  sym c.in-Ok.ensures,
+  Stands-answer (view_command c.in-Ok.command) (g.D.Desk.meaning c.args.desk.now) (g.D.Desk.meaning c.perform.new.desk) c.perform.result ending c.perform.ensures.after (sym c.into.ensures ∙ e),
+)
+
+pub returns-in-Ok-clause-bad_words : goal.returns-in-Ok-clause-bad_words
+returns-in-Ok-clause-bad_words g c = λ word. (
+  λ e. absurd (AfterRefusal-answer (view_command c.in-Ok.command) (g.D.Desk.meaning c.args.desk.now) (g.D.Desk.meaning c.perform.new.desk) c.perform.result (refusal.BadWords word) c.perform.ensures.after (sym c.into.ensures ∙ e)),
+  λ e. absurd (not_both (sym c.in-Ok.ensures) e),
+)
+
+pub returns-in-Ok-clause-not_called : goal.returns-in-Ok-clause-not_called
+returns-in-Ok-clause-not_called g c = λ word e.
+    absurd (AfterRefusal-answer (view_command c.in-Ok.command) (g.D.Desk.meaning c.args.desk.now) (g.D.Desk.meaning c.perform.new.desk) c.perform.result (refusal.BadWords word) c.perform.ensures.after (sym c.into.ensures ∙ e))
+
+pub returns-in-Ok-clause-ends : goal.returns-in-Ok-clause-ends
+returns-in-Ok-clause-ends g c = λ command text input is side_told input_told memory reads writes.
+    ends_for (view_command c.in-Ok.command) command (sym c.in-Ok.ensures) is (g.D.Desk.meaning c.args.desk.now) (g.D.Desk.counts c.args.desk.now) (g.D.Desk.counts c.perform.new.desk) c.perform.result c.into.result c.into.ensures c.perform.ensures.ends text input side_told input_told memory reads writes

@@ -1,0 +1,36 @@
+-- The first mask, as hexadecimal digits say it.
+use Rattle.std.specs.Prelude.{ℕ, Bool, true, false, if◌then◌else◌, List, take, drop, replicate, Option, Some, None, Result, Ok, Err, unwrap_or, is_some}
+use Rattle.std.specs.Option.{option_map}
+use Rattle.std.specs.List.{list_any}
+use Rattle.bit_vectors.specs.Vectors.{bits_of, byte_count}
+use Rattle.hex.specs.Hex.{decode_sized}
+use Rattle.hex.specs.declared.error.FromHexError.{FromHexError}
+
+-- whether a bit that belongs to no place is one, where a vector has f places
+abbrev pub has_spare_bit : ℕ → List ℕ → Bool
+has_spare_bit f bytes = list_any (λ bit. bit) (drop f (bits_of bytes))
+
+abbrev pub unless_spare : ℕ → Result (List ℕ) FromHexError → Option (List ℕ)
+unless_spare f (Err error) = None
+unless_spare f (Ok bytes) = if has_spare_bit f bytes then None else Some bytes
+
+-- the bytes of a vector of f places that a text says: two digits for each, and no spare bit is one
+abbrev pub mask_bytes : ℕ → List ℕ → Option (List ℕ)
+mask_bytes f text = unless_spare f (decode_sized text (byte_count f))
+
+-- its vector
+abbrev pub mask_of : ℕ → List ℕ → Option (List Bool)
+mask_of f text = option_map (λ bytes. take f (bits_of bytes)) (mask_bytes f text)
+
+-- the text, where there is one, says a vector of f places
+abbrev pub is_mask : ℕ → Option (List ℕ) → Bool
+is_mask f None = true
+is_mask f (Some text) = is_some (mask_of f text)
+
+abbrev pub no_mask : ℕ → List Bool
+no_mask f = replicate f false
+
+-- the first mask: that of the text, zero where there is none
+abbrev pub first_mask : ℕ → Option (List ℕ) → List Bool
+first_mask f None = no_mask f
+first_mask f (Some text) = unwrap_or (mask_of f text) (no_mask f)

@@ -1,0 +1,101 @@
+//! A command whose memory is taken.
+ghost use Rattle.std.specs.Prelude.{◌≡◌, ◌≢◌, ◌≤◌, ℕ, Some, Err, length, IsTrue, is_some, IfOk, OnOk};
+ghost use Rattle.desk_ports.specs.Courses.{AfterRun, HasCause};
+ghost use Rattle.desk_ports.specs.Meanings.{IsReadyIn, IsReadyOut};
+ghost use Rattle.side_tables.specs.Grammar.{bad_copy_row, bad_flag_row, copy_rows_of};
+ghost use Rattle.pocket_cmd.specs.Command.{AreRight, IsChosen, IsPlaces, IsRight, names_of, view_command, view_compress};
+ghost use Rattle.pocket_cmd.specs.Courses.{course_of, bad_row_of, compression_by};
+ghost use Rattle.pocket_cmd.specs.Jobs.{job_course, writes_report};
+
+use crate::command::{Command, CompressValues, PlayValues, RestoreValues};
+use crate::fault::DataFault;
+use crate::mask::first_mask;
+use crate::runs::{compress, play, restore};
+use bit_vectors::NoMemory;
+use desk_ports::{Desk, Inlet, Outlet, Stop};
+use flight_chain::Flight;
+use ground_chain::Restorer;
+use loss_player::Player;
+use side_tables::{Schedule, Script, SideFault};
+use std::alloc::Global;
+
+/// What reads the main input to its end and writes the outputs. It owns all memory of its run.
+#[derive(Drop)]
+pub enum Job {
+    Compress(Flight),
+    Play(Player),
+    Restore(Restorer),
+}
+
+impl Job {
+    /// The job of a command whose side input has this text.
+    pub fn of(alloc: Global, command: &Command<'_>, text: &[u8]) -> Result<Job, SideFault>
+        requires right { IsRight (view_command command.now) }
+        requires within { length text.now ≤ 1048576 }
+        ensures course { IfOk result (λ job. job_course job ≡ course_of (view_command command.now) text.now) }
+        ensures report { IfOk result (λ job. writes_report job ≡ is_some (names_of (view_command command.now)).report) }
+        ensures rows { OnOk result (bad_row_of (view_command command.now) text.now ≡ None) }
+        ensures row { (row : ℕ) → result ≡ Err (SideFault.Row row) → bad_row_of (view_command command.now) text.now ≡ Some row }
+        ensures within { result ≢ Err SideFault.TooLong }
+    {
+        match command {
+            Command::Compress(told) => Ok(Job::Compress(flight(alloc, told, text)?)),
+            Command::Play(told) => Ok(Job::Play(player(alloc, told, text)?)),
+            Command::Restore(told) => Ok(Job::Restore(restorer(alloc, told)?)),
+        }
+    }
+
+    /// Runs over a desk at which the input and the outputs are opened. It takes no memory.
+    pub fn run<D: Desk>(self, desk: &mut D) -> Result<(), Stop<DataFault>>
+        requires input { IsReadyIn (D.meaning desk.old) Inlet.Main }
+        requires output { IsReadyOut (D.meaning desk.old) Outlet.Main }
+        requires report { IsTrue (writes_report self) → IsReadyOut (D.meaning desk.old) Outlet.Report }
+        ensures ran { AfterRun (job_course self) (D.meaning desk.old) (D.meaning desk.new) result }
+        ensures cause { HasCause (D.counts desk.old) (D.counts desk.new) result }
+        ensures ready_out { OnOk result (IsReadyOut (D.meaning desk.new) Outlet.Main) }
+        ensures ready_report { IsReadyOut (D.meaning desk.old) Outlet.Report → OnOk result (IsReadyOut (D.meaning desk.new) Outlet.Report) }
+    {
+        match self {
+            Job::Compress(flight) => compress(flight, desk),
+            Job::Play(player) => play(player, desk),
+            Job::Restore(restorer) => restore(restorer, desk),
+        }
+    }
+}
+
+/// The flight of `compress`, whose schedule has this text.
+fn flight(alloc: Global, told: &CompressValues<'_>, text: &[u8]) -> Result<Flight, SideFault>
+    requires right { AreRight (view_compress told.now) }
+    requires within { length text.now ≤ 1048576 }
+    ensures flight { IfOk result (λ flight. flight ≡ compression_by (view_compress told.now) text.now) }
+    ensures rows { OnOk result (bad_flag_row text.now ≡ None) }
+    ensures row { (row : ℕ) → result ≡ Err (SideFault.Row row) → bad_flag_row text.now ≡ Some row }
+    ensures within { result ≢ Err SideFault.TooLong }
+{
+    let plan = Schedule::read(alloc, text)?;
+    let mask = first_mask(alloc, told.bits, told.mask)?;
+    let (robust, apid) = (told.robust as u8, told.apid as u16);
+    Ok(Flight::open(alloc, told.bits, robust, apid, &mask, plan)?)
+}
+
+/// The player of `play`, whose script has this text.
+fn player(alloc: Global, told: &PlayValues<'_>, text: &[u8]) -> Result<Player, SideFault>
+    requires right { IsChosen told.now.apid }
+    requires within { length text.now ≤ 1048576 }
+    ensures player { IfOk result (λ player. player ≡ record { apid = told.now.apid; rows = copy_rows_of text.now }) }
+    ensures rows { OnOk result (bad_copy_row text.now ≡ None) }
+    ensures row { (row : ℕ) → result ≡ Err (SideFault.Row row) → bad_copy_row text.now ≡ Some row }
+    ensures within { result ≢ Err SideFault.TooLong }
+{
+    let script = Script::read(alloc, text)?;
+    Ok(Player::open(alloc, told.apid as u16, script)?)
+}
+
+/// The restorer of `restore`.
+fn restorer(alloc: Global, told: &RestoreValues<'_>) -> Result<Restorer, NoMemory>
+    requires bits { IsPlaces told.now.bits }
+    requires apid { IsChosen told.now.apid }
+    ensures { IfOk result (λ restorer. restorer ≡ record { places = told.now.bits; apid = told.now.apid }) }
+{
+    Restorer::open(alloc, told.bits, told.apid as u16)
+}
