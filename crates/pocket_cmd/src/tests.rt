@@ -1,7 +1,15 @@
-//! What no clause shows: worked stores over a desk in memory, words, texts, and a desk that fails.
+//! What no clause shows: worked examples over a desk in memory, of each command and of all three in a row; words, texts, and
+//! a desk that fails.
 
+mod chain;
 mod desk;
 mod faults;
+mod long_chains;
+mod played;
+mod recordings;
+mod samples;
+mod short_chains;
+mod sides;
 mod stores;
 mod texts;
 mod words;

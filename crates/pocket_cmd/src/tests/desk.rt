@@ -7,20 +7,25 @@ use std::alloc::{AllocError, Global};
 use std::process::Abort;
 use std::test::Fail;
 
-/// The words for packets of eight bits.
+/// The words that restore packets of eight bits.
 pub const EIGHT_BITS: &str = "restore in=a out=b report=c bits=8 apid=100";
+
+/// The words that play a store by a script.
+pub const BY_SCRIPT: &str = "play in=a script=s out=b report=c apid=100";
 
 /// The first line of a report.
 pub const HEADER: &[u8] = b"first,last,cause,value\n";
 
-/// The words in one line, what the input has, whether a call moves one byte at most, and the call that fails.
+/// The words in one line, what the inputs have, whether a call moves one byte at most, and the calls that fail.
 #[derive(Clone, Copy, Debug)]
 pub struct Case<'a> {
     pub words: &'a str,
-    /// In hexadecimal, its bytes apart.
-    pub store: Option<&'a str>,
+    /// What is held as `a`.
+    pub input: Option<&'a [u8]>,
+    /// What is held as `s`.
+    pub side: Option<&'a [u8]>,
     pub one_byte: bool,
-    pub fails: Option<(Call, u32)>,
+    pub fails: &'a [(Call, u32)],
 }
 
 /// How a run ended: what was written, and what is kept under the names of both outputs.
@@ -39,9 +44,26 @@ pub struct Ending<'a> {
 pub fn words_alone(words: &str) -> Case<'_> {
     Case {
         words,
-        store: None,
+        input: None,
+        side: None,
         one_byte: false,
-        fails: None,
+        fails: &[],
+    }
+}
+
+/// The words, at a desk with this input.
+pub fn with_input<'a>(words: &'a str, input: &'a [u8]) -> Case<'a> {
+    Case {
+        input: Some(input),
+        ..words_alone(words)
+    }
+}
+
+/// The words, at a desk with both inputs.
+pub fn with_both<'a>(words: &'a str, input: &'a [u8], side: &'a [u8]) -> Case<'a> {
+    Case {
+        side: Some(side),
+        ..with_input(words, input)
     }
 }
 
@@ -85,14 +107,27 @@ pub fn assert_ending(
     wanted: &Ending<'_>,
 ) -> Result<(), Fail> {
     let mut desk = desk_for(rt.alloc(), case)?;
-    let words = words_of(rt.alloc(), case.words)?;
-    let status = answer(rt.alloc(), &words, &mut desk);
+    let status = answer(rt.alloc(), case.words, &mut desk)?;
     assert_eq!(rt; ended(status, &desk), *wanted, "{case:?}");
     Ok(())
 }
 
+/// Runs a case with whole reads and writes, and with those of one byte.
+pub fn assert_both(
+    rt: &(impl Abort + AllocGlobal),
+    case: Case<'_>,
+    wanted: &Ending<'_>,
+) -> Result<(), Fail> {
+    assert_ending(rt, &case, wanted)?;
+    let one_byte = Case {
+        one_byte: true,
+        ..case
+    };
+    assert_ending(rt, &one_byte, wanted)
+}
+
 /// Bytes from their hexadecimal digits, two for each.
-fn bytes_of(alloc: Global, text: &str) -> Result<Vec<u8>, AllocError> {
+pub fn bytes_of(alloc: Global, text: &str) -> Result<Vec<u8>, AllocError> {
     let mut bytes = Vec::new(alloc);
     for digits in text.split_ascii_whitespace() {
         bytes.push(u8::from_str_radix(digits, 16).unwrap_or(0))?;
@@ -100,23 +135,31 @@ fn bytes_of(alloc: Global, text: &str) -> Result<Vec<u8>, AllocError> {
     Ok(bytes)
 }
 
-fn desk_with(alloc: Global, store: Option<&str>) -> Result<MemDesk, NoMemory> {
-    let mut desk = MemDesk::new(alloc);
-    if let Some(store) = store {
-        desk.put("a", &bytes_of(alloc, store)?)?;
+/// The bytes of several texts of hexadecimal digits.
+pub fn bytes_of_all(alloc: Global, texts: &[&str]) -> Result<Vec<u8>, AllocError> {
+    let mut bytes = Vec::new(alloc);
+    for text in texts {
+        bytes.extend_from_slice(&bytes_of(alloc, text)?)?;
     }
-    Ok(desk)
+    Ok(bytes)
 }
 
-fn desk_for(alloc: Global, case: &Case<'_>) -> Result<MemDesk, NoMemory> {
-    let mut desk = desk_with(alloc, case.store)?;
-    if case.one_byte {
-        desk.pieces(1);
-    }
-    if let Some((call, nth)) = case.fails {
-        desk.fail(call, nth)?;
-    }
-    Ok(desk)
+/// One text behind another.
+pub fn joined(alloc: Global, front: &str, back: &str) -> Result<String, AllocError> {
+    let mut text = String::from_str(alloc, front)?;
+    text.push_str(back)?;
+    Ok(text)
+}
+
+/// Does what the words in a line say.
+pub fn answer(alloc: Global, line: &str, desk: &mut MemDesk) -> Result<Status, AllocError> {
+    let words = words_of(alloc, line)?;
+    Ok(answer_to(alloc, &words, desk))
+}
+
+fn answer_to(alloc: Global, words: &[String], desk: &mut MemDesk) -> Status {
+    let few = words.len().min(1000);
+    pocket(alloc, &words[..few], desk)
 }
 
 fn words_of(alloc: Global, line: &str) -> Result<Vec<String>, AllocError> {
@@ -127,9 +170,37 @@ fn words_of(alloc: Global, line: &str) -> Result<Vec<String>, AllocError> {
     Ok(words)
 }
 
-fn answer(alloc: Global, words: &[String], desk: &mut MemDesk) -> Status {
-    let few = words.len().min(1000);
-    pocket(alloc, &words[..few], desk)
+/// A desk where these bytes are held under these names.
+pub fn desk_with(alloc: Global, held: &[(&str, &[u8])]) -> Result<MemDesk, NoMemory> {
+    let mut desk = MemDesk::new(alloc);
+    for (name, bytes) in held {
+        desk.put(name, bytes)?;
+    }
+    Ok(desk)
+}
+
+fn desk_for(alloc: Global, case: &Case<'_>) -> Result<MemDesk, NoMemory> {
+    let mut desk = desk_with_inputs(alloc, case.input, case.side)?;
+    if case.one_byte {
+        desk.pieces(1);
+    }
+    for (call, nth) in case.fails {
+        desk.fail(*call, *nth)?;
+    }
+    Ok(desk)
+}
+
+fn desk_with_inputs(
+    alloc: Global,
+    input: Option<&[u8]>,
+    side: Option<&[u8]>,
+) -> Result<MemDesk, NoMemory> {
+    match (input, side) {
+        (None, None) => desk_with(alloc, &[]),
+        (Some(input), None) => desk_with(alloc, &[("a", input)]),
+        (None, Some(side)) => desk_with(alloc, &[("s", side)]),
+        (Some(input), Some(side)) => desk_with(alloc, &[("a", input), ("s", side)]),
+    }
 }
 
 fn ended(status: Status, desk: &MemDesk) -> Ending<'_> {

@@ -1,72 +1,32 @@
-//! A desk in which one call fails.
+//! A desk in which some calls fail.
 
-use super::desk::{Case, EIGHT_BITS, Ending, HEADER, assert_ending, done, refused, words_alone};
+use super::desk::{
+    BY_SCRIPT, Case, EIGHT_BITS, Ending, HEADER, assert_ending, bytes_of, bytes_of_all, done,
+    refused, with_both, with_input, words_alone,
+};
+use super::samples::{FIRST, PLAY_REPORT, PLAYED, RECORDING, STORE};
 use crate::Refusal;
 use desk_ports::Call;
+use std::process::Abort;
 use std::test::Fail;
-
-/// Three of four packets, the third being lost: 29 bytes.
-const STORE: &str =
-    "00 64 C0 00 00 03 85 B8 D6 00 00 64 C0 01 00 03 42 4B 8D 62 00 64 C0 03 00 02 C0 85 C0";
 
 const OUTPUT: &[u8] = &[0xB0, 0xB1, 0xB3];
 
 const REPORT: &[u8] = b"first,last,cause,value\n2,2,lost,0\nend,3,3,0\n";
 
-fn failing(call: Call, nth: u32) -> Case<'static> {
-    Case {
-        store: Some(STORE),
-        one_byte: true,
-        fails: Some((call, nth)),
-        ..words_alone(EIGHT_BITS)
-    }
-}
+const DROP_THE_THIRD: &[u8] = b"drop,2,2,1";
 
-#[test]
-fn calls_that_fail(rt: HostRuntime) -> Result<(), Fail> {
-    let unread = refused(Refusal::ReadFault, &[], &[]);
-    let unopened = refused(Refusal::WriteFault, &[], &[]);
-    let unfinished = refused(Refusal::WriteFault, OUTPUT, REPORT);
-    let half_finished = Ending {
-        kept_output: OUTPUT,
-        ..unfinished
-    };
-    let whole = done(OUTPUT, REPORT);
-    let rows = [
-        (Call::OpenIn, 1, unread),
-        (Call::OpenIn, 2, whole),
-        (Call::OpenOut, 1, unopened),
-        (Call::OpenOut, 2, unopened),
-        (Call::OpenOut, 3, whole),
-        (Call::Read, 1, refused(Refusal::ReadFault, &[], HEADER)),
-        (Call::Read, 10, refused(Refusal::ReadFault, &[], HEADER)),
-        (
-            Call::Read,
-            11,
-            refused(Refusal::ReadFault, &OUTPUT[..1], HEADER),
-        ),
-        (
-            Call::Read,
-            20,
-            refused(Refusal::ReadFault, &OUTPUT[..1], HEADER),
-        ),
-        (
-            Call::Read,
-            21,
-            refused(Refusal::ReadFault, &OUTPUT[..2], HEADER),
-        ),
-        (
-            Call::Read,
-            30,
-            refused(Refusal::ReadFault, OUTPUT, &REPORT[..34]),
-        ),
-        (Call::Read, 31, whole),
-        (Call::Finish, 1, unfinished),
-        (Call::Finish, 2, half_finished),
-        (Call::Finish, 3, whole),
-    ];
-    for (call, nth, wanted) in &rows {
-        assert_ending(&rt, &failing(*call, *nth), wanted)?;
+/// The calls that fail, and how the run then ends.
+type Row<'a> = (&'a [(Call, u32)], Ending<'a>);
+
+fn assert_rows(
+    rt: &(impl Abort + AllocGlobal),
+    case: Case<'_>,
+    rows: &[Row<'_>],
+) -> Result<(), Fail> {
+    for (fails, wanted) in rows {
+        let failing = Case { fails, ..case };
+        assert_ending(rt, &failing, wanted)?;
     }
     Ok(())
 }
@@ -76,9 +36,48 @@ fn front(bytes: &[u8], count: usize) -> &[u8] {
     &bytes[..count.min(bytes.len())]
 }
 
-/// What a run leaves that could write this many bytes: the report's first line, two contents, the lost row, the third
+#[test]
+fn calls_of_restore(rt: HostRuntime) -> Result<(), Fail> {
+    let store = bytes_of_all(rt.alloc(), &PLAYED)?;
+    let unread = refused(Refusal::ReadFault, &[], &[]);
+    let unopened = refused(Refusal::WriteFault, &[], &[]);
+    let unfinished = refused(Refusal::WriteFault, OUTPUT, REPORT);
+    let half_finished = Ending {
+        kept_output: OUTPUT,
+        ..unfinished
+    };
+    let whole = done(OUTPUT, REPORT);
+    let none_written = refused(Refusal::ReadFault, &[], HEADER);
+    let one_written = refused(Refusal::ReadFault, &OUTPUT[..1], HEADER);
+    let two_written = refused(Refusal::ReadFault, &OUTPUT[..2], HEADER);
+    let all_written = refused(Refusal::ReadFault, OUTPUT, &REPORT[..34]);
+    let rows: [Row<'_>; 15] = [
+        (&[(Call::OpenIn, 1), (Call::OpenOut, 1)], unread),
+        (&[(Call::OpenIn, 2)], whole),
+        (&[(Call::OpenOut, 1)], unopened),
+        (&[(Call::OpenOut, 2)], unopened),
+        (&[(Call::OpenOut, 3)], whole),
+        (&[(Call::Read, 1)], none_written),
+        (&[(Call::Read, 10)], none_written),
+        (&[(Call::Read, 11)], one_written),
+        (&[(Call::Read, 20)], one_written),
+        (&[(Call::Read, 21)], two_written),
+        (&[(Call::Read, 30)], all_written),
+        (&[(Call::Read, 31)], whole),
+        (&[(Call::Finish, 1)], unfinished),
+        (&[(Call::Finish, 2)], half_finished),
+        (&[(Call::Finish, 3)], whole),
+    ];
+    let case = Case {
+        one_byte: true,
+        ..with_input(EIGHT_BITS, &store)
+    };
+    assert_rows(&rt, case, &rows)
+}
+
+/// What `restore` leaves that could write this many bytes: the report's first line, two contents, the lost row, the third
 /// content and the last row come in this order.
-fn cut_short(written: usize) -> Ending<'static> {
+fn restored_until(written: usize) -> Ending<'static> {
     let (output, report) = match written {
         0..=23 => (0, written),
         24..=25 => (written - 23, 23),
@@ -94,14 +93,128 @@ fn cut_short(written: usize) -> Ending<'static> {
 }
 
 #[test]
-fn writes_that_fail(rt: HostRuntime) -> Result<(), Fail> {
+fn writes_of_restore(rt: HostRuntime) -> Result<(), Fail> {
+    let store = bytes_of_all(rt.alloc(), &PLAYED)?;
+    let case = Case {
+        one_byte: true,
+        ..with_input(EIGHT_BITS, &store)
+    };
     for written in 0..47u32 {
-        assert_ending(
-            &rt,
-            &failing(Call::Write, written + 1),
-            &cut_short(written as usize),
-        )?;
+        let row: Row<'_> = (
+            &[(Call::Write, written + 1)],
+            restored_until(written as usize),
+        );
+        assert_rows(&rt, case, &[row])?;
     }
-    let whole = done(OUTPUT, REPORT);
-    assert_ending(&rt, &failing(Call::Write, 48), &whole)
+    assert_rows(&rt, case, &[(&[(Call::Write, 48)], done(OUTPUT, REPORT))])
+}
+
+const COMPRESS: &str = "compress in=a out=b bits=8 apid=100 robust=1";
+
+const BY_PLAN: &str = "compress in=a out=b bits=8 apid=100 robust=1 plan=s";
+
+#[test]
+fn calls_of_compress(rt: HostRuntime) -> Result<(), Fail> {
+    let store = bytes_of_all(rt.alloc(), &STORE)?;
+    let first = bytes_of(rt.alloc(), FIRST)?;
+    let unread = refused(Refusal::ReadFault, &[], &[]);
+    let unopened = refused(Refusal::WriteFault, &[], &[]);
+    let unfinished = refused(Refusal::WriteFault, &store, &[]);
+    let whole = done(&store, &[]);
+    // Each packet is written at once.
+    let rows: [Row<'_>; 10] = [
+        (&[(Call::OpenIn, 1), (Call::OpenOut, 1)], unread),
+        (&[(Call::OpenIn, 2)], whole),
+        (&[(Call::OpenOut, 1)], unopened),
+        (&[(Call::OpenOut, 2)], whole),
+        (&[(Call::Read, 1)], unread),
+        (&[(Call::Write, 1)], unopened),
+        (&[(Call::Write, 2)], refused(Refusal::WriteFault, &first, &[])),
+        (&[(Call::Write, 5)], whole),
+        (&[(Call::Finish, 1)], unfinished),
+        (&[(Call::Finish, 2)], whole),
+    ];
+    assert_rows(&rt, with_input(COMPRESS, RECORDING), &rows)?;
+    // Behind a schedule, which is opened and read before the recording is.
+    let rows: [Row<'_>; 4] = [
+        (&[(Call::OpenIn, 1), (Call::OpenOut, 1)], unread),
+        (&[(Call::OpenIn, 2), (Call::OpenOut, 1)], unread),
+        (&[(Call::Read, 1), (Call::OpenIn, 2), (Call::OpenOut, 1)], unread),
+        (&[(Call::OpenIn, 3), (Call::OpenOut, 2)], whole),
+    ];
+    assert_rows(&rt, with_both(BY_PLAN, RECORDING, b"9,9,1,p"), &rows)?;
+    // No schedule is held, or no recording.
+    let rows: [Row<'_>; 1] = [(&[(Call::OpenOut, 1)], unread)];
+    assert_rows(&rt, with_input(BY_PLAN, RECORDING), &rows)?;
+    assert_rows(&rt, words_alone(COMPRESS), &rows)
+}
+
+#[test]
+fn calls_of_play(rt: HostRuntime) -> Result<(), Fail> {
+    let store = bytes_of_all(rt.alloc(), &STORE)?;
+    let played = bytes_of_all(rt.alloc(), &PLAYED)?;
+    let report = PLAY_REPORT.as_bytes();
+    let unread = refused(Refusal::ReadFault, &[], &[]);
+    let unopened = refused(Refusal::WriteFault, &[], &[]);
+    let unfinished = refused(Refusal::WriteFault, &played, report);
+    let half_finished = Ending {
+        kept_output: &played,
+        ..unfinished
+    };
+    let whole = done(&played, report);
+    // Ten reads move the script and one meets its end; the packets end at the bytes 10, 20, 28 and 37.
+    let rows: [Row<'_>; 18] = [
+        (&[(Call::OpenIn, 1), (Call::OpenOut, 1)], unread),
+        (&[(Call::OpenIn, 2), (Call::OpenOut, 1)], unread),
+        (&[(Call::OpenIn, 3)], whole),
+        (&[(Call::OpenOut, 1)], unopened),
+        (&[(Call::OpenOut, 2)], unopened),
+        (&[(Call::OpenOut, 3)], whole),
+        (&[(Call::Read, 1), (Call::OpenIn, 2), (Call::OpenOut, 1)], unread),
+        (&[(Call::Read, 11), (Call::OpenIn, 2), (Call::OpenOut, 1)], unread),
+        (&[(Call::Read, 12)], unread),
+        (&[(Call::Read, 21)], unread),
+        (&[(Call::Read, 22)], refused(Refusal::ReadFault, &played[..10], &[])),
+        (&[(Call::Read, 40)], refused(Refusal::ReadFault, &played[..20], &[])),
+        (&[(Call::Read, 48)], refused(Refusal::ReadFault, &played[..20], &[])),
+        (&[(Call::Read, 49)], refused(Refusal::ReadFault, &played, &[])),
+        (&[(Call::Read, 50)], whole),
+        (&[(Call::Finish, 1)], unfinished),
+        (&[(Call::Finish, 2)], half_finished),
+        (&[(Call::Finish, 3)], whole),
+    ];
+    let case = Case {
+        one_byte: true,
+        ..with_both(BY_SCRIPT, &store, DROP_THE_THIRD)
+    };
+    assert_rows(&rt, case, &rows)
+}
+
+/// What `play` leaves that could write this many bytes: the report comes behind the whole store.
+fn played_until(store: &[u8], written: usize) -> Ending<'_> {
+    let report = written.saturating_sub(store.len());
+    refused(
+        Refusal::WriteFault,
+        front(store, written),
+        front(PLAY_REPORT.as_bytes(), report),
+    )
+}
+
+#[test]
+fn writes_of_play(rt: HostRuntime) -> Result<(), Fail> {
+    let store = bytes_of_all(rt.alloc(), &STORE)?;
+    let played = bytes_of_all(rt.alloc(), &PLAYED)?;
+    let case = Case {
+        one_byte: true,
+        ..with_both(BY_SCRIPT, &store, DROP_THE_THIRD)
+    };
+    for written in 0..88u32 {
+        let row: Row<'_> = (
+            &[(Call::Write, written + 1)],
+            played_until(&played, written as usize),
+        );
+        assert_rows(&rt, case, &[row])?;
+    }
+    let whole = done(&played, PLAY_REPORT.as_bytes());
+    assert_rows(&rt, case, &[(&[(Call::Write, 89)], whole)])
 }

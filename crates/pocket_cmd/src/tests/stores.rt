@@ -1,9 +1,8 @@
 //! Worked stores, in whole reads and writes and in those of one byte.
 
-use super::desk::{Case, EIGHT_BITS, assert_ending, done, refused, words_alone};
+use super::desk::{EIGHT_BITS, HEADER, assert_both, bytes_of, done, refused, with_input};
 use crate::Refusal;
 use packet_store::StoreKind;
-use std::process::Abort;
 use std::test::Fail;
 
 /// A store in hexadecimal, the packets that are restored, and the report behind its first line.
@@ -158,32 +157,12 @@ static FAULTY: [(&str, u64, StoreKind, &[u8]); 6] = [
     ),
 ];
 
-fn of_store(words: &'static str, store: &'static str) -> Case<'static> {
-    Case {
-        store: Some(store),
-        ..words_alone(words)
-    }
-}
-
-/// Both with whole reads and with reads and writes of one byte.
-fn assert_both(
-    rt: &(impl Abort + AllocGlobal),
-    case: Case<'_>,
-    wanted: &super::desk::Ending<'_>,
-) -> Result<(), Fail> {
-    assert_ending(rt, &case, wanted)?;
-    let one_byte = Case {
-        one_byte: true,
-        ..case
-    };
-    assert_ending(rt, &one_byte, wanted)
-}
-
 #[test]
 fn whole_stores(rt: HostRuntime) -> Result<(), Fail> {
     for row in &WHOLE {
         let wanted = done(row.output, row.report.as_bytes());
-        assert_both(&rt, of_store(row.words, row.store), &wanted)?;
+        let store = bytes_of(rt.alloc(), row.store)?;
+        assert_both(&rt, with_input(row.words, &store), &wanted)?;
     }
     Ok(())
 }
@@ -195,8 +174,9 @@ fn faulty_stores(rt: HostRuntime) -> Result<(), Fail> {
             byte: *byte,
             kind: *kind,
         };
-        let wanted = refused(refusal, output, super::desk::HEADER);
-        assert_both(&rt, of_store(EIGHT_BITS, store), &wanted)?;
+        let store = bytes_of(rt.alloc(), store)?;
+        let wanted = refused(refusal, output, HEADER);
+        assert_both(&rt, with_input(EIGHT_BITS, &store), &wanted)?;
     }
     Ok(())
 }

@@ -1,11 +1,12 @@
-//! Words, and what is answered to them at a desk where nothing is put.
+//! Words, and what is answered to them at a desk with nothing or with empty inputs.
 
-use super::desk::{assert_ending, refused, words_alone};
-use crate::Refusal;
+use super::desk::{answer, assert_ending, desk_with, refused, words_alone};
+use crate::{Refusal, Status};
+use std::alloc::Global;
 use std::test::Fail;
 
 /// Lines of words, and the place of the first wrong word in each.
-static WRONG: [(&str, u32); 28] = [
+static WRONG: [(&str, u32); 73] = [
     ("", 0),
     ("shrink", 0),
     ("Restore in=a out=b report=c bits=8 apid=100", 0),
@@ -34,15 +35,74 @@ static WRONG: [(&str, u32); 28] = [
     ("restore =a", 1),
     ("restore IN=a", 1),
     ("restore out=b restore", 2),
+    // The first mask has two digits for each byte, and no spare bit.
+    ("compress in=a out=b bits=13 apid=1 robust=2 mask=123", 6),
+    ("compress in=a out=b bits=13 apid=1 robust=2 mask=1234", 6),
+    ("compress in=a out=b bits=13 apid=1 robust=2 mask=12380", 6),
+    ("compress in=a out=b bits=13 apid=1 robust=2 mask=123800", 6),
+    ("compress in=a out=b bits=13 apid=1 robust=2 mask=12g8", 6),
+    ("compress in=a out=b bits=13 apid=1 robust=2 mask=+238", 6),
+    ("compress in=a out=b bits=13 apid=1 robust=2 mask=", 6),
+    ("compress in=a out=b bits=8 apid=1 robust=2 mask=0x0f", 6),
+    ("compress mask=1234 in=a out=b bits=13 apid=1 robust=2", 1),
+    // A mask is looked at behind all else.
+    ("compress mask=1234 in=a out=b bits=13 apid=1 robust=8", 6),
+    ("compress mask=1234 in=a out=b bits=13 apid=1", 6),
+    ("compress mask=1234 in=a out=b bits=13 apid=1 robust=2 mask=1238", 7),
+    ("compress", 1),
+    ("compress out=b bits=8 apid=1 robust=2", 5),
+    ("compress in=a bits=8 apid=1 robust=2", 5),
+    ("compress in=a out=b apid=1 robust=2", 5),
+    ("compress in=a out=b bits=8 robust=2", 5),
+    ("compress in=a out=b bits=8 apid=1", 5),
+    ("compress in=a out=b bits=8 apid=1 robust=8", 5),
+    ("compress in=a out=b bits=8 apid=1 robust=02", 5),
+    ("compress in=a out=b bits=8 apid=1 robust=", 5),
+    ("compress in=a out=b bits=8 apid=1 robust=2 report=c", 6),
+    ("compress in=a out=b bits=8 apid=1 robust=2 script=s", 6),
+    ("compress in=a out=b bits=8 apid=1 robust=2 plan=", 6),
+    // A name stands once, and the standard streams once for each direction.
+    ("compress in=a plan=a out=b bits=8 apid=1 robust=2", 2),
+    ("compress plan=s in=a out=s bits=8 apid=1 robust=2", 3),
+    ("compress in=a out=a bits=8 apid=1 robust=2", 2),
+    ("compress in=- out=- plan=- bits=8 apid=1 robust=2", 3),
+    ("play", 1),
+    ("play out=b script=s report=c apid=1", 5),
+    ("play in=a script=s report=c apid=1", 5),
+    ("play in=a out=b report=c apid=1", 5),
+    ("play in=a out=b script=s apid=1", 5),
+    ("play in=a out=b script=s report=c", 5),
+    ("play in=a out=b script=s report=c apid=2047", 5),
+    ("play in=a out=b script=s report=c apid=1 bits=8", 6),
+    ("play in=a out=b script=s report=c apid=1 plan=p", 6),
+    ("play in=a script=a out=b report=c apid=1", 2),
+    ("play in=a script=s out=a report=c apid=1", 3),
+    ("play in=a script=s out=s report=c apid=1", 3),
+    ("play in=a out=b script=b report=c apid=1", 3),
+    ("play in=a script=s out=b report=s apid=1", 4),
+    ("play in=a script=s out=b report=b apid=1", 4),
+    ("play in=- out=b script=- report=c apid=1", 3),
+    ("play in=- out=- script=s report=- apid=1", 4),
 ];
 
-/// Lines that give a command, so that their input is what is missing.
-static RIGHT: [&str; 5] = [
-    "restore in=a out=b report=c bits=8 apid=100",
-    "restore apid=0 bits=1 report=c out=b in=a",
-    "restore in=a out=b report=c bits=49152 apid=2046",
-    "restore in=- out=- report=c bits=8 apid=100",
-    "restore in=a=b out==b report=8 bits=8 apid=8",
+/// Lines that give a command, and the names of their inputs.
+static RIGHT: [(&str, &[&str]); 16] = [
+    ("restore in=a out=b report=c bits=8 apid=100", &["a"]),
+    ("restore apid=0 bits=1 report=c out=b in=a", &["a"]),
+    ("restore in=a out=b report=c bits=49152 apid=2046", &["a"]),
+    ("restore in=- out=- report=c bits=8 apid=100", &["-"]),
+    ("restore in=- out=b report=- bits=8 apid=100", &["-"]),
+    ("restore in=a=b out==b report=8 bits=8 apid=8", &["a=b"]),
+    ("compress in=a=b out=b bits=13 apid=1 robust=2 mask=1238", &["a=b"]),
+    ("compress in=- out=- bits=8 apid=1 robust=2", &["-"]),
+    ("compress in=a out=- plan=- bits=8 apid=1 robust=0", &["a", "-"]),
+    ("compress mask=aBcDeF robust=7 apid=2046 bits=24 out=b plan=s in=a", &["a", "s"]),
+    ("compress mask=80 in=a out=b bits=1 apid=0 robust=7", &["a"]),
+    ("play in=a script=s out=b report=c apid=100", &["a", "s"]),
+    ("play apid=0 report=c out=b script=s in=a", &["a", "s"]),
+    ("play in=- out=- script=s report=c apid=1", &["-", "s"]),
+    ("play in=a out=- script=- report=c apid=1", &["a", "-"]),
+    ("play in=- out=b script=s report=- apid=2046", &["-", "s"]),
 ];
 
 #[test]
@@ -54,11 +114,25 @@ fn wrong_words(rt: HostRuntime) -> Result<(), Fail> {
     Ok(())
 }
 
+/// What is answered where these inputs are there, with no bytes.
+fn answer_with(alloc: Global, line: &str, inputs: &[&str]) -> Result<Status, Fail> {
+    let mut desk = desk_with(alloc, &[])?;
+    for name in inputs {
+        desk.put(name, &[])?;
+    }
+    Ok(answer(alloc, line, &mut desk)?)
+}
+
 #[test]
 fn right_words(rt: HostRuntime) -> Result<(), Fail> {
-    for line in &RIGHT {
-        let wanted = refused(Refusal::ReadFault, &[], &[]);
-        assert_ending(&rt, &words_alone(line), &wanted)?;
+    let unread = Status::Refused(Refusal::ReadFault);
+    for (line, inputs) in &RIGHT {
+        let given = answer_with(rt.alloc(), line, inputs)?;
+        assert_eq!(rt; given, Status::Done, "{line}");
+        for last in 0..inputs.len() {
+            let given = answer_with(rt.alloc(), line, &inputs[..last])?;
+            assert_eq!(rt; given, unread, "{line}");
+        }
     }
     Ok(())
 }

@@ -1,0 +1,103 @@
+//! The three commands one after the other at one desk.
+
+use super::desk::{answer, desk_with, joined};
+use super::samples::PLAY_HEADER;
+use crate::Status;
+use desk_ports::MemDesk;
+use std::alloc::Global;
+use std::process::Abort;
+use std::test::Fail;
+
+const COMPRESS: &str = "compress in=recording plan=plan out=store apid=100 ";
+
+const PLAY: &str = "play in=store script=script out=played report=play_report apid=100";
+
+const RESTORE: &str = "restore in=played out=restored report=report apid=100 ";
+
+/// Restores the store as it is, without a loss.
+const GIVE_BACK: &str = "restore in=store out=given_back report=whole_report apid=100 ";
+
+const HEADER: &str = "first,last,cause,value\n";
+
+/// A recording with what the three commands are told, and what they must keep.
+#[derive(Clone, Copy)]
+pub struct Chain<'a> {
+    pub recording: &'a [u8],
+    /// What `compress` is told of the packets.
+    pub flight: &'a str,
+    /// What `restore` is told of them.
+    pub ground: &'a str,
+    /// The text of the schedule.
+    pub plan: &'a str,
+    /// The text of the script.
+    pub script: &'a str,
+    /// The second line of the play report.
+    pub played: &'a str,
+    pub restored: &'a [u8],
+    /// The report behind its first line.
+    pub report: &'a str,
+}
+
+/// Does what the words say, which must end well.
+fn assert_done(
+    rt: &(impl Abort + AllocGlobal),
+    front: &str,
+    back: &str,
+    desk: &mut MemDesk,
+) -> Result<(), Fail> {
+    let line = joined(rt.alloc(), front, back)?;
+    let status = answer(rt.alloc(), &line, desk)?;
+    assert_eq!(rt; status, Status::Done, "{line}");
+    Ok(())
+}
+
+/// What is kept under a name must be these bytes.
+fn assert_kept(rt: &impl Abort, desk: &MemDesk, name: &str, wanted: &[u8]) {
+    assert_eq!(rt; desk.get(name), wanted, "{name}");
+}
+
+/// What is kept under a name must be these two texts, one behind the other.
+fn assert_text(
+    rt: &(impl Abort + AllocGlobal),
+    desk: &MemDesk,
+    name: &str,
+    front: &str,
+    back: &str,
+) -> Result<(), Fail> {
+    let text = joined(rt.alloc(), front, back)?;
+    assert_kept(rt, desk, name, text.as_bytes());
+    Ok(())
+}
+
+fn desk_of(alloc: Global, chain: &Chain<'_>, one_byte: bool) -> Result<MemDesk, Fail> {
+    let mut desk = desk_with(
+        alloc,
+        &[
+            ("recording", chain.recording),
+            ("plan", chain.plan.as_bytes()),
+            ("script", chain.script.as_bytes()),
+        ],
+    )?;
+    if one_byte {
+        desk.pieces(1);
+    }
+    Ok(desk)
+}
+
+/// The recording is compressed; its store gives it back; the store is played, and what was played is restored.
+pub fn assert_chain(
+    rt: &(impl Abort + AllocGlobal),
+    chain: &Chain<'_>,
+    one_byte: bool,
+) -> Result<MemDesk, Fail> {
+    let mut desk = desk_of(rt.alloc(), chain, one_byte)?;
+    assert_done(rt, COMPRESS, chain.flight, &mut desk)?;
+    assert_done(rt, GIVE_BACK, chain.ground, &mut desk)?;
+    assert_kept(rt, &desk, "given_back", chain.recording);
+    assert_done(rt, PLAY, "", &mut desk)?;
+    assert_text(rt, &desk, "play_report", PLAY_HEADER, chain.played)?;
+    assert_done(rt, RESTORE, chain.ground, &mut desk)?;
+    assert_kept(rt, &desk, "restored", chain.restored);
+    assert_text(rt, &desk, "report", HEADER, chain.report)?;
+    Ok(desk)
+}

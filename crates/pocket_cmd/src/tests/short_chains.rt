@@ -1,0 +1,190 @@
+//! Recordings of few packets through the three commands, in whole reads and writes and in those of one byte.
+
+use super::chain::{Chain, assert_chain};
+use super::samples::RECORDING;
+use std::test::Fail;
+
+/// Ends with a new mask that clears a place, three quiet packets behind the one with the change.
+const CLEARED: &[u8] = &[0x00, 0x01, 0x01, 0x01, 0x01, 0x01];
+
+static CHAINS: [Chain<'static>; 16] = [
+    Chain {
+        recording: &[],
+        flight: "bits=8 robust=1",
+        ground: "bits=8",
+        plan: "",
+        script: "",
+        played: "0,0,0,0,-,0\n",
+        restored: &[],
+        report: "end,0,0,0\n",
+    },
+    // Nothing is lost.
+    Chain {
+        recording: RECORDING,
+        flight: "bits=8 robust=1",
+        ground: "bits=8",
+        plan: "",
+        script: "",
+        played: "4,4,0,0,0,1\n",
+        restored: RECORDING,
+        report: "end,4,4,0\n",
+    },
+    // One packet is lost, which the level of the next reaches over.
+    Chain {
+        recording: RECORDING,
+        flight: "bits=8 robust=1",
+        ground: "bits=8",
+        plan: "",
+        script: "drop,2,2,1",
+        played: "4,3,1,0,0,2\n",
+        restored: &[0xB0, 0xB1, 0xB3],
+        report: "2,2,lost,0\nend,3,3,0\n",
+    },
+    Chain {
+        recording: RECORDING,
+        flight: "bits=8 robust=1",
+        ground: "bits=8",
+        plan: "",
+        script: "drop,1,1,1",
+        played: "4,3,1,0,0,2\n",
+        restored: &[0xB0, 0xB1, 0xB3],
+        report: "1,1,lost,0\nend,3,3,0\n",
+    },
+    // The packets that stand alone are lost.
+    Chain {
+        recording: RECORDING,
+        flight: "bits=8 robust=1",
+        ground: "bits=8",
+        plan: "",
+        script: "drop,0,1,1",
+        played: "4,2,2,0,2,1\n",
+        restored: &[],
+        report: "0,1,lost,0\n2,2,unsynced,0\n3,3,unsynced,0\nend,2,0,0\n",
+    },
+    // All are lost.
+    Chain {
+        recording: RECORDING,
+        flight: "bits=8 robust=1",
+        ground: "bits=8",
+        plan: "",
+        script: "drop,0,3,1",
+        played: "4,0,4,0,-,0\n",
+        restored: &[],
+        report: "end,0,0,0\n",
+    },
+    // Nine copies of each packet.
+    Chain {
+        recording: RECORDING,
+        flight: "bits=8 robust=1",
+        ground: "bits=8",
+        plan: "",
+        script: "repeat,0,3,1,8",
+        played: "4,4,0,32,0,1\n",
+        restored: RECORDING,
+        report: "end,36,4,32\n",
+    },
+    // A mask that is cleared where it was set, with a loss of up to three packets before, and one of four.
+    Chain {
+        recording: CLEARED,
+        flight: "bits=8 robust=1",
+        ground: "bits=8",
+        plan: "3,5,2,p",
+        script: "",
+        played: "6,6,0,0,0,1\n",
+        restored: CLEARED,
+        report: "end,6,6,0\n",
+    },
+    Chain {
+        recording: CLEARED,
+        flight: "bits=8 robust=1",
+        ground: "bits=8",
+        plan: "3,5,2,p",
+        script: "drop,3,4,1",
+        played: "6,4,2,0,0,3\n",
+        restored: &[0x00, 0x01, 0x01, 0x01],
+        report: "3,4,lost,0\nend,4,4,0\n",
+    },
+    Chain {
+        recording: CLEARED,
+        flight: "bits=8 robust=1",
+        ground: "bits=8",
+        plan: "3,5,2,p",
+        script: "drop,2,4,1",
+        played: "6,3,3,0,0,4\n",
+        restored: &[0x00, 0x01, 0x01],
+        report: "2,4,lost,0\nend,3,3,0\n",
+    },
+    Chain {
+        recording: CLEARED,
+        flight: "bits=8 robust=1",
+        ground: "bits=8",
+        plan: "3,5,2,p",
+        script: "drop,1,4,1",
+        played: "6,2,4,0,0,5\n",
+        restored: &[0x00],
+        report: "1,4,lost,0\n5,5,gap,3\nend,2,1,0\n",
+    },
+    // Levels too small for what was lost, up to a packet that stands alone.
+    Chain {
+        recording: &[0x00, 0x01, 0x03, 0x03, 0x03, 0x03, 0x03],
+        flight: "bits=8 robust=1",
+        ground: "bits=8",
+        plan: "6,6,1,fr",
+        script: "drop,2,3,1",
+        played: "7,5,2,0,0,3\n",
+        restored: &[0x00, 0x01, 0x03],
+        report: "2,3,lost,0\n4,4,gap,1\n5,5,gap,2\nend,5,3,0\n",
+    },
+    // A first mask.
+    Chain {
+        recording: &[0xA5, 0xA6],
+        flight: "bits=8 robust=0 mask=0f",
+        ground: "bits=8",
+        plan: "",
+        script: "",
+        played: "2,2,0,0,0,1\n",
+        restored: &[0xA5, 0xA6],
+        report: "end,2,2,0\n",
+    },
+    // Level 0, so that a change behind a loss is out of reach.
+    Chain {
+        recording: &[0x00, 0x01, 0x03],
+        flight: "bits=8 robust=0",
+        ground: "bits=8",
+        plan: "",
+        script: "drop,1,1,1",
+        played: "3,2,1,0,0,2\n",
+        restored: &[0x00],
+        report: "1,1,lost,0\n2,2,gap,0\nend,2,1,0\n",
+    },
+    Chain {
+        recording: &[0x80, 0x00, 0x80],
+        flight: "bits=1 robust=0",
+        ground: "bits=1",
+        plan: "",
+        script: "repeat,1,1,1,1",
+        played: "3,3,0,1,0,1\n",
+        restored: &[0x80, 0x00, 0x80],
+        report: "end,4,3,1\n",
+    },
+    Chain {
+        recording: &[0x12, 0x38],
+        flight: "bits=13 robust=0",
+        ground: "bits=13",
+        plan: "",
+        script: "",
+        played: "1,1,0,0,0,0\n",
+        restored: &[0x12, 0x38],
+        report: "end,1,1,0\n",
+    },
+];
+
+#[test]
+fn short_chains(rt: HostRuntime) -> Result<(), Fail> {
+    for chain in &CHAINS {
+        for one_byte in [false, true] {
+            assert_chain(&rt, chain, one_byte)?;
+        }
+    }
+    Ok(())
+}
