@@ -14,5 +14,5 @@ mod Receptions
 mod Writings
 mod RestCourses
 mod Restorations
-mod PlayedHistories
+pub mod PlayedHistories
 pub mod DeliveredRuns

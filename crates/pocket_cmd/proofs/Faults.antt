@@ -13,7 +13,7 @@ by_ending-named name None before after = refl
 by_ending-named name (Some fault) before after = refl
 
 -- it owes the same
-owed-with_fault : {F G : Type 0} (name : F → G) (course : Course F) → owed course ≡ owed (with_fault name course)
+pub owed-with_fault : {F G : Type 0} (name : F → G) (course : Course F) → owed course ≡ owed (with_fault name course)
 owed-with_fault name course = by_ending-named name course.ending course.before course.after
 
 -- and what stands after a run is the same

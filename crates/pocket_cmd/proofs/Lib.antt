@@ -6,3 +6,5 @@ pub mod Opened
 pub mod Sides
 pub mod Performed
 pub mod Granted
+mod Delivered
+mod Headline

@@ -60,12 +60,15 @@ left-with_report : (m : Meanings) (report : Option (List ℕ)) → left (with_re
 left-with_report m None = refl
 left-with_report m (Some name) = refl
 
-ending_is : (names : Names) (course : List ℕ → Course DataFault) (old new : Meanings) (ending : Option DataFault) (input : List ℕ) → RunStands names course old new ending → given old inlet.Main names.input ≡ Some input → (course input).ending ≡ ending
-ending_is names course old new ending input e told =
+-- the run's input is the one that is told
+pub input_is : (names : Names) (course : List ℕ → Course DataFault) (old new : Meanings) (ending : Option DataFault) (input : List ℕ) → (e : RunStands names course old new ending) → given old inlet.Main names.input ≡ Some input → e.after.ran.input ≡ input
+input_is names course old new ending input e told =
     let went = e.after.ran.went in
     let opened = sym (left-with_report (with_output (with_input old e.input) names.output) names.report) in
-    let same = sym went.split ∙ told_input old.held (left old inlet.Main) (left e.after.end inlet.Main) names.input input e.input went.taken went.rest told e.kept (opened ∙ went.ran.input) went.told in
-    ap (λ i. (course i).ending) (sym same) ∙ e.after.ran.ends
+    sym went.split ∙ told_input old.held (left old inlet.Main) (left e.after.end inlet.Main) names.input input e.input went.taken went.rest told e.kept (opened ∙ went.ran.input) went.told
+
+pub ending_is : (names : Names) (course : List ℕ → Course DataFault) (old new : Meanings) (ending : Option DataFault) (input : List ℕ) → RunStands names course old new ending → given old inlet.Main names.input ≡ Some input → (course input).ending ≡ ending
+ending_is names course old new ending input e told = ap (λ i. (course i).ending) (sym (input_is names course old new ending input e told)) ∙ e.after.ran.ends
 
 pub status-run : (names : Names) (course : List ℕ → Course DataFault) (old new : Meanings) (counts after : Counts) (r : Result (Unit {0}) (Stop DataFault)) (input : List ℕ) → AfterNames names course old new r → HasCause counts after r → given old inlet.Main names.input ≡ Some input
     → ¬ Rose counts.reads after.reads → ¬ Rose counts.writes after.writes → status_by (refused_by r) ≡ status_of (course input).ending
@@ -102,15 +105,15 @@ AfterCommand-unread command old new unread.TooLong long keeps = record { long = 
 AfterCommand-unread command old new unread.ReadFault long keeps = inl keeps
 AfterCommand-unread command old new unread.NoMemory long keeps = keeps
 
-given-with_side : (m : Meanings) (side : Option (List ℕ)) (name : List ℕ) → given (with_side m side) inlet.Main name ≡ given m inlet.Main name
+pub given-with_side : (m : Meanings) (side : Option (List ℕ)) (name : List ℕ) → given (with_side m side) inlet.Main name ≡ given m inlet.Main name
 given-with_side m None name = refl
 given-with_side m (Some other) name = refl
 
-side_text_is : (o : Option (List ℕ)) (text told : List ℕ) → IfSome o (λ bytes. text ≡ bytes) → o ≡ Some told → text ≡ told
+pub side_text_is : (o : Option (List ℕ)) (text told : List ℕ) → IfSome o (λ bytes. text ≡ bytes) → o ≡ Some told → text ≡ told
 side_text_is None text told is e = absurd cc
 side_text_is (Some bytes) text told is e = is ∙ same_some e
 
-short : (text : List ℕ) → length text ≤ 1048576 → nat_lt 1048576 (length text) ≡ false
+pub short : (text : List ℕ) → length text ≤ 1048576 → nat_lt 1048576 (length text) ≡ false
 short text h = grind (arith, nat_tests)
 
 long : (text : List ℕ) → 1048576 < length text → nat_lt 1048576 (length text) ≡ true

@@ -6,3 +6,4 @@ pub mod Openings
 pub mod Jobs
 pub mod Outcome
 pub mod Status
+pub mod Delivery

@@ -15,7 +15,7 @@ mod top;
 mod words;
 mod work;
 
-pub use laws::commands_are_given;
+pub use laws::{commands_are_given, done_commands_wrote_all};
 pub use status::{Refusal, Status, exit_code};
 pub use top::pocket;
 

@@ -129,7 +129,10 @@ fn calls_of_compress(rt: HostRuntime) -> Result<(), Fail> {
         (&[(Call::OpenOut, 2)], whole),
         (&[(Call::Read, 1)], unread),
         (&[(Call::Write, 1)], unopened),
-        (&[(Call::Write, 2)], refused(Refusal::WriteFault, &first, &[])),
+        (
+            &[(Call::Write, 2)],
+            refused(Refusal::WriteFault, &first, &[]),
+        ),
         (&[(Call::Write, 5)], whole),
         (&[(Call::Finish, 1)], unfinished),
         (&[(Call::Finish, 2)], whole),
@@ -139,7 +142,10 @@ fn calls_of_compress(rt: HostRuntime) -> Result<(), Fail> {
     let rows: [Row<'_>; 4] = [
         (&[(Call::OpenIn, 1), (Call::OpenOut, 1)], unread),
         (&[(Call::OpenIn, 2), (Call::OpenOut, 1)], unread),
-        (&[(Call::Read, 1), (Call::OpenIn, 2), (Call::OpenOut, 1)], unread),
+        (
+            &[(Call::Read, 1), (Call::OpenIn, 2), (Call::OpenOut, 1)],
+            unread,
+        ),
         (&[(Call::OpenIn, 3), (Call::OpenOut, 2)], whole),
     ];
     assert_rows(&rt, with_both(BY_PLAN, RECORDING, b"9,9,1,p"), &rows)?;
@@ -170,14 +176,32 @@ fn calls_of_play(rt: HostRuntime) -> Result<(), Fail> {
         (&[(Call::OpenOut, 1)], unopened),
         (&[(Call::OpenOut, 2)], unopened),
         (&[(Call::OpenOut, 3)], whole),
-        (&[(Call::Read, 1), (Call::OpenIn, 2), (Call::OpenOut, 1)], unread),
-        (&[(Call::Read, 11), (Call::OpenIn, 2), (Call::OpenOut, 1)], unread),
+        (
+            &[(Call::Read, 1), (Call::OpenIn, 2), (Call::OpenOut, 1)],
+            unread,
+        ),
+        (
+            &[(Call::Read, 11), (Call::OpenIn, 2), (Call::OpenOut, 1)],
+            unread,
+        ),
         (&[(Call::Read, 12)], unread),
         (&[(Call::Read, 21)], unread),
-        (&[(Call::Read, 22)], refused(Refusal::ReadFault, &played[..10], &[])),
-        (&[(Call::Read, 40)], refused(Refusal::ReadFault, &played[..20], &[])),
-        (&[(Call::Read, 48)], refused(Refusal::ReadFault, &played[..20], &[])),
-        (&[(Call::Read, 49)], refused(Refusal::ReadFault, &played, &[])),
+        (
+            &[(Call::Read, 22)],
+            refused(Refusal::ReadFault, &played[..10], &[]),
+        ),
+        (
+            &[(Call::Read, 40)],
+            refused(Refusal::ReadFault, &played[..20], &[]),
+        ),
+        (
+            &[(Call::Read, 48)],
+            refused(Refusal::ReadFault, &played[..20], &[]),
+        ),
+        (
+            &[(Call::Read, 49)],
+            refused(Refusal::ReadFault, &played, &[]),
+        ),
         (&[(Call::Read, 50)], whole),
         (&[(Call::Finish, 1)], unfinished),
         (&[(Call::Finish, 2)], half_finished),

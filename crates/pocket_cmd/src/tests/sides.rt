@@ -15,11 +15,13 @@ const BY_PLAN: &str = "compress in=a out=b bits=8 apid=100 robust=1 plan=s";
 const RECORDING: &[u8] = &[0x00, 0x01, 0x01, 0x01, 0x01, 0x01];
 
 /// Packets 3 and 5 have new masks.
-const RENEWED: &str = "00 64 C0 00 00 03 85 B8 C0 00 00 64 C0 01 00 03 42 4B 8C 02 00 64 C0 02 00 01 44 C0 \
+const RENEWED: &str =
+    "00 64 C0 00 00 03 85 B8 C0 00 00 64 C0 01 00 03 42 4B 8C 02 00 64 C0 02 00 01 44 C0 \
     00 64 C0 03 00 00 87 00 64 C0 04 00 00 8B 00 64 C0 05 00 01 47 F0";
 
 /// No packet has a new mask.
-const STEADY: &str = "00 64 C0 00 00 03 85 B8 C0 00 00 64 C0 01 00 03 42 4B 8C 02 00 64 C0 02 00 01 44 C0 \
+const STEADY: &str =
+    "00 64 C0 00 00 03 85 B8 C0 00 00 64 C0 01 00 03 42 4B 8C 02 00 64 C0 02 00 01 44 C0 \
     00 64 C0 03 00 00 87 00 64 C0 04 00 00 8B 00 64 C0 05 00 00 8F";
 
 /// Schedules, and the store that each makes.

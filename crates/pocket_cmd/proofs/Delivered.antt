@@ -1,0 +1,55 @@
+-- What a command that is done has written.
+use Rattle.std.proofs.Common.{◌≡◌, ℕ, List, [], ◌++◌, Option, Some, None, IfSome, refl, sym, ap, ◌∙◌, subst}
+use Rattle.std.specs.Io.KnownBytes.{append_known}
+use Rattle.std.specs.Option.{option_map}
+use Rattle.desk_ports.specs.declared.desk.Inlet.TheVariants as inlet
+use Rattle.desk_ports.specs.declared.desk.Outlet.TheVariants as outlet
+use Rattle.desk_ports.specs.Courses.{Course, Outputs, owed}
+use Rattle.desk_ports.specs.Meanings.{Meanings, made}
+use Rattle.pocket_cmd.specs.declared.fault.DataFault.{DataFault}
+use Rattle.pocket_cmd.specs.Command.{Command, Names, names_of}
+use Rattle.pocket_cmd.specs.Courses.{course_of}
+use Rattle.pocket_cmd.specs.Delivery.{HasWritten}
+use Rattle.pocket_cmd.specs.Openings.{all_finished, all_opened, given, side_given, with_input, with_output, with_report, with_side}
+use Rattle.pocket_cmd.specs.Outcome.{RunStands, Stands}
+use Rattle.pocket_cmd.proofs.Performed.{given-with_side, input_is, side_text_is}
+
+-- finishing leaves what was written
+made-finished : (report : Option (List ℕ)) (m : Meanings) → (made (all_finished report m) outlet.Main ≡ made m outlet.Main) × (made (all_finished report m) outlet.Report ≡ made m outlet.Report)
+made-finished None m = (refl, refl)
+made-finished (Some name) m = (refl, refl)
+
+-- opening the report leaves the output
+made-with_report : (m : Meanings) (report : Option (List ℕ)) → made (with_report m report) outlet.Main ≡ made m outlet.Main
+made-with_report m None = refl
+made-with_report m (Some name) = refl
+
+-- an outlet that was opened, to which these bytes were added, has them, where it tells
+written-told : (before after : Option (List ℕ)) (bytes : List ℕ) → after ≡ append_known (option_map (λ _. []) before) bytes → IfSome after (λ made. made ≡ bytes)
+written-told None after bytes is = subst (λ o. IfSome o (λ made. made ≡ bytes)) (sym is) tt
+written-told (Some before) after bytes is = subst (λ o. IfSome o (λ made. made ≡ bytes)) (sym is) refl
+
+report-written : (names : Names) (report : Option (List ℕ)) (old end new : Meanings) (input bytes : List ℕ) → names.report ≡ report → new ≡ all_finished names.report end
+    → made end outlet.Report ≡ append_known (made (all_opened names old input) outlet.Report) bytes → IfSome report (λ name. IfSome (made new outlet.Report) (λ made. made ≡ bytes))
+report-written names None old end new input bytes is finished ran = tt
+report-written names (Some name) old end new input bytes is finished ran =
+    written-told (made (with_output (with_input old input) names.output) outlet.Report) (made new outlet.Report) bytes
+    (ap (λ m. made m outlet.Report) finished ∙ ((made-finished names.report end).1 ∙ (ran ∙ ap (λ report. append_known (made (with_report (with_output (with_input old input) names.output) report) outlet.Report) bytes) is)))
+
+run_written : (names : Names) (course : List ℕ → Course DataFault) (old new : Meanings) (input : List ℕ) → RunStands names course old new None → given old inlet.Main names.input ≡ Some input → HasWritten names (owed (course input)) new
+run_written names course old new input e told =
+    let out = e.after in
+    let went = out.ran.went in
+    subst (λ i. HasWritten names (owed (course i)) new) (input_is names course old new None input e told) (record {
+      output = written-told (made (with_input old e.input) outlet.Main) (made new outlet.Main) (owed (course out.ran.input)).output
+          (ap (λ m. made m outlet.Main) out.is ∙ ((made-finished names.report out.end).0 ∙ (went.ran.output
+          ∙ ap (λ o. append_known o (owed (course out.ran.input)).output) (made-with_report (with_output (with_input old e.input) names.output) names.report))));
+      report = report-written names names.report old out.end new e.input (owed (course out.ran.input)).report refl out.is went.ran.report;
+    })
+
+-- a command that is done has written all that it owes
+pub HasWritten-stands : (command : Command) (old new : Meanings) (text input : List ℕ) → Stands command old new None → side_given old (names_of command).side ≡ Some text → given old inlet.Main (names_of command).input ≡ Some input
+    → HasWritten (names_of command) (owed (course_of command text input)) new
+HasWritten-stands command old new text input e side_told input_told =
+    subst (λ t. HasWritten (names_of command) (owed (course_of command t input)) new) (side_text_is (side_given old (names_of command).side) e.text text e.told side_told)
+    (run_written (names_of command) (course_of command e.text) (with_side old (names_of command).side) new input e.after (given-with_side old (names_of command).side (names_of command).input ∙ input_told))

@@ -1,0 +1,67 @@
+-- What restoring the played store of a history writes, and which commands are done.
+use Rattle.std.proofs.Common.{◌≡◌, ◌≢◌, ℕ, ◌^◌, ◌≤◌, cond, List, [], length, Option, Some, None, Result, Ok, Err, refl, sym, ap, ◌∙◌, subst}
+use Rattle.std.specs.Option.{option_map}
+use Rattle.desk_ports.specs.declared.desk.Inlet.TheVariants as inlet
+use Rattle.desk_ports.specs.Courses.{Outputs, owed}
+use Rattle.desk_ports.specs.Meanings.{Meanings}
+use Rattle.mask_update.specs.Histories.{History}
+use Rattle.packet_encode.specs.Deliveries.{arrivals}
+use Rattle.packet_store.specs.Walks.{Walk, walk}
+use Rattle.flight_chain.specs.Stores.{store_of}
+use Rattle.loss_player.specs.Played.{played_bytes}
+use Rattle.ground_chain.specs.Deliveries.{report_text, restored_bytes}
+use Rattle.ground_chain.specs.Restoring.{restore_course}
+use Rattle.ground_chain.proofs.DeliveredRuns.{owed-played}
+use Rattle.ground_chain.proofs.PlayedHistories.{walk-played}
+use Rattle.pocket_cmd.specs.declared.status.Status.{Status}
+use Rattle.pocket_cmd.specs.declared.status.Status.TheVariants.{Done, Refused}
+use Rattle.pocket_cmd.specs.declared.status.Refusal.{Refusal}
+use Rattle.pocket_cmd.specs.declared.status.Refusal.TheVariants as refusal
+use Rattle.pocket_cmd.specs.Command.{Command, Compress, Play, Restore, RestoreValues, IsChosen, names_of}
+use Rattle.pocket_cmd.specs.Courses.{course_of, of_recording, of_store}
+use Rattle.pocket_cmd.specs.Delivery.{HasWritten, IsPlayedStore, IsSideRight, IsWhole}
+use Rattle.pocket_cmd.specs.Openings.{given}
+use Rattle.pocket_cmd.specs.Outcome.{AfterCommand, Stands, answer_by, answer_to, by_row}
+use Rattle.pocket_cmd.specs.Status.{status_by, status_of}
+use Rattle.pocket_cmd.proofs.Delivered.{HasWritten-stands}
+use Rattle.pocket_cmd.proofs.Faults.{owed-with_fault}
+use Rattle.pocket_cmd.proofs.Performed.{Stands-answer, ending_is, short}
+
+unmapped : {A B : Type 0} (f : A → B) (o : Option A) → option_map f o ≡ None → o ≡ None
+unmapped f None e = refl
+unmapped f (Some x) e = absurd cc
+
+-- what a done restoration of such a store has written
+HasWritten-played : (r : RestoreValues) (h : History) (copies : ℕ → ℕ) (old new : Meanings) → IsChosen r.apid → IsPlayedStore r h copies old → Stands (Restore r) old new None
+    → HasWritten (names_of (Restore r)) (record { output = restored_bytes h copies; report = report_text h copies }) new
+HasWritten-played r h copies old new chosen played stands =
+    let store : List ℕ = played_bytes copies r.apid (store_of h r.apid) in
+    let ending = ending_is (names_of (Restore r)) (course_of (Restore r) stands.text) old new None store stands.after played.told in
+    let whole = unmapped of_store (walk (Some r.apid) store).ending ending in
+    let owed_is = subst (λ f. owed (restore_course f r.apid store) ≡ record { output = restored_bytes h copies; report = report_text h copies }) played.places (owed-played h copies r.apid played.valid chosen played.gaps whole) in
+    subst (λ (all : Outputs). HasWritten (names_of (Restore r)) all new) (sym (owed-with_fault of_store (restore_course r.bits r.apid store)) ∙ owed_is)
+    (HasWritten-stands (Restore r) old new [] store stands refl played.told)
+
+pub HasWritten-restored : (command : Command) (r : RestoreValues) (h : History) (copies : ℕ → ℕ) (old new : Meanings) (answer : Result (Unit {0}) Refusal) → command ≡ Restore r → IsChosen r.apid → IsPlayedStore r h copies old
+    → AfterCommand command old new answer → status_by answer ≡ Done
+    → HasWritten (names_of (Restore r)) (record { output = restored_bytes h copies; report = report_text h copies }) new
+HasWritten-restored command r h copies old new answer is chosen played after done =
+    HasWritten-played r h copies old new chosen played (subst (λ command. Stands command old new None) is (Stands-answer command old new answer None after done))
+
+-- ---- completeness
+
+-- a right side text and a whole input are answered with Done
+pub Done-whole : (command : Command) (text input : List ℕ) → IsSideRight command text → IsWhole command input → answer_to command text input ≡ Done
+Done-whole (Compress c) text input (within, rows) whole =
+    ap (λ b. cond b (Refused refusal.SideTooLong) (answer_by (Compress c) text input)) (short text within)
+    ∙ (ap (λ o. by_row o (status_of (course_of (Compress c) text input).ending)) rows ∙ ap (λ o. status_of (option_map of_recording o)) whole)
+Done-whole (Play p) text input (within, rows) whole =
+    ap (λ b. cond b (Refused refusal.SideTooLong) (answer_by (Play p) text input)) (short text within)
+    ∙ (ap (λ o. by_row o (status_of (course_of (Play p) text input).ending)) rows ∙ ap (λ o. status_of (option_map of_store o)) whole)
+Done-whole (Restore r) text input none whole =
+    ap (λ text. answer_to (Restore r) text input) none ∙ ap (λ o. status_of (option_map of_store o)) whole
+
+-- the played store of a history is whole, where it is not too long
+pub IsWhole-played : (r : RestoreValues) (h : History) (copies : ℕ → ℕ) (old : Meanings) → IsChosen r.apid → IsPlayedStore r h copies old → length (arrivals copies (length h.steps)) ≤ 2 ^ 32
+    → IsWhole (Restore r) (played_bytes copies r.apid (store_of h r.apid))
+IsWhole-played r h copies old chosen played few = ap (λ (w : Walk). w.ending) (walk-played h copies r.apid played.valid chosen few)

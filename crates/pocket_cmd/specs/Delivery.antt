@@ -1,0 +1,40 @@
+-- What a command that is done has written, and for which inputs it is done.
+use Rattle.std.specs.Prelude.{◌≡◌, ℕ, ◌≤◌, List, [], length, Some, None, IfSome}
+use Rattle.desk_ports.specs.declared.desk.Inlet.TheVariants as inlet
+use Rattle.desk_ports.specs.declared.desk.Outlet.TheVariants as outlet
+use Rattle.desk_ports.specs.Courses.{Outputs}
+use Rattle.desk_ports.specs.Meanings.{Meanings, made}
+use Rattle.mask_update.specs.Histories.{History, IsValid}
+use Rattle.side_tables.specs.Grammar.{bad_copy_row, bad_flag_row}
+use Rattle.packet_store.specs.Walks.{walk}
+use Rattle.flight_chain.specs.Recordings.{recording_walk}
+use Rattle.flight_chain.specs.Stores.{store_of}
+use Rattle.loss_player.specs.Gaps.{AreGapsShort}
+use Rattle.loss_player.specs.Played.{played_bytes}
+use Rattle.pocket_cmd.specs.Command.{Command, Compress, Play, Restore, Names, RestoreValues}
+use Rattle.pocket_cmd.specs.Openings.{given}
+
+-- the outputs of a command got this, where the desk tells what was written
+pub record HasWritten (names : Names) (all : Outputs) (m : Meanings) : Type 0 where
+  pub output : IfSome (made m outlet.Main) (λ bytes. bytes ≡ all.output)
+  pub report : IfSome names.report (λ name. IfSome (made m outlet.Report) (λ bytes. bytes ≡ all.report))
+
+-- a side text is within its limit, and each of its records is a row
+abbrev pub IsSideRight : Command → List ℕ → Type 0
+IsSideRight (Compress c) text = (length text ≤ 1048576) × (bad_flag_row text ≡ None)
+IsSideRight (Play p) text = (length text ≤ 1048576) × (bad_copy_row text ≡ None)
+IsSideRight (Restore r) text = text ≡ []
+
+-- a recording, or a store, is whole
+abbrev pub IsWhole : Command → List ℕ → Type 0
+IsWhole (Compress c) recording = (recording_walk c.bits recording).ending ≡ None
+IsWhole (Play p) store = (walk (Some p.apid) store).ending ≡ None
+IsWhole (Restore r) store = (walk (Some r.apid) store).ending ≡ None
+
+-- The store that is to be restored is the played store of a valid history: each packet arrives so many times, with gaps that
+-- are shorter than the period of the sequence counts.
+pub record IsPlayedStore (r : RestoreValues) (h : History) (copies : ℕ → ℕ) (m : Meanings) : Type 0 where
+  pub valid : IsValid h
+  pub places : h.places ≡ r.bits
+  pub gaps : AreGapsShort copies (length h.steps)
+  pub told : given m inlet.Main r.input ≡ Some (played_bytes copies r.apid (store_of h r.apid))
