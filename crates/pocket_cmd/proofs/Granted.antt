@@ -28,7 +28,7 @@ report_granted words (Some name) grants reports given = reports name given
 pub not_both : {r : Result Command ℕ} {command : Command} {word : ℕ} → r ≡ Ok command → r ≡ Err word → ⊥
 not_both one other = cc
 
-same_command : {r : Result Command ℕ} {one other : Command} → r ≡ Ok one → r ≡ Ok other → one ≡ other
+pub same_command : {r : Result Command ℕ} {one other : Command} → r ≡ Ok one → r ≡ Ok other → one ≡ other
 same_command one other = cc
 
 -- the answer of the command that the words give

@@ -1,9 +1,13 @@
 //! The top call: from the words of the command line to the outputs of a desk.
-ghost use Rattle.std.specs.Prelude.{◌≡◌, ◌≢◌, ◌<◌, ◌^◌, ◌↔◌, ℕ, List, Option, length, map, codes, Some, Ok, Err, IsTrue};
+ghost use Rattle.std.specs.Prelude.{◌≡◌, ◌≢◌, ◌<◌, ◌≤◌, ◌^◌, ◌↔◌, ℕ, List, Option, length, map, codes, Some, Ok, Err, IsTrue};
 ghost use Rattle.std.specs.String.{string_bytes};
 ghost use Rattle.desk_ports.specs.Meanings.{Rose};
 ghost use Rattle.pocket_cmd.specs.declared.fault.DataFault.{DataFault as Fault};
-ghost use Rattle.pocket_cmd.specs.Command.{Command as Told, command_of, names_of};
+ghost use Rattle.pocket_cmd.specs.Command.{Command as Told, Restore, RestoreValues, command_of, names_of};
+ghost use Rattle.mask_update.specs.Histories.{History};
+ghost use Rattle.packet_encode.specs.Deliveries.{arrivals};
+ghost use Rattle.ground_chain.specs.Deliveries.{report_text, restored_bytes};
+ghost use Rattle.pocket_cmd.specs.Delivery.{HasWritten, IsPlayedStore, IsSideRight, IsWhole};
 ghost use Rattle.pocket_cmd.specs.Openings.{given, side_given};
 ghost use Rattle.pocket_cmd.specs.Outcome.{Stands, IsTooLong, HasBadRow, IsUntouched, IsUnread, IsUnwritten, answer_to};
 ghost use Rattle.pocket_cmd.specs.Status.{HasStatusCause, status_of};
@@ -75,6 +79,28 @@ pub fn pocket<D: Desk>(alloc: Global, words: &[String], desk: &mut D) -> Status
         → result ≢ Status.Refused Refusal.NoMemory
         → ¬ Rose (D.counts desk.old).reads (D.counts desk.new).reads → ¬ Rose (D.counts desk.old).writes (D.counts desk.new).writes
         → result ≡ answer_to command text input }
+
+    // Completeness: right words, a right side text and a whole input, at a desk that doesn't fail, are done, where memory was
+    // found.
+    ensures complete { (command : Told) (text input : List ℕ) → command_of (map string_bytes words.now) ≡ Ok command
+        → side_given (D.meaning desk.old) (names_of command).side ≡ Some text
+        → given (D.meaning desk.old) Inlet.Main (names_of command).input ≡ Some input
+        → IsSideRight command text → IsWhole command input
+        → result ≢ Status.Refused Refusal.NoMemory
+        → ¬ Rose (D.counts desk.old).reads (D.counts desk.new).reads → ¬ Rose (D.counts desk.old).writes (D.counts desk.new).writes
+        → result ≡ Status.Done }
+
+    // The headline: whatever was lost or repeated of a history on its way, with gaps that are shorter than the period of the
+    // sequence counts, restoring writes each packet up to the last arrival exactly as it was, or lists it.
+    ensures headline { (r : RestoreValues) (h : History) (copies : ℕ → ℕ) → command_of (map string_bytes words.now) ≡ Ok (Restore r)
+        → IsPlayedStore r h copies (D.meaning desk.old) → result ≡ Status.Done
+        → HasWritten (names_of (Restore r)) (record { output = restored_bytes h copies; report = report_text h copies }) (D.meaning desk.new) }
+    // And it is done at a desk that doesn't fail, where memory was found, if no more packets arrive than a store may have.
+    ensures headline_done { (r : RestoreValues) (h : History) (copies : ℕ → ℕ) → command_of (map string_bytes words.now) ≡ Ok (Restore r)
+        → IsPlayedStore r h copies (D.meaning desk.old) → length (arrivals copies (length h.steps)) ≤ 2 ^ 32
+        → result ≢ Status.Refused Refusal.NoMemory
+        → ¬ Rose (D.counts desk.old).reads (D.counts desk.new).reads → ¬ Rose (D.counts desk.old).writes (D.counts desk.new).writes
+        → result ≡ Status.Done }
 
     // What stands after a fault of the desk.
     ensures read_fault { result ≡ Status.Refused Refusal.ReadFault → (command : Told)

@@ -1,10 +1,13 @@
-use Rattle.std.proofs.Common.{map, sym, ◌∙◌, inl, inr, IfSome}
+use Rattle.std.proofs.Common.{List, [], map, refl, sym, ◌∙◌, inl, inr, IfSome}
 use Rattle.std.specs.String.{string_bytes}
 use Rattle.pocket_cmd.specs.declared.status.Refusal.TheVariants as refusal
-use Rattle.pocket_cmd.specs.Command.{names_of, view_command}
+use Rattle.pocket_cmd.specs.Command.{Restore, names_of, view_command}
 use Rattle.pocket_cmd.proofs.Given.{IsCommand-command_of}
-use Rattle.pocket_cmd.proofs.Granted.{side_granted, report_granted, not_both, ends_for}
+use Rattle.pocket_cmd.proofs.Granted.{same_command, side_granted, report_granted, not_both, ends_for}
 use Rattle.pocket_cmd.proofs.Performed.{AfterRefusal-answer, Stands-answer}
+use Rattle.flight_chain.specs.Stores.{store_of}
+use Rattle.loss_player.specs.Played.{played_bytes}
+use Rattle.pocket_cmd.proofs.Headline.{Done-whole, HasWritten-restored, IsWhole-played}
 use Rattle.pocket_cmd.proofs.top.pocket.Goals as goal
 
 pub perform-requires-clause-right : goal.perform-requires-clause-right
@@ -67,3 +70,18 @@ returns-in-Ok-clause-not_called g c = λ word e.
 pub returns-in-Ok-clause-ends : goal.returns-in-Ok-clause-ends
 returns-in-Ok-clause-ends g c = λ command text input is side_told input_told memory reads writes.
     ends_for (view_command c.in-Ok.command) command (sym c.in-Ok.ensures) is (g.D.Desk.meaning c.args.desk.now) (g.D.Desk.counts c.args.desk.now) (g.D.Desk.counts c.perform.new.desk) c.perform.result c.into.result c.into.ensures c.perform.ensures.ends text input side_told input_told memory reads writes
+
+pub returns-in-Ok-clause-complete : goal.returns-in-Ok-clause-complete
+returns-in-Ok-clause-complete g c = λ command text input is side_told input_told right whole memory reads writes.
+    returns-in-Ok-clause-ends g c command text input is side_told input_told memory reads writes ∙ Done-whole command text input right whole
+
+pub returns-in-Ok-clause-headline : goal.returns-in-Ok-clause-headline
+returns-in-Ok-clause-headline g c = λ r h copies is played done.
+    HasWritten-restored (view_command c.in-Ok.command) r h copies (g.D.Desk.meaning c.args.desk.now) (g.D.Desk.meaning c.perform.new.desk) c.perform.result
+    (same_command (sym c.in-Ok.ensures) is) (IsCommand-command_of (map string_bytes c.args.words.now) (Restore r) is).right.1 played c.perform.ensures.after (sym c.into.ensures ∙ done)
+
+pub returns-in-Ok-clause-headline_done : goal.returns-in-Ok-clause-headline_done
+returns-in-Ok-clause-headline_done g c = λ r h copies is played few memory reads writes.
+    let chosen = (IsCommand-command_of (map string_bytes c.args.words.now) (Restore r) is).right.1 in
+    returns-in-Ok-clause-complete g c (Restore r) [] (played_bytes copies r.apid (store_of h r.apid)) is refl played.told refl
+    (IsWhole-played r h copies (g.D.Desk.meaning c.args.desk.now) chosen played few) memory reads writes
