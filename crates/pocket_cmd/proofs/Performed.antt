@@ -1,5 +1,5 @@
 -- What a command leaves and answers, from its steps.
-use Rattle.std.proofs.Common.{◌≡◌, ◌≢◌, ℕ, ◌≤◌, ◌<◌, nat_lt, Bool, true, false, cond, List, [], ◌++◌, length, Option, Some, None, IfSome, Result, Ok, Err, inl, inr, refl, sym, ap, ◌∙◌, subst, arith}
+use Rattle.std.proofs.Common.{◌≡◌, ◌≢◌, ℕ, ◌≤◌, ◌<◌, nat_lt, true, false, cond, List, ◌++◌, length, Option, Some, None, IfSome, Result, Ok, Err, inl, inr, refl, sym, ap, ◌∙◌, subst, arith}
 use Rattle.std.proofs.lemmas.Bool.Decides.{nat_tests}
 use Rattle.std.specs.Option.{option_map}
 use Rattle.std.specs.Io.KnownBytes.{prepend_known}
@@ -7,7 +7,7 @@ use Rattle.desk_ports.specs.declared.desk.Inlet.TheVariants as inlet
 use Rattle.desk_ports.specs.declared.stop.Stop.{Stop}
 use Rattle.desk_ports.specs.declared.stop.Stop.TheVariants.{Data, ReadFault, WriteFault}
 use Rattle.desk_ports.specs.Meanings.{Meanings, Counts, Kept, Rose, kept_at, left}
-use Rattle.desk_ports.specs.Courses.{Course, Ends, HasCause}
+use Rattle.desk_ports.specs.Courses.{Course, HasCause}
 use Rattle.side_tables.specs.declared.fault.SideFault.{SideFault}
 use Rattle.side_tables.specs.declared.fault.SideFault.TheVariants as table
 use Rattle.pocket_cmd.specs.declared.fault.DataFault.{DataFault}
@@ -15,14 +15,14 @@ use Rattle.pocket_cmd.specs.declared.fault.DataFault.TheVariants as fault
 use Rattle.pocket_cmd.specs.declared.side.Unread.{Unread}
 use Rattle.pocket_cmd.specs.declared.side.Unread.TheVariants as unread
 use Rattle.pocket_cmd.specs.declared.status.Status.{Status}
-use Rattle.pocket_cmd.specs.declared.status.Status.TheVariants.{Done, Refused}
+use Rattle.pocket_cmd.specs.declared.status.Status.TheVariants.{Refused}
 use Rattle.pocket_cmd.specs.declared.status.Refusal.{Refusal}
 use Rattle.pocket_cmd.specs.declared.status.Refusal.TheVariants as refusal
 use Rattle.pocket_cmd.specs.Command.{Names, Command, names_of}
 use Rattle.pocket_cmd.specs.Courses.{course_of, bad_row_of}
-use Rattle.pocket_cmd.specs.Openings.{given_by, given, side_given, IsSideText, IsSideLong, KeepsAll, HasSideCause, with_side, with_report, all_opened, with_output, with_input}
+use Rattle.pocket_cmd.specs.Openings.{given_by, given, side_given, IsSideText, IsSideLong, KeepsAll, HasSideCause, with_side, with_report, with_output, with_input}
 use Rattle.pocket_cmd.specs.Status.{refusal_of, refusal_at, refusal_in, refused_by, status_of, status_by, HasStatusCause}
-use Rattle.pocket_cmd.specs.Outcome.{Behind, IsRunOut, RunStands, IsRunUnread, IsRunUnwritten, AfterNames, BehindSide, AfterText, AfterTextRefusal, Stands, AfterCommand, AfterRefusal, IsAnswered, IsAnsweredBy, answer_by, answer_to, by_row}
+use Rattle.pocket_cmd.specs.Outcome.{RunStands, AfterNames, AfterText, Stands, AfterCommand, AfterRefusal, IsAnswered, IsAnsweredBy, answer_by, answer_to, by_row}
 
 same_some : {A : Type 0} {x y : A} → Some x ≡ Some y → x ≡ y
 same_some e = cc

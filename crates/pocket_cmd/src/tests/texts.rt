@@ -4,10 +4,22 @@ use crate::{Refusal, Status, exit_code};
 use packet_store::StoreKind;
 use std::test::Fail;
 
-static ROWS: [(Refusal, &str, u8); 8] = [
+static ROWS: [(Refusal, &str, u8); 12] = [
     (Refusal::ReadFault, "reading failed", 1),
     (Refusal::WriteFault, "writing failed", 1),
     (Refusal::BadWords { word: 4 }, "word 4 is wrong", 2),
+    (Refusal::SideTooLong, "side input is too long", 3),
+    (Refusal::BadSide { row: 2 }, "side row 2 is wrong", 3),
+    (
+        Refusal::CutRecord { t: 3 },
+        "recording ends inside packet 3",
+        4,
+    ),
+    (
+        Refusal::SpareBit { t: 0 },
+        "packet 0 has a spare bit set",
+        4,
+    ),
     (
         Refusal::BadStore {
             byte: 10,

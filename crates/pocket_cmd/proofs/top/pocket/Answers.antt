@@ -1,4 +1,4 @@
-use Rattle.std.proofs.Common.{map, sym, ◌∙◌, inl, inr, IfSome}
+use Rattle.std.proofs.Common.{map, sym, ◌∙◌}
 use Rattle.std.specs.String.{string_bytes}
 use Rattle.pocket_cmd.specs.declared.status.Refusal.TheVariants as refusal
 use Rattle.pocket_cmd.specs.Command.{names_of, view_command}
