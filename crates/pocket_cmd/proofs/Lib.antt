@@ -3,6 +3,5 @@ pub mod Faults
 pub mod Masks
 pub mod Given
 pub mod Opened
-pub mod Sides
 pub mod Performed
 pub mod Granted
