@@ -1,10 +1,11 @@
 -- The packets of a history, as they arrive from its played store.
-use Rattle.std.proofs.Common.{◌≡◌, ℕ, zero, suc, ◌+◌, ◌%◌, ◌^◌, ◌<◌, ◌≤◌, ◌==◌, Bool, true, cond, List, [], ◌∷◌, ◌++◌, length, map, replicate, All, Some, None, refl, sym, ap, subst, ◌∙◌, arith}
-use Rattle.std.specs.List.{filter, flat_map, range_with_len}
+use Rattle.std.proofs.Common.{if◌then◌else◌, ◌≡◌, ℕ, zero, suc, ◌+◌, ◌%◌, ◌^◌, ◌<◌, ◌≤◌, ◌==◌, Bool, true, cond, List, [], ◌∷◌, ◌++◌, length, map, replicate, All, Some, None, refl, sym, ap, subst, ◌∙◌, arith}
+use Rattle.std.specs.List.{count_by, filter, flat_map, range_with_len}
 use Rattle.std.proofs.lemmas.Grind.{common_steps}
 use Rattle.std.proofs.lemmas.List.{length-map, map-append}
+use Rattle.std.proofs.lemmas.List.Sums.{sum_by-cons}
 use Rattle.std.proofs.lemmas.List.Concat.{flat_map-cons}
-use Rattle.std.proofs.lemmas.List.FromFn.{length-map-range_with_len, get_or-map-range_with_len}
+use Rattle.std.proofs.lemmas.List.FromFn.{length-map-range_with_len, length-range_with_len, get_or-map-range_with_len}
 use Rattle.std.proofs.lemmas.Simd.{map-map}
 use Rattle.mask_update.specs.Histories.{History, IsValid}
 use Rattle.packet_encode.specs.Deliveries.{arrivals}
@@ -14,7 +15,7 @@ use Rattle.packet_store.specs.Walks.{IsGood, Walk, walk}
 use Rattle.packet_store.proofs.Packets.{IsGood-plain}
 use Rattle.flight_chain.specs.Stores.{data_at, numbered_data, store_of}
 use Rattle.flight_chain.proofs.GoodStores.{IsPacket-at, walk-store_of}
-use Rattle.loss_player.specs.Played.{times_of, number_behind, played_bytes, played_from, played_packets}
+use Rattle.loss_player.specs.Played.{chosen_count, times_of, number_behind, played_bytes, played_from, played_packets}
 use Rattle.loss_player.proofs.PlayedWalks.{good_played, walk_from-many, walk_from-packets}
 use Rattle.ground_chain.specs.Run.{Arrival}
 use Rattle.ground_chain.specs.Deliveries.{arrival_at, history_arrivals}
@@ -49,6 +50,23 @@ walked_packets : (h : History) (apid : ℕ) → IsValid h → apid ≤ 2046
 walked_packets h apid valid chosen =
     ap (λ (w : Walk). w.packets) (walk-store_of (Some apid) h apid valid chosen)
     ∙ map-map (λ (p : ℕ × List ℕ). plain_packet apid p.0 p.1) (numbered_data h) (range_with_len 0 (length h.steps))
+
+-- it is whole
+pub whole-store_of : (h : History) (apid : ℕ) → IsValid h → apid ≤ 2046 → (walk (Some apid) (store_of h apid)).ending ≡ None
+whole-store_of h apid valid chosen = ap (λ (w : Walk). w.ending) (walk-store_of (Some apid) h apid valid chosen)
+
+count-plain : (h : History) (apid : ℕ) (numbers : List ℕ) → count_by (λ p. is_chosen (Some apid) p.header) (map (plain_at h apid) numbers) ≡ length numbers
+count-plain h apid [] = refl
+count-plain h apid (t ∷ numbers) =
+    let one : Packet → ℕ = λ p. if is_chosen (Some apid) p.header then 1 else 0 in
+    let more : ℕ = count_by (λ p. is_chosen (Some apid) p.header) (map (plain_at h apid) numbers) in
+    sum_by-cons one (plain_at h apid t) (map (plain_at h apid) numbers)
+    ∙ (ap (λ (own : Bool). (if own then 1 else 0) + more) (same_apid apid) ∙ (ap (λ k. 1 + k) (count-plain h apid numbers) ∙ omega arith))
+
+-- all its packets are of the APID
+pub count-chosen : (h : History) (apid : ℕ) → IsValid h → apid ≤ 2046 → chosen_count (Some apid) (walk (Some apid) (store_of h apid)).packets ≡ length h.steps
+count-chosen h apid valid chosen =
+    ap (chosen_count (Some apid)) (walked_packets h apid valid chosen) ∙ (count-plain h apid (range_with_len 0 (length h.steps)) ∙ length-range_with_len 0 (length h.steps))
 
 -- the played packets are those of the numbers that arrive
 pub played_packets-are : (h : History) (copies : ℕ → ℕ) (apid : ℕ) → IsValid h → apid ≤ 2046

@@ -12,7 +12,17 @@ use Rattle.pocket_cmd.specs.Courses.{course_of}
 use Rattle.pocket_cmd.specs.Delivery.{HasWritten}
 use Rattle.pocket_cmd.specs.Openings.{all_finished, all_opened, given, side_given, with_input, with_output, with_report, with_side}
 use Rattle.pocket_cmd.specs.Outcome.{RunStands, Stands}
-use Rattle.pocket_cmd.proofs.Performed.{given-with_side, input_is, side_text_is}
+use Rattle.pocket_cmd.proofs.Performed.{input_is, same_some}
+
+-- the side text is the one that is told
+side_text_is : (o : Option (List ℕ)) (text told : List ℕ) → IfSome o (λ bytes. text ≡ bytes) → o ≡ Some told → text ≡ told
+side_text_is None text told is e = absurd cc
+side_text_is (Some bytes) text told is e = is ∙ same_some e
+
+-- and reading it leaves the input
+given-with_side : (m : Meanings) (side : Option (List ℕ)) (name : List ℕ) → given (with_side m side) inlet.Main name ≡ given m inlet.Main name
+given-with_side m None name = refl
+given-with_side m (Some other) name = refl
 
 -- finishing leaves what was written
 made-finished : (report : Option (List ℕ)) (m : Meanings) → (made (all_finished report m) outlet.Main ≡ made m outlet.Main) × (made (all_finished report m) outlet.Report ≡ made m outlet.Report)

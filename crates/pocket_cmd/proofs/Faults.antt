@@ -1,10 +1,10 @@
 -- A course whose fault is named otherwise.
-use Rattle.std.proofs.Common.{◌≡◌, ℕ, List, Option, Some, None, Result, Ok, Err, refl, sym, ap, ◌∙◌, subst}
+use Rattle.std.proofs.Common.{◌≡◌, ℕ, List, Option, Some, None, refl, ap, subst}
 use Rattle.std.specs.Option.{option_map}
 use Rattle.desk_ports.specs.declared.stop.Stop.{Stop}
 use Rattle.desk_ports.specs.declared.stop.Stop.TheVariants.{Data, ReadFault, WriteFault}
 use Rattle.desk_ports.specs.Meanings.{Meanings}
-use Rattle.desk_ports.specs.Courses.{Outputs, Course, by_ending, owed, Went, Ends, IsCutOff, IsCutShort, AreFronts, AfterStop}
+use Rattle.desk_ports.specs.Courses.{Outputs, Course, by_ending, owed, Went, Ends, AreFronts, AfterStop}
 use Rattle.pocket_cmd.specs.Courses.{with_fault}
 use Rattle.pocket_cmd.specs.Jobs.{stop_with}
 

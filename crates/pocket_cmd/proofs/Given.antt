@@ -10,8 +10,8 @@ use Rattle.std.proofs.lemmas.List.Sums.{split_at_first, passes_at_first}
 use Rattle.std.proofs.lemmas.Slice.Eq.{bytes_eq-Decides}
 use Rattle.side_tables.specs.Numbers.{is_plain_decimal, number_of}
 use Rattle.pocket_cmd.specs.Words.{Value, Named, Numbered, Entry, entry_of, entry_with, read_as, numbered, is_equals_sign, key_kind, value_of, value_unless, first_faulty, verb_of, place_of, Plain, Assigns}
-use Rattle.pocket_cmd.specs.Command.{CompressValues, PlayValues, RestoreValues, Command, Compress, Play, Restore, names_of, AreRight, AreGiven, IsRight, IsPlaces, IsChosen, compress_values, play_values, restore_values, with_values, with_verb, unless_faulty, command_of, name_in, number_in, text_in, name_given, number_given, mask_given, ◌>>=◌}
-use Rattle.pocket_cmd.specs.Masks.{mask_of, no_mask}
+use Rattle.pocket_cmd.specs.Command.{CompressValues, PlayValues, RestoreValues, Command, Compress, Play, Restore, names_of, AreRight, AreGiven, IsRight, compress_values, play_values, restore_values, with_values, with_verb, unless_faulty, command_of, name_in, number_in, text_in, name_given, number_given, mask_given, ◌>>=◌}
+use Rattle.pocket_cmd.specs.Masks.{mask_of}
 use Rattle.pocket_cmd.proofs.Masks.{length-mask_of}
 use Rattle.pocket_cmd.specs.declared.words.Verb.{Verb}
 use Rattle.pocket_cmd.specs.declared.words.Verb.TheVariants as verb

@@ -1,5 +1,5 @@
 -- What words that give a command grant, and how its answer is told.
-use Rattle.std.proofs.Common.{◌≡◌, ◌≢◌, ◌⊎◌, inl, inr, ℕ, Bool, IsTrue, List, Option, Some, None, IfSome, Result, Ok, Err, codes, sym, ap, ◌∙◌, subst}
+use Rattle.std.proofs.Common.{◌≡◌, ◌≢◌, ◌⊎◌, inl, inr, ℕ, Bool, IsTrue, List, Option, Some, None, IfSome, Result, Ok, Err, codes, ◌∙◌, subst}
 use Rattle.desk_ports.specs.declared.desk.Inlet.TheVariants as inlet
 use Rattle.desk_ports.specs.Meanings.{Meanings, Counts, Rose}
 use Rattle.pocket_cmd.specs.declared.status.Status.{Status}
@@ -7,7 +7,7 @@ use Rattle.pocket_cmd.specs.declared.status.Status.TheVariants.{Refused}
 use Rattle.pocket_cmd.specs.declared.status.Refusal.{Refusal}
 use Rattle.pocket_cmd.specs.declared.status.Refusal.TheVariants as refusal
 use Rattle.pocket_cmd.specs.Words.{Assigns}
-use Rattle.pocket_cmd.specs.Command.{Command, names_of, command_of}
+use Rattle.pocket_cmd.specs.Command.{Command, names_of}
 use Rattle.pocket_cmd.specs.Openings.{given, side_given}
 use Rattle.pocket_cmd.specs.Status.{status_by}
 use Rattle.pocket_cmd.specs.Outcome.{IsAnswered, answer_to}

@@ -1,5 +1,6 @@
 -- What restoring the played store of a history writes, and which commands are done.
-use Rattle.std.proofs.Common.{◌≡◌, ◌≢◌, ℕ, ◌^◌, ◌≤◌, cond, List, [], length, Option, Some, None, Result, Ok, Err, refl, sym, ap, ◌∙◌, subst}
+use Rattle.std.proofs.Common.{◌≡◌, ◌≢◌, ℕ, ◌^◌, ◌≤◌, arith, nat_lt, Bool, false, cond, List, [], length, Option, Some, None, Result, Ok, Err, refl, sym, ap, ◌∙◌, subst}
+use Rattle.std.proofs.lemmas.Bool.Decides.{nat_tests}
 use Rattle.std.specs.Option.{option_map}
 use Rattle.desk_ports.specs.declared.desk.Inlet.TheVariants as inlet
 use Rattle.desk_ports.specs.Courses.{Outputs, owed}
@@ -25,7 +26,7 @@ use Rattle.pocket_cmd.specs.Outcome.{AfterCommand, Stands, answer_by, answer_to,
 use Rattle.pocket_cmd.specs.Status.{status_by, status_of}
 use Rattle.pocket_cmd.proofs.Delivered.{HasWritten-stands}
 use Rattle.pocket_cmd.proofs.Faults.{owed-with_fault}
-use Rattle.pocket_cmd.proofs.Performed.{Stands-answer, ending_is, short}
+use Rattle.pocket_cmd.proofs.Performed.{Stands-answer, ending_is}
 
 unmapped : {A B : Type 0} (f : A → B) (o : Option A) → option_map f o ≡ None → o ≡ None
 unmapped f None e = refl
@@ -49,6 +50,9 @@ HasWritten-restored command r h copies old new answer is chosen played after don
     HasWritten-played r h copies old new chosen played (subst (λ command. Stands command old new None) is (Stands-answer command old new answer None after done))
 
 -- ---- completeness
+
+short : (text : List ℕ) → length text ≤ 1048576 → nat_lt 1048576 (length text) ≡ false
+short text h = grind (arith, nat_tests)
 
 -- a right side text and a whole input are answered with Done
 pub Done-whole : (command : Command) (text input : List ℕ) → IsSideRight command text → IsWhole command input → answer_to command text input ≡ Done

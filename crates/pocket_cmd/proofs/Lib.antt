@@ -3,8 +3,8 @@ pub mod Faults
 pub mod Masks
 pub mod Given
 pub mod Opened
-pub mod Sides
 pub mod Performed
 pub mod Granted
 mod Delivered
 mod Headline
+mod Compositions

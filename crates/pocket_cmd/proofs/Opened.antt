@@ -1,5 +1,5 @@
 -- What a run leaves, from the opening of its names to the finishing of its outputs.
-use Rattle.std.proofs.Common.{◌≡◌, ℕ, List, Option, Some, None, Err, inl, inr, refl, subst}
+use Rattle.std.proofs.Common.{◌≡◌, ℕ, List, Some, None, Err, inl, inr, refl, subst}
 use Rattle.desk_ports.specs.declared.stop.Stop.{Stop}
 use Rattle.desk_ports.specs.declared.stop.Stop.TheVariants.{Data, ReadFault, WriteFault}
 use Rattle.desk_ports.specs.Meanings.{Meanings}

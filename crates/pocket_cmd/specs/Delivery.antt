@@ -9,9 +9,11 @@ use Rattle.side_tables.specs.Grammar.{bad_copy_row, bad_flag_row}
 use Rattle.packet_store.specs.Walks.{walk}
 use Rattle.flight_chain.specs.Recordings.{recording_walk}
 use Rattle.flight_chain.specs.Stores.{store_of}
+use Rattle.flight_chain.specs.Compressing.{history_by}
 use Rattle.loss_player.specs.Gaps.{AreGapsShort}
 use Rattle.loss_player.specs.Played.{played_bytes}
-use Rattle.pocket_cmd.specs.Command.{Command, Compress, Play, Restore, Names, RestoreValues}
+use Rattle.pocket_cmd.specs.Command.{Command, Compress, CompressValues, Play, Restore, Names, RestoreValues}
+use Rattle.pocket_cmd.specs.Courses.{compression_by}
 use Rattle.pocket_cmd.specs.Openings.{given}
 
 -- the outputs of a command got this, where the desk tells what was written
@@ -38,3 +40,7 @@ pub record IsPlayedStore (r : RestoreValues) (h : History) (copies : ℕ → ℕ
   pub places : h.places ≡ r.bits
   pub gaps : AreGapsShort copies (length h.steps)
   pub told : given m inlet.Main r.input ≡ Some (played_bytes copies r.apid (store_of h r.apid))
+
+-- the history of a recording under a schedule
+abbrev pub recorded_history : CompressValues → List ℕ → List ℕ → History
+recorded_history c text recording = history_by (compression_by c text) (recording_walk c.bits recording).inputs

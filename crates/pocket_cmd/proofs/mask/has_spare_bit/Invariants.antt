@@ -1,4 +1,4 @@
-use Rattle.std.proofs.Common.{◌≡◌, ◌≤◌, ℕ, ◌-◌, length, drop}
+use Rattle.std.proofs.Common.{◌≡◌, ◌-◌, length, drop}
 use Rattle.bit_vectors.specs.Vectors.{bits_of}
 use Rattle.pocket_cmd.proofs.Masks.{one_of}
 use Rattle.pocket_cmd.proofs.mask.has_spare_bit.Given as goal

@@ -1,6 +1,5 @@
 use Rattle.std.proofs.Common.{sym, subst}
 use Rattle.pocket_cmd.specs.Command.{names_of, view_command}
-use Rattle.pocket_cmd.specs.Courses.{course_of}
 use Rattle.pocket_cmd.specs.Jobs.{job_course}
 use Rattle.pocket_cmd.specs.Outcome.{AfterNames, IsAnsweredBy}
 use Rattle.pocket_cmd.proofs.Performed.{IsAnsweredBy-run}
