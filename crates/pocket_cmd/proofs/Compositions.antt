@@ -1,5 +1,5 @@
 -- What the commands hand on to one another.
-use Rattle.std.proofs.Common.{◌≡◌, ℕ, ◌+◌, ◌<◌, ◌≤◌, ◌==◌, Bool, true, List, [], ◌∷◌, length, map, All, Option, Some, None, refl, sym, ap, ◌∙◌, subst, append-nil, arith}
+use Rattle.std.proofs.Common.{◌≡◌, ℕ, ◌+◌, ◌^◌, ◌<◌, ◌≤◌, ◌==◌, Bool, true, List, [], ◌∷◌, length, map, All, Option, Some, None, refl, sym, ap, ◌∙◌, subst, append-nil, arith}
 use Rattle.std.specs.List.{count_by, range_with_len}
 use Rattle.std.proofs.lemmas.List.FromFn.{length-map-range_with_len, length-range_with_len}
 use Rattle.desk_ports.specs.Courses.{Outputs, by_ending, no_outputs, owed, to_output, to_report}
@@ -7,17 +7,22 @@ use Rattle.mask_update.specs.Histories.{History, IsValid}
 use Rattle.mask_update.proofs.HistoriesOf.{IsValid-history_of}
 use Rattle.side_tables.specs.Grammar.{copy_rows_of, flag_rows_of}
 use Rattle.side_tables.specs.Rows.{copies_of, flags_of}
+use Rattle.packet_encode.specs.Deliveries.{arrivals}
 use Rattle.packet_store.specs.SpacePackets.{Packet, is_chosen}
 use Rattle.packet_store.specs.Walks.{Walk, walk}
 use Rattle.flight_chain.specs.Recordings.{recording_walk}
 use Rattle.flight_chain.specs.Stores.{store_of}
 use Rattle.flight_chain.specs.Compressing.{compress_course, history_by}
 use Rattle.flight_chain.proofs.Recordings.{IsWalk-recording}
+use Rattle.loss_player.specs.Gaps.{AreGapsShort}
 use Rattle.loss_player.specs.Played.{chosen_count, played_bytes, played_of, store_numbers}
 use Rattle.loss_player.specs.Playing.{play_course}
 use Rattle.loss_player.specs.Report.{play_report}
-use Rattle.ground_chain.proofs.PlayedHistories.{count-chosen, whole-store_of}
-use Rattle.pocket_cmd.specs.Command.{AreRight, Compress, CompressValues, IsChosen, Play, PlayValues}
+use Rattle.ground_chain.proofs.PlayedHistories.{count-chosen, walk-played, whole-store_of}
+use Rattle.ground_chain.proofs.DeliveredRuns.{owed-played}
+use Rattle.ground_chain.specs.Deliveries.{report_text, restored_bytes}
+use Rattle.ground_chain.specs.Restoring.{restore_course}
+use Rattle.pocket_cmd.specs.Command.{AreRight, Compress, CompressValues, IsChosen, IsPlaces, Play, PlayValues, Restore, RestoreValues}
 use Rattle.pocket_cmd.specs.Courses.{compression_by, course_of, of_recording, of_store}
 use Rattle.pocket_cmd.specs.Delivery.{IsWhole, recorded_history}
 use Rattle.pocket_cmd.proofs.Faults.{owed-with_fault}
@@ -48,3 +53,38 @@ owed-played_store p h text chosen valid =
     sym (owed-with_fault of_store (play_course copies p.apid store))
     ∙ (ap (λ ending. by_ending ending (to_output (played_bytes copies p.apid store)) (to_report (play_report (store_numbers copies p.apid store)))) (whole-store_of h p.apid valid chosen)
     ∙ λ i. record { output = append-nil (played_bytes copies p.apid store) i; report = play_report (played_of copies (count-chosen h p.apid valid chosen i)) })
+
+pub IsWhole-history : (p : PlayValues) (h : History) → IsChosen p.apid → IsValid h → IsWhole (Play p) (store_of h p.apid)
+IsWhole-history p h chosen valid = whole-store_of h p.apid valid chosen
+
+-- what restoring it owes
+pub whole-restored : (r : RestoreValues) (h : History) (copies : ℕ → ℕ) → IsChosen r.apid → IsValid h → length (arrivals copies (length h.steps)) ≤ 2 ^ 32
+    → IsWhole (Restore r) (played_bytes copies r.apid (store_of h r.apid))
+whole-restored r h copies chosen valid few = ap (λ (w : Walk). w.ending) (walk-played h copies r.apid valid chosen few)
+
+pub owed-restored : (r : RestoreValues) (h : History) (copies : ℕ → ℕ) → IsChosen r.apid → IsValid h → h.places ≡ r.bits → AreGapsShort copies (length h.steps) → length (arrivals copies (length h.steps)) ≤ 2 ^ 32
+    → owed (course_of (Restore r) [] (played_bytes copies r.apid (store_of h r.apid))) ≡ record { output = restored_bytes h copies; report = report_text h copies }
+owed-restored r h copies chosen valid places short few =
+    let store : List ℕ = played_bytes copies r.apid (store_of h r.apid) in
+    sym (owed-with_fault of_store (restore_course r.bits r.apid store))
+    ∙ subst (λ f. owed (restore_course f r.apid store) ≡ record { output = restored_bytes h copies; report = report_text h copies }) places
+    (owed-played h copies r.apid valid chosen short (whole-restored r h copies chosen valid few))
+
+-- all three
+pub owed-chain : (c : CompressValues) (p : PlayValues) (r : RestoreValues) (plan script recording : List ℕ)
+    → AreRight c → IsChosen p.apid → IsPlaces r.bits × IsChosen r.apid → p.apid ≡ c.apid → r.apid ≡ c.apid → r.bits ≡ c.bits
+    → All (λ b. b < 256) recording → IsWhole (Compress c) recording
+    → AreGapsShort (copies_of (copy_rows_of script)) (length (recorded_history c plan recording).steps) → length (arrivals (copies_of (copy_rows_of script)) (length (recorded_history c plan recording).steps)) ≤ 2 ^ 32
+    → owed (course_of (Restore r) [] (owed (course_of (Play p) script (owed (course_of (Compress c) plan recording)).output)).output)
+    ≡ record { output = restored_bytes (recorded_history c plan recording) (copies_of (copy_rows_of script)); report = report_text (recorded_history c plan recording) (copies_of (copy_rows_of script)) }
+owed-chain c p r plan script recording right chosen restoring same_play same_restore same_bits bytes whole short few =
+    let h : History = recorded_history c plan recording in
+    let copies : ℕ → ℕ = copies_of (copy_rows_of script) in
+    let valid : IsValid h = IsValid-recorded c plan recording right bytes in
+    let stored : (owed (course_of (Compress c) plan recording)).output ≡ store_of h p.apid =
+    ap (λ (all : Outputs). all.output) (owed-recorded c plan recording whole) ∙ ap (store_of h) (sym same_play) in
+    let handed : (owed (course_of (Play p) script (owed (course_of (Compress c) plan recording)).output)).output ≡ played_bytes copies r.apid (store_of h r.apid) =
+    ap (λ store. (owed (course_of (Play p) script store)).output) stored
+    ∙ (ap (λ (all : Outputs). all.output) (owed-played_store p h script chosen valid)
+    ∙ ap (λ apid. played_bytes copies apid (store_of h apid)) (same_play ∙ sym same_restore)) in
+    ap (λ store. owed (course_of (Restore r) [] store)) handed ∙ owed-restored r h copies restoring.1 valid (sym same_bits) short few

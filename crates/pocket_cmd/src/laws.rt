@@ -1,10 +1,19 @@
 //! Laws of the definitions that the top call's contract cites.
-ghost use Rattle.std.specs.Prelude.{◌≡◌, ℕ, List, Ok, Some, None};
-ghost use Rattle.desk_ports.specs.Courses.{owed};
+ghost use Rattle.std.specs.Prelude.{◌≡◌, ◌≤◌, ◌<◌, ◌^◌, ℕ, [], length, All, List, Ok, Some, None};
+ghost use Rattle.desk_ports.specs.Courses.{owed, to_output};
 ghost use Rattle.desk_ports.specs.Meanings.{Meanings};
-ghost use Rattle.pocket_cmd.specs.Command.{Command, AreGiven, IsRight, command_of, names_of};
+ghost use Rattle.mask_update.specs.Histories.{History, IsValid};
+ghost use Rattle.side_tables.specs.Grammar.{copy_rows_of};
+ghost use Rattle.side_tables.specs.Rows.{copies_of};
+ghost use Rattle.packet_encode.specs.Deliveries.{arrivals};
+ghost use Rattle.flight_chain.specs.Stores.{store_of};
+ghost use Rattle.loss_player.specs.Gaps.{AreGapsShort};
+ghost use Rattle.loss_player.specs.Played.{played_bytes, played_of};
+ghost use Rattle.loss_player.specs.Report.{play_report};
+ghost use Rattle.ground_chain.specs.Deliveries.{report_text, restored_bytes};
+ghost use Rattle.pocket_cmd.specs.Command.{Command, Compress, CompressValues, Play, PlayValues, Restore, RestoreValues, AreGiven, IsRight, command_of, names_of};
 ghost use Rattle.pocket_cmd.specs.Courses.{course_of};
-ghost use Rattle.pocket_cmd.specs.Delivery.{HasWritten};
+ghost use Rattle.pocket_cmd.specs.Delivery.{HasWritten, IsWhole, recorded_history};
 ghost use Rattle.pocket_cmd.specs.Openings.{given, side_given};
 ghost use Rattle.pocket_cmd.specs.Outcome.{Stands};
 
@@ -21,4 +30,34 @@ pub fn done_commands_wrote_all()
     ensures { (command : Command) (old new : Meanings) (text input : List ℕ) → Stands command old new None
         → side_given old (names_of command).side ≡ Some text → given old Inlet.Main (names_of command).input ≡ Some input
         → HasWritten (names_of command) (owed (course_of command text input)) new }
+{}
+
+/// What the commands hand on to one another. The store that `compress` owes for a whole recording is that of a valid history;
+/// what `play` owes for such a store is its played store, with a report of the gaps; and what `restore` owes for that is what
+/// the headline says.
+pub fn commands_compose()
+    ensures compress { (c : CompressValues) (plan recording : List ℕ) → IsRight (Compress c) → All (λ b. b < 256) recording
+        → IsWhole (Compress c) recording
+        → IsValid (recorded_history c plan recording)
+        × (owed (course_of (Compress c) plan recording) ≡ to_output (store_of (recorded_history c plan recording) c.apid)) }
+    ensures play { (p : PlayValues) (script : List ℕ) (h : History) → IsRight (Play p) → IsValid h
+        → IsWhole (Play p) (store_of h p.apid)
+        × (owed (course_of (Play p) script (store_of h p.apid)) ≡ record {
+          output = played_bytes (copies_of (copy_rows_of script)) p.apid (store_of h p.apid);
+          report = play_report (played_of (copies_of (copy_rows_of script)) (length h.steps));
+        }) }
+    ensures restore { (r : RestoreValues) (h : History) (copies : ℕ → ℕ) → IsRight (Restore r) → IsValid h → h.places ≡ r.bits
+        → AreGapsShort copies (length h.steps) → length (arrivals copies (length h.steps)) ≤ 2 ^ 32
+        → IsWhole (Restore r) (played_bytes copies r.apid (store_of h r.apid))
+        × (owed (course_of (Restore r) [] (played_bytes copies r.apid (store_of h r.apid)))
+        ≡ record { output = restored_bytes h copies; report = report_text h copies }) }
+    // All three, one after the other, for one APID and one number of bits.
+    ensures chain { (c : CompressValues) (p : PlayValues) (r : RestoreValues) (plan script recording : List ℕ)
+        → IsRight (Compress c) → IsRight (Play p) → IsRight (Restore r) → p.apid ≡ c.apid → r.apid ≡ c.apid → r.bits ≡ c.bits
+        → All (λ b. b < 256) recording → IsWhole (Compress c) recording
+        → let h = recorded_history c plan recording in let copies = copies_of (copy_rows_of script) in
+        AreGapsShort copies (length h.steps) → length (arrivals copies (length h.steps)) ≤ 2 ^ 32
+        → let store = (owed (course_of (Compress c) plan recording)).output in
+        let played = (owed (course_of (Play p) script store)).output in
+        owed (course_of (Restore r) [] played) ≡ record { output = restored_bytes h copies; report = report_text h copies } }
 {}

@@ -7,6 +7,7 @@ mod job;
 mod laws;
 mod mask;
 mod opening;
+mod rehearsal;
 mod run;
 mod runs;
 mod side;
@@ -15,7 +16,8 @@ mod top;
 mod words;
 mod work;
 
-pub use laws::{commands_are_given, done_commands_wrote_all};
+pub use laws::{commands_are_given, commands_compose, done_commands_wrote_all};
+pub use rehearsal::rehearse;
 pub use status::{Refusal, Status, exit_code};
 pub use top::pocket;
 

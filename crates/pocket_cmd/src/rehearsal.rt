@@ -1,0 +1,28 @@
+//! A command over a desk that never fails and keeps nothing: what it would answer.
+ghost use Rattle.std.specs.Prelude.{◌≡◌, ◌≢◌, ◌<◌, ◌^◌, ℕ, List, length, map, Some, Ok};
+ghost use Rattle.std.specs.String.{string_bytes};
+ghost use Rattle.desk_ports.specs.QuietState.{quiet_meanings};
+ghost use Rattle.pocket_cmd.specs.Command.{Command as Told, command_of, names_of};
+ghost use Rattle.pocket_cmd.specs.Delivery.{IsSideRight, IsWhole};
+ghost use Rattle.pocket_cmd.specs.Openings.{given, side_given};
+
+use crate::status::{Refusal, Status};
+use crate::top::pocket;
+use desk_ports::{Inlet, QuietDesk};
+use std::alloc::Global;
+
+/// Rehearses what the words say: reads the inputs that the desk has, and keeps nothing of what would be written.
+pub fn rehearse(alloc: Global, words: &[String], desk: &mut QuietDesk<'_>) -> Status
+    requires few { length words.now < 2 ^ 32 }
+    // Reading and writing don't fail.
+    ensures reads { result ≢ Status.Refused Refusal.ReadFault }
+    ensures writes { result ≢ Status.Refused Refusal.WriteFault }
+    // Right words, a right side text and a whole input are done, where memory was found.
+    ensures complete { (command : Told) (text input : List ℕ) → command_of (map string_bytes words.now) ≡ Ok command
+        → side_given (quiet_meanings desk.old) (names_of command).side ≡ Some text
+        → given (quiet_meanings desk.old) Inlet.Main (names_of command).input ≡ Some input
+        → IsSideRight command text → IsWhole command input
+        → result ≢ Status.Refused Refusal.NoMemory → result ≡ Status.Done }
+{
+    pocket(alloc, words, desk)
+}
