@@ -17,8 +17,12 @@ const MOST_WORDS: usize = 1000;
 const NO_WORDS: u8 = 7;
 
 const HELP: &str = "\
+pocket compress in=RECORDING out=STORE bits=F apid=APID robust=R [plan=SCHEDULE] [mask=DIGITS]
+    makes the store of Space Packets of a recording of packets of F bits
+pocket play in=STORE out=PLAYED report=REPORT apid=APID script=SCRIPT
+    drops and repeats the packets that a store has on an APID
 pocket restore in=STORE out=PACKETS report=REPORT bits=F apid=APID
-    gives back the packets of F bits that a store of Space Packets has on an APID
+    gives back the packets of F bits that a store has on an APID, and lists all others
 A name is a file's, or - for standard input or output. The keys come in any order.
 pocket --help
 pocket --version";
