@@ -108,8 +108,20 @@ pub fn assert_ending(
 ) -> Result<(), Fail> {
     let mut desk = desk_for(rt.alloc(), case)?;
     let status = answer(rt.alloc(), case.words, &mut desk)?;
-    assert_eq!(rt; ended(status, &desk), *wanted, "{case:?}");
+    let side = front(case.side.unwrap_or(&[]), 80);
+    assert_eq!(rt;
+        ended(status, &desk),
+        *wanted,
+        "{} {:?} {side:?}",
+        case.words,
+        case.fails
+    );
     Ok(())
+}
+
+/// The first bytes, as many as there are.
+pub fn front(bytes: &[u8], count: usize) -> &[u8] {
+    &bytes[..count.min(bytes.len())]
 }
 
 /// Runs a case with whole reads and writes, and with those of one byte.
