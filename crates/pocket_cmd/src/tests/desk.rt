@@ -14,7 +14,7 @@ pub const EIGHT_BITS: &str = "restore in=a out=b report=c bits=8 apid=100";
 pub const BY_SCRIPT: &str = "play in=a script=s out=b report=c apid=100";
 
 /// The first line of a report.
-pub const HEADER: &[u8] = b"first,last,cause,value\n";
+pub const HEADER: &str = "first,last,cause,value\n";
 
 /// The words in one line, what the inputs have, whether a call moves one byte at most, and the calls that fail.
 #[derive(Clone, Copy, Debug)]

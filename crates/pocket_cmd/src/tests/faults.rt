@@ -35,9 +35,9 @@ fn assert_rows(
 fn calls_of_restore(rt: HostRuntime) -> Result<(), Fail> {
     let store = bytes_of_all(rt.alloc(), &PLAYED)?;
     let unread = refused(Refusal::ReadFault, &[], &[]);
-    let none_written = refused(Refusal::ReadFault, &[], HEADER);
-    let one_written = refused(Refusal::ReadFault, &OUTPUT[..1], HEADER);
-    let two_written = refused(Refusal::ReadFault, &OUTPUT[..2], HEADER);
+    let none_written = refused(Refusal::ReadFault, &[], HEADER.as_bytes());
+    let one_written = refused(Refusal::ReadFault, &OUTPUT[..1], HEADER.as_bytes());
+    let two_written = refused(Refusal::ReadFault, &OUTPUT[..2], HEADER.as_bytes());
     let all_written = refused(Refusal::ReadFault, OUTPUT, &REPORT[..34]);
     let unopened = refused(Refusal::WriteFault, &[], &[]);
     let unfinished = refused(Refusal::WriteFault, OUTPUT, REPORT);
