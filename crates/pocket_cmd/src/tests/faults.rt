@@ -1,10 +1,10 @@
 //! A desk in which some calls fail.
 
 use super::desk::{
-    BY_SCRIPT, Case, EIGHT_BITS, Ending, HEADER, assert_ending, bytes_of, bytes_of_all, done,
-    front, refused, with_both, with_input, words_alone,
+    BY_SCRIPT, Case, EIGHT_BITS, Ending, HEADER, assert_ending, bytes_of_all, done, front, refused,
+    with_both, with_input, words_alone,
 };
-use super::samples::{FIRST, PLAY_REPORT, PLAYED, RECORDING, STORE};
+use super::samples::{PLAY_REPORT, PLAYED, RECORDING, STORE};
 use crate::Refusal;
 use desk_ports::Call;
 use std::process::Abort;
@@ -110,13 +110,12 @@ const BY_PLAN: &str = "compress in=a out=b bits=8 apid=100 robust=1 plan=s";
 #[test]
 fn calls_of_compress(rt: HostRuntime) -> Result<(), Fail> {
     let store = bytes_of_all(rt.alloc(), &STORE)?;
-    let first = bytes_of(rt.alloc(), FIRST)?;
     let unread = refused(Refusal::ReadFault, &[], &[]);
     let unopened = refused(Refusal::WriteFault, &[], &[]);
-    let one_written = refused(Refusal::WriteFault, &first, &[]);
+    let one_written = refused(Refusal::WriteFault, front(&store, 10), &[]);
     let unfinished = refused(Refusal::WriteFault, &store, &[]);
     let whole = done(&store, &[]);
-    // Each packet is written at once.
+    // Each packet is written at once; the first has ten bytes.
     let rows: [Row<'_>; 10] = [
         (&[(Call::OpenIn, 1), (Call::OpenOut, 1)], unread),
         (&[(Call::OpenIn, 2)], whole),
