@@ -1,6 +1,6 @@
 //! The three commands one after the other at one desk.
 
-use super::desk::{answer, desk_with, joined};
+use super::desk::{HEADER, answer, desk_with, joined};
 use super::samples::PLAY_HEADER;
 use crate::Status;
 use desk_ports::MemDesk;
@@ -16,8 +16,6 @@ const RESTORE: &str = "restore in=played out=restored report=report apid=100 ";
 
 /// Restores the store as it is, without a loss.
 const GIVE_BACK: &str = "restore in=store out=given_back report=whole_report apid=100 ";
-
-const HEADER: &str = "first,last,cause,value\n";
 
 /// A recording with what the three commands are told, and what they must keep.
 #[derive(Clone, Copy)]
@@ -52,21 +50,13 @@ fn assert_done(
 }
 
 /// What is kept under a name must be these bytes.
-fn assert_kept(rt: &impl Abort, desk: &MemDesk, name: &str, wanted: &[u8]) {
-    assert_eq!(rt; desk.get(name), wanted, "{name}");
-}
-
-/// What is kept under a name must be these two texts, one behind the other.
-fn assert_text(
-    rt: &(impl Abort + AllocGlobal),
-    desk: &MemDesk,
-    name: &str,
-    front: &str,
-    back: &str,
-) -> Result<(), Fail> {
-    let text = joined(rt.alloc(), front, back)?;
-    assert_kept(rt, desk, name, text.as_bytes());
-    Ok(())
+fn assert_kept(rt: &impl Abort, chain: &Chain<'_>, desk: &MemDesk, name: &str, wanted: &[u8]) {
+    let (plan, script) = (chain.plan, chain.script);
+    assert_eq!(rt;
+        desk.get(name),
+        wanted,
+        "{name} after {plan:?} and {script:?}"
+    );
 }
 
 fn desk_of(alloc: Global, chain: &Chain<'_>, one_byte: bool) -> Result<MemDesk, Fail> {
@@ -93,11 +83,13 @@ pub fn assert_chain(
     let mut desk = desk_of(rt.alloc(), chain, one_byte)?;
     assert_done(rt, COMPRESS, chain.flight, &mut desk)?;
     assert_done(rt, GIVE_BACK, chain.ground, &mut desk)?;
-    assert_kept(rt, &desk, "given_back", chain.recording);
     assert_done(rt, PLAY, "", &mut desk)?;
-    assert_text(rt, &desk, "play_report", PLAY_HEADER, chain.played)?;
     assert_done(rt, RESTORE, chain.ground, &mut desk)?;
-    assert_kept(rt, &desk, "restored", chain.restored);
-    assert_text(rt, &desk, "report", HEADER, chain.report)?;
+    let play_report = joined(rt.alloc(), PLAY_HEADER, chain.played)?;
+    let report = joined(rt.alloc(), HEADER, chain.report)?;
+    assert_kept(rt, chain, &desk, "given_back", chain.recording);
+    assert_kept(rt, chain, &desk, "play_report", play_report.as_bytes());
+    assert_kept(rt, chain, &desk, "restored", chain.restored);
+    assert_kept(rt, chain, &desk, "report", report.as_bytes());
     Ok(desk)
 }

@@ -14,7 +14,7 @@ pub const EIGHT_BITS: &str = "restore in=a out=b report=c bits=8 apid=100";
 pub const BY_SCRIPT: &str = "play in=a script=s out=b report=c apid=100";
 
 /// The first line of a report.
-pub const HEADER: &[u8] = b"first,last,cause,value\n";
+pub const HEADER: &str = "first,last,cause,value\n";
 
 /// The words in one line, what the inputs have, whether a call moves one byte at most, and the calls that fail.
 #[derive(Clone, Copy, Debug)]
@@ -108,8 +108,20 @@ pub fn assert_ending(
 ) -> Result<(), Fail> {
     let mut desk = desk_for(rt.alloc(), case)?;
     let status = answer(rt.alloc(), case.words, &mut desk)?;
-    assert_eq!(rt; ended(status, &desk), *wanted, "{case:?}");
+    let side = front(case.side.unwrap_or(&[]), 80);
+    assert_eq!(rt;
+        ended(status, &desk),
+        *wanted,
+        "{} {:?} {side:?}",
+        case.words,
+        case.fails
+    );
     Ok(())
+}
+
+/// The first bytes, as many as there are.
+pub fn front(bytes: &[u8], count: usize) -> &[u8] {
+    &bytes[..count.min(bytes.len())]
 }
 
 /// Runs a case with whole reads and writes, and with those of one byte.

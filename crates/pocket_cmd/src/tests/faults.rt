@@ -1,10 +1,10 @@
 //! A desk in which some calls fail.
 
 use super::desk::{
-    BY_SCRIPT, Case, EIGHT_BITS, Ending, HEADER, assert_ending, bytes_of, bytes_of_all, done,
-    refused, with_both, with_input, words_alone,
+    BY_SCRIPT, Case, EIGHT_BITS, Ending, HEADER, assert_ending, bytes_of_all, done, front, refused,
+    with_both, with_input, words_alone,
 };
-use super::samples::{FIRST, PLAY_REPORT, PLAYED, RECORDING, STORE};
+use super::samples::{PLAY_REPORT, PLAYED, RECORDING, STORE};
 use crate::Refusal;
 use desk_ports::Call;
 use std::process::Abort;
@@ -31,42 +31,36 @@ fn assert_rows(
     Ok(())
 }
 
-/// The first bytes, as many as there are.
-fn front(bytes: &[u8], count: usize) -> &[u8] {
-    &bytes[..count.min(bytes.len())]
-}
-
 #[test]
 fn calls_of_restore(rt: HostRuntime) -> Result<(), Fail> {
     let store = bytes_of_all(rt.alloc(), &PLAYED)?;
     let unread = refused(Refusal::ReadFault, &[], &[]);
+    let none_written = refused(Refusal::ReadFault, &[], HEADER.as_bytes());
+    let one_written = refused(Refusal::ReadFault, &OUTPUT[..1], HEADER.as_bytes());
+    let two_written = refused(Refusal::ReadFault, &OUTPUT[..2], HEADER.as_bytes());
+    let all_written = refused(Refusal::ReadFault, OUTPUT, &REPORT[..34]);
     let unopened = refused(Refusal::WriteFault, &[], &[]);
     let unfinished = refused(Refusal::WriteFault, OUTPUT, REPORT);
     let half_finished = Ending {
         kept_output: OUTPUT,
         ..unfinished
     };
-    let whole = done(OUTPUT, REPORT);
-    let none_written = refused(Refusal::ReadFault, &[], HEADER);
-    let one_written = refused(Refusal::ReadFault, &OUTPUT[..1], HEADER);
-    let two_written = refused(Refusal::ReadFault, &OUTPUT[..2], HEADER);
-    let all_written = refused(Refusal::ReadFault, OUTPUT, &REPORT[..34]);
     let rows: [Row<'_>; 15] = [
         (&[(Call::OpenIn, 1), (Call::OpenOut, 1)], unread),
-        (&[(Call::OpenIn, 2)], whole),
+        (&[(Call::OpenIn, 2)], done(OUTPUT, REPORT)),
         (&[(Call::OpenOut, 1)], unopened),
         (&[(Call::OpenOut, 2)], unopened),
-        (&[(Call::OpenOut, 3)], whole),
+        (&[(Call::OpenOut, 3)], done(OUTPUT, REPORT)),
         (&[(Call::Read, 1)], none_written),
         (&[(Call::Read, 10)], none_written),
         (&[(Call::Read, 11)], one_written),
         (&[(Call::Read, 20)], one_written),
         (&[(Call::Read, 21)], two_written),
         (&[(Call::Read, 30)], all_written),
-        (&[(Call::Read, 31)], whole),
+        (&[(Call::Read, 31)], done(OUTPUT, REPORT)),
         (&[(Call::Finish, 1)], unfinished),
         (&[(Call::Finish, 2)], half_finished),
-        (&[(Call::Finish, 3)], whole),
+        (&[(Call::Finish, 3)], done(OUTPUT, REPORT)),
     ];
     let case = Case {
         one_byte: true,
@@ -116,12 +110,12 @@ const BY_PLAN: &str = "compress in=a out=b bits=8 apid=100 robust=1 plan=s";
 #[test]
 fn calls_of_compress(rt: HostRuntime) -> Result<(), Fail> {
     let store = bytes_of_all(rt.alloc(), &STORE)?;
-    let first = bytes_of(rt.alloc(), FIRST)?;
     let unread = refused(Refusal::ReadFault, &[], &[]);
     let unopened = refused(Refusal::WriteFault, &[], &[]);
+    let one_written = refused(Refusal::WriteFault, front(&store, 10), &[]);
     let unfinished = refused(Refusal::WriteFault, &store, &[]);
     let whole = done(&store, &[]);
-    // Each packet is written at once.
+    // Each packet is written at once; the first has ten bytes.
     let rows: [Row<'_>; 10] = [
         (&[(Call::OpenIn, 1), (Call::OpenOut, 1)], unread),
         (&[(Call::OpenIn, 2)], whole),
@@ -129,30 +123,30 @@ fn calls_of_compress(rt: HostRuntime) -> Result<(), Fail> {
         (&[(Call::OpenOut, 2)], whole),
         (&[(Call::Read, 1)], unread),
         (&[(Call::Write, 1)], unopened),
-        (
-            &[(Call::Write, 2)],
-            refused(Refusal::WriteFault, &first, &[]),
-        ),
+        (&[(Call::Write, 2)], one_written),
         (&[(Call::Write, 5)], whole),
         (&[(Call::Finish, 1)], unfinished),
         (&[(Call::Finish, 2)], whole),
     ];
     assert_rows(&rt, with_input(COMPRESS, RECORDING), &rows)?;
-    // Behind a schedule, which is opened and read before the recording is.
+    // A schedule is opened and read before anything else is opened.
     let rows: [Row<'_>; 4] = [
         (&[(Call::OpenIn, 1), (Call::OpenOut, 1)], unread),
         (&[(Call::OpenIn, 2), (Call::OpenOut, 1)], unread),
-        (
-            &[(Call::Read, 1), (Call::OpenIn, 2), (Call::OpenOut, 1)],
-            unread,
-        ),
+        (&[(Call::Read, 1), (Call::OpenOut, 1)], unread),
         (&[(Call::OpenIn, 3), (Call::OpenOut, 2)], whole),
     ];
-    assert_rows(&rt, with_both(BY_PLAN, RECORDING, b"9,9,1,p"), &rows)?;
-    // No schedule is held, or no recording.
-    let rows: [Row<'_>; 1] = [(&[(Call::OpenOut, 1)], unread)];
+    assert_rows(&rt, with_both(BY_PLAN, RECORDING, b"9,9,1,p"), &rows)
+}
+
+#[test]
+fn names_that_are_not_held(rt: HostRuntime) -> Result<(), Fail> {
+    let rows: [Row<'_>; 1] = [(&[(Call::OpenOut, 1)], refused(Refusal::ReadFault, &[], &[]))];
+    for words in [COMPRESS, BY_PLAN, BY_SCRIPT, EIGHT_BITS] {
+        assert_rows(&rt, words_alone(words), &rows)?;
+    }
     assert_rows(&rt, with_input(BY_PLAN, RECORDING), &rows)?;
-    assert_rows(&rt, words_alone(COMPRESS), &rows)
+    assert_rows(&rt, with_input(BY_SCRIPT, &[]), &rows)
 }
 
 #[test]
@@ -161,51 +155,30 @@ fn calls_of_play(rt: HostRuntime) -> Result<(), Fail> {
     let played = bytes_of_all(rt.alloc(), &PLAYED)?;
     let report = PLAY_REPORT.as_bytes();
     let unread = refused(Refusal::ReadFault, &[], &[]);
+    let one_played = refused(Refusal::ReadFault, front(&played, 10), &[]);
+    let two_played = refused(Refusal::ReadFault, front(&played, 20), &[]);
+    let all_played = refused(Refusal::ReadFault, &played, &[]);
     let unopened = refused(Refusal::WriteFault, &[], &[]);
     let unfinished = refused(Refusal::WriteFault, &played, report);
     let half_finished = Ending {
         kept_output: &played,
         ..unfinished
     };
-    let whole = done(&played, report);
-    // Ten reads move the script and one meets its end; the packets end at the bytes 10, 20, 28 and 37.
-    let rows: [Row<'_>; 18] = [
+    // Ten reads move the script, and one meets its end. The packets end at the bytes 10, 20, 28 and 37.
+    let rows: [Row<'_>; 13] = [
         (&[(Call::OpenIn, 1), (Call::OpenOut, 1)], unread),
         (&[(Call::OpenIn, 2), (Call::OpenOut, 1)], unread),
-        (&[(Call::OpenIn, 3)], whole),
         (&[(Call::OpenOut, 1)], unopened),
         (&[(Call::OpenOut, 2)], unopened),
-        (&[(Call::OpenOut, 3)], whole),
-        (
-            &[(Call::Read, 1), (Call::OpenIn, 2), (Call::OpenOut, 1)],
-            unread,
-        ),
-        (
-            &[(Call::Read, 11), (Call::OpenIn, 2), (Call::OpenOut, 1)],
-            unread,
-        ),
-        (&[(Call::Read, 12)], unread),
+        (&[(Call::Read, 11), (Call::OpenOut, 1)], unread),
         (&[(Call::Read, 21)], unread),
-        (
-            &[(Call::Read, 22)],
-            refused(Refusal::ReadFault, &played[..10], &[]),
-        ),
-        (
-            &[(Call::Read, 40)],
-            refused(Refusal::ReadFault, &played[..20], &[]),
-        ),
-        (
-            &[(Call::Read, 48)],
-            refused(Refusal::ReadFault, &played[..20], &[]),
-        ),
-        (
-            &[(Call::Read, 49)],
-            refused(Refusal::ReadFault, &played, &[]),
-        ),
-        (&[(Call::Read, 50)], whole),
+        (&[(Call::Read, 22)], one_played),
+        (&[(Call::Read, 40)], two_played),
+        (&[(Call::Read, 48)], two_played),
+        (&[(Call::Read, 49)], all_played),
+        (&[(Call::Read, 50)], done(&played, report)),
         (&[(Call::Finish, 1)], unfinished),
         (&[(Call::Finish, 2)], half_finished),
-        (&[(Call::Finish, 3)], whole),
     ];
     let case = Case {
         one_byte: true,
@@ -232,7 +205,7 @@ fn writes_of_play(rt: HostRuntime) -> Result<(), Fail> {
         one_byte: true,
         ..with_both(BY_SCRIPT, &store, DROP_THE_THIRD)
     };
-    for written in 0..88u32 {
+    for written in [0, 1, 10, 28, 29, 75, 76, 87u32] {
         let row: Row<'_> = (
             &[(Call::Write, written + 1)],
             played_until(&played, written as usize),

@@ -25,110 +25,59 @@ const STEADY: &str =
     00 64 C0 03 00 00 87 00 64 C0 04 00 00 8B 00 64 C0 05 00 00 8F";
 
 /// Schedules, and the store that each makes.
-static SCHEDULES: [(&str, &str); 22] = [
+static SCHEDULES: [(&str, &str); 8] = [
     ("", STEADY),
-    ("\u{feff}", STEADY),
-    ("\r\n\n\n", STEADY),
-    ("6,4294967295,1,prf", STEADY),
-    ("4294967295,4294967295,4294967295,p", STEADY),
     // The first two carry mask and content whatever a schedule says, and have no new mask.
-    ("0,1,1,p", STEADY),
-    ("0,1,1,fr", STEADY),
+    ("0,1,1,prf\r\n\r\n6,4294967295,4294967295,p", STEADY),
     ("3,5,2,p", RENEWED),
-    ("3,5,2,p\n", RENEWED),
     ("\u{feff}3,5,2,p\r\n", RENEWED),
-    ("3,3,1,p\n5,5,1,p", RENEWED),
-    ("3,3,1,p\r5,5,1,p\r", RENEWED),
-    ("\n5,5,1,p\r\n\r\n3,3,4294967295,p\n", RENEWED),
-    ("3,5,2,p\n3,3,1,p\n3,5,2,p", RENEWED),
-    ("0,5,5,p\n3,4,9,p", RENEWED),
-    ("1,5,2,p", RENEWED),
-    ("\"3\",5,\"2\",p", RENEWED),
-    ("\"3\",\"5\",\"2\",\"p\"\r\n", RENEWED),
+    ("\n5,5,1,p\r\n\r\n3,3,4294967295,p\r3,3,1,p", RENEWED),
+    ("\"3\",5,\"2\",\"p\"\r\n", RENEWED),
     // An open quote runs to the end, and text behind a closing one is kept.
     ("3,5,2,\"p", RENEWED),
-    ("3,5,\"2\",\"\"p", RENEWED),
     ("3,\"\"5,2,p", RENEWED),
-    ("3,5,2,p\n4294967295,4294967295,1,rfp", RENEWED),
 ];
 
 /// Schedules, and the first row of each that is wrong.
-static WRONG_SCHEDULES: [(&str, u32); 36] = [
+static WRONG_SCHEDULES: [(&str, u32); 16] = [
     ("1,5,0,p", 1),
     ("0,9,1,f\n5,9,1,pp", 2),
     ("\n\n1,5,0,p", 1),
-    ("first,last,step,flags\n3,5,2,p", 1),
-    ("p", 1),
-    (",", 1),
     ("\u{feff}\u{feff}3,5,2,p", 1),
     ("3,5,2", 1),
-    ("3,5,2,p,", 1),
     ("3,5,2,p,1", 1),
-    ("3;5;2;p", 1),
     ("3,5,2,", 1),
-    ("3,5,2,x", 1),
     ("3,5,2,P", 1),
-    ("3,5,2,pfrp", 1),
-    ("3,5,2,frf", 1),
-    ("3,5,2, p", 1),
     ("3,5,2,p ", 1),
-    (" 3,5,2,p", 1),
-    ("3, 5,2,p", 1),
     ("03,5,2,p", 1),
     ("00,5,1,p", 1),
-    ("3,5,02,p", 1),
     ("+3,5,2,p", 1),
-    ("-3,5,2,p", 1),
-    ("3.0,5,2,p", 1),
-    ("0x3,5,2,p", 1),
-    (",5,2,p", 1),
     ("5,3,1,p", 1),
     ("3,4294967296,2,p", 1),
-    ("3,18446744073709551617,2,p", 1),
-    ("3,5,4294967296,p", 1),
-    ("3,5,2,\"p\n", 1),
     ("\"3,5,2,p\n3,5,2,p\n", 1),
     ("3,5,2,p\r\n3,5,2,p\r\n\r\n3,5,0,p\r\n5,3,1,p\r\n", 3),
-    ("drop,2,2,1", 1),
 ];
 
 /// Scripts that drop the third of four packets.
-static SCRIPTS: [&str; 8] = [
-    "drop,2,2,1",
-    "drop,2,2,1\r\n",
-    "\u{feff}drop,2,2,4294967295\n",
-    "\"drop\",\"2\",2,1",
-    "drop,2,2,\"1",
-    "\n\ndrop,2,2,1\r\r",
-    "repeat,2,2,1,8\r\ndrop,2,3,2\r\n",
-    "drop,2,2,1\nrepeat,4,4294967295,1,8",
+static SCRIPTS: [&str; 3] = [
+    "\u{feff}drop,2,2,4294967295\r\n",
+    "\"drop\",\"2\",2,\"1",
+    "\n\nrepeat,2,2,1,8\r\r\ndrop,2,3,2\r",
 ];
 
 /// Scripts, and the first row of each that is wrong.
-static WRONG_SCRIPTS: [(&str, u32); 24] = [
+static WRONG_SCRIPTS: [(&str, u32); 12] = [
     ("repeat,0,3,1,9", 1),
     ("repeat,0,3,1,0", 1),
     ("repeat,0,3,1", 1),
-    ("repeat,0,3,1,1,1", 1),
-    ("repeat,0,3,1,01", 1),
-    ("repeat,0,3,1,", 1),
     ("repeat,0,3,0,1", 1),
-    ("repeat,3,0,1,1", 1),
     ("drop,2,2,1,1", 1),
-    ("drop,2,2,1,", 1),
     ("drop,2,2", 1),
-    ("drop,2,2,0", 1),
     ("drop,3,2,1", 1),
     ("drop,02,2,1", 1),
     ("drop,2,4294967296,1", 1),
     ("Drop,2,2,1", 1),
-    ("drop ,2,2,1", 1),
-    (" drop,2,2,1", 1),
-    ("2,2,1", 1),
-    ("3,5,2,p", 1),
     ("\"drop,2,2,1\n", 1),
-    ("\n\r\nkeep,2,2,1", 1),
-    ("drop,2,2,1\nrepeat,0,3,1,9", 2),
     ("drop,2,2,1\r\n\r\nDrop,2,2,1\r\nkeep", 2),
 ];
 
@@ -192,10 +141,8 @@ fn long_texts(rt: HostRuntime) -> Result<(), Fail> {
     // The most bytes that are read: no rows, and one wrong row.
     assert_ending(&rt, &planned(&lines[1..]), &done(&store, &[]))?;
     assert_refused(&rt, planned(&letters[1..]), Refusal::BadSide { row: 1 })?;
-    for text in [&lines, &letters] {
-        assert_refused(&rt, planned(text), Refusal::SideTooLong)?;
-        let scripted = with_both(BY_SCRIPT, &[], text);
-        assert_refused(&rt, scripted, Refusal::SideTooLong)?;
-    }
-    Ok(())
+    assert_refused(&rt, planned(&lines), Refusal::SideTooLong)?;
+    assert_refused(&rt, planned(&letters), Refusal::SideTooLong)?;
+    let scripted = with_both(BY_SCRIPT, &[], &lines);
+    assert_refused(&rt, scripted, Refusal::SideTooLong)
 }

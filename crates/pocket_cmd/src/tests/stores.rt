@@ -175,7 +175,7 @@ fn faulty_stores(rt: HostRuntime) -> Result<(), Fail> {
             kind: *kind,
         };
         let store = bytes_of(rt.alloc(), store)?;
-        let wanted = refused(refusal, output, HEADER);
+        let wanted = refused(refusal, output, HEADER.as_bytes());
         assert_both(&rt, with_input(EIGHT_BITS, &store), &wanted)?;
     }
     Ok(())
