@@ -1,5 +1,8 @@
--- Words for worked runs.
-use Rattle.std.specs.Prelude.{ℕ, List, None}
+-- Words for worked runs and histories.
+use Rattle.std.specs.Prelude.{ℕ, false, List, [], ◌∷◌, nat_lt, ◌&&◌, if◌then◌else◌, None}
+use Rattle.bit_vectors.specs.declared.flags.Flags.{Flags}
+use Rattle.bit_vectors.specs.Vectors.{bits_of}
+use Rattle.mask_update.specs.Histories.{History, history_of}
 use Rattle.ground_chain.specs.declared.verdict.Kind.TheVariants.{Written}
 use Rattle.ground_chain.specs.declared.verdict.Verdict.{Verdict}
 use Rattle.ground_chain.specs.Run.{Arrival}
@@ -10,3 +13,14 @@ arrival count body = record { count = count; body = body }
 -- a packet is written that follows the one before
 abbrev pub written_verdict : ℕ → Verdict
 written_verdict t = record { lost = None; t = t; kind = Written }
+
+-- four packets of 8 bits, B0 B1 B1 B3 in hexadecimal, with the required robustness 1 and no flags beyond the forced ones
+abbrev pub no_flags : ℕ → Flags
+no_flags t = record { p = false; f = false; r = false }
+
+abbrev pub four_packets : History
+four_packets = history_of (bits_of (0xB0 ∷ []) ∷ bits_of (0xB1 ∷ []) ∷ bits_of (0xB1 ∷ []) ∷ bits_of (0xB3 ∷ []) ∷ []) no_flags (λ _. 1) 8 (bits_of (0x00 ∷ []))
+
+-- the packets from one number to another are lost, and all others arrive once
+abbrev pub lost_between : ℕ → ℕ → ℕ → ℕ
+lost_between first last t = if nat_lt t first then 1 else if nat_lt last t then 1 else 0

@@ -1,6 +1,6 @@
 //! What the run makes of the packets of a history, of which each arrives so many times.
 
-ghost use Rattle.std.specs.Prelude.{◌≡◌, ◌<◌, ◌≤◌, ◌^◌, ◌∷◌, ◌++◌, ◌+◌, ℕ, length, All, List, None, Some, map};
+ghost use Rattle.std.specs.Prelude.{◌≡◌, ◌<◌, ◌≤◌, ◌^◌, ◌∷◌, ◌++◌, ◌+◌, ℕ, [], length, codes, All, List, None, Some, map};
 ghost use Rattle.std.specs.List.{flat_map, last_or};
 ghost use Rattle.mask_update.specs.Histories.{History, IsValid};
 ghost use Rattle.packet_encode.specs.Deliveries.{Lost, arrivals, count_up_to, latest_written, listed_numbers};
@@ -12,7 +12,8 @@ ghost use Rattle.loss_player.specs.Played.{played_bytes};
 ghost use Rattle.desk_ports.specs.Courses.{owed};
 ghost use Rattle.ground_chain.specs.Restoring.{arrivals_of, restore_course, store_run};
 ghost use Rattle.ground_chain.specs.Run.{known_after, run};
-ghost use Rattle.ground_chain.specs.Report.{run_bytes, run_rows, run_report, restored_of};
+ghost use Rattle.ground_chain.specs.Report.{header_row, run_bytes, run_rows, run_report, restored_of};
+ghost use Rattle.ground_chain.specs.Worked.{four_packets, lost_between};
 ghost use Rattle.ground_chain.specs.Deliveries.{ListedRow, TellsOf, arrival_at, history_arrivals, restored_bytes, listed_rows, row_numbers, row_text, delivered_numbers, report_text};
 
 use crate::verdict::Kind;
@@ -84,4 +85,17 @@ pub fn played_histories_are_restored()
     ensures numbers { (h : History) (copies : ℕ → ℕ) (apid : ℕ) → IsValid h → apid ≤ 2046 → AreGapsShort copies (length h.steps)
         → (walk (Some apid) (played_bytes copies apid (store_of h apid))).ending ≡ None
         → restored_of (store_run h.places apid (played_bytes copies apid (store_of h apid))) ≡ delivered_numbers h copies }
+{}
+
+/// What is restored of a worked history of four packets, of which some are lost.
+pub fn worked_deliveries()
+    // The third is lost, and the level of the fourth reaches over it.
+    ensures restored { restored_bytes four_packets (lost_between 2 2) ≡ 0xB0 ∷ 0xB1 ∷ 0xB3 ∷ [] }
+    ensures lost { report_text four_packets (lost_between 2 2) ≡ header_row ++ codes "2,2,lost,0\nend,3,3,0\n" }
+    // The second is lost too: the level of the fourth doesn't reach over both.
+    ensures first { restored_bytes four_packets (lost_between 1 2) ≡ 0xB0 ∷ [] }
+    ensures gap { report_text four_packets (lost_between 1 2) ≡ header_row ++ codes "1,2,lost,0\n3,3,gap,1\nend,2,1,0\n" }
+    // The first two are lost, and nothing is known when the third arrives.
+    ensures none { restored_bytes four_packets (lost_between 0 1) ≡ [] }
+    ensures unsynced { report_text four_packets (lost_between 0 1) ≡ header_row ++ codes "0,1,lost,0\n2,2,unsynced,0\n3,3,unsynced,0\nend,2,0,0\n" }
 {}
