@@ -74,7 +74,7 @@ fn desk_of(alloc: Global, chain: &Chain<'_>, one_byte: bool) -> Result<MemDesk, 
     Ok(desk)
 }
 
-/// The recording is compressed; its store gives it back; the store is played, and what was played is restored.
+/// The recording is compressed, its store is played, and what was played is restored.
 pub fn assert_chain(
     rt: &(impl Abort + AllocGlobal),
     chain: &Chain<'_>,
@@ -82,14 +82,23 @@ pub fn assert_chain(
 ) -> Result<MemDesk, Fail> {
     let mut desk = desk_of(rt.alloc(), chain, one_byte)?;
     assert_done(rt, COMPRESS, chain.flight, &mut desk)?;
-    assert_done(rt, GIVE_BACK, chain.ground, &mut desk)?;
     assert_done(rt, PLAY, "", &mut desk)?;
     assert_done(rt, RESTORE, chain.ground, &mut desk)?;
     let play_report = joined(rt.alloc(), PLAY_HEADER, chain.played)?;
     let report = joined(rt.alloc(), HEADER, chain.report)?;
-    assert_kept(rt, chain, &desk, "given_back", chain.recording);
     assert_kept(rt, chain, &desk, "play_report", play_report.as_bytes());
     assert_kept(rt, chain, &desk, "restored", chain.restored);
     assert_kept(rt, chain, &desk, "report", report.as_bytes());
     Ok(desk)
+}
+
+/// The store gives the recording back.
+pub fn assert_given_back(
+    rt: &(impl Abort + AllocGlobal),
+    chain: &Chain<'_>,
+    desk: &mut MemDesk,
+) -> Result<(), Fail> {
+    assert_done(rt, GIVE_BACK, chain.ground, desk)?;
+    assert_kept(rt, chain, desk, "given_back", chain.recording);
+    Ok(())
 }

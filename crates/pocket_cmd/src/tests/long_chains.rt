@@ -1,6 +1,6 @@
 //! Long recordings and large packets through the three commands.
 
-use super::chain::{Chain, assert_chain};
+use super::chain::{Chain, assert_chain, assert_given_back};
 use std::alloc::{AllocError, Global};
 use std::test::Fail;
 
@@ -92,7 +92,8 @@ fn packets_of_the_most_bits(rt: HostRuntime) -> Result<(), Fail> {
         restored: &recording,
         report: "end,2,2,0\n",
     };
-    let desk = assert_chain(&rt, &chain, false)?;
+    let mut desk = assert_chain(&rt, &chain, false)?;
+    assert_given_back(&rt, &chain, &mut desk)?;
     let store = desk.get("store");
     assert_eq!(rt; store.len(), 43_031);
     assert_eq!(rt; &store[..6], FIRST_HEADER);
@@ -147,6 +148,6 @@ fn a_thousand_counters(rt: HostRuntime) -> Result<(), Fail> {
             197,197,gap,4\n198,198,gap,5\n199,199,gap,6\n205,207,lost,0\n530,533,lost,0\n\
             end,1004,979,20\n",
     };
-    assert_chain(&rt, &chain, false)?;
-    Ok(())
+    let mut desk = assert_chain(&rt, &chain, false)?;
+    assert_given_back(&rt, &chain, &mut desk)
 }
