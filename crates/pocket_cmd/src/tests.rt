@@ -7,6 +7,7 @@ mod faults;
 mod long_chains;
 mod played;
 mod recordings;
+mod rehearsals;
 mod samples;
 mod short_chains;
 mod sides;

@@ -174,7 +174,7 @@ fn answer_to(alloc: Global, words: &[String], desk: &mut MemDesk) -> Status {
     pocket(alloc, &words[..few], desk)
 }
 
-fn words_of(alloc: Global, line: &str) -> Result<Vec<String>, AllocError> {
+pub fn words_of(alloc: Global, line: &str) -> Result<Vec<String>, AllocError> {
     let mut words = Vec::new(alloc);
     for word in line.split_ascii_whitespace() {
         words.push(String::from_str(alloc, word)?)?;
