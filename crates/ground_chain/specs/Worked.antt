@@ -1,5 +1,5 @@
 -- Words for worked runs and histories.
-use Rattle.std.specs.Prelude.{ℕ, false, List, [], ◌∷◌, nat_lt, ◌&&◌, if◌then◌else◌, None}
+use Rattle.std.specs.Prelude.{ℕ, false, List, [], ◌∷◌, nat_lt, if◌then◌else◌, None}
 use Rattle.bit_vectors.specs.declared.flags.Flags.{Flags}
 use Rattle.bit_vectors.specs.Vectors.{bits_of}
 use Rattle.mask_update.specs.Histories.{History, history_of}

@@ -1,21 +1,18 @@
 -- What the commands hand on to one another.
-use Rattle.std.proofs.Common.{◌≡◌, ℕ, ◌+◌, ◌^◌, ◌<◌, ◌≤◌, ◌==◌, Bool, true, List, [], ◌∷◌, length, map, All, Option, Some, None, refl, sym, ap, ◌∙◌, subst, append-nil, arith}
-use Rattle.std.specs.List.{count_by, range_with_len}
-use Rattle.std.proofs.lemmas.List.FromFn.{length-map-range_with_len, length-range_with_len}
+use Rattle.std.proofs.Common.{◌≡◌, ℕ, ◌^◌, ◌<◌, ◌≤◌, List, [], length, All, sym, ap, ◌∙◌, subst, append-nil, arith}
 use Rattle.desk_ports.specs.Courses.{Outputs, by_ending, no_outputs, owed, to_output, to_report}
 use Rattle.mask_update.specs.Histories.{History, IsValid}
 use Rattle.mask_update.proofs.HistoriesOf.{IsValid-history_of}
 use Rattle.side_tables.specs.Grammar.{copy_rows_of, flag_rows_of}
 use Rattle.side_tables.specs.Rows.{copies_of, flags_of}
 use Rattle.packet_encode.specs.Deliveries.{arrivals}
-use Rattle.packet_store.specs.SpacePackets.{Packet, is_chosen}
-use Rattle.packet_store.specs.Walks.{Walk, walk}
+use Rattle.packet_store.specs.Walks.{Walk}
 use Rattle.flight_chain.specs.Recordings.{recording_walk}
 use Rattle.flight_chain.specs.Stores.{store_of}
-use Rattle.flight_chain.specs.Compressing.{compress_course, history_by}
+use Rattle.flight_chain.specs.Compressing.{compress_course}
 use Rattle.flight_chain.proofs.Recordings.{IsWalk-recording}
 use Rattle.loss_player.specs.Gaps.{AreGapsShort}
-use Rattle.loss_player.specs.Played.{chosen_count, played_bytes, played_of, store_numbers}
+use Rattle.loss_player.specs.Played.{played_bytes, played_of, store_numbers}
 use Rattle.loss_player.specs.Playing.{play_course}
 use Rattle.loss_player.specs.Report.{play_report}
 use Rattle.ground_chain.proofs.PlayedHistories.{count-chosen, walk-played, whole-store_of}

@@ -1,10 +1,10 @@
 -- What a command that is done has written.
-use Rattle.std.proofs.Common.{◌≡◌, ℕ, List, [], ◌++◌, Option, Some, None, IfSome, refl, sym, ap, ◌∙◌, subst}
+use Rattle.std.proofs.Common.{◌≡◌, ℕ, List, [], Option, Some, None, IfSome, refl, sym, ap, ◌∙◌, subst}
 use Rattle.std.specs.Io.KnownBytes.{append_known}
 use Rattle.std.specs.Option.{option_map}
 use Rattle.desk_ports.specs.declared.desk.Inlet.TheVariants as inlet
 use Rattle.desk_ports.specs.declared.desk.Outlet.TheVariants as outlet
-use Rattle.desk_ports.specs.Courses.{Course, Outputs, owed}
+use Rattle.desk_ports.specs.Courses.{Course, owed}
 use Rattle.desk_ports.specs.Meanings.{Meanings, made}
 use Rattle.pocket_cmd.specs.declared.fault.DataFault.{DataFault}
 use Rattle.pocket_cmd.specs.Command.{Command, Names, names_of}

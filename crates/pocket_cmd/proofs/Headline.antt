@@ -1,8 +1,7 @@
 -- What restoring the played store of a history writes, and which commands are done.
-use Rattle.std.proofs.Common.{◌≡◌, ◌≢◌, ℕ, ◌^◌, ◌≤◌, arith, nat_lt, Bool, false, cond, List, [], length, Option, Some, None, Result, Ok, Err, refl, sym, ap, ◌∙◌, subst}
+use Rattle.std.proofs.Common.{◌≡◌, ℕ, ◌^◌, ◌≤◌, arith, nat_lt, false, cond, List, [], length, Option, Some, None, Result, refl, sym, ap, ◌∙◌, subst}
 use Rattle.std.proofs.lemmas.Bool.Decides.{nat_tests}
 use Rattle.std.specs.Option.{option_map}
-use Rattle.desk_ports.specs.declared.desk.Inlet.TheVariants as inlet
 use Rattle.desk_ports.specs.Courses.{Outputs, owed}
 use Rattle.desk_ports.specs.Meanings.{Meanings}
 use Rattle.mask_update.specs.Histories.{History}
@@ -14,14 +13,12 @@ use Rattle.ground_chain.specs.Deliveries.{report_text, restored_bytes}
 use Rattle.ground_chain.specs.Restoring.{restore_course}
 use Rattle.ground_chain.proofs.DeliveredRuns.{owed-played}
 use Rattle.ground_chain.proofs.PlayedHistories.{walk-played}
-use Rattle.pocket_cmd.specs.declared.status.Status.{Status}
 use Rattle.pocket_cmd.specs.declared.status.Status.TheVariants.{Done, Refused}
 use Rattle.pocket_cmd.specs.declared.status.Refusal.{Refusal}
 use Rattle.pocket_cmd.specs.declared.status.Refusal.TheVariants as refusal
 use Rattle.pocket_cmd.specs.Command.{Command, Compress, Play, Restore, RestoreValues, IsChosen, names_of}
 use Rattle.pocket_cmd.specs.Courses.{course_of, of_recording, of_store}
 use Rattle.pocket_cmd.specs.Delivery.{HasWritten, IsPlayedStore, IsSideRight, IsWhole}
-use Rattle.pocket_cmd.specs.Openings.{given}
 use Rattle.pocket_cmd.specs.Outcome.{AfterCommand, Stands, answer_by, answer_to, by_row}
 use Rattle.pocket_cmd.specs.Status.{status_by, status_of}
 use Rattle.pocket_cmd.proofs.Delivered.{HasWritten-stands}
