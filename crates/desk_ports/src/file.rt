@@ -3,15 +3,18 @@ ghost use Rattle.desk_ports.specs.Meanings.{nothing_told, Counts, HasWriteCause}
 
 use crate::desk::{Desk, Failed, Inlet, Outlet};
 use std::fs::File;
-use std::io::{BufWriter, Read, Stdin, Stdout, Write};
+use std::io::{BufReader, BufWriter, Read, Stdin, Stdout, Write};
 use std::{fs, io};
 
-// Where the bytes of an inlet come from.
+/// How many bytes of an inlet are read at once.
+const READ_AHEAD: usize = 131_072;
+
+// Where the bytes of an inlet come from. They are read many at once.
 #[derive(Drop)]
 enum Source {
     Nothing,
-    StandardInput(Stdin),
-    File(File),
+    StandardInput(BufReader<Stdin>),
+    File(BufReader<File>),
 }
 
 impl Source {
@@ -22,9 +25,11 @@ impl Source {
         ensures { IfOk result (λ source. IsTrue (is_opened_source source)) }
     {
         if name == "-" {
-            return Ok(Source::StandardInput(rt.stdin()));
+            let stdin = BufReader::with_capacity(rt.alloc(), READ_AHEAD, rt.stdin())?;
+            return Ok(Source::StandardInput(stdin));
         }
-        Ok(Source::File(fs::open(rt, name)?))
+        let file = BufReader::with_capacity(rt.alloc(), READ_AHEAD, fs::open(rt, name)?)?;
+        Ok(Source::File(file))
     }
 
     fn read(&mut self, buf: &mut [u8]) -> io::Result<usize>
@@ -93,8 +98,9 @@ impl Sink {
 /// The desk over real files. The name `-` is standard input for an inlet and standard output for an outlet.
 ///
 /// It tells no content, since no clause can say what a file holds. Each error of the system is a fault,
-/// and so is a write that takes nothing. What is written is gathered, up to 131,072 bytes for each outlet, and
-/// handed to the system when there is no more room, at `finish` and by `hand_over`.
+/// and so is a write that takes nothing. Of each inlet up to 131,072 bytes are read ahead. What is written is gathered,
+/// up to 131,072 bytes for each outlet, and handed to the system when there is no more room, at `finish` and by
+/// `hand_over`.
 #[derive(Drop)]
 pub struct FileDesk<'a> {
     rt: &'a HostRuntime,
