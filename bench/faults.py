@@ -1,0 +1,167 @@
+#!/usr/bin/env python3
+"""Lets each allocation, opening, read and write of the three commands fail in turn, and prints what each then answered.
+
+Takes the proved program: bench/faults.py crates/pocket/out/pocket. It compiles faults.c with gcc, and runs the commands on
+the sample of four packets in a temporary folder. A failed run must end with the number and the text of its fault, and leave
+fronts of the outputs of the whole run, or no output where memory was wanting; a short read or write must change nothing.
+Then it counts the calls for recordings of one and of a thousand packets. Its status is 1 where something was otherwise.
+"""
+
+import os
+import subprocess
+import sys
+import tempfile
+
+HERE = os.path.dirname(os.path.abspath(__file__))
+
+RECORDING = bytes([0xB0, 0xB1, 0xB1, 0xB3])
+
+COMMANDS = {
+    "compress": (["compress", "in=rec", "out=OUT", "bits=8", "apid=100", "robust=1", "plan=plan"], 1),
+    "play": (["play", "in=store", "out=OUT", "report=REPORT", "apid=100", "script=script"], 2),
+    "restore": (["restore", "in=played", "out=OUT", "report=REPORT", "bits=8", "apid=100"], 2),
+}
+
+KINDS = {"a": "allocation", "o": "opening", "r": "read", "w": "write", "s": "short read", "t": "short write"}
+
+WANTED = {
+    "a": {(5, "pocket: out of memory"), (1, "pocket: reading failed"), (1, "pocket: writing failed")},
+    "o": {(1, "pocket: reading failed"), (1, "pocket: writing failed")},
+    "r": {(1, "pocket: reading failed")},
+    "w": {(1, "pocket: writing failed")},
+    "s": {(0, "")},
+    "t": {(0, "")},
+}
+
+
+class Runner:
+    """Runs the program in a folder, with one call failing or none."""
+
+    def __init__(self, program, folder):
+        self.program = os.path.abspath(program)
+        self.folder = folder
+        self.shim = os.path.join(folder, "faults.so")
+        source = os.path.join(HERE, "faults.c")
+        subprocess.run(["gcc", "-O1", "-shared", "-fPIC", "-o", self.shim, source, "-ldl"], check=True)
+
+    def path(self, name):
+        return os.path.join(self.folder, name)
+
+    def put(self, name, data):
+        with open(self.path(name), "wb") as file:
+            file.write(data)
+
+    def get(self, name):
+        try:
+            with open(self.path(name), "rb") as file:
+                return file.read()
+        except FileNotFoundError:
+            return None
+
+    def run(self, words, kind="", nth=0):
+        """Its exit number, its text, both outputs, and the letters of its calls."""
+        for name in ("OUT", "REPORT", "log"):
+            if os.path.exists(self.path(name)):
+                os.remove(self.path(name))
+        env = dict(os.environ, LD_PRELOAD=self.shim, FAULT_LOG=self.path("log"))
+        if kind:
+            env.update(FAULT_CALL=kind, FAULT_NTH=str(nth))
+        ended = subprocess.run([self.program] + words, cwd=self.folder, env=env, capture_output=True)
+        answer = (ended.returncode, ended.stderr.decode().strip())
+        return answer, self.get("OUT"), self.get("REPORT"), (self.get("log") or b"").decode()
+
+
+def is_front(part, whole):
+    return part is None or whole is not None and whole.startswith(part)
+
+
+def judge(kind, answer, out, report, whole):
+    """What is wrong with a run in which a call failed, or None."""
+    if kind in "st":
+        return None if (answer, out, report) == ((0, ""), whole[0], whole[1]) else "a short call changed it"
+    if answer not in WANTED[kind]:
+        return "an answer of another fault"
+    if answer[0] == 5 and (out is not None or report is not None):
+        return "an output after want of memory"
+    if not is_front(out, whole[0]) or not is_front(report, whole[1]):
+        return "an output that is no front"
+    return None
+
+
+def fail_all(runner, name):
+    """Lets each call of a command fail; tells how many runs were otherwise than they must be."""
+    words, _ = COMMANDS[name]
+    answer, out, report, calls = runner.run(words)
+    if answer != (0, ""):
+        print(f"{name}: {answer} with no fault")
+        return 1
+    wrong = 0
+    for kind, what in KINDS.items():
+        of = calls.count({"s": "r", "t": "w"}.get(kind, kind))
+        answers = {}
+        for nth in range(1, of + 1):
+            got, part, rows, _ = runner.run(words, kind, nth)
+            answers.setdefault(got, []).append(nth)
+            fault = judge(kind, got, part, rows, (out, report))
+            if fault:
+                wrong += 1
+                print(f"{name}: {what} {nth}: {got}: {fault}")
+        told = "; ".join(f"{span(nths)}: {code} {text}".rstrip() for (code, text), nths in answers.items())
+        print(f"{name}: each {what} of {of}: {told}")
+    return wrong
+
+
+def span(numbers):
+    """Numbers that follow one another, in short."""
+    parts = []
+    for n in numbers:
+        if parts and parts[-1][1] == n - 1:
+            parts[-1][1] = n
+        else:
+            parts.append([n, n])
+    return ", ".join(str(a) if a == b else f"{a} to {b}" for a, b in parts)
+
+
+def after_opening(calls):
+    """The allocations behind the first read or write that comes after the last opening."""
+    rest = calls[calls.rindex("o") + 1:]
+    first = min((rest.find(c) for c in "rw" if c in rest), default=len(rest))
+    return rest[first:].count("a")
+
+
+def count_calls(runner, packets):
+    """The allocations of the three commands for a recording of so many packets, and those after the outputs are opened."""
+    runner.put("rec", bytes((t // 7) % 256 for t in range(packets)))
+    counts = []
+    for name, into in (("compress", "store"), ("play", "played"), ("restore", "")):
+        answer, out, _, calls = runner.run(COMMANDS[name][0])
+        if answer != (0, ""):
+            print(f"{name} of {packets} packets: {answer}")
+        if into:
+            runner.put(into, out)
+        counts.append((name, calls.count("a"), after_opening(calls)))
+    return counts
+
+
+def main():
+    if len(sys.argv) != 2:
+        sys.exit(__doc__)
+    with tempfile.TemporaryDirectory() as folder:
+        runner = Runner(sys.argv[1], folder)
+        runner.put("rec", RECORDING)
+        runner.put("plan", b"3,3,1,fr\n")
+        runner.put("script", b"drop,2,2,1\n")
+        wrong = 0
+        for name, into in (("compress", "store"), ("play", "played"), ("restore", "")):
+            wrong += fail_all(runner, name)
+            if into:
+                runner.put(into, runner.run(COMMANDS[name][0])[1])
+        one, many = count_calls(runner, 1), count_calls(runner, 1000)
+        for (name, few, behind), (_, more, later) in zip(one, many):
+            print(f"{name}: {few} allocations for 1 packet, {more} for 1,000; {behind} and {later} after the outputs are opened")
+            wrong += few != more or behind != 0 or later != 0
+        sys.exit(1 if wrong else 0)
+
+
+if __name__ == "__main__":
+    main()
