@@ -73,6 +73,7 @@ Ends-behind {F = F} course_of here a b c ending p q =
       input = p.taken ++ q.input;
       went = subst (Went a c (p.taken ++ q.input)) (sym (ap owed course ∙ owed-behind p.stand (here q.input))) (Went-then a b c p.taken q.input p.stand (owed (here q.input)) p.ran q.went);
       ends = ap (λ (k : Course F). k.ending) course ∙ q.ends;
+      read_out = q.read_out;
     }
 
 IsCutOff-behind : {F : Type 0} (course_of here : List ℕ → Course F) (a b c : Meanings) → Reaches course_of here a b → IsCutOff here b c → IsCutOff course_of a c
@@ -103,6 +104,7 @@ IsAtLast-behind course_of here a b c last p q = record {
   input = p.taken ++ q.input;
   stand = put p.stand q.stand;
   went = Went-then a b c p.taken q.input p.stand q.stand p.ran q.went;
+  read_out = q.read_out;
   ends = p.goes_on q.input ∙ ap (behind p.stand) q.ends;
 }
 
@@ -151,6 +153,7 @@ Ends-fault here a b taken rest fault moves told nothing ends =
       input = taken ++ rest;
       went = subst (Went a b (taken ++ rest)) (sym owes) (record { taken = taken; rest = rest; split = refl; told = told; ran = Ran-moves a b taken moves });
       ends = ends;
+      read_out = λ whole. absurd cc;
     }
 
 pub IfSome-IsAtEnd : (left : Option (List ℕ)) → IsAtEnd left → IfSome left (λ bytes. bytes ≡ [])
@@ -159,12 +162,15 @@ IfSome-IsAtEnd (Some bytes) at_end = at_end
 
 -- the input is at its end
 pub IsAtLast-end : {F : Type 0} (here : List ℕ → Course F) (a b : Meanings) (last : Outputs) → Moves a b inlet.Main [] → IsAtEnd (left a inlet.Main) → here [] ≡ record { before = no_outputs; after = last; ending = None } → IsAtLast here a b last
-IsAtLast-end here a b last moves at_end ends = record {
-  input = [];
-  stand = no_outputs;
-  went = record { taken = []; rest = []; split = refl; told = IfSome-IsAtEnd (left b inlet.Main) (subst IsAtEnd (moves.moved ∙ sym (prepend_known-none (left b inlet.Main))) at_end); ran = Ran-moves a b [] moves };
-  ends = ends;
-}
+IsAtLast-end here a b last moves at_end ends =
+    let read_out = IfSome-IsAtEnd (left b inlet.Main) (subst IsAtEnd (moves.moved ∙ sym (prepend_known-none (left b inlet.Main))) at_end) in
+    record {
+      input = [];
+      stand = no_outputs;
+      went = record { taken = []; rest = []; split = refl; told = read_out; ran = Ran-moves a b [] moves };
+      read_out = read_out;
+      ends = ends;
+    }
 
 -- behind a run that took all of its input nothing more was taken
 Went-adds : (a b c : Meanings) (input : List ℕ) (stand more : Outputs) → Went a b input stand → Ran b c [] more.output more.report → Went a c input (put stand more)
@@ -182,6 +188,7 @@ Ends-done {F = F} course_of a b c last at ran = record {
   input = at.input;
   went = subst (Went a c at.input) (sym (ap owed at.ends)) (Went-adds a b c at.input at.stand last at.went ran);
   ends = ap (λ (k : Course F). k.ending) at.ends;
+  read_out = λ whole. subst (λ l. IfSome l (λ bytes. bytes ≡ [])) (ran.input ∙ sym (prepend_known-none (left c inlet.Main))) at.read_out;
 }
 
 -- the last part is a row of the report, whose writing failed

@@ -58,11 +58,16 @@ pub record Went (old new : Meanings) (input : List ℕ) (stand : Outputs) : Type
   pub told : IfSome (left new inlet.Main) (λ bytes. bytes ≡ rest)
   pub ran : Ran old new taken stand.output stand.report
 
--- the course of the input ends so, and all that it owes stands
+-- nothing is left of the main input, where the desk tells it
+abbrev pub IsReadOut : Meanings → Type 0
+IsReadOut m = IfSome (left m inlet.Main) (λ bytes. bytes ≡ [])
+
+-- the course of the input ends so, and all that it owes stands; an input without a fault was read to its end
 pub record Ends {F : Type 0} (course_of : List ℕ → Course F) (old new : Meanings) (ending : Option F) : Type 0 where
   pub input : List ℕ
   pub went : Went old new input (owed (course_of input))
   pub ends : (course_of input).ending ≡ ending
+  pub read_out : ending ≡ None → IsReadOut new
 
 -- a reading failed: what stands is what the bytes owe that were taken, with none of what a whole input adds
 pub record IsCutOff {F : Type 0} (course_of : List ℕ → Course F) (old new : Meanings) : Type 0 where
@@ -104,6 +109,7 @@ pub record IsAtLast {F : Type 0} (course_of : List ℕ → Course F) (old new : 
   pub input : List ℕ
   pub stand : Outputs
   pub went : Went old new input stand
+  pub read_out : IsReadOut new
   pub ends : course_of input ≡ record { before = stand; after = last; ending = None }
 
 -- after a turn of a run, by its answer: true where the run goes on with another course, false where only the last part

@@ -16,12 +16,18 @@ by_ending-named name (Some fault) before after = refl
 pub owed-with_fault : {F G : Type 0} (name : F → G) (course : Course F) → owed course ≡ owed (with_fault name course)
 owed-with_fault name course = by_ending-named name course.ending course.before course.after
 
+-- it has a fault where it had one
+pub unmapped : {A B : Type 0} (f : A → B) (o : Option A) → option_map f o ≡ None → o ≡ None
+unmapped f None e = refl
+unmapped f (Some x) e = absurd cc
+
 -- and what stands after a run is the same
 pub Ends-with_fault : {F G : Type 0} (name : F → G) (course_of : List ℕ → Course F) (old new : Meanings) (ending : Option F) → Ends course_of old new ending → Ends (λ input. with_fault name (course_of input)) old new (option_map name ending)
 Ends-with_fault name course_of old new ending e = record {
   input = e.input;
   went = subst (Went old new e.input) (owed-with_fault name (course_of e.input)) e.went;
   ends = ap (option_map name) e.ends;
+  read_out = λ whole. e.read_out (unmapped name ending whole);
 }
 
 pub AfterStop-with_fault : {F G : Type 0} (name : F → G) (course_of : List ℕ → Course F) (old new : Meanings) (stop : Stop F) → AfterStop course_of old new stop → AfterStop (λ input. with_fault name (course_of input)) old new (stop_with name stop)

@@ -22,12 +22,8 @@ use Rattle.pocket_cmd.specs.Delivery.{HasWritten, IsPlayedStore, IsSideRight, Is
 use Rattle.pocket_cmd.specs.Outcome.{AfterCommand, Stands, answer_by, answer_to, by_row}
 use Rattle.pocket_cmd.specs.Status.{status_by, status_of}
 use Rattle.pocket_cmd.proofs.Delivered.{HasWritten-stands}
-use Rattle.pocket_cmd.proofs.Faults.{owed-with_fault}
+use Rattle.pocket_cmd.proofs.Faults.{owed-with_fault, unmapped}
 use Rattle.pocket_cmd.proofs.Performed.{Stands-answer, ending_is}
-
-unmapped : {A B : Type 0} (f : A → B) (o : Option A) → option_map f o ≡ None → o ≡ None
-unmapped f None e = refl
-unmapped f (Some x) e = absurd cc
 
 -- what a done restoration of such a store has written
 HasWritten-played : (r : RestoreValues) (h : History) (copies : ℕ → ℕ) (old new : Meanings) → IsChosen r.apid → IsPlayedStore r h copies old → Stands (Restore r) old new None
