@@ -2,7 +2,7 @@
 use Rattle.std.proofs.Common.{◌≡◌, ◌≤◌, Bool, true, false, cond, List, [], ◌∷◌, ◌++◌, length, ◌⊎◌, refl, sym, ap, ◌∙◌, subst, arith, append_assoc, inl, inr}
 use Rattle.std.proofs.lemmas.List.{length-append}
 use Rattle.std.proofs.lemmas.Bool.{cases_lt, true≢false}
-use Rattle.bit_vectors.specs.Reading.{Reading, Read, WrongBit, TooShort, ◌>>=◌, bit_where, CanBegin, IsWrongBefore, IsExact}
+use Rattle.bit_vectors.specs.Reading.{Parsed, Read, WrongBit, TooShort, ◌>>=◌, bit_where, CanBegin, IsWrongBefore, IsExact}
 
 -- ---- two ways to cut a list
 
@@ -17,16 +17,16 @@ cut_longer (x ∷ a) b (y ∷ c) d e le =
 
 -- ---- single steps
 
-pub read_same : {A : Type 0} (x y : A) (r s : List Bool) → ◌≡◌ {A = Reading A} (Read x r) (Read y s) → (x ≡ y) × (r ≡ s)
+pub read_same : {A : Type 0} (x y : A) (r s : List Bool) → ◌≡◌ {A = Parsed A} (Read x r) (Read y s) → (x ≡ y) × (r ≡ s)
 read_same x y r s e = (cc, cc)
 
 heads_same : (a b : Bool) (r s : List Bool) → a ∷ r ≡ b ∷ s → a ≡ b
 heads_same a b r s e = cc
 
-read_or_wrong : {A : Type 0} (r : Reading A) (v : A) (s t : List Bool) → r ≡ Read v s → r ≡ WrongBit t → ⊥
+read_or_wrong : {A : Type 0} (r : Parsed A) (v : A) (s t : List Bool) → r ≡ Read v s → r ≡ WrongBit t → ⊥
 read_or_wrong r v s t read wrong = cc
 
-wrong_same : {A : Type 0} (r s : List Bool) → ◌≡◌ {A = Reading A} (WrongBit r) (WrongBit s) → r ≡ s
+wrong_same : {A : Type 0} (r s : List Bool) → ◌≡◌ {A = Parsed A} (WrongBit r) (WrongBit s) → r ≡ s
 wrong_same r s e = cc
 
 -- a reader that takes no bit
@@ -85,7 +85,7 @@ IsExact-bit_where ok some some_ok = record {
 }
 
 -- the same words, said in another way
-pub IsExact-same : {A : Type 0} (W U : A → List Bool → Type 0) (f : List Bool → Reading A) → ((v : A) (word : List Bool) → W v word → U v word) → ((v : A) (word : List Bool) → U v word → W v word) → IsExact W f → IsExact U f
+pub IsExact-same : {A : Type 0} (W U : A → List Bool → Type 0) (f : List Bool → Parsed A) → ((v : A) (word : List Bool) → W v word → U v word) → ((v : A) (word : List Bool) → U v word → W v word) → IsExact W f → IsExact U f
 IsExact-same W U f to from exact = record {
   reads = λ v word rest u. exact.reads v word rest (from v word u);
   read_is = λ bits v rest e. let r = exact.read_is bits v rest e in (r.0, to v r.0 r.1, r.2);
@@ -101,17 +101,17 @@ IsExact-same W U f to from exact = record {
 
 -- ---- one reader after another
 
-then_read : {A B : Type 0} (g : A → List Bool → Reading B) (r : Reading A) (u : B) (rest : List Bool) → (r >>= g) ≡ Read u rest → (v : A) × (mid : List Bool) × (r ≡ Read v mid) × (g v mid ≡ Read u rest)
+then_read : {A B : Type 0} (g : A → List Bool → Parsed B) (r : Parsed A) (u : B) (rest : List Bool) → (r >>= g) ≡ Read u rest → (v : A) × (mid : List Bool) × (r ≡ Read v mid) × (g v mid ≡ Read u rest)
 then_read g (Read v mid) u rest e = (v, mid, refl, e)
 then_read g (WrongBit mid) u rest e = absurd cc
 then_read g TooShort u rest e = absurd cc
 
-then_wrong : {A B : Type 0} (g : A → List Bool → Reading B) (r : Reading A) (rest : List Bool) → (r >>= g) ≡ WrongBit rest → (r ≡ WrongBit rest) ⊎ ((v : A) × (mid : List Bool) × (r ≡ Read v mid) × (g v mid ≡ WrongBit rest))
+then_wrong : {A B : Type 0} (g : A → List Bool → Parsed B) (r : Parsed A) (rest : List Bool) → (r >>= g) ≡ WrongBit rest → (r ≡ WrongBit rest) ⊎ ((v : A) × (mid : List Bool) × (r ≡ Read v mid) × (g v mid ≡ WrongBit rest))
 then_wrong g (Read v mid) rest e = inr (v, mid, refl, e)
 then_wrong {B = B} g (WrongBit mid) rest e = inl (let same : mid ≡ rest = wrong_same {A = B} mid rest e in rw same refl)
 then_wrong g TooShort rest e = absurd cc
 
-then_short : {A B : Type 0} (g : A → List Bool → Reading B) (r : Reading A) → (r >>= g) ≡ TooShort → (r ≡ TooShort) ⊎ ((v : A) × (mid : List Bool) × (r ≡ Read v mid) × (g v mid ≡ TooShort))
+then_short : {A B : Type 0} (g : A → List Bool → Parsed B) (r : Parsed A) → (r >>= g) ≡ TooShort → (r ≡ TooShort) ⊎ ((v : A) × (mid : List Bool) × (r ≡ Read v mid) × (g v mid ≡ TooShort))
 then_short g (Read v mid) e = inr (v, mid, refl, e)
 then_short g (WrongBit mid) e = absurd cc
 then_short g TooShort e = inl refl
@@ -120,12 +120,12 @@ then_short g TooShort e = inl refl
 abbrev pub IsWordThen : {A B : Type 0} → (A → List Bool → Type 0) → (A → B → List Bool → Type 0) → B → List Bool → Type 0
 IsWordThen {A} {B} W U u word = (v : A) × (a : List Bool) × (b : List Bool) × W v a × U v u b × (word ≡ a ++ b)
 
-module _ {A B : Type 0} (W : A → List Bool → Type 0) (U : A → B → List Bool → Type 0) (f : List Bool → Reading A) (g : A → List Bool → Reading B)
+module _ {A B : Type 0} (W : A → List Bool → Type 0) (U : A → B → List Bool → Type 0) (f : List Bool → Parsed A) (g : A → List Bool → Parsed B)
     (first : IsExact W f) (second : (v : A) (word : List Bool) → W v word → IsExact (U v) (g v)) (some : (v : A) (word : List Bool) → W v word → (u : B) × (w : List Bool) × U v u w) where
   both_read : (u : B) (word rest : List Bool) → IsWordThen W U u word → (f (word ++ rest) >>= g) ≡ Read u rest
   both_read u word rest t =
       let parts : word ++ rest ≡ t.1 ++ (t.2 ++ rest) = ap (λ (w : List Bool). w ++ rest) t.5 ∙ append_assoc t.1 t.2 rest in
-      ap (λ (bits : List Bool). f bits >>= g) parts ∙ ap (λ (r : Reading A). r >>= g) (first.reads t.0 t.1 (t.2 ++ rest) t.3) ∙ (second t.0 t.1 t.3).reads u t.2 rest t.4
+      ap (λ (bits : List Bool). f bits >>= g) parts ∙ ap (λ (r : Parsed A). r >>= g) (first.reads t.0 t.1 (t.2 ++ rest) t.3) ∙ (second t.0 t.1 t.3).reads u t.2 rest t.4
 
   both_read_is : (bits : List Bool) (u : B) (rest : List Bool) → (f bits >>= g) ≡ Read u rest → (word : List Bool) × IsWordThen W U u word × (bits ≡ word ++ rest)
   both_read_is bits u rest e =

@@ -3,7 +3,7 @@ use Rattle.std.proofs.Common.{◌≡◌, ℕ, ◌+◌, ◌-◌, ◌<◌, ◌≤�
 use Rattle.std.proofs.lemmas.Bool.{cases_lt, le-leb, lt-leb}
 use Rattle.std.proofs.lemmas.List.{length-append, length-take-le, length-drop, length-replicate, take_at, drop_at, take-append-drop, drop_more}
 use Rattle.bit_vectors.specs.Eye.{EyeState, bits_left}
-use Rattle.bit_vectors.specs.Reading.{Reading, Read, WrongBit, TooShort, MovesOn, CanBegin, IsWrongBefore, IsExact, front_at}
+use Rattle.bit_vectors.specs.Reading.{Parsed, Read, WrongBit, TooShort, MovesOn, CanBegin, IsWrongBefore, IsExact, parse_front}
 use Rattle.bit_vectors.proofs.EyeReading.{MovesOn-refl, MovesOn-then}
 
 -- so many bits were taken
@@ -41,16 +41,16 @@ HasTaken-all old eye count taken none =
 
 -- ---- what reading them gives
 
-pub front_at-enough : (count : ℕ) (bits : List Bool) → count ≤ length bits → front_at count bits ≡ Read (take count bits) (drop count bits)
-unfolding front_at
-front_at-enough count bits le = rw (le-leb count (length bits) le) refl
+pub parse_front-enough : (count : ℕ) (bits : List Bool) → count ≤ length bits → parse_front count bits ≡ Read (take count bits) (drop count bits)
+unfolding parse_front
+parse_front-enough count bits le = rw (le-leb count (length bits) le) refl
 
-pub front_at-short : (count : ℕ) (bits : List Bool) → length bits < count → front_at count bits ≡ TooShort
-unfolding front_at
-front_at-short count bits lt = rw (lt-leb count (length bits) lt) refl
+pub parse_front-short : (count : ℕ) (bits : List Bool) → length bits < count → parse_front count bits ≡ TooShort
+unfolding parse_front
+parse_front-short count bits lt = rw (lt-leb count (length bits) lt) refl
 
-pub front_at-taken : (old eye : EyeState) (count : ℕ) → HasTaken old eye count → front_at count (bits_left old) ≡ Read (take count (bits_left old)) (bits_left eye)
-front_at-taken old eye count taken = rw taken.left (front_at-enough count (bits_left old) taken.enough)
+pub parse_front-taken : (old eye : EyeState) (count : ℕ) → HasTaken old eye count → parse_front count (bits_left old) ≡ Read (take count (bits_left old)) (bits_left eye)
+parse_front-taken old eye count taken = rw taken.left (parse_front-enough count (bits_left old) taken.enough)
 
 -- ---- exact
 
@@ -58,39 +58,39 @@ front_at-taken old eye count taken = rw taken.left (front_at-enough count (bits_
 abbrev pub IsFront : ℕ → List Bool → List Bool → Type 0
 IsFront count front word = (length front ≡ count) × (word ≡ front)
 
-same_read : (a b r s : List Bool) → ◌≡◌ {A = Reading (List Bool)} (Read a r) (Read b s) → (a ≡ b) × (r ≡ s)
+same_read : (a b r s : List Bool) → ◌≡◌ {A = Parsed (List Bool)} (Read a r) (Read b s) → (a ≡ b) × (r ≡ s)
 same_read a b r s e = (cc, cc)
 
-front_read_is : (count : ℕ) (bits front rest : List Bool) → front_at count bits ≡ Read front rest → (word : List Bool) × IsFront count front word × (bits ≡ word ++ rest)
+front_read_is : (count : ℕ) (bits front rest : List Bool) → parse_front count bits ≡ Read front rest → (word : List Bool) × IsFront count front word × (bits ≡ word ++ rest)
 front_read_is count bits front rest e =
     elim (cases_lt (length bits) count) [
-      | inl short ↦ let none = front_at-short count bits short in absurd cc
+      | inl short ↦ let none = parse_front-short count bits short in absurd cc
       | inr enough ↦
-          let same = same_read (take count bits) front (drop count bits) rest (sym (front_at-enough count bits enough) ∙ e) in
+          let same = same_read (take count bits) front (drop count bits) rest (sym (parse_front-enough count bits enough) ∙ e) in
           (front, (rw (← same.0) (length-take-le count bits enough), refl), rw (← same.0, ← same.1) (sym (take-append-drop count bits)))
     ]
 
-front_short_is : (count : ℕ) (bits : List Bool) → front_at count bits ≡ TooShort → CanBegin (λ word. (front : List Bool) × IsFront count front word) bits
+front_short_is : (count : ℕ) (bits : List Bool) → parse_front count bits ≡ TooShort → CanBegin (λ word. (front : List Bool) × IsFront count front word) bits
 front_short_is count bits e =
     elim (cases_lt (length bits) count) [
       | inl short ↦
           let rest = replicate (count - length bits) false in
           (rest, (bits ++ rest, (omega (arith, length-append bits rest, length-replicate (count - length bits) false), refl)))
-      | inr enough ↦ let read = front_at-enough count bits enough in absurd cc
+      | inr enough ↦ let read = parse_front-enough count bits enough in absurd cc
     ]
 
-front_wrong_is : (count : ℕ) (bits rest : List Bool) → front_at count bits ≡ WrongBit rest → IsWrongBefore (λ word. (front : List Bool) × IsFront count front word) bits rest
+front_wrong_is : (count : ℕ) (bits rest : List Bool) → parse_front count bits ≡ WrongBit rest → IsWrongBefore (λ word. (front : List Bool) × IsFront count front word) bits rest
 front_wrong_is count bits rest e =
     elim (cases_lt (length bits) count) [
-      | inl short ↦ let none = front_at-short count bits short in absurd cc
-      | inr enough ↦ let read = front_at-enough count bits enough in absurd cc
+      | inl short ↦ let none = parse_front-short count bits short in absurd cc
+      | inr enough ↦ let read = parse_front-enough count bits enough in absurd cc
     ]
 
-pub IsExact-front_at : (count : ℕ) → IsExact (IsFront count) (front_at count)
+pub IsExact-front_at : (count : ℕ) → IsExact (IsFront count) (parse_front count)
 IsExact-front_at count = record {
   reads = λ front word rest w.
       let len : length word ≡ count = rw w.1 w.0 in
-      front_at-enough count (word ++ rest) (omega (arith, length-append word rest)) ∙ rw (take_at word rest count len, drop_at word rest count len, w.1) refl;
+      parse_front-enough count (word ++ rest) (omega (arith, length-append word rest)) ∙ rw (take_at word rest count len, drop_at word rest count len, w.1) refl;
   read_is = front_read_is count;
   wrong_is = front_wrong_is count;
   short_is = front_short_is count;

@@ -7,20 +7,20 @@ use Rattle.bit_vectors.specs.declared.fault.BitFault.TheVariants.{Wrong, EndsEar
 use Rattle.bit_vectors.specs.Eye.{EyeState, bits_left}
 
 -- a value and the bits after it; the bits after the first wrong one; or the bits end before a word does
-pub data Reading (A : Type 0) : Type 0 where
-  Read : A → List Bool → Reading A
-  WrongBit : List Bool → Reading A
-  TooShort : Reading A
+pub data Parsed (A : Type 0) : Type 0 where
+  Read : A → List Bool → Parsed A
+  WrongBit : List Bool → Parsed A
+  TooShort : Parsed A
 
 -- one reader after another, which may look at the first one's value
 infixl 10 ◌>>=◌
-abbrev pub ◌>>=◌ : {A B : Type 0} → Reading A → (A → List Bool → Reading B) → Reading B
+abbrev pub ◌>>=◌ : {A B : Type 0} → Parsed A → (A → List Bool → Parsed B) → Parsed B
 (Read value rest) >>= next = next value rest
 (WrongBit rest) >>= next = WrongBit rest
 TooShort >>= next = TooShort
 
 -- one bit, which must pass a test
-abbrev pub bit_where : (Bool → Bool) → List Bool → Reading Bool
+abbrev pub bit_where : (Bool → Bool) → List Bool → Parsed Bool
 bit_where ok [] = TooShort
 bit_where ok (bit ∷ rest) = if ok bit then Read bit rest else WrongBit rest
 
@@ -29,15 +29,15 @@ abbrev pub allowed : Bool → Bool → Bool → Bool
 allowed zero one bit = if bit then one else zero
 
 -- so many bits, whatever they are
-unfoldable pub front_at : ℕ → List Bool → Reading (List Bool)
-front_at count bits = if nat_le count (length bits) then Read (take count bits) (drop count bits) else TooShort
+unfoldable pub parse_front : ℕ → List Bool → Parsed (List Bool)
+parse_front count bits = if nat_le count (length bits) then Read (take count bits) (drop count bits) else TooShort
 
 -- the bits of a word, and no others
-unfoldable pub same_at : List Bool → List Bool → Reading (Unit {0})
-same_at [] bits = Read tt bits
-same_at (bit ∷ word) bits =
+unfoldable pub parse_word : List Bool → List Bool → Parsed (Unit {0})
+parse_word [] bits = Read tt bits
+parse_word (bit ∷ word) bits =
     bit_where (allowed (not bit) bit) bits
-    >>= λ found rest. same_at word rest
+    >>= λ found rest. parse_word word rest
 
 -- ---- what an eye's reading is
 
@@ -47,7 +47,7 @@ pub record MovesOn (old new : EyeState) : Type 0 where
   pub forward : old.place ≤ new.place
 
 -- what a call answered, seen by view, and how it left the eye, is what reading the bits left gives
-abbrev pub Gives : {A B : Type 0} → (A → B) → Result A BitFault → EyeState → Reading B → Type 0
+abbrev pub Gives : {A B : Type 0} → (A → B) → Result A BitFault → EyeState → Parsed B → Type 0
 Gives view (Ok x) new reading = reading ≡ Read (view x) (bits_left new)
 Gives view (Err (Wrong bit)) new reading = (reading ≡ WrongBit (bits_left new)) × (bit < length new.bits) × (new.place ≡ bit + 1)
 Gives view (Err (EndsEarly bit)) new reading = (reading ≡ TooShort) × (bit ≡ length new.bits) × (new.place ≡ length new.bits)
@@ -67,7 +67,7 @@ pub record IsWrongBefore (IsWord : List Bool → Type 0) (bits rest : List Bool)
   pub hopeless : CanBegin IsWord (front ++ bit ∷ []) → ⊥
 
 -- a reader gives what words of values say, and each fault at the first place
-pub record IsExact {A : Type 0} (IsWordOf : A → List Bool → Type 0) (read : List Bool → Reading A) : Type 0 where
+pub record IsExact {A : Type 0} (IsWordOf : A → List Bool → Type 0) (read : List Bool → Parsed A) : Type 0 where
   pub reads : (value : A) (word rest : List Bool) → IsWordOf value word → read (word ++ rest) ≡ Read value rest
   pub read_is : (bits : List Bool) (value : A) (rest : List Bool) → read bits ≡ Read value rest → (word : List Bool) × IsWordOf value word × (bits ≡ word ++ rest)
   pub wrong_is : (bits rest : List Bool) → read bits ≡ WrongBit rest → IsWrongBefore (λ word. (value : A) × IsWordOf value word) bits rest

@@ -1,6 +1,6 @@
 -- Vectors of bits, and how bits lie in bytes: the bit of the greatest weight of the first byte comes first.
 use Rattle.std.specs.Prelude.{ℕ, zero, suc, ◌+◌, ◌-◌, ◌*◌, ◌/◌, ◌^◌, ◌<◌, ◌≤◌, ◌==◌, Bool, true, false, if◌then◌else◌, List, [], ◌∷◌, ◌++◌, length, take, drop, replicate, slice_index, slice_index_or, ◌≡◌, not, ◌&&◌, ◌||◌}
-use Rattle.std.specs.List.{flat_map}
+use Rattle.std.specs.List.{flat_map, list_any}
 use Rattle.std.specs.Int.{bit_at}
 use Rattle.std.specs.Simd.Lanes.{zip2}
 
@@ -47,6 +47,10 @@ AreBytes bytes = (i : ℕ) → slice_index bytes i < 256
 -- how many bytes so many bits take
 abbrev pub byte_count : ℕ → ℕ
 byte_count count = (count + 7) / 8
+
+-- whether a bit that belongs to no place of so many is one
+abbrev pub has_spare_bit : ℕ → List ℕ → Bool
+has_spare_bit places bytes = list_any (λ bit. bit) (drop places (bits_of bytes))
 
 -- the bits, and fewer than eight zeros after them, so that they fill whole bytes
 abbrev pub padded : List Bool → List Bool

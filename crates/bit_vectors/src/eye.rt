@@ -3,7 +3,7 @@
 ghost use Rattle.std.specs.Prelude.{◌≡◌, ◌+◌, ◌<◌, ◌≤◌, ◌↔◌, ◌++◌, [], ◌∷◌, length, take, drop, IsNone, IfSome, OnSome, IfNone, IsErr, IfErr, OnOk, OnErr};
 ghost use Rattle.bit_vectors.specs.Vectors.{bits_of};
 ghost use Rattle.bit_vectors.specs.Eye.{EyeState, bits_left};
-ghost use Rattle.bit_vectors.specs.Reading.{MovesOn, Gives, front_at};
+ghost use Rattle.bit_vectors.specs.Reading.{MovesOn, Gives, parse_front};
 
 use crate::bits::Bits;
 use crate::fault::BitFault;
@@ -84,7 +84,7 @@ impl<'a> BitEye<'a> {
         ensures early { IsErr result ↔ (length (bits_left self.old) < length into.old) }
         ensures fault { IfErr result (λ fault. fault ≡ BitFault.EndsEarly (length self.old.bits)) }
         ensures at_end { OnErr result (self.new.place ≡ length self.old.bits) }
-        ensures reading { Gives (λ _. into.new) result self.new (front_at (length into.old) (bits_left self.old)) }
+        ensures reading { Gives (λ _. into.new) result self.new (parse_front (length into.old) (bits_left self.old)) }
     {
         for place in 0..into.len() {
             let Some(bit) = self.take() else {

@@ -10,12 +10,12 @@ use Rattle.bit_vectors.specs.Vectors.{number_bits}
 use Rattle.std.specs.Prelude.{IfOk}
 use Rattle.bit_vectors.specs.declared.fault.BitFault.{BitFault}
 use Rattle.bit_vectors.specs.Eye.{EyeState, bits_left}
-use Rattle.bit_vectors.specs.Reading.{Gives, Reading, Read, ◌>>=◌, bit_where, allowed, IsExact}
+use Rattle.bit_vectors.specs.Reading.{Gives, Parsed, Read, ◌>>=◌, bit_where, allowed, IsExact}
 use Rattle.bit_vectors.proofs.ExactReading.{IsBitWhere, IsWordThen, IsExact-give, IsExact-bit_where, IsExact-same, IsExact-then}
 use Rattle.count_code.specs.declared.count.Count.{Count}
 use Rattle.count_code.specs.declared.count.Count.TheVariants.{Value, End}
 use Rattle.count_code.specs.Code.{digits, count_bits}
-use Rattle.count_code.specs.Counts.{word_of, IsCount, IsWithin, IsCodeOf, bounded_at, long_at, above_one_at, after_one_at, count_at}
+use Rattle.count_code.specs.Counts.{word_of, IsCount, IsWithin, IsCodeOf, parse_bounded, parse_long, parse_above_one, parse_after_one, parse_count}
 use Rattle.count_code.proofs.Digits.{power_le, power_more, HasDigits, digits_is, digits_of, digits_long}
 use Rattle.count_code.proofs.CountWords.{count_bits-one, count_bits-short, count_bits-long}
 use Rattle.count_code.proofs.Steps.{zero_fits, one_fits, bit_fits}
@@ -118,8 +118,8 @@ joined most so_far width n word bit front back f b w =
     let range = next_in so_far width n bit b.low b.high in
     record { low = range.0; high = range.1; fits = b.fits; is = rw (w, f, b.is, number_bits-suc width n, next_bit so_far width n bit b.low b.high) refl }
 
-pub IsExact-bounded_at : (most width so_far : ℕ) → so_far * 2 ^ width ≤ most → IsExact (IsNumberOf most so_far width) (bounded_at most so_far width)
-unfolding bounded_at
+pub IsExact-bounded_at : (most width so_far : ℕ) → so_far * 2 ^ width ≤ most → IsExact (IsNumberOf most so_far width) (parse_bounded most so_far width)
+unfolding parse_bounded
 IsExact-bounded_at most zero so_far fits =
     IsExact-same (λ (u : ℕ) (word : List Bool). (u ≡ so_far) × (word ≡ [])) (IsNumberOf most so_far 0) (λ bits. Read so_far bits)
     (λ v word w. no_width_from most so_far v word fits w.0 w.1)
@@ -128,14 +128,14 @@ IsExact-bounded_at most zero so_far fits =
 IsExact-bounded_at most (suc width) so_far fits =
     let test = allowed (zero_fits most so_far width) (one_fits most so_far width) in
     IsExact-same (IsWordThen (IsBitWhere (allowed (zero_fits most so_far width) (one_fits most so_far width))) (λ bit. IsNumberOf most (next_of so_far bit) width)) (IsNumberOf most so_far (suc width))
-    (λ bits. bit_where (allowed (zero_fits most so_far width) (one_fits most so_far width)) bits >>= λ bit rest. bounded_at most (next_of so_far bit) width rest)
+    (λ bits. bit_where (allowed (zero_fits most so_far width) (one_fits most so_far width)) bits >>= λ bit rest. parse_bounded most (next_of so_far bit) width rest)
     (λ n word w. joined most so_far width n word w.0 w.1 w.2 w.3.1 w.4 w.5)
     (λ n word w.
     let parts = next_out so_far width n w.low w.high in
     let bit = eqb (bit_at n width) 1 in
     (eqb (bit_at n width) 1, eqb (bit_at n width) 1 ∷ [], number_bits width n, (allowed_next most so_far width (eqb (bit_at n width) 1) (below_most (next_of so_far (eqb (bit_at n width) 1) * 2 ^ width) n most parts.0 w.fits), refl), record { low = parts.0; high = parts.1; fits = w.fits; is = refl }, w.is ∙ number_bits-suc width n))
     (IsExact-then (IsBitWhere (allowed (zero_fits most so_far width) (one_fits most so_far width))) (λ bit. IsNumberOf most (next_of so_far bit) width)
-    (bit_where (allowed (zero_fits most so_far width) (one_fits most so_far width))) (λ bit. bounded_at most (next_of so_far bit) width)
+    (bit_where (allowed (zero_fits most so_far width) (one_fits most so_far width))) (λ bit. parse_bounded most (next_of so_far bit) width)
     (IsExact-bit_where (allowed (zero_fits most so_far width) (one_fits most so_far width)) false (allowed_next most so_far width false (half_fits most so_far width fits)))
     (λ bit word w. IsExact-bounded_at most width (next_of so_far bit) (bit_fits most so_far width bit w.0))
     (λ bit word w. (next_of so_far bit * 2 ^ width, number_bits width (next_of so_far bit * 2 ^ width), first_number most (next_of so_far bit) width (bit_fits most so_far width bit w.0))))
@@ -197,12 +197,12 @@ long_apart most seen n word may_be_zero l may =
       | inr ge ↦ (false, false ∷ [], number_bits (2 * digits n - 6 - (seen + 1)) n, (may ge, refl), record { low = omega (arith, next_zeros seen); fits = l.fits; is = refl }, l.is ∙ zero_follows seen n ge)
     ]
 
-last_exact : (most seen : ℕ) → 2 ^ (seen + 5) ≤ most → (bit : Bool) → allowed false true bit ≡ true → IsExact (IsAfterZeros most seen bit) (bounded_at most 1 (seen + 5))
+last_exact : (most seen : ℕ) → 2 ^ (seen + 5) ≤ most → (bit : Bool) → allowed false true bit ≡ true → IsExact (IsAfterZeros most seen bit) (parse_bounded most 1 (seen + 5))
 last_exact most seen low true ok = IsExact-bounded_at most (seen + 5) 1 (omega arith)
 last_exact most seen low false ok = absurd (false≢true ok)
 
-after_exact : (most more seen : ℕ) → 2 ^ (seen + 5) ≤ most → (2 ^ (seen + 1 + 5) ≤ most → IsExact (IsLongOf most (seen + 1)) (long_at most (seen + 1) more)) → (bit : Bool) → allowed (leb (2 ^ (seen + 6)) most) true bit ≡ true
-    → IsExact (IsAfterZeros most seen bit) (λ rest. cond bit (bounded_at most 1 (seen + 5) rest) (long_at most (seen + 1) more rest))
+after_exact : (most more seen : ℕ) → 2 ^ (seen + 5) ≤ most → (2 ^ (seen + 1 + 5) ≤ most → IsExact (IsLongOf most (seen + 1)) (parse_long most (seen + 1) more)) → (bit : Bool) → allowed (leb (2 ^ (seen + 6)) most) true bit ≡ true
+    → IsExact (IsAfterZeros most seen bit) (λ rest. cond bit (parse_bounded most 1 (seen + 5) rest) (parse_long most (seen + 1) more rest))
 after_exact most more seen low others true ok = IsExact-bounded_at most (seen + 5) 1 (omega arith)
 after_exact most more seen low others false ok = others (omega (arith, next_zeros seen, leb-true (2 ^ (seen + 6)) most ok))
 
@@ -212,27 +212,27 @@ some_after most seen may_be_zero low may true ok =
 some_after most seen may_be_zero low may false ok =
     (2 ^ (seen + 1 + 5), number_bits (2 * digits (2 ^ (seen + 1 + 5)) - 6 - (seen + 1)) (2 ^ (seen + 1 + 5)), record { low = omega arith; fits = omega (arith, may ok, next_zeros seen); is = refl })
 
-pub IsExact-long_at : (most more seen : ℕ) → 2 ^ (seen + 5) ≤ most → most < 2 ^ (seen + 6 + more) → IsExact (IsLongOf most seen) (long_at most seen more)
-unfolding long_at
+pub IsExact-long_at : (most more seen : ℕ) → 2 ^ (seen + 5) ≤ most → most < 2 ^ (seen + 6 + more) → IsExact (IsLongOf most seen) (parse_long most seen more)
+unfolding parse_long
 IsExact-long_at most zero seen low high =
     let last : most < 2 ^ (seen + 6) = let e : seen + 6 + 0 ≡ seen + 6 = omega arith in rw e at high in
     IsExact-same (IsWordThen (IsBitWhere (allowed false true)) (IsAfterZeros most seen)) (IsLongOf most seen)
-    (λ bits. bit_where (allowed false true) bits >>= λ bit rest. bounded_at most 1 (seen + 5) rest)
+    (λ bits. bit_where (allowed false true) bits >>= λ bit rest. parse_bounded most 1 (seen + 5) rest)
     (λ n word w. long_joined most seen n word w.0 w.1 w.2 w.3.1 w.4 w.5)
     (λ n word w. long_apart most seen n word false w (λ ge. absurd (too_high (2 ^ (seen + 6)) n most ge w.fits last)))
     (IsExact-then (IsBitWhere (allowed false true)) (IsAfterZeros most seen)
-    (bit_where (allowed false true)) (λ bit. bounded_at most 1 (seen + 5))
+    (bit_where (allowed false true)) (λ bit. parse_bounded most 1 (seen + 5))
     (IsExact-bit_where (allowed false true) true refl)
     (λ bit word w. last_exact most seen low bit w.0)
     (λ bit word w. some_after most seen false low (λ e. absurd (false≢true e)) bit w.0))
 IsExact-long_at most (suc more) seen low high =
     let later : most < 2 ^ (seen + 1 + 6 + more) = let e : seen + 6 + suc more ≡ seen + 1 + 6 + more = omega arith in rw e at high in
     IsExact-same (IsWordThen (IsBitWhere (allowed (leb (2 ^ (seen + 6)) most) true)) (IsAfterZeros most seen)) (IsLongOf most seen)
-    (λ bits. bit_where (allowed (leb (2 ^ (seen + 6)) most) true) bits >>= λ bit rest. cond bit (bounded_at most 1 (seen + 5) rest) (long_at most (seen + 1) more rest))
+    (λ bits. bit_where (allowed (leb (2 ^ (seen + 6)) most) true) bits >>= λ bit rest. cond bit (parse_bounded most 1 (seen + 5) rest) (parse_long most (seen + 1) more rest))
     (λ n word w. long_joined most seen n word w.0 w.1 w.2 w.3.1 w.4 w.5)
     (λ n word w. long_apart most seen n word (leb (2 ^ (seen + 6)) most) w (λ ge. le-leb _ _ (below_most (2 ^ (seen + 6)) n most ge w.fits)))
     (IsExact-then (IsBitWhere (allowed (leb (2 ^ (seen + 6)) most) true)) (IsAfterZeros most seen)
-    (bit_where (allowed (leb (2 ^ (seen + 6)) most) true)) (λ bit rest. cond bit (bounded_at most 1 (seen + 5) rest) (long_at most (seen + 1) more rest))
+    (bit_where (allowed (leb (2 ^ (seen + 6)) most) true)) (λ bit rest. cond bit (parse_bounded most 1 (seen + 5) rest) (parse_long most (seen + 1) more rest))
     (IsExact-bit_where (allowed (leb (2 ^ (seen + 6)) most) true) true refl)
     (λ bit word w. after_exact most more seen low (λ fits. IsExact-long_at most more (seen + 1) fits later) bit w.0)
     (λ bit word w. some_after most seen (leb (2 ^ (seen + 6)) most) low (λ e. leb-true _ _ e) bit w.0))
@@ -271,7 +271,7 @@ above_apart limit n word a =
       | inr short ↦ (false, false ∷ [], number_bits 5 n, (refl, refl), record { low = omega arith; high = omega arith; fits = omega arith; is = refl }, a.1 ∙ rw (le-leb n 31 short) refl)
     ]
 
-tail_exact : (limit : ℕ) → (bit : Bool) → allowed true (leb 34 limit) bit ≡ true → IsExact (IsAboveOneTail limit bit) (λ rest. cond bit (long_at (limit - 2) 0 (limit - 2) rest) (bounded_at (limit - 2) 0 5 rest))
+tail_exact : (limit : ℕ) → (bit : Bool) → allowed true (leb 34 limit) bit ≡ true → IsExact (IsAboveOneTail limit bit) (λ rest. cond bit (parse_long (limit - 2) 0 (limit - 2) rest) (parse_bounded (limit - 2) 0 5 rest))
 tail_exact limit true ok =
     let long = leb-true 34 limit ok in
     IsExact-long_at (limit - 2) (limit - 2) 0 (omega arith) (below_power (limit - 2))
@@ -283,15 +283,15 @@ some_tail limit true ok =
     (32, number_bits (2 * digits 32 - 6 - 0) 32, record { low = omega arith; fits = omega arith; is = refl })
 some_tail limit false ok = (0 * 2 ^ 5, number_bits 5 (0 * 2 ^ 5), first_number (limit - 2) 0 5 (omega arith))
 
-pub IsExact-above_one_at : (limit : ℕ) → 2 ≤ limit → IsExact (IsAboveOne limit) (above_one_at limit)
-unfolding above_one_at
+pub IsExact-above_one_at : (limit : ℕ) → 2 ≤ limit → IsExact (IsAboveOne limit) (parse_above_one limit)
+unfolding parse_above_one
 IsExact-above_one_at limit two =
     IsExact-same (IsWordThen (IsBitWhere (allowed true (leb 34 limit))) (IsAboveOneTail limit)) (IsAboveOne limit)
-    (λ bits. bit_where (allowed true (leb 34 limit)) bits >>= λ bit rest. cond bit (long_at (limit - 2) 0 (limit - 2) rest) (bounded_at (limit - 2) 0 5 rest))
+    (λ bits. bit_where (allowed true (leb 34 limit)) bits >>= λ bit rest. cond bit (parse_long (limit - 2) 0 (limit - 2) rest) (parse_bounded (limit - 2) 0 5 rest))
     (λ n word w. above_joined limit n word w.0 w.1 w.2 two w.3.1 w.4 w.5)
     (above_apart limit)
     (IsExact-then (IsBitWhere (allowed true (leb 34 limit))) (IsAboveOneTail limit)
-    (bit_where (allowed true (leb 34 limit))) (λ bit rest. cond bit (long_at (limit - 2) 0 (limit - 2) rest) (bounded_at (limit - 2) 0 5 rest))
+    (bit_where (allowed true (leb 34 limit))) (λ bit rest. cond bit (parse_long (limit - 2) 0 (limit - 2) rest) (parse_bounded (limit - 2) 0 5 rest))
     (IsExact-bit_where (allowed true (leb 34 limit)) false refl)
     (λ bit word w. tail_exact limit bit w.0)
     (λ bit word w. some_tail limit bit w.0))
@@ -328,9 +328,9 @@ after_apart limit (Value a) word w =
     (true, true ∷ [], above_one_bits (a - 2), (le-leb 2 limit (omega arith), refl), (a - 2, above_one_bits (a - 2), [], (rw same most, refl), (rw same refl, refl), sym (append-nil (above_one_bits (a - 2)))), w.2)
 after_apart limit End word w = (false, false ∷ [], [], (refl, refl), (refl, refl), w)
 
-after_exact_tail : (limit : ℕ) (bit : Bool) → allowed true (leb 2 limit) bit ≡ true → IsExact (IsAfterOneTail limit bit) (λ rest. cond bit (above_one_at limit rest >>= λ n last. Read (Value (n + 2)) last) (Read End rest))
+after_exact_tail : (limit : ℕ) (bit : Bool) → allowed true (leb 2 limit) bit ≡ true → IsExact (IsAfterOneTail limit bit) (λ rest. cond bit (parse_above_one limit rest >>= λ n last. Read (Value (n + 2)) last) (Read End rest))
 after_exact_tail limit true ok =
-    IsExact-then (IsAboveOne limit) IsCountOf (above_one_at limit) (λ n last. Read (Value (n + 2)) last)
+    IsExact-then (IsAboveOne limit) IsCountOf (parse_above_one limit) (λ n last. Read (Value (n + 2)) last)
     (IsExact-above_one_at limit (leb-true 2 limit ok))
     (λ n word w. IsExact-give (Value (n + 2)))
     (λ n word w. (Value (n + 2), [], (refl, refl)))
@@ -340,15 +340,15 @@ some_after_one : (limit : ℕ) (bit : Bool) → allowed true (leb 2 limit) bit �
 some_after_one limit true ok = (Value 2, above_one_bits 0 ++ [], (0, above_one_bits 0, [], (leb-true 2 limit ok, refl), (refl, refl), refl))
 some_after_one limit false ok = (End, [], (refl, refl))
 
-pub IsExact-after_one_at : (limit : ℕ) → IsExact (IsAfterOne limit) (after_one_at limit)
-unfolding after_one_at
+pub IsExact-after_one_at : (limit : ℕ) → IsExact (IsAfterOne limit) (parse_after_one limit)
+unfolding parse_after_one
 IsExact-after_one_at limit =
     IsExact-same (IsWordThen (IsBitWhere (allowed true (leb 2 limit))) (IsAfterOneTail limit)) (IsAfterOne limit)
-    (λ bits. bit_where (allowed true (leb 2 limit)) bits >>= λ bit rest. cond bit (above_one_at limit rest >>= λ n last. Read (Value (n + 2)) last) (Read End rest))
+    (λ bits. bit_where (allowed true (leb 2 limit)) bits >>= λ bit rest. cond bit (parse_above_one limit rest >>= λ n last. Read (Value (n + 2)) last) (Read End rest))
     (λ count word w. after_joined limit count word w.0 w.1 w.2 w.3.1 w.4 w.5)
     (after_apart limit)
     (IsExact-then (IsBitWhere (allowed true (leb 2 limit))) (IsAfterOneTail limit)
-    (bit_where (allowed true (leb 2 limit))) (λ bit rest. cond bit (above_one_at limit rest >>= λ n last. Read (Value (n + 2)) last) (Read End rest))
+    (bit_where (allowed true (leb 2 limit))) (λ bit rest. cond bit (parse_above_one limit rest >>= λ n last. Read (Value (n + 2)) last) (Read End rest))
     (IsExact-bit_where (allowed true (leb 2 limit)) false refl)
     (λ bit word w. after_exact_tail limit bit w.0)
     (λ bit word w. some_after_one limit bit w.0))
@@ -385,7 +385,7 @@ count_apart limit (Value a) word w =
     ]
 count_apart limit End word w = (true, true ∷ [], false ∷ [], (refl, refl), refl, w.1)
 
-count_tail_exact : (limit : ℕ) (bit : Bool) → IsExact (IsCountTail limit bit) (λ rest. cond bit (after_one_at limit rest) (Read (Value 1) rest))
+count_tail_exact : (limit : ℕ) (bit : Bool) → IsExact (IsCountTail limit bit) (λ rest. cond bit (parse_after_one limit rest) (Read (Value 1) rest))
 count_tail_exact limit true = IsExact-after_one_at limit
 count_tail_exact limit false = IsExact-give (Value 1)
 
@@ -393,21 +393,21 @@ some_count : (limit : ℕ) (bit : Bool) → (count : Count) × (word : List Bool
 some_count limit true = (End, false ∷ [], refl)
 some_count limit false = (Value 1, [], (refl, refl))
 
-pub IsExact-count_at : (limit : ℕ) → IsExact (IsCodeOf limit) (count_at limit)
-unfolding count_at
+pub IsExact-count_at : (limit : ℕ) → IsExact (IsCodeOf limit) (parse_count limit)
+unfolding parse_count
 IsExact-count_at limit =
     IsExact-same (IsWordThen (IsBitWhere (allowed (leb 1 limit) true)) (IsCountTail limit)) (IsCodeOf limit)
-    (λ bits. bit_where (allowed (leb 1 limit) true) bits >>= λ bit rest. cond bit (after_one_at limit rest) (Read (Value 1) rest))
+    (λ bits. bit_where (allowed (leb 1 limit) true) bits >>= λ bit rest. cond bit (parse_after_one limit rest) (Read (Value 1) rest))
     (λ count word w. count_joined limit count word w.0 w.1 w.2 w.3.0 w.3.1 w.4 w.5)
     (count_apart limit)
     (IsExact-then (IsBitWhere (allowed (leb 1 limit) true)) (IsCountTail limit)
-    (bit_where (allowed (leb 1 limit) true)) (λ bit rest. cond bit (after_one_at limit rest) (Read (Value 1) rest))
+    (bit_where (allowed (leb 1 limit) true)) (λ bit rest. cond bit (parse_after_one limit rest) (Read (Value 1) rest))
     (IsExact-bit_where (allowed (leb 1 limit) true) true refl)
     (λ bit word w. count_tail_exact limit bit)
     (λ bit word w. some_count limit bit))
 
 -- what a reading says of the bits
-pub counted : (limit : ℕ) (old new : EyeState) (result : Result Count BitFault) → Gives (λ (count : Count). count) result new (count_at limit (bits_left old))
+pub counted : (limit : ℕ) (old new : EyeState) (result : Result Count BitFault) → Gives (λ (count : Count). count) result new (parse_count limit (bits_left old))
     → IfOk result (λ count. IsWithin limit count × (bits_left old ≡ word_of count ++ bits_left new))
 counted limit old new (Ok count) given =
     let r = (IsExact-count_at limit).read_is (bits_left old) count (bits_left new) given in
@@ -424,7 +424,7 @@ unfolding top_of
 within_top (Value a) limit is le = (is, le)
 within_top End limit is le = tt
 
-values_same : (a b : Count) (r s : List Bool) → ◌≡◌ {A = Reading Count} (Read a r) (Read b s) → a ≡ b
+values_same : (a b : Count) (r s : List Bool) → ◌≡◌ {A = Parsed Count} (Read a r) (Read b s) → a ≡ b
 values_same a b r s e = cc
 
 -- no word is the front of another
@@ -433,7 +433,7 @@ prefix_free a b rest others a_is b_is same =
     let limit = top_of a + top_of b in
     let read_a = (IsExact-count_at (top_of a + top_of b)).reads a (word_of a) rest (within_top a (top_of a + top_of b) a_is (omega arith), refl) in
     let read_b = (IsExact-count_at (top_of a + top_of b)).reads b (word_of b) others (within_top b (top_of a + top_of b) b_is (omega arith), refl) in
-    values_same a b rest others (sym read_a ∙ ap (count_at (top_of a + top_of b)) same ∙ read_b)
+    values_same a b rest others (sym read_a ∙ ap (parse_count (top_of a + top_of b)) same ∙ read_b)
 
 -- a small number in a great width
 zeros_before : (z width n : ℕ) → n < 2 ^ width → number_bits (z + width) n ≡ replicate z false ++ number_bits width n

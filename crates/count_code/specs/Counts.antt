@@ -1,7 +1,7 @@
 -- Words within a limit, and reading them.
 use Rattle.std.specs.Prelude.{◌≡◌, ℕ, zero, suc, ◌+◌, ◌-◌, ◌*◌, ◌^◌, ◌≤◌, nat_le, Bool, true, false, if◌then◌else◌, List}
 use Rattle.bit_vectors.specs.Vectors.{bits_number}
-use Rattle.bit_vectors.specs.Reading.{Reading, Read, ◌>>=◌, bit_where, allowed, front_at}
+use Rattle.bit_vectors.specs.Reading.{Parsed, Read, ◌>>=◌, bit_where, allowed, parse_front}
 use Rattle.count_code.specs.declared.count.Count.{Count}
 use Rattle.count_code.specs.declared.count.Count.TheVariants.{Value, End}
 use Rattle.count_code.specs.Code.{count_bits, end_bits}
@@ -30,39 +30,39 @@ IsCode limit word = (count : Count) × IsCodeOf limit count word
 -- ---- reading
 
 -- a number of this width, whatever its bits are
-unfoldable pub number_at : ℕ → List Bool → Reading ℕ
-number_at width bits = front_at width bits >>= λ front rest. Read (bits_number front) rest
+unfoldable pub parse_number : ℕ → List Bool → Parsed ℕ
+parse_number width bits = parse_front width bits >>= λ front rest. Read (bits_number front) rest
 
 -- the last bits of a number that is at most `most` and begins with `so_far`
-unfoldable pub bounded_at : ℕ → ℕ → ℕ → List Bool → Reading ℕ
-bounded_at most so_far zero bits = Read so_far bits
-bounded_at most so_far (suc width) bits =
+unfoldable pub parse_bounded : ℕ → ℕ → ℕ → List Bool → Parsed ℕ
+parse_bounded most so_far zero bits = Read so_far bits
+parse_bounded most so_far (suc width) bits =
     bit_where (allowed (nat_le (2 * so_far * 2 ^ width) most) (nat_le ((2 * so_far + 1) * 2 ^ width) most)) bits
-    >>= λ bit rest. bounded_at most (2 * so_far + (if bit then 1 else 0)) width rest
+    >>= λ bit rest. parse_bounded most (2 * so_far + (if bit then 1 else 0)) width rest
 
 -- a number that is at most `most`, after so many seen zeros and before at most so many more: it has six more digits than
 -- there are zeros, and its first digit is the first one
-unfoldable pub long_at : ℕ → ℕ → ℕ → List Bool → Reading ℕ
-long_at most seen zero bits =
+unfoldable pub parse_long : ℕ → ℕ → ℕ → List Bool → Parsed ℕ
+parse_long most seen zero bits =
     bit_where (allowed false true) bits
-    >>= λ bit rest. bounded_at most 1 (seen + 5) rest
-long_at most seen (suc more) bits =
+    >>= λ bit rest. parse_bounded most 1 (seen + 5) rest
+parse_long most seen (suc more) bits =
     bit_where (allowed (nat_le (2 ^ (seen + 6)) most) true) bits
-    >>= λ bit rest. if bit then bounded_at most 1 (seen + 5) rest else long_at most (seen + 1) more rest
+    >>= λ bit rest. if bit then parse_bounded most 1 (seen + 5) rest else parse_long most (seen + 1) more rest
 
 -- a count of two or more, less 2, after its first two bits
-unfoldable pub above_one_at : ℕ → List Bool → Reading ℕ
-above_one_at limit bits =
+unfoldable pub parse_above_one : ℕ → List Bool → Parsed ℕ
+parse_above_one limit bits =
     bit_where (allowed true (nat_le 34 limit)) bits
-    >>= λ long rest. if long then long_at (limit - 2) 0 (limit - 2) rest else bounded_at (limit - 2) 0 5 rest
+    >>= λ long rest. if long then parse_long (limit - 2) 0 (limit - 2) rest else parse_bounded (limit - 2) 0 5 rest
 
 -- what comes after a first bit that is one
-unfoldable pub after_one_at : ℕ → List Bool → Reading Count
-after_one_at limit bits =
+unfoldable pub parse_after_one : ℕ → List Bool → Parsed Count
+parse_after_one limit bits =
     bit_where (allowed true (nat_le 2 limit)) bits
-    >>= λ second rest. if second then (above_one_at limit rest >>= λ n rest. Read (Value (n + 2)) rest) else Read End rest
+    >>= λ second rest. if second then (parse_above_one limit rest >>= λ n rest. Read (Value (n + 2)) rest) else Read End rest
 
-unfoldable pub count_at : ℕ → List Bool → Reading Count
-count_at limit bits =
+unfoldable pub parse_count : ℕ → List Bool → Parsed Count
+parse_count limit bits =
     bit_where (allowed (nat_le 1 limit) true) bits
-    >>= λ first rest. if first then after_one_at limit rest else Read (Value 1) rest
+    >>= λ first rest. if first then parse_after_one limit rest else Read (Value 1) rest

@@ -3,7 +3,7 @@
 ghost use Rattle.std.specs.Prelude.{◌≡◌, ◌≤◌, ◌++◌, List, Bool, IsOk, IfErr, OnOk};
 ghost use Rattle.bit_vectors.specs.Vectors.{number_bits};
 ghost use Rattle.bit_vectors.specs.Eye.{bits_left};
-ghost use Rattle.bit_vectors.specs.Reading.{MovesOn, Gives, IsFirstFault, same_at};
+ghost use Rattle.bit_vectors.specs.Reading.{MovesOn, Gives, IsFirstFault, parse_word};
 ghost use Rattle.count_code.specs.Code.{count_bits};
 
 use crate::reading::take_allowed;
@@ -18,7 +18,7 @@ pub fn match_number(eye: &mut BitEye, value: u32, width: u32) -> Result<(), BitF
     ensures word { OnOk result (bits_left eye.old ≡ number_bits width value ++ bits_left eye.new) }
     ensures only { (rest : List Bool) → bits_left eye.old ≡ number_bits width value ++ rest → IsOk result }
     ensures fault { IfErr result (λ fault. IsFirstFault (λ word. word ≡ number_bits width value) eye.old eye.new fault) }
-    ensures reading { Gives (λ _. tt) result eye.new (same_at (number_bits width value) (bits_left eye.old)) }
+    ensures reading { Gives (λ _. tt) result eye.new (parse_word (number_bits width value) (bits_left eye.old)) }
 {
     match_bits(eye, value, width)
 }
@@ -32,7 +32,7 @@ pub fn match_count(eye: &mut BitEye, a: u32) -> Result<(), BitFault>
     ensures word { OnOk result (bits_left eye.old ≡ count_bits a ++ bits_left eye.new) }
     ensures only { (rest : List Bool) → bits_left eye.old ≡ count_bits a ++ rest → IsOk result }
     ensures fault { IfErr result (λ fault. IsFirstFault (λ word. word ≡ count_bits a) eye.old eye.new fault) }
-    ensures reading { Gives (λ _. tt) result eye.new (same_at (count_bits a) (bits_left eye.old)) }
+    ensures reading { Gives (λ _. tt) result eye.new (parse_word (count_bits a) (bits_left eye.old)) }
 {
     match_word(eye, a)
 }
@@ -42,7 +42,7 @@ fn match_word(eye: &mut BitEye, a: u32) -> Result<(), BitFault>
     requires some { 1 ≤ a }
     requires most { a ≤ 49152 }
     ensures moves { MovesOn eye.old eye.new }
-    ensures reading { Gives (λ _. tt) result eye.new (same_at (count_bits a) (bits_left eye.old)) }
+    ensures reading { Gives (λ _. tt) result eye.new (parse_word (count_bits a) (bits_left eye.old)) }
 {
     match a {
         1 => match_bits(eye, 0, 1),
@@ -61,7 +61,7 @@ fn match_word(eye: &mut BitEye, a: u32) -> Result<(), BitFault>
 fn match_bits(eye: &mut BitEye, value: u32, width: u32) -> Result<(), BitFault>
     requires { width ≤ 32 }
     ensures moves { MovesOn eye.old eye.new }
-    ensures reading { Gives (λ _. tt) result eye.new (same_at (number_bits width value) (bits_left eye.old)) }
+    ensures reading { Gives (λ _. tt) result eye.new (parse_word (number_bits width value) (bits_left eye.old)) }
 {
     for weight in (0..width).rev() {
         let bit = (value >> weight) & 1 == 1;

@@ -4,7 +4,7 @@ ghost use Rattle.std.specs.Prelude.{◌≡◌, ◌+◌, ◌-◌, ◌*◌, ◌^�
 ghost use Rattle.bit_vectors.specs.Vectors.{number_bits};
 ghost use Rattle.bit_vectors.specs.Eye.{bits_left};
 ghost use Rattle.bit_vectors.specs.Reading.{Gives, MovesOn, IsFirstFault, bit_where, allowed};
-ghost use Rattle.count_code.specs.Counts.{word_of, IsWithin, IsCode, number_at, bounded_at, long_at, above_one_at, after_one_at, count_at};
+ghost use Rattle.count_code.specs.Counts.{word_of, IsWithin, IsCode, parse_number, parse_bounded, parse_long, parse_above_one, parse_after_one, parse_count};
 ghost use Rattle.count_code.specs.declared.count.Count.{Count};
 
 use crate::count::Count;
@@ -20,7 +20,7 @@ pub fn take_count(eye: &mut BitEye, limit: u32) -> Result<Count, BitFault>
     ensures only { (count : Count) (rest : List Bool) → IsWithin limit count
         → bits_left eye.old ≡ word_of count ++ rest → result ≡ Ok count }
     ensures fault { IfErr result (λ fault. IsFirstFault (IsCode limit) eye.old eye.new fault) }
-    ensures reading { Gives (λ count. count) result eye.new (count_at limit (bits_left eye.old)) }
+    ensures reading { Gives (λ count. count) result eye.new (parse_count limit (bits_left eye.old)) }
 {
     read_count(eye, limit)
 }
@@ -35,7 +35,7 @@ pub fn take_number(eye: &mut BitEye, width: u32) -> Result<u32, BitFault>
     ensures early { IsErr result ↔ (length (bits_left eye.old) < width) }
     ensures fault { IfErr result (λ fault. fault ≡ BitFault.EndsEarly (length eye.old.bits)) }
     ensures at_end { OnErr result (eye.new.place ≡ length eye.old.bits) }
-    ensures reading { Gives (λ n. n) result eye.new (number_at width (bits_left eye.old)) }
+    ensures reading { Gives (λ n. n) result eye.new (parse_number width (bits_left eye.old)) }
 {
     let mut number = 0;
     for _ in 0..width {
@@ -47,12 +47,12 @@ pub fn take_number(eye: &mut BitEye, width: u32) -> Result<u32, BitFault>
     Ok(number)
 }
 
-/// Takes a count or the end, as `count_at` reads them.
-#[tactic(auto, unfolding(crate::specs::Counts::count_at))]
+/// Takes a count or the end, as `parse_count` reads them.
+#[tactic(auto, unfolding(crate::specs::Counts::parse_count))]
 fn read_count(eye: &mut BitEye, limit: u32) -> Result<Count, BitFault>
     requires { limit ≤ 49152 }
     ensures moves { MovesOn eye.old eye.new }
-    ensures reading { Gives (λ count. count) result eye.new (count_at limit (bits_left eye.old)) }
+    ensures reading { Gives (λ count. count) result eye.new (parse_count limit (bits_left eye.old)) }
 {
     if take_allowed(eye, 1 <= limit, true)? {
         after_one(eye, limit)
@@ -62,11 +62,11 @@ fn read_count(eye: &mut BitEye, limit: u32) -> Result<Count, BitFault>
 }
 
 /// Takes what follows a first bit that is one.
-#[tactic(auto, unfolding(crate::specs::Counts::after_one_at))]
+#[tactic(auto, unfolding(crate::specs::Counts::parse_after_one))]
 fn after_one(eye: &mut BitEye, limit: u32) -> Result<Count, BitFault>
     requires { limit ≤ 49152 }
     ensures moves { MovesOn eye.old eye.new }
-    ensures reading { Gives (λ count. count) result eye.new (after_one_at limit (bits_left eye.old)) }
+    ensures reading { Gives (λ count. count) result eye.new (parse_after_one limit (bits_left eye.old)) }
 {
     if take_allowed(eye, true, 2 <= limit)? {
         let number = above_one(eye, limit)?;
@@ -77,12 +77,12 @@ fn after_one(eye: &mut BitEye, limit: u32) -> Result<Count, BitFault>
 }
 
 /// Takes what follows two ones: a count, less 2.
-#[tactic(auto, unfolding(crate::specs::Counts::above_one_at))]
+#[tactic(auto, unfolding(crate::specs::Counts::parse_above_one))]
 fn above_one(eye: &mut BitEye, limit: u32) -> Result<u32, BitFault>
     requires least { 2 ≤ limit }
     requires most { limit ≤ 49152 }
     ensures moves { MovesOn eye.old eye.new }
-    ensures reading { Gives (λ n. n) result eye.new (above_one_at limit (bits_left eye.old)) }
+    ensures reading { Gives (λ n. n) result eye.new (parse_above_one limit (bits_left eye.old)) }
     ensures most { IfOk result (λ n. n ≤ limit - 2) }
 {
     if take_allowed(eye, true, 34 <= limit)? {
@@ -114,7 +114,7 @@ fn take_bounded(eye: &mut BitEye, most: u32, so_far: u32, width: u32) -> Result<
     requires so_far { so_far * 2 ^ width ≤ most }
     requires width { width ≤ 15 }
     ensures moves { MovesOn eye.old eye.new }
-    ensures reading { Gives (λ n. n) result eye.new (bounded_at most so_far width (bits_left eye.old)) }
+    ensures reading { Gives (λ n. n) result eye.new (parse_bounded most so_far width (bits_left eye.old)) }
     ensures most { IfOk result (λ n. n ≤ most) }
 {
     let mut number = so_far;
@@ -134,7 +134,7 @@ fn take_long(eye: &mut BitEye, most: u32) -> Result<u32, BitFault>
     requires least { 32 ≤ most }
     requires most { most ≤ 49150 }
     ensures moves { MovesOn eye.old eye.new }
-    ensures reading { Gives (λ n. n) result eye.new (long_at most 0 most (bits_left eye.old)) }
+    ensures reading { Gives (λ n. n) result eye.new (parse_long most 0 most (bits_left eye.old)) }
     ensures most { IfOk result (λ n. n ≤ most) }
 {
     let mut digits = 6;

@@ -3,6 +3,6 @@ pub mod Runs
 pub mod Courses
 pub mod GoesOn
 pub mod Logs
-pub mod Readings
+pub mod Cursors
 pub mod Held
 pub mod KeptInputs

@@ -8,12 +8,12 @@ use std::marker::Model;
 
 /// A name and the bytes that were kept under it.
 #[derive(Drop)]
-pub struct Entry {
+pub struct LogEntry {
     name: Vec<u8>,
     bytes: Vec<u8>,
 }
 
-impl Model for Entry {
+impl Model for LogEntry {
     ghost use Rattle.std.specs.Prelude.{List, ℕ};
 
     ghost Value = { List ℕ × List ℕ };
@@ -21,7 +21,7 @@ impl Model for Entry {
     ghost view = { λ entry. (entry.name.items, entry.bytes.items) };
 }
 
-impl Entry {
+impl LogEntry {
     pub fn name(&self) -> &[u8]
         ensures { result.now ≡ self.now.0 }
     {
@@ -37,7 +37,7 @@ impl Entry {
 
 /// Keeps a copy of the bytes under a copy of the name.
 pub fn keep(
-    log: &mut Vec<Entry>,
+    log: &mut Vec<LogEntry>,
     alloc: Global,
     name: &[u8],
     bytes: &[u8],
@@ -47,12 +47,12 @@ pub fn keep(
 {
     let name = name.to_vec(alloc)?;
     let bytes = bytes.to_vec(alloc)?;
-    log.push(Entry { name, bytes })?;
+    log.push(LogEntry { name, bytes })?;
     Ok(())
 }
 
 /// The place of the newest entry with this name.
-pub fn newest(log: &[Entry], name: &[u8]) -> Option<usize>
+pub fn newest(log: &[LogEntry], name: &[u8]) -> Option<usize>
     ensures { MatchOption result (map.get (kept_of log.now) name.now ≡ None)
         (λ at. (at < length log.now) × (map.get (kept_of log.now) name.now ≡ Some (bytes_at log.now at))) }
 {

@@ -6,7 +6,7 @@ ghost use Rattle.desk_ports.specs.MemState.{empty_desk, mem_left, mem_made, mem_
 
 use crate::calls::{Call, Plan};
 use crate::desk::{Desk, Failed, Inlet, Outlet};
-use crate::log::{Entry, keep, newest};
+use crate::log::{LogEntry, keep, newest};
 use crate::written::Written;
 use bit_vectors::NoMemory;
 use std::alloc::Global;
@@ -14,22 +14,22 @@ use std::marker::Model;
 
 // Where an inlet stands: before a place of the bytes of an entry of the log.
 #[derive(Clone, Copy)]
-enum Reading {
+enum Cursor {
     Nothing,
     Entry { at: usize, place: usize },
 }
 
 #[derive(Clone, Copy)]
-struct Readings {
-    side: Reading,
-    input: Reading,
+struct Cursors {
+    side: Cursor,
+    input: Cursor,
 }
 
-impl Readings {
-    ghost use Rattle.desk_ports.specs.MemDesk.{reading_at, with_reading};
+impl Cursors {
+    ghost use Rattle.desk_ports.specs.MemDesk.{cursor_at, with_cursor};
 
-    fn at(&self, inlet: Inlet) -> Reading
-        ensures { result ≡ reading_at self.now inlet }
+    fn at(&self, inlet: Inlet) -> Cursor
+        ensures { result ≡ cursor_at self.now inlet }
     {
         match inlet {
             Inlet::Side => self.side,
@@ -37,12 +37,12 @@ impl Readings {
         }
     }
 
-    fn set(&mut self, inlet: Inlet, reading: Reading)
-        ensures { self.new ≡ with_reading self.old inlet reading }
+    fn set(&mut self, inlet: Inlet, cursor: Cursor)
+        ensures { self.new ≡ with_cursor self.old inlet cursor }
     {
         match inlet {
-            Inlet::Side => self.side = reading,
-            Inlet::Main => self.input = reading,
+            Inlet::Side => self.side = cursor,
+            Inlet::Main => self.input = cursor,
         }
     }
 }
@@ -90,8 +90,8 @@ impl Faults {
 #[derive(Drop)]
 pub struct MemDesk {
     alloc: Global,
-    log: Vec<Entry>,
-    readings: Readings,
+    log: Vec<LogEntry>,
+    cursors: Cursors,
     output: Written,
     report: Written,
     pieces: Option<u32>,
@@ -121,9 +121,9 @@ impl MemDesk {
         MemDesk {
             alloc,
             log: Vec::new(alloc),
-            readings: Readings {
-                side: Reading::Nothing,
-                input: Reading::Nothing,
+            cursors: Cursors {
+                side: Cursor::Nothing,
+                input: Cursor::Nothing,
             },
             output: Written::closed(alloc),
             report: Written::closed(alloc),
@@ -226,7 +226,7 @@ impl Desk for MemDesk {
         let Some(at) = newest(&self.log, name.as_bytes()) else {
             return Err(self.faults.read());
         };
-        self.readings.set(inlet, Reading::Entry { at, place: 0 });
+        self.cursors.set(inlet, Cursor::Entry { at, place: 0 });
         Ok(())
     }
 
@@ -276,14 +276,14 @@ impl Desk for MemDesk {
         if self.plan.next(Call::Read) {
             return Err(self.faults.read());
         }
-        let Reading::Entry { at, place } = self.readings.at(inlet) else {
+        let Cursor::Entry { at, place } = self.cursors.at(inlet) else {
             unreachable!()
         };
         let rest = &self.log[at].bytes()[place..];
         let moved = capped(self.pieces, buf.len().min(rest.len()));
         copy_front(buf, rest, moved);
         let place = place + moved;
-        self.readings.set(inlet, Reading::Entry { at, place });
+        self.cursors.set(inlet, Cursor::Entry { at, place });
         Ok(moved)
     }
 

@@ -32,12 +32,12 @@ impl<'a> Inputs<'a> {
 
 // An inlet: the bytes still to come, and whether it was opened.
 #[derive(Clone, Copy)]
-struct Unread<'a> {
+struct Source<'a> {
     left: &'a [u8],
     ready: bool,
 }
 
-impl<'a> Unread<'a> {
+impl<'a> Source<'a> {
     // Moves as many bytes as are left and fit to the front of `buf`.
     fn read(&mut self, buf: &mut [u8]) -> usize
         ensures count { result ≡ min (length buf.old) (length self.old.left.now) }
@@ -78,8 +78,8 @@ impl Taken {
 #[derive(Drop)]
 pub struct QuietDesk<'a> {
     inputs: Inputs<'a>,
-    side: Unread<'a>,
-    input: Unread<'a>,
+    side: Source<'a>,
+    input: Source<'a>,
     output: Taken,
     report: Taken,
     finished: bool,
@@ -112,7 +112,7 @@ impl<'a> QuietDesk<'a> {
         ensures others { (name : List ℕ) → name ≢ side_name.now → name ≢ main_name.now → quiet_held result name ≡ Some [] }
         ensures no_faults { quiet_counts result ≡ record { reads = 0; writes = 0 } }
     {
-        let unread = Unread {
+        let unread = Source {
             left: &[],
             ready: false,
         };
@@ -151,7 +151,7 @@ impl<'a> Desk for QuietDesk<'a> {
     ghost counts = { quiet_counts };
 
     fn open_in(&mut self, inlet: Inlet, name: &str) -> Result<(), Failed> {
-        let unread = Unread {
+        let unread = Source {
             left: self.kept(name),
             ready: true,
         };

@@ -1,7 +1,7 @@
 ghost use Rattle.std.specs.Prelude.{◌≡◌, ◌∷◌, ◌++◌, [], true, OnOk, OnErr};
 ghost use Rattle.desk_ports.specs.MemState.{closed_outgoing};
 
-use crate::log::{Entry, keep};
+use crate::log::{LogEntry, keep};
 use std::alloc::{AllocError, Global};
 use std::marker::Model;
 
@@ -53,7 +53,7 @@ impl Written {
     }
 
     /// Keeps what was written under the name.
-    pub fn keep_in(&self, log: &mut Vec<Entry>, alloc: Global) -> Result<(), AllocError>
+    pub fn keep_in(&self, log: &mut Vec<LogEntry>, alloc: Global) -> Result<(), AllocError>
         ensures ok { OnOk result (log.new.items ≡ log.old.items ++ (self.now.name, self.now.made) ∷ []) }
         ensures err { OnErr result (log.new.items ≡ log.old.items) }
     {

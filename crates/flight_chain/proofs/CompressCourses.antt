@@ -12,7 +12,7 @@ use Rattle.side_tables.specs.Rows.{flags_of}
 use Rattle.mask_update.specs.Histories.{History, step_of, with_step}
 use Rattle.mask_update.proofs.HistoriesOf.{length-history_of, history_of-push}
 use Rattle.packet_encode.specs.Encoder.{StandsFor}
-use Rattle.packet_encode.specs.Packets.{with_input}
+use Rattle.packet_encode.specs.Packets.{with_next_input}
 use Rattle.packet_store.specs.SpacePackets.{period, space_packet}
 use Rattle.flight_chain.specs.declared.fault.RecordFault.{RecordFault}
 use Rattle.flight_chain.specs.declared.reading.Unread.{Unread}
@@ -87,7 +87,7 @@ AfterStop-unread k inputs a b unread.ReadFault loses =
 
 -- the history of one input more
 history_by-push : (k : Compression) (inputs : List (List Bool)) (input : List Bool) (t : ℕ) → t ≡ length inputs
-    → with_input (history_by k inputs) k.robust input (flags_of k.rows t) ≡ history_by k (inputs ++ input ∷ [])
+    → with_next_input (history_by k inputs) k.robust input (flags_of k.rows t) ≡ history_by k (inputs ++ input ∷ [])
 history_by-push k inputs input t is =
     let flags = flags_of k.rows in
     let robust : ℕ → ℕ = λ _. k.robust in
@@ -111,21 +111,21 @@ AfterStop-next k inputs s now f t a b u is taken places number after =
 
 module _ (k : Compression) (inputs : List (List Bool)) (s : Progress) (taken : HasTaken k inputs s) (t : ℕ) (number : t ≡ length inputs) (input : List Bool) where
   -- the history with the next input
-  next_history : with_input (history_by k inputs) s.encoder.robust input (flags_of s.rows t) ≡ history_by k (inputs ++ input ∷ [])
+  next_history : with_next_input (history_by k inputs) s.encoder.robust input (flags_of s.rows t) ≡ history_by k (inputs ++ input ∷ [])
   next_history =
       let robust = taken.robust in
       let rows = taken.rows in
-      (λ i. with_input (history_by k inputs) (robust i) input (flags_of (rows i) t)) ∙ history_by-push k inputs input t number
+      (λ i. with_next_input (history_by k inputs) (robust i) input (flags_of (rows i) t)) ∙ history_by-push k inputs input t number
 
   -- the Space Packet of the next input
-  pub next_packet-is : space_packet s.apid (t % period) (data_at (with_input (history_by k inputs) s.encoder.robust input (flags_of s.rows t)) (length (history_by k inputs).steps)) ≡ next_packet k inputs input
+  pub next_packet-is : space_packet s.apid (t % period) (data_at (with_next_input (history_by k inputs) s.encoder.robust input (flags_of s.rows t)) (length (history_by k inputs).steps)) ≡ next_packet k inputs input
   next_packet-is =
       let apid = taken.apid in
       let steps = length-history_of inputs (flags_of k.rows) (λ _. k.robust) k.places k.mask in
       λ i. space_packet (apid i) (number i % period) (data_at (next_history i) (steps i))
 
   -- and it is taken
-  pub HasTaken-next : (new : Progress) → StandsFor (with_input (history_by k inputs) s.encoder.robust input (flags_of s.rows t)) new.encoder
+  pub HasTaken-next : (new : Progress) → StandsFor (with_next_input (history_by k inputs) s.encoder.robust input (flags_of s.rows t)) new.encoder
       → length new.encoder.masks.mask ≡ length s.encoder.masks.mask → new.encoder.robust ≡ s.encoder.robust → new.apid ≡ s.apid → new.rows ≡ s.rows → HasTaken k (inputs ++ input ∷ []) new
   HasTaken-next new stands places robust apid rows = record {
     stands = subst (λ (h : History). StandsFor h new.encoder) next_history stands;
@@ -140,7 +140,7 @@ pub record IsNext (k : Compression) (inputs : List (List Bool)) (s : Progress) (
   pub taken : HasTaken k inputs s
   pub takes : Takes k.places (length inputs) a b input
   pub number : t ≡ length inputs
-  pub packet : space_packet s.apid (t % period) (data_at (with_input (history_by k inputs) s.encoder.robust input (flags_of s.rows t)) (length (history_by k inputs).steps)) ≡ next_packet k inputs input
+  pub packet : space_packet s.apid (t % period) (data_at (with_next_input (history_by k inputs) s.encoder.robust input (flags_of s.rows t)) (length (history_by k inputs).steps)) ≡ next_packet k inputs input
 
 pub IsNext-read : (k : Compression) (inputs : List (List Bool)) (s now : Progress) (f t' t : ℕ) (a b : Meanings) (input : List Bool) → s ≡ now → HasTaken k inputs now → length s.encoder.masks.mask ≡ f → t' ≡ s.encoder.masks.taken → t ≡ t'
     → Takes f t' a b input → IsNext k inputs s t a b input

@@ -5,12 +5,12 @@ use Rattle.std.specs.Io.KnownBytes.{IsAtEnd}
 use Rattle.std.specs.List.{list_any}
 use Rattle.std.proofs.lemmas.Bool.{cases_Bool, cases_lt}
 use Rattle.std.proofs.lemmas.List.{take_at, drop_at}
-use Rattle.bit_vectors.specs.Vectors.{bits_of, byte_count}
+use Rattle.bit_vectors.specs.Vectors.{bits_of, byte_count, has_spare_bit}
 use Rattle.desk_ports.specs.declared.desk.Inlet.TheVariants as inlet
 use Rattle.desk_ports.specs.Meanings.{Meanings, Moves, left}
 use Rattle.desk_ports.proofs.Courses.{rest_of, IfSome-rest_of, IfSome-IsAtEnd}
 use Rattle.flight_chain.specs.declared.fault.RecordFault.TheVariants.{CutRecord, SpareBit, TooMany}
-use Rattle.flight_chain.specs.Recordings.{first_packet, has_spare_bit, RecordingWalk, recording_walk_from, behind_input}
+use Rattle.flight_chain.specs.Recordings.{first_packet, RecordingWalk, recording_walk_from, behind_input}
 use Rattle.flight_chain.specs.Reading.{Takes, Stops, Loses}
 use Rattle.flight_chain.proofs.RecordingWalks.{recording_walk_from-none, recording_walk_from-fault, recording_walk_from-packet, fault_at-too_many, fault_at-cut, fault_at-spare, fault_at-none}
 
@@ -35,7 +35,7 @@ none_one bits none = elim (cases_Bool (list_any (λ (bit : Bool). bit) bits)) [
 first_packet-at : (f : ℕ) (packet rest : List ℕ) → length packet ≡ byte_count f → first_packet f (packet ++ rest) ≡ packet
 first_packet-at f packet rest whole = take_at packet rest (byte_count f) whole
 
-pub has_spare_bit-at : (f : ℕ) (packet rest : List ℕ) → length packet ≡ byte_count f → has_spare_bit f (packet ++ rest) ≡ list_any (λ (bit : Bool). bit) (drop f (bits_of packet))
+pub has_spare_bit-at : (f : ℕ) (packet rest : List ℕ) → length packet ≡ byte_count f → has_spare_bit f (first_packet f (packet ++ rest)) ≡ list_any (λ (bit : Bool). bit) (drop f (bits_of packet))
 has_spare_bit-at f packet rest whole = ap (λ (bytes : List ℕ). list_any (λ (bit : Bool). bit) (drop f (bits_of bytes))) (first_packet-at f packet rest whole)
 
 -- a whole packet with no spare bit, and then the walk behind it

@@ -3,10 +3,10 @@ use Rattle.std.proofs.Common.{◌≡◌, ℕ, zero, suc, ◌+◌, ◌^◌, ◌<�
 use Rattle.std.specs.Prelude.{nat_lt, ◌≢◌}
 use Rattle.std.proofs.lemmas.Bool.{lt-ltb, le-ltb, ltb-false, false≢true}
 use Rattle.std.proofs.lemmas.Grind.{common_steps}
-use Rattle.bit_vectors.specs.Vectors.{byte_count}
+use Rattle.bit_vectors.specs.Vectors.{byte_count, has_spare_bit}
 use Rattle.flight_chain.specs.declared.fault.RecordFault.{RecordFault}
 use Rattle.flight_chain.specs.declared.fault.RecordFault.TheVariants.{CutRecord, SpareBit, TooMany}
-use Rattle.flight_chain.specs.Recordings.{first_input, has_spare_bit, fault_at, RecordingWalk, walked, stopped_at, behind_input, by_fault, recording_step, recording_walk_by, recording_walk_from}
+use Rattle.flight_chain.specs.Recordings.{first_packet, first_input, fault_at, RecordingWalk, walked, stopped_at, behind_input, by_fault, recording_step, recording_walk_by, recording_walk_from}
 
 recording_walk_by-end : (steps f t : ℕ) → recording_walk_by steps f t [] ≡ walked
 unfolding recording_walk_by
@@ -64,7 +64,7 @@ recording_walk_from-packet f t (b ∷ bytes) some nonempty at =
 by_checks : ℕ → Bool → Bool → Bool → Option RecordFault
 by_checks t full short spare = if full then Some TooMany else if short then Some (CutRecord t) else if spare then Some (SpareBit t) else None
 
-checked : (f t : ℕ) (bytes : List ℕ) (full short spare : Bool) → (t == 2 ^ 32) ≡ full → nat_lt (length bytes) (byte_count f) ≡ short → has_spare_bit f bytes ≡ spare → fault_at f t bytes ≡ by_checks t full short spare
+checked : (f t : ℕ) (bytes : List ℕ) (full short spare : Bool) → (t == 2 ^ 32) ≡ full → nat_lt (length bytes) (byte_count f) ≡ short → has_spare_bit f (first_packet f bytes) ≡ spare → fault_at f t bytes ≡ by_checks t full short spare
 unfolding by_checks
 checked f t bytes full short spare is_full is_short is_spare = λ i. by_checks t (is_full i) (is_short i) (is_spare i)
 
@@ -82,11 +82,11 @@ pub fault_at-cut : (f t : ℕ) (bytes : List ℕ) → t < 2 ^ 32 → length byte
 unfolding by_checks
 fault_at-cut f t bytes few short = checked f t bytes false true _ (not_full t few) (lt-ltb (length bytes) (byte_count f) short) refl
 
-pub fault_at-spare : (f t : ℕ) (bytes : List ℕ) → t < 2 ^ 32 → byte_count f ≤ length bytes → has_spare_bit f bytes ≡ true → fault_at f t bytes ≡ Some (SpareBit t)
+pub fault_at-spare : (f t : ℕ) (bytes : List ℕ) → t < 2 ^ 32 → byte_count f ≤ length bytes → has_spare_bit f (first_packet f bytes) ≡ true → fault_at f t bytes ≡ Some (SpareBit t)
 unfolding by_checks
 fault_at-spare f t bytes few long spare = checked f t bytes false false true (not_full t few) (le-ltb (length bytes) (byte_count f) long) spare
 
-pub fault_at-none : (f t : ℕ) (bytes : List ℕ) → t < 2 ^ 32 → byte_count f ≤ length bytes → has_spare_bit f bytes ≡ false → fault_at f t bytes ≡ None
+pub fault_at-none : (f t : ℕ) (bytes : List ℕ) → t < 2 ^ 32 → byte_count f ≤ length bytes → has_spare_bit f (first_packet f bytes) ≡ false → fault_at f t bytes ≡ None
 unfolding by_checks
 fault_at-none f t bytes few long spare = checked f t bytes false false false (not_full t few) (le-ltb (length bytes) (byte_count f) long) spare
 
@@ -101,12 +101,12 @@ checks_passed t false false false none = (refl, refl, refl)
 pub record BeginWithPacket (f t : ℕ) (bytes : List ℕ) : Type 0 where
   pub few : t ≢ 2 ^ 32
   pub long : byte_count f ≤ length bytes
-  pub spare : has_spare_bit f bytes ≡ false
+  pub spare : has_spare_bit f (first_packet f bytes) ≡ false
 
 pub fault_at-told : (f t : ℕ) (bytes : List ℕ) → fault_at f t bytes ≡ None → BeginWithPacket f t bytes
 unfolding by_checks
 fault_at-told f t bytes none =
-    let passed = checks_passed t (t == 2 ^ 32) (nat_lt (length bytes) (byte_count f)) (has_spare_bit f bytes) none in
+    let passed = checks_passed t (t == 2 ^ 32) (nat_lt (length bytes) (byte_count f)) (has_spare_bit f (first_packet f bytes)) none in
     record {
       few = λ full. false≢true (sym passed.0 ∙ is_full t full);
       long = ltb-false (length bytes) (byte_count f) passed.1;

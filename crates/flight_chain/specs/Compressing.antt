@@ -123,5 +123,5 @@ pub record IsCompressing (encoder : EncoderState) (input : List Bool) (line room
   pub pen_room : room ≡ 10 * length input + 43
 
 -- nothing is taken
-pub record IsUnread (s : Progress) : Type 0 where
+pub record HasTakenNothing (s : Progress) : Type 0 where
   pub none : HasTaken (compression_of s) [] s

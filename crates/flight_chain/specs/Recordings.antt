@@ -1,8 +1,8 @@
 -- Recordings: packets of one length one after the other, each the bytes of an input vector. The walk over one: the inputs of
 -- its packets in order, and how it ends.
 use Rattle.std.specs.Prelude.{ℕ, zero, suc, ◌+◌, ◌^◌, Bool, ◌==◌, nat_lt, if◌then◌else◌, List, [], ◌∷◌, length, take, drop, Option, Some, None}
-use Rattle.std.specs.List.{flat_map, list_any}
-use Rattle.bit_vectors.specs.Vectors.{bits_of, byte_count, vector_bytes}
+use Rattle.std.specs.List.{flat_map}
+use Rattle.bit_vectors.specs.Vectors.{bits_of, byte_count, has_spare_bit, vector_bytes}
 use Rattle.flight_chain.specs.declared.fault.RecordFault.{RecordFault}
 use Rattle.flight_chain.specs.declared.fault.RecordFault.TheVariants.{CutRecord, SpareBit, TooMany}
 
@@ -18,17 +18,13 @@ first_packet f bytes = take (byte_count f) bytes
 abbrev pub first_input : ℕ → List ℕ → List Bool
 first_input f bytes = take f (bits_of (first_packet f bytes))
 
--- whether a bit of it that belongs to no place is one
-abbrev pub has_spare_bit : ℕ → List ℕ → Bool
-has_spare_bit f bytes = list_any (λ bit. bit) (drop f (bits_of (first_packet f bytes)))
-
 -- Why these bytes, which are some, don't begin with the packet t, the first reason deciding: no packet may have this
 -- number, they end inside it, or a spare bit is one.
 abbrev pub fault_at : ℕ → ℕ → List ℕ → Option RecordFault
 fault_at f t bytes =
     if t == 2 ^ 32 then Some TooMany
     else if nat_lt (length bytes) (byte_count f) then Some (CutRecord t)
-    else if has_spare_bit f bytes then Some (SpareBit t)
+    else if has_spare_bit f (first_packet f bytes) then Some (SpareBit t)
     else None
 
 -- a walk: the inputs in order, the bytes behind their packets, and why these are not walked, none where nothing is left

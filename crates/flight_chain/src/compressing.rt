@@ -7,7 +7,7 @@ ghost use Rattle.desk_ports.specs.Courses.{AfterRun, AfterTurn, HasCause, no_out
 ghost use Rattle.mask_update.specs.Histories.{History};
 ghost use Rattle.side_tables.specs.Rows.{flags_of};
 ghost use Rattle.packet_encode.specs.Encoder.{StandsFor};
-ghost use Rattle.packet_encode.specs.Packets.{with_input};
+ghost use Rattle.packet_encode.specs.Packets.{with_next_input};
 ghost use Rattle.packet_store.specs.SpacePackets.{space_packet};
 ghost use Rattle.flight_chain.specs.Stores.{data_at};
 ghost use Rattle.flight_chain.specs.Compressing.{Compression, HasTaken, KeepsInputs, all_inputs, compression_of, rest_course};
@@ -121,15 +121,15 @@ impl Compressing {
         requires output { IsReadyOut (D.meaning desk.old) Outlet.Main }
         requires most { self.old.encoder.masks.taken < 4294967296 }
         ensures stands { (h : History) → StandsFor h self.old.encoder
-            → StandsFor (with_input h self.old.encoder.robust self.old.input (flags_of self.old.rows t)) self.new.encoder }
+            → StandsFor (with_next_input h self.old.encoder.robust self.old.input (flags_of self.old.rows t)) self.new.encoder }
         ensures added { (h : History) → StandsFor h self.old.encoder
             → OnOk result (Adds (D.meaning desk.old) (D.meaning desk.new) Outlet.Main
             (space_packet self.old.apid (t % PERIOD)
-            (data_at (with_input h self.old.encoder.robust self.old.input (flags_of self.old.rows t)) (length h.steps)))) }
+            (data_at (with_next_input h self.old.encoder.robust self.old.input (flags_of self.old.rows t)) (length h.steps)))) }
         ensures front { (h : History) → StandsFor h self.old.encoder
             → OnErr result (AddsFront (D.meaning desk.old) (D.meaning desk.new) Outlet.Main
             (space_packet self.old.apid (t % PERIOD)
-            (data_at (with_input h self.old.encoder.robust self.old.input (flags_of self.old.rows t)) (length h.steps)))) }
+            (data_at (with_next_input h self.old.encoder.robust self.old.input (flags_of self.old.rows t)) (length h.steps)))) }
         ensures cause { HasWriteCause (D.counts desk.old) (D.counts desk.new) result }
         ensures ready_in { OnOk result (IsReadyIn (D.meaning desk.new) Inlet.Main) }
         ensures ready_out { OnOk result (IsReadyOut (D.meaning desk.new) Outlet.Main) }

@@ -23,13 +23,13 @@ pub struct Flight {
 }
 
 impl Model for Flight {
-    ghost use Rattle.flight_chain.specs.Compressing.{Compression, compression_of, IsUnread};
+    ghost use Rattle.flight_chain.specs.Compressing.{Compression, compression_of, HasTakenNothing};
 
     ghost Value = { Compression };
 
     ghost view = { λ f. compression_of f.compressing };
 
-    ghost invariant = { λ f. IsUnread f.compressing };
+    ghost invariant = { λ f. HasTakenNothing f.compressing };
 }
 
 impl Flight {

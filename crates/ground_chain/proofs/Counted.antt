@@ -3,14 +3,14 @@ use Rattle.std.proofs.Common.{◌≡◌, ℕ, suc, ◌+◌, ◌-◌, ◌<◌, �
 use Rattle.std.proofs.lemmas.List.Sums.{sum_by-cons}
 use Rattle.std.proofs.lemmas.Grind.{common_steps}
 use Rattle.bit_vectors.specs.declared.fault.BitFault.{BitFault}
-use Rattle.packet_decode.specs.declared.decoder.Reading.{Reading as Answer}
+use Rattle.packet_decode.specs.declared.decoder.Reading.{Reading}
 use Rattle.packet_decode.specs.declared.decoder.Reading.TheVariants.{Written, Unsynced, Gap}
 use Rattle.packet_decode.specs.PacketReading.{answer_of}
 use Rattle.bit_vectors.specs.Vectors.{bits_of}
 use Rattle.ground_chain.specs.declared.restored.Restored.{Restored}
 use Rattle.ground_chain.specs.Numbers.{number_after, expected}
 use Rattle.ground_chain.specs.Run.{Arrival, Known, Judged, kind_of, judged_by, judge, run_from, known_from}
-use Rattle.ground_chain.specs.Report.{is_written, is_repeat, is_unwritten, lost_count, listed_by, restored_of, restored_by, added}
+use Rattle.ground_chain.specs.Report.{is_written_kind, is_repeat, is_unwritten, lost_count, listed_by, restored_of, restored_by, added}
 use Rattle.ground_chain.specs.Told.{AreArrivals}
 use Rattle.ground_chain.proofs.Told.{IsLater, number_later, first_arrival, later_arrivals}
 
@@ -18,7 +18,7 @@ use Rattle.ground_chain.proofs.Told.{IsLater, number_later, first_arrival, later
 pub restored_of-cons : (j : Judged) (run : List Judged) → restored_of (j ∷ run) ≡ added (restored_by j.verdict) (restored_of run)
 restored_of-cons j run =
     let packets : suc (length run) ≡ 1 + length run = omega arith in
-    let written = sum_by-cons (λ (x : Judged). if is_written x.verdict.kind then 1 else 0) j run in
+    let written = sum_by-cons (λ (x : Judged). if is_written_kind x.verdict.kind then 1 else 0) j run in
     let repeats = sum_by-cons (λ (x : Judged). if is_repeat x.verdict.kind then 1 else 0) j run in
     let listed = sum_by-cons (λ (x : Judged). listed_by x.verdict) j run in
     λ i. record { packets = packets i; written = written i; repeats = repeats i; listed = listed i }
@@ -54,7 +54,7 @@ lost_count_is first t le true is = let less : first < t = grind (arith, common_s
 lost_count_is first t le false is = grind (arith, common_steps)
 
 -- an answer is a written packet or one that is not written
-answer_counts : (answer : Result Answer BitFault) → (if is_written (kind_of answer) then 1 else 0) + (if is_unwritten (kind_of answer) then 1 else 0) ≡ 1
+answer_counts : (answer : Result Reading BitFault) → (if is_written_kind (kind_of answer) then 1 else 0) + (if is_unwritten (kind_of answer) then 1 else 0) ≡ 1
 answer_counts (Ok Written) = refl
 answer_counts (Ok Unsynced) = refl
 answer_counts (Ok (Gap level)) = refl

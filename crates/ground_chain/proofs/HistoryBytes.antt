@@ -6,13 +6,13 @@ use Rattle.bit_vectors.specs.Vectors.{vector_bytes}
 use Rattle.mask_update.specs.Histories.{History, IsValid, input_at}
 use Rattle.robust_window.specs.Histories.{level_at}
 use Rattle.packet_encode.specs.Deliveries.{is_written, latest_written}
-use Rattle.packet_decode.specs.Histories.{state_of}
+use Rattle.packet_decode.specs.Histories.{true_state}
 use Rattle.loss_player.specs.Gaps.{AreGapsShort}
 use Rattle.ground_chain.specs.declared.verdict.Kind.TheVariants.{Written}
 use Rattle.ground_chain.specs.Run.{Judged, run}
-use Rattle.ground_chain.specs.Report.{is_written as is_kind_written, content_bytes, written_bytes, run_bytes}
+use Rattle.ground_chain.specs.Report.{is_written_kind as is_kind_written, content_bytes, written_bytes, run_bytes}
 use Rattle.ground_chain.specs.Deliveries.{history_arrivals, restored_bytes}
-use Rattle.ground_chain.specs.Run.{repeated, Known}
+use Rattle.ground_chain.specs.Run.{repeat_judged, Known}
 use Rattle.ground_chain.proofs.HistoryPackets.{missed_behind, is_written-dropped, latest_written-more}
 use Rattle.ground_chain.proofs.HistoryRuns.{known_at, judged_first, judged_copies, judged_at, run-packets}
 
@@ -40,15 +40,15 @@ pub kind-written : (written : Bool) (latest : Option ℕ) (level : ℕ) → is_k
 kind-written true latest level = refl
 kind-written false latest level = is_kind-missed latest level
 
-repeats-nothing : (known : Known) (n : ℕ) → flat_map (λ j. written_bytes j) (replicate n (repeated known)) ≡ []
+repeats-nothing : (known : Known) (n : ℕ) → flat_map (λ j. written_bytes j) (replicate n (repeat_judged known)) ≡ []
 repeats-nothing known zero = refl
 repeats-nothing known (suc n) = repeats-nothing known n
 
 module _ (h : History) (copies : ℕ → ℕ) where
   bytes-by : (t : ℕ) (written : Bool) (latest : Option ℕ) (level : ℕ) (next : Option ℕ) → next ≡ (if written then Some t else latest)
-      → (if is_kind_written (if written then Written else missed_behind latest level) then content_bytes (state_of h next) else []) ≡ cond written (vector_bytes (input_at h t)) []
-  bytes-by t true latest level next is = ap (λ (o : Option ℕ). content_bytes (state_of h o)) is
-  bytes-by t false latest level next is = ap (λ (b : Bool). if b then content_bytes (state_of h next) else []) (is_kind-missed latest level)
+      → (if is_kind_written (if written then Written else missed_behind latest level) then content_bytes (true_state h next) else []) ≡ cond written (vector_bytes (input_at h t)) []
+  bytes-by t true latest level next is = ap (λ (o : Option ℕ). content_bytes (true_state h o)) is
+  bytes-by t false latest level next is = ap (λ (b : Bool). if b then content_bytes (true_state h next) else []) (is_kind-missed latest level)
 
   bytes-first : (t : ℕ) → written_bytes (judged_first h copies t) ≡ cond (is_written h copies t) (vector_bytes (input_at h t)) []
   bytes-first t = bytes-by t (is_written h copies t) (latest_written h copies t) (level_at h t) (latest_written h copies (t + 1)) (latest_written-more h copies t)

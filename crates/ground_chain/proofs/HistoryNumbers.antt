@@ -13,8 +13,8 @@ use Rattle.packet_encode.specs.Deliveries.{arrivals, count_to_last, is_written, 
 use Rattle.loss_player.specs.Gaps.{AreGapsShort}
 use Rattle.ground_chain.specs.declared.verdict.Kind.TheVariants.{Written}
 use Rattle.ground_chain.specs.Numbers.{expected}
-use Rattle.ground_chain.specs.Run.{Arrival, Known, Judged, nothing_known, repeated, run}
-use Rattle.ground_chain.specs.Report.{is_written as is_kind_written, is_repeat, restored_of}
+use Rattle.ground_chain.specs.Run.{Arrival, Known, Judged, nothing_known, repeat_judged, run}
+use Rattle.ground_chain.specs.Report.{is_written_kind as is_kind_written, is_repeat, restored_of}
 use Rattle.ground_chain.specs.Told.{AreArrivals}
 use Rattle.ground_chain.specs.Deliveries.{arrival_at, history_arrivals, delivered_numbers}
 use Rattle.ground_chain.proofs.Told.{ranges}
@@ -55,10 +55,10 @@ kind-repeat false (Some s) level = refl
 
 -- a count over all copies of a packet
 count-copies : (h : History) (copies : ℕ → ℕ) (test : Judged → Bool) (t c : ℕ) → count_by test (judged_copies h copies t (suc c))
-    ≡ cond (test (judged_first h copies t)) 1 0 + c * cond (test (repeated (known_at h copies (t + 1)))) 1 0
+    ≡ cond (test (judged_first h copies t)) 1 0 + c * cond (test (repeat_judged (known_at h copies (t + 1)))) 1 0
 count-copies h copies test t c =
-    sum_by-cons (λ (j : Judged). cond (test j) 1 0) (judged_first h copies t) (replicate c (repeated (known_at h copies (t + 1))))
-    ∙ ap (λ (n : ℕ). cond (test (judged_first h copies t)) 1 0 + n) (sum_by-replicate (λ (j : Judged). cond (test j) 1 0) c (repeated (known_at h copies (t + 1))))
+    sum_by-cons (λ (j : Judged). cond (test j) 1 0) (judged_first h copies t) (replicate c (repeat_judged (known_at h copies (t + 1))))
+    ∙ ap (λ (n : ℕ). cond (test (judged_first h copies t)) 1 0 + n) (sum_by-replicate (λ (j : Judged). cond (test j) 1 0) c (repeat_judged (known_at h copies (t + 1))))
 
 module _ (h : History) (copies : ℕ → ℕ) where
   written-copies : (t c : ℕ) → copies t ≡ c → count_by (λ j. is_kind_written j.verdict.kind) (judged_copies h copies t c) ≡ cond (is_written h copies t) 1 0

@@ -12,13 +12,13 @@ use Rattle.packet_encode.specs.Forms.{form_bits}
 use Rattle.packet_encode.specs.Packets.{form_at, packet_at}
 use Rattle.packet_encode.specs.Deliveries.{carries_both, reaches, is_written, latest_written}
 use Rattle.packet_encode.proofs.Deliveries.{latest_written-suc}
-use Rattle.packet_decode.specs.declared.decoder.Reading.{Reading as Answer}
+use Rattle.packet_decode.specs.declared.decoder.Reading.{Reading}
 use Rattle.packet_decode.specs.declared.decoder.Reading.TheVariants as answer
 use Rattle.packet_decode.specs.State.{IsState, InReach}
-use Rattle.packet_decode.specs.Histories.{IsUnderstood, state_of}
+use Rattle.packet_decode.specs.Histories.{IsUnderstood, true_state}
 use Rattle.packet_decode.specs.PacketReading.{answer_of}
 use Rattle.packet_decode.proofs.OneAnswer.{spells_read}
-use Rattle.packet_decode.proofs.OfHistories.{answer-gap, answer-unsynced, answer-written, state_of-is, understood-spelled}
+use Rattle.packet_decode.proofs.OfHistories.{answer-gap, answer-unsynced, answer-written, true_state-is, understood-spelled}
 use Rattle.flight_chain.specs.Stores.{data_at}
 use Rattle.ground_chain.specs.declared.verdict.Kind.{Kind}
 use Rattle.ground_chain.specs.declared.verdict.Kind.TheVariants.{Written, Unsynced, Gap}
@@ -43,11 +43,11 @@ both_carried flags is = and_parts flags.f flags.r is
 carries_either : (f r : Bool) → f ≡ true → r ≡ true → (f && r) ≡ true
 carries_either f r a b = ap (λ x. x && r) a ∙ b
 
-reaches-true : (h : History) (latest : Option ℕ) (t level : ℕ) → reaches latest t level ≡ true → InReach (state_of h latest) t level
+reaches-true : (h : History) (latest : Option ℕ) (t level : ℕ) → reaches latest t level ≡ true → InReach (true_state h latest) t level
 reaches-true h None t level is = absurd cc
 reaches-true h (Some s) t level is = leb-true (t - 1 - s) level is
 
-reaches-from : (h : History) (latest : Option ℕ) (t level : ℕ) → InReach (state_of h latest) t level → reaches latest t level ≡ true
+reaches-from : (h : History) (latest : Option ℕ) (t level : ℕ) → InReach (true_state h latest) t level → reaches latest t level ≡ true
 reaches-from h None t level near = absurd near
 reaches-from h (Some s) t level near = le-leb (t - 1 - s) level near
 
@@ -68,30 +68,30 @@ understands h latest t = carries_both (flags_at h t) || reaches latest t (level_
 
 -- it is read as a packet that is understood, or is not: the verdict's kind, and the state after it
 record IsReadOf (h : History) (latest : Option ℕ) (t : ℕ) (bits : List Bool) (understood : Bool) : Type 0 where
-  kind : kind_of (answer_of h.places (state_of h latest) t bits) ≡ (if understood then Written else missed_behind latest (level_at h t))
-  state : state_after h.places (state_of h latest) t bits ≡ state_of h (if understood then Some t else latest)
+  kind : kind_of (answer_of h.places (true_state h latest) t bits) ≡ (if understood then Written else missed_behind latest (level_at h t))
+  state : state_after h.places (true_state h latest) t bits ≡ true_state h (if understood then Some t else latest)
 
 module _ (h : History) (t : ℕ) (valid : IsValid h) (lt : t < length h.steps) where
   within : (latest : Option ℕ) → IfSome latest (λ s. s < t) → IfSome latest (λ s. s < length h.steps)
   within None before = tt
   within (Some s) before = omega (arith, before, lt)
 
-  known : (latest : Option ℕ) → IfSome latest (λ s. s < t) → IsState h.places (state_of h latest)
-  known latest before = state_of-is h latest valid (within latest before)
+  known : (latest : Option ℕ) → IfSome latest (λ s. s < t) → IsState h.places (true_state h latest)
+  known latest before = true_state-is h latest valid (within latest before)
 
   read_written : (latest : Option ℕ) → IfSome latest (λ s. s < t) → IsUnderstood h latest t → IsReadOf h latest t (packet_at h t) true
   read_written latest before understood =
       let spells = understood-spelled h t valid lt latest before understood in
       record {
         kind = ap kind_of (answer-written h t valid lt latest before understood);
-        state = ap (state_read (state_of h latest) t) (spells_read h.places (state_of h latest) t (known latest before) (packet_at h t) (form_at h t) (mask_at h t) (input_at h t) spells);
+        state = ap (state_read (true_state h latest) t) (spells_read h.places (true_state h latest) t (known latest before) (packet_at h t) (form_at h t) (mask_at h t) (input_at h t) spells);
       }
 
   -- an answer that is no written packet leaves the state
-  stays : (latest : Option ℕ) (reading : Answer) → IfSome latest (λ s. s < t) → answer_of h.places (state_of h latest) t (packet_at h t) ≡ Ok reading
-      → IsStateAfter h.places (state_of h latest) t (packet_at h t) (state_after h.places (state_of h latest) t (packet_at h t)) (Ok reading)
+  stays : (latest : Option ℕ) (reading : Reading) → IfSome latest (λ s. s < t) → answer_of h.places (true_state h latest) t (packet_at h t) ≡ Ok reading
+      → IsStateAfter h.places (true_state h latest) t (packet_at h t) (state_after h.places (true_state h latest) t (packet_at h t)) (Ok reading)
   stays latest reading before is =
-      subst (IsStateAfter h.places (state_of h latest) t (packet_at h t) (state_after h.places (state_of h latest) t (packet_at h t))) is (follows_answer h.places (state_of h latest) t (known latest before) (packet_at h t))
+      subst (IsStateAfter h.places (true_state h latest) t (packet_at h t) (state_after h.places (true_state h latest) t (packet_at h t))) is (follows_answer h.places (true_state h latest) t (known latest before) (packet_at h t))
 
   read_missed : (latest : Option ℕ) → IfSome latest (λ s. s < t) → (IsUnderstood h latest t → ⊥) → IsReadOf h latest t (packet_at h t) false
   read_missed None before never =
@@ -147,14 +147,14 @@ module _ (h : History) (copies : ℕ → ℕ) where
 
   module _ (t c : ℕ) (valid : IsValid h) (lt : t < length h.steps) (arrived : copies t ≡ suc c) where
     -- the verdict's kind is that of the packet
-    pub kind_read : kind_of (answer_of h.places (state_of h (latest_written h copies t)) t (bits_of (data_at h t))) ≡ kind_at h copies t
+    pub kind_read : kind_of (answer_of h.places (true_state h (latest_written h copies t)) t (bits_of (data_at h t))) ≡ kind_at h copies t
     kind_read =
         let latest = latest_written h copies t in
         (read_data h t valid lt latest (latest_written-before t)).kind ∙ ap (λ (b : Bool). if b then Written else missed_behind latest (level_at h t)) (sym (is_written-arrived t c arrived))
 
     -- and the state is that of the latest written one so far
-    pub state_next : state_after h.places (state_of h (latest_written h copies t)) t (bits_of (data_at h t)) ≡ state_of h (latest_written h copies (t + 1))
+    pub state_next : state_after h.places (true_state h (latest_written h copies t)) t (bits_of (data_at h t)) ≡ true_state h (latest_written h copies (t + 1))
     state_next =
         let latest = latest_written h copies t in
         (read_data h t valid lt latest (latest_written-before t)).state
-        ∙ (ap (λ (b : Bool). state_of h (if b then Some t else latest)) (sym (is_written-arrived t c arrived)) ∙ ap (state_of h) (sym (latest_written-more t)))
+        ∙ (ap (λ (b : Bool). true_state h (if b then Some t else latest)) (sym (is_written-arrived t c arrived)) ∙ ap (true_state h) (sym (latest_written-more t)))

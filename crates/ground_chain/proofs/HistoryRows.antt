@@ -13,7 +13,7 @@ use Rattle.packet_encode.specs.Deliveries.{Cause, Lost, cause_behind, cause_at, 
 use Rattle.loss_player.specs.Gaps.{AreDropped, AreGapsShort}
 use Rattle.ground_chain.specs.declared.verdict.Kind.TheVariants as kind
 use Rattle.ground_chain.specs.Numbers.{expected}
-use Rattle.ground_chain.specs.Run.{Judged, Known, lost_from, repeated, run}
+use Rattle.ground_chain.specs.Run.{Judged, Known, lost_from, repeat_judged, run}
 use Rattle.ground_chain.specs.Report.{lost_row, own_row, verdict_rows, run_rows}
 use Rattle.ground_chain.specs.Deliveries.{ListedRow, history_arrivals, is_lost, before_rows, rows_of, listed_rows, row_text}
 use Rattle.ground_chain.proofs.Told.{range_then}
@@ -97,7 +97,7 @@ range-split first t last le lt =
     ∙ (sym (range_then (t - first) first (suc (last - (t + 1)))) ∙ ap (λ (k : ℕ). range_with_len first (t - first) ++ range_with_len k (suc (last - (t + 1)))) place)
 
 -- repeats have no row
-repeats-no-row : (known : Known) (n : ℕ) → flat_map (λ j. verdict_rows j.verdict) (replicate n (repeated known)) ≡ []
+repeats-no-row : (known : Known) (n : ℕ) → flat_map (λ j. verdict_rows j.verdict) (replicate n (repeat_judged known)) ≡ []
 repeats-no-row known zero = refl
 repeats-no-row known (suc n) = repeats-no-row known n
 

@@ -8,19 +8,19 @@ use Rattle.packet_store.specs.SpacePackets.{period}
 use Rattle.mask_update.specs.Histories.{History, IsValid}
 use Rattle.robust_window.specs.Histories.{level_at}
 use Rattle.packet_encode.specs.Deliveries.{arrivals, count_up_to, is_written, latest_written}
-use Rattle.packet_decode.specs.Histories.{state_of}
+use Rattle.packet_decode.specs.Histories.{true_state}
 use Rattle.loss_player.specs.Gaps.{AreGapsShort}
 use Rattle.flight_chain.specs.Stores.{data_at}
 use Rattle.ground_chain.specs.declared.verdict.Kind.TheVariants.{Written, Refused}
 use Rattle.ground_chain.specs.Numbers.{number_after, expected}
-use Rattle.ground_chain.specs.Run.{Known, Judged, nothing_known, lost_from, judged_by, judge, repeated, run_from, known_from, known_after, run}
+use Rattle.ground_chain.specs.Run.{Known, Judged, nothing_known, lost_from, judged_by, judge, repeat_judged, run_from, known_from, known_after, run}
 use Rattle.ground_chain.specs.Deliveries.{arrival_at, history_arrivals}
 use Rattle.ground_chain.proofs.LastArrivals.{copies_of, last_before, last-dropped, last-arrived, number-arrived, number-repeated}
 use Rattle.ground_chain.proofs.HistoryPackets.{missed_behind, kind_at, kind_read, state_next, latest_written-dropped}
 
 -- what is known before the packet t: the latest packet that arrived, and the state of the latest written one
 abbrev pub known_at : History → (ℕ → ℕ) → ℕ → Known
-known_at h copies t = record { latest = last_before copies t; state = state_of h (latest_written h copies t) }
+known_at h copies t = record { latest = last_before copies t; state = true_state h (latest_written h copies t) }
 
 -- the verdict on the first copy of a packet, and what is known after it
 abbrev pub judged_first : History → (ℕ → ℕ) → ℕ → Judged
@@ -32,7 +32,7 @@ judged_first h copies t = record {
 -- the verdicts on so many copies of a packet
 abbrev pub judged_copies : History → (ℕ → ℕ) → ℕ → ℕ → List Judged
 judged_copies h copies t zero = []
-judged_copies h copies t (suc c) = judged_first h copies t ∷ replicate c (repeated (known_at h copies (t + 1)))
+judged_copies h copies t (suc c) = judged_first h copies t ∷ replicate c (repeat_judged (known_at h copies (t + 1)))
 
 -- the verdicts on all copies that arrive
 abbrev pub judged_at : History → (ℕ → ℕ) → ℕ → List Judged
@@ -40,7 +40,7 @@ judged_at h copies t = judged_copies h copies t (copies t)
 
 -- what is known where this is the latest packet that arrived
 abbrev pub known_by : History → (ℕ → ℕ) → Option ℕ → Known
-known_by h copies latest = record { latest = latest; state = state_of h (latest_written h copies (count_up_to latest)) }
+known_by h copies latest = record { latest = latest; state = true_state h (latest_written h copies (count_up_to latest)) }
 
 -- Before the packet t, where the latest one that arrived is this, each front of these arrivals leaves what is known at its
 -- end.
@@ -65,7 +65,7 @@ module _ (h : History) (copies : ℕ → ℕ) where
       subst (λ (s : ℕ). latest_written h copies s ≡ latest_written h copies (count_up_to (last_before copies s))) next (written-more t (copies t) refl (written-is t))
 
   known-is : (t : ℕ) → known_at h copies t ≡ known_by h copies (last_before copies t)
-  known-is t = ap (λ (latest : Option ℕ). record { latest = last_before copies t; state = state_of h latest }) (written-is t)
+  known-is t = ap (λ (latest : Option ℕ). record { latest = last_before copies t; state = true_state h latest }) (written-is t)
 
   known-arrived : (t c : ℕ) → copies t ≡ suc c → known_at h copies (t + 1) ≡ known_by h copies (Some t)
   known-arrived t c is = known-is (t + 1) ∙ ap (known_by h copies) (last-arrived copies t c is)
@@ -77,7 +77,7 @@ module _ (h : History) (copies : ℕ → ℕ) (valid : IsValid h) (short : AreGa
   known-dropped : (t : ℕ) → copies t ≡ 0 → known_at h copies (t + 1) ≡ known_at h copies t
   known-dropped t none =
       let latest = last-dropped copies t none in
-      let state = ap (state_of h) (latest_written-dropped h copies t none) in
+      let state = ap (true_state h) (latest_written-dropped h copies t none) in
       λ i. record { latest = latest i; state = state i }
 
   -- the first copy
@@ -94,7 +94,7 @@ module _ (h : History) (copies : ℕ → ℕ) (valid : IsValid h) (short : AreGa
       }
 
   -- any other copy
-  repeat-judged : (t c : ℕ) → copies t ≡ suc c → judge h.places (known_at h copies (t + 1)) (arrival_at h t) ≡ repeated (known_at h copies (t + 1))
+  repeat-judged : (t c : ℕ) → copies t ≡ suc c → judge h.places (known_at h copies (t + 1)) (arrival_at h t) ≡ repeat_judged (known_at h copies (t + 1))
   repeat-judged t c is =
       ap (judged_by h.places (known_at h copies (t + 1)) (data_at h t)) (ap (λ (latest : Option ℕ). number_after latest (t % period)) (last-arrived copies t c is) ∙ number-repeated t)
 
@@ -103,12 +103,12 @@ module _ (h : History) (copies : ℕ → ℕ) (valid : IsValid h) (short : AreGa
   abbrev run_at : ℕ → List ℕ → List Judged
   run_at t numbers = run_from h.places (known_at h copies t) (map (arrival_at h) numbers)
 
-  repeats-run : (t c : ℕ) → copies t ≡ suc c → (n : ℕ) (more : List ℕ) → run_at (t + 1) (replicate n t ++ more) ≡ replicate n (repeated (known_at h copies (t + 1))) ++ run_at (t + 1) more
+  repeats-run : (t c : ℕ) → copies t ≡ suc c → (n : ℕ) (more : List ℕ) → run_at (t + 1) (replicate n t ++ more) ≡ replicate n (repeat_judged (known_at h copies (t + 1))) ++ run_at (t + 1) more
   repeats-run t c is zero more = refl
   repeats-run t c is (suc n) more =
       let here = repeat-judged t c is in
       let rest = repeats-run t c is n more in
-      ap (λ (j : Judged). j ∷ run_from h.places j.after (map (arrival_at h) (replicate n t ++ more))) here ∙ ap (λ (l : List Judged). repeated (known_at h copies (t + 1)) ∷ l) rest
+      ap (λ (j : Judged). j ∷ run_from h.places j.after (map (arrival_at h) (replicate n t ++ more))) here ∙ ap (λ (l : List Judged). repeat_judged (known_at h copies (t + 1)) ∷ l) rest
 
   packet-run : (t c : ℕ) → t < length h.steps → copies t ≡ c → (more : List ℕ) → run_at t (replicate c t ++ more) ≡ judged_copies h copies t c ++ run_at (t + 1) more
   packet-run t zero lt is more = ap (λ (known : Known). run_from h.places known (map (arrival_at h) more)) (sym (known-dropped t is))
@@ -176,14 +176,14 @@ unrefused-by true latest level fault is = cc
 unrefused-by false None level fault is = cc
 unrefused-by false (Some s) level fault is = cc
 
-unrefused-repeat : (known : Known) → IsUnrefused (repeated known)
+unrefused-repeat : (known : Known) → IsUnrefused (repeat_judged known)
 unrefused-repeat known fault is = cc
 
 unrefused-copies : (h : History) (copies : ℕ → ℕ) (t c : ℕ) → All IsUnrefused (judged_copies h copies t c)
 unrefused-copies h copies t zero = All-nil (λ j. IsUnrefused j)
 unrefused-copies h copies t (suc c) =
-    All-cons (λ j. IsUnrefused j) (judged_first h copies t) (replicate c (repeated (known_at h copies (t + 1)))) (unrefused-by (is_written h copies t) (latest_written h copies t) (level_at h t))
-    (All-replicate (λ j. IsUnrefused j) c (repeated (known_at h copies (t + 1))) (unrefused-repeat (known_at h copies (t + 1))))
+    All-cons (λ j. IsUnrefused j) (judged_first h copies t) (replicate c (repeat_judged (known_at h copies (t + 1)))) (unrefused-by (is_written h copies t) (latest_written h copies t) (level_at h t))
+    (All-replicate (λ j. IsUnrefused j) c (repeat_judged (known_at h copies (t + 1))) (unrefused-repeat (known_at h copies (t + 1))))
 
 pub unrefused-packets : (h : History) (copies : ℕ → ℕ) (numbers : List ℕ) → All IsUnrefused (flat_map (judged_at h copies) numbers)
 unrefused-packets h copies [] = All-nil (λ j. IsUnrefused j)

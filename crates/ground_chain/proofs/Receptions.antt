@@ -3,16 +3,16 @@ use Rattle.std.proofs.Common.{◌≡◌, ℕ, Bool, List, [], ◌∷◌, ◌++�
 use Rattle.bit_vectors.specs.declared.fault.BitFault.{BitFault}
 use Rattle.bit_vectors.specs.Vectors.{bits_of}
 use Rattle.packet_encode.specs.Forms.{Form}
-use Rattle.packet_decode.specs.declared.decoder.Reading.{Reading as Answer}
+use Rattle.packet_decode.specs.declared.decoder.Reading.{Reading}
 use Rattle.packet_decode.specs.declared.decoder.Reading.TheVariants.{Written, Unsynced, Gap}
 use Rattle.packet_decode.specs.Spelling.{Spells}
 use Rattle.packet_decode.specs.Answers.{IsExactAnswer}
 use Rattle.packet_decode.specs.Decoding.{Decoding}
 use Rattle.ground_chain.specs.declared.verdict.Verdict.{Verdict}
 use Rattle.ground_chain.specs.Numbers.{number_after, expected}
-use Rattle.ground_chain.specs.Run.{Arrival, Known, Judged, nothing_known, lost_from, kind_of, judged_by, judge, repeated, known_after}
+use Rattle.ground_chain.specs.Run.{Arrival, Known, Judged, nothing_known, lost_from, kind_of, judged_by, judge, repeat_judged, known_after}
 use Rattle.ground_chain.specs.Sound.{IsStateAfter, IsJudgedBy}
-use Rattle.ground_chain.specs.Reception.{Reception, IsReception, StandsFor, known_by, next_judged}
+use Rattle.ground_chain.specs.Reception.{Reception, IsReception, StandsFor, known_of, next_judged}
 use Rattle.ground_chain.proofs.Runs.{known_from-append}
 use Rattle.ground_chain.proofs.Sound.{judged_only}
 
@@ -22,10 +22,10 @@ Latest old new t bits =
     (form : Form) (mask content : List Bool) → Spells old.places old.state t bits form mask content
     → new ≡ record { places = old.places; state = Some (record { number = t; mask = mask; content = content }); recent = form.recent; level = form.level }
 
-abbrev pub Unchanged : Decoding → Decoding → Result Answer BitFault → Type 0
+abbrev pub Unchanged : Decoding → Decoding → Result Reading BitFault → Type 0
 Unchanged old new answer = (answer ≡ Ok Written → ⊥) → new ≡ old
 
-follows_read : (old new : Decoding) (t : ℕ) (bits : List Bool) (answer : Result Answer BitFault) → IsExactAnswer old.places old.state t bits answer → Latest old new t bits → Unchanged old new answer
+follows_read : (old new : Decoding) (t : ℕ) (bits : List Bool) (answer : Result Reading BitFault) → IsExactAnswer old.places old.state t bits answer → Latest old new t bits → Unchanged old new answer
     → IsStateAfter old.places old.state t bits new.state answer
 follows_read old new t bits (Ok Written) (form, mask, content, spells) latest unchanged =
     record { form = form; mask = mask; content = content; spells = spells; is = ap (λ (d : Decoding). d.state) (latest form mask content spells) }
@@ -34,12 +34,12 @@ follows_read old new t bits (Ok (Gap level)) exact latest unchanged = ap (λ (d 
 follows_read old new t bits (Err fault) exact latest unchanged = ap (λ (d : Decoding). d.state) (unchanged (λ e. cc))
 
 -- an arrival that is read
-pub judged_read : (r : Reception) (new : Decoding) (count t : ℕ) (body : List ℕ) (verdict : Verdict) (answer : Result Answer BitFault) → IsReception r.latest r.decoder → number_after r.latest count ≡ Some t
+pub judged_read : (r : Reception) (new : Decoding) (count t : ℕ) (body : List ℕ) (verdict : Verdict) (answer : Result Reading BitFault) → IsReception r.latest r.decoder → number_after r.latest count ≡ Some t
     → verdict ≡ record { lost = lost_from (expected r.latest) t; t = t; kind = kind_of answer }
     → IsExactAnswer r.decoder.places r.decoder.state t (bits_of body) answer → Latest r.decoder new t (bits_of body) → Unchanged r.decoder new answer
     → record { verdict = verdict; after = record { latest = Some t; state = new.state } } ≡ next_judged r count body
 judged_read r new count t body verdict answer kept number is exact latest unchanged =
-    let known = known_by r in
+    let known = known_of r in
     let judged : Judged = record { verdict = verdict; after = record { latest = Some t; state = new.state } } in
     let right : IsJudgedBy IsExactAnswer r.decoder.places known body judged (Some t) = record {
       answer = answer;
@@ -51,15 +51,15 @@ judged_read r new count t body verdict answer kept number is exact latest unchan
     judged_only r.decoder.places known kept.places body judged (Some t) right ∙ ap (judged_by r.decoder.places known body) (sym number)
 
 -- a repeat
-pub judged_repeat : (r : Reception) (count : ℕ) (body : List ℕ) → number_after r.latest count ≡ None → repeated (known_by r) ≡ next_judged r count body
-judged_repeat r count body number = ap (judged_by r.decoder.places (known_by r) body) (sym number)
+pub judged_repeat : (r : Reception) (count : ℕ) (body : List ℕ) → number_after r.latest count ≡ None → repeat_judged (known_of r) ≡ next_judged r count body
+judged_repeat r count body number = ap (judged_by r.decoder.places (known_of r) body) (sym number)
 
 -- what is kept stands for the run with this arrival
-pub stands_next : (arrivals : List Arrival) (r new : Reception) (count : ℕ) (body : List ℕ) → new.decoder.places ≡ r.decoder.places → known_by new ≡ (next_judged r count body).after → StandsFor arrivals r
+pub stands_next : (arrivals : List Arrival) (r new : Reception) (count : ℕ) (body : List ℕ) → new.decoder.places ≡ r.decoder.places → known_of new ≡ (next_judged r count body).after → StandsFor arrivals r
     → StandsFor (arrivals ++ record { count = count; body = body } ∷ []) new
 stands_next arrivals r new count body places known stands =
     let f = r.decoder.places in
     let arrival : Arrival = record { count = count; body = body } in
-    let here : known_by new ≡ known_after f (arrivals ++ arrival ∷ []) =
+    let here : known_of new ≡ known_after f (arrivals ++ arrival ∷ []) =
     known ∙ ap (λ (k : Known). (judge f k arrival).after) stands ∙ sym (known_from-append f nothing_known arrivals (arrival ∷ [])) in
     here ∙ ap (λ (n : ℕ). known_after n (arrivals ++ arrival ∷ [])) (sym places)

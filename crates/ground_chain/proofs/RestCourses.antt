@@ -17,8 +17,8 @@ use Rattle.packet_store.proofs.StoreCourses.{FollowsWalk}
 use Rattle.ground_chain.specs.declared.restored.Restored.{Restored}
 use Rattle.ground_chain.specs.Run.{Judged, run_from}
 use Rattle.ground_chain.specs.Report.{header_row, verdict_rows, written_bytes, run_bytes, run_rows, end_row, restored_of, restored_by, added}
-use Rattle.ground_chain.specs.Reception.{known_by, next_judged}
-use Rattle.ground_chain.specs.Restoring.{arrival_of, arrivals_of, store_run, restore_course, Progress, unread, rest_run, all_restored, rest_course, judged_outputs, Wrote, WroteFront}
+use Rattle.ground_chain.specs.Reception.{known_of, next_judged}
+use Rattle.ground_chain.specs.Restoring.{arrival_of, arrivals_of, store_run, restore_course, Progress, nothing_read, rest_run, all_restored, rest_course, judged_outputs, Wrote, WroteFront}
 use Rattle.ground_chain.proofs.Counted.{restored_of-cons, added-assoc, none-added, added-none}
 
 -- ---- the walk
@@ -57,7 +57,7 @@ SameRest s t bytes rest = (rest_run s bytes ≡ rest_run t rest) × ((walk_on s.
 passed_rest : (s : Progress) (reader : ReaderState) (a b : Meanings) (given : Taken) → Takes s.reader reader a b given → given.chosen ≡ false → (rest : List ℕ)
     → SameRest s (record s { reader = reader }) (reader.packet ++ rest) rest
 passed_rest s reader a b given takes other rest = (
-  ap (run_from s.reception.decoder.places (known_by s.reception)) (passed_arrivals s.reader reader a b given takes other rest),
+  ap (run_from s.reception.decoder.places (known_of s.reception)) (passed_arrivals s.reader reader a b given takes other rest),
   ending_taken s.reader reader a b given takes rest,
 )
 
@@ -80,7 +80,7 @@ passed_numbers s reader a b given takes other rest = ap (λ (l : List Judged). a
 -- one arrival was judged: what is kept and counted is what the run knows after it
 pub record Judges (s t : Progress) (reader : ReaderState) (count : ℕ) : Type 0 where
   pub reader_is : t.reader ≡ reader
-  pub known : known_by t.reception ≡ (next_judged s.reception count reader.body).after
+  pub known : known_of t.reception ≡ (next_judged s.reception count reader.body).after
   pub places : t.reception.decoder.places ≡ s.reception.decoder.places
   pub restored : t.restored ≡ added s.restored (restored_by (next_judged s.reception count reader.body).verdict)
 
@@ -105,7 +105,7 @@ module _ (s t : Progress) (reader : ReaderState) (a b : Meanings) (given : Taken
 
   pub judged_run : rest_run s (reader.packet ++ rest) ≡ next_judged s.reception given.count reader.body ∷ rest_run t rest
   judged_run =
-      ap (run_from s.reception.decoder.places (known_by s.reception)) own_arrivals
+      ap (run_from s.reception.decoder.places (known_of s.reception)) own_arrivals
       ∙ (let places = sym is.places in let known = sym is.known in λ i. next_judged s.reception given.count reader.body ∷ run_from (places i) (known i) (arrivals_of t.reader.chosen (walk_on t.reader rest).packets))
 
   pub judged_ending : (walk_on s.reader (reader.packet ++ rest)).ending ≡ (walk_on t.reader rest).ending
@@ -131,7 +131,7 @@ module _ (s t : Progress) (reader : ReaderState) (a b : Meanings) (given : Taken
 -- ---- the turns
 
 no_rest : (s : Progress) → rest_run s [] ≡ []
-no_rest s = ap (λ (w : Walk). run_from s.reception.decoder.places (known_by s.reception) (arrivals_of s.reader.chosen w.packets)) (walk_from-none s.reader.chosen s.reader.taken s.reader.offset)
+no_rest s = ap (λ (w : Walk). run_from s.reception.decoder.places (known_of s.reception) (arrivals_of s.reader.chosen w.packets)) (walk_from-none s.reader.chosen s.reader.taken s.reader.offset)
 
 -- nothing is left
 pub rest_numbers-none : (s : Progress) → all_restored s [] ≡ s.restored
@@ -147,12 +147,12 @@ rest_course-none s =
 -- where no packet is walked nothing is owed
 pub rest_follows : (s : Progress) → FollowsWalk (rest_course s) s.reader
 rest_follows s = record {
-  nothing = λ bytes none. ap (λ (packets : List Packet). let run = run_from s.reception.decoder.places (known_by s.reception) (arrivals_of s.reader.chosen packets) in record { output = run_bytes run; report = run_rows run }) none;
+  nothing = λ bytes none. ap (λ (packets : List Packet). let run = run_from s.reception.decoder.places (known_of s.reception) (arrivals_of s.reader.chosen packets) in record { output = run_bytes run; report = run_rows run }) none;
   ends = λ bytes. refl;
 }
 
 -- a whole store is owed from its first packet on, behind the report's first line
-pub restore_course-first : (f apid : ℕ) (store : List ℕ) → restore_course f apid store ≡ behind (to_report header_row) (rest_course (unread f apid) store)
+pub restore_course-first : (f apid : ℕ) (store : List ℕ) → restore_course f apid store ≡ behind (to_report header_row) (rest_course (nothing_read f apid) store)
 restore_course-first f apid store =
     let run = store_run f apid store in
     let numbers = sym (none-added (restored_of (store_run f apid store))) in

@@ -1,13 +1,13 @@
 -- The run is exact, no other run is, and every sound run is the same but for its faults.
 use Rattle.std.proofs.Common.{◌≡◌, ℕ, Bool, List, [], ◌∷◌, map, Option, Some, None, Result, Ok, Err, refl, sym, ap, ◌∙◌, subst}
 use Rattle.bit_vectors.specs.declared.fault.BitFault.{BitFault}
-use Rattle.bit_vectors.specs.Reading.{Reading, Read, WrongBit, TooShort}
+use Rattle.bit_vectors.specs.Reading.{Parsed, Read, WrongBit, TooShort}
 use Rattle.bit_vectors.specs.Vectors.{bits_of}
-use Rattle.packet_decode.specs.declared.decoder.Reading.{Reading as Answer}
+use Rattle.packet_decode.specs.declared.decoder.Reading.{Reading}
 use Rattle.packet_decode.specs.declared.decoder.Reading.TheVariants.{Written, Unsynced, Gap}
 use Rattle.packet_decode.specs.State.{State, IsState, Change}
 use Rattle.packet_decode.specs.Answers.{IsSoundAnswer, IsExactAnswer}
-use Rattle.packet_decode.specs.PacketReading.{Outcome, Spelled, Opaque, Found, whole_packet_at, answer_by, answer_of}
+use Rattle.packet_decode.specs.PacketReading.{Outcome, Spelled, Opaque, Found, parse_whole_packet, parsed_answer, answer_of}
 use Rattle.packet_decode.proofs.ExactAnswers.{answer_of-exact}
 use Rattle.packet_decode.proofs.OneAnswer.{spells_read, says_answer, one_answer, sound_reading}
 use Rattle.ground_chain.specs.Numbers.{number_after}
@@ -21,31 +21,31 @@ module _ (f : ℕ) (state : State) (t : ℕ) (has : IsState f state) where
   spelled_state : (bits : List Bool) (next : State) → IsSpelled f state t bits next → state_after f state t bits ≡ next
   spelled_state bits next s = ap (state_read state t) (spells_read f state t has bits s.form s.mask s.content s.spells) ∙ sym s.is
 
-  follows_opaque : (bits : List Bool) (change : Change) (rest : List Bool) → IsStateAfter f state t bits state (answer_by state bits (Read (record { change = change; outcome = Opaque }) rest))
+  follows_opaque : (bits : List Bool) (change : Change) (rest : List Bool) → IsStateAfter f state t bits state (parsed_answer state bits (Read (record { change = change; outcome = Opaque }) rest))
   follows_opaque bits change rest = by_state state where
-    by_state : (s : State) → IsStateAfter f s t bits s (answer_by s bits (Read (record { change = change; outcome = Opaque }) rest))
+    by_state : (s : State) → IsStateAfter f s t bits s (parsed_answer s bits (Read (record { change = change; outcome = Opaque }) rest))
     by_state None = refl
     by_state (Some latest) = refl
 
-  abbrev FollowsBy : List Bool → Reading Found → Type 0
-  FollowsBy bits r = whole_packet_at f state t bits ≡ r → IsExactAnswer f state t bits (answer_by state bits r) → IsStateAfter f state t bits (state_read state t r) (answer_by state bits r)
+  abbrev FollowsBy : List Bool → Parsed Found → Type 0
+  FollowsBy bits r = parse_whole_packet f state t bits ≡ r → IsExactAnswer f state t bits (parsed_answer state bits r) → IsStateAfter f state t bits (state_read state t r) (parsed_answer state bits r)
 
   follows_read : (bits rest : List Bool) (change : Change) (o : Outcome) → FollowsBy bits (Read (record { change = change; outcome = o }) rest)
   follows_read bits rest change (Spelled mask content) is (form, m, i, spells) =
       record { form = form; mask = m; content = i; spells = spells; is = ap (state_read state t) (sym is) ∙ ap (state_read state t) (spells_read f state t has bits form m i spells) }
   follows_read bits rest change Opaque is exact = follows_opaque bits change rest
 
-  follows_by : (bits : List Bool) (r : Reading Found) → FollowsBy bits r
+  follows_by : (bits : List Bool) (r : Parsed Found) → FollowsBy bits r
   follows_by bits (Read found rest) is exact = follows_read bits rest found.change found.outcome is exact
   follows_by bits (WrongBit rest) is exact = refl
   follows_by bits TooShort is exact = refl
 
   -- the state of the run follows its answer
   pub follows_answer : (bits : List Bool) → IsStateAfter f state t bits (state_after f state t bits) (answer_of f state t bits)
-  follows_answer bits = follows_by bits (whole_packet_at f state t bits) refl (answer_of-exact f state t has bits)
+  follows_answer bits = follows_by bits (parse_whole_packet f state t bits) refl (answer_of-exact f state t has bits)
 
   -- no other state does
-  one_state : (bits : List Bool) (next other : State) (answer : Result Answer BitFault) → IsStateAfter f state t bits next answer → IsStateAfter f state t bits other answer → next ≡ other
+  one_state : (bits : List Bool) (next other : State) (answer : Result Reading BitFault) → IsStateAfter f state t bits next answer → IsStateAfter f state t bits other answer → next ≡ other
   one_state bits next other (Ok Written) a b = sym (spelled_state bits next a) ∙ spelled_state bits other b
   one_state bits next other (Ok Unsynced) a b = a ∙ sym b
   one_state bits next other (Ok (Gap level)) a b = a ∙ sym b
@@ -55,7 +55,7 @@ module _ (f : ℕ) (state : State) (t : ℕ) (has : IsState f state) where
   state_is bits next follows = one_state bits next (state_after f state t bits) (answer_of f state t bits) follows (follows_answer bits)
 
   -- a packet that is spelled has f places
-  IsState-follows : (bits : List Bool) (next : State) (answer : Result Answer BitFault) → IsStateAfter f state t bits next answer → IsState f next
+  IsState-follows : (bits : List Bool) (next : State) (answer : Result Reading BitFault) → IsStateAfter f state t bits next answer → IsState f next
   IsState-follows bits next (Ok Written) s = subst (IsState f) (sym s.is) (record { mask_places = s.spells.mask_places; content_places = s.spells.content_places })
   IsState-follows bits next (Ok Unsynced) same = subst (IsState f) (sym same) has
   IsState-follows bits next (Ok (Gap level)) same = subst (IsState f) (sym same) has
@@ -64,19 +64,19 @@ module _ (f : ℕ) (state : State) (t : ℕ) (has : IsState f state) where
   -- ---- sound answers
 
   -- a sound answer and the exact one differ in a fault alone, and the states after them are the same
-  record Alike (bits : List Bool) (next : State) (answer exact : Result Answer BitFault) (after : State) : Type 0 where
+  record Alike (bits : List Bool) (next : State) (answer exact : Result Reading BitFault) (after : State) : Type 0 where
     kind : without_fault (kind_of answer) ≡ without_fault (kind_of exact)
     same : next ≡ after
 
-  not_both : (fault : BitFault) (reading : Answer) → ◌≡◌ {A = Result Answer BitFault} (Err fault) (Ok reading) → ⊥
+  not_both : (fault : BitFault) (reading : Reading) → ◌≡◌ {A = Result Reading BitFault} (Err fault) (Ok reading) → ⊥
   not_both fault reading e = cc
 
-  alike : (bits : List Bool) (next after : State) (answer exact : Result Answer BitFault) → answer_of f state t bits ≡ exact → IsExactAnswer f state t bits exact → IsSoundAnswer f state t bits answer
+  alike : (bits : List Bool) (next after : State) (answer exact : Result Reading BitFault) → answer_of f state t bits ≡ exact → IsExactAnswer f state t bits exact → IsSoundAnswer f state t bits answer
       → IsStateAfter f state t bits next answer → IsStateAfter f state t bits after exact → Alike bits next answer exact after
   alike bits next after (Ok reading) exact is right sound a b =
       let same : exact ≡ Ok reading = sym is ∙ says_answer f state t has bits reading sound in
       record {
-        kind = ap (λ (x : Result Answer BitFault). without_fault (kind_of x)) (sym same);
+        kind = ap (λ (x : Result Reading BitFault). without_fault (kind_of x)) (sym same);
         same = one_state bits next after (Ok reading) a (subst (IsStateAfter f state t bits after) same b);
       }
   alike bits next after (Err fault) (Ok reading) is right sound a b = absurd (not_both fault reading (sound_reading f state t has bits reading (Err fault) right sound))
@@ -99,7 +99,7 @@ module _ (f : ℕ) (known : Known) (has : IsState f known.state) where
     state = follows_answer f known.state t has (bits_of body);
   }
 
-  read_same : (judged : Judged) (body : List ℕ) (t : ℕ) (answer : Result Answer BitFault) → answer ≡ answer_of f known.state t (bits_of body) → judged.verdict ≡ verdict_of known.latest t answer → judged.after.latest ≡ Some t
+  read_same : (judged : Judged) (body : List ℕ) (t : ℕ) (answer : Result Reading BitFault) → answer ≡ answer_of f known.state t (bits_of body) → judged.verdict ≡ verdict_of known.latest t answer → judged.after.latest ≡ Some t
       → judged.after.state ≡ state_after f known.state t (bits_of body) → judged ≡ judge_as f known body t
   read_same judged body t answer same verdict latest state =
       let v = verdict ∙ ap (verdict_of known.latest t) same in

@@ -6,7 +6,7 @@ use Rattle.std.proofs.lemmas.List.Concat.{flat_map-cons}
 use Rattle.std.proofs.lemmas.Grind.{common_steps}
 use Rattle.bit_vectors.specs.declared.fault.BitFault.{BitFault}
 use Rattle.packet_store.specs.SpacePackets.{period}
-use Rattle.packet_decode.specs.declared.decoder.Reading.{Reading as Answer}
+use Rattle.packet_decode.specs.declared.decoder.Reading.{Reading}
 use Rattle.packet_decode.specs.declared.decoder.Reading.TheVariants.{Written, Unsynced, Gap}
 use Rattle.ground_chain.specs.Numbers.{number_after, expected}
 use Rattle.ground_chain.specs.Run.{Arrival, Known, Judged, lost_from, kind_of, verdict_of, judged_by, judge, run_from, known_from}
@@ -49,7 +49,7 @@ ranges a b le =
 
 -- ---- one verdict
 
-never_repeat : (answer : Result Answer BitFault) → is_repeat (kind_of answer) ≡ false
+never_repeat : (answer : Result Reading BitFault) → is_repeat (kind_of answer) ≡ false
 never_repeat (Ok Written) = refl
 never_repeat (Ok Unsynced) = refl
 never_repeat (Ok (Gap level)) = refl
@@ -68,7 +68,7 @@ numbers_from first t le false is =
     let count : 1 ≡ t + 1 - first = omega arith in
     ap (λ (k : ℕ). range_with_len k 1) same ∙ ap (range_with_len first) count
 
-numbers_read : (latest : Option ℕ) (t : ℕ) (answer : Result Answer BitFault) → expected latest ≤ t → numbers_of (verdict_of latest t answer) ≡ range_with_len (expected latest) (t + 1 - expected latest)
+numbers_read : (latest : Option ℕ) (t : ℕ) (answer : Result Reading BitFault) → expected latest ≤ t → numbers_of (verdict_of latest t answer) ≡ range_with_len (expected latest) (t + 1 - expected latest)
 numbers_read latest t answer le =
     ap (λ (r : Bool). lost_numbers (lost_from (expected latest) t) ++ (if r then [] else t ∷ [])) (never_repeat answer) ∙ numbers_from (expected latest) t le (ltb (expected latest) t) refl
 

@@ -6,19 +6,19 @@ use Rattle.desk_ports.specs.Meanings.{Meanings, Adds, AddsFront}
 use Rattle.desk_ports.specs.Runs.{Ran}
 use Rattle.desk_ports.specs.Courses.{to_report}
 use Rattle.desk_ports.proofs.Runs.{Ran-then, Ran-adds, Ran-notes}
-use Rattle.packet_decode.specs.State.{State, Packet}
-use Rattle.packet_decode.specs.Decoding.{content_of}
+use Rattle.packet_decode.specs.State.{State, WrittenPacket}
+use Rattle.packet_decode.specs.Decoding.{latest_content}
 use Rattle.ground_chain.specs.declared.verdict.Kind.{Kind}
 use Rattle.ground_chain.specs.declared.verdict.Kind.TheVariants.{Written, Repeat, Unsynced, Gap, Refused}
 use Rattle.ground_chain.specs.Run.{Judged}
-use Rattle.ground_chain.specs.Report.{is_written, content_bytes, verdict_rows, written_bytes}
+use Rattle.ground_chain.specs.Report.{is_written_kind, content_bytes, verdict_rows, written_bytes}
 use Rattle.ground_chain.specs.Restoring.{Wrote, WroteFront, judged_outputs}
 
 pub OnErr-always : {T E : Type 0} (r : Result T E) (P : Type 0) → P → OnErr r P
 OnErr-always (Ok x) P p = tt
 OnErr-always (Err e) P p = p
 
-pub kind_written : (k : Kind) → is_written k ≡ true → k ≡ Written
+pub kind_written : (k : Kind) → is_written_kind k ≡ true → k ≡ Written
 kind_written Written is = refl
 kind_written Repeat is = absurd cc
 kind_written Unsynced is = absurd cc
@@ -26,12 +26,12 @@ kind_written (Gap level) is = absurd cc
 kind_written (Refused fault) is = absurd cc
 
 -- the content of a written packet is that of the latest one
-pub content_written : (j : Judged) (f : ℕ) (state : State) (packet : Packet) → is_written j.verdict.kind ≡ true → state ≡ j.after.state → state ≡ Some packet → vector_bytes (content_of f state) ≡ written_bytes j
+pub content_written : (j : Judged) (f : ℕ) (state : State) (packet : WrittenPacket) → is_written_kind j.verdict.kind ≡ true → state ≡ j.after.state → state ≡ Some packet → vector_bytes (latest_content f state) ≡ written_bytes j
 content_written j f state packet written same is =
-    ap (λ (s : State). vector_bytes (content_of f s)) is
+    ap (λ (s : State). vector_bytes (latest_content f s)) is
     ∙ (ap content_bytes (sym is ∙ same) ∙ ap (λ (b : Bool). if b then content_bytes j.after.state else []) (sym written))
 
-pub no_content : (j : Judged) → is_written j.verdict.kind ≡ false → [] ≡ written_bytes j
+pub no_content : (j : Judged) → is_written_kind j.verdict.kind ≡ false → [] ≡ written_bytes j
 no_content j other = ap (λ (b : Bool). if b then content_bytes j.after.state else []) (sym other)
 
 rows_then : (a b c : Meanings) (rows bytes : List ℕ) → Adds a b outlet.Report rows → Adds b c outlet.Main bytes → Ran a c [] bytes rows

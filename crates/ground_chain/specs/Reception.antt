@@ -5,7 +5,7 @@ use Rattle.packet_encode.specs.Forms.{Form}
 use Rattle.packet_store.specs.SpacePackets.{period}
 use Rattle.packet_decode.specs.State.{IsState}
 use Rattle.packet_decode.specs.Spelling.{Spells}
-use Rattle.packet_decode.specs.Decoding.{Decoding, number_of}
+use Rattle.packet_decode.specs.Decoding.{Decoding, latest_number}
 use Rattle.ground_chain.specs.declared.verdict.Lost.{Lost}
 use Rattle.ground_chain.specs.Numbers.{expected}
 use Rattle.ground_chain.specs.Run.{Arrival, Known, Judged, judge, known_after}
@@ -18,16 +18,16 @@ pub record Reception : Type 0 where
 abbrev pub nothing_arrived : ℕ → Reception
 nothing_arrived f = record { latest = None; decoder = record { places = f; state = None; recent = replicate f false; level = 0 } }
 
-abbrev pub known_by : Reception → Known
-known_by r = record { latest = r.latest; state = r.decoder.state }
+abbrev pub known_of : Reception → Known
+known_of r = record { latest = r.latest; state = r.decoder.state }
 
 -- the run's verdict on the next arrival, with this count and these data bytes, and what is known after it
 abbrev pub next_judged : Reception → ℕ → List ℕ → Judged
-next_judged r count body = judge r.decoder.places (known_by r) (record { count = count; body = body })
+next_judged r count body = judge r.decoder.places (known_of r) (record { count = count; body = body })
 
 -- it keeps what is known after these arrivals
 abbrev pub StandsFor : List Arrival → Reception → Type 0
-StandsFor arrivals r = known_by r ≡ known_after r.decoder.places arrivals
+StandsFor arrivals r = known_of r ≡ known_after r.decoder.places arrivals
 
 -- the decoder's latest packet is the one with the number t that the bits spell, and its first part tells the rest
 pub record HasDecoded (old new : Decoding) (t : ℕ) (body : List ℕ) : Type 0 where
@@ -45,4 +45,4 @@ pub record AreLost (lost : Lost) : Type 0 where
 -- the latest written packet arrived, and has the decoder's places
 pub record IsReception (latest : Option ℕ) (decoder : Decoding) : Type 0 where
   pub places : IsState decoder.places decoder.state
-  pub arrived : IfSome (number_of decoder.state) (λ t. t < expected latest)
+  pub arrived : IfSome (latest_number decoder.state) (λ t. t < expected latest)

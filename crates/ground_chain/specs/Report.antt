@@ -14,12 +14,12 @@ use Rattle.ground_chain.specs.Run.{Judged}
 
 -- ---- kinds of verdicts
 
-abbrev pub is_written : Kind → Bool
-is_written Written = true
-is_written Repeat = false
-is_written Unsynced = false
-is_written (Gap level) = false
-is_written (Refused fault) = false
+abbrev pub is_written_kind : Kind → Bool
+is_written_kind Written = true
+is_written_kind Repeat = false
+is_written_kind Unsynced = false
+is_written_kind (Gap level) = false
+is_written_kind (Refused fault) = false
 
 abbrev pub is_repeat : Kind → Bool
 is_repeat Written = false
@@ -44,7 +44,7 @@ content_bytes (Some packet) = vector_bytes packet.content
 
 -- the content of a written packet, in whole bytes with spare bits 0, and nothing for any other arrival
 abbrev pub written_bytes : Judged → List ℕ
-written_bytes judged = if is_written judged.verdict.kind then content_bytes judged.after.state else []
+written_bytes judged = if is_written_kind judged.verdict.kind then content_bytes judged.after.state else []
 
 -- the restored packets of a run
 abbrev pub run_bytes : List Judged → List ℕ
@@ -97,7 +97,7 @@ listed_by verdict = lost_count verdict.lost + (if is_unwritten verdict.kind then
 abbrev pub restored_of : List Judged → Restored
 restored_of judged = record {
   packets = length judged;
-  written = count_by (λ j. is_written j.verdict.kind) judged;
+  written = count_by (λ j. is_written_kind j.verdict.kind) judged;
   repeats = count_by (λ j. is_repeat j.verdict.kind) judged;
   listed = sum_by (λ j. listed_by j.verdict) judged;
 }
@@ -115,7 +115,7 @@ added first more = record {
 abbrev pub restored_by : Verdict → Restored
 restored_by verdict = record {
   packets = 1;
-  written = if is_written verdict.kind then 1 else 0;
+  written = if is_written_kind verdict.kind then 1 else 0;
   repeats = if is_repeat verdict.kind then 1 else 0;
   listed = listed_by verdict;
 }

@@ -19,7 +19,7 @@ use Rattle.ground_chain.specs.declared.fault.RestoreFault.TheVariants as restore
 use Rattle.ground_chain.specs.Numbers.{expected}
 use Rattle.ground_chain.specs.Run.{Arrival, Judged, run_from, run}
 use Rattle.ground_chain.specs.Report.{header_row, verdict_rows, written_bytes, run_bytes, run_rows, end_row, restored_of, added}
-use Rattle.ground_chain.specs.Reception.{Reception, known_by, nothing_arrived}
+use Rattle.ground_chain.specs.Reception.{Reception, known_of, nothing_arrived}
 
 abbrev pub arrival_of : Packet → Arrival
 arrival_of p = record { count = p.header.count; body = p.body }
@@ -71,8 +71,8 @@ pub record Progress : Type 0 where
   pub reception : Reception
   pub restored : Restored
 
-abbrev pub unread : ℕ → ℕ → Progress
-unread f apid = record { reader = opened (Some apid); reception = nothing_arrived f; restored = restored_of [] }
+abbrev pub nothing_read : ℕ → ℕ → Progress
+nothing_read f apid = record { reader = opened (Some apid); reception = nothing_arrived f; restored = restored_of [] }
 
 -- the places and the APID of one that has read nothing
 abbrev pub restorer_state : Progress → RestorerState
@@ -80,7 +80,7 @@ restorer_state s = record { places = s.reception.decoder.places; apid = unwrap_o
 
 -- the run over what is left of the store
 abbrev pub rest_run : Progress → List ℕ → List Judged
-rest_run s bytes = run_from s.reception.decoder.places (known_by s.reception) (arrivals_of s.reader.chosen (walk_on s.reader bytes).packets)
+rest_run s bytes = run_from s.reception.decoder.places (known_of s.reception) (arrivals_of s.reader.chosen (walk_on s.reader bytes).packets)
 
 -- the numbers of all arrivals
 abbrev pub all_restored : Progress → List ℕ → Restored
@@ -119,4 +119,4 @@ pub record IsRestoring (reader : ReaderState) (reception : Reception) (restored 
 
 -- nothing is read
 abbrev pub IsRestorer : Progress → Type 0
-IsRestorer s = s ≡ unread s.reception.decoder.places (unwrap_or s.reader.chosen 0)
+IsRestorer s = s ≡ nothing_read s.reception.decoder.places (unwrap_or s.reader.chosen 0)

@@ -1,12 +1,12 @@
 -- The run over a list of arrivals: a verdict for each, and what is known after it.
 use Rattle.std.specs.Prelude.{ℕ, ◌-◌, nat_lt, if◌then◌else◌, List, [], ◌∷◌, Bool, Option, Some, None, Result, Ok, Err, unwrap_or}
 use Rattle.bit_vectors.specs.declared.fault.BitFault.{BitFault}
-use Rattle.bit_vectors.specs.Reading.{Reading, Read, WrongBit, TooShort}
+use Rattle.bit_vectors.specs.Reading.{Parsed, Read, WrongBit, TooShort}
 use Rattle.bit_vectors.specs.Vectors.{bits_of}
-use Rattle.packet_decode.specs.declared.decoder.Reading.{Reading as Answer}
+use Rattle.packet_decode.specs.declared.decoder.Reading.{Reading}
 use Rattle.packet_decode.specs.declared.decoder.Reading.TheVariants as answer
 use Rattle.packet_decode.specs.State.{State}
-use Rattle.packet_decode.specs.PacketReading.{Outcome, Spelled, Opaque, Found, whole_packet_at, answer_of}
+use Rattle.packet_decode.specs.PacketReading.{Outcome, Spelled, Opaque, Found, parse_whole_packet, answer_of}
 use Rattle.ground_chain.specs.declared.verdict.Lost.{Lost}
 use Rattle.ground_chain.specs.declared.verdict.Kind.{Kind}
 use Rattle.ground_chain.specs.declared.verdict.Kind.TheVariants.{Written, Repeat, Unsynced, Gap, Refused}
@@ -38,33 +38,33 @@ pub record Judged : Type 0 where
 abbrev pub lost_from : ℕ → ℕ → Option Lost
 lost_from first t = if nat_lt first t then Some (record { first = first; last = t - 1 }) else None
 
-abbrev pub kind_of : Result Answer BitFault → Kind
+abbrev pub kind_of : Result Reading BitFault → Kind
 kind_of (Ok answer.Written) = Written
 kind_of (Ok answer.Unsynced) = Unsynced
 kind_of (Ok (answer.Gap level)) = Gap level
 kind_of (Err fault) = Refused fault
 
 -- the verdict of an arrival that is no repeat: what was lost before it, its number, and the answer to its data
-abbrev pub verdict_of : Option ℕ → ℕ → Result Answer BitFault → Verdict
+abbrev pub verdict_of : Option ℕ → ℕ → Result Reading BitFault → Verdict
 verdict_of latest t answer = record { lost = lost_from (expected latest) t; t = t; kind = kind_of answer }
 
 -- a repeat has the latest number, its data are not read, and nothing changes
-abbrev pub repeated : Known → Judged
-repeated known = record { verdict = record { lost = None; t = unwrap_or known.latest 0; kind = Repeat }; after = known }
+abbrev pub repeat_judged : Known → Judged
+repeat_judged known = record { verdict = record { lost = None; t = unwrap_or known.latest 0; kind = Repeat }; after = known }
 
 abbrev pub state_with : State → ℕ → Outcome → State
 state_with state t (Spelled mask content) = Some (record { number = t; mask = mask; content = content })
 state_with state t Opaque = state
 
 -- what was read of all bits, as the state after it: the packet with the number t where one is spelled, else as before
-abbrev pub state_read : State → ℕ → Reading Found → State
+abbrev pub state_read : State → ℕ → Parsed Found → State
 state_read state t (Read found rest) = state_with state t found.outcome
 state_read state t (WrongBit rest) = state
 state_read state t TooShort = state
 
 -- the state after the bits of the packet with the number t
 abbrev pub state_after : ℕ → State → ℕ → List Bool → State
-state_after f state t bits = state_read state t (whole_packet_at f state t bits)
+state_after f state t bits = state_read state t (parse_whole_packet f state t bits)
 
 -- an arrival with this number is read
 abbrev pub judge_as : ℕ → Known → List ℕ → ℕ → Judged
@@ -74,7 +74,7 @@ judge_as f known body t = record {
 }
 
 abbrev pub judged_by : ℕ → Known → List ℕ → Option ℕ → Judged
-judged_by f known body None = repeated known
+judged_by f known body None = repeat_judged known
 judged_by f known body (Some t) = judge_as f known body t
 
 -- an arrival, by its number

@@ -5,7 +5,7 @@ use Rattle.bit_vectors.specs.declared.fault.BitFault.{BitFault}
 use Rattle.bit_vectors.specs.declared.fault.BitFault.TheVariants.{Wrong}
 use Rattle.bit_vectors.specs.Vectors.{bits_of}
 use Rattle.packet_encode.specs.Forms.{Form}
-use Rattle.packet_decode.specs.declared.decoder.Reading.{Reading as Answer}
+use Rattle.packet_decode.specs.declared.decoder.Reading.{Reading}
 use Rattle.packet_decode.specs.declared.decoder.Reading.TheVariants.{Written, Unsynced, Gap}
 use Rattle.packet_decode.specs.State.{State}
 use Rattle.packet_decode.specs.Spelling.{Spells}
@@ -13,11 +13,11 @@ use Rattle.packet_decode.specs.Answers.{IsSoundAnswer, IsExactAnswer}
 use Rattle.ground_chain.specs.declared.verdict.Kind.{Kind}
 use Rattle.ground_chain.specs.declared.verdict.Kind.TheVariants as kind
 use Rattle.ground_chain.specs.Numbers.{number_after}
-use Rattle.ground_chain.specs.Run.{Arrival, Known, Judged, nothing_known, verdict_of, repeated}
+use Rattle.ground_chain.specs.Run.{Arrival, Known, Judged, nothing_known, verdict_of, repeat_judged}
 
 -- which answers are right under a state, for the bits of the packet with the number t
 abbrev pub Rightness : Type 1
-Rightness = ℕ → State → ℕ → List Bool → Result Answer BitFault → Type 0
+Rightness = ℕ → State → ℕ → List Bool → Result Reading BitFault → Type 0
 
 -- the next state is the packet that the bits spell
 pub record IsSpelled (f : ℕ) (state : State) (t : ℕ) (bits : List Bool) (next : State) : Type 0 where
@@ -28,7 +28,7 @@ pub record IsSpelled (f : ℕ) (state : State) (t : ℕ) (bits : List Bool) (nex
   pub is : next ≡ Some (record { number = t; mask = mask; content = content })
 
 -- the state after an answer: a written packet is the latest one, and all other answers leave the state
-abbrev pub IsStateAfter : ℕ → State → ℕ → List Bool → State → Result Answer BitFault → Type 0
+abbrev pub IsStateAfter : ℕ → State → ℕ → List Bool → State → Result Reading BitFault → Type 0
 IsStateAfter f state t bits next (Ok Written) = IsSpelled f state t bits next
 IsStateAfter f state t bits next (Ok Unsynced) = next ≡ state
 IsStateAfter f state t bits next (Ok (Gap level)) = next ≡ state
@@ -36,14 +36,14 @@ IsStateAfter f state t bits next (Err fault) = next ≡ state
 
 -- an arrival with the number t has a verdict with a right answer
 pub record IsReadAs (IsRight : Rightness) (f : ℕ) (known : Known) (body : List ℕ) (judged : Judged) (t : ℕ) : Type 0 where
-  pub answer : Result Answer BitFault
+  pub answer : Result Reading BitFault
   pub right : IsRight f known.state t (bits_of body) answer
   pub verdict : judged.verdict ≡ verdict_of known.latest t answer
   pub latest : judged.after.latest ≡ Some t
   pub state : IsStateAfter f known.state t (bits_of body) judged.after.state answer
 
 abbrev pub IsJudgedBy : Rightness → ℕ → Known → List ℕ → Judged → Option ℕ → Type 0
-IsJudgedBy IsRight f known body judged None = judged ≡ repeated known
+IsJudgedBy IsRight f known body judged None = judged ≡ repeat_judged known
 IsJudgedBy IsRight f known body judged (Some t) = IsReadAs IsRight f known body judged t
 
 abbrev pub IsJudged : Rightness → ℕ → Known → Arrival → Judged → Type 0

@@ -15,11 +15,11 @@ abbrev pub written_verdict : ℕ → Verdict
 written_verdict t = record { lost = None; t = t; kind = Written }
 
 -- four packets of 8 bits, B0 B1 B1 B3 in hexadecimal, with the required robustness 1 and no flags beyond the forced ones
-abbrev pub no_flags : ℕ → Flags
-no_flags t = record { p = false; f = false; r = false }
+abbrev pub no_flags_at : ℕ → Flags
+no_flags_at t = record { p = false; f = false; r = false }
 
 abbrev pub four_packets : History
-four_packets = history_of (bits_of (0xB0 ∷ []) ∷ bits_of (0xB1 ∷ []) ∷ bits_of (0xB1 ∷ []) ∷ bits_of (0xB3 ∷ []) ∷ []) no_flags (λ _. 1) 8 (bits_of (0x00 ∷ []))
+four_packets = history_of (bits_of (0xB0 ∷ []) ∷ bits_of (0xB1 ∷ []) ∷ bits_of (0xB1 ∷ []) ∷ bits_of (0xB3 ∷ []) ∷ []) no_flags_at (λ _. 1) 8 (bits_of (0x00 ∷ []))
 
 -- the packets from one number to another are lost, and all others arrive once
 abbrev pub lost_between : ℕ → ℕ → ℕ → ℕ

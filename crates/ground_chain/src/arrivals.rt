@@ -3,7 +3,7 @@
 ghost use Rattle.std.specs.Prelude.{◌≡◌, ◌+◌, ◌^◌, ◌<◌, ◌≤◌, ◌↔◌, ◌∷◌, ◌++◌, [], List, None, IfSome, IfOk, length};
 ghost use Rattle.ground_chain.specs.Numbers.{expected, number_after};
 ghost use Rattle.ground_chain.specs.Run.{Arrival, kind_of, lost_from};
-ghost use Rattle.ground_chain.specs.Reception.{AreLost, HasDecoded, StandsFor, known_by, next_judged, nothing_arrived};
+ghost use Rattle.ground_chain.specs.Reception.{AreLost, HasDecoded, StandsFor, known_of, next_judged, nothing_arrived};
 
 use crate::unwrap::Unwrap;
 use crate::verdict::{Kind, Lost, Verdict};
@@ -54,7 +54,7 @@ impl Ground {
         requires size { length bytes.now ≤ 65536 }
         // The verdict is the run's next one, and what is known is what the run knows after it.
         ensures verdict { result ≡ (next_judged self.old count bytes.now).verdict }
-        ensures known { known_by self.new ≡ (next_judged self.old count bytes.now).after }
+        ensures known { known_of self.new ≡ (next_judged self.old count bytes.now).after }
         ensures stands { (arrivals : List Arrival) → StandsFor arrivals self.old →
             StandsFor (arrivals ++ record { count = count; body = bytes.now } ∷ []) self.new }
         // Repeat comes exactly for the count of the latest number.

@@ -4,7 +4,7 @@ ghost use Rattle.std.specs.Prelude.{◌≡◌, ◌<◌, ◌≤◌, ◌^◌, ◌�
 ghost use Rattle.std.specs.List.{flat_map, last_or};
 ghost use Rattle.mask_update.specs.Histories.{History, IsValid};
 ghost use Rattle.packet_encode.specs.Deliveries.{Lost, arrivals, count_up_to, latest_written, listed_numbers};
-ghost use Rattle.packet_decode.specs.Histories.{state_of};
+ghost use Rattle.packet_decode.specs.Histories.{true_state};
 ghost use Rattle.packet_store.specs.Walks.{walk};
 ghost use Rattle.flight_chain.specs.Stores.{store_of};
 ghost use Rattle.loss_player.specs.Gaps.{AreGapsShort};
@@ -40,7 +40,7 @@ pub fn histories_are_known()
     ensures { (h : History) (copies : ℕ → ℕ) → IsValid h → AreGapsShort copies (length h.steps) →
         (front rest : List ℕ) → front ++ rest ≡ arrivals copies (length h.steps) →
         known_after h.places (map (arrival_at h) front)
-        ≡ record { latest = last_or None front; state = state_of h (latest_written h copies (count_up_to (last_or None front))) } }
+        ≡ record { latest = last_or None front; state = true_state h (latest_written h copies (count_up_to (last_or None front))) } }
 {}
 
 /// No packet of a history is refused.

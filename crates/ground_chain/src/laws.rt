@@ -4,7 +4,7 @@ ghost use Rattle.std.specs.Prelude.{◌≡◌, ◌<◌, ◌≤◌, ◌↔◌, �
 ghost use Rattle.std.specs.List.{range_with_len};
 ghost use Rattle.packet_store.specs.SpacePackets.{period};
 ghost use Rattle.ground_chain.specs.Numbers.{HasCount, number_after, expected};
-ghost use Rattle.ground_chain.specs.Run.{Arrival, Judged, judge, known_after, repeated, run};
+ghost use Rattle.ground_chain.specs.Run.{Arrival, Judged, judge, known_after, repeat_judged, run};
 ghost use Rattle.ground_chain.specs.Report.{is_repeat, restored_of, run_bytes, run_report, run_rows};
 ghost use Rattle.ground_chain.specs.Sound.{IsExactRun, IsSoundRun, but_for_faults};
 ghost use Rattle.ground_chain.specs.Restoring.{restore_course, store_run};
@@ -67,7 +67,7 @@ pub fn numbers_rise()
 pub fn repeats_change_nothing()
     ensures { (f : ℕ) (arrivals : List Arrival) (arrival : Arrival) →
         number_after (known_after f arrivals).latest arrival.count ≡ None →
-        (judge f (known_after f arrivals) arrival ≡ repeated (known_after f arrivals))
+        (judge f (known_after f arrivals) arrival ≡ repeat_judged (known_after f arrivals))
         × (known_after f (arrivals ++ arrival ∷ []) ≡ known_after f arrivals)
         × (run_bytes (run f (arrivals ++ arrival ∷ [])) ≡ run_bytes (run f arrivals))
         × (run_rows (run f (arrivals ++ arrival ∷ [])) ≡ run_rows (run f arrivals)) }

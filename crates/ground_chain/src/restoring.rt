@@ -4,12 +4,12 @@ ghost use Rattle.std.specs.Prelude.{◌≡◌, ◌+◌, ◌*◌, ◌^◌, ◌<�
 ghost use Rattle.std.specs.Io.KnownBytes.{IsAtEnd};
 ghost use Rattle.desk_ports.specs.Meanings.{IsReadyIn, IsReadyOut, HasWriteCause, Adds, AddsFront, left};
 ghost use Rattle.bit_vectors.specs.Vectors.{vector_bytes};
-ghost use Rattle.packet_decode.specs.Decoding.{content_of};
+ghost use Rattle.packet_decode.specs.Decoding.{latest_content};
 ghost use Rattle.desk_ports.specs.Courses.{AfterRun, AfterStop, AfterTurn, GoesOn, HasCause, IsAtLast, behind, to_report};
 ghost use Rattle.ground_chain.specs.Numbers.{expected};
 ghost use Rattle.ground_chain.specs.Report.{added, end_row, header_row, restored_by};
-ghost use Rattle.ground_chain.specs.Reception.{known_by, next_judged};
-ghost use Rattle.ground_chain.specs.Restoring.{Wrote, WroteFront, all_restored, judged_outputs, rest_course, unread};
+ghost use Rattle.ground_chain.specs.Reception.{known_of, next_judged};
+ghost use Rattle.ground_chain.specs.Restoring.{Wrote, WroteFront, all_restored, judged_outputs, rest_course, nothing_read};
 
 use crate::arrivals::Ground;
 use crate::report::{HEADER, end_row, rows_of};
@@ -47,7 +47,7 @@ impl Restoring {
         requires some { 1 ≤ f }
         requires most { f ≤ 49152 }
         requires chosen { apid ≤ 2046 }
-        ensures { IfOk result (λ restoring. restoring ≡ unread f apid) }
+        ensures { IfOk result (λ restoring. restoring ≡ nothing_read f apid) }
     {
         let reader = StoreReader::open(alloc, apid)?;
         let arrivals = Ground::open(alloc, f)?;
@@ -137,7 +137,7 @@ impl Restoring {
         requires output { IsReadyOut (D.meaning desk.old) Outlet.Main }
         requires report { IsReadyOut (D.meaning desk.old) Outlet.Report }
         ensures reader { self.new.reader ≡ self.old.reader }
-        ensures known { known_by self.new.reception ≡ (next_judged self.old.reception count self.old.reader.body).after }
+        ensures known { known_of self.new.reception ≡ (next_judged self.old.reception count self.old.reader.body).after }
         ensures places { self.new.reception.decoder.places ≡ self.old.reception.decoder.places }
         ensures restored { self.new.restored
             ≡ added self.old.restored (restored_by (next_judged self.old.reception count self.old.reader.body).verdict) }
@@ -160,9 +160,9 @@ impl Restoring {
     fn write_content<D: Desk>(&mut self, desk: &mut D) -> Result<(), Failed>
         requires { IsReadyOut (D.meaning desk.old) Outlet.Main }
         ensures added { OnOk result (Adds (D.meaning desk.old) (D.meaning desk.new) Outlet.Main
-            (vector_bytes (content_of self.old.reception.decoder.places self.old.reception.decoder.state))) }
+            (vector_bytes (latest_content self.old.reception.decoder.places self.old.reception.decoder.state))) }
         ensures front { OnErr result (AddsFront (D.meaning desk.old) (D.meaning desk.new) Outlet.Main
-            (vector_bytes (content_of self.old.reception.decoder.places self.old.reception.decoder.state))) }
+            (vector_bytes (latest_content self.old.reception.decoder.places self.old.reception.decoder.state))) }
         ensures cause { HasWriteCause (D.counts desk.old) (D.counts desk.new) result }
         ensures same { self.new ≡ self.old }
     {

@@ -1,7 +1,7 @@
 //! What is said of each arrival.
 
 ghost use Rattle.std.specs.Prelude.{◌≡◌};
-ghost use Rattle.ground_chain.specs.Report.{is_written};
+ghost use Rattle.ground_chain.specs.Report.{is_written_kind};
 
 use bit_vectors::BitFault;
 
@@ -31,7 +31,7 @@ pub enum Kind {
 impl Kind {
     /// Whether the arrival is restored.
     pub fn is_written(&self) -> bool
-        ensures { result ≡ is_written self.now }
+        ensures { result ≡ is_written_kind self.now }
     {
         matches!(self, Kind::Written)
     }

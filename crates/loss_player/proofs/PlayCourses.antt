@@ -19,7 +19,7 @@ use Rattle.packet_store.proofs.Walks.{walk_from-none}
 use Rattle.packet_store.proofs.StoreCourses.{FollowsWalk}
 use Rattle.loss_player.specs.Played.{times_of, number_behind, played_from, repeated, played_of, chosen_count, store_numbers}
 use Rattle.loss_player.specs.Report.{play_report}
-use Rattle.loss_player.specs.Playing.{play_course, Progress, unread, next_copies, all_numbers, rest_course}
+use Rattle.loss_player.specs.Playing.{play_course, Progress, nothing_read, next_copies, all_numbers, rest_course}
 use Rattle.loss_player.proofs.Copies.{packets_bytes-replicate}
 
 -- ---- one packet
@@ -141,10 +141,10 @@ rest_follows s = record {
 }
 
 -- a whole store is owed from its first packet on
-pub play_course-first : (apid : ℕ) (rows : List CopyRow) (store : List ℕ) → rest_course (unread apid rows) store ≡ play_course (copies_of rows) apid store
+pub play_course-first : (apid : ℕ) (rows : List CopyRow) (store : List ℕ) → rest_course (nothing_read apid rows) store ≡ play_course (copies_of rows) apid store
 play_course-first apid rows store =
     let count = zero-add (chosen_count (Some apid) (walk (Some apid) store).packets) in
     λ i. record (play_course (copies_of rows) apid store) { after = to_report (play_report (played_of (copies_of rows) (count i))) }
 
-pub all_numbers-first : (apid : ℕ) (rows : List CopyRow) (store : List ℕ) → all_numbers (unread apid rows) store ≡ store_numbers (copies_of rows) apid store
+pub all_numbers-first : (apid : ℕ) (rows : List CopyRow) (store : List ℕ) → all_numbers (nothing_read apid rows) store ≡ store_numbers (copies_of rows) apid store
 all_numbers-first apid rows store = ap (played_of (copies_of rows)) (zero-add (chosen_count (Some apid) (walk (Some apid) store).packets))

@@ -57,8 +57,8 @@ pub record Progress : Type 0 where
   pub rows : List CopyRow
   pub tally : Tally
 
-abbrev pub unread : ℕ → List CopyRow → Progress
-unread apid rows = record { reader = opened (Some apid); rows = rows; tally = no_tally }
+abbrev pub nothing_read : ℕ → List CopyRow → Progress
+nothing_read apid rows = record { reader = opened (Some apid); rows = rows; tally = no_tally }
 
 -- the APID and the rows of one that has read nothing
 abbrev pub player_state : Progress → PlayerState
@@ -88,4 +88,4 @@ pub record IsPlaying (reader : ReaderState) (rows : List CopyRow) (tally : Tally
 
 -- nothing is read
 abbrev pub IsPlayer : Progress → Type 0
-IsPlayer s = s ≡ unread (unwrap_or s.reader.chosen 0) s.rows
+IsPlayer s = s ≡ nothing_read (unwrap_or s.reader.chosen 0) s.rows

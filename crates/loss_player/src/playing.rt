@@ -7,7 +7,7 @@ ghost use Rattle.desk_ports.specs.Courses.{AfterRun, AfterStop, AfterTurn, GoesO
 ghost use Rattle.side_tables.specs.Rows.{copies_of};
 ghost use Rattle.loss_player.specs.Played.{number_behind, played_of, repeated};
 ghost use Rattle.loss_player.specs.Report.{play_report};
-ghost use Rattle.loss_player.specs.Playing.{all_numbers, next_copies, rest_course, unread};
+ghost use Rattle.loss_player.specs.Playing.{all_numbers, next_copies, rest_course, nothing_read};
 
 use crate::played::{Played, Tally};
 use crate::report::write_report;
@@ -40,7 +40,7 @@ impl Playing {
     /// Nothing is read. Takes all memory of the run.
     pub fn open(alloc: Global, apid: u16, script: Script) -> Result<Playing, NoMemory>
         requires chosen { apid ≤ 2046 }
-        ensures { IfOk result (λ playing. playing ≡ unread apid script) }
+        ensures { IfOk result (λ playing. playing ≡ nothing_read apid script) }
     {
         let reader = StoreReader::open(alloc, apid)?;
         Ok(Playing {

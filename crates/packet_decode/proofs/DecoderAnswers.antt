@@ -6,13 +6,13 @@ use Rattle.bit_vectors.specs.Eye.{EyeState, bits_left}
 use Rattle.bit_vectors.specs.Reading.{Read}
 use Rattle.bit_vectors.proofs.ExactReading.{read_same}
 use Rattle.packet_encode.specs.Forms.{Form}
-use Rattle.packet_decode.specs.declared.decoder.Reading.{Reading as Answer}
+use Rattle.packet_decode.specs.declared.decoder.Reading.{Reading}
 use Rattle.packet_decode.specs.declared.decoder.Reading.TheVariants.{Written}
 use Rattle.packet_decode.specs.declared.draft.Latest.{Latest}
 use Rattle.packet_decode.specs.State.{State, IsState, Change, change_of}
 use Rattle.packet_decode.specs.Spelling.{Spells}
 use Rattle.packet_decode.specs.Answers.{Says, IsExactAnswer}
-use Rattle.packet_decode.specs.PacketReading.{Spelled, Opaque, Found, Tells, whole_packet_at, answer_to, answer_of}
+use Rattle.packet_decode.specs.PacketReading.{Spelled, Opaque, Found, Tells, parse_whole_packet, outcome_answer, answer_of}
 use Rattle.packet_decode.specs.Parts.{state_by, kept_state, IsLatest}
 use Rattle.packet_decode.specs.Decoding.{Decoding}
 use Rattle.packet_decode.proofs.ExactAnswers.{answer_of-exact}
@@ -21,22 +21,22 @@ use Rattle.packet_decode.proofs.Telling.{answer_ok, answer_err}
 
 -- ---- an answer that is the one of the reading function
 
-module _ (f : ℕ) (state : State) (t : ℕ) (bits : List Bool) (has : IsState f state) (result : Result Answer BitFault) (is : answer_of f state t bits ≡ result) where
+module _ (f : ℕ) (state : State) (t : ℕ) (bits : List Bool) (has : IsState f state) (result : Result Reading BitFault) (is : answer_of f state t bits ≡ result) where
   pub exact_by : IsExactAnswer f state t bits result
-  exact_by = subst (λ (r : Result Answer BitFault). IsExactAnswer f state t bits r) is (answer_of-exact f state t has bits)
+  exact_by = subst (λ (r : Result Reading BitFault). IsExactAnswer f state t bits r) is (answer_of-exact f state t has bits)
 
-  pub says_by : (reading : Answer) → (result ≡ Ok reading) ↔ Says f state t bits reading
-  says_by reading = (λ e. subst (λ (r : Result Answer BitFault). IsExactAnswer f state t bits r) (is ∙ e) (answer_of-exact f state t has bits), λ s. sym is ∙ says_answer f state t has bits reading s)
+  pub says_by : (reading : Reading) → (result ≡ Ok reading) ↔ Says f state t bits reading
+  says_by reading = (λ e. subst (λ (r : Result Reading BitFault). IsExactAnswer f state t bits r) (is ∙ e) (answer_of-exact f state t has bits), λ s. sym is ∙ says_answer f state t has bits reading s)
 
   pub spelled_by : (form : Form) (mask content : List Bool) → Spells f state t bits form mask content → result ≡ Ok Written
   spelled_by form mask content s = (says_by Written).1 (form, mask, content, s)
 
 -- an opaque front is not written
-missed_by : (number : Option ℕ) (mask content : List Bool) (level : ℕ) (reading : Answer) → reading ≡ answer_to (state_by number mask content) level Opaque → ◌≡◌ {A = Result Answer BitFault} (Ok reading) (Ok Written) → ⊥
+missed_by : (number : Option ℕ) (mask content : List Bool) (level : ℕ) (reading : Reading) → reading ≡ outcome_answer (state_by number mask content) level Opaque → ◌≡◌ {A = Result Reading BitFault} (Ok reading) (Ok Written) → ⊥
 missed_by None mask content level reading is written = absurd cc
 missed_by (Some number) mask content level reading is written = absurd cc
 
-pub not_missed : {A : Type 0} (latest : Latest) (level : ℕ) (reading : Answer) → reading ≡ answer_to (kept_state latest) level Opaque → ◌≡◌ {A = Result Answer BitFault} (Ok reading) (Ok Written) → A
+pub not_missed : {A : Type 0} (latest : Latest) (level : ℕ) (reading : Reading) → reading ≡ outcome_answer (kept_state latest) level Opaque → ◌≡◌ {A = Result Reading BitFault} (Ok reading) (Ok Written) → A
 not_missed latest level reading is written = absurd (missed_by latest.number latest.mask latest.content level reading is written)
 
 -- ---- the parts of a decoder
@@ -54,26 +54,26 @@ module _ (d : Decoding) (latest : Latest) (shown : Change) (view : decoding_of l
   has_state = subst (λ (x : Decoding). IsState x.places x.state) view (has_by (length latest.content) latest.number latest.mask latest.content vectors.mask vectors.content)
 
   module _ (f t : ℕ) (eye : EyeState) (bytes : List ℕ) (places : f ≡ length latest.content) (bits : eye.bits ≡ bits_of bytes) (start : eye.place ≡ 0) where
-    whole_is : whole_packet_at f (kept_state latest) t (bits_left eye) ≡ whole_packet_at d.places d.state t (bits_of bytes)
+    whole_is : parse_whole_packet f (kept_state latest) t (bits_left eye) ≡ parse_whole_packet d.places d.state t (bits_of bytes)
     whole_is =
         let left : bits_left eye ≡ bits_of bytes = ap (λ (n : ℕ). drop n eye.bits) start ∙ bits in
-        ap (λ (n : ℕ). whole_packet_at n (kept_state latest) t (bits_left eye)) places
-        ∙ ap (λ (b : List Bool). whole_packet_at (length latest.content) (kept_state latest) t b) left
-        ∙ ap (λ (x : Decoding). whole_packet_at x.places x.state t (bits_of bytes)) view
+        ap (λ (n : ℕ). parse_whole_packet n (kept_state latest) t (bits_left eye)) places
+        ∙ ap (λ (b : List Bool). parse_whole_packet (length latest.content) (kept_state latest) t b) left
+        ∙ ap (λ (x : Decoding). parse_whole_packet x.places x.state t (bits_of bytes)) view
 
-    pub fault_is : {A : Type 0} (see : A → Found) (fault : BitFault) (new : EyeState) → new.bits ≡ eye.bits → Tells see (Err fault) new (whole_packet_at f (kept_state latest) t (bits_left eye))
+    pub fault_is : {A : Type 0} (see : A → Found) (fault : BitFault) (new : EyeState) → new.bits ≡ eye.bits → Tells see (Err fault) new (parse_whole_packet f (kept_state latest) t (bits_left eye))
         → answer_of d.places d.state t (bits_of bytes) ≡ Err fault
     fault_is see fault new same told =
         answer_err d.places d.state t (bits_of bytes) see new (same ∙ bits) fault (subst (λ r. Tells see (Err fault) new r) whole_is told)
 
-    pub reading_is : (found : Found) (new : EyeState) → new.bits ≡ eye.bits → whole_packet_at f (kept_state latest) t (bits_left eye) ≡ Read found (bits_left new)
-        → answer_of d.places d.state t (bits_of bytes) ≡ Ok (answer_to (kept_state latest) found.change.level found.outcome)
+    pub reading_is : (found : Found) (new : EyeState) → new.bits ≡ eye.bits → parse_whole_packet f (kept_state latest) t (bits_left eye) ≡ Read found (bits_left new)
+        → answer_of d.places d.state t (bits_of bytes) ≡ Ok (outcome_answer (kept_state latest) found.change.level found.outcome)
     reading_is found new same told =
         answer_ok d.places d.state t (bits_of bytes) (λ (x : Found). x) new (same ∙ bits) found (sym whole_is ∙ told)
-        ∙ ap (λ (x : Decoding). Ok (answer_to x.state found.change.level found.outcome)) (sym view)
+        ∙ ap (λ (x : Decoding). Ok (outcome_answer x.state found.change.level found.outcome)) (sym view)
 
     -- after a packet that is spelled
-    pub latest_is : (next : Change) (read_mask read_content : List Bool) (rest : List Bool) → whole_packet_at f (kept_state latest) t (bits_left eye) ≡ Read (record { change = next; outcome = Spelled read_mask read_content }) rest
+    pub latest_is : (next : Change) (read_mask read_content : List Bool) (rest : List Bool) → parse_whole_packet f (kept_state latest) t (bits_left eye) ≡ Read (record { change = next; outcome = Spelled read_mask read_content }) rest
         → (after : Change) (new_mask new_content : List Bool) → after ≡ next → new_mask ≡ read_mask → new_content ≡ read_content
         → (form : Form) (mask content : List Bool) → Spells d.places d.state t (bits_of bytes) form mask content
         → decoding_of (record { number = Some t; mask = new_mask; content = new_content }) after

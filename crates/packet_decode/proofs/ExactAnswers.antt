@@ -4,12 +4,12 @@ use Rattle.std.proofs.lemmas.Bool.{cases_lt}
 use Rattle.std.proofs.lemmas.List.{length-append, append-nil, take_at, take-append-drop}
 use Rattle.std.proofs.Math.Seq.{take-add}
 use Rattle.bit_vectors.specs.declared.fault.BitFault.TheVariants.{Wrong}
-use Rattle.bit_vectors.specs.Reading.{Reading, Read, WrongBit, TooShort, ◌>>=◌, CanBegin, IsWrongBefore, IsExact}
+use Rattle.bit_vectors.specs.Reading.{Parsed, Read, WrongBit, TooShort, ◌>>=◌, CanBegin, IsWrongBefore, IsExact}
 use Rattle.bit_vectors.proofs.ExactReading.{cut_longer, read_same}
 use Rattle.packet_decode.specs.State.{State, IsState, Change, change_of}
 use Rattle.packet_decode.specs.Spelling.{Spells, HasOpaqueFront}
 use Rattle.packet_decode.specs.Answers.{SpellsPacket, IsOpaque, Viable, Says, IsExactAnswer}
-use Rattle.packet_decode.specs.PacketReading.{Outcome, Spelled, Opaque, Found, end_at, packet_at, whole_packet_at, answer_to, answer_by, answer_of}
+use Rattle.packet_decode.specs.PacketReading.{Outcome, Spelled, Opaque, Found, parse_end, parse_packet, parse_whole_packet, outcome_answer, parsed_answer, answer_of}
 use Rattle.packet_decode.proofs.ExactPacket.{IsPacket, IsExact-packet_at}
 use Rattle.packet_decode.proofs.SpelledWords.{packet_spells, spells_packet, packet_opaque, opaque_packet}
 
@@ -19,7 +19,7 @@ IsClosed (Spelled mask content) rest = rest ≡ []
 IsClosed Opaque rest = Unit {0}
 
 module _ (f : ℕ) (state : State) (t : ℕ) (has : IsState f state) where
-  exact : IsExact (IsPacket f state t) (packet_at f state t)
+  exact : IsExact (IsPacket f state t) (parse_packet f state t)
   exact = IsExact-packet_at f state t has
 
   -- bits that spell a packet or have an opaque front, as a word and what is left
@@ -41,8 +41,8 @@ module _ (f : ℕ) (state : State) (t : ℕ) (has : IsState f state) where
       let p = opaque_packet f state t has bits level o in
       record { found = record { change = p.0; outcome = Opaque }; word = p.1; rest = p.2; is = p.3; closed = tt; parts = p.5 }
 
-  reading_is : (bits : List Bool) (r : IsRead bits) → packet_at f state t bits ≡ Read r.found r.rest
-  reading_is bits r = ap (packet_at f state t) r.parts ∙ exact.reads r.found r.word r.rest r.is
+  reading_is : (bits : List Bool) (r : IsRead bits) → parse_packet f state t bits ≡ Read r.found r.rest
+  reading_is bits r = ap (parse_packet f state t) r.parts ∙ exact.reads r.found r.word r.rest r.is
 
   means_of : (change : Change) (o : Outcome) (word rest : List Bool) → IsPacket f state t (record { change = change; outcome = o }) word → IsClosed o rest → Means (word ++ rest)
   means_of change (Spelled mask content) word rest is closed =
@@ -97,14 +97,14 @@ module _ (f : ℕ) (state : State) (t : ℕ) (has : IsState f state) where
       ap (take (length bits - length rest - 1 + 1)) (w.parts ∙ sym (append_assoc w.front (w.bit ∷ []) rest)) ∙ take_at (w.front ++ w.bit ∷ []) rest (length bits - length rest - 1 + 1) (omega (arith, place, length-append w.front (w.bit ∷ []))) in
       (record { inside = omega (arith, len, length-append w.front (w.bit ∷ rest)); hopeless = λ v. w.hopeless (subst (λ (b : List Bool). Viable f state t b) and_it v) }, subst (λ (b : List Bool). Viable f state t b) (sym before) w.hopeful)
 
-  read_or_wrong : (r : Reading Found) (found : Found) (rest other : List Bool) → r ≡ Read found rest → r ≡ WrongBit other → ⊥
+  read_or_wrong : (r : Parsed Found) (found : Found) (rest other : List Bool) → r ≡ Read found rest → r ≡ WrongBit other → ⊥
   read_or_wrong r found rest other read wrong = cc
 
-  read_or_short : (r : Reading Found) (found : Found) (rest : List Bool) → r ≡ Read found rest → r ≡ TooShort → ⊥
+  read_or_short : (r : Parsed Found) (found : Found) (rest : List Bool) → r ≡ Read found rest → r ≡ TooShort → ⊥
   read_or_short r found rest read short = cc
 
   -- after a wrong bit no word can stand, however short
-  none_after : (bits rest : List Bool) → packet_at f state t bits ≡ WrongBit rest → (w : IsWrongBefore IsAny bits rest) → Viable f state t (w.front ++ w.bit ∷ []) → ⊥
+  none_after : (bits rest : List Bool) → parse_packet f state t bits ≡ WrongBit rest → (w : IsWrongBefore IsAny bits rest) → Viable f state t (w.front ++ w.bit ∷ []) → ⊥
   none_after bits rest wrong w (more, m) =
       let r = read_of ((w.front ++ w.bit ∷ []) ++ more) m in
       elim (cases_lt (length w.front) (length r.word)) [
@@ -114,10 +114,10 @@ module _ (f : ℕ) (state : State) (t : ℕ) (has : IsState f state) where
         | inr le ↦
             let c = cut_longer r.word r.rest w.front (w.bit ∷ more) (sym r.parts ∙ append_assoc w.front (w.bit ∷ []) more) le in
             let parts : bits ≡ r.word ++ (c.0 ++ w.bit ∷ rest) = w.parts ∙ ap (λ (x : List Bool). x ++ w.bit ∷ rest) c.1 ∙ append_assoc r.word c.0 (w.bit ∷ rest) in
-            read_or_wrong (packet_at f state t bits) r.found (c.0 ++ w.bit ∷ rest) rest (ap (packet_at f state t) parts ∙ exact.reads r.found r.word (c.0 ++ w.bit ∷ rest) r.is) wrong
+            read_or_wrong (parse_packet f state t bits) r.found (c.0 ++ w.bit ∷ rest) rest (ap (parse_packet f state t) parts ∙ exact.reads r.found r.word (c.0 ++ w.bit ∷ rest) r.is) wrong
       ]
 
-  fault_first : (bits rest : List Bool) → packet_at f state t bits ≡ WrongBit rest → FirstWrong bits rest
+  fault_first : (bits rest : List Bool) → parse_packet f state t bits ≡ WrongBit rest → FirstWrong bits rest
   fault_first bits rest wrong =
       let w = exact.wrong_is bits rest wrong in
       record { front = w.front; bit = w.bit; parts = w.parts; hopeful = begins_viable w.front w.hopeful; hopeless = none_after bits rest wrong w }
@@ -137,21 +137,21 @@ module _ (f : ℕ) (state : State) (t : ℕ) (has : IsState f state) where
         hopeless = λ (more, m).
             let r = read_of ((word ++ bit ∷ []) ++ more) m in
             let same = read_same r.found (record { change = change; outcome = Spelled mask content }) r.rest (bit ∷ more)
-            (sym (reading_is ((word ++ bit ∷ []) ++ more) r) ∙ ap (packet_at f state t) (append_assoc word (bit ∷ []) more) ∙ exact.reads (record { change = change; outcome = Spelled mask content }) word (bit ∷ more) is) in
+            (sym (reading_is ((word ++ bit ∷ []) ++ more) r) ∙ ap (parse_packet f state t) (append_assoc word (bit ∷ []) more) ∙ exact.reads (record { change = change; outcome = Spelled mask content }) word (bit ∷ more) is) in
             not_closed r.found change mask content more bit (subst (λ (x : List Bool). IsClosed r.found.outcome x) same.1 r.closed) same.0;
       }
 
   -- ---- each case of the reading
 
-  opaque_answer : (s : State) (bits : List Bool) (level : ℕ) → HasOpaqueFront f s t bits level → Says f s t bits (answer_to s level Opaque)
+  opaque_answer : (s : State) (bits : List Bool) (level : ℕ) → HasOpaqueFront f s t bits level → Says f s t bits (outcome_answer s level Opaque)
   opaque_answer None bits level o = ((level, o), refl)
   opaque_answer (Some latest) bits level o = (o, refl)
 
-  abbrev ended : Change → Outcome → List Bool → Reading Found
-  ended change o rest = end_at o rest >>= λ u last. Read (record { change = change; outcome = o }) last
+  abbrev ended : Change → Outcome → List Bool → Parsed Found
+  ended change o rest = parse_end o rest >>= λ u last. Read (record { change = change; outcome = o }) last
 
-  read_exact : (bits : List Bool) (change : Change) (o : Outcome) (rest : List Bool) → packet_at f state t bits ≡ Read (record { change = change; outcome = o }) rest → IsExactAnswer f state t bits (answer_by state bits (ended change o rest))
-  unfolding end_at
+  read_exact : (bits : List Bool) (change : Change) (o : Outcome) (rest : List Bool) → parse_packet f state t bits ≡ Read (record { change = change; outcome = o }) rest → IsExactAnswer f state t bits (parsed_answer state bits (ended change o rest))
+  unfolding parse_end
   read_exact bits change (Spelled mask content) [] read =
       let r = exact.read_is bits (record { change = change; outcome = Spelled mask content }) [] read in
       let s = packet_spells f state t has change mask content r.0 r.1 in
@@ -163,15 +163,15 @@ module _ (f : ℕ) (state : State) (t : ℕ) (has : IsState f state) where
       let r = exact.read_is bits (record { change = change; outcome = Opaque }) rest read in
       opaque_answer state bits change.level (subst (λ (b : List Bool). HasOpaqueFront f state t b change.level) (sym r.2) (packet_opaque f state t has change r.0 rest r.1))
 
-  not_means : (bits : List Bool) → packet_at f state t bits ≡ TooShort → Means bits → ⊥
-  not_means bits short m = let r = read_of bits m in read_or_short (packet_at f state t bits) r.found r.rest (reading_is bits r) short
+  not_means : (bits : List Bool) → parse_packet f state t bits ≡ TooShort → Means bits → ⊥
+  not_means bits short m = let r = read_of bits m in read_or_short (parse_packet f state t bits) r.found r.rest (reading_is bits r) short
 
-  by_reading : (bits : List Bool) (r : Reading Found) → packet_at f state t bits ≡ r → IsExactAnswer f state t bits (answer_by state bits (r >>= λ found rest. end_at found.outcome rest >>= λ u last. Read found last))
+  by_reading : (bits : List Bool) (r : Parsed Found) → parse_packet f state t bits ≡ r → IsExactAnswer f state t bits (parsed_answer state bits (r >>= λ found rest. parse_end found.outcome rest >>= λ u last. Read found last))
   by_reading bits (Read found rest) read = read_exact bits found.change found.outcome rest read
   by_reading bits (WrongBit rest) wrong = wrong_answer bits rest (fault_first bits rest wrong)
   by_reading bits TooShort short =
       (record { all = refl; not_spelled = λ s. not_means bits short (inl s); not_opaque = λ o. not_means bits short (inr o) }, begins_viable bits (exact.short_is bits short))
 
   pub answer_of-exact : (bits : List Bool) → IsExactAnswer f state t bits (answer_of f state t bits)
-  unfolding whole_packet_at
-  answer_of-exact bits = by_reading bits (packet_at f state t bits) refl
+  unfolding parse_whole_packet
+  answer_of-exact bits = by_reading bits (parse_packet f state t bits) refl

@@ -8,16 +8,16 @@ use Rattle.std.proofs.lemmas.List.Folds.{list_any_at}
 use Rattle.bit_vectors.specs.Vectors.{number_bits, IsOne}
 use Rattle.bit_vectors.specs.Reading.{Read, ◌>>=◌, bit_where, allowed, IsExact}
 use Rattle.bit_vectors.proofs.ExactReading.{IsBitWhere, IsWordThen, IsExact-give, IsExact-bit_where, IsExact-same, IsExact-then}
-use Rattle.count_code.specs.Counts.{number_at}
+use Rattle.count_code.specs.Counts.{parse_number}
 use Rattle.count_code.proofs.Numbers.{IsNumberOfWidth, IsExact-number_at}
-use Rattle.run_code.specs.Extraction.{bits_up, IsInverseWord, inverse_at}
-use Rattle.run_code.specs.Runs.{run_bits, IsRunWordOf, vector_at}
+use Rattle.run_code.specs.Extraction.{bits_up, IsInverseWord, parse_inverse}
+use Rattle.run_code.specs.Runs.{run_bits, IsRunWordOf, parse_vector}
 use Rattle.run_code.proofs.Ones.{one_within}
 use Rattle.run_code.proofs.ExactRuns.{IsExact-vector_at}
 use Rattle.run_code.proofs.InverseBits.{IsExact-inverse_at}
 use Rattle.packet_encode.specs.Forms.{Directions, Part, Form, AreDirections, direction_bits, change_bits}
 use Rattle.packet_decode.specs.State.{Change, change_of}
-use Rattle.packet_decode.specs.PacketReading.{any_bit, named_at, directions_at, change_at}
+use Rattle.packet_decode.specs.PacketReading.{any_bit, parse_named, parse_directions, parse_change}
 use Rattle.packet_decode.proofs.Readers.{HasWord, IsImage, IsExact-map, IsBitThen, IsExact-bit, any_may}
 
 -- a form with these recent changes and this level
@@ -61,12 +61,12 @@ named_apart recent level directions word (are, is) = (
   is,
 )
 
-IsExact-named_at : (recent : List Bool) (level : ℕ) → 0 < level → Contains recent true → IsExact (IsNamed recent level) (named_at recent)
-unfolding named_at
+IsExact-named_at : (recent : List Bool) (level : ℕ) → 0 < level → Contains recent true → IsExact (IsNamed recent level) (parse_named recent)
+unfolding parse_named
 IsExact-named_at recent level above some =
-    IsExact-same (IsNamedThen recent) (IsNamed recent level) (named_at recent) (named_joined recent level above) (named_apart recent level)
+    IsExact-same (IsNamedThen recent) (IsNamed recent level) (parse_named recent) (named_joined recent level above) (named_apart recent level)
     (IsExact-then (IsInverseWord recent) (λ predictable. IsImage (named predictable) (IsBitWhere (allowed true true)))
-    (inverse_at recent) (λ predictable rest. any_bit rest >>= λ twice last. Read (named predictable twice) last)
+    (parse_inverse recent) (λ predictable rest. any_bit rest >>= λ twice last. Read (named predictable twice) last)
     (IsExact-inverse_at recent some)
     (λ predictable word w. IsExact-map (named predictable) (IsBitWhere (allowed true true)) (bit_where (allowed true true)) (IsExact-bit_where (allowed true true) true refl))
     (λ predictable word w. (named predictable true, true ∷ [], (true, (refl, refl), refl))))
@@ -93,14 +93,14 @@ sent_apart recent level None word (are, is) = rw is (refl, refl)
 sent_apart recent level (Some directions) word (are, is) = rw is (directions, (are, refl), refl)
 
 IsExact-directions_by : (may : Bool) (recent : List Bool) (level : ℕ) → (may ≡ true → (0 < level) × Contains recent true) → (may ≡ false → (directions : Directions) → AreDirections (bare recent level) directions → ⊥)
-    → IsExact (IsDirectionsBy may recent level) (λ bits. cond may (any_bit bits >>= λ sent rest. cond sent (named_at recent rest >>= λ directions last. Read (Some directions) last) (Read None rest)) (Read None bits))
+    → IsExact (IsDirectionsBy may recent level) (λ bits. cond may (any_bit bits >>= λ sent rest. cond sent (parse_named recent rest >>= λ directions last. Read (Some directions) last) (Read None rest)) (Read None bits))
 IsExact-directions_by true recent level can cannot =
     let c = can refl in
     let some = all_named recent level c.0 c.1 in
-    IsExact-same (IsBitThen (IsImage Some (IsNamed recent level)) IsNone) (IsDirectionsBy true recent level) (λ bits. any_bit bits >>= λ sent rest. cond sent (named_at recent rest >>= λ directions last. Read (Some directions) last) (Read None rest))
+    IsExact-same (IsBitThen (IsImage Some (IsNamed recent level)) IsNone) (IsDirectionsBy true recent level) (λ bits. any_bit bits >>= λ sent rest. cond sent (parse_named recent rest >>= λ directions last. Read (Some directions) last) (Read None rest))
     (sent_joined recent level) (sent_apart recent level)
-    (IsExact-bit (IsImage Some (IsNamed recent level)) IsNone (λ rest. named_at recent rest >>= λ directions last. Read (Some directions) last) (λ rest. Read None rest)
-    (IsExact-map Some (IsNamed recent level) (named_at recent) (IsExact-named_at recent level c.0 c.1))
+    (IsExact-bit (IsImage Some (IsNamed recent level)) IsNone (λ rest. parse_named recent rest >>= λ directions last. Read (Some directions) last) (λ rest. Read None rest)
+    (IsExact-map Some (IsNamed recent level) (parse_named recent) (IsExact-named_at recent level c.0 c.1))
     (IsExact-give None)
     (Some some.0, some.1, (some.0, some.2, refl))
     (None, [], (refl, refl)))
@@ -143,8 +143,8 @@ cannot_be recent level may directions are =
     let one : IsOne recent place = are.recent place (get_or_default directions.predictable place false true are.some.1 ∙ are.some.2) in
     true≢false (sym (both_true (list_any (λ (bit : Bool). bit) recent) (ltb 0 level) (any_one recent place one) (lt-ltb 0 level are.level)) ∙ may)
 
-IsExact-directions_at : (recent : List Bool) (level : ℕ) → IsExact (IsDirectionsWord recent level) (directions_at recent level)
-unfolding directions_at
+IsExact-directions_at : (recent : List Bool) (level : ℕ) → IsExact (IsDirectionsWord recent level) (parse_directions recent level)
+unfolding parse_directions
 IsExact-directions_at recent level = IsExact-directions_by (may_be_sent recent level) recent level (can_be recent level) (cannot_be recent level)
 
 -- none of them
@@ -197,12 +197,12 @@ change_apart f change word (is, bits) =
       bits,
     )
 
-IsExact-level : (recent : List Bool) → IsExact (IsLevelThen recent) (λ rest. number_at 4 rest >>= λ level more. directions_at recent level more >>= λ directions last. Read (changed recent level directions) last)
+IsExact-level : (recent : List Bool) → IsExact (IsLevelThen recent) (λ rest. parse_number 4 rest >>= λ level more. parse_directions recent level more >>= λ directions last. Read (changed recent level directions) last)
 IsExact-level recent =
     IsExact-then (IsNumberOfWidth 4) (λ level. IsImage (changed recent level) (IsDirectionsWord recent level))
-    (number_at 4) (λ level more. directions_at recent level more >>= λ directions last. Read (changed recent level directions) last)
+    (parse_number 4) (λ level more. parse_directions recent level more >>= λ directions last. Read (changed recent level directions) last)
     (IsExact-number_at 4)
-    (λ level word w. IsExact-map (changed recent level) (IsDirectionsWord recent level) (directions_at recent level) (IsExact-directions_at recent level))
+    (λ level word w. IsExact-map (changed recent level) (IsDirectionsWord recent level) (parse_directions recent level) (IsExact-directions_at recent level))
     (λ level word w. let none = no_directions (may_be_sent recent level) recent level in (changed recent level none.0, none.1, (none.0, none.2, refl)))
 
 zero_level : (recent : List Bool) → HasWord (IsLevelThen recent)
@@ -210,12 +210,12 @@ zero_level recent =
     let none = no_directions (may_be_sent recent 0) recent 0 in
     (changed recent 0 none.0, number_bits 4 0 ++ none.1, (0, number_bits 4 0, none.1, (omega arith, refl), (none.0, none.2, refl), refl))
 
-pub IsExact-change_at : (f : ℕ) → IsExact (IsChangeWord f) (change_at f)
-unfolding change_at
+pub IsExact-change_at : (f : ℕ) → IsExact (IsChangeWord f) (parse_change f)
+unfolding parse_change
 IsExact-change_at f =
-    IsExact-same (IsRecentThen f) (IsChangeWord f) (change_at f) (change_joined f) (change_apart f)
+    IsExact-same (IsRecentThen f) (IsChangeWord f) (parse_change f) (change_joined f) (change_apart f)
     (IsExact-then (IsRunWordOf f) IsLevelThen
-    (vector_at f) (λ recent rest. number_at 4 rest >>= λ level more. directions_at recent level more >>= λ directions last. Read (changed recent level directions) last)
+    (parse_vector f) (λ recent rest. parse_number 4 rest >>= λ level more. parse_directions recent level more >>= λ directions last. Read (changed recent level directions) last)
     (IsExact-vector_at f)
     (λ recent word w. IsExact-level recent)
     (λ recent word w. zero_level recent))

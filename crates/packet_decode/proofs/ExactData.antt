@@ -5,21 +5,21 @@ use Rattle.std.proofs.lemmas.Bool.{true≢false}
 use Rattle.std.proofs.lemmas.List.{length-replicate}
 use Rattle.std.proofs.lemmas.Simd.{length-zip2}
 use Rattle.bit_vectors.specs.Vectors.{or_bits}
-use Rattle.bit_vectors.specs.Reading.{front_at, same_at, IsExact}
+use Rattle.bit_vectors.specs.Reading.{parse_front, parse_word, IsExact}
 use Rattle.bit_vectors.proofs.ExactReading.{IsWordThen, IsExact-give, IsExact-same, IsExact-then}
 use Rattle.bit_vectors.proofs.SameWord.{IsExact-same_at}
 use Rattle.bit_vectors.proofs.FrontReading.{IsFront, IsExact-front_at}
 use Rattle.count_code.specs.Code.{count_bits}
 use Rattle.run_code.specs.Places.{places_down}
 use Rattle.run_code.specs.Edges.{edges}
-use Rattle.run_code.specs.Extraction.{extract, SameOutside, filled_at}
-use Rattle.run_code.specs.Runs.{run_bits, IsRunWordOf, vector_at}
+use Rattle.run_code.specs.Extraction.{extract, SameOutside, parse_filled}
+use Rattle.run_code.specs.Runs.{run_bits, IsRunWordOf, parse_vector}
 use Rattle.run_code.proofs.ExactRuns.{IsExact-vector_at}
 use Rattle.run_code.proofs.Filling.{IsFilling, IsExact-filled_at}
 use Rattle.run_code.proofs.Ones.{one_or_zero, places_down_apart, in_places_down, places_down_has}
 use Rattle.packet_encode.specs.Forms.{Directions, wide_by}
 use Rattle.packet_decode.specs.State.{Change}
-use Rattle.packet_decode.specs.PacketReading.{Outcome, Spelled, Opaque, kept_at, from_edges, mask_at, whole_at, whole_with, part_with, content_at, unsent_at, maskless_at, masked_at, sent_at, data_at}
+use Rattle.packet_decode.specs.PacketReading.{Outcome, Spelled, Opaque, parse_kept, from_edges, parse_mask, parse_whole, parse_whole_with, parse_part_with, parse_content, parse_unsent, parse_maskless, parse_masked, parse_sent, parse_data}
 use Rattle.packet_decode.proofs.EdgeMasks.{edges-from_edges, length-from_edges, length_edges, from_edges-edges}
 use Rattle.packet_decode.proofs.Readers.{HasWord, IsImage, IsExact-map, IsBitThen, IsExact-bit, NoWord, IsExact-one, IsAfter, IsExact-after}
 use Rattle.packet_decode.proofs.KeptContent.{IsKept, IsExact-kept_at}
@@ -38,15 +38,15 @@ mask_joined f mask word (runs, is, same) =
 mask_apart : (f : ℕ) (mask word : List Bool) → IsMaskWord f None mask word → IsImage from_edges (IsRunWordOf f) mask word
 mask_apart f mask word (len, is) = (edges mask, (length_edges mask ∙ len, is), sym (from_edges-edges mask))
 
-pub IsExact-mask_at : (f : ℕ) (deduced : Option (List Bool)) → IsExact (IsMaskWord f deduced) (mask_at f deduced)
-unfolding mask_at
+pub IsExact-mask_at : (f : ℕ) (deduced : Option (List Bool)) → IsExact (IsMaskWord f deduced) (parse_mask f deduced)
+unfolding parse_mask
 IsExact-mask_at f None =
-    IsExact-same (IsImage from_edges (IsRunWordOf f)) (IsMaskWord f None) (mask_at f None) (mask_joined f) (mask_apart f) (IsExact-map from_edges (IsRunWordOf f) (vector_at f) (IsExact-vector_at f))
+    IsExact-same (IsImage from_edges (IsRunWordOf f)) (IsMaskWord f None) (parse_mask f None) (mask_joined f) (mask_apart f) (IsExact-map from_edges (IsRunWordOf f) (parse_vector f) (IsExact-vector_at f))
 IsExact-mask_at f (Some deduced) =
-    IsExact-same (IsImage (λ (u : Unit {0}). deduced) (λ u word. word ≡ run_bits (edges deduced))) (IsMaskWord f (Some deduced)) (mask_at f (Some deduced))
+    IsExact-same (IsImage (λ (u : Unit {0}). deduced) (λ u word. word ≡ run_bits (edges deduced))) (IsMaskWord f (Some deduced)) (parse_mask f (Some deduced))
     (λ mask word w. (w.2, w.1 ∙ ap (λ (m : List Bool). run_bits (edges m)) (sym w.2)))
     (λ mask word w. (tt, w.1 ∙ ap (λ (m : List Bool). run_bits (edges m)) w.0, w.0))
-    (IsExact-map (λ (u : Unit {0}). deduced) (λ u word. word ≡ run_bits (edges deduced)) (same_at (run_bits (edges deduced))) (IsExact-same_at (run_bits (edges deduced))))
+    (IsExact-map (λ (u : Unit {0}). deduced) (λ u word. word ≡ run_bits (edges deduced)) (parse_word (run_bits (edges deduced))) (IsExact-same_at (run_bits (edges deduced))))
 
 -- ---- the whole content
 
@@ -61,18 +61,18 @@ IsContentWord f places known content word = AgreesWith f places known content ×
 abbrev pub AllPlaces : ℕ → Option (List Bool) → Type 0
 AllPlaces f known = IfSome known (λ was. length was ≡ f)
 
-IsExact-whole_at : (f : ℕ) (places : List Bool) (known : Option (List Bool)) → length places ≡ f → AllPlaces f known → IsExact (IsContentWord f places known) (whole_at f places known)
-unfolding whole_at
+IsExact-whole_at : (f : ℕ) (places : List Bool) (known : Option (List Bool)) → length places ≡ f → AllPlaces f known → IsExact (IsContentWord f places known) (parse_whole f places known)
+unfolding parse_whole
 IsExact-whole_at f places None len all =
-    IsExact-same (IsAfter (count_bits f) (IsFront f)) (IsContentWord f places None) (whole_at f places None)
+    IsExact-same (IsAfter (count_bits f) (IsFront f)) (IsContentWord f places None) (parse_whole f places None)
     (λ content word (back, is, parts). ((is.0, tt), parts ∙ ap (λ (x : List Bool). count_bits f ++ x) is.1))
     (λ content word (is, parts). (content, (is.0, refl), parts))
-    (IsExact-after (count_bits f) (IsFront f) (front_at f) (IsExact-front_at f) (replicate f false, replicate f false, (length-replicate f false, refl)))
+    (IsExact-after (count_bits f) (IsFront f) (parse_front f) (IsExact-front_at f) (replicate f false, replicate f false, (length-replicate f false, refl)))
 IsExact-whole_at f places (Some known) len all =
-    IsExact-same (IsAfter (count_bits f) (IsKept places known)) (IsContentWord f places (Some known)) (whole_at f places (Some known))
+    IsExact-same (IsAfter (count_bits f) (IsKept places known)) (IsContentWord f places (Some known)) (parse_whole f places (Some known))
     (λ content word (back, is, parts). ((is.0 ∙ all, is.1), parts ∙ ap (λ (x : List Bool). count_bits f ++ x) is.2))
     (λ content word (is, parts). (content, (is.0 ∙ sym all, is.1, refl), parts))
-    (IsExact-after (count_bits f) (IsKept places known) (kept_at places known) (IsExact-kept_at places known (len ∙ sym all)) (known, known, (refl, λ place bound. refl, refl)))
+    (IsExact-after (count_bits f) (IsKept places known) (parse_kept places known) (IsExact-kept_at places known (len ∙ sym all)) (known, known, (refl, λ place bound. refl, refl)))
 
 -- a content that agrees
 agreeing : (f : ℕ) (places : List Bool) (known : Option (List Bool)) → AllPlaces f known → HasWord (IsContentWord f places known)
@@ -105,11 +105,11 @@ length-wide_by recent mask (Some directions) len = by_twice directions.twice
 pub length-places_of : (f : ℕ) (change : Change) (mask : List Bool) → length change.recent ≡ f → length mask ≡ f → length (places_of change mask) ≡ f
 length-places_of f change mask recent len = length-wide_by change.recent mask change.directions (len ∙ sym recent) ∙ len
 
-IsExact-whole_with : (f : ℕ) (change : Change) (mask : List Bool) (known : Option (List Bool)) → length change.recent ≡ f → length mask ≡ f → AllPlaces f known → IsExact (IsWhole f change mask known) (whole_with f change mask known)
-unfolding whole_with
+IsExact-whole_with : (f : ℕ) (change : Change) (mask : List Bool) (known : Option (List Bool)) → length change.recent ≡ f → length mask ≡ f → AllPlaces f known → IsExact (IsWhole f change mask known) (parse_whole_with f change mask known)
+unfolding parse_whole_with
 IsExact-whole_with f change mask known recent len all =
-    IsExact-same (IsImage (Spelled mask) (IsContentWord f (places_of change mask) known)) (IsWhole f change mask known) (whole_with f change mask known) (whole_joined f change mask known) (whole_apart f change mask known)
-    (IsExact-map (Spelled mask) (IsContentWord f (places_of change mask) known) (whole_at f (places_of change mask) known) (IsExact-whole_at f (places_of change mask) known (length-places_of f change mask recent len) all))
+    IsExact-same (IsImage (Spelled mask) (IsContentWord f (places_of change mask) known)) (IsWhole f change mask known) (parse_whole_with f change mask known) (whole_joined f change mask known) (whole_apart f change mask known)
+    (IsExact-map (Spelled mask) (IsContentWord f (places_of change mask) known) (parse_whole f (places_of change mask) known) (IsExact-whole_at f (places_of change mask) known (length-places_of f change mask recent len) all))
 
 some_whole : (f : ℕ) (change : Change) (mask : List Bool) (known : Option (List Bool)) → AllPlaces f known → HasWord (IsWhole f change mask known)
 some_whole f change mask known all = let a = agreeing f (places_of change mask) known all in (Spelled mask a.0, a.1, (refl, a.2.0, a.2.1))
@@ -155,13 +155,13 @@ nothing_apart : (change : Change) (mask : List Bool) (o : Outcome) (word : List 
 nothing_apart change mask (Spelled m content) word is = absurd is
 nothing_apart change mask Opaque word is = (refl, is)
 
-IsExact-part_with : (change : Change) (mask : List Bool) (known : Option (List Bool)) → AllPlaces (length (places_of change mask)) known → IsExact (IsPart change mask known) (part_with change mask known)
-unfolding part_with
+IsExact-part_with : (change : Change) (mask : List Bool) (known : Option (List Bool)) → AllPlaces (length (places_of change mask)) known → IsExact (IsPart change mask known) (parse_part_with change mask known)
+unfolding parse_part_with
 IsExact-part_with change mask None all =
-    IsExact-same (λ (o : Outcome) (word : List Bool). (o ≡ Opaque) × (word ≡ [])) (IsPart change mask None) (part_with change mask None) (nothing_joined change mask) (nothing_apart change mask) (IsExact-give Opaque)
+    IsExact-same (λ (o : Outcome) (word : List Bool). (o ≡ Opaque) × (word ≡ [])) (IsPart change mask None) (parse_part_with change mask None) (nothing_joined change mask) (nothing_apart change mask) (IsExact-give Opaque)
 IsExact-part_with change mask (Some known) all =
-    IsExact-same (IsImage (Spelled mask) (IsFilling (places_down (places_of change mask)) known)) (IsPart change mask (Some known)) (part_with change mask (Some known)) (part_joined change mask known) (part_apart change mask known)
-    (IsExact-map (Spelled mask) (IsFilling (places_down (places_of change mask)) known) (filled_at (places_down (places_of change mask)) known) (IsExact-filled_at (places_down (places_of change mask)) known (rw all (places_down_apart (places_of change mask)))))
+    IsExact-same (IsImage (Spelled mask) (IsFilling (places_down (places_of change mask)) known)) (IsPart change mask (Some known)) (parse_part_with change mask (Some known)) (part_joined change mask known) (part_apart change mask known)
+    (IsExact-map (Spelled mask) (IsFilling (places_down (places_of change mask)) known) (parse_filled (places_down (places_of change mask)) known) (IsExact-filled_at (places_down (places_of change mask)) known (rw all (places_down_apart (places_of change mask)))))
 
 some_part : (change : Change) (mask : List Bool) (known : Option (List Bool)) → HasWord (IsPart change mask known)
 some_part change mask None = (Opaque, [], refl)
@@ -231,50 +231,50 @@ pub some_data : (f : ℕ) (change : Change) (deduced known : Option (List Bool))
 some_data f change deduced known = let u = some_unsent change deduced known in (u.0, true ∷ u.1, u.2)
 
 module _ (f : ℕ) (change : Change) (known : Option (List Bool)) (recent : length change.recent ≡ f) (content_places : AllPlaces f known) where
-  part_exact : (mask : List Bool) → length mask ≡ f → IsExact (IsPart change mask known) (part_with change mask known)
+  part_exact : (mask : List Bool) → length mask ≡ f → IsExact (IsPart change mask known) (parse_part_with change mask known)
   part_exact mask len = IsExact-part_with change mask known (all_of_places f (length (places_of change mask)) known (sym (length-places_of f change mask recent len)) content_places)
 
-  content_exact : (mask : List Bool) → length mask ≡ f → IsExact (IsContent f change mask known) (content_at f change mask known)
-  unfolding content_at
+  content_exact : (mask : List Bool) → length mask ≡ f → IsExact (IsContent f change mask known) (parse_content f change mask known)
+  unfolding parse_content
   content_exact mask len =
-      IsExact-bit (IsWhole f change mask known) (IsPart change mask known) (whole_with f change mask known) (part_with change mask known)
+      IsExact-bit (IsWhole f change mask known) (IsPart change mask known) (parse_whole_with f change mask known) (parse_part_with change mask known)
       (IsExact-whole_with f change mask known recent len content_places)
       (part_exact mask len)
       (some_whole f change mask known content_places)
       (some_part change mask known)
 
-  masked_exact : (deduced : Option (List Bool)) → AllPlaces f deduced → IsExact (IsMasked f change deduced known) (masked_at f change deduced known)
-  unfolding masked_at
+  masked_exact : (deduced : Option (List Bool)) → AllPlaces f deduced → IsExact (IsMasked f change deduced known) (parse_masked f change deduced known)
+  unfolding parse_masked
   masked_exact deduced mask_places =
-      IsExact-then (IsMaskWord f deduced) (λ mask. IsContent f change mask known) (mask_at f deduced) (λ mask rest. content_at f change mask known rest)
+      IsExact-then (IsMaskWord f deduced) (λ mask. IsContent f change mask known) (parse_mask f deduced) (λ mask rest. parse_content f change mask known rest)
       (IsExact-mask_at f deduced)
       (λ mask word w. content_exact mask (mask_of_places f deduced mask_places mask word w))
       (λ mask word w. some_content f change mask known)
 
-  maskless_exact : (deduced : Option (List Bool)) → AllPlaces f deduced → IsExact (IsMaskless f change deduced known) (maskless_at f change deduced known)
-  unfolding maskless_at
+  maskless_exact : (deduced : Option (List Bool)) → AllPlaces f deduced → IsExact (IsMaskless f change deduced known) (parse_maskless f change deduced known)
+  unfolding parse_maskless
   maskless_exact None mask_places = IsExact-give Opaque
   maskless_exact (Some mask) mask_places =
-      IsExact-one (IsWhole f change mask known) (whole_with f change mask known) (IsExact-whole_with f change mask known recent mask_places content_places) (some_whole f change mask known content_places)
+      IsExact-one (IsWhole f change mask known) (parse_whole_with f change mask known) (IsExact-whole_with f change mask known recent mask_places content_places) (some_whole f change mask known content_places)
 
-  unsent_exact : (deduced : Option (List Bool)) → AllPlaces f deduced → IsExact (IsUnsent change deduced known) (unsent_at change deduced known)
-  unfolding unsent_at
+  unsent_exact : (deduced : Option (List Bool)) → AllPlaces f deduced → IsExact (IsUnsent change deduced known) (parse_unsent change deduced known)
+  unfolding parse_unsent
   unsent_exact None mask_places = IsExact-give Opaque
   unsent_exact (Some mask) mask_places = part_exact mask mask_places
 
-  sent_exact : (deduced : Option (List Bool)) → AllPlaces f deduced → IsExact (IsSent f change deduced known) (sent_at f change deduced known)
-  unfolding sent_at
+  sent_exact : (deduced : Option (List Bool)) → AllPlaces f deduced → IsExact (IsSent f change deduced known) (parse_sent f change deduced known)
+  unfolding parse_sent
   sent_exact deduced mask_places =
-      IsExact-bit (IsMasked f change deduced known) (IsMaskless f change deduced known) (masked_at f change deduced known) (maskless_at f change deduced known)
+      IsExact-bit (IsMasked f change deduced known) (IsMaskless f change deduced known) (parse_masked f change deduced known) (parse_maskless f change deduced known)
       (masked_exact deduced mask_places)
       (maskless_exact deduced mask_places)
       (some_masked f change deduced known)
       (some_maskless f change deduced known content_places)
 
-  pub IsExact-data_at : (deduced : Option (List Bool)) → AllPlaces f deduced → IsExact (IsData f change deduced known) (data_at f change deduced known)
-  unfolding data_at
+  pub IsExact-data_at : (deduced : Option (List Bool)) → AllPlaces f deduced → IsExact (IsData f change deduced known) (parse_data f change deduced known)
+  unfolding parse_data
   IsExact-data_at deduced mask_places =
-      IsExact-bit (IsUnsent change deduced known) (IsSent f change deduced known) (unsent_at change deduced known) (sent_at f change deduced known)
+      IsExact-bit (IsUnsent change deduced known) (IsSent f change deduced known) (parse_unsent change deduced known) (parse_sent f change deduced known)
       (unsent_exact deduced mask_places)
       (sent_exact deduced mask_places)
       (some_unsent change deduced known)

@@ -8,7 +8,7 @@ use Rattle.bit_vectors.proofs.ExactReading.{IsWordThen, IsExact-give, IsExact-sa
 use Rattle.bit_vectors.proofs.SameWord.{IsExact-same_at}
 use Rattle.packet_encode.specs.Forms.{Directions, AreDirections}
 use Rattle.packet_decode.specs.State.{State, IsState, Change, unpredictable, mask_after}
-use Rattle.packet_decode.specs.PacketReading.{Outcome, Spelled, Opaque, Found, deduced_by, known_by, change_at, data_at, parts_at, padding_at, packet_at}
+use Rattle.packet_decode.specs.PacketReading.{Outcome, Spelled, Opaque, Found, deduced_by, known_by, parse_change, parse_data, parse_parts, parse_padding, parse_packet}
 use Rattle.packet_decode.proofs.Readers.{IsImage, IsExact-map, IsExact-by, IsCounted, counted, IsExact-counted, counted_then}
 use Rattle.packet_decode.proofs.ExactChange.{bare, IsChange, IsChangeWord, IsExact-change_at}
 use Rattle.packet_decode.proofs.ExactData.{AllPlaces, IsData, some_data, IsExact-data_at}
@@ -77,14 +77,14 @@ parts_joined f state t found word (change, front, back, first, (outcome, others,
 parts_apart : (f : ℕ) (state : State) (t : ℕ) (found : Found) (word : List Bool) → IsParts f state t found word → IsPartsThen f state t found word
 parts_apart f state t found word h = (found.change, h.front, h.back, h.first, (found.outcome, h.others, refl), h.parts)
 
-IsExact-parts_at : (f : ℕ) (state : State) (t : ℕ) → IsState f state → IsExact (IsParts f state t) (parts_at f state t)
-unfolding parts_at
+IsExact-parts_at : (f : ℕ) (state : State) (t : ℕ) → IsState f state → IsExact (IsParts f state t) (parse_parts f state t)
+unfolding parse_parts
 IsExact-parts_at f state t has =
-    IsExact-same (IsPartsThen f state t) (IsParts f state t) (parts_at f state t) (parts_joined f state t) (parts_apart f state t)
+    IsExact-same (IsPartsThen f state t) (IsParts f state t) (parse_parts f state t) (parts_joined f state t) (parts_apart f state t)
     (IsExact-then (IsChangeWord f) (λ change. IsImage (found_of change) (IsDataBy f state t change))
-    (change_at f) (λ change rest. data_at f change (deduced_by state t change) (known_by state t change) rest >>= λ outcome last. Read (found_of change outcome) last)
+    (parse_change f) (λ change rest. parse_data f change (deduced_by state t change) (known_by state t change) rest >>= λ outcome last. Read (found_of change outcome) last)
     (IsExact-change_at f)
-    (λ change word w. IsExact-map (found_of change) (IsDataBy f state t change) (data_at f change (deduced_by state t change) (known_by state t change))
+    (λ change word w. IsExact-map (found_of change) (IsDataBy f state t change) (parse_data f change (deduced_by state t change) (known_by state t change))
     (IsExact-data_at f change (known_by state t change) w.0.recent (known_places f state t change has) (deduced_by state t change) (deduced_places f state t change has w.0)))
     (λ change word w. let d = some_data f change (deduced_by state t change) (known_by state t change) in (found_of change d.0, d.1, (d.0, d.2, refl))))
 
@@ -95,11 +95,11 @@ abbrev pub padding_word : Outcome → ℕ → List Bool
 padding_word (Spelled mask content) used = replicate (8 * byte_count used - used) false
 padding_word Opaque used = []
 
-IsExact-padding_at : (outcome : Outcome) (used : ℕ) → IsExact (λ (u : Unit {0}) (word : List Bool). word ≡ padding_word outcome used) (padding_at outcome used)
-unfolding padding_at
+IsExact-padding_at : (outcome : Outcome) (used : ℕ) → IsExact (λ (u : Unit {0}) (word : List Bool). word ≡ padding_word outcome used) (parse_padding outcome used)
+unfolding parse_padding
 IsExact-padding_at (Spelled mask content) used = IsExact-same_at (replicate (8 * byte_count used - used) false)
 IsExact-padding_at Opaque used =
-    IsExact-same (λ (u : Unit {0}) (word : List Bool). (u ≡ tt) × (word ≡ [])) (λ (u : Unit {0}) (word : List Bool). word ≡ []) (padding_at Opaque used) (λ u word w. w.1) (λ u word w. (refl, w)) (IsExact-give tt)
+    IsExact-same (λ (u : Unit {0}) (word : List Bool). (u ≡ tt) × (word ≡ [])) (λ (u : Unit {0}) (word : List Bool). word ≡ []) (parse_padding Opaque used) (λ u word w. w.1) (λ u word w. (refl, w)) (IsExact-give tt)
 
 -- ---- a packet
 
@@ -126,18 +126,18 @@ packet_joined f state t found word (counted, body, back, parts, (u, padding, is)
 packet_apart : (f : ℕ) (state : State) (t : ℕ) (found : Found) (word : List Bool) → IsPacket f state t found word → IsPacketThen f state t found word
 packet_apart f state t found word h = ((found, length h.body), h.body, padding_word found.outcome (length h.body), (h.parts, refl), (tt, refl, refl), h.bits)
 
-packet_at_counts : (f : ℕ) (state : State) (t : ℕ) (bits : List Bool) → packet_at f state t bits
-    ≡ (counted (length bits) (parts_at f state t bits) >>= λ found rest. padding_at found.0.outcome found.1 rest >>= λ u last. Read found.0 last)
-unfolding packet_at
-packet_at_counts f state t bits = counted_then (length bits) (parts_at f state t bits) (λ found used rest. padding_at found.outcome used rest >>= λ u last. Read found last)
+packet_at_counts : (f : ℕ) (state : State) (t : ℕ) (bits : List Bool) → parse_packet f state t bits
+    ≡ (counted (length bits) (parse_parts f state t bits) >>= λ found rest. parse_padding found.0.outcome found.1 rest >>= λ u last. Read found.0 last)
+unfolding parse_packet
+packet_at_counts f state t bits = counted_then (length bits) (parse_parts f state t bits) (λ found used rest. parse_padding found.outcome used rest >>= λ u last. Read found last)
 
-pub IsExact-packet_at : (f : ℕ) (state : State) (t : ℕ) → IsState f state → IsExact (IsPacket f state t) (packet_at f state t)
+pub IsExact-packet_at : (f : ℕ) (state : State) (t : ℕ) → IsState f state → IsExact (IsPacket f state t) (parse_packet f state t)
 IsExact-packet_at f state t has =
-    IsExact-same (IsPacketThen f state t) (IsPacket f state t) (packet_at f state t) (packet_joined f state t) (packet_apart f state t)
-    (IsExact-by (IsPacketThen f state t) (λ bits. counted (length bits) (parts_at f state t bits) >>= λ found rest. padding_at found.0.outcome found.1 rest >>= λ u last. Read found.0 last) (packet_at f state t)
+    IsExact-same (IsPacketThen f state t) (IsPacket f state t) (parse_packet f state t) (packet_joined f state t) (packet_apart f state t)
+    (IsExact-by (IsPacketThen f state t) (λ bits. counted (length bits) (parse_parts f state t bits) >>= λ found rest. parse_padding found.0.outcome found.1 rest >>= λ u last. Read found.0 last) (parse_packet f state t)
     (packet_at_counts f state t)
     (IsExact-then (IsCounted (IsParts f state t)) IsPadding
-    (λ bits. counted (length bits) (parts_at f state t bits)) (λ found rest. padding_at found.0.outcome found.1 rest >>= λ u last. Read found.0 last)
-    (IsExact-counted (IsParts f state t) (parts_at f state t) (IsExact-parts_at f state t has))
-    (λ found word w. IsExact-map (λ (u : Unit {0}). found.0) (λ u word. word ≡ padding_word found.0.outcome found.1) (padding_at found.0.outcome found.1) (IsExact-padding_at found.0.outcome found.1))
+    (λ bits. counted (length bits) (parse_parts f state t bits)) (λ found rest. parse_padding found.0.outcome found.1 rest >>= λ u last. Read found.0 last)
+    (IsExact-counted (IsParts f state t) (parse_parts f state t) (IsExact-parts_at f state t has))
+    (λ found word w. IsExact-map (λ (u : Unit {0}). found.0) (λ u word. word ≡ padding_word found.0.outcome found.1) (parse_padding found.0.outcome found.1) (IsExact-padding_at found.0.outcome found.1))
     (λ found word w. (found.0, padding_word found.0.outcome found.1, (tt, refl, refl)))))

@@ -9,7 +9,7 @@ use Rattle.bit_vectors.proofs.Places.{get_or-zip2_all}
 use Rattle.bit_vectors.specs.Reading.{Read, WrongBit, TooShort, ◌>>=◌, bit_where, allowed, IsExact}
 use Rattle.bit_vectors.proofs.ExactReading.{IsBitWhere, IsWordThen, IsExact-give, IsExact-bit_where, IsExact-same, IsExact-then}
 use Rattle.run_code.specs.Extraction.{SameOutside}
-use Rattle.packet_decode.specs.PacketReading.{kept_at}
+use Rattle.packet_decode.specs.PacketReading.{parse_kept}
 use Rattle.packet_decode.proofs.Readers.{IsImage, IsExact-map}
 
 -- a content that has the known bit at each place but these, and its bits
@@ -65,19 +65,19 @@ no_place places (bit ∷ v) word (len, same, is) = absurd (omega (arith, len))
 nothing_kept : (v word : List Bool) → (v ≡ []) × (word ≡ []) → IsKept [] [] v word
 nothing_kept v word (none, empty) = rw (none, empty) (refl, λ place bound. refl, refl)
 
-pub IsExact-kept_at : (places known : List Bool) → length places ≡ length known → IsExact (IsKept places known) (kept_at places known)
-unfolding kept_at
+pub IsExact-kept_at : (places known : List Bool) → length places ≡ length known → IsExact (IsKept places known) (parse_kept places known)
+unfolding parse_kept
 IsExact-kept_at [] [] len =
-    IsExact-same (λ (v : List Bool) (word : List Bool). (v ≡ []) × (word ≡ [])) (IsKept [] []) (kept_at [] []) nothing_kept (no_place []) (IsExact-give [])
+    IsExact-same (λ (v : List Bool) (word : List Bool). (v ≡ []) × (word ≡ [])) (IsKept [] []) (parse_kept [] []) nothing_kept (no_place []) (IsExact-give [])
 IsExact-kept_at [] (was ∷ known) len = absurd (omega (arith, len))
 IsExact-kept_at (free ∷ places) [] len = absurd (omega (arith, len))
 IsExact-kept_at (free ∷ places) (was ∷ known) len =
-    IsExact-same (IsKeptThen free was places known) (IsKept (free ∷ places) (was ∷ known)) (kept_at (free ∷ places) (was ∷ known))
+    IsExact-same (IsKeptThen free was places known) (IsKept (free ∷ places) (was ∷ known)) (parse_kept (free ∷ places) (was ∷ known))
     (kept_joined free was places known) (kept_apart free was places known)
     (IsExact-then (IsBitWhere (may_come free was)) (λ bit. IsImage (λ content. bit ∷ content) (IsKept places known))
-    (bit_where (may_come free was)) (λ bit rest. kept_at places known rest >>= λ content last. Read (bit ∷ content) last)
+    (bit_where (may_come free was)) (λ bit rest. parse_kept places known rest >>= λ content last. Read (bit ∷ content) last)
     (IsExact-bit_where (may_come free was) was (known_may free was))
-    (λ bit word w. IsExact-map (λ content. bit ∷ content) (IsKept places known) (kept_at places known) (IsExact-kept_at places known (omega (arith, len))))
+    (λ bit word w. IsExact-map (λ content. bit ∷ content) (IsKept places known) (parse_kept places known) (IsExact-kept_at places known (omega (arith, len))))
     (λ bit word w. (bit ∷ known, known, (known, (refl, λ place bound. refl, refl), refl))))
 
 -- ---- what whole vectors tell of it
@@ -90,32 +90,32 @@ may_not false false true bound differs = refl
 may_not false false false bound differs = absurd (differs refl)
 
 -- no bit differs
-kept_at-read : (places known bits : List Bool) → length places ≡ length known → length known ≤ length bits → SameOutside places known (take (length known) bits) → kept_at places known bits ≡ Read (take (length known) bits) (drop (length known) bits)
-kept_at-read places known bits len enough same =
-    ap (kept_at places known) (sym (take-append-drop (length known) bits))
+parse_kept-read : (places known bits : List Bool) → length places ≡ length known → length known ≤ length bits → SameOutside places known (take (length known) bits) → parse_kept places known bits ≡ Read (take (length known) bits) (drop (length known) bits)
+parse_kept-read places known bits len enough same =
+    ap (parse_kept places known) (sym (take-append-drop (length known) bits))
     ∙ (IsExact-kept_at places known len).reads (take (length known) bits) (take (length known) bits) (drop (length known) bits) (omega (arith, length-take (length known) bits), same, refl)
 
 -- the bits end before one differs
-kept_at-short : (places known bits : List Bool) → length places ≡ length known → length bits < length known → ((k : ℕ) → k < length bits → get_or places k false ≡ false → get_or bits k false ≡ get_or known k false) → kept_at places known bits ≡ TooShort
-unfolding kept_at
-kept_at-short [] known bits len less same = absurd (omega (arith, len))
-kept_at-short (free ∷ places) [] bits len less same = absurd (omega (arith, len))
-kept_at-short (free ∷ places) (was ∷ known) [] len less same = refl
-kept_at-short (free ∷ places) (was ∷ known) (bit ∷ bits) len less same =
-    rw (may_by free was bit (same 0 (omega arith)), kept_at-short places known bits (omega (arith, len)) (omega (arith, less)) (λ k lt. same (suc k) (omega arith))) refl
+parse_kept-short : (places known bits : List Bool) → length places ≡ length known → length bits < length known → ((k : ℕ) → k < length bits → get_or places k false ≡ false → get_or bits k false ≡ get_or known k false) → parse_kept places known bits ≡ TooShort
+unfolding parse_kept
+parse_kept-short [] known bits len less same = absurd (omega (arith, len))
+parse_kept-short (free ∷ places) [] bits len less same = absurd (omega (arith, len))
+parse_kept-short (free ∷ places) (was ∷ known) [] len less same = refl
+parse_kept-short (free ∷ places) (was ∷ known) (bit ∷ bits) len less same =
+    rw (may_by free was bit (same 0 (omega arith)), parse_kept-short places known bits (omega (arith, len)) (omega (arith, less)) (λ k lt. same (suc k) (omega arith))) refl
 
 -- the first bit that differs
-kept_at-wrong : (places known bits : List Bool) (p : ℕ) → length places ≡ length known → p < length known → p < length bits
+parse_kept-wrong : (places known bits : List Bool) (p : ℕ) → length places ≡ length known → p < length known → p < length bits
     → ((k : ℕ) → k < p → get_or places k false ≡ false → get_or bits k false ≡ get_or known k false) → get_or places p false ≡ false → (get_or bits p false ≡ get_or known p false → ⊥)
-    → kept_at places known bits ≡ WrongBit (drop (p + 1) bits)
-unfolding kept_at
-kept_at-wrong [] known bits p len place inside same bound differs = absurd (omega (arith, len))
-kept_at-wrong (free ∷ places) [] bits p len place inside same bound differs = absurd (omega (arith, len))
-kept_at-wrong (free ∷ places) (was ∷ known) [] p len place inside same bound differs = absurd (omega (arith, inside))
-kept_at-wrong (free ∷ places) (was ∷ known) (bit ∷ bits) zero len place inside same bound differs = rw (may_not free was bit bound differs) refl
-kept_at-wrong (free ∷ places) (was ∷ known) (bit ∷ bits) (suc p) len place inside same bound differs =
+    → parse_kept places known bits ≡ WrongBit (drop (p + 1) bits)
+unfolding parse_kept
+parse_kept-wrong [] known bits p len place inside same bound differs = absurd (omega (arith, len))
+parse_kept-wrong (free ∷ places) [] bits p len place inside same bound differs = absurd (omega (arith, len))
+parse_kept-wrong (free ∷ places) (was ∷ known) [] p len place inside same bound differs = absurd (omega (arith, inside))
+parse_kept-wrong (free ∷ places) (was ∷ known) (bit ∷ bits) zero len place inside same bound differs = rw (may_not free was bit bound differs) refl
+parse_kept-wrong (free ∷ places) (was ∷ known) (bit ∷ bits) (suc p) len place inside same bound differs =
     let more : suc p + 1 ≡ suc (p + 1) = omega arith in
-    rw (may_by free was bit (same 0 (omega arith)), kept_at-wrong places known bits p (omega (arith, len)) (omega (arith, place)) (omega (arith, inside)) (λ k lt. same (suc k) (omega arith)) bound differs, more) refl
+    rw (may_by free was bit (same 0 (omega arith)), parse_kept-wrong places known bits p (omega (arith, len)) (omega (arith, place)) (omega (arith, inside)) (λ k lt. same (suc k) (omega arith)) bound differs, more) refl
 
 -- ---- a content taken at once, over the known one
 
@@ -133,21 +133,21 @@ module _ (places known left content : List Bool) (len : length places ≡ length
   all_taken : length known ≤ length left → content ≡ take (length known) left
   all_taken enough = taken ∙ rw (drop_all (length left) known enough) (append-nil (take (length known) left))
 
-  pub kept_whole : length known ≤ length left → SameOutside places known content → kept_at places known left ≡ Read content (drop (length known) left)
-  kept_whole enough same = rw (all_taken enough) (kept_at-read places known left len enough (rw (all_taken enough) at same))
+  pub kept_whole : length known ≤ length left → SameOutside places known content → parse_kept places known left ≡ Read content (drop (length known) left)
+  kept_whole enough same = rw (all_taken enough) (parse_kept-read places known left len enough (rw (all_taken enough) at same))
 
-  pub kept_early : length left < length known → SameOutside places known content → kept_at places known left ≡ TooShort
-  kept_early less same = kept_at-short places known left len less (λ k lt bound. sym (in_front k (omega arith) lt) ∙ same k bound)
+  pub kept_early : length left < length known → SameOutside places known content → parse_kept places known left ≡ TooShort
+  kept_early less same = parse_kept-short places known left len less (λ k lt bound. sym (in_front k (omega arith) lt) ∙ same k bound)
 
   inside : (p : ℕ) → p < length known → (get_or content p false ≡ get_or known p false → ⊥) → p < length left
   inside p place differs = elim (cases_lt p (length left)) [ inl lt ↦ lt | inr past ↦ absurd (differs (behind p (omega arith) past)) ]
 
   pub kept_wrong : (p : ℕ) → p < length known → get_or places p false ≡ false → (get_or content p false ≡ get_or known p false → ⊥) → ((k : ℕ) → k < p → get_or places k false ≡ false → get_or content k false ≡ get_or known k false)
-      → (p < length left) × (kept_at places known left ≡ WrongBit (drop (p + 1) left))
+      → (p < length left) × (parse_kept places known left ≡ WrongBit (drop (p + 1) left))
   kept_wrong p place bound differs same =
       let within = inside p place differs in (
         within,
-        kept_at-wrong places known left p len place within (λ k lt free. sym (in_front k (omega arith) (omega (arith, within))) ∙ same k lt free) bound (λ e. differs (in_front p place within ∙ e)),
+        parse_kept-wrong places known left p len place within (λ k lt free. sym (in_front k (omega arith) (omega (arith, within))) ∙ same k lt free) bound (λ e. differs (in_front p place within ∙ e)),
       )
 
 -- ---- where two contents differ outside places

@@ -10,13 +10,13 @@ use Rattle.mask_update.specs.Masks.{mask_at}
 use Rattle.mask_update.proofs.StepByStep.{length-mask_at}
 use Rattle.robust_window.specs.Histories.{level_at}
 use Rattle.packet_encode.specs.Forms.{Content, Part, Whole, change_bits, content_bits, data_bits, form_bits, wide}
-use Rattle.packet_encode.specs.Packets.{content_of, form_at, packet_at, sent_of}
+use Rattle.packet_encode.specs.Packets.{sent_content, form_at, packet_at, sent_of}
 use Rattle.packet_encode.proofs.OfHistories.{form_at-fits, form_at-is_form, form_bits-is}
 use Rattle.packet_decode.specs.declared.decoder.Reading.TheVariants.{Written, Unsynced, Gap}
 use Rattle.packet_decode.specs.State.{InReach, IsState}
 use Rattle.packet_decode.specs.Spelling.{Follows, HasOpaqueFront, IsSentOf, Spells, StandsAlone, opaque_end}
 use Rattle.packet_encode.specs.Deliveries.{CarriesBoth}
-use Rattle.packet_decode.specs.Histories.{IsUnderstood, state_of, written_at}
+use Rattle.packet_decode.specs.Histories.{IsUnderstood, true_state, written_at}
 use Rattle.packet_decode.specs.PacketReading.{answer_of}
 use Rattle.packet_decode.proofs.OneAnswer.{says_answer}
 use Rattle.packet_decode.proofs.WindowContent.{content-kept}
@@ -31,12 +31,12 @@ mask-sent false mask = tt
 mask-carried : (send : Bool) (mask : List Bool) → send ≡ true → sent_of send mask ≡ Some mask
 mask-carried send mask e = ap (λ (b : Bool). sent_of b mask) e
 
-content-sent : (whole : Bool) (content places : List Bool) → IsSentOf places content (content_of whole content places)
+content-sent : (whole : Bool) (content places : List Bool) → IsSentOf places content (sent_content whole content places)
 content-sent true content places = refl
 content-sent false content places = refl
 
-content-carried : (whole : Bool) (content places : List Bool) → whole ≡ true → content_of whole content places ≡ Whole content
-content-carried whole content places e = ap (λ (b : Bool). content_of b content places) e
+content-carried : (whole : Bool) (content places : List Bool) → whole ≡ true → sent_content whole content places ≡ Whole content
+content-carried whole content places e = ap (λ (b : Bool). sent_content b content places) e
 
 -- where one of them is not sent: the front of the bits that shows it, and the bits after that
 record HasFront (sent : Option (List Bool)) (content : Content) : Type 0 where
@@ -58,17 +58,17 @@ maskless_front : (content : Content) → HasFront None content
 maskless_front (Part bits) = part_front None bits
 maskless_front (Whole content) = record { end = false ∷ false ∷ []; end_is = refl; rest = content_bits (Whole content); bits_are = refl }
 
-data_front : (send whole : Bool) (mask content places : List Bool) → ((send ≡ true) × (whole ≡ true) → ⊥) → HasFront (sent_of send mask) (content_of whole content places)
-data_front false whole mask content places not_both = maskless_front (content_of whole content places)
+data_front : (send whole : Bool) (mask content places : List Bool) → ((send ≡ true) × (whole ≡ true) → ⊥) → HasFront (sent_of send mask) (sent_content whole content places)
+data_front false whole mask content places not_both = maskless_front (sent_content whole content places)
 data_front true false mask content places not_both = part_front (Some mask) (extract content places)
 data_front true true mask content places not_both = absurd (not_both (refl, refl))
 
 -- ---- the state
 
 -- the state of a decoder that has written packets of the history has its vectors
-pub state_of-is : (h : History) (latest : Option ℕ) → IsValid h → IfSome latest (λ s. s < length h.steps) → IsState h.places (state_of h latest)
-state_of-is h None valid within = tt
-state_of-is h (Some latest) valid within = record { mask_places = length-mask_at h latest; content_places = valid.inputs latest within }
+pub true_state-is : (h : History) (latest : Option ℕ) → IsValid h → IfSome latest (λ s. s < length h.steps) → IsState h.places (true_state h latest)
+true_state-is h None valid within = tt
+true_state-is h (Some latest) valid within = record { mask_places = length-mask_at h latest; content_places = valid.inputs latest within }
 
 module _ (h : History) (t : ℕ) (valid : IsValid h) (lt : t < length h.steps) where
   -- ---- an understood packet
@@ -88,15 +88,15 @@ module _ (h : History) (t : ℕ) (valid : IsValid h) (lt : t < length h.steps) w
     content_sent = content-carried (flags_at h t).r (input_at h t) (wide (form_at h t) (mask_at h t)) both.1;
   }
 
-  follows_latest : (latest : Option ℕ) → IfSome latest (λ s. s < t) → InReach (state_of h latest) t (level_at h t) → IfSome (state_of h latest) (λ packet. Follows packet (form_at h t) (mask_at h t) (input_at h t))
+  follows_latest : (latest : Option ℕ) → IfSome latest (λ s. s < t) → InReach (true_state h latest) t (level_at h t) → IfSome (true_state h latest) (λ packet. Follows packet (form_at h t) (mask_at h t) (input_at h t))
   follows_latest None before near = tt
   follows_latest (Some earlier) before near = follows earlier before near
 
-  stands_alone : (latest : Option ℕ) → IsUnderstood h latest t → (InReach (state_of h latest) t (level_at h t) → ⊥) → StandsAlone (form_at h t) (mask_at h t) (input_at h t)
+  stands_alone : (latest : Option ℕ) → IsUnderstood h latest t → (InReach (true_state h latest) t (level_at h t) → ⊥) → StandsAlone (form_at h t) (mask_at h t) (input_at h t)
   stands_alone latest (inl both) far = alone both
   stands_alone latest (inr near) far = absurd (far near)
 
-  pub understood-spelled : (latest : Option ℕ) → IfSome latest (λ s. s < t) → IsUnderstood h latest t → Spells h.places (state_of h latest) t (packet_at h t) (form_at h t) (mask_at h t) (input_at h t)
+  pub understood-spelled : (latest : Option ℕ) → IfSome latest (λ s. s < t) → IsUnderstood h latest t → Spells h.places (true_state h latest) t (packet_at h t) (form_at h t) (mask_at h t) (input_at h t)
   understood-spelled latest before understood = record {
     is_form = form_at-is_form h t valid lt;
     mask_places = length-mask_at h t;
@@ -121,7 +121,7 @@ module _ (h : History) (t : ℕ) (valid : IsValid h) (lt : t < length h.steps) w
       ∙ append_assoc (change_bits (form_at h t)) (f.end ++ f.rest) zeros
       ∙ ap (λ (bits : List Bool). change_bits (form_at h t) ++ bits) (append_assoc f.end f.rest zeros)
 
-  pub missed-opaque : (latest : Option ℕ) → (IsUnderstood h latest t → ⊥) → HasOpaqueFront h.places (state_of h latest) t (packet_at h t) (level_at h t)
+  pub missed-opaque : (latest : Option ℕ) → (IsUnderstood h latest t → ⊥) → HasOpaqueFront h.places (true_state h latest) t (packet_at h t) (level_at h t)
   missed-opaque latest never =
       let found = front (λ both. never (inl both)) in
       record {
@@ -141,12 +141,12 @@ module _ (h : History) (t : ℕ) (valid : IsValid h) (lt : t < length h.steps) w
   earlier-within None before = tt
   earlier-within (Some latest) before = omega (arith, before, lt)
 
-  known : (latest : Option ℕ) → IfSome latest (λ s. s < t) → IsState h.places (state_of h latest)
-  known latest before = state_of-is h latest valid (earlier-within latest before)
+  known : (latest : Option ℕ) → IfSome latest (λ s. s < t) → IsState h.places (true_state h latest)
+  known latest before = true_state-is h latest valid (earlier-within latest before)
 
-  pub answer-written : (latest : Option ℕ) → IfSome latest (λ s. s < t) → IsUnderstood h latest t → answer_of h.places (state_of h latest) t (packet_at h t) ≡ Ok Written
+  pub answer-written : (latest : Option ℕ) → IfSome latest (λ s. s < t) → IsUnderstood h latest t → answer_of h.places (true_state h latest) t (packet_at h t) ≡ Ok Written
   answer-written latest before understood =
-      says_answer h.places (state_of h latest) t (known latest before) (packet_at h t) Written
+      says_answer h.places (true_state h latest) t (known latest before) (packet_at h t) Written
       (form_at h t, mask_at h t, input_at h t, understood-spelled latest before understood)
 
   pub answer-unsynced : (IsUnderstood h None t → ⊥) → answer_of h.places None t (packet_at h t) ≡ Ok Unsynced

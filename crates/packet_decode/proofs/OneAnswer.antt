@@ -6,17 +6,17 @@ use Rattle.std.proofs.lemmas.List.{length-append, append-nil, append_cancel_left
 use Rattle.bit_vectors.specs.Vectors.{byte_count}
 use Rattle.bit_vectors.specs.declared.fault.BitFault.{BitFault}
 use Rattle.bit_vectors.specs.declared.fault.BitFault.TheVariants.{Wrong, EndsEarly}
-use Rattle.bit_vectors.specs.Reading.{Reading, Read, WrongBit, ◌>>=◌}
+use Rattle.bit_vectors.specs.Reading.{Parsed, Read, WrongBit, ◌>>=◌}
 use Rattle.bit_vectors.proofs.ExactReading.{read_same}
 use Rattle.run_code.specs.Edges.{edges}
 use Rattle.run_code.specs.Runs.{run_bits}
 use Rattle.packet_encode.specs.Forms.{Content, Whole, Part, Form, content_bits, data_bits, change_bits, form_bits, wide}
-use Rattle.packet_decode.specs.declared.decoder.Reading.{Reading as Answer}
+use Rattle.packet_decode.specs.declared.decoder.Reading.{Reading}
 use Rattle.packet_decode.specs.declared.decoder.Reading.TheVariants.{Written, Unsynced, Gap}
 use Rattle.packet_decode.specs.State.{State, IsState, Change, change_of}
 use Rattle.packet_decode.specs.Spelling.{IsSentOf, Spells, HasOpaqueFront}
 use Rattle.packet_decode.specs.Answers.{SpellsPacket, Viable, IsHopeless, IsIncomplete, Says, IsSoundAnswer, IsExactAnswer}
-use Rattle.packet_decode.specs.PacketReading.{Spelled, Opaque, Found, end_at, packet_at, whole_packet_at, answer_to, answer_by, answer_of}
+use Rattle.packet_decode.specs.PacketReading.{Spelled, Opaque, Found, parse_end, parse_packet, parse_whole_packet, outcome_answer, parsed_answer, answer_of}
 use Rattle.packet_decode.proofs.ExactChange.{change_word, change_bits_are}
 use Rattle.packet_decode.proofs.ExactData.{places_of}
 use Rattle.packet_decode.proofs.ExactPacket.{IsExact-packet_at}
@@ -24,83 +24,83 @@ use Rattle.packet_decode.proofs.SpelledWords.{spelled_sent, spells_packet, opaqu
 use Rattle.packet_decode.proofs.ExactAnswers.{Means, means_viable, take_viable, fewer_viable, answer_of-exact}
 
 -- an exact answer is sound
-pub exact_sound : (f : ℕ) (state : State) (t : ℕ) (bits : List Bool) (answer : Result Answer BitFault) → IsExactAnswer f state t bits answer → IsSoundAnswer f state t bits answer
+pub exact_sound : (f : ℕ) (state : State) (t : ℕ) (bits : List Bool) (answer : Result Reading BitFault) → IsExactAnswer f state t bits answer → IsSoundAnswer f state t bits answer
 exact_sound f state t bits (Ok reading) h = h
 exact_sound f state t bits (Err (Wrong bit)) h = h.0
 exact_sound f state t bits (Err (EndsEarly bit)) h = h.0
 
 -- nothing but a packet that is spelled must stand at the end
-abbrev closed : Reading Found → Reading Found
-closed r = r >>= λ found rest. end_at found.outcome rest >>= λ u last. Read found last
+abbrev closed : Parsed Found → Parsed Found
+closed r = r >>= λ found rest. parse_end found.outcome rest >>= λ u last. Read found last
 
-whole_is : (f : ℕ) (state : State) (t : ℕ) (bits : List Bool) (r : Reading Found) → packet_at f state t bits ≡ r → whole_packet_at f state t bits ≡ closed r
-unfolding whole_packet_at
+whole_is : (f : ℕ) (state : State) (t : ℕ) (bits : List Bool) (r : Parsed Found) → parse_packet f state t bits ≡ r → parse_whole_packet f state t bits ≡ closed r
+unfolding parse_whole_packet
 whole_is f state t bits r e = ap closed e
 
 module _ (f : ℕ) (state : State) (t : ℕ) (has : IsState f state) where
   -- ---- what is spelled is read
 
   spelled_end : (change : Change) (mask content : List Bool) → closed (Read (record { change = change; outcome = Spelled mask content }) []) ≡ Read (record { change = change; outcome = Spelled mask content }) []
-  unfolding end_at
+  unfolding parse_end
   spelled_end change mask content = refl
 
   opaque_end : (change : Change) (rest : List Bool) → closed (Read (record { change = change; outcome = Opaque }) rest) ≡ Read (record { change = change; outcome = Opaque }) rest
-  unfolding end_at
+  unfolding parse_end
   opaque_end change rest = refl
 
   -- bits that spell a packet are read whole, as its first part, its mask and its content
-  pub spells_read : (bits : List Bool) (form : Form) (mask content : List Bool) → Spells f state t bits form mask content → whole_packet_at f state t bits ≡ Read (record { change = change_of form; outcome = Spelled mask content }) []
+  pub spells_read : (bits : List Bool) (form : Form) (mask content : List Bool) → Spells f state t bits form mask content → parse_whole_packet f state t bits ≡ Read (record { change = change_of form; outcome = Spelled mask content }) []
   spells_read bits form mask content s =
       let found : Found = record { change = change_of form; outcome = Spelled mask content } in
-      let read : packet_at f state t bits ≡ Read (record { change = change_of form; outcome = Spelled mask content }) [] =
-      ap (packet_at f state t) (sym (append-nil bits)) ∙ (IsExact-packet_at f state t has).reads (record { change = change_of form; outcome = Spelled mask content }) bits [] (spells_packet f state t has bits form mask content s) in
+      let read : parse_packet f state t bits ≡ Read (record { change = change_of form; outcome = Spelled mask content }) [] =
+      ap (parse_packet f state t) (sym (append-nil bits)) ∙ (IsExact-packet_at f state t has).reads (record { change = change_of form; outcome = Spelled mask content }) bits [] (spells_packet f state t has bits form mask content s) in
       whole_is f state t bits (Read (record { change = change_of form; outcome = Spelled mask content }) []) read ∙ spelled_end (change_of form) mask content
 
   -- bits with an opaque front are read as opaque, with its level
-  pub opaque_read : (bits : List Bool) (level : ℕ) → HasOpaqueFront f state t bits level → (change : Change) × (rest : List Bool) × (change.level ≡ level) × (whole_packet_at f state t bits ≡ Read (record { change = change; outcome = Opaque }) rest)
+  pub opaque_read : (bits : List Bool) (level : ℕ) → HasOpaqueFront f state t bits level → (change : Change) × (rest : List Bool) × (change.level ≡ level) × (parse_whole_packet f state t bits ≡ Read (record { change = change; outcome = Opaque }) rest)
   opaque_read bits level o =
       let p = opaque_packet f state t has bits level o in
-      let read : packet_at f state t bits ≡ Read (record { change = p.0; outcome = Opaque }) p.2 =
-      ap (packet_at f state t) p.5 ∙ (IsExact-packet_at f state t has).reads (record { change = p.0; outcome = Opaque }) p.1 p.2 p.3 in
+      let read : parse_packet f state t bits ≡ Read (record { change = p.0; outcome = Opaque }) p.2 =
+      ap (parse_packet f state t) p.5 ∙ (IsExact-packet_at f state t has).reads (record { change = p.0; outcome = Opaque }) p.1 p.2 p.3 in
       (p.0, p.2, p.4, whole_is f state t bits (Read (record { change = p.0; outcome = Opaque }) p.2) read ∙ opaque_end p.0 p.2)
 
   -- ---- answers
 
-  some_state : (s : State) (level : ℕ) → IsSome s → answer_to s level Opaque ≡ Gap level
+  some_state : (s : State) (level : ℕ) → IsSome s → outcome_answer s level Opaque ≡ Gap level
   some_state None level some = absurd cc
   some_state (Some latest) level some = refl
 
-  no_state : (s : State) (level : ℕ) → IsNone s → answer_to s level Opaque ≡ Unsynced
+  no_state : (s : State) (level : ℕ) → IsNone s → outcome_answer s level Opaque ≡ Unsynced
   no_state None level none = refl
   no_state (Some latest) level none = absurd cc
 
-  opaque_answer : (bits : List Bool) (level : ℕ) → HasOpaqueFront f state t bits level → answer_of f state t bits ≡ Ok (answer_to state level Opaque)
+  opaque_answer : (bits : List Bool) (level : ℕ) → HasOpaqueFront f state t bits level → answer_of f state t bits ≡ Ok (outcome_answer state level Opaque)
   opaque_answer bits level o =
       let r = opaque_read bits level o in
-      ap (answer_by state bits) r.3 ∙ ap (λ (v : ℕ). Ok (answer_to state v Opaque)) r.2
+      ap (parsed_answer state bits) r.3 ∙ ap (λ (v : ℕ). Ok (outcome_answer state v Opaque)) r.2
 
   -- what the bits say is the answer
-  pub says_answer : (bits : List Bool) (reading : Answer) → Says f state t bits reading → answer_of f state t bits ≡ Ok reading
-  says_answer bits Written (form, mask, content, s) = ap (answer_by state bits) (spells_read bits form mask content s)
+  pub says_answer : (bits : List Bool) (reading : Reading) → Says f state t bits reading → answer_of f state t bits ≡ Ok reading
+  says_answer bits Written (form, mask, content, s) = ap (parsed_answer state bits) (spells_read bits form mask content s)
   says_answer bits Unsynced ((level, o), none) = opaque_answer bits level o ∙ ap Ok (no_state state level none)
   says_answer bits (Gap level) (o, some) = opaque_answer bits level o ∙ ap Ok (some_state state level some)
 
-  same_ok : (a b : Answer) → ◌≡◌ {A = Result Answer BitFault} (Ok a) (Ok b) → a ≡ b
+  same_ok : (a b : Reading) → ◌≡◌ {A = Result Reading BitFault} (Ok a) (Ok b) → a ≡ b
   same_ok a b e = cc
 
   -- at most one of the readings holds
-  pub one_reading : (bits : List Bool) (reading other : Answer) → Says f state t bits reading → Says f state t bits other → reading ≡ other
+  pub one_reading : (bits : List Bool) (reading other : Reading) → Says f state t bits reading → Says f state t bits other → reading ≡ other
   one_reading bits reading other a b = same_ok reading other (sym (says_answer bits reading a) ∙ says_answer bits other b)
 
-  says_means : (bits : List Bool) (reading : Answer) → Says f state t bits reading → Means f state t has bits
+  says_means : (bits : List Bool) (reading : Reading) → Says f state t bits reading → Means f state t has bits
   says_means bits Written h = inl h
   says_means bits Unsynced h = inr h.0
   says_means bits (Gap level) h = inr (level, h.0)
 
-  says_viable : (bits : List Bool) (reading : Answer) → Says f state t bits reading → Viable f state t bits
+  says_viable : (bits : List Bool) (reading : Reading) → Says f state t bits reading → Viable f state t bits
   says_viable bits reading h = means_viable f state t has bits (says_means bits reading h)
 
-  complete : (bits : List Bool) (bit : ℕ) (reading : Answer) → IsIncomplete f state t bits bit → Says f state t bits reading → ⊥
+  complete : (bits : List Bool) (bit : ℕ) (reading : Reading) → IsIncomplete f state t bits bit → Says f state t bits reading → ⊥
   complete bits bit Written i h = i.not_spelled h
   complete bits bit Unsynced i h = i.not_opaque h.0
   complete bits bit (Gap level) i h = i.not_opaque (level, h.0)
@@ -109,7 +109,7 @@ module _ (f : ℕ) (state : State) (t : ℕ) (has : IsState f state) where
   viable_after bits bit h v = h.hopeless (take_viable f state t has (bit + 1) bits v)
 
   -- all sound answers are alike, but for the places of faults
-  pub sound_reading : (bits : List Bool) (reading : Answer) (answer : Result Answer BitFault) → Says f state t bits reading → IsSoundAnswer f state t bits answer → answer ≡ Ok reading
+  pub sound_reading : (bits : List Bool) (reading : Reading) (answer : Result Reading BitFault) → Says f state t bits reading → IsSoundAnswer f state t bits answer → answer ≡ Ok reading
   sound_reading bits reading (Ok other) says sound = ap Ok (one_reading bits other reading sound says)
   sound_reading bits reading (Err (Wrong bit)) says sound = absurd (viable_after bits bit sound (says_viable bits reading says))
   sound_reading bits reading (Err (EndsEarly bit)) says sound = absurd (complete bits bit reading sound says)
@@ -120,19 +120,19 @@ module _ (f : ℕ) (state : State) (t : ℕ) (has : IsState f state) where
   before_wrong bits p q h v =
       elim (cases_lt p q) [ inl lt ↦ absurd (h.hopeless (fewer_viable f state t has (p + 1) q bits (omega arith) v)) | inr le ↦ le ]
 
-  wrong_is : (bits : List Bool) (p : ℕ) (answer : Result Answer BitFault) → IsHopeless f state t bits p → Viable f state t (take p bits) → IsExactAnswer f state t bits answer → Err (Wrong p) ≡ answer
+  wrong_is : (bits : List Bool) (p : ℕ) (answer : Result Reading BitFault) → IsHopeless f state t bits p → Viable f state t (take p bits) → IsExactAnswer f state t bits answer → Err (Wrong p) ≡ answer
   wrong_is bits p (Ok reading) h v exact = absurd (viable_after bits p h (says_viable bits reading exact))
   wrong_is bits p (Err (Wrong q)) h v exact =
       let same : p ≡ q = omega (arith, before_wrong bits p q h exact.1, before_wrong bits q p exact.0 v) in
       rw same refl
   wrong_is bits p (Err (EndsEarly n)) h v exact = absurd (viable_after bits p h exact.1)
 
-  early_is : (bits : List Bool) (n : ℕ) (answer : Result Answer BitFault) → IsIncomplete f state t bits n → Viable f state t bits → IsExactAnswer f state t bits answer → Err (EndsEarly n) ≡ answer
+  early_is : (bits : List Bool) (n : ℕ) (answer : Result Reading BitFault) → IsIncomplete f state t bits n → Viable f state t bits → IsExactAnswer f state t bits answer → Err (EndsEarly n) ≡ answer
   early_is bits n (Ok reading) i v exact = absurd (complete bits n reading i exact)
   early_is bits n (Err (Wrong q)) i v exact = absurd (viable_after bits q exact.0 v)
   early_is bits n (Err (EndsEarly m)) i v exact = let same : n ≡ m = i.all ∙ sym exact.0.all in rw same refl
 
-  pub one_answer : (bits : List Bool) (answer : Result Answer BitFault) → IsExactAnswer f state t bits answer → answer ≡ answer_of f state t bits
+  pub one_answer : (bits : List Bool) (answer : Result Reading BitFault) → IsExactAnswer f state t bits answer → answer ≡ answer_of f state t bits
   one_answer bits (Ok reading) exact = sym (says_answer bits reading exact)
   one_answer bits (Err (Wrong p)) exact = wrong_is bits p (answer_of f state t bits) exact.0 exact.1 (answer_of-exact f state t has bits)
   one_answer bits (Err (EndsEarly n)) exact = early_is bits n (answer_of f state t bits) exact.0 exact.1 (answer_of-exact f state t has bits)
@@ -228,7 +228,7 @@ module _ (f : ℕ) (state : State) (t : ℕ) (has : IsState f state) (bits : Lis
 
 module _ (f : ℕ) (state : State) (t : ℕ) (has : IsState f state) where
   further_end : (change : Change) (mask content more : List Bool) (bit : Bool) → closed (Read (record { change = change; outcome = Spelled mask content }) (bit ∷ more)) ≡ WrongBit more
-  unfolding end_at
+  unfolding parse_end
   further_end change mask content more bit = refl
 
   pub further_wrong : (bits more : List Bool) (bit : Bool) → SpellsPacket f state t bits → answer_of f state t (bits ++ bit ∷ more) ≡ Err (Wrong (length bits))
@@ -236,7 +236,7 @@ module _ (f : ℕ) (state : State) (t : ℕ) (has : IsState f state) where
       let found : Found = record { change = change_of form; outcome = Spelled mask content } in
       let read = (IsExact-packet_at f state t has).reads (record { change = change_of form; outcome = Spelled mask content }) bits (bit ∷ more) (spells_packet f state t has bits form mask content s) in
       let place : length (bits ++ bit ∷ more) - length more - 1 ≡ length bits = omega (arith, length-append bits (bit ∷ more)) in
-      ap (answer_by state (bits ++ bit ∷ more)) (whole_is f state t (bits ++ bit ∷ more) (Read (record { change = change_of form; outcome = Spelled mask content }) (bit ∷ more)) read ∙ further_end (change_of form) mask content more bit)
+      ap (parsed_answer state (bits ++ bit ∷ more)) (whole_is f state t (bits ++ bit ∷ more) (Read (record { change = change_of form; outcome = Spelled mask content }) (bit ∷ more)) read ∙ further_end (change_of form) mask content more bit)
       ∙ ap (λ (n : ℕ). Err (Wrong n)) place
 
 pub front_goes_on : (f : ℕ) (state : State) (t : ℕ) (bits more : List Bool) (level : ℕ) → HasOpaqueFront f state t bits level → HasOpaqueFront f state t (bits ++ more) level

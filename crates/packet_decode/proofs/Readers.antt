@@ -1,7 +1,7 @@
 -- Exact readers, put together in further ways.
 use Rattle.std.proofs.Common.{◌≡◌, ℕ, ◌-◌, Bool, true, false, cond, List, [], ◌∷◌, ◌++◌, length, refl, sym, ap, ◌∙◌, subst, arith}
 use Rattle.std.proofs.lemmas.List.{length-append, append-nil}
-use Rattle.bit_vectors.specs.Reading.{Reading, Read, WrongBit, TooShort, ◌>>=◌, bit_where, allowed, same_at, IsExact}
+use Rattle.bit_vectors.specs.Reading.{Parsed, Read, WrongBit, TooShort, ◌>>=◌, bit_where, allowed, parse_word, IsExact}
 use Rattle.bit_vectors.proofs.ExactReading.{IsBitWhere, IsWordThen, IsExact-give, IsExact-bit_where, IsExact-same, IsExact-then}
 use Rattle.bit_vectors.proofs.SameWord.{IsExact-same_at}
 use Rattle.packet_decode.specs.PacketReading.{any_bit}
@@ -15,7 +15,7 @@ HasWord {A} W = (v : A) × (word : List Bool) × W v word
 abbrev pub IsImage : {A B : Type 0} → (A → B) → (A → List Bool → Type 0) → B → List Bool → Type 0
 IsImage {A} h W u word = (v : A) × W v word × (u ≡ h v)
 
-pub IsExact-map : {A B : Type 0} (h : A → B) (W : A → List Bool → Type 0) (f : List Bool → Reading A) → IsExact W f → IsExact (IsImage h W) (λ bits. f bits >>= λ v rest. Read (h v) rest)
+pub IsExact-map : {A B : Type 0} (h : A → B) (W : A → List Bool → Type 0) (f : List Bool → Parsed A) → IsExact W f → IsExact (IsImage h W) (λ bits. f bits >>= λ v rest. Read (h v) rest)
 IsExact-map h W f exact =
     IsExact-same (IsWordThen W (λ v u word. (u ≡ h v) × (word ≡ []))) (IsImage h W) (λ bits. f bits >>= λ v rest. Read (h v) rest)
     (λ u word w. (w.0, subst (λ (x : List Bool). W w.0 x) (sym (w.5 ∙ ap (λ (x : List Bool). w.1 ++ x) w.4.1 ∙ append-nil w.1)) w.3, w.4.0))
@@ -47,7 +47,7 @@ bit_apart U V u [] w = absurd w
 bit_apart U V u (true ∷ word) w = (true, true ∷ [], word, (refl, refl), w, refl)
 bit_apart U V u (false ∷ word) w = (false, false ∷ [], word, (refl, refl), w, refl)
 
-bit_exact : {A : Type 0} (U V : A → List Bool → Type 0) (f g : List Bool → Reading A) → IsExact U f → IsExact V g → (bit : Bool) → IsExact (by_bit U V bit) (λ rest. cond bit (f rest) (g rest))
+bit_exact : {A : Type 0} (U V : A → List Bool → Type 0) (f g : List Bool → Parsed A) → IsExact U f → IsExact V g → (bit : Bool) → IsExact (by_bit U V bit) (λ rest. cond bit (f rest) (g rest))
 bit_exact U V f g first second true = first
 bit_exact U V f g first second false = second
 
@@ -55,7 +55,7 @@ bit_word : {A : Type 0} (U V : A → List Bool → Type 0) → HasWord U → Has
 bit_word U V first second true = first
 bit_word U V first second false = second
 
-pub IsExact-bit : {A : Type 0} (U V : A → List Bool → Type 0) (f g : List Bool → Reading A) → IsExact U f → IsExact V g → HasWord U → HasWord V → IsExact (IsBitThen U V) (λ bits. any_bit bits >>= λ bit rest. cond bit (f rest) (g rest))
+pub IsExact-bit : {A : Type 0} (U V : A → List Bool → Type 0) (f g : List Bool → Parsed A) → IsExact U f → IsExact V g → HasWord U → HasWord V → IsExact (IsBitThen U V) (λ bits. any_bit bits >>= λ bit rest. cond bit (f rest) (g rest))
 IsExact-bit U V f g first second some other =
     IsExact-same (IsWordThen (IsBitWhere (allowed true true)) (by_bit U V)) (IsBitThen U V) (λ bits. any_bit bits >>= λ bit rest. cond bit (f rest) (g rest))
     (λ u word w. bit_joined (λ bit. true) U V u word w.0 w.1 w.2 w.3.1 w.4 w.5)
@@ -78,7 +78,7 @@ one_apart U u [] w = absurd w
 one_apart U u (true ∷ word) w = (true, true ∷ [], word, (refl, refl), w, refl)
 one_apart U u (false ∷ word) w = absurd w
 
-pub IsExact-one : {A : Type 0} (U : A → List Bool → Type 0) (f : List Bool → Reading A) → IsExact U f → HasWord U → IsExact (IsBitThen U NoWord) (λ bits. bit_where (allowed false true) bits >>= λ bit rest. f rest)
+pub IsExact-one : {A : Type 0} (U : A → List Bool → Type 0) (f : List Bool → Parsed A) → IsExact U f → HasWord U → IsExact (IsBitThen U NoWord) (λ bits. bit_where (allowed false true) bits >>= λ bit rest. f rest)
 IsExact-one U f exact some =
     IsExact-same (IsWordThen (IsBitWhere (allowed false true)) (λ bit. U)) (IsBitThen U NoWord) (λ bits. bit_where (allowed false true) bits >>= λ bit rest. f rest)
     (λ u word w. one_joined U u word w.0 w.1 w.2 w.3.0 w.3.1 w.4 w.5)
@@ -93,12 +93,12 @@ IsExact-one U f exact some =
 abbrev pub IsAfter : {A : Type 0} → List Bool → (A → List Bool → Type 0) → A → List Bool → Type 0
 IsAfter front U u word = (back : List Bool) × U u back × (word ≡ front ++ back)
 
-pub IsExact-after : {A : Type 0} (front : List Bool) (U : A → List Bool → Type 0) (f : List Bool → Reading A) → IsExact U f → HasWord U → IsExact (IsAfter front U) (λ bits. same_at front bits >>= λ u rest. f rest)
+pub IsExact-after : {A : Type 0} (front : List Bool) (U : A → List Bool → Type 0) (f : List Bool → Parsed A) → IsExact U f → HasWord U → IsExact (IsAfter front U) (λ bits. parse_word front bits >>= λ u rest. f rest)
 IsExact-after front U f exact some =
-    IsExact-same (IsWordThen (λ (u : Unit {0}) (word : List Bool). word ≡ front) (λ u. U)) (IsAfter front U) (λ bits. same_at front bits >>= λ u rest. f rest)
+    IsExact-same (IsWordThen (λ (u : Unit {0}) (word : List Bool). word ≡ front) (λ u. U)) (IsAfter front U) (λ bits. parse_word front bits >>= λ u rest. f rest)
     (λ u word w. (w.2, w.4, w.5 ∙ ap (λ (x : List Bool). x ++ w.2) w.3))
     (λ u word w. (tt, front, w.0, refl, w.1, w.2))
-    (IsExact-then (λ (u : Unit {0}) (word : List Bool). word ≡ front) (λ u. U) (same_at front) (λ u rest. f rest)
+    (IsExact-then (λ (u : Unit {0}) (word : List Bool). word ≡ front) (λ u. U) (parse_word front) (λ u rest. f rest)
     (IsExact-same_at front)
     (λ u word w. exact)
     (λ u word w. some))
@@ -106,7 +106,7 @@ IsExact-after front U f exact some =
 -- ---- how many bits were read
 
 -- the same reader, said in another way
-pub IsExact-by : {A : Type 0} (W : A → List Bool → Type 0) (f g : List Bool → Reading A) → ((bits : List Bool) → g bits ≡ f bits) → IsExact W f → IsExact W g
+pub IsExact-by : {A : Type 0} (W : A → List Bool → Type 0) (f g : List Bool → Parsed A) → ((bits : List Bool) → g bits ≡ f bits) → IsExact W f → IsExact W g
 IsExact-by W f g same exact = record {
   reads = λ v word rest w. same (word ++ rest) ∙ exact.reads v word rest w;
   read_is = λ bits v rest e. exact.read_is bits v rest (sym (same bits) ∙ e);
@@ -118,25 +118,25 @@ IsExact-by W f g same exact = record {
 abbrev pub IsCounted : {A : Type 0} → (A → List Bool → Type 0) → A × ℕ → List Bool → Type 0
 IsCounted W found word = W found.0 word × (found.1 ≡ length word)
 
-abbrev pub counted : {A : Type 0} → ℕ → Reading A → Reading (A × ℕ)
+abbrev pub counted : {A : Type 0} → ℕ → Parsed A → Parsed (A × ℕ)
 counted len r = r >>= λ v rest. Read (v, len - length rest) rest
 
-counted_read : {A : Type 0} (len : ℕ) (r : Reading A) (found : A × ℕ) (rest : List Bool) → counted len r ≡ Read found rest → (r ≡ Read found.0 rest) × (found.1 ≡ len - length rest)
+counted_read : {A : Type 0} (len : ℕ) (r : Parsed A) (found : A × ℕ) (rest : List Bool) → counted len r ≡ Read found rest → (r ≡ Read found.0 rest) × (found.1 ≡ len - length rest)
 counted_read len (Read v mid) found rest e = let same : (v, len - length mid) ≡ found = cc in let left : mid ≡ rest = cc in (rw (left, ← same) refl, rw (← same, left) refl)
 counted_read len (WrongBit mid) found rest e = absurd cc
 counted_read len TooShort found rest e = absurd cc
 
-counted_wrong : {A : Type 0} (len : ℕ) (r : Reading A) (rest : List Bool) → counted len r ≡ WrongBit rest → r ≡ WrongBit rest
+counted_wrong : {A : Type 0} (len : ℕ) (r : Parsed A) (rest : List Bool) → counted len r ≡ WrongBit rest → r ≡ WrongBit rest
 counted_wrong len (Read v mid) rest e = absurd cc
 counted_wrong {A} len (WrongBit mid) rest e = let left : mid ≡ rest = cc in rw left refl
 counted_wrong len TooShort rest e = absurd cc
 
-counted_short : {A : Type 0} (len : ℕ) (r : Reading A) → counted len r ≡ TooShort → r ≡ TooShort
+counted_short : {A : Type 0} (len : ℕ) (r : Parsed A) → counted len r ≡ TooShort → r ≡ TooShort
 counted_short len (Read v mid) e = absurd cc
 counted_short len (WrongBit mid) e = absurd cc
 counted_short len TooShort e = refl
 
-pub IsExact-counted : {A : Type 0} (W : A → List Bool → Type 0) (f : List Bool → Reading A) → IsExact W f → IsExact (IsCounted W) (λ bits. counted (length bits) (f bits))
+pub IsExact-counted : {A : Type 0} (W : A → List Bool → Type 0) (f : List Bool → Parsed A) → IsExact W f → IsExact (IsCounted W) (λ bits. counted (length bits) (f bits))
 IsExact-counted W f exact = record {
   reads = λ found word rest w.
       let count : length (word ++ rest) - length rest ≡ found.1 = omega (arith, length-append word rest, w.1) in
@@ -160,7 +160,7 @@ IsExact-counted W f exact = record {
 }
 
 -- a reader that looks at the number of bits before it
-pub counted_then : {A B : Type 0} (len : ℕ) (r : Reading A) (g : A → ℕ → List Bool → Reading B) → (r >>= λ v rest. g v (len - length rest) rest) ≡ (counted len r >>= λ found rest. g found.0 found.1 rest)
+pub counted_then : {A B : Type 0} (len : ℕ) (r : Parsed A) (g : A → ℕ → List Bool → Parsed B) → (r >>= λ v rest. g v (len - length rest) rest) ≡ (counted len r >>= λ found rest. g found.0 found.1 rest)
 counted_then len (Read v rest) g = refl
 counted_then len (WrongBit rest) g = refl
 counted_then len TooShort g = refl

@@ -11,7 +11,7 @@ use Rattle.run_code.specs.Extraction.{extract, SameOutside}
 use Rattle.run_code.specs.Runs.{run_bits}
 use Rattle.run_code.proofs.ExtractedBits.{length-extract}
 use Rattle.packet_encode.specs.Forms.{wide, Directions, Content, Whole, Part, Form, AreDirections, HasPlaces, IsForm, data_bits, form_bits, change_bits, FitsPlaces}
-use Rattle.packet_decode.specs.State.{Packet, State, HasVectors, IsState, InReach, Change, change_of, mask_after}
+use Rattle.packet_decode.specs.State.{WrittenPacket, State, HasVectors, IsState, InReach, Change, change_of, mask_after}
 use Rattle.packet_decode.specs.Spelling.{IsSentOf, Follows, Spells, opaque_end, HasOpaqueFront}
 use Rattle.packet_decode.specs.PacketReading.{Outcome, Spelled, Opaque, Found, deduced_by, known_by}
 use Rattle.packet_decode.proofs.ExactChange.{bare, AreDirections-by, IsChange, change_word, change_bits_are}
@@ -162,7 +162,7 @@ module _ (f : ℕ) (change : Change) where
 
 -- ---- where the state is asked
 
-record IsNear (state : State) (t : ℕ) (change : Change) (latest : Packet) : Type 0 where
+record IsNear (state : State) (t : ℕ) (change : Change) (latest : WrittenPacket) : Type 0 where
   is : state ≡ Some latest
   near : InReach state t change.level
   deduced : deduced_by state t change ≡ Some (mask_after latest.mask change)
@@ -173,7 +173,7 @@ record IsFar (state : State) (t : ℕ) (change : Change) : Type 0 where
   deduced : deduced_by state t change ≡ None
   known : known_by state t change ≡ None
 
-near_or_far : (state : State) (t : ℕ) (change : Change) → ((latest : Packet) × IsNear state t change latest) ⊎ IsFar state t change
+near_or_far : (state : State) (t : ℕ) (change : Change) → ((latest : WrittenPacket) × IsNear state t change latest) ⊎ IsFar state t change
 near_or_far None t change = inr (record { far = λ near. near; deduced = refl; known = refl })
 near_or_far (Some latest) t change =
     elim (cases_lt change.level (t - 1 - latest.number)) [
@@ -249,10 +249,10 @@ module _ (f : ℕ) (state : State) (t : ℕ) (has : IsState f state) where
   body_is : (change : Change) (o : Outcome) (body : List Bool) (sent : Option (List Bool)) (c : Content) (p : IsParts f state t (record { change = change; outcome = o }) body) → p.back ≡ data_bits sent c → body ≡ form_bits (form_of change sent c)
   body_is change o body sent c p back = p.parts ∙ rw (p.first.1, back, form_bits_are change sent c) refl
 
-  latest_has : (latest : Packet) → state ≡ Some latest → HasVectors f latest
+  latest_has : (latest : WrittenPacket) → state ≡ Some latest → HasVectors f latest
   latest_has latest is = subst (λ (s : State). IsState f s) is has
 
-  near_spells : (change : Change) (mask content word : List Bool) (latest : Packet) → IsNear state t change latest → IsPacket f state t (spelled change mask content) word
+  near_spells : (change : Change) (mask content word : List Bool) (latest : WrittenPacket) → IsNear state t change latest → IsPacket f state t (spelled change mask content) word
       → (form : Form) × Spells f state t word form mask content × (change_of form ≡ change)
   near_spells change mask content word latest n h =
       let parts = h.parts in
@@ -316,7 +316,7 @@ module _ (f : ℕ) (state : State) (t : ℕ) (has : IsState f state) where
   unfolding form_bits
   form_parts form = refl
 
-  near_data : (word : List Bool) (form : Form) (mask content : List Bool) (latest : Packet) → IsNear state t (change_of form) latest → Spells f state t word form mask content
+  near_data : (word : List Bool) (form : Form) (mask content : List Bool) (latest : WrittenPacket) → IsNear state t (change_of form) latest → Spells f state t word form mask content
       → IsData f (change_of form) (deduced_by state t (change_of form)) (known_by state t (change_of form)) (Spelled mask content) (data_bits form.sent form.content)
   near_data word form mask content latest n s =
       let change = change_of form in

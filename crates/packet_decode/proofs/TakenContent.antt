@@ -9,7 +9,7 @@ use Rattle.bit_vectors.specs.Vectors.{xor_bits, without_bits}
 use Rattle.bit_vectors.specs.Eye.{EyeState, bits_left}
 use Rattle.bit_vectors.specs.Reading.{Read, WrongBit}
 use Rattle.run_code.specs.Extraction.{SameOutside}
-use Rattle.packet_decode.specs.PacketReading.{kept_at, Tells}
+use Rattle.packet_decode.specs.PacketReading.{parse_kept, Tells}
 use Rattle.packet_decode.proofs.KeptContent.{kept_whole, kept_early, kept_wrong, differs_at, same_at_place}
 
 module _ (places known content : List Bool) (old new : EyeState) (len : length places ≡ length known) (content_len : length content ≡ length known)
@@ -32,14 +32,14 @@ module _ (places known content : List Bool) (old new : EyeState) (len : length p
   ]
 
   -- the first place at which they differ
-  pub first_difference : (p : ℕ) → get_or differences p false ≡ true → ((k : ℕ) → k < p → get_or differences k false ≡ false) → (p < length (bits_left old)) × (kept_at places known (bits_left old) ≡ WrongBit (drop (p + 1) (bits_left old)))
+  pub first_difference : (p : ℕ) → get_or differences p false ≡ true → ((k : ℕ) → k < p → get_or differences k false ≡ false) → (p < length (bits_left old)) × (parse_kept places known (bits_left old) ≡ WrongBit (drop (p + 1) (bits_left old)))
   first_difference p one before =
       let parts = differs_at places known content content_len places_len p one in
       kept_wrong places known (bits_left old) content len taken p (is_place p one) parts.0 parts.1
       (λ k lt bound. same_at_place places known content content_len places_len k (before k lt) bound)
 
   pub difference_tells : (p start : ℕ) → get_or differences p false ≡ true → ((k : ℕ) → k < p → get_or differences k false ≡ false) → start ≡ old.place → new.bits ≡ old.bits
-      → Tells (λ (u : Unit {0}). content) (Err (Wrong (start + p))) new (kept_at places known (bits_left old))
+      → Tells (λ (u : Unit {0}). content) (Err (Wrong (start + p))) new (parse_kept places known (bits_left old))
   difference_tells p start one before at bits =
       let first = first_difference p one before in (
         drop (p + 1) (bits_left old),
@@ -56,7 +56,7 @@ module _ (places known content : List Bool) (old new : EyeState) (len : length p
   -- no place
   pub same_tells : (result : Result (Unit {0}) BitFault) → ((k : ℕ) → 0 ≤ k → k < length differences → get_or differences k false ≡ false)
       → OnOk result (bits_left old ≡ content ++ bits_left new) → (IsErr result ↔ (length (bits_left old) < length known)) → IfErr result (λ fault. fault ≡ EndsEarly (length old.bits)) → new.bits ≡ old.bits
-      → Tells (λ (u : Unit {0}). content) result new (kept_at places known (bits_left old))
+      → Tells (λ (u : Unit {0}). content) result new (parse_kept places known (bits_left old))
   same_tells (Ok u) none all short fault bits = elim (cases_lt (length (bits_left old)) (length known)) [
     | inl less ↦ let failed = short.1 less in absurd cc
     | inr enough ↦
@@ -83,10 +83,10 @@ module _ (places known copied content again xored spare : List Bool) (old new : 
   place_inside p one before = (first_difference places known content old new places_are len_are taken_are p (rw spare_are at one) (λ k lt. rw spare_are at (before k (omega arith) lt))).0
 
   pub tells_place : (p start : ℕ) → get_or spare p false ≡ true → ((k : ℕ) → 0 ≤ k → k < p → get_or spare k false ≡ false) → start ≡ old.place → new.bits ≡ old.bits
-      → Tells (λ (u : Unit {0}). content) (Err (Wrong (start + p))) new (kept_at places known (bits_left old))
+      → Tells (λ (u : Unit {0}). content) (Err (Wrong (start + p))) new (parse_kept places known (bits_left old))
   tells_place p start one before = difference_tells places known content old new places_are len_are taken_are p start (rw spare_are at one) (λ k lt. rw spare_are at (before k (omega arith) lt))
 
   pub tells_same : (result : Result (Unit {0}) BitFault) → ((k : ℕ) → 0 ≤ k → k < length spare → get_or spare k false ≡ false)
       → OnOk result (bits_left old ≡ content ++ bits_left new) → (IsErr result ↔ (length (bits_left old) < length copied)) → IfErr result (λ fault. fault ≡ EndsEarly (length old.bits)) → new.bits ≡ old.bits
-      → Tells (λ (u : Unit {0}). content) result new (kept_at places known (bits_left old))
+      → Tells (λ (u : Unit {0}). content) result new (parse_kept places known (bits_left old))
   tells_same result none all short = same_tells places known content old new places_are len_are taken_are result (rw spare_are at none) all (rw copied_is at short)

@@ -10,16 +10,16 @@ pub record Decoding : Type 0 where
   pub level : ℕ
 
 -- the number of the latest written packet
-abbrev pub number_of : State → Option ℕ
-number_of None = None
-number_of (Some packet) = Some packet.number
+abbrev pub latest_number : State → Option ℕ
+latest_number None = None
+latest_number (Some packet) = Some packet.number
 
 -- the mask of the latest written packet, and zeros before the first
-abbrev pub mask_of : ℕ → State → List Bool
-mask_of f None = replicate f false
-mask_of f (Some packet) = packet.mask
+abbrev pub latest_mask : ℕ → State → List Bool
+latest_mask f None = replicate f false
+latest_mask f (Some packet) = packet.mask
 
 -- the content of the latest written packet, and zeros before the first
-abbrev pub content_of : ℕ → State → List Bool
-content_of f None = replicate f false
-content_of f (Some packet) = packet.content
+abbrev pub latest_content : ℕ → State → List Bool
+latest_content f None = replicate f false
+latest_content f (Some packet) = packet.content

@@ -5,15 +5,15 @@ use Rattle.bit_vectors.specs.declared.fault.BitFault.{BitFault}
 use Rattle.bit_vectors.specs.declared.fault.BitFault.TheVariants.{Wrong, EndsEarly}
 use Rattle.bit_vectors.specs.Vectors.{byte_count}
 use Rattle.bit_vectors.specs.Eye.{EyeState, bits_left}
-use Rattle.bit_vectors.specs.Reading.{Reading, Read, WrongBit, TooShort, ◌>>=◌, bit_where, allowed, front_at, same_at}
+use Rattle.bit_vectors.specs.Reading.{Parsed, Read, WrongBit, TooShort, ◌>>=◌, bit_where, allowed, parse_front, parse_word}
 use Rattle.count_code.specs.Code.{count_bits}
-use Rattle.count_code.specs.Counts.{number_at}
+use Rattle.count_code.specs.Counts.{parse_number}
 use Rattle.run_code.specs.Places.{places_down}
 use Rattle.run_code.specs.Edges.{edges}
-use Rattle.run_code.specs.Extraction.{filled_at, inverse_at}
-use Rattle.run_code.specs.Runs.{run_bits, vector_at}
+use Rattle.run_code.specs.Extraction.{parse_filled, parse_inverse}
+use Rattle.run_code.specs.Runs.{run_bits, parse_vector}
 use Rattle.packet_encode.specs.Forms.{Directions, wide_by}
-use Rattle.packet_decode.specs.declared.decoder.Reading.{Reading as Answer}
+use Rattle.packet_decode.specs.declared.decoder.Reading.{Reading}
 use Rattle.packet_decode.specs.declared.decoder.Reading.TheVariants.{Written, Unsynced, Gap}
 use Rattle.packet_decode.specs.State.{State, Change, mask_after}
 
@@ -30,21 +30,21 @@ pub record Found : Type 0 where
 -- ---- general readers
 
 -- one bit, whatever it is
-abbrev pub any_bit : List Bool → Reading Bool
+abbrev pub any_bit : List Bool → Parsed Bool
 any_bit bits = bit_where (allowed true true) bits
 
 -- A vector from place 0 up that has the known bit at each place but these. The first bit that differs is wrong.
-unfoldable pub kept_at : List Bool → List Bool → List Bool → Reading (List Bool)
-kept_at [] known bits = Read [] bits
-kept_at (free ∷ places) [] bits = Read [] bits
-kept_at (free ∷ places) (was ∷ known) bits =
+unfoldable pub parse_kept : List Bool → List Bool → List Bool → Parsed (List Bool)
+parse_kept [] known bits = Read [] bits
+parse_kept (free ∷ places) [] bits = Read [] bits
+parse_kept (free ∷ places) (was ∷ known) bits =
     bit_where (allowed (free || not was) (free || was)) bits
-    >>= λ bit rest. kept_at places known rest
+    >>= λ bit rest. parse_kept places known rest
     >>= λ content last. Read (bit ∷ content) last
 
 -- What a call answered, seen by view, is what reading the bits left gives. After a fault the eye may stand anywhere: the
 -- fault itself names the bit.
-abbrev pub Tells : {A B : Type 0} → (A → B) → Result A BitFault → EyeState → Reading B → Type 0
+abbrev pub Tells : {A B : Type 0} → (A → B) → Result A BitFault → EyeState → Parsed B → Type 0
 Tells view (Ok x) new reading = reading ≡ Read (view x) (bits_left new)
 Tells view (Err (Wrong bit)) new reading = (rest : List Bool) × (reading ≡ WrongBit rest) × (bit + 1 + length rest ≡ length new.bits)
 Tells view (Err (EndsEarly bit)) new reading = (reading ≡ TooShort) × (bit ≡ length new.bits)
@@ -52,24 +52,24 @@ Tells view (Err (EndsEarly bit)) new reading = (reading ≡ TooShort) × (bit �
 -- ---- the first part
 
 -- the directions of these recent changes: which places became predictable, and whether all are extracted
-unfoldable pub named_at : List Bool → List Bool → Reading Directions
-named_at recent bits =
-    inverse_at recent bits
+unfoldable pub parse_named : List Bool → List Bool → Parsed Directions
+parse_named recent bits =
+    parse_inverse recent bits
     >>= λ predictable rest. any_bit rest
     >>= λ twice last. Read (record { predictable = predictable; twice = twice }) last
 
 -- whether directions are sent, which they can be where there are recent changes and a level above 0
-unfoldable pub directions_at : List Bool → ℕ → List Bool → Reading (Option Directions)
-directions_at recent level bits =
+unfoldable pub parse_directions : List Bool → ℕ → List Bool → Parsed (Option Directions)
+parse_directions recent level bits =
     if list_any (λ bit. bit) recent && nat_lt 0 level then
-    (any_bit bits >>= λ sent rest. if sent then (named_at recent rest >>= λ directions last. Read (Some directions) last) else Read None rest)
+    (any_bit bits >>= λ sent rest. if sent then (parse_named recent rest >>= λ directions last. Read (Some directions) last) else Read None rest)
     else Read None bits
 
-unfoldable pub change_at : ℕ → List Bool → Reading Change
-change_at f bits =
-    vector_at f bits
-    >>= λ recent rest. number_at 4 rest
-    >>= λ level more. directions_at recent level more
+unfoldable pub parse_change : ℕ → List Bool → Parsed Change
+parse_change f bits =
+    parse_vector f bits
+    >>= λ recent rest. parse_number 4 rest
+    >>= λ level more. parse_directions recent level more
     >>= λ directions last. Read (record { recent = recent; level = level; directions = directions }) last
 
 -- ---- what is asked of the state
@@ -94,116 +94,116 @@ from_edges (edge ∷ edges) =
     (if edge then not (slice_index_or rest 0 false) else slice_index_or rest 0 false) ∷ rest
 
 -- a sent mask, which is the deduced one where there is one
-unfoldable pub mask_at : ℕ → Option (List Bool) → List Bool → Reading (List Bool)
-mask_at f None bits = vector_at f bits >>= λ runs rest. Read (from_edges runs) rest
-mask_at f (Some mask) bits = same_at (run_bits (edges mask)) bits >>= λ u rest. Read mask rest
+unfoldable pub parse_mask : ℕ → Option (List Bool) → List Bool → Parsed (List Bool)
+parse_mask f None bits = parse_vector f bits >>= λ runs rest. Read (from_edges runs) rest
+parse_mask f (Some mask) bits = parse_word (run_bits (edges mask)) bits >>= λ u rest. Read mask rest
 
 -- ---- the content
 
 -- the whole content; where it is known, it is that at each place but these
-unfoldable pub whole_at : ℕ → List Bool → Option (List Bool) → List Bool → Reading (List Bool)
-whole_at f places None bits = same_at (count_bits f) bits >>= λ u rest. front_at f rest
-whole_at f places (Some known) bits = same_at (count_bits f) bits >>= λ u rest. kept_at places known rest
+unfoldable pub parse_whole : ℕ → List Bool → Option (List Bool) → List Bool → Parsed (List Bool)
+parse_whole f places None bits = parse_word (count_bits f) bits >>= λ u rest. parse_front f rest
+parse_whole f places (Some known) bits = parse_word (count_bits f) bits >>= λ u rest. parse_kept places known rest
 
 -- the same, with a mask
-unfoldable pub whole_with : ℕ → Change → List Bool → Option (List Bool) → List Bool → Reading Outcome
-whole_with f change mask known bits =
-    whole_at f (wide_by change.directions change.recent mask) known bits
+unfoldable pub parse_whole_with : ℕ → Change → List Bool → Option (List Bool) → List Bool → Parsed Outcome
+parse_whole_with f change mask known bits =
+    parse_whole f (wide_by change.directions change.recent mask) known bits
     >>= λ content rest. Read (Spelled mask content) rest
 
 -- the extracted bits, with a mask; where nothing is known the other bits of the content can't be told
-unfoldable pub part_with : Change → List Bool → Option (List Bool) → List Bool → Reading Outcome
-part_with change mask None bits = Read Opaque bits
-part_with change mask (Some known) bits =
-    filled_at (places_down (wide_by change.directions change.recent mask)) known bits
+unfoldable pub parse_part_with : Change → List Bool → Option (List Bool) → List Bool → Parsed Outcome
+parse_part_with change mask None bits = Read Opaque bits
+parse_part_with change mask (Some known) bits =
+    parse_filled (places_down (wide_by change.directions change.recent mask)) known bits
     >>= λ content rest. Read (Spelled mask content) rest
 
 -- whether the content is whole, and the content
-unfoldable pub content_at : ℕ → Change → List Bool → Option (List Bool) → List Bool → Reading Outcome
-content_at f change mask known bits =
+unfoldable pub parse_content : ℕ → Change → List Bool → Option (List Bool) → List Bool → Parsed Outcome
+parse_content f change mask known bits =
     any_bit bits
-    >>= λ whole rest. if whole then whole_with f change mask known rest else part_with change mask known rest
+    >>= λ whole rest. if whole then parse_whole_with f change mask known rest else parse_part_with change mask known rest
 
 -- ---- the parts after the first
 
 -- neither a mask nor whole content is sent
-unfoldable pub unsent_at : Change → Option (List Bool) → Option (List Bool) → List Bool → Reading Outcome
-unsent_at change None known bits = Read Opaque bits
-unsent_at change (Some mask) known bits = part_with change mask known bits
+unfoldable pub parse_unsent : Change → Option (List Bool) → Option (List Bool) → List Bool → Parsed Outcome
+parse_unsent change None known bits = Read Opaque bits
+parse_unsent change (Some mask) known bits = parse_part_with change mask known bits
 
 -- whole content is sent without a mask, which must then be deduced
-unfoldable pub maskless_at : ℕ → Change → Option (List Bool) → Option (List Bool) → List Bool → Reading Outcome
-maskless_at f change None known bits = Read Opaque bits
-maskless_at f change (Some mask) known bits =
+unfoldable pub parse_maskless : ℕ → Change → Option (List Bool) → Option (List Bool) → List Bool → Parsed Outcome
+parse_maskless f change None known bits = Read Opaque bits
+parse_maskless f change (Some mask) known bits =
     bit_where (allowed false true) bits
-    >>= λ whole rest. whole_with f change mask known rest
+    >>= λ whole rest. parse_whole_with f change mask known rest
 
 -- a mask is sent
-unfoldable pub masked_at : ℕ → Change → Option (List Bool) → Option (List Bool) → List Bool → Reading Outcome
-masked_at f change deduced known bits =
-    mask_at f deduced bits
-    >>= λ mask rest. content_at f change mask known rest
+unfoldable pub parse_masked : ℕ → Change → Option (List Bool) → Option (List Bool) → List Bool → Parsed Outcome
+parse_masked f change deduced known bits =
+    parse_mask f deduced bits
+    >>= λ mask rest. parse_content f change mask known rest
 
 -- a mask or whole content is sent
-unfoldable pub sent_at : ℕ → Change → Option (List Bool) → Option (List Bool) → List Bool → Reading Outcome
-sent_at f change deduced known bits =
+unfoldable pub parse_sent : ℕ → Change → Option (List Bool) → Option (List Bool) → List Bool → Parsed Outcome
+parse_sent f change deduced known bits =
     any_bit bits
-    >>= λ masked rest. if masked then masked_at f change deduced known rest else maskless_at f change deduced known rest
+    >>= λ masked rest. if masked then parse_masked f change deduced known rest else parse_maskless f change deduced known rest
 
 -- the parts after the first, by the deduced mask and the known content, where there are such
-unfoldable pub data_at : ℕ → Change → Option (List Bool) → Option (List Bool) → List Bool → Reading Outcome
-data_at f change deduced known bits =
+unfoldable pub parse_data : ℕ → Change → Option (List Bool) → Option (List Bool) → List Bool → Parsed Outcome
+parse_data f change deduced known bits =
     any_bit bits
-    >>= λ unsent rest. if unsent then unsent_at change deduced known rest else sent_at f change deduced known rest
+    >>= λ unsent rest. if unsent then parse_unsent change deduced known rest else parse_sent f change deduced known rest
 
 -- ---- the packet
 
 -- all parts; the state is asked behind the first
-unfoldable pub parts_at : ℕ → State → ℕ → List Bool → Reading Found
-parts_at f state t bits =
-    change_at f bits
-    >>= λ change rest. data_at f change (deduced_by state t change) (known_by state t change) rest
+unfoldable pub parse_parts : ℕ → State → ℕ → List Bool → Parsed Found
+parse_parts f state t bits =
+    parse_change f bits
+    >>= λ change rest. parse_data f change (deduced_by state t change) (known_by state t change) rest
     >>= λ outcome last. Read (record { change = change; outcome = outcome }) last
 
 -- after so many bits of a packet that is spelled, the zeros that fill whole bytes
-unfoldable pub padding_at : Outcome → ℕ → List Bool → Reading (Unit {0})
-padding_at (Spelled mask content) used bits = same_at (replicate (8 * byte_count used - used) false) bits
-padding_at Opaque used bits = Read tt bits
+unfoldable pub parse_padding : Outcome → ℕ → List Bool → Parsed (Unit {0})
+parse_padding (Spelled mask content) used bits = parse_word (replicate (8 * byte_count used - used) false) bits
+parse_padding Opaque used bits = Read tt bits
 
 -- after a packet that is spelled, the end
-unfoldable pub end_at : Outcome → List Bool → Reading (Unit {0})
-end_at (Spelled mask content) [] = Read tt []
-end_at (Spelled mask content) (bit ∷ rest) = WrongBit rest
-end_at Opaque bits = Read tt bits
+unfoldable pub parse_end : Outcome → List Bool → Parsed (Unit {0})
+parse_end (Spelled mask content) [] = Read tt []
+parse_end (Spelled mask content) (bit ∷ rest) = WrongBit rest
+parse_end Opaque bits = Read tt bits
 
 -- all parts and the padding
-unfoldable pub packet_at : ℕ → State → ℕ → List Bool → Reading Found
-packet_at f state t bits =
-    parts_at f state t bits
-    >>= λ found rest. padding_at found.outcome (length bits - length rest) rest
+unfoldable pub parse_packet : ℕ → State → ℕ → List Bool → Parsed Found
+parse_packet f state t bits =
+    parse_parts f state t bits
+    >>= λ found rest. parse_padding found.outcome (length bits - length rest) rest
     >>= λ u last. Read found last
 
 -- a packet and nothing after it, or an opaque front
-unfoldable pub whole_packet_at : ℕ → State → ℕ → List Bool → Reading Found
-whole_packet_at f state t bits =
-    packet_at f state t bits
-    >>= λ found rest. end_at found.outcome rest
+unfoldable pub parse_whole_packet : ℕ → State → ℕ → List Bool → Parsed Found
+parse_whole_packet f state t bits =
+    parse_packet f state t bits
+    >>= λ found rest. parse_end found.outcome rest
     >>= λ u last. Read found last
 
 -- ---- the answer
 
 -- with nothing known, an opaque front is not in reach of any packet; else it comes after a gap
-abbrev pub answer_to : State → ℕ → Outcome → Answer
-answer_to state level (Spelled mask content) = Written
-answer_to None level Opaque = Unsynced
-answer_to (Some latest) level Opaque = Gap level
+abbrev pub outcome_answer : State → ℕ → Outcome → Reading
+outcome_answer state level (Spelled mask content) = Written
+outcome_answer None level Opaque = Unsynced
+outcome_answer (Some latest) level Opaque = Gap level
 
 -- what was read of all bits, as an answer
-abbrev pub answer_by : State → List Bool → Reading Found → Result Answer BitFault
-answer_by state bits (Read found rest) = Ok (answer_to state found.change.level found.outcome)
-answer_by state bits (WrongBit rest) = Err (Wrong (length bits - length rest - 1))
-answer_by state bits TooShort = Err (EndsEarly (length bits))
+abbrev pub parsed_answer : State → List Bool → Parsed Found → Result Reading BitFault
+parsed_answer state bits (Read found rest) = Ok (outcome_answer state found.change.level found.outcome)
+parsed_answer state bits (WrongBit rest) = Err (Wrong (length bits - length rest - 1))
+parsed_answer state bits TooShort = Err (EndsEarly (length bits))
 
 -- under a state, the answer to the bits of the packet with the number t
-abbrev pub answer_of : ℕ → State → ℕ → List Bool → Result Answer BitFault
-answer_of f state t bits = answer_by state bits (whole_packet_at f state t bits)
+abbrev pub answer_of : ℕ → State → ℕ → List Bool → Result Reading BitFault
+answer_of f state t bits = parsed_answer state bits (parse_whole_packet f state t bits)

@@ -10,9 +10,9 @@ use Rattle.packet_decode.specs.State.{State, Change}
 use Rattle.packet_decode.specs.PacketReading.{Outcome, Spelled, Opaque}
 
 -- directions, where it was sent whether all recent changes are extracted
-abbrev pub directions_of : Option Bool → List Bool → Option Directions
-directions_of None predictable = None
-directions_of (Some twice) predictable = Some (record { predictable = predictable; twice = twice })
+abbrev pub sent_directions : Option Bool → List Bool → Option Directions
+sent_directions None predictable = None
+sent_directions (Some twice) predictable = Some (record { predictable = predictable; twice = twice })
 
 -- what the parts after the first one say
 abbrev pub outcome_of : DataKind → List Bool → List Bool → Outcome
@@ -27,11 +27,6 @@ state_by (Some number) mask content = Some (record { number = number; mask = mas
 -- the state of a decoder that keeps this as the latest packet
 abbrev pub kept_state : Latest → State
 kept_state latest = state_by latest.number latest.mask latest.content
-
--- whether the packet with the number t and this level is in reach of that with the latest number
-abbrev pub reaches : Option ℕ → ℕ → ℕ → Bool
-reaches None t level = false
-reaches (Some number) t level = nat_le (t - 1 - number) level
 
 -- the latest packet's vectors have so many places
 pub record IsLatest (f : ℕ) (latest : Latest) : Type 0 where

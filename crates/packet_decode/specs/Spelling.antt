@@ -5,7 +5,7 @@ use Rattle.run_code.specs.Edges.{edges}
 use Rattle.run_code.specs.Extraction.{extract, SameOutside}
 use Rattle.run_code.specs.Runs.{run_bits}
 use Rattle.packet_encode.specs.Forms.{Content, Whole, Part, Form, IsForm, change_bits, form_bits, wide, Fits}
-use Rattle.packet_decode.specs.State.{Packet, State, InReach, deduced_mask}
+use Rattle.packet_decode.specs.State.{WrittenPacket, State, InReach, deduced_mask}
 
 -- what is sent of the content: all of it, or the bits at these places
 abbrev pub IsSentOf : List Bool → List Bool → Content → Type 0
@@ -14,7 +14,7 @@ IsSentOf places content (Part bits) = bits ≡ extract content places
 
 -- In reach of the latest packet: the mask is deduced, and a sent one is the same; the content is the latest one's
 -- outside the extracted places.
-pub record Follows (latest : Packet) (form : Form) (mask content : List Bool) : Type 0 where
+pub record Follows (latest : WrittenPacket) (form : Form) (mask content : List Bool) : Type 0 where
   pub deduced : mask ≡ deduced_mask latest form
   pub mask_sent : IfSome form.sent (λ sent. sent ≡ mask)
   pub kept : SameOutside (wide form mask) latest.content content

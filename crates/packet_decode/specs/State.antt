@@ -4,17 +4,17 @@ use Rattle.bit_vectors.specs.Vectors.{xor_bits, or_bits, without_bits}
 use Rattle.packet_encode.specs.Forms.{Directions, Form}
 
 -- a written packet: its number, its mask and its content
-pub record Packet : Type 0 where
+pub record WrittenPacket : Type 0 where
   pub number : ℕ
   pub mask : List Bool
   pub content : List Bool
 
 -- the latest written packet, where there is one
 abbrev pub State : Type 0
-State = Option Packet
+State = Option WrittenPacket
 
 -- the packet's vectors have f places
-pub record HasVectors (f : ℕ) (packet : Packet) : Type 0 where
+pub record HasVectors (f : ℕ) (packet : WrittenPacket) : Type 0 where
   pub mask_places : length packet.mask ≡ f
   pub content_places : length packet.content ≡ f
 
@@ -51,5 +51,5 @@ mask_after mask change =
     else or_bits (without_bits mask change.recent) (unpredictable change.recent change.directions)
 
 -- the mask after the latest packet's
-abbrev pub deduced_mask : Packet → Form → List Bool
+abbrev pub deduced_mask : WrittenPacket → Form → List Bool
 deduced_mask latest form = mask_after latest.mask (change_of form)

@@ -6,7 +6,7 @@ ghost use Rattle.bit_vectors.specs.Eye.{bits_left};
 ghost use Rattle.bit_vectors.specs.Reading.{MovesOn, Gives};
 ghost use Rattle.packet_encode.specs.Forms.{wide_by};
 ghost use Rattle.packet_decode.specs.State.{mask_after};
-ghost use Rattle.packet_decode.specs.PacketReading.{change_at};
+ghost use Rattle.packet_decode.specs.PacketReading.{parse_change};
 
 use crate::directions::take_directions;
 use bit_vectors::{BitEye, BitFault, Bits, NoMemory};
@@ -29,11 +29,11 @@ pub struct FirstPart {
 impl Model for FirstPart {
     ghost use Rattle.std.specs.Prelude.{◌≡◌, ◌<◌, length};
     ghost use Rattle.packet_decode.specs.State.{Change};
-    ghost use Rattle.packet_decode.specs.Parts.{directions_of};
+    ghost use Rattle.packet_decode.specs.Parts.{sent_directions};
 
     ghost Value = { Change };
 
-    ghost view = { λ p. record { recent = p.recent; level = p.level; directions = directions_of p.twice p.predictable } };
+    ghost view = { λ p. record { recent = p.recent; level = p.level; directions = sent_directions p.twice p.predictable } };
 
     ghost invariant = { λ p. (length p.predictable ≡ length p.recent) × (p.level < 16) };
 }
@@ -56,11 +56,11 @@ impl FirstPart {
     }
 
     /// Takes the first part of a packet of as many places. After a fault it is any.
-    #[tactic(auto, unfolding(crate::specs::PacketReading::change_at))]
+    #[tactic(auto, unfolding(crate::specs::PacketReading::parse_change))]
     pub fn take(&mut self, eye: &mut BitEye) -> Result<(), BitFault>
         ensures places { length self.new.recent ≡ length self.old.recent }
         ensures moves { MovesOn eye.old eye.new }
-        ensures reading { Gives (λ _. self.new) result eye.new (change_at (length self.old.recent) (bits_left eye.old)) }
+        ensures reading { Gives (λ _. self.new) result eye.new (parse_change (length self.old.recent) (bits_left eye.old)) }
     {
         take_runs(eye, &mut self.recent)?;
         self.level = take_number(eye, 4)? as u8;

@@ -4,7 +4,7 @@ ghost use Rattle.std.specs.Prelude.{◌≡◌, length, IfSome, Some};
 ghost use Rattle.std.specs.Option.{option_map};
 ghost use Rattle.bit_vectors.specs.Eye.{bits_left};
 ghost use Rattle.bit_vectors.specs.Reading.{MovesOn};
-ghost use Rattle.packet_decode.specs.PacketReading.{Tells, kept_at, whole_with, part_with, content_at};
+ghost use Rattle.packet_decode.specs.PacketReading.{Tells, parse_kept, parse_whole_with, parse_part_with, parse_content};
 ghost use Rattle.packet_decode.specs.Parts.{IsDraft, outcome_of};
 
 use crate::bit::take_bit;
@@ -16,7 +16,7 @@ use run_code::take_into;
 
 /// Takes whether the content is whole, and the content, under the mask of the draft. Where nothing is known,
 /// extracted bits are too little to be understood.
-#[tactic(auto, unfolding(crate::specs::PacketReading::content_at))]
+#[tactic(auto, unfolding(crate::specs::PacketReading::parse_content))]
 pub fn take_content(
     eye: &mut BitEye,
     change: &FirstPart,
@@ -29,7 +29,7 @@ pub fn take_content(
     ensures draft { IsDraft (length draft.old.content) draft.new }
     ensures moves { MovesOn eye.old eye.new }
     ensures reading { Tells (λ kind. outcome_of kind draft.new.mask draft.new.content) result eye.new
-        (content_at (length draft.old.content) change.now draft.old.mask (option_map (λ v. v.now) known.entry) (bits_left eye.old)) }
+        (parse_content (length draft.old.content) change.now draft.old.mask (option_map (λ v. v.now) known.entry) (bits_left eye.old)) }
 {
     if take_bit(eye)? {
         take_whole(eye, change, known, draft)
@@ -39,7 +39,7 @@ pub fn take_content(
 }
 
 /// Takes the extracted bits, where a content is known.
-#[tactic(auto, unfolding(crate::specs::PacketReading::part_with))]
+#[tactic(auto, unfolding(crate::specs::PacketReading::parse_part_with))]
 pub fn take_part(
     eye: &mut BitEye,
     change: &FirstPart,
@@ -52,7 +52,7 @@ pub fn take_part(
     ensures draft { IsDraft (length draft.old.content) draft.new }
     ensures moves { MovesOn eye.old eye.new }
     ensures reading { Tells (λ kind. outcome_of kind draft.new.mask draft.new.content) result eye.new
-        (part_with change.now draft.old.mask (option_map (λ v. v.now) known.entry) (bits_left eye.old)) }
+        (parse_part_with change.now draft.old.mask (option_map (λ v. v.now) known.entry) (bits_left eye.old)) }
 {
     let Some(known) = known else {
         return Ok(DataKind::Opaque);
@@ -65,7 +65,7 @@ pub fn take_part(
 }
 
 /// Takes the whole content. Where one is known, it is that outside the extracted places.
-#[tactic(auto, unfolding(crate::specs::PacketReading::whole_with, crate::specs::PacketReading::whole_at))]
+#[tactic(auto, unfolding(crate::specs::PacketReading::parse_whole_with, crate::specs::PacketReading::parse_whole))]
 pub fn take_whole(
     eye: &mut BitEye,
     change: &FirstPart,
@@ -78,7 +78,7 @@ pub fn take_whole(
     ensures draft { IsDraft (length draft.old.content) draft.new }
     ensures moves { MovesOn eye.old eye.new }
     ensures reading { Tells (λ kind. outcome_of kind draft.new.mask draft.new.content) result eye.new
-        (whole_with (length draft.old.content) change.now draft.old.mask (option_map (λ v. v.now) known.entry) (bits_left eye.old)) }
+        (parse_whole_with (length draft.old.content) change.now draft.old.mask (option_map (λ v. v.now) known.entry) (bits_left eye.old)) }
 {
     match_count(eye, draft.content.len())?;
     let Some(known) = known else {
@@ -112,7 +112,7 @@ fn take_kept(
     ensures content_places { length content.new ≡ length content.old }
     ensures spare_places { length spare.new ≡ length spare.old }
     ensures moves { MovesOn eye.old eye.new }
-    ensures reading { Tells (λ _. content.new) result eye.new (kept_at places.now known.now (bits_left eye.old)) }
+    ensures reading { Tells (λ _. content.new) result eye.new (parse_kept places.now known.now (bits_left eye.old)) }
 {
     let start = eye.at();
     let left = eye.size() - start;

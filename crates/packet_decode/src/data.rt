@@ -5,7 +5,7 @@ ghost use Rattle.std.specs.Prelude.{◌≡◌, length, IfSome, Some};
 ghost use Rattle.std.specs.Option.{option_map};
 ghost use Rattle.bit_vectors.specs.Eye.{bits_left};
 ghost use Rattle.bit_vectors.specs.Reading.{MovesOn};
-ghost use Rattle.packet_decode.specs.PacketReading.{Tells, unsent_at, maskless_at, data_at};
+ghost use Rattle.packet_decode.specs.PacketReading.{Tells, parse_unsent, parse_maskless, parse_data};
 ghost use Rattle.packet_decode.specs.Parts.{IsDraft, outcome_of};
 
 use crate::bit::{take_bit, take_one};
@@ -16,7 +16,7 @@ use crate::mask::take_mask;
 use bit_vectors::{BitEye, BitFault, Bits};
 
 /// Takes the parts after the first one into the draft.
-#[tactic(auto, unfolding(crate::specs::PacketReading::data_at, crate::specs::PacketReading::sent_at, crate::specs::PacketReading::masked_at))]
+#[tactic(auto, unfolding(crate::specs::PacketReading::parse_data, crate::specs::PacketReading::parse_sent, crate::specs::PacketReading::parse_masked))]
 pub fn take_data(
     eye: &mut BitEye,
     change: &FirstPart,
@@ -31,7 +31,7 @@ pub fn take_data(
     ensures draft { IsDraft (length draft.old.content) draft.new }
     ensures moves { MovesOn eye.old eye.new }
     ensures reading { Tells (λ kind. outcome_of kind draft.new.mask draft.new.content) result eye.new
-        (data_at (length draft.old.content) change.now (option_map (λ v. v.now) deduced.entry) (option_map (λ v. v.now) known.entry) (bits_left eye.old)) }
+        (parse_data (length draft.old.content) change.now (option_map (λ v. v.now) deduced.entry) (option_map (λ v. v.now) known.entry) (bits_left eye.old)) }
 {
     if take_bit(eye)? {
         take_unsent(eye, change, deduced, known, draft)
@@ -44,7 +44,7 @@ pub fn take_data(
 }
 
 /// Takes what follows where neither a mask nor a whole content is sent.
-#[tactic(auto, unfolding(crate::specs::PacketReading::unsent_at))]
+#[tactic(auto, unfolding(crate::specs::PacketReading::parse_unsent))]
 fn take_unsent(
     eye: &mut BitEye,
     change: &FirstPart,
@@ -59,7 +59,7 @@ fn take_unsent(
     ensures draft { IsDraft (length draft.old.content) draft.new }
     ensures moves { MovesOn eye.old eye.new }
     ensures reading { Tells (λ kind. outcome_of kind draft.new.mask draft.new.content) result eye.new
-        (unsent_at change.now (option_map (λ v. v.now) deduced.entry) (option_map (λ v. v.now) known.entry) (bits_left eye.old)) }
+        (parse_unsent change.now (option_map (λ v. v.now) deduced.entry) (option_map (λ v. v.now) known.entry) (bits_left eye.old)) }
 {
     let Some(mask) = deduced else {
         return Ok(DataKind::Opaque);
@@ -69,7 +69,7 @@ fn take_unsent(
 }
 
 /// Takes what follows where the content must be whole, since no mask is sent.
-#[tactic(auto, unfolding(crate::specs::PacketReading::maskless_at))]
+#[tactic(auto, unfolding(crate::specs::PacketReading::parse_maskless))]
 fn take_maskless(
     eye: &mut BitEye,
     change: &FirstPart,
@@ -84,7 +84,7 @@ fn take_maskless(
     ensures draft { IsDraft (length draft.old.content) draft.new }
     ensures moves { MovesOn eye.old eye.new }
     ensures reading { Tells (λ kind. outcome_of kind draft.new.mask draft.new.content) result eye.new
-        (maskless_at (length draft.old.content) change.now (option_map (λ v. v.now) deduced.entry) (option_map (λ v. v.now) known.entry) (bits_left eye.old)) }
+        (parse_maskless (length draft.old.content) change.now (option_map (λ v. v.now) deduced.entry) (option_map (λ v. v.now) known.entry) (bits_left eye.old)) }
 {
     let Some(mask) = deduced else {
         return Ok(DataKind::Opaque);

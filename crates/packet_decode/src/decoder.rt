@@ -6,9 +6,9 @@ ghost use Rattle.packet_encode.specs.Forms.{Form};
 ghost use Rattle.packet_decode.specs.State.{IsState};
 ghost use Rattle.packet_decode.specs.Spelling.{Spells};
 ghost use Rattle.packet_decode.specs.Answers.{Says, IsExactAnswer};
-ghost use Rattle.packet_decode.specs.PacketReading.{Opaque, answer_to};
+ghost use Rattle.packet_decode.specs.PacketReading.{Opaque, outcome_answer};
 ghost use Rattle.packet_decode.specs.Parts.{state_by};
-ghost use Rattle.packet_decode.specs.Decoding.{number_of, mask_of, content_of};
+ghost use Rattle.packet_decode.specs.Decoding.{latest_number, latest_mask, latest_content};
 
 use crate::change::FirstPart;
 use crate::draft::{DataKind, Draft, Latest};
@@ -79,7 +79,7 @@ impl Decoder {
     /// spell a packet nor be those of one that can't be understood (CCSDS 124.0-B-1).
     pub fn read(&mut self, t: u64, bytes: &[u8]) -> Result<Reading, BitFault>
         requires number { t < 2 ^ 62 }
-        requires later { IfSome (number_of self.old.state) (λ last. last < t) }
+        requires later { IfSome (latest_number self.old.state) (λ last. last < t) }
         requires size { length bytes.now ≤ 65536 }
         // Each answer comes exactly where it is the right one, and a fault names the first bit.
         ensures exact { IsExactAnswer self.old.places self.old.state t (bits_of bytes.now) result }
@@ -121,7 +121,7 @@ impl Decoder {
 
     /// The number of the latest written packet, and nothing before the first.
     pub fn last(&self) -> Option<u64>
-        ensures number { result ≡ number_of self.now.state }
+        ensures number { result ≡ latest_number self.now.state }
         ensures state { IsState self.now.places self.now.state }
     {
         self.latest.number
@@ -129,7 +129,7 @@ impl Decoder {
 
     /// The content of the latest written packet, and zeros before the first.
     pub fn content(&self) -> &Bits
-        ensures content { result.now ≡ content_of self.now.places self.now.state }
+        ensures content { result.now ≡ latest_content self.now.places self.now.state }
         ensures places { length result.now ≡ self.now.places }
         ensures vector { IsVector result.now }
     {
@@ -138,7 +138,7 @@ impl Decoder {
 
     /// The mask of the latest written packet, and zeros before the first.
     pub fn mask(&self) -> &Bits
-        ensures mask { result.now ≡ mask_of self.now.places self.now.state }
+        ensures mask { result.now ≡ latest_mask self.now.places self.now.state }
         ensures places { length result.now ≡ self.now.places }
     {
         &self.latest.mask
@@ -165,7 +165,7 @@ impl Decoder {
 
 /// The answer to an opaque front of this level.
 fn missed(last: Option<u64>, level: u8) -> Reading
-    ensures { (mask content : List Bool) → result ≡ answer_to (state_by last mask content) level Opaque }
+    ensures { (mask content : List Bool) → result ≡ outcome_answer (state_by last mask content) level Opaque }
 {
     match last {
         None => Reading::Unsynced,

@@ -3,8 +3,8 @@
 ghost use Rattle.std.specs.Prelude.{◌≡◌, length, true, Contains};
 ghost use Rattle.bit_vectors.specs.Eye.{bits_left};
 ghost use Rattle.bit_vectors.specs.Reading.{MovesOn, Gives};
-ghost use Rattle.packet_decode.specs.PacketReading.{directions_at, named_at};
-ghost use Rattle.packet_decode.specs.Parts.{directions_of};
+ghost use Rattle.packet_decode.specs.PacketReading.{parse_directions, parse_named};
+ghost use Rattle.packet_decode.specs.Parts.{sent_directions};
 
 use crate::bit::take_bit;
 use bit_vectors::{BitEye, BitFault, Bits};
@@ -13,7 +13,7 @@ use run_code::take_inverse_up;
 /// Takes the directions of the recent changes, where they are sent, which they can be where there are changes
 /// and a level above 0. `predictable` is then the places that became predictable, and the answer whether all
 /// recent changes are extracted.
-#[tactic(auto, unfolding(crate::specs::PacketReading::directions_at))]
+#[tactic(auto, unfolding(crate::specs::PacketReading::parse_directions))]
 pub fn take_directions(
     eye: &mut BitEye,
     recent: &Bits,
@@ -23,8 +23,8 @@ pub fn take_directions(
     requires { length recent.now ≡ length predictable.old }
     ensures places { length predictable.new ≡ length predictable.old }
     ensures moves { MovesOn eye.old eye.new }
-    ensures reading { Gives (λ twice. directions_of twice predictable.new) result eye.new
-        (directions_at recent.now level (bits_left eye.old)) }
+    ensures reading { Gives (λ twice. sent_directions twice predictable.new) result eye.new
+        (parse_directions recent.now level (bits_left eye.old)) }
 {
     if recent.is_zero() || level == 0 {
         return Ok(None);
@@ -38,14 +38,14 @@ pub fn take_directions(
 
 /// Takes directions: for each recent change whether it made its place predictable, and then whether all recent
 /// changes are extracted.
-#[tactic(auto, unfolding(crate::specs::PacketReading::named_at))]
+#[tactic(auto, unfolding(crate::specs::PacketReading::parse_named))]
 fn take_named(eye: &mut BitEye, recent: &Bits, predictable: &mut Bits) -> Result<bool, BitFault>
     requires places { length recent.now ≡ length predictable.old }
     requires some { Contains recent.now true }
     ensures places { length predictable.new ≡ length predictable.old }
     ensures moves { MovesOn eye.old eye.new }
     ensures reading { Gives (λ twice. record { predictable = predictable.new; twice = twice }) result eye.new
-        (named_at recent.now (bits_left eye.old)) }
+        (parse_named recent.now (bits_left eye.old)) }
 {
     take_inverse_up(eye, recent, predictable)?;
     take_bit(eye)

@@ -9,7 +9,7 @@ ghost use Rattle.robust_window.specs.Histories.{level_at};
 ghost use Rattle.packet_encode.specs.Forms.{Form, Part, wide};
 ghost use Rattle.packet_encode.specs.Packets.{form_at, packet_at};
 ghost use Rattle.packet_decode.specs.State.{InReach, State, IsState, deduced_mask};
-ghost use Rattle.packet_decode.specs.Histories.{IsUnderstood, state_of, written_at};
+ghost use Rattle.packet_decode.specs.Histories.{IsUnderstood, true_state, written_at};
 ghost use Rattle.packet_decode.specs.Spelling.{Spells, HasOpaqueFront};
 ghost use Rattle.packet_decode.specs.Answers.{SpellsPacket, Says, IsSoundAnswer, IsExactAnswer};
 ghost use Rattle.packet_decode.specs.PacketReading.{answer_of};
@@ -89,23 +89,23 @@ pub fn law_of_the_window()
 /// of the step. Every other packet has an opaque front.
 pub fn packets_of_histories_are_read()
     ensures state { (h : History) (latest : Option ℕ) → IsValid h → IfSome latest (λ s. s < length h.steps) →
-        IsState h.places (state_of h latest) }
+        IsState h.places (true_state h latest) }
     ensures spelled { (h : History) (latest : Option ℕ) (t : ℕ) → IsValid h → IfSome latest (λ s. s < t) → t < length h.steps →
         IsUnderstood h latest t →
-        Spells h.places (state_of h latest) t (packet_at h t) (form_at h t) (mask_at h t) (input_at h t) }
+        Spells h.places (true_state h latest) t (packet_at h t) (form_at h t) (mask_at h t) (input_at h t) }
     ensures opaque { (h : History) (latest : Option ℕ) (t : ℕ) → IsValid h → IfSome latest (λ s. s < t) → t < length h.steps →
         (IsUnderstood h latest t → ⊥) →
-        HasOpaqueFront h.places (state_of h latest) t (packet_at h t) (level_at h t) }
+        HasOpaqueFront h.places (true_state h latest) t (packet_at h t) (level_at h t) }
     // So it writes what it understands, and misses the others.
     ensures written { (h : History) (latest : Option ℕ) (t : ℕ) → IsValid h → IfSome latest (λ s. s < t) → t < length h.steps →
         IsUnderstood h latest t →
-        answer_of h.places (state_of h latest) t (packet_at h t) ≡ Ok Reading.Written }
+        answer_of h.places (true_state h latest) t (packet_at h t) ≡ Ok Reading.Written }
     ensures unsynced { (h : History) (t : ℕ) → IsValid h → t < length h.steps →
         (IsUnderstood h None t → ⊥) →
-        answer_of h.places (state_of h None) t (packet_at h t) ≡ Ok Reading.Unsynced }
+        answer_of h.places (true_state h None) t (packet_at h t) ≡ Ok Reading.Unsynced }
     ensures gap { (h : History) (latest t : ℕ) → IsValid h → latest < t → t < length h.steps →
         (IsUnderstood h (Some latest) t → ⊥) →
-        answer_of h.places (state_of h (Some latest)) t (packet_at h t) ≡ Ok (Reading.Gap (level_at h t)) }
+        answer_of h.places (true_state h (Some latest)) t (packet_at h t) ≡ Ok (Reading.Gap (level_at h t)) }
 {}
 
 /// Worked packets of 8 places.

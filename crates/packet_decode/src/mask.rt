@@ -4,7 +4,7 @@ ghost use Rattle.std.specs.Prelude.{◌≡◌, length, None, Some, IfSome};
 ghost use Rattle.std.specs.Option.{option_map};
 ghost use Rattle.bit_vectors.specs.Eye.{bits_left};
 ghost use Rattle.bit_vectors.specs.Reading.{MovesOn, Gives};
-ghost use Rattle.packet_decode.specs.PacketReading.{mask_at};
+ghost use Rattle.packet_decode.specs.PacketReading.{parse_mask};
 
 use bit_vectors::{BitEye, BitFault, Bits};
 use run_code::{edges, from_edges, match_runs, take_runs};
@@ -23,7 +23,7 @@ pub fn take_mask(
     ensures spare_places { length spare.new ≡ length spare.old }
     ensures moves { MovesOn eye.old eye.new }
     ensures reading { Gives (λ _. mask.new) result eye.new
-        (mask_at (length mask.old) (option_map (λ known. known.now) deduced.entry) (bits_left eye.old)) }
+        (parse_mask (length mask.old) (option_map (λ known. known.now) deduced.entry) (bits_left eye.old)) }
 {
     match deduced {
         Some(known) => match_mask(eye, known, mask, spare),
@@ -32,7 +32,7 @@ pub fn take_mask(
 }
 
 /// Takes the runs of the edges of the known mask, and makes `mask` that one.
-#[tactic(auto, unfolding(crate::specs::PacketReading::mask_at), using(crate::proofs::EdgeMasks::length_edges))]
+#[tactic(auto, unfolding(crate::specs::PacketReading::parse_mask), using(crate::proofs::EdgeMasks::length_edges))]
 fn match_mask(
     eye: &mut BitEye,
     known: &Bits,
@@ -45,7 +45,7 @@ fn match_mask(
     ensures spare_places { length spare.new ≡ length spare.old }
     ensures moves { MovesOn eye.old eye.new }
     ensures reading { Gives (λ _. mask.new) result eye.new
-        (mask_at (length mask.old) (Some known.now) (bits_left eye.old)) }
+        (parse_mask (length mask.old) (Some known.now) (bits_left eye.old)) }
 {
     edges(known, spare);
     match_runs(eye, spare)?;
@@ -54,13 +54,13 @@ fn match_mask(
 }
 
 /// Takes the runs of the edges of a mask, and makes `mask` that one.
-#[tactic(auto, unfolding(crate::specs::PacketReading::mask_at))]
+#[tactic(auto, unfolding(crate::specs::PacketReading::parse_mask))]
 fn read_mask(eye: &mut BitEye, mask: &mut Bits, spare: &mut Bits) -> Result<(), BitFault>
     requires { length spare.old ≡ length mask.old }
     ensures mask_places { length mask.new ≡ length mask.old }
     ensures spare_places { length spare.new ≡ length spare.old }
     ensures moves { MovesOn eye.old eye.new }
-    ensures reading { Gives (λ _. mask.new) result eye.new (mask_at (length mask.old) None (bits_left eye.old)) }
+    ensures reading { Gives (λ _. mask.new) result eye.new (parse_mask (length mask.old) None (bits_left eye.old)) }
 {
     take_runs(eye, spare)?;
     from_edges(spare, mask);

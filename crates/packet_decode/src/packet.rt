@@ -3,8 +3,9 @@
 ghost use Rattle.std.specs.Prelude.{◌≡◌, ◌<◌, length, IfSome};
 ghost use Rattle.bit_vectors.specs.Eye.{bits_left};
 ghost use Rattle.bit_vectors.specs.Reading.{MovesOn};
-ghost use Rattle.packet_decode.specs.PacketReading.{Tells, parts_at, whole_packet_at};
-ghost use Rattle.packet_decode.specs.Parts.{IsLatest, IsDraft, outcome_of, kept_state, reaches};
+ghost use Rattle.packet_decode.specs.PacketReading.{Tells, parse_parts, parse_whole_packet};
+ghost use Rattle.packet_decode.specs.Parts.{IsLatest, IsDraft, outcome_of, kept_state};
+ghost use Rattle.packet_encode.specs.Deliveries.{reaches};
 
 use crate::change::FirstPart;
 use crate::data::take_data;
@@ -14,7 +15,7 @@ use bit_vectors::{BitEye, BitFault, Bits};
 
 /// Takes the packet with the number `t` and the end, or an opaque front: its first part into `next`, and its
 /// mask and its content into the draft, where it has them. The eye stands at the first bit.
-#[tactic(auto, unfolding(crate::specs::PacketReading::whole_packet_at, crate::specs::PacketReading::packet_at))]
+#[tactic(auto, unfolding(crate::specs::PacketReading::parse_whole_packet, crate::specs::PacketReading::parse_packet))]
 pub fn take_whole_packet(
     eye: &mut BitEye,
     t: u64,
@@ -34,7 +35,7 @@ pub fn take_whole_packet(
     ensures draft { IsDraft (length draft.old.content) draft.new }
     ensures moves { MovesOn eye.old eye.new }
     ensures reading { Tells (λ kind. record { change = next.new; outcome = outcome_of kind draft.new.mask draft.new.content })
-        result eye.new (whole_packet_at (length draft.old.content) (kept_state latest.now) t (bits_left eye.old)) }
+        result eye.new (parse_whole_packet (length draft.old.content) (kept_state latest.now) t (bits_left eye.old)) }
 {
     let kind = take_parts(eye, t, latest, next, deduced, draft)?;
     take_padding(eye, kind)?;
@@ -43,7 +44,7 @@ pub fn take_whole_packet(
 }
 
 /// Takes all parts of a packet. In reach, behind the first of them, the mask is deduced and the content known.
-#[tactic(auto, unfolding(crate::specs::PacketReading::parts_at))]
+#[tactic(auto, unfolding(crate::specs::PacketReading::parse_parts))]
 fn take_parts(
     eye: &mut BitEye,
     t: u64,
@@ -62,7 +63,7 @@ fn take_parts(
     ensures draft { IsDraft (length draft.old.content) draft.new }
     ensures moves { MovesOn eye.old eye.new }
     ensures reading { Tells (λ kind. record { change = next.new; outcome = outcome_of kind draft.new.mask draft.new.content })
-        result eye.new (parts_at (length draft.old.content) (kept_state latest.now) t (bits_left eye.old)) }
+        result eye.new (parse_parts (length draft.old.content) (kept_state latest.now) t (bits_left eye.old)) }
 {
     next.take(eye)?;
     if is_in_reach(latest.number, t, next.level()) {

@@ -4,7 +4,7 @@
 ghost use Rattle.std.specs.Prelude.{◌≡◌, ◌≤◌, Bool, List, length};
 ghost use Rattle.bit_vectors.specs.Eye.{bits_left};
 ghost use Rattle.bit_vectors.specs.Reading.{MovesOn, Gives};
-ghost use Rattle.packet_decode.specs.PacketReading.{padding_at, end_at};
+ghost use Rattle.packet_decode.specs.PacketReading.{parse_padding, parse_end};
 ghost use Rattle.packet_decode.specs.Parts.{outcome_of};
 
 use crate::draft::DataKind;
@@ -12,12 +12,12 @@ use bit_vectors::{BitEye, BitFault};
 use count_code::match_number;
 
 /// Takes the zeros, fewer than eight, up to a whole byte.
-#[tactic(auto, unfolding(crate::specs::PacketReading::padding_at), using(crate::proofs::PaddingBits::zeros_are))]
+#[tactic(auto, unfolding(crate::specs::PacketReading::parse_padding), using(crate::proofs::PaddingBits::zeros_are))]
 pub fn take_padding(eye: &mut BitEye, kind: DataKind) -> Result<(), BitFault>
     ensures within { eye.old.place ≤ length eye.old.bits }
     ensures moves { MovesOn eye.old eye.new }
     ensures reading { (mask content : List Bool) →
-        Gives (λ _. tt) result eye.new (padding_at (outcome_of kind mask content) eye.old.place (bits_left eye.old)) }
+        Gives (λ _. tt) result eye.new (parse_padding (outcome_of kind mask content) eye.old.place (bits_left eye.old)) }
 {
     let place = eye.at();
     match kind {
@@ -27,11 +27,11 @@ pub fn take_padding(eye: &mut BitEye, kind: DataKind) -> Result<(), BitFault>
 }
 
 /// Takes the end. A further bit is wrong.
-#[tactic(auto, unfolding(crate::specs::PacketReading::end_at))]
+#[tactic(auto, unfolding(crate::specs::PacketReading::parse_end))]
 pub fn take_end(eye: &mut BitEye, kind: DataKind) -> Result<(), BitFault>
     ensures moves { MovesOn eye.old eye.new }
     ensures reading { (mask content : List Bool) →
-        Gives (λ _. tt) result eye.new (end_at (outcome_of kind mask content) (bits_left eye.old)) }
+        Gives (λ _. tt) result eye.new (parse_end (outcome_of kind mask content) (bits_left eye.old)) }
 {
     if kind == DataKind::Spelled && eye.take().is_some() {
         return Err(BitFault::Wrong { bit: eye.at() - 1 });

@@ -15,7 +15,7 @@ use Rattle.robust_window.proofs.Levels.{some_one}
 use Rattle.robust_window.proofs.OfHistories.{IsLevel-level_at, length-recent_at}
 use Rattle.run_code.proofs.ExtractedBits.{length-extract}
 use Rattle.packet_encode.specs.Forms.{AreDirections, Directions, Fits, FitsPlaces, Form, HasPlaces, IsForm, change_bits, data_bits, form_bits, wide_by}
-use Rattle.packet_encode.specs.Packets.{content_of, directions_of, form_at, form_of, sent_of}
+use Rattle.packet_encode.specs.Packets.{sent_content, directions_of, form_at, form_of, sent_of}
 use Rattle.packet_encode.proofs.Bounds.{HasMost, form_bits-most, ones_most}
 
 pub form_bits-is : (form : Form) → change_bits form ++ data_bits form.sent form.content ≡ form_bits form
@@ -44,23 +44,23 @@ pub sent_of-places : (send : Bool) (mask : List Bool) (f : ℕ) → length mask 
 sent_of-places true mask f len = len
 sent_of-places false mask f len = tt
 
-pub content_of-most : (whole : Bool) (content places : List Bool) (f : ℕ) → length content ≡ f → length places ≡ f → HasMost f (content_of whole content places)
-content_of-most true content places f len places_len = len
-content_of-most false content places f len places_len = omega (arith, length-extract content places, ones_most places)
+pub sent_content-most : (whole : Bool) (content places : List Bool) (f : ℕ) → length content ≡ f → length places ≡ f → HasMost f (sent_content whole content places)
+sent_content-most true content places f len places_len = len
+sent_content-most false content places f len places_len = omega (arith, length-extract content places, ones_most places)
 
 -- the first part and the second are the bits of a form
-pub written_is : (written changed mask recent : List Bool) (level : ℕ) (twice : Bool) (input : List Bool) (flags : Flags) (wide : Bool) → changed ≡ change_bits (form_of mask recent level twice input flags) → wide_by (directions_of mask recent level twice) recent mask ≡ cond wide (or_bits mask recent) mask → written ≡ changed ++ data_bits (sent_of flags.f mask) (content_of flags.r input (cond wide (or_bits mask recent) mask)) → written ≡ form_bits (form_of mask recent level twice input flags)
+pub written_is : (written changed mask recent : List Bool) (level : ℕ) (twice : Bool) (input : List Bool) (flags : Flags) (wide : Bool) → changed ≡ change_bits (form_of mask recent level twice input flags) → wide_by (directions_of mask recent level twice) recent mask ≡ cond wide (or_bits mask recent) mask → written ≡ changed ++ data_bits (sent_of flags.f mask) (sent_content flags.r input (cond wide (or_bits mask recent) mask)) → written ≡ form_bits (form_of mask recent level twice input flags)
 written_is written changed mask recent level twice input flags wide first places second =
     second
-    ∙ ap (λ v. changed ++ data_bits (sent_of flags.f mask) (content_of flags.r input v)) (sym places)
-    ∙ ap (λ bits. bits ++ data_bits (sent_of flags.f mask) (content_of flags.r input (wide_by (directions_of mask recent level twice) recent mask))) first
+    ∙ ap (λ v. changed ++ data_bits (sent_of flags.f mask) (sent_content flags.r input v)) (sym places)
+    ∙ ap (λ bits. bits ++ data_bits (sent_of flags.f mask) (sent_content flags.r input (wide_by (directions_of mask recent level twice) recent mask))) first
     ∙ form_bits-is (form_of mask recent level twice input flags)
 
 -- vectors of one length have a form within the bound
 pub form_of-most : (mask recent : List Bool) (level : ℕ) (twice : Bool) (input : List Bool) (flags : Flags) (f : ℕ) → 1 ≤ f → f ≤ 49152 → length mask ≡ f → length recent ≡ f → length input ≡ f → length (form_bits (form_of mask recent level twice input flags)) ≤ 10 * f + 42
 form_of-most mask recent level twice input flags f some most mask_len recent_len input_len =
     form_bits-most f (form_of mask recent level twice input flags) some most recent_len (sent_of-places flags.f mask f mask_len)
-    (content_of-most flags.r input (wide_by (directions_of mask recent level twice) recent mask) f input_len
+    (sent_content-most flags.r input (wide_by (directions_of mask recent level twice) recent mask) f input_len
     (length-wide_by (directions_of mask recent level twice) recent mask (recent_len ∙ sym mask_len) ∙ mask_len))
 
 -- ---- of a valid history
@@ -85,13 +85,13 @@ directions_of-are mask recent level twice form recent_is level_is len = are_in (
           some = some_one left parts.1;
         }
 
-content_of-places : (whole : Bool) (content places : List Bool) (f : ℕ) → length content ≡ f → HasPlaces f (content_of whole content places)
-content_of-places true content places f len = len
-content_of-places false content places f len = tt
+sent_content-places : (whole : Bool) (content places : List Bool) (f : ℕ) → length content ≡ f → HasPlaces f (sent_content whole content places)
+sent_content-places true content places f len = len
+sent_content-places false content places f len = tt
 
-content_of-fits : (whole : Bool) (content places : List Bool) → FitsPlaces places (content_of whole content places)
-content_of-fits true content places = tt
-content_of-fits false content places = length-extract content places
+sent_content-fits : (whole : Bool) (content places : List Bool) → FitsPlaces places (sent_content whole content places)
+sent_content-fits true content places = tt
+sent_content-fits false content places = length-extract content places
 
 pub form_at-is_form : (h : History) (t : ℕ) → IsValid h → t < length h.steps → IsForm h.places (form_at h t)
 form_at-is_form h t valid lt =
@@ -100,14 +100,14 @@ form_at-is_form h t valid lt =
       level = omega (arith, level.most, valid.robust t lt);
       directions = directions_of-are (mask_at h t) (recent_at h t) (level_at h t) (twice_at h t) (form_at h t) refl refl (length-recent_at h t lt ∙ sym (length-mask_at h t));
       sent = sent_of-places (flags_at h t).f (mask_at h t) h.places (length-mask_at h t);
-      content = content_of-places (flags_at h t).r (input_at h t) (wide_by (directions_of (mask_at h t) (recent_at h t) (level_at h t) (twice_at h t)) (recent_at h t) (mask_at h t)) h.places (valid.inputs t lt);
+      content = sent_content-places (flags_at h t).r (input_at h t) (wide_by (directions_of (mask_at h t) (recent_at h t) (level_at h t) (twice_at h t)) (recent_at h t) (mask_at h t)) h.places (valid.inputs t lt);
     }
   where
     level : IsLevel h t (level_at h t)
     level = IsLevel-level_at h t lt
 
 pub form_at-fits : (h : History) (t : ℕ) → Fits (form_at h t) (mask_at h t)
-form_at-fits h t = content_of-fits (flags_at h t).r (input_at h t) (wide_by (directions_of (mask_at h t) (recent_at h t) (level_at h t) (twice_at h t)) (recent_at h t) (mask_at h t))
+form_at-fits h t = sent_content-fits (flags_at h t).r (input_at h t) (wide_by (directions_of (mask_at h t) (recent_at h t) (level_at h t) (twice_at h t)) (recent_at h t) (mask_at h t))
 
 pub form_at-most : (h : History) (t : ℕ) → IsValid h → t < length h.steps → length (form_bits (form_at h t)) ≤ 10 * h.places + 42
 form_at-most h t valid lt =

@@ -21,8 +21,8 @@ abbrev pub sent_of : Bool → List Bool → Option (List Bool)
 sent_of send mask = if send then Some mask else None
 
 -- the whole content, or its bits at these places
-abbrev pub content_of : Bool → List Bool → List Bool → Content
-content_of whole content places = if whole then Whole content else Part (extract content places)
+abbrev pub sent_content : Bool → List Bool → List Bool → Content
+sent_content whole content places = if whole then Whole content else Part (extract content places)
 
 -- the form of a packet of these values and flags
 abbrev pub form_of : List Bool → List Bool → ℕ → Bool → List Bool → Flags → Form
@@ -33,7 +33,7 @@ form_of mask recent level twice input flags =
       level = level;
       directions = directions;
       sent = sent_of flags.f mask;
-      content = content_of flags.r input (wide_by directions recent mask);
+      content = sent_content flags.r input (wide_by directions recent mask);
     }
 
 -- ---- of a history
@@ -48,8 +48,8 @@ packet_at h t = padded (form_bits (form_at h t))
 
 -- The history and one more input, of which this robustness is required. It takes the given flags, but for those of a
 -- packet that is forced.
-abbrev pub with_input : History → ℕ → List Bool → Flags → History
-with_input h robust input flags = with_step h (step_of (λ _. flags) (λ _. robust) (length h.steps, input))
+abbrev pub with_next_input : History → ℕ → List Bool → Flags → History
+with_next_input h robust input flags = with_step h (step_of (λ _. flags) (λ _. robust) (length h.steps, input))
 
 -- two histories have the same vectors and flags up to a step
 pub record AgreeUpTo (h other : History) (t : ℕ) : Type 0 where

@@ -5,7 +5,7 @@ ghost use Rattle.bit_vectors.specs.Vectors.{or_bits};
 ghost use Rattle.count_code.specs.Code.{count_bits};
 ghost use Rattle.run_code.specs.Extraction.{extract};
 ghost use Rattle.packet_encode.specs.Forms.{data_bits, mask_bits};
-ghost use Rattle.packet_encode.specs.Packets.{content_of, sent_of};
+ghost use Rattle.packet_encode.specs.Packets.{sent_content, sent_of};
 
 use bit_vectors::{BitPen, Bits, Flags};
 use count_code::put_count;
@@ -28,7 +28,7 @@ pub(crate) fn put_data(
     requires spare { length spare.old ≡ length input.now }
     requires room { length pen.old.bits + (5 * length input.now + 34) ≤ pen.old.room }
     ensures bits { let places = if wide then or_bits mask.now recent.now else mask.now in
-        pen.new.bits ≡ pen.old.bits ++ data_bits (sent_of flags.f mask.now) (content_of flags.r input.now places) }
+        pen.new.bits ≡ pen.old.bits ++ data_bits (sent_of flags.f mask.now) (sent_content flags.r input.now places) }
     ensures room { pen.new.room ≡ pen.old.room }
     ensures spare { length spare.new ≡ length spare.old }
 {

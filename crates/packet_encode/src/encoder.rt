@@ -5,7 +5,7 @@ ghost use Rattle.bit_vectors.specs.Vectors.{padded};
 ghost use Rattle.mask_update.specs.Histories.{History, flags_after, no_steps};
 ghost use Rattle.packet_encode.specs.Encoder.{StandsFor};
 ghost use Rattle.packet_encode.specs.Forms.{form_bits};
-ghost use Rattle.packet_encode.specs.Packets.{form_at, packet_at, with_input};
+ghost use Rattle.packet_encode.specs.Packets.{form_at, packet_at, with_next_input};
 
 use crate::changes::put_changes;
 use crate::data::put_data;
@@ -82,12 +82,12 @@ impl Encoder {
         requires room { 10 * length input.now + 43 ≤ pen.old.room }
         // Whatever history it stood for, it now stands for that history with this input and these flags, after forcing.
         ensures stands { (h : History) → StandsFor h self.old
-            → StandsFor (with_input h self.old.robust input.now flags) self.new }
+            → StandsFor (with_next_input h self.old.robust input.now flags) self.new }
         // The pen has exactly the bits of the form of its last step, which are, in whole bytes, the packet.
         ensures bits { (h : History) → StandsFor h self.old
-            → pen.new.bits ≡ form_bits (form_at (with_input h self.old.robust input.now flags) (length h.steps)) }
+            → pen.new.bits ≡ form_bits (form_at (with_next_input h self.old.robust input.now flags) (length h.steps)) }
         ensures packet { (h : History) → StandsFor h self.old
-            → padded pen.new.bits ≡ packet_at (with_input h self.old.robust input.now flags) (length h.steps) }
+            → padded pen.new.bits ≡ packet_at (with_next_input h self.old.robust input.now flags) (length h.steps) }
         ensures some { 0 < length pen.new.bits }
         ensures most { length pen.new.bits ≤ 10 * length input.now + 43 }
         ensures room { pen.new.room ≡ pen.old.room }

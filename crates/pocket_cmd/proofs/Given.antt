@@ -9,7 +9,7 @@ use Rattle.std.proofs.lemmas.List.{length-replicate}
 use Rattle.std.proofs.lemmas.List.Sums.{split_at_first, passes_at_first}
 use Rattle.std.proofs.lemmas.Slice.Eq.{bytes_eq-Decides}
 use Rattle.side_tables.specs.Numbers.{is_plain_decimal, number_of}
-use Rattle.pocket_cmd.specs.Words.{Value, Named, Numbered, Entry, entry_of, entry_with, read_as, numbered, is_equals_sign, key_kind, value_of, value_unless, first_faulty, verb_of, place_of, Plain, Assigns}
+use Rattle.pocket_cmd.specs.Words.{Value, Named, Numbered, WordEntry, entry_of, entry_with, read_as, numbered, is_equals_sign, key_kind, value_of, value_unless, first_faulty, verb_of, place_of, Plain, Assigns}
 use Rattle.pocket_cmd.specs.Command.{CompressValues, PlayValues, RestoreValues, Command, Compress, Play, Restore, names_of, AreRight, AreGiven, IsRight, compress_values, play_values, restore_values, with_values, with_verb, unless_faulty, command_of, name_in, number_in, text_in, name_given, number_given, mask_given, ◌>>=◌}
 use Rattle.pocket_cmd.specs.Masks.{mask_of}
 use Rattle.pocket_cmd.proofs.Masks.{length-mask_of}
@@ -34,18 +34,18 @@ split_joined word h =
     let sign : get_or word (position_or_len is_equals_sign word) 0 ≡ 61 = eqb-true _ _ (passes_at_first is_equals_sign word 0 h) in
     split_at_first is_equals_sign word 0 h ∙ ap (λ c. before_first is_equals_sign word ++ c ∷ after_first is_equals_sign word) sign
 
-entry_parts : (b : Bool) (key : List ℕ) (value : Option Value) (entry : Entry) → cond b (entry_with key value) None ≡ Some entry → (b ≡ true) × (key ≡ entry.key) × (value ≡ Some entry.value)
-entry_parts true key (Some value) entry e = let same : record { key = key; value = value } ≡ entry = cc in (refl, ap (λ (x : Entry). x.key) same, ap (λ (x : Entry). Some x.value) same)
+entry_parts : (b : Bool) (key : List ℕ) (value : Option Value) (entry : WordEntry) → cond b (entry_with key value) None ≡ Some entry → (b ≡ true) × (key ≡ entry.key) × (value ≡ Some entry.value)
+entry_parts true key (Some value) entry e = let same : record { key = key; value = value } ≡ entry = cc in (refl, ap (λ (x : WordEntry). x.key) same, ap (λ (x : WordEntry). Some x.value) same)
 entry_parts true key None entry e = absurd cc
 entry_parts false key value entry e = absurd cc
 
 -- a word is what stands before its first `=`, that `=`, and the text behind it, which its key reads as its value
-record IsEntry (v : Verb) (word : List ℕ) (entry : Entry) : Type 0 where
+record IsEntry (v : Verb) (word : List ℕ) (entry : WordEntry) : Type 0 where
   text : List ℕ
   joined : word ≡ entry.key ++ 61 ∷ text
   read : read_as (key_kind v entry.key) text ≡ Some entry.value
 
-entry_is : (v : Verb) (word : List ℕ) (entry : Entry) → entry_of v word ≡ Some entry → IsEntry v word entry
+entry_is : (v : Verb) (word : List ℕ) (entry : WordEntry) → entry_of v word ≡ Some entry → IsEntry v word entry
 entry_is v word entry e =
     let parts = entry_parts (nat_lt (position_or_len is_equals_sign word) (length word)) (before_first is_equals_sign word) (read_as (key_kind v (before_first is_equals_sign word)) (after_first is_equals_sign word)) entry e in
     record {
@@ -71,7 +71,7 @@ record IsFound (v : Verb) (words : List (List ℕ)) (key : List ℕ) (value : Va
 IsFound-later : (v : Verb) (word : List ℕ) (words : List (List ℕ)) (key : List ℕ) (value : Value) → IsFound v words key value → IsFound v (word ∷ words) key value
 IsFound-later v word words key value f = record { text = f.text; among = later word words (key ++ 61 ∷ f.text) f.among; read = f.read }
 
-IsFound-here : (v : Verb) (word : List ℕ) (words : List (List ℕ)) (key : List ℕ) (entry : Entry) → entry.key ≡ key → IsEntry v word entry → IsFound v (word ∷ words) key entry.value
+IsFound-here : (v : Verb) (word : List ℕ) (words : List (List ℕ)) (key : List ℕ) (entry : WordEntry) → entry.key ≡ key → IsEntry v word entry → IsFound v (word ∷ words) key entry.value
 IsFound-here v word words key entry same is = record {
   text = is.text;
   among = (0, omega arith, is.joined ∙ ap (λ k. k ++ 61 ∷ is.text) same);
@@ -82,11 +82,11 @@ IsFound-here v word words key entry same is = record {
 found : (v : Verb) (words : List (List ℕ)) (key : List ℕ) (value : Value) → value_of v words key ≡ Some value → IsFound v words key value
 found v [] key value e = absurd cc
 found v (word ∷ words) key value e = from_entry (λ h. IsFound-later v word words key value (found v words key value h)) (entry_of v word) refl e where
-  from_test : (value_of v words key ≡ Some value → IsFound v (word ∷ words) key value) → (entry : Entry) (b : Bool) → bytes_eq entry.key key ≡ b → entry_of v word ≡ Some entry → cond b (Some entry.value) (value_of v words key) ≡ Some value → IsFound v (word ∷ words) key value
+  from_test : (value_of v words key ≡ Some value → IsFound v (word ∷ words) key value) → (entry : WordEntry) (b : Bool) → bytes_eq entry.key key ≡ b → entry_of v word ≡ Some entry → cond b (Some entry.value) (value_of v words key) ≡ Some value → IsFound v (word ∷ words) key value
   from_test behind entry true same at e = subst (IsFound v (word ∷ words) key) (same_some e) (IsFound-here v word words key entry ((bytes_eq-Decides entry.key key).0 same) (entry_is v word entry at))
   from_test behind entry false same at e = behind e
 
-  from_entry : (value_of v words key ≡ Some value → IsFound v (word ∷ words) key value) → (o : Option Entry) → entry_of v word ≡ o → value_unless key o (value_of v words key) ≡ Some value → IsFound v (word ∷ words) key value
+  from_entry : (value_of v words key ≡ Some value → IsFound v (word ∷ words) key value) → (o : Option WordEntry) → entry_of v word ≡ o → value_unless key o (value_of v words key) ≡ Some value → IsFound v (word ∷ words) key value
   from_entry behind None at e = behind e
   from_entry behind (Some entry) at e = from_test behind entry (bytes_eq entry.key key) refl at e
 

@@ -5,13 +5,13 @@ use Rattle.std.specs.Option.{option_map}
 use Rattle.std.specs.List.{list_any}
 use Rattle.std.proofs.lemmas.Bool.Decides.{nat_tests}
 use Rattle.std.proofs.lemmas.List.{length-take-le}
-use Rattle.bit_vectors.specs.Vectors.{bits_of, byte_count}
+use Rattle.bit_vectors.specs.Vectors.{bits_of, byte_count, has_spare_bit}
 use Rattle.bit_vectors.proofs.ByteBits.{length-bits_of}
 use Rattle.hex.specs.Hex.{decode_sized, decode_pairs}
 use Rattle.hex.specs.declared.error.FromHexError.{FromHexError}
 use Rattle.hex.specs.declared.error.FromHexError.TheVariants.{OddLength, InvalidStringLength}
 use Rattle.hex.proofs.HexLemmas.{decode_pairs-ok}
-use Rattle.pocket_cmd.specs.Masks.{has_spare_bit, unless_spare, mask_bytes, mask_of}
+use Rattle.pocket_cmd.specs.Masks.{unless_spare, mask_bytes, mask_of}
 
 abbrev pub one_of : List Bool → Bool
 one_of bits = list_any (λ bit. bit) bits

@@ -1,14 +1,9 @@
 -- The first mask, as hexadecimal digits say it.
-use Rattle.std.specs.Prelude.{ℕ, Bool, true, false, if◌then◌else◌, List, take, drop, replicate, Option, Some, None, Result, Ok, Err, unwrap_or, is_some}
+use Rattle.std.specs.Prelude.{ℕ, Bool, true, false, if◌then◌else◌, List, take, replicate, Option, Some, None, Result, Ok, Err, unwrap_or, is_some}
 use Rattle.std.specs.Option.{option_map}
-use Rattle.std.specs.List.{list_any}
-use Rattle.bit_vectors.specs.Vectors.{bits_of, byte_count}
+use Rattle.bit_vectors.specs.Vectors.{bits_of, byte_count, has_spare_bit}
 use Rattle.hex.specs.Hex.{decode_sized}
 use Rattle.hex.specs.declared.error.FromHexError.{FromHexError}
-
--- whether a bit that belongs to no place is one, where a vector has f places
-abbrev pub has_spare_bit : ℕ → List ℕ → Bool
-has_spare_bit f bytes = list_any (λ bit. bit) (drop f (bits_of bytes))
 
 abbrev pub unless_spare : ℕ → Result (List ℕ) FromHexError → Option (List ℕ)
 unless_spare f (Err error) = None

@@ -8,8 +8,8 @@ use Rattle.desk_ports.specs.declared.desk.Outlet.TheVariants as outlet
 use Rattle.pocket_cmd.specs.declared.opening.Names.{Names as Held}
 use Rattle.pocket_cmd.specs.declared.opening.Unopened.{Unopened}
 use Rattle.pocket_cmd.specs.declared.opening.Unopened.TheVariants as unopened
-use Rattle.pocket_cmd.specs.declared.side.Unread.{Unread}
-use Rattle.pocket_cmd.specs.declared.side.Unread.TheVariants as unread
+use Rattle.pocket_cmd.specs.declared.side.TextFault.{TextFault}
+use Rattle.pocket_cmd.specs.declared.side.TextFault.TheVariants as unread
 use Rattle.pocket_cmd.specs.Command.{Names}
 
 abbrev pub view_names : Held → Names
@@ -59,7 +59,7 @@ KeepsAll None old new = new ≡ old
 KeepsAll (Some name) old new = new ≡ record old { side = new.side }
 
 -- why a side input was not read: reading failed, and otherwise both counts are as before
-abbrev pub HasSideCause : {T : Type 0} → Counts → Counts → Result T Unread → Type 0
+abbrev pub HasSideCause : {T : Type 0} → Counts → Counts → Result T TextFault → Type 0
 HasSideCause old new (Ok text) = new ≡ old
 HasSideCause old new (Err unread.TooLong) = new ≡ old
 HasSideCause old new (Err unread.ReadFault) = FailsToRead old new

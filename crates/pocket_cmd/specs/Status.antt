@@ -7,8 +7,8 @@ use Rattle.side_tables.specs.declared.fault.SideFault.{SideFault}
 use Rattle.side_tables.specs.declared.fault.SideFault.TheVariants as table
 use Rattle.pocket_cmd.specs.declared.fault.DataFault.{DataFault}
 use Rattle.pocket_cmd.specs.declared.fault.DataFault.TheVariants as fault
-use Rattle.pocket_cmd.specs.declared.side.Unread.{Unread}
-use Rattle.pocket_cmd.specs.declared.side.Unread.TheVariants as unread
+use Rattle.pocket_cmd.specs.declared.side.TextFault.{TextFault}
+use Rattle.pocket_cmd.specs.declared.side.TextFault.TheVariants as unread
 use Rattle.pocket_cmd.specs.declared.status.Status.{Status}
 use Rattle.pocket_cmd.specs.declared.status.Status.TheVariants.{Done, Refused}
 use Rattle.pocket_cmd.specs.declared.status.Refusal.{Refusal}
@@ -32,7 +32,7 @@ refused_by (Ok done) = Ok done
 refused_by (Err stop) = Err (refusal_by stop)
 
 -- the refusal where a side input was not read, and where its text is no table
-abbrev pub refusal_at : Unread → Refusal
+abbrev pub refusal_at : TextFault → Refusal
 refusal_at unread.TooLong = SideTooLong
 refusal_at unread.ReadFault = ReadFault
 refusal_at unread.NoMemory = NoMemory

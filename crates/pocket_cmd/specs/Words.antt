@@ -11,7 +11,7 @@ use Rattle.pocket_cmd.specs.declared.words.KeyKind.{KeyKind}
 use Rattle.pocket_cmd.specs.declared.words.KeyKind.TheVariants.{Name, Number, Text}
 use Rattle.pocket_cmd.specs.declared.words.Value.{Value as HeldValue}
 use Rattle.pocket_cmd.specs.declared.words.Value.TheVariants as held
-use Rattle.pocket_cmd.specs.declared.words.Entry.{Entry as Held}
+use Rattle.pocket_cmd.specs.declared.words.WordEntry.{WordEntry as HeldEntry}
 
 -- the verb that a word names
 abbrev pub verb_of : List ℕ → Option Verb
@@ -89,14 +89,14 @@ read_value (Number low high) text = numbered (number_of low high text)
 read_value Text text = Some (Plain text)
 
 -- a word's key and its value
-pub record Entry : Type 0 where
+pub record WordEntry : Type 0 where
   pub key : List ℕ
   pub value : Value
 
-abbrev pub view_entry : Held → Entry
+abbrev pub view_entry : HeldEntry → WordEntry
 view_entry e = record { key = e.key.now; value = view_value e.value }
 
-abbrev pub entry_with : List ℕ → Option Value → Option Entry
+abbrev pub entry_with : List ℕ → Option Value → Option WordEntry
 entry_with key None = None
 entry_with key (Some value) = Some (record { key = key; value = value })
 
@@ -108,7 +108,7 @@ abbrev pub is_equals_sign : ℕ → Bool
 is_equals_sign c = c == 61
 
 -- a word split at its first `=`, where its key is one of the verb's and has this value
-abbrev pub entry_of : Verb → List ℕ → Option Entry
+abbrev pub entry_of : Verb → List ℕ → Option WordEntry
 entry_of verb word =
     if nat_lt (position_or_len is_equals_sign word) (length word)
     then entry_with (before_first is_equals_sign word) (read_as (key_kind verb (before_first is_equals_sign word)) (after_first is_equals_sign word))
@@ -129,14 +129,14 @@ meet (Numbered n) other = false
 meet (Plain text) other = false
 
 -- two words can't stand together: one key, or one name
-abbrev pub clash : Entry → Entry → Bool
+abbrev pub clash : WordEntry → WordEntry → Bool
 clash one other = bytes_eq one.key other.key || meet one.value other.value
 
-abbrev pub clash_with_some : Entry → Option Entry → Bool
+abbrev pub clash_with_some : WordEntry → Option WordEntry → Bool
 clash_with_some one None = false
 clash_with_some one (Some other) = clash one other
 
-abbrev pub is_faulty_entry : Verb → List (List ℕ) → Option Entry → Bool
+abbrev pub is_faulty_entry : Verb → List (List ℕ) → Option WordEntry → Bool
 is_faulty_entry verb earlier None = true
 is_faulty_entry verb earlier (Some entry) = list_any (λ word. clash_with_some entry (entry_of verb word)) earlier
 
@@ -148,7 +148,7 @@ is_faulty verb earlier word = is_faulty_entry verb earlier (entry_of verb word)
 abbrev pub first_faulty : Verb → List (List ℕ) → Option ℕ
 first_faulty verb words = find (λ i. is_faulty verb (take i words) (slice_index_or words i [])) (range_with_len 0 (length words))
 
-abbrev pub value_unless : List ℕ → Option Entry → Option Value → Option Value
+abbrev pub value_unless : List ℕ → Option WordEntry → Option Value → Option Value
 value_unless key None rest = rest
 value_unless key (Some entry) rest = if bytes_eq entry.key key then Some entry.value else rest
 
@@ -157,7 +157,7 @@ abbrev pub value_of : Verb → List (List ℕ) → List ℕ → Option Value
 value_of verb [] key = None
 value_of verb (word ∷ words) key = value_unless key (entry_of verb word) (value_of verb words key)
 
-abbrev pub has_key : List ℕ → Option Entry → Bool
+abbrev pub has_key : List ℕ → Option WordEntry → Bool
 has_key key None = false
 has_key key (Some entry) = bytes_eq entry.key key
 

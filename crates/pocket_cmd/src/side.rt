@@ -2,7 +2,7 @@
 ghost use Rattle.std.specs.Prelude.{◌≡◌, ◌≤◌, ◌<◌, length, take, Some, Err, IsTrue, IfSome, IfOk, OnOk, OnErr};
 ghost use Rattle.std.specs.Option.{option_map};
 ghost use Rattle.desk_ports.specs.Meanings.{HasReadCause};
-ghost use Rattle.pocket_cmd.specs.declared.side.Unread.TheVariants as unread;
+ghost use Rattle.pocket_cmd.specs.declared.side.TextFault.TheVariants as unread;
 ghost use Rattle.pocket_cmd.specs.Openings.{IsSideText, IsSideLong, HasSideBytes, KeepsAll, HasSideCause, with_side};
 
 use desk_ports::{Desk, Failed, Inlet, fill};
@@ -13,26 +13,26 @@ const MOST_BYTES: usize = 1_048_576;
 
 /// Why a text is not read.
 #[derive(Clone, Copy, Debug, PartialEq, Eq)]
-pub enum Unread {
+pub enum TextFault {
     /// It has more than 1,048,576 bytes.
     TooLong,
     ReadFault,
     NoMemory,
 }
 
-impl From<Failed> for Unread {
+impl From<Failed> for TextFault {
     ghost from_gives = { λ _ e. e ≡ unread.ReadFault };
 
-    fn from(_failed: Failed) -> Unread {
-        Unread::ReadFault
+    fn from(_failed: Failed) -> TextFault {
+        TextFault::ReadFault
     }
 }
 
-impl From<AllocError> for Unread {
+impl From<AllocError> for TextFault {
     ghost from_gives = { λ _ e. e ≡ unread.NoMemory };
 
-    fn from(_refused: AllocError) -> Unread {
-        Unread::NoMemory
+    fn from(_refused: AllocError) -> TextFault {
+        TextFault::NoMemory
     }
 }
 
@@ -41,7 +41,7 @@ pub fn side_text<D: Desk>(
     alloc: Global,
     desk: &mut D,
     name: Option<&str>,
-) -> Result<Vec<u8>, Unread>
+) -> Result<Vec<u8>, TextFault>
     requires { IfSome name (λ name. IsTrue ((D.meaning desk.old).grants_in name.now)) }
     ensures text { let side = option_map (λ name. name.now) name.entry in
         IfOk result (λ text. IsSideText (D.meaning desk.old) side text.items) }
@@ -61,7 +61,7 @@ pub fn side_text<D: Desk>(
 }
 
 /// The text of the side input of this name.
-fn text_of<D: Desk>(alloc: Global, desk: &mut D, name: &str) -> Result<Vec<u8>, Unread>
+fn text_of<D: Desk>(alloc: Global, desk: &mut D, name: &str) -> Result<Vec<u8>, TextFault>
     requires { IsTrue ((D.meaning desk.old).grants_in name.now) }
     ensures text { IfOk result (λ text. IsSideText (D.meaning desk.old) (Some name.now) text.items) }
     ensures read { OnOk result (D.meaning desk.new ≡ with_side (D.meaning desk.old) (Some name.now)) }
@@ -73,7 +73,7 @@ fn text_of<D: Desk>(alloc: Global, desk: &mut D, name: &str) -> Result<Vec<u8>, 
     let mut text = room(alloc)?;
     let moved = read_side(desk, name, &mut text)?;
     if moved > MOST_BYTES {
-        return Err(Unread::TooLong);
+        return Err(TextFault::TooLong);
     }
     text.truncate(moved);
     Ok(text)

@@ -3,7 +3,7 @@ ghost use Rattle.std.specs.Prelude.{◌≡◌};
 ghost use Rattle.pocket_cmd.specs.Status.{exit_number, refusal_at, refusal_by, refusal_in, refusal_of, status_by};
 
 use crate::fault::DataFault;
-use crate::side::Unread;
+use crate::side::TextFault;
 use desk_ports::Stop;
 use packet_store::StoreKind;
 use side_tables::SideFault;
@@ -44,14 +44,14 @@ pub enum Refusal {
     NoMemory,
 }
 
-impl From<Unread> for Refusal {
+impl From<TextFault> for Refusal {
     ghost from_gives = { λ u e. e ≡ refusal_at u };
 
-    fn from(unread: Unread) -> Refusal {
-        match unread {
-            Unread::TooLong => Refusal::SideTooLong,
-            Unread::ReadFault => Refusal::ReadFault,
-            Unread::NoMemory => Refusal::NoMemory,
+    fn from(fault: TextFault) -> Refusal {
+        match fault {
+            TextFault::TooLong => Refusal::SideTooLong,
+            TextFault::ReadFault => Refusal::ReadFault,
+            TextFault::NoMemory => Refusal::NoMemory,
         }
     }
 }

@@ -60,7 +60,7 @@ pub enum Value<'a> {
 
 /// A word `key=value` whose key is one of the verb's, with a value of that key.
 #[derive(Clone, Copy, Debug)]
-pub struct Entry<'a> {
+pub struct WordEntry<'a> {
     pub key: &'a str,
     pub value: Value<'a>,
 }
@@ -147,13 +147,13 @@ fn name(direction: Direction, text: &str) -> Option<Value<'_>>
 }
 
 /// A word split at its first `=`, where its key is one of the verb's and has this value.
-fn entry_of(verb: Verb, word: &str) -> Option<Entry<'_>>
+fn entry_of(verb: Verb, word: &str) -> Option<WordEntry<'_>>
     ensures { option_map view_entry result ≡ entry_of verb word.now }
 {
     let (key, text) = word.split_once('=')?;
     let kind = key_kind(verb, key)?;
     let value = read_value(kind, text)?;
-    Some(Entry { key, value })
+    Some(WordEntry { key, value })
 }
 
 /// Whether two values are one name that can't stand twice: any but the two standard streams.
@@ -169,14 +169,14 @@ fn meet(one: &Value<'_>, other: &Value<'_>) -> bool
 }
 
 /// Whether two words can't stand together: they have one key, or one name that is no stream of its own.
-fn clash(one: &Entry<'_>, other: &Entry<'_>) -> bool
+fn clash(one: &WordEntry<'_>, other: &WordEntry<'_>) -> bool
     ensures { result ≡ clash (view_entry one.now) (view_entry other.now) }
 {
     one.key == other.key || meet(&one.value, &other.value)
 }
 
 /// Whether a word can't stand beside this one.
-fn clashes_with(entry: &Entry<'_>, verb: Verb, word: &str) -> bool
+fn clashes_with(entry: &WordEntry<'_>, verb: Verb, word: &str) -> bool
     ensures { result ≡ clash_with_some (view_entry entry.now) (entry_of verb word.now) }
 {
     match entry_of(verb, word) {
@@ -186,7 +186,7 @@ fn clashes_with(entry: &Entry<'_>, verb: Verb, word: &str) -> bool
 }
 
 /// Whether some of the words can't stand beside this one.
-fn clashes_with_any(entry: &Entry<'_>, verb: Verb, words: &[String]) -> bool
+fn clashes_with_any(entry: &WordEntry<'_>, verb: Verb, words: &[String]) -> bool
     ensures { result ≡ list_any (λ word. clash_with_some (view_entry entry.now) (entry_of verb word)) (map string_bytes words.now) }
 {
     for word in words {

@@ -9,7 +9,7 @@ use Rattle.circular_buffer.specs.Buffer.{keep_last}
 use Rattle.mask_update.specs.Masks.{vector_of}
 use Rattle.mask_update.proofs.StepByStep.{vector_of_same}
 use Rattle.robust_window.specs.Changes.{IsQuiet, MaskStep, changes_place, latest_change, level_of, mask_step, most_level, no_mask_step, recent_of, steps_from, takes_new_mask, twice_of}
-use Rattle.robust_window.specs.Window.{HoldsLatest, Kept, StandsFor, change_back, new_mask_back}
+use Rattle.robust_window.specs.Window.{HoldsLatest, WindowState, StandsFor, change_back, new_mask_back}
 use Rattle.robust_window.proofs.Levels.{is_quiet-one, is_quiet-zeros, level_of-is}
 use Rattle.robust_window.proofs.Ranges.{any_back, count_back}
 use Rattle.robust_window.proofs.Scanning.{gathered}
@@ -87,7 +87,7 @@ unfolding twice_of
 twice_of-is steps t level level_is = ap (λ v. nat_le 2 (count_by (takes_new_mask steps) (steps_from (t - v) (t + 1)))) (sym level_is)
 
 -- What the parts of a window are after a step, from those before it.
-pub record Moves (old new : Kept) (step : MaskStep) : Type 0 where
+pub record Moves (old new : WindowState) (step : MaskStep) : Type 0 where
   pub full : length old.changes ≡ 16
   pub flags_full : length old.new_masks ≡ 16
   pub robust_most : step.robust ≤ 7
@@ -104,7 +104,7 @@ pub record Moves (old new : Kept) (step : MaskStep) : Type 0 where
   pub twice : new.twice ≡ nat_le 2 (count_by (new_mask_back new.new_masks) (range_with_len 0 (new.level + 1)))
   pub taken : new.taken ≡ old.taken + 1
 
-pub StandsFor-next : (steps : List MaskStep) (step : MaskStep) (old new : Kept) → StandsFor steps old → Moves old new step → StandsFor (steps ++ step ∷ []) new
+pub StandsFor-next : (steps : List MaskStep) (step : MaskStep) (old new : WindowState) → StandsFor steps old → Moves old new step → StandsFor (steps ++ step ∷ []) new
 StandsFor-next steps step old new stands moves =
     record {
       changes =

@@ -6,7 +6,7 @@ use Rattle.robust_window.specs.Changes.{MaskStep, IsQuiet, latest_change, mask_s
 
 -- The latest sixteen changes and new-mask flags, the oldest first; the values at the latest step; the required
 -- robustness of the next; and how many steps were taken.
-pub record Kept : Type 0 where
+pub record WindowState : Type 0 where
   pub changes : List (List Bool)
   pub new_masks : List Bool
   pub recent : List Bool
@@ -35,7 +35,7 @@ abbrev pub HoldsNewMasks : List MaskStep → List Bool → Type 0
 HoldsNewMasks steps new_masks = HoldsLatest (new_mask_back new_masks) (takes_new_mask steps) false (length steps)
 
 -- What the window keeps is what these steps give at the latest one.
-pub record StandsFor (steps : List MaskStep) (value : Kept) : Type 0 where
+pub record StandsFor (steps : List MaskStep) (value : WindowState) : Type 0 where
   pub changes : HoldsChanges steps value.changes (length value.recent)
   pub new_masks : HoldsNewMasks steps value.new_masks
   pub first : IsQuiet steps 0

@@ -27,9 +27,9 @@ pub struct Window {
 }
 
 impl Model for Window {
-    ghost use Rattle.robust_window.specs.Window.{Kept, IsWindow};
+    ghost use Rattle.robust_window.specs.Window.{WindowState, IsWindow};
 
-    ghost Value = { Kept };
+    ghost Value = { WindowState };
 
     ghost view = { λ w. record {
       changes = w.changes.items;

@@ -6,40 +6,40 @@ use Rattle.std.proofs.lemmas.List.{length-set, length-replicate, get_or-set_same
 use Rattle.bit_vectors.specs.declared.fault.BitFault.{BitFault}
 use Rattle.bit_vectors.specs.Vectors.{NoneIsOne}
 use Rattle.bit_vectors.specs.Eye.{EyeState, bits_left}
-use Rattle.bit_vectors.specs.Reading.{Reading, Read, Gives, IsExact}
+use Rattle.bit_vectors.specs.Reading.{Parsed, Read, Gives, IsExact}
 use Rattle.bit_vectors.proofs.ExactReading.{IsWordThen, IsExact-give, IsExact-same, IsExact-then}
 use Rattle.bit_vectors.proofs.EyeReading.{Gives-then_err, only_read}
 use Rattle.count_code.specs.declared.count.Count.{Count}
 use Rattle.count_code.specs.declared.count.Count.TheVariants.{Value, End}
 use Rattle.count_code.specs.Code.{count_bits, end_bits}
-use Rattle.count_code.specs.Counts.{IsCodeOf, count_at}
+use Rattle.count_code.specs.Counts.{IsCodeOf, parse_count}
 use Rattle.count_code.proofs.ExactCounts.{IsExact-count_at}
-use Rattle.run_code.specs.Runs.{runs_from, run_bits, IsRunWordOf, at_count, ones_at, vector_at}
+use Rattle.run_code.specs.Runs.{runs_from, run_bits, IsRunWordOf, at_count, parse_ones, parse_vector}
 use Rattle.run_code.proofs.Ones.{zeros_at, ones_below, ones_below-one, ones_below-none, greatest_one}
 use Rattle.run_code.proofs.RunWords.{run_bits_is, runs_from-cons, runs_from-nil}
 
 -- ---- steps of the reader
 
-pub ones_at-value : (most below : ℕ) (v bits : List Bool) (a : ℕ) (rest : List Bool) → below < most → 1 ≤ a → a ≤ below → count_at below bits ≡ Read (Value a) rest
-    → (m : ℕ) × (below - a < m) × (ones_at most below v bits ≡ ones_at m (below - a) (set v (below - a) true) rest)
-unfolding ones_at
-ones_at-value zero below v bits a rest lt some le read = absurd (omega arith)
-ones_at-value (suc most) below v bits a rest lt some le read = (most, omega arith, rw read refl)
+pub parse_ones-value : (most below : ℕ) (v bits : List Bool) (a : ℕ) (rest : List Bool) → below < most → 1 ≤ a → a ≤ below → parse_count below bits ≡ Read (Value a) rest
+    → (m : ℕ) × (below - a < m) × (parse_ones most below v bits ≡ parse_ones m (below - a) (set v (below - a) true) rest)
+unfolding parse_ones
+parse_ones-value zero below v bits a rest lt some le read = absurd (omega arith)
+parse_ones-value (suc most) below v bits a rest lt some le read = (most, omega arith, rw read refl)
 
-pub ones_at-end : (most below : ℕ) (v bits rest : List Bool) → below < most → count_at below bits ≡ Read End rest → ones_at most below v bits ≡ Read v rest
-unfolding ones_at
-ones_at-end zero below v bits rest lt read = absurd (omega arith)
-ones_at-end (suc most) below v bits rest lt read = rw read refl
+pub parse_ones-end : (most below : ℕ) (v bits rest : List Bool) → below < most → parse_count below bits ≡ Read End rest → parse_ones most below v bits ≡ Read v rest
+unfolding parse_ones
+parse_ones-end zero below v bits rest lt read = absurd (omega arith)
+parse_ones-end (suc most) below v bits rest lt read = rw read refl
 
-pub ones_at-fault : {A : Type 0} (see : A → List Bool) (most below : ℕ) (v bits : List Bool) (fault : BitFault) (new : EyeState) → below < most
-    → Gives (λ (count : Count). count) (Err fault) new (count_at below bits) → Gives see (Err fault) new (ones_at most below v bits)
-unfolding ones_at
-ones_at-fault see zero below v bits fault new lt given = absurd (omega arith)
-ones_at-fault see (suc most) below v bits fault new lt given =
-    Gives-then_err (λ (count : Count). count) see fault new (count_at below bits) (λ count rest. at_count count (λ a. ones_at most (below - a) (set v (below - a) true) rest) (Read v rest)) given
+pub parse_ones-fault : {A : Type 0} (see : A → List Bool) (most below : ℕ) (v bits : List Bool) (fault : BitFault) (new : EyeState) → below < most
+    → Gives (λ (count : Count). count) (Err fault) new (parse_count below bits) → Gives see (Err fault) new (parse_ones most below v bits)
+unfolding parse_ones
+parse_ones-fault see zero below v bits fault new lt given = absurd (omega arith)
+parse_ones-fault see (suc most) below v bits fault new lt given =
+    Gives-then_err (λ (count : Count). count) see fault new (parse_count below bits) (λ count rest. at_count count (λ a. parse_ones most (below - a) (set v (below - a) true) rest) (Read v rest)) given
 
-pub vector_at_is : (f : ℕ) (bits : List Bool) → vector_at f bits ≡ ones_at (suc f) f (replicate f false) bits
-unfolding vector_at
+pub vector_at_is : (f : ℕ) (bits : List Bool) → parse_vector f bits ≡ parse_ones (suc f) f (replicate f false) bits
+unfolding parse_vector
 vector_at_is f bits = refl
 
 -- ---- words
@@ -127,19 +127,19 @@ none_after_set below v a none k from to =
     get_or-set_other v (below - a) k true false ne ∙ none k from (omega arith)
 
 -- reading on after a count
-rest_exact : (most below : ℕ) (v : List Bool) → ((a : ℕ) → 1 ≤ a → a ≤ below → IsExact (Completes (below - a) (set v (below - a) true)) (ones_at most (below - a) (set v (below - a) true)))
-    → (count : Count) (first : List Bool) → IsCodeOf below count first → IsExact (IsRest below v count) (λ rest. at_count count (λ a. ones_at most (below - a) (set v (below - a) true) rest) (Read v rest))
+rest_exact : (most below : ℕ) (v : List Bool) → ((a : ℕ) → 1 ≤ a → a ≤ below → IsExact (Completes (below - a) (set v (below - a) true)) (parse_ones most (below - a) (set v (below - a) true)))
+    → (count : Count) (first : List Bool) → IsCodeOf below count first → IsExact (IsRest below v count) (λ rest. at_count count (λ a. parse_ones most (below - a) (set v (below - a) true) rest) (Read v rest))
 rest_exact most below v later (Value a) first code = later a code.0.0 code.0.1
 rest_exact most below v later End first code = IsExact-give v
 
-IsExact-ones_at : (most below : ℕ) (v : List Bool) → below < most → below ≤ length v → NoneIsOne v 0 below → IsExact (Completes below v) (ones_at most below v)
-unfolding ones_at
+IsExact-ones_at : (most below : ℕ) (v : List Bool) → below < most → below ≤ length v → NoneIsOne v 0 below → IsExact (Completes below v) (parse_ones most below v)
+unfolding parse_ones
 IsExact-ones_at zero below v lt fits none = absurd (omega arith)
 IsExact-ones_at (suc most) below v lt fits none =
-    IsExact-same (IsWordThen (IsCodeOf below) (IsRest below v)) (Completes below v) (ones_at (suc most) below v)
+    IsExact-same (IsWordThen (IsCodeOf below) (IsRest below v)) (Completes below v) (parse_ones (suc most) below v)
     (λ u word w. joined below v fits none u word w.0 w.1 w.2 w.3 w.4 w.5)
     (apart below v fits none)
-    (IsExact-then (IsCodeOf below) (IsRest below v) (count_at below) (λ count rest. at_count count (λ a. ones_at most (below - a) (set v (below - a) true) rest) (Read v rest))
+    (IsExact-then (IsCodeOf below) (IsRest below v) (parse_count below) (λ count rest. at_count count (λ a. parse_ones most (below - a) (set v (below - a) true) rest) (Read v rest))
     (IsExact-count_at below)
     (rest_exact most below v (λ a some le. IsExact-ones_at most (below - a) (set v (below - a) true) (omega arith) (omega (arith, length-set v (below - a) true)) (none_after_set below v a none)))
     (λ count first code. some_rest below v count))
@@ -156,31 +156,31 @@ completes f u word w = record {
   is = w.1 ∙ rw w.0 at (run_bits_is u);
 }
 
-pub IsExact-vector_at : (f : ℕ) → IsExact (IsRunWordOf f) (vector_at f)
-unfolding vector_at
+pub IsExact-vector_at : (f : ℕ) → IsExact (IsRunWordOf f) (parse_vector f)
+unfolding parse_vector
 IsExact-vector_at f =
-    IsExact-same (Completes f (replicate f false)) (IsRunWordOf f) (vector_at f) (run_word_of f) (completes f)
+    IsExact-same (Completes f (replicate f false)) (IsRunWordOf f) (parse_vector f) (run_word_of f) (completes f)
     (IsExact-ones_at (suc f) f (replicate f false) (omega arith) (omega (arith, length-replicate f false)) (λ k from to. zeros_at f k))
 
 -- ---- no word begins another
 
-same_read : (a b r s : List Bool) → ◌≡◌ {A = Reading (List Bool)} (Read a r) (Read b s) → (a ≡ b) × (r ≡ s)
+same_read : (a b r s : List Bool) → ◌≡◌ {A = Parsed (List Bool)} (Read a r) (Read b s) → (a ≡ b) × (r ≡ s)
 same_read a b r s e = (cc, cc)
 
 pub one_run_word : (a b rest others : List Bool) → length a ≡ length b → run_bits a ++ rest ≡ run_bits b ++ others → (a ≡ b) × (rest ≡ others)
 one_run_word a b rest others len same =
     let exact = IsExact-vector_at (length a) in
-    same_read a b rest others (sym (exact.reads a (run_bits a) rest (refl, refl)) ∙ ap (vector_at (length a)) same ∙ exact.reads b (run_bits b) others (sym len, refl))
+    same_read a b rest others (sym (exact.reads a (run_bits a) rest (refl, refl)) ∙ ap (parse_vector (length a)) same ∙ exact.reads b (run_bits b) others (sym len, refl))
 
 -- ---- what a reading says
 
-pub run_taken : (f : ℕ) (v : List Bool) (old new : EyeState) (result : Result (Unit {0}) BitFault) → Gives (λ (u : Unit {0}). v) result new (vector_at f (bits_left old)) → OnOk result (bits_left old ≡ run_bits v ++ bits_left new)
+pub run_taken : (f : ℕ) (v : List Bool) (old new : EyeState) (result : Result (Unit {0}) BitFault) → Gives (λ (u : Unit {0}). v) result new (parse_vector f (bits_left old)) → OnOk result (bits_left old ≡ run_bits v ++ bits_left new)
 run_taken f v old new (Ok u) given =
     let r = (IsExact-vector_at f).read_is (bits_left old) v (bits_left new) given in
     r.2 ∙ ap (λ (w : List Bool). w ++ bits_left new) r.1.1
 run_taken f v old new (Err fault) given = tt
 
 -- a reading that gives a value is an answer Ok
-pub run_only : (f : ℕ) (v : List Bool) (old new : EyeState) (result : Result (Unit {0}) BitFault) → Gives (λ (u : Unit {0}). v) result new (vector_at f (bits_left old))
+pub run_only : (f : ℕ) (v : List Bool) (old new : EyeState) (result : Result (Unit {0}) BitFault) → Gives (λ (u : Unit {0}). v) result new (parse_vector f (bits_left old))
     → (w rest : List Bool) → length w ≡ f → bits_left old ≡ run_bits w ++ rest → IsOk result × (v ≡ w)
-run_only f v old new result given w rest len parts = only_read v w rest new result (vector_at f (bits_left old)) given (ap (vector_at f) parts ∙ (IsExact-vector_at f).reads w (run_bits w) rest (len, refl))
+run_only f v old new result given w rest len parts = only_read v w rest new result (parse_vector f (bits_left old)) given (ap (parse_vector f) parts ∙ (IsExact-vector_at f).reads w (run_bits w) rest (len, refl))

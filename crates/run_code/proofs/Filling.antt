@@ -5,7 +5,7 @@ use Rattle.std.proofs.lemmas.Bool.{cases_eq}
 use Rattle.std.proofs.lemmas.List.{length-set, get_or-set_same, get_or-set_other, ext_get_or}
 use Rattle.bit_vectors.specs.Reading.{Read, WrongBit, TooShort, bit_where, IsExact}
 use Rattle.bit_vectors.proofs.ExactReading.{IsBitWhere, IsWordThen, IsExact-give, IsExact-bit_where, IsExact-same, IsExact-then}
-use Rattle.run_code.specs.Extraction.{bits_at, filled_at}
+use Rattle.run_code.specs.Extraction.{bits_at, parse_filled}
 use Rattle.run_code.proofs.Ones.{AreApart}
 
 -- only bits at these places differ
@@ -68,49 +68,49 @@ parts_of : (place : ℕ) (places : List ℕ) (old new word : List Bool) → plac
 parts_of place places old new word lt (only, is) =
     (get_or new place false, get_or new place false ∷ [], bits_at new places, (refl, refl), (OnlyAt-set place places old new lt only, refl), is)
 
-pub IsExact-filled_at : (places : List ℕ) (v : List Bool) → AreApart places (length v) → IsExact (IsFilling places v) (filled_at places v)
-unfolding filled_at
+pub IsExact-filled_at : (places : List ℕ) (v : List Bool) → AreApart places (length v) → IsExact (IsFilling places v) (parse_filled places v)
+unfolding parse_filled
 IsExact-filled_at [] v apart =
     IsExact-same (λ (u : List Bool) (word : List Bool). (u ≡ v) × (word ≡ [])) (IsFilling [] v) (λ (bits : List Bool). Read v bits)
     (λ u word w. (rw w.0 (OnlyAt-refl [] v), w.1)) (λ u word h. (OnlyAt-nil v u h.0, h.1)) (IsExact-give v)
 IsExact-filled_at (place ∷ places) v apart =
-    IsExact-same (IsWordThen (IsBitWhere (λ (bit : Bool). true)) (IsLaterFilling place places v)) (IsFilling (place ∷ places) v) (filled_at (place ∷ places) v)
+    IsExact-same (IsWordThen (IsBitWhere (λ (bit : Bool). true)) (IsLaterFilling place places v)) (IsFilling (place ∷ places) v) (parse_filled (place ∷ places) v)
     (λ u word w. filling_of place places v u word apart.0 apart.1 w)
     (λ u word h. parts_of place places v u word apart.0 h)
-    (IsExact-then (IsBitWhere (λ (bit : Bool). true)) (IsLaterFilling place places v) (bit_where (λ (bit : Bool). true)) (λ (bit : Bool) (rest : List Bool). filled_at places (set v place bit) rest)
+    (IsExact-then (IsBitWhere (λ (bit : Bool). true)) (IsLaterFilling place places v) (bit_where (λ (bit : Bool). true)) (λ (bit : Bool) (rest : List Bool). parse_filled places (set v place bit) rest)
     (IsExact-bit_where (λ (bit : Bool). true) true refl)
     (λ bit word w. IsExact-filled_at places (set v place bit) (AreApart-set places v place bit apart.2))
     (λ bit word w. (set v place bit, bits_at (set v place bit) places, (OnlyAt-refl places (set v place bit), refl))))
 
 -- ---- when the bits suffice
 
-pub filled_at-short : (places : List ℕ) (v bits : List Bool) → filled_at places v bits ≡ TooShort → length bits < length places
-unfolding filled_at
-filled_at-short [] v bits short = absurd cc
-filled_at-short (place ∷ places) v [] short = omega arith
-filled_at-short (place ∷ places) v (bit ∷ bits) short = omega (arith, filled_at-short places (set v place bit) bits short)
+pub parse_filled-short : (places : List ℕ) (v bits : List Bool) → parse_filled places v bits ≡ TooShort → length bits < length places
+unfolding parse_filled
+parse_filled-short [] v bits short = absurd cc
+parse_filled-short (place ∷ places) v [] short = omega arith
+parse_filled-short (place ∷ places) v (bit ∷ bits) short = omega (arith, parse_filled-short places (set v place bit) bits short)
 
-pub filled_at-read : (places : List ℕ) (v bits new rest : List Bool) → filled_at places v bits ≡ Read new rest → length places ≤ length bits
-unfolding filled_at
-filled_at-read [] v bits new rest read = omega arith
-filled_at-read (place ∷ places) v [] new rest read = absurd cc
-filled_at-read (place ∷ places) v (bit ∷ bits) new rest read = omega (arith, filled_at-read places (set v place bit) bits new rest read)
+pub parse_filled-read : (places : List ℕ) (v bits new rest : List Bool) → parse_filled places v bits ≡ Read new rest → length places ≤ length bits
+unfolding parse_filled
+parse_filled-read [] v bits new rest read = omega arith
+parse_filled-read (place ∷ places) v [] new rest read = absurd cc
+parse_filled-read (place ∷ places) v (bit ∷ bits) new rest read = omega (arith, parse_filled-read places (set v place bit) bits new rest read)
 
-pub filled_at-no_wrong : (places : List ℕ) (v bits rest : List Bool) → filled_at places v bits ≡ WrongBit rest → ⊥
-unfolding filled_at
-filled_at-no_wrong [] v bits rest wrong = cc
-filled_at-no_wrong (place ∷ places) v [] rest wrong = cc
-filled_at-no_wrong (place ∷ places) v (bit ∷ bits) rest wrong = filled_at-no_wrong places (set v place bit) bits rest wrong
+pub parse_filled-no_wrong : (places : List ℕ) (v bits rest : List Bool) → parse_filled places v bits ≡ WrongBit rest → ⊥
+unfolding parse_filled
+parse_filled-no_wrong [] v bits rest wrong = cc
+parse_filled-no_wrong (place ∷ places) v [] rest wrong = cc
+parse_filled-no_wrong (place ∷ places) v (bit ∷ bits) rest wrong = parse_filled-no_wrong places (set v place bit) bits rest wrong
 
 -- one bit more
-pub filled_at-more : (place : ℕ) (places : List ℕ) (v bits : List Bool) (bit : Bool) → filled_at (place ∷ places) v (bit ∷ bits) ≡ filled_at places (set v place bit) bits
-unfolding filled_at
-filled_at-more place places v bits bit = refl
+pub parse_filled-more : (place : ℕ) (places : List ℕ) (v bits : List Bool) (bit : Bool) → parse_filled (place ∷ places) v (bit ∷ bits) ≡ parse_filled places (set v place bit) bits
+unfolding parse_filled
+parse_filled-more place places v bits bit = refl
 
-pub filled_at-none : (place : ℕ) (places : List ℕ) (v : List Bool) → filled_at (place ∷ places) v [] ≡ TooShort
-unfolding filled_at
-filled_at-none place places v = refl
+pub parse_filled-none : (place : ℕ) (places : List ℕ) (v : List Bool) → parse_filled (place ∷ places) v [] ≡ TooShort
+unfolding parse_filled
+parse_filled-none place places v = refl
 
-pub filled_at-all : (v bits : List Bool) → filled_at [] v bits ≡ Read v bits
-unfolding filled_at
-filled_at-all v bits = refl
+pub parse_filled-all : (v bits : List Bool) → parse_filled [] v bits ≡ Read v bits
+unfolding parse_filled
+parse_filled-all v bits = refl

@@ -8,12 +8,12 @@ use Rattle.std.proofs.lemmas.List.Folds.{list_any_at}
 use Rattle.bit_vectors.specs.declared.fault.BitFault.{BitFault}
 use Rattle.bit_vectors.specs.declared.fault.BitFault.TheVariants.{Wrong, EndsEarly}
 use Rattle.bit_vectors.specs.Eye.{EyeState, bits_left}
-use Rattle.bit_vectors.specs.Reading.{Reading, Read, WrongBit, TooShort, ◌>>=◌, MovesOn, Gives, CanBegin, IsWrongBefore, IsExact}
+use Rattle.bit_vectors.specs.Reading.{Parsed, Read, WrongBit, TooShort, ◌>>=◌, MovesOn, Gives, CanBegin, IsWrongBefore, IsExact}
 use Rattle.bit_vectors.proofs.EyeReading.{Gives-then_err}
 use Rattle.run_code.specs.Places.{places_up}
-use Rattle.run_code.specs.Extraction.{bits_at, bits_up, IsInverseWord, filled_at, inverse_at}
+use Rattle.run_code.specs.Extraction.{bits_at, bits_up, IsInverseWord, parse_filled, parse_inverse}
 use Rattle.run_code.proofs.Ones.{one_or_zero, zeros_at, one_within, places_up_apart, in_places_up, places_up_has, length-ones_from}
-use Rattle.run_code.proofs.Filling.{IsFilling, IsExact-filled_at, filled_at-short, filled_at-read, filled_at-no_wrong}
+use Rattle.run_code.proofs.Filling.{IsFilling, IsExact-filled_at, parse_filled-short, parse_filled-read, parse_filled-no_wrong}
 
 -- ---- ones of a list
 
@@ -90,14 +90,14 @@ word_has_one x y word h =
 
 -- ---- each word that ends in a one is read
 
-filled_any : (places : List ℕ) (v word : List Bool) → length word ≡ length places → (u : List Bool) × (filled_at places v word ≡ Read u [])
-unfolding filled_at
+filled_any : (places : List ℕ) (v word : List Bool) → length word ≡ length places → (u : List Bool) × (parse_filled places v word ≡ Read u [])
+unfolding parse_filled
 filled_any [] v [] len = (v, refl)
 filled_any [] v (bit ∷ word) len = absurd (omega arith)
 filled_any (place ∷ places) v [] len = absurd (omega arith)
 filled_any (place ∷ places) v (bit ∷ word) len = filled_any places (set v place bit) word (omega arith)
 
-filling_exact : (x : List Bool) → IsExact (IsFilling (places_up x) (zeros_like x)) (filled_at (places_up x) (zeros_like x))
+filling_exact : (x : List Bool) → IsExact (IsFilling (places_up x) (zeros_like x)) (parse_filled (places_up x) (zeros_like x))
 filling_exact x = IsExact-filled_at (places_up x) (zeros_like x) (rw (length-replicate (length x) false) (places_up_apart x))
 
 a_word : (x front : List Bool) → length front + 1 ≡ length (places_up x) → (y : List Bool) × IsInverseWord x y (front ++ true ∷ [])
@@ -113,10 +113,10 @@ a_word x front len =
 
 -- ---- the reader is exact
 
-abbrev tested : List Bool → List Bool → Reading (List Bool)
+abbrev tested : List Bool → List Bool → Parsed (List Bool)
 tested y rest = cond (has_one y) (Read y rest) (WrongBit rest)
 
-tested_read : (r : Reading (List Bool)) (y rest : List Bool) → (r >>= tested) ≡ Read y rest → (r ≡ Read y rest) × (has_one y ≡ true)
+tested_read : (r : Parsed (List Bool)) (y rest : List Bool) → (r >>= tested) ≡ Read y rest → (r ≡ Read y rest) × (has_one y ≡ true)
 tested_read (Read v mid) y rest e =
     elim (one_or_zero (has_one v)) [
       | inl some ↦ let read : Read v mid ≡ Read y rest = rw some at e in let same : v ≡ y = cc in (read, rw (← same) some)
@@ -125,16 +125,16 @@ tested_read (Read v mid) y rest e =
 tested_read (WrongBit mid) y rest e = absurd cc
 tested_read TooShort y rest e = absurd cc
 
-tested_wrong : (r : Reading (List Bool)) (rest : List Bool) → (r >>= tested) ≡ WrongBit rest → (r ≡ WrongBit rest) ⊎ ((y : List Bool) × (r ≡ Read y rest) × (has_one y ≡ false))
+tested_wrong : (r : Parsed (List Bool)) (rest : List Bool) → (r >>= tested) ≡ WrongBit rest → (r ≡ WrongBit rest) ⊎ ((y : List Bool) × (r ≡ Read y rest) × (has_one y ≡ false))
 tested_wrong (Read v mid) rest e =
     elim (one_or_zero (has_one v)) [
       | inl some ↦ let read : Read v mid ≡ WrongBit rest = rw some at e in absurd cc
-      | inr none ↦ let wrong : ◌≡◌ {A = Reading (List Bool)} (WrongBit mid) (WrongBit rest) = rw none at e in let same : mid ≡ rest = cc in inr (v, rw same refl, none)
+      | inr none ↦ let wrong : ◌≡◌ {A = Parsed (List Bool)} (WrongBit mid) (WrongBit rest) = rw none at e in let same : mid ≡ rest = cc in inr (v, rw same refl, none)
     ]
 tested_wrong (WrongBit mid) rest e = inl e
 tested_wrong TooShort rest e = absurd cc
 
-tested_short : (r : Reading (List Bool)) → (r >>= tested) ≡ TooShort → r ≡ TooShort
+tested_short : (r : Parsed (List Bool)) → (r >>= tested) ≡ TooShort → r ≡ TooShort
 tested_short (Read v mid) e =
     elim (one_or_zero (has_one v)) [
       | inl some ↦ let read : Read v mid ≡ TooShort = rw some at e in absurd cc
@@ -185,39 +185,39 @@ short_can_begin x bits lt =
     let w = a_word x (bits ++ replicate more false) (omega (arith, length-append bits (replicate more false), length-replicate more false)) in
     (replicate more false ++ true ∷ [], (w.0, rw append_assoc at w.1))
 
-pub IsExact-inverse_at : (x : List Bool) → Contains x true → IsExact (IsInverseWord x) (inverse_at x)
-unfolding inverse_at
+pub IsExact-inverse_at : (x : List Bool) → Contains x true → IsExact (IsInverseWord x) (parse_inverse x)
+unfolding parse_inverse
 IsExact-inverse_at x some = record {
   reads = λ y word rest h. let one = one_of y h.some in rw ((filling_exact x).reads y word rest (inverse_filling x y word h), has_one_by y one.0 one.1) refl;
   read_is = λ bits y rest e.
-      let t = tested_read (filled_at (places_up x) (zeros_like x) bits) y rest e in
+      let t = tested_read (parse_filled (places_up x) (zeros_like x) bits) y rest e in
       let r = (filling_exact x).read_is bits y rest t.0 in
       let one = one_at y t.1 in
       (r.0, filling_inverse x y r.0 r.1 (contains_by y one.0 one.1), r.2);
   wrong_is = λ bits rest e.
-      elim (tested_wrong (filled_at (places_up x) (zeros_like x) bits) rest e) [
-        | inl wrong ↦ absurd (filled_at-no_wrong (places_up x) (zeros_like x) bits rest wrong)
+      elim (tested_wrong (parse_filled (places_up x) (zeros_like x) bits) rest e) [
+        | inl wrong ↦ absurd (parse_filled-no_wrong (places_up x) (zeros_like x) bits rest wrong)
         | inr none ↦
             let r = (filling_exact x).read_is bits none.0 rest none.1 in
             zeros_before x some bits rest (r.2 ∙ ap (λ (w : List Bool). w ++ rest) (zeros_word x none.0 r.0 r.1 none.2))
       ];
-  short_is = λ bits e. short_can_begin x bits (filled_at-short (places_up x) (zeros_like x) bits (tested_short (filled_at (places_up x) (zeros_like x) bits) e));
+  short_is = λ bits e. short_can_begin x bits (parse_filled-short (places_up x) (zeros_like x) bits (tested_short (parse_filled (places_up x) (zeros_like x) bits) e));
 }
 
 -- ---- what a reading says
 
-pub inverse_err : {A : Type 0} (x : List Bool) (view : A → List Bool) (old new : EyeState) (fault : BitFault) → Gives view (Err fault) new (filled_at (places_up x) (zeros_like x) (bits_left old)) → Gives view (Err fault) new (inverse_at x (bits_left old))
-unfolding inverse_at
-inverse_err x view old new fault given = Gives-then_err view view fault new (filled_at (places_up x) (zeros_like x) (bits_left old)) tested given
+pub inverse_err : {A : Type 0} (x : List Bool) (view : A → List Bool) (old new : EyeState) (fault : BitFault) → Gives view (Err fault) new (parse_filled (places_up x) (zeros_like x) (bits_left old)) → Gives view (Err fault) new (parse_inverse x (bits_left old))
+unfolding parse_inverse
+inverse_err x view old new fault given = Gives-then_err view view fault new (parse_filled (places_up x) (zeros_like x) (bits_left old)) tested given
 
-pub inverse_zero : (x bits y rest : List Bool) → filled_at (places_up x) (zeros_like x) bits ≡ Read y rest → y ≡ replicate (length y) false → inverse_at x bits ≡ WrongBit rest
-unfolding inverse_at
+pub inverse_zero : (x bits y rest : List Bool) → parse_filled (places_up x) (zeros_like x) bits ≡ Read y rest → y ≡ replicate (length y) false → parse_inverse x bits ≡ WrongBit rest
+unfolding parse_inverse
 inverse_zero x bits y rest read zeros =
     let none : has_one y ≡ false = ap has_one zeros ∙ no_one_in_zeros (length y) in
     rw (read, none) refl
 
-pub inverse_some : (x bits y rest : List Bool) → filled_at (places_up x) (zeros_like x) bits ≡ Read y rest → Contains y true → inverse_at x bits ≡ Read y rest
-unfolding inverse_at
+pub inverse_some : (x bits y rest : List Bool) → parse_filled (places_up x) (zeros_like x) bits ≡ Read y rest → Contains y true → parse_inverse x bits ≡ Read y rest
+unfolding parse_inverse
 inverse_some x bits y rest read some =
     let one = one_of y some in
     rw (read, has_one_by y one.0 one.1) refl
@@ -228,7 +228,7 @@ place_moved old new word moves some parts =
     let len = ap (λ (bits : List Bool). length bits) parts in
     omega (arith, length-append word (bits_left new), length-drop old.place old.bits, length-drop new.place new.bits, ap (λ (bits : List Bool). length bits) moves.bits)
 
-pub filled_word : (x bits y rest : List Bool) → filled_at (places_up x) (zeros_like x) bits ≡ Read y rest → (word : List Bool) × (length word ≡ length (places_up x)) × (bits ≡ word ++ rest)
+pub filled_word : (x bits y rest : List Bool) → parse_filled (places_up x) (zeros_like x) bits ≡ Read y rest → (word : List Bool) × (length word ≡ length (places_up x)) × (bits ≡ word ++ rest)
 filled_word x bits y rest read =
     let r = (filling_exact x).read_is bits y rest read in
     (r.0, rw r.1.1 (length-bits_at y (places_up x)), r.2)
@@ -236,40 +236,40 @@ filled_word x bits y rest read =
 pub some_at_start : (x : List Bool) → Contains x true → 0 < length (places_up x)
 some_at_start = some_places
 
-all_zeros : (x bits rest : List Bool) → inverse_at x bits ≡ WrongBit rest → bits ≡ replicate (length (places_up x)) false ++ rest
-unfolding inverse_at
+all_zeros : (x bits rest : List Bool) → parse_inverse x bits ≡ WrongBit rest → bits ≡ replicate (length (places_up x)) false ++ rest
+unfolding parse_inverse
 all_zeros x bits rest e =
-    elim (tested_wrong (filled_at (places_up x) (zeros_like x) bits) rest e) [
-      | inl wrong ↦ absurd (filled_at-no_wrong (places_up x) (zeros_like x) bits rest wrong)
+    elim (tested_wrong (parse_filled (places_up x) (zeros_like x) bits) rest e) [
+      | inl wrong ↦ absurd (parse_filled-no_wrong (places_up x) (zeros_like x) bits rest wrong)
       | inr none ↦
           let r = (filling_exact x).read_is bits none.0 rest none.1 in
           r.2 ∙ ap (λ (w : List Bool). w ++ rest) (zeros_word x none.0 r.0 r.1 none.2)
     ]
 
-too_few : (x bits : List Bool) → inverse_at x bits ≡ TooShort → length bits < length (places_up x)
-unfolding inverse_at
-too_few x bits e = filled_at-short (places_up x) (zeros_like x) bits (tested_short (filled_at (places_up x) (zeros_like x) bits) e)
+too_few : (x bits : List Bool) → parse_inverse x bits ≡ TooShort → length bits < length (places_up x)
+unfolding parse_inverse
+too_few x bits e = parse_filled-short (places_up x) (zeros_like x) bits (tested_short (parse_filled (places_up x) (zeros_like x) bits) e)
 
-enough : (x bits y rest : List Bool) → inverse_at x bits ≡ Read y rest → length (places_up x) ≤ length bits
-unfolding inverse_at
-enough x bits y rest e = filled_at-read (places_up x) (zeros_like x) bits y rest (tested_read (filled_at (places_up x) (zeros_like x) bits) y rest e).0
+enough : (x bits y rest : List Bool) → parse_inverse x bits ≡ Read y rest → length (places_up x) ≤ length bits
+unfolding parse_inverse
+enough x bits y rest e = parse_filled-read (places_up x) (zeros_like x) bits y rest (tested_read (parse_filled (places_up x) (zeros_like x) bits) y rest e).0
 
 module _ (x y : List Bool) (some : Contains x true) (old new : EyeState) where
-  pub inverse_taken : (result : Result (Unit {0}) BitFault) → Gives (λ (u : Unit {0}). y) result new (inverse_at x (bits_left old)) → OnOk result (bits_left old ≡ bits_up y x ++ bits_left new)
+  pub inverse_taken : (result : Result (Unit {0}) BitFault) → Gives (λ (u : Unit {0}). y) result new (parse_inverse x (bits_left old)) → OnOk result (bits_left old ≡ bits_up y x ++ bits_left new)
   inverse_taken (Ok u) given =
       let r = (IsExact-inverse_at x some).read_is (bits_left old) y (bits_left new) given in
       r.2 ∙ ap (λ (w : List Bool). w ++ bits_left new) r.1.bits
   inverse_taken (Err fault) given = tt
 
-  pub inverse_within : (result : Result (Unit {0}) BitFault) → Gives (λ (u : Unit {0}). y) result new (inverse_at x (bits_left old)) → OnOk result ((place : ℕ) → get_or y place false ≡ true → get_or x place false ≡ true)
+  pub inverse_within : (result : Result (Unit {0}) BitFault) → Gives (λ (u : Unit {0}). y) result new (parse_inverse x (bits_left old)) → OnOk result ((place : ℕ) → get_or y place false ≡ true → get_or x place false ≡ true)
   inverse_within (Ok u) given = ((IsExact-inverse_at x some).read_is (bits_left old) y (bits_left new) given).1.within
   inverse_within (Err fault) given = tt
 
-  pub inverse_one : (result : Result (Unit {0}) BitFault) → Gives (λ (u : Unit {0}). y) result new (inverse_at x (bits_left old)) → OnOk result (Contains y true)
+  pub inverse_one : (result : Result (Unit {0}) BitFault) → Gives (λ (u : Unit {0}). y) result new (parse_inverse x (bits_left old)) → OnOk result (Contains y true)
   inverse_one (Ok u) given = ((IsExact-inverse_at x some).read_is (bits_left old) y (bits_left new) given).1.some
   inverse_one (Err fault) given = tt
 
-  pub inverse_early : MovesOn old new → (result : Result (Unit {0}) BitFault) → Gives (λ (u : Unit {0}). y) result new (inverse_at x (bits_left old))
+  pub inverse_early : MovesOn old new → (result : Result (Unit {0}) BitFault) → Gives (λ (u : Unit {0}). y) result new (parse_inverse x (bits_left old))
       → (result ≡ Err (EndsEarly (length old.bits))) ↔ (length (bits_left old) < count_by (λ bit. bit) x)
   inverse_early moves (Ok u) given =
       (λ e. absurd cc, λ lt. absurd (omega (arith, enough x (bits_left old) y (bits_left new) given, length-ones_from 0 x)))
@@ -280,7 +280,7 @@ module _ (x y : List Bool) (some : Contains x true) (old new : EyeState) where
       let same : bit ≡ length old.bits = given.1 ∙ ap (λ (bits : List Bool). length bits) moves.bits in
       (λ e. omega (arith, too_few x (bits_left old) given.0, length-ones_from 0 x), λ lt. ap (λ (n : ℕ). Err (EndsEarly n)) same)
 
-  pub inverse_wrong : MovesOn old new → (result : Result (Unit {0}) BitFault) → Gives (λ (u : Unit {0}). y) result new (inverse_at x (bits_left old))
+  pub inverse_wrong : MovesOn old new → (result : Result (Unit {0}) BitFault) → Gives (λ (u : Unit {0}). y) result new (parse_inverse x (bits_left old))
       → (result ≡ Err (Wrong (old.place + count_by (λ bit. bit) x - 1))) ↔ (take (count_by (λ bit. bit) x) (bits_left old) ≡ replicate (count_by (λ bit. bit) x) false)
   inverse_wrong moves (Ok u) given =
       let r = (IsExact-inverse_at x some).read_is (bits_left old) y (bits_left new) given in

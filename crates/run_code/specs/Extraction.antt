@@ -2,7 +2,7 @@
 use Rattle.std.specs.Prelude.{◌≡◌, ℕ, Bool, true, false, not, if◌then◌else◌, List, [], ◌∷◌, length, map, replicate, slice_index_or, slice_set, Contains}
 use Rattle.std.specs.List.{list_any}
 use Rattle.bit_vectors.specs.Vectors.{IsOne}
-use Rattle.bit_vectors.specs.Reading.{Reading, Read, WrongBit, ◌>>=◌, bit_where}
+use Rattle.bit_vectors.specs.Reading.{Parsed, Read, WrongBit, ◌>>=◌, bit_where}
 use Rattle.run_code.specs.Places.{places_up, places_down}
 
 -- the bits of a vector at these places
@@ -37,14 +37,14 @@ pub record IsInverseWord (x set_of_ones word : List Bool) : Type 0 where
 -- ---- reading
 
 -- a vector with the bits read at these places
-unfoldable pub filled_at : List ℕ → List Bool → List Bool → Reading (List Bool)
-filled_at [] v bits = Read v bits
-filled_at (place ∷ places) v bits =
+unfoldable pub parse_filled : List ℕ → List Bool → List Bool → Parsed (List Bool)
+parse_filled [] v bits = Read v bits
+parse_filled (place ∷ places) v bits =
     bit_where (λ bit. true) bits
-    >>= λ bit rest. filled_at places (slice_set v place bit) rest
+    >>= λ bit rest. parse_filled places (slice_set v place bit) rest
 
 -- a set of ones of a vector; where it would be empty the last bit is wrong
-unfoldable pub inverse_at : List Bool → List Bool → Reading (List Bool)
-inverse_at x bits =
-    filled_at (places_up x) (replicate (length x) false) bits
+unfoldable pub parse_inverse : List Bool → List Bool → Parsed (List Bool)
+parse_inverse x bits =
+    parse_filled (places_up x) (replicate (length x) false) bits
     >>= λ y rest. if list_any (λ bit. bit) y then Read y rest else WrongBit rest

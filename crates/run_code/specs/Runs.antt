@@ -1,11 +1,11 @@
 -- The word of a vector's runs (CCSDS 124.0-B-1): for each one, from the highest place down, the count of places from the
 -- one before it, and then the end of the counts. The first is counted from the number of places.
 use Rattle.std.specs.Prelude.{◌≡◌, ℕ, zero, suc, ◌-◌, Bool, true, false, List, [], ◌∷◌, ◌++◌, length, replicate, slice_set}
-use Rattle.bit_vectors.specs.Reading.{Reading, Read, TooShort, ◌>>=◌}
+use Rattle.bit_vectors.specs.Reading.{Parsed, Read, TooShort, ◌>>=◌}
 use Rattle.count_code.specs.declared.count.Count.{Count}
 use Rattle.count_code.specs.declared.count.Count.TheVariants.{Value, End}
 use Rattle.count_code.specs.Code.{count_bits, end_bits}
-use Rattle.count_code.specs.Counts.{count_at}
+use Rattle.count_code.specs.Counts.{parse_count}
 use Rattle.run_code.specs.Places.{places_down}
 
 -- the counts from a place down to the first of these, and from each to the next, and the end
@@ -31,12 +31,12 @@ at_count (Value a) next end = next a
 at_count End next end = end
 
 -- a vector so far, with the ones that are still to be read, of which there are fewer than `most`, below a place
-unfoldable pub ones_at : ℕ → ℕ → List Bool → List Bool → Reading (List Bool)
-ones_at zero below v bits = TooShort
-ones_at (suc most) below v bits =
-    count_at below bits
-    >>= λ count rest. at_count count (λ a. ones_at most (below - a) (slice_set v (below - a) true) rest) (Read v rest)
+unfoldable pub parse_ones : ℕ → ℕ → List Bool → List Bool → Parsed (List Bool)
+parse_ones zero below v bits = TooShort
+parse_ones (suc most) below v bits =
+    parse_count below bits
+    >>= λ count rest. at_count count (λ a. parse_ones most (below - a) (slice_set v (below - a) true) rest) (Read v rest)
 
 -- a vector with so many places
-unfoldable pub vector_at : ℕ → List Bool → Reading (List Bool)
-vector_at f bits = ones_at (suc f) f (replicate f false) bits
+unfoldable pub parse_vector : ℕ → List Bool → Parsed (List Bool)
+parse_vector f bits = parse_ones (suc f) f (replicate f false) bits

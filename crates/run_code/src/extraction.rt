@@ -4,7 +4,7 @@ ghost use Rattle.std.specs.Prelude.{◌≡◌, ◌+◌, ◌<◌, ◌≤◌, ◌�
 ghost use Rattle.bit_vectors.specs.Eye.{bits_left};
 ghost use Rattle.bit_vectors.specs.Reading.{MovesOn, Gives};
 ghost use Rattle.run_code.specs.Places.{places_down};
-ghost use Rattle.run_code.specs.Extraction.{extract, SameOutside, filled_at};
+ghost use Rattle.run_code.specs.Extraction.{extract, SameOutside, parse_filled};
 
 use bit_vectors::{BitEye, BitFault, BitPen, Bits};
 
@@ -34,7 +34,7 @@ pub fn take_into(eye: &mut BitEye, a: &mut Bits, b: &Bits) -> Result<(), BitFaul
     ensures early { IsErr result ↔ (length (bits_left eye.old) < count_by (λ bit. bit) b.now) }
     ensures fault { IfErr result (λ fault. fault ≡ BitFault.EndsEarly (length eye.old.bits)) }
     ensures at_end { OnErr result (eye.new.place ≡ length eye.old.bits) }
-    ensures reading { Gives (λ _. a.new) result eye.new (filled_at (places_down b.now) a.old (bits_left eye.old)) }
+    ensures reading { Gives (λ _. a.new) result eye.new (parse_filled (places_down b.now) a.old (bits_left eye.old)) }
 {
     let mut below = b.len();
     while let Some(place) = b.next_one_down(below) {

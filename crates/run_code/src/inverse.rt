@@ -5,7 +5,7 @@ ghost use Rattle.bit_vectors.specs.Eye.{bits_left};
 ghost use Rattle.bit_vectors.specs.Vectors.{IsOne};
 ghost use Rattle.bit_vectors.specs.Reading.{MovesOn, Gives, IsFirstFault};
 ghost use Rattle.run_code.specs.Places.{places_up};
-ghost use Rattle.run_code.specs.Extraction.{inverse_up, bits_up, IsInverseWord, filled_at, inverse_at};
+ghost use Rattle.run_code.specs.Extraction.{inverse_up, bits_up, IsInverseWord, parse_filled, parse_inverse};
 
 use bit_vectors::{BitEye, BitFault, BitPen, Bits};
 
@@ -45,7 +45,7 @@ pub fn take_inverse_up(eye: &mut BitEye, x: &Bits, into: &mut Bits) -> Result<()
     ensures early { (result ≡ Err (BitFault.EndsEarly (length eye.old.bits)))
         ↔ (length (bits_left eye.old) < count_by (λ bit. bit) x.now) }
     ensures fault { IfErr result (λ fault. IsFirstFault (λ word. (y : List Bool) × IsInverseWord x.now y word) eye.old eye.new fault) }
-    ensures reading { Gives (λ _. into.new) result eye.new (inverse_at x.now (bits_left eye.old)) }
+    ensures reading { Gives (λ _. into.new) result eye.new (parse_inverse x.now (bits_left eye.old)) }
 {
     read_inverse(eye, x, into)
 }
@@ -56,7 +56,7 @@ fn read_inverse(eye: &mut BitEye, x: &Bits, into: &mut Bits) -> Result<(), BitFa
     requires some { Contains x.now true }
     ensures places { length into.new ≡ length into.old }
     ensures moves { MovesOn eye.old eye.new }
-    ensures reading { Gives (λ _. into.new) result eye.new (inverse_at x.now (bits_left eye.old)) }
+    ensures reading { Gives (λ _. into.new) result eye.new (parse_inverse x.now (bits_left eye.old)) }
 {
     take_up(eye, x, into)?;
     if into.is_zero() {
@@ -72,7 +72,7 @@ fn take_up(eye: &mut BitEye, x: &Bits, into: &mut Bits) -> Result<(), BitFault>
     ensures places { length into.new ≡ length into.old }
     ensures moves { MovesOn eye.old eye.new }
     ensures reading { Gives (λ _. into.new) result eye.new
-        (filled_at (places_up x.now) (replicate (length x.now) false) (bits_left eye.old)) }
+        (parse_filled (places_up x.now) (replicate (length x.now) false) (bits_left eye.old)) }
 {
     into.clear();
     let places = x.len();

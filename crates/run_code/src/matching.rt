@@ -2,7 +2,7 @@
 
 ghost use Rattle.std.specs.Prelude.{◌≡◌, ◌++◌, List, Bool, IsOk, IfErr, OnOk};
 ghost use Rattle.bit_vectors.specs.Eye.{bits_left};
-ghost use Rattle.bit_vectors.specs.Reading.{MovesOn, Gives, IsFirstFault, same_at};
+ghost use Rattle.bit_vectors.specs.Reading.{MovesOn, Gives, IsFirstFault, parse_word};
 ghost use Rattle.run_code.specs.Runs.{run_bits};
 
 use bit_vectors::{BitEye, BitFault, Bits};
@@ -15,7 +15,7 @@ pub fn match_runs(eye: &mut BitEye, v: &Bits) -> Result<(), BitFault>
     ensures word { OnOk result (bits_left eye.old ≡ run_bits v.now ++ bits_left eye.new) }
     ensures only { (rest : List Bool) → bits_left eye.old ≡ run_bits v.now ++ rest → IsOk result }
     ensures fault { IfErr result (λ fault. IsFirstFault (λ word. word ≡ run_bits v.now) eye.old eye.new fault) }
-    ensures reading { Gives (λ _. tt) result eye.new (same_at (run_bits v.now) (bits_left eye.old)) }
+    ensures reading { Gives (λ _. tt) result eye.new (parse_word (run_bits v.now) (bits_left eye.old)) }
 {
     match_words(eye, v)
 }
@@ -23,7 +23,7 @@ pub fn match_runs(eye: &mut BitEye, v: &Bits) -> Result<(), BitFault>
 /// Takes the word of each one of `v`, from the highest place down, and the end.
 fn match_words(eye: &mut BitEye, v: &Bits) -> Result<(), BitFault>
     ensures moves { MovesOn eye.old eye.new }
-    ensures reading { Gives (λ _. tt) result eye.new (same_at (run_bits v.now) (bits_left eye.old)) }
+    ensures reading { Gives (λ _. tt) result eye.new (parse_word (run_bits v.now) (bits_left eye.old)) }
 {
     let mut below = v.len();
     while let Some(place) = v.next_one_down(below) {

@@ -3,7 +3,7 @@
 ghost use Rattle.std.specs.Prelude.{◌≡◌, ◌+◌, ◌*◌, ◌≤◌, ◌++◌, Bool, List, length, IsOk, IfErr, OnOk};
 ghost use Rattle.bit_vectors.specs.Eye.{bits_left};
 ghost use Rattle.bit_vectors.specs.Reading.{MovesOn, Gives, IsFirstFault};
-ghost use Rattle.run_code.specs.Runs.{run_bits, IsRunWord, vector_at};
+ghost use Rattle.run_code.specs.Runs.{run_bits, IsRunWord, parse_vector};
 
 use bit_vectors::{BitEye, BitFault, BitPen, Bits};
 use count_code::{Count, put_count, put_end, take_count};
@@ -35,7 +35,7 @@ pub fn take_runs(eye: &mut BitEye, into: &mut Bits) -> Result<(), BitFault>
     ensures only { (v rest : List Bool) → length v ≡ length into.old → bits_left eye.old ≡ run_bits v ++ rest
         → IsOk result × (into.new ≡ v) }
     ensures fault { IfErr result (λ fault. IsFirstFault (IsRunWord (length into.old)) eye.old eye.new fault) }
-    ensures reading { Gives (λ _. into.new) result eye.new (vector_at (length into.old) (bits_left eye.old)) }
+    ensures reading { Gives (λ _. into.new) result eye.new (parse_vector (length into.old) (bits_left eye.old)) }
 {
     read_runs(eye, into)
 }
@@ -44,7 +44,7 @@ pub fn take_runs(eye: &mut BitEye, into: &mut Bits) -> Result<(), BitFault>
 fn read_runs(eye: &mut BitEye, into: &mut Bits) -> Result<(), BitFault>
     ensures places { length into.new ≡ length into.old }
     ensures moves { MovesOn eye.old eye.new }
-    ensures reading { Gives (λ _. into.new) result eye.new (vector_at (length into.old) (bits_left eye.old)) }
+    ensures reading { Gives (λ _. into.new) result eye.new (parse_vector (length into.old) (bits_left eye.old)) }
 {
     into.clear();
     let mut below = into.len();

@@ -4,7 +4,7 @@ use Rattle.std.specs.List.{list_any}
 use Rattle.std.proofs.lemmas.List.{get_or_default, length-map, reverse-append}
 use Rattle.std.proofs.lemmas.List.Elements.{All-contains}
 use Rattle.std.proofs.lemmas.List.Folds.{Any-from_list_any, list_any_at}
-use Rattle.side_tables.specs.declared.order.Entry.{Entry}
+use Rattle.side_tables.specs.declared.order.OrderEntry.{OrderEntry}
 use Rattle.side_tables.specs.Order.{places_of, entry_at, no_entry}
 use Rattle.side_tables.proofs.Orders.{place_among}
 
@@ -14,18 +14,18 @@ bool_same false true to from = from refl
 bool_same false false to from = refl
 
 -- a test of rows passes for some of the entries' rows exactly where it passes for some row, if all that pass are among them
-pub list_any-places : {X : Type 0} (p : X → Bool) (rows : List X) (d : X) (entries : List Entry) → All (λ entry. entry.place < length rows) entries
+pub list_any-places : {X : Type 0} (p : X → Bool) (rows : List X) (d : X) (entries : List OrderEntry) → All (λ entry. entry.place < length rows) entries
     → ((place : ℕ) → place < length rows → p (get_or rows place d) ≡ true → Contains (places_of entries) place)
     → list_any (λ entry. p (get_or rows entry.place d)) entries ≡ list_any p rows
 list_any-places p rows d entries own each = bool_same _ _
-    (λ some. let found = Any-from_list_any (λ (entry : Entry). p (get_or rows entry.place d)) entries some in
-    list_any_at p rows found.1.place d (All-contains (λ (entry : Entry). entry.place < length rows) entries found.1 own (found.0, found.2, found.3)) found.4)
+    (λ some. let found = Any-from_list_any (λ (entry : OrderEntry). p (get_or rows entry.place d)) entries some in
+    list_any_at p rows found.1.place d (All-contains (λ (entry : OrderEntry). entry.place < length rows) entries found.1 own (found.0, found.2, found.3)) found.4)
     (λ some. let found = Any-from_list_any p rows some in
     let is : get_or rows found.0 d ≡ found.1 = get_or_default rows found.0 d found.1 found.2 ∙ found.3 in
     let there = each found.0 found.2 (rw is found.4) in
-    let inside : there.0 < length entries = rw (length-map entries (λ (e : Entry). e.place)) at there.1 in
+    let inside : there.0 < length entries = rw (length-map entries (λ (e : OrderEntry). e.place)) at there.1 in
     let place : (entry_at entries there.0).place ≡ found.0 = sym (place_among entries there.0 found.0 inside) ∙ there.2 in
-    list_any_at (λ (entry : Entry). p (get_or rows entry.place d)) entries there.0 no_entry inside (rw (place, is) found.4))
+    list_any_at (λ (entry : OrderEntry). p (get_or rows entry.place d)) entries there.0 no_entry inside (rw (place, is) found.4))
 
 -- ---- the last row that passes a test
 

@@ -11,7 +11,7 @@ use Rattle.side_tables.specs.declared.span.Span.{Span}
 use Rattle.side_tables.specs.Spans.{IsSpan}
 use Rattle.side_tables.specs.Rows.{IsFlagRow, IsCopyRow}
 use Rattle.side_tables.specs.Numbers.{number_of, is_plain_decimal}
-use Rattle.side_tables.specs.Grammar.{◌>>=◌, number_at, span_at, flags_named, flag_row_of, drop_row_of, repeat_row_of, copy_row_of, copy_row, flag_rows_of, copy_rows_of}
+use Rattle.side_tables.specs.Grammar.{◌>>=◌, number_at, span_from, flags_named, flag_row_of, drop_row_of, repeat_row_of, copy_row_of, copy_row, flag_rows_of, copy_rows_of}
 use Rattle.side_tables.specs.Texts.{records_of}
 use Rattle.side_tables.proofs.Naming.{both}
 
@@ -40,7 +40,7 @@ number_at-within fields place least n is =
     let text = bind-some (field_at fields place) (number_of least 4294967295) n is in
     (number-within least 4294967295 text.0 n text.2).0
 
-span-right : (fields : List (List ℕ)) (place : ℕ) (span : Span) → span_at fields place ≡ Some span → IsSpan span
+span-right : (fields : List (List ℕ)) (place : ℕ) (span : Span) → span_from fields place ≡ Some span → IsSpan span
 span-right fields place span is =
     let first = bind-some (number_at fields place 0) _ span is in
     let last = bind-some (number_at fields (place + 1) first.0) _ span first.2 in
@@ -53,7 +53,7 @@ span-right fields place span is =
 flag_row-right : (fields : List (List ℕ)) (row : FlagRow) → flag_row_of fields ≡ Some row → IsFlagRow row
 flag_row-right fields row is =
     let body = (cond-some (length fields == 4) _ row is).1 in
-    let span = bind-some (span_at fields 0) _ row body in
+    let span = bind-some (span_from fields 0) _ row body in
     let flags = bind-some (field_at fields 3 >>= flags_named) _ row span.2 in
     let right = span-right fields 0 span.0 span.1 in
     let same : record { first = span.0.first; last = span.0.last; step = span.0.step; flags = flags.0 } ≡ row = cc in
@@ -65,14 +65,14 @@ copies-right span copies right most = record { span = record { forward = right.f
 drop_row-right : (fields : List (List ℕ)) (row : CopyRow) → drop_row_of fields ≡ Some row → IsCopyRow row
 drop_row-right fields row is =
     let body = (cond-some (length fields == 4) _ row is).1 in
-    let span = bind-some (span_at fields 1) _ row body in
+    let span = bind-some (span_from fields 1) _ row body in
     let same : copy_row span.0 0 ≡ row = cc in
     rw (← same) (copies-right span.0 0 (span-right fields 1 span.0 span.1) (omega arith))
 
 repeat_row-right : (fields : List (List ℕ)) (row : CopyRow) → repeat_row_of fields ≡ Some row → IsCopyRow row
 repeat_row-right fields row is =
     let body = (cond-some (length fields == 5) _ row is).1 in
-    let span = bind-some (span_at fields 1) _ row body in
+    let span = bind-some (span_from fields 1) _ row body in
     let extra = bind-some (field_at fields 4 >>= number_of 1 8) _ row span.2 in
     let text = bind-some (field_at fields 4) (number_of 1 8) extra.0 extra.1 in
     let within = number-within 1 8 text.0 extra.0 text.2 in

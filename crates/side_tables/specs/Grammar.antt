@@ -21,8 +21,8 @@ abbrev pub number_at : List (List ℕ) → ℕ → ℕ → Option ℕ
 number_at fields place least = field_at fields place >>= number_of least 4294967295
 
 -- the span that three fields from a place on say: the first number, the last and the step
-abbrev pub span_at : List (List ℕ) → ℕ → Option Span
-span_at fields place = do
+abbrev pub span_from : List (List ℕ) → ℕ → Option Span
+span_from fields place = do
   first ← number_at fields place 0
   last ← number_at fields (place + 1) first
   step ← number_at fields (place + 2) 1
@@ -52,7 +52,7 @@ flags_named letters = if are_letters letters then Some (record { p = has letters
 abbrev pub flag_row_of : List (List ℕ) → Option FlagRow
 flag_row_of fields =
     if length fields == 4 then (do
-      span ← span_at fields 0
+      span ← span_from fields 0
       flags ← field_at fields 3 >>= flags_named
       Some (record { first = span.first; last = span.last; step = span.step; flags = flags }))
     else None
@@ -62,13 +62,13 @@ copy_row span copies = record { first = span.first; last = span.last; step = spa
 
 -- `drop`, first, last, step: no copies
 abbrev pub drop_row_of : List (List ℕ) → Option CopyRow
-drop_row_of fields = if length fields == 4 then (span_at fields 1 >>= λ span. Some (copy_row span 0)) else None
+drop_row_of fields = if length fields == 4 then (span_from fields 1 >>= λ span. Some (copy_row span 0)) else None
 
 -- `repeat`, first, last, step, extra: one copy and 1 to 8 more
 abbrev pub repeat_row_of : List (List ℕ) → Option CopyRow
 repeat_row_of fields =
     if length fields == 5 then (do
-      span ← span_at fields 1
+      span ← span_from fields 1
       extra ← field_at fields 4 >>= number_of 1 8
       Some (copy_row span (1 + extra)))
     else None

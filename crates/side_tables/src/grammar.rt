@@ -3,7 +3,7 @@
 ghost use Rattle.std.specs.Prelude.{◌≡◌, ◌<◌};
 ghost use Rattle.std.specs.List.{list_all};
 ghost use Rattle.csv.specs.Records.{fields_of};
-ghost use Rattle.side_tables.specs.Grammar.{number_at, span_at, flags_named, are_letters, is_letter, count_of, flag_row_of, drop_row_of, repeat_row_of, copy_row_of};
+ghost use Rattle.side_tables.specs.Grammar.{number_at, span_from, flags_named, are_letters, is_letter, count_of, flag_row_of, drop_row_of, repeat_row_of, copy_row_of};
 
 use crate::decimal::number;
 use crate::rows::{CopyRow, FlagRow};
@@ -19,7 +19,7 @@ impl TextRow for FlagRow {
         if fields.len() != 4 {
             return None;
         }
-        let span = span_at(fields, 0)?;
+        let span = span_from(fields, 0)?;
         let flags = flags_named(fields.get(3)?)?;
         Some(FlagRow {
             first: span.first,
@@ -49,7 +49,7 @@ fn drop_row(fields: &ByteRecord) -> Option<CopyRow>
     if fields.len() != 4 {
         return None;
     }
-    let span = span_at(fields, 1)?;
+    let span = span_from(fields, 1)?;
     Some(CopyRow {
         first: span.first,
         last: span.last,
@@ -65,7 +65,7 @@ fn repeat_row(fields: &ByteRecord) -> Option<CopyRow>
     if fields.len() != 5 {
         return None;
     }
-    let span = span_at(fields, 1)?;
+    let span = span_from(fields, 1)?;
     let extra = number(fields.get(4)?, 1, 8)?;
     Some(CopyRow {
         first: span.first,
@@ -76,9 +76,9 @@ fn repeat_row(fields: &ByteRecord) -> Option<CopyRow>
 }
 
 /// The first and last number and the step that three fields say.
-fn span_at(fields: &ByteRecord, place: usize) -> Option<Span>
+fn span_from(fields: &ByteRecord, place: usize) -> Option<Span>
     requires { place < 4 }
-    ensures { result ≡ span_at (fields_of fields.now) place }
+    ensures { result ≡ span_from (fields_of fields.now) place }
 {
     let first = number_at(fields, place, 0)?;
     let last = number_at(fields, place + 1, first)?;

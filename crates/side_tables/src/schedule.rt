@@ -6,7 +6,7 @@ ghost use Rattle.side_tables.specs.Rows.{IsFlagRow, flag_span, flags_of};
 ghost use Rattle.side_tables.specs.Tables.{IsFlagTable, flag_row_at, flags_with};
 
 use crate::fault::SideFault;
-use crate::order::{Entry, entries_at, order_of};
+use crate::order::{OrderEntry, entries_at, order_of};
 use crate::rows::FlagRow;
 use crate::span::Span;
 use crate::text::read_rows;
@@ -18,7 +18,7 @@ use std::marker::Model;
 #[derive(Debug, Drop)]
 pub struct Schedule {
     rows: Vec<FlagRow>,
-    order: Vec<Entry>,
+    order: Vec<OrderEntry>,
 }
 
 impl Model for Schedule {
@@ -76,7 +76,7 @@ impl Schedule {
 }
 
 /// The flags of all rows that name the packet, joined.
-fn flags_by(rows: &[FlagRow], order: &[Entry], t: u32) -> Flags
+fn flags_by(rows: &[FlagRow], order: &[OrderEntry], t: u32) -> Flags
     requires { IsFlagTable rows.now order.now }
     ensures { result ≡ flags_of rows.now t }
 {
@@ -103,7 +103,7 @@ fn spans_of(alloc: Global, rows: &[FlagRow]) -> Result<Vec<Span>, NoMemory>
 }
 
 /// These flags, and those of the entry's row where it names the packet.
-fn flags_with(flags: Flags, rows: &[FlagRow], entry: &Entry, t: u32) -> Flags
+fn flags_with(flags: Flags, rows: &[FlagRow], entry: &OrderEntry, t: u32) -> Flags
     requires inside { entry.now.place < length rows.now }
     requires right { All IsFlagRow rows.now }
     ensures { result ≡ flags_with flags t (flag_row_at rows.now entry.now) }

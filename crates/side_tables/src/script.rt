@@ -1,13 +1,13 @@
 //! Scripts: how many copies of packets arrive.
 
 ghost use Rattle.std.specs.Prelude.{◌≡◌, ℕ, ◌<◌, ◌≤◌, ◌↔◌, List, [], ◌∷◌, ◌++◌, length, map, All, Err, Some, None, IfOk, OnOk};
-ghost use Rattle.side_tables.specs.declared.order.Entry.{Entry as Order};
+ghost use Rattle.side_tables.specs.declared.order.OrderEntry.{OrderEntry};
 ghost use Rattle.side_tables.specs.Grammar.{copy_rows_of, bad_copy_row};
 ghost use Rattle.side_tables.specs.Rows.{IsCopyRow, copy_span, copies_of};
-ghost use Rattle.side_tables.specs.Tables.{IsCopyTable, IsLatest, IsLatestOf};
+ghost use Rattle.side_tables.specs.Tables.{IsCopyTable, IsLastRow, IsLastRowOf};
 
 use crate::fault::SideFault;
-use crate::order::{Entry, entries_at, order_of};
+use crate::order::{OrderEntry, entries_at, order_of};
 use crate::rows::CopyRow;
 use crate::span::Span;
 use crate::text::read_rows;
@@ -19,7 +19,7 @@ use std::marker::Model;
 #[derive(Debug, Drop)]
 pub struct Script {
     rows: Vec<CopyRow>,
-    order: Vec<Entry>,
+    order: Vec<OrderEntry>,
 }
 
 impl Model for Script {
@@ -79,7 +79,7 @@ impl Script {
 }
 
 /// What the last row that names the packet says, and one where none does.
-fn times_by(rows: &[CopyRow], order: &[Entry], t: u32) -> u8
+fn times_by(rows: &[CopyRow], order: &[OrderEntry], t: u32) -> u8
     requires { IsCopyTable rows.now order.now }
     ensures copies { result ≡ copies_of rows.now t }
     ensures most { result ≤ 9 }
@@ -91,9 +91,9 @@ fn times_by(rows: &[CopyRow], order: &[Entry], t: u32) -> u8
 }
 
 /// The place of the last row that names the packet.
-fn latest_by(rows: &[CopyRow], order: &[Entry], t: u32) -> Option<usize>
+fn latest_by(rows: &[CopyRow], order: &[OrderEntry], t: u32) -> Option<usize>
     requires { IsCopyTable rows.now order.now }
-    ensures { IsLatest rows.now t result }
+    ensures { IsLastRow rows.now t result }
 {
     let mut latest = None;
     for entry in entries_at(order, t) {
@@ -114,10 +114,10 @@ fn spans_of(alloc: Global, rows: &[CopyRow]) -> Result<Vec<Span>, NoMemory>
 }
 
 /// The place so far, or that of this entry, where its row names the packet and comes later.
-fn latest_with(latest: Option<usize>, rows: &[CopyRow], entry: &Entry, t: u32) -> Option<usize>
+fn latest_with(latest: Option<usize>, rows: &[CopyRow], entry: &OrderEntry, t: u32) -> Option<usize>
     requires inside { entry.now.place < length rows.now }
     requires right { All IsCopyRow rows.now }
-    ensures { (entries : List Order) → IsLatestOf rows.now t entries latest → IsLatestOf rows.now t (entries ++ entry.now ∷ []) result }
+    ensures { (entries : List OrderEntry) → IsLastRowOf rows.now t entries latest → IsLastRowOf rows.now t (entries ++ entry.now ∷ []) result }
 {
     if !rows[entry.place].span().names(t) {
         return latest;

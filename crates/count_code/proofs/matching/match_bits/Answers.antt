@@ -5,7 +5,7 @@ use Rattle.bit_vectors.specs.Vectors.{number_bits}
 use Rattle.bit_vectors.specs.Eye.{bits_left}
 use Rattle.bit_vectors.proofs.NumberBits.{number_bits-more}
 use Rattle.bit_vectors.proofs.EyeReading.{MovesOn-then}
-use Rattle.bit_vectors.proofs.SameWord.{same_at-none, same_at-more, same_at-fault}
+use Rattle.bit_vectors.proofs.SameWord.{parse_word-none, parse_word-more, parse_word-fault}
 use Rattle.count_code.proofs.matching.match_bits.Goals as goal
 
 -- the bit of the next weight, and the bits below it
@@ -19,17 +19,17 @@ loop-weight-preserved c =
     let i = c.loop-weight.invariant in
     record {
       moves = MovesOn-then c.args.eye.now c.loop-weight.eye c.take_allowed.new.eye i.moves c.in_ok-take_allowed.ensures.moves;
-      same = i.same ∙ rw (next_bit c.args.value c.loop-weight.weight c.loop-weight-test.true) (same_at-more _ c.in_ok-take_allowed.field-0 (number_bits (c.loop-weight.weight - 1) c.args.value) (bits_left c.loop-weight.eye) (bits_left c.take_allowed.new.eye) c.in_ok-take_allowed.ensures.reading);
+      same = i.same ∙ rw (next_bit c.args.value c.loop-weight.weight c.loop-weight-test.true) (parse_word-more _ c.in_ok-take_allowed.field-0 (number_bits (c.loop-weight.weight - 1) c.args.value) (bits_left c.loop-weight.eye) (bits_left c.take_allowed.new.eye) c.in_ok-take_allowed.ensures.reading);
     }
 
 pub returns-in_err-take_allowed-clause-reading : goal.returns-in_err-take_allowed-clause-reading
 returns-in_err-take_allowed-clause-reading c =
     let p = err_from_is_err_and c.from_residual.result c.from_residual.ensures.1 in
     rw (p.1, p.2, c.loop-weight.invariant.same, next_bit c.args.value c.loop-weight.weight c.loop-weight-test.true)
-    (same_at-fault _ (number_bits (c.loop-weight.weight - 1) c.args.value) c.loop-weight.eye c.take_allowed.new.eye c.in_err-take_allowed.field-0.0 c.in_err-take_allowed.ensures.reading)
+    (parse_word-fault _ (number_bits (c.loop-weight.weight - 1) c.args.value) c.loop-weight.eye c.take_allowed.new.eye c.in_err-take_allowed.field-0.0 c.in_err-take_allowed.ensures.reading)
 
 pub returns-clause-reading : goal.returns-clause-reading
 unfolding number_bits
 returns-clause-reading c =
     let done : c.loop-weight.weight ≡ 0 = omega arith in
-    c.loop-weight.invariant.same ∙ rw done (same_at-none (bits_left c.loop-weight.eye))
+    c.loop-weight.invariant.same ∙ rw done (parse_word-none (bits_left c.loop-weight.eye))

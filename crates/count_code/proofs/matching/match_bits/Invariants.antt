@@ -1,12 +1,12 @@
 use Rattle.std.proofs.Common.{◌≡◌}
 use Rattle.bit_vectors.specs.Vectors.{number_bits}
 use Rattle.bit_vectors.specs.Eye.{bits_left}
-use Rattle.bit_vectors.specs.Reading.{MovesOn, same_at}
+use Rattle.bit_vectors.specs.Reading.{MovesOn, parse_word}
 use Rattle.count_code.proofs.matching.match_bits.Given as goal
 
 -- matching the bits of lower weight gives what matching from the start gives
 abbrev pub invariant-loop-weight : goal.invariant-loop-weight
 invariant-loop-weight l = record {
   moves : MovesOn l.fn.eye l.eye;
-  same : same_at (number_bits l.width l.value) (bits_left l.fn.eye) ≡ same_at (number_bits l.weight l.value) (bits_left l.eye);
+  same : parse_word (number_bits l.width l.value) (bits_left l.fn.eye) ≡ parse_word (number_bits l.weight l.value) (bits_left l.eye);
 }

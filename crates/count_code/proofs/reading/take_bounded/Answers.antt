@@ -2,7 +2,7 @@ use Rattle.std.proofs.Common.{◌≡◌, ◌∙◌, refl, arith}
 use Rattle.std.proofs.lemmas.Result.{err_from_is_err_and}
 use Rattle.bit_vectors.proofs.NumberBits.{bool_byte_is}
 use Rattle.bit_vectors.proofs.EyeReading.{MovesOn-refl}
-use Rattle.count_code.specs.Counts.{bounded_at}
+use Rattle.count_code.specs.Counts.{parse_bounded}
 use Rattle.count_code.proofs.Steps.{zero_fits_is, one_fits_is, number_more, number_fault}
 use Rattle.count_code.proofs.reading.take_bounded.Goals as goal
 
@@ -28,7 +28,7 @@ loop-weight-preserved c =
     number_more c.args.eye.now c.loop-weight.eye c.take_allowed.new.eye c.args.most c.args.so_far c.args.width c.loop-weight.number c.loop-weight.weight c.in_ok-bit.bit c.from.result c.loop-weight-test.true i c.in_ok-bit.ensures.moves right read (c.from.ensures ∙ bool_byte_is c.in_ok-bit.bit)
 
 pub returns-clause-reading : goal.returns-clause-reading
-unfolding bounded_at
+unfolding parse_bounded
 returns-clause-reading c =
     let done : c.loop-weight.weight ≡ 0 = omega arith in
     c.loop-weight.invariant.same ∙ rw done refl

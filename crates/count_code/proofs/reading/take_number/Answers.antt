@@ -3,7 +3,7 @@ use Rattle.bit_vectors.specs.Vectors.{bits_number}
 use Rattle.bit_vectors.specs.Eye.{bits_left}
 use Rattle.bit_vectors.proofs.NumberBits.{bits_number-take_more, bits_number_take_below, bool_byte_is}
 use Rattle.bit_vectors.proofs.FrontReading.{HasTaken-none, HasTaken-more, HasTaken-all, next_is}
-use Rattle.count_code.proofs.Numbers.{number_at-short, number_at-taken, number_taken}
+use Rattle.count_code.proofs.Numbers.{parse_number-short, parse_number-taken, number_taken}
 use Rattle.count_code.proofs.reading.take_number.Goals as goal
 use Rattle.count_code.proofs.reading.take_number.Goals.{In_default, In-Some, After-loop}
 
@@ -19,7 +19,7 @@ returns-in_default-clause-early c = (λ e. fewer (goal.at.returns-in_default-cla
 
 pub returns-in_default-clause-reading : goal.returns-in_default-clause-reading
 returns-in_default-clause-reading c =
-    (number_at-short c.args.width (bits_left c.args.eye.now) (fewer (goal.at.returns-in_default-clause-reading c).In_default), c.size.ensures.size, rw c.in_default.ensures.still (c.in_default.ensures.end.0 refl))
+    (parse_number-short c.args.width (bits_left c.args.eye.now) (fewer (goal.at.returns-in_default-clause-reading c).In_default), c.size.ensures.size, rw c.in_default.ensures.still (c.in_default.ensures.end.0 refl))
 
 -- the number so far has at most 31 bits
 small : (c : In-Some) → c.loop.number < 2 ^ 31
@@ -62,4 +62,4 @@ returns-clause-fits c =
 pub returns-clause-reading : goal.returns-clause-reading
 returns-clause-reading c =
     let i = c.loop.invariant in
-    rw (← whole (goal.at.returns-clause-reading c).After-loop, i.number) (number_at-taken c.args.eye.now c.loop.eye c.loop.counter i.taken)
+    rw (← whole (goal.at.returns-clause-reading c).After-loop, i.number) (parse_number-taken c.args.eye.now c.loop.eye c.loop.counter i.taken)

@@ -1,7 +1,7 @@
 use Rattle.std.proofs.Common.{◌≡◌, ℕ, List, [], ◌∷◌, ◌++◌, ap, ◌∙◌, append-nil}
 use Rattle.std.specs.List.{flat_map}
 use Rattle.std.proofs.lemmas.Grind.{flat_map-append}
-use Rattle.ground_chain.specs.Run.{Arrival, Judged, nothing_known, judged_by, judge, known_after, repeated, run}
+use Rattle.ground_chain.specs.Run.{Arrival, Judged, nothing_known, judged_by, judge, known_after, repeat_judged, run}
 use Rattle.ground_chain.specs.Report.{written_bytes, verdict_rows}
 use Rattle.ground_chain.proofs.Runs.{known_from-append, run_from-append}
 use Rattle.ground_chain.proofs.laws.repeats_change_nothing.Goals as goal
@@ -16,7 +16,7 @@ same_text f text arrivals arrival nothing =
 pub returns : goal.returns
 returns c = λ f arrivals arrival none.
     let known = known_after f arrivals in
-    let same : judge f known arrival ≡ repeated known = ap (judged_by f known arrival.body) none in (
+    let same : judge f known arrival ≡ repeat_judged known = ap (judged_by f known arrival.body) none in (
       same,
       known_from-append f nothing_known arrivals (arrival ∷ []) ∙ ap (λ (j : Judged). j.after) same,
       same_text f (λ j. written_bytes j) arrivals arrival (ap (λ (j : Judged). written_bytes j) same),

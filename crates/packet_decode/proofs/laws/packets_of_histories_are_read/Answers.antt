@@ -1,8 +1,8 @@
-use Rattle.packet_decode.proofs.OfHistories.{answer-gap, answer-unsynced, answer-written, missed-opaque, state_of-is, understood-spelled}
+use Rattle.packet_decode.proofs.OfHistories.{answer-gap, answer-unsynced, answer-written, missed-opaque, true_state-is, understood-spelled}
 use Rattle.packet_decode.proofs.laws.packets_of_histories_are_read.Goals as goal
 
 pub returns-clause-state : goal.returns-clause-state
-returns-clause-state c = state_of-is
+returns-clause-state c = true_state-is
 
 pub returns-clause-spelled : goal.returns-clause-spelled
 returns-clause-spelled c = λ h latest t valid before lt. understood-spelled h t valid lt latest before

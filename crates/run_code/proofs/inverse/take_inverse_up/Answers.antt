@@ -1,5 +1,5 @@
 use Rattle.bit_vectors.proofs.EyeReading.{fault_by}
-use Rattle.run_code.specs.Extraction.{IsInverseWord, inverse_at}
+use Rattle.run_code.specs.Extraction.{IsInverseWord, parse_inverse}
 use Rattle.run_code.proofs.InverseBits.{IsExact-inverse_at, inverse_taken, inverse_within, inverse_one, inverse_wrong, inverse_early}
 use Rattle.run_code.proofs.inverse.take_inverse_up.Goals as goal
 
@@ -22,4 +22,4 @@ returns-clause-early c =
 
 pub returns-clause-fault : goal.returns-clause-fault
 returns-clause-fault c =
-    fault_by (IsInverseWord c.args.x.now) (inverse_at c.args.x.now) (IsExact-inverse_at c.args.x.now c.requires.some) (λ (u : Unit {0}). c.read_inverse.new.into) c.args.eye.now c.read_inverse.new.eye c.read_inverse.result c.read_inverse.ensures.moves c.read_inverse.ensures.reading
+    fault_by (IsInverseWord c.args.x.now) (parse_inverse c.args.x.now) (IsExact-inverse_at c.args.x.now c.requires.some) (λ (u : Unit {0}). c.read_inverse.new.into) c.args.eye.now c.read_inverse.new.eye c.read_inverse.result c.read_inverse.ensures.moves c.read_inverse.ensures.reading

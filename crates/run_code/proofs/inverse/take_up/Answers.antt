@@ -5,7 +5,7 @@ use Rattle.bit_vectors.proofs.EyeReading.{MovesOn-then}
 use Rattle.run_code.specs.Places.{ones_from}
 use Rattle.std.proofs.Common.{◌+◌, drop}
 use Rattle.run_code.proofs.Ones.{one_within, ones_from-one, ones_from-none}
-use Rattle.run_code.proofs.Filling.{filled_at-more, filled_at-none, filled_at-all}
+use Rattle.run_code.proofs.Filling.{parse_filled-more, parse_filled-none, parse_filled-all}
 use Rattle.run_code.proofs.inverse.take_up.Goals as goal
 
 pub loop-place-preserved : goal.loop-place-preserved
@@ -16,13 +16,13 @@ loop-place-preserved c =
       within = omega (arith, one_within c.args.x.now c.in-Some.place c.in-Some.ensures.one);
       places = rw c.set.ensures (length-set c.loop-place.into c.in-Some.place c.in-Some-take.bit ∙ i.places);
       moves = MovesOn-then c.args.eye.now c.loop-place.eye c.take.new.self i.moves (record { bits = c.take.ensures.bits; forward = omega (arith, c.in-Some-take.ensures.moved) });
-      same = i.same ∙ rw (step, c.in-Some-take.ensures.bit, c.set.ensures) (filled_at-more c.in-Some.place (ones_from (c.in-Some.place + 1) (drop (c.in-Some.place + 1) c.args.x.now)) c.loop-place.into (bits_left c.take.new.self) c.in-Some-take.bit);
+      same = i.same ∙ rw (step, c.in-Some-take.ensures.bit, c.set.ensures) (parse_filled-more c.in-Some.place (ones_from (c.in-Some.place + 1) (drop (c.in-Some.place + 1) c.args.x.now)) c.loop-place.into (bits_left c.take.new.self) c.in-Some-take.bit);
     }
 
 pub returns-in_default-take-clause-reading : goal.returns-in_default-take-clause-reading
 returns-in_default-take-clause-reading c =
     let step = ones_from-one c.args.x.now c.loop-place.from c.in-Some.place c.in-Some.ensures.from c.in-Some.ensures.one c.in-Some.ensures.least in (
-      c.loop-place.invariant.same ∙ rw (step, c.in_default-take.ensures.nothing) (filled_at-none c.in-Some.place (ones_from (c.in-Some.place + 1) (drop (c.in-Some.place + 1) c.args.x.now)) c.loop-place.into),
+      c.loop-place.invariant.same ∙ rw (step, c.in_default-take.ensures.nothing) (parse_filled-none c.in-Some.place (ones_from (c.in-Some.place + 1) (drop (c.in-Some.place + 1) c.args.x.now)) c.loop-place.into),
       c.size.ensures.size,
       rw c.in_default-take.ensures.still (c.in_default-take.ensures.end.0 refl),
     )
@@ -30,4 +30,4 @@ returns-in_default-take-clause-reading c =
 pub returns-clause-reading : goal.returns-clause-reading
 returns-clause-reading c =
     let none = ones_from-none c.args.x.now c.loop-place.from c.loop-place.invariant.within (c.in_default.ensures.none.0 refl) in
-    c.loop-place.invariant.same ∙ rw none (filled_at-all c.loop-place.into (bits_left c.loop-place.eye))
+    c.loop-place.invariant.same ∙ rw none (parse_filled-all c.loop-place.into (bits_left c.loop-place.eye))

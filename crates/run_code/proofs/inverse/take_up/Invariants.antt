@@ -2,7 +2,7 @@ use Rattle.std.proofs.Common.{◌≡◌, ◌-◌, ◌≤◌, length, drop, repli
 use Rattle.bit_vectors.specs.Eye.{bits_left}
 use Rattle.bit_vectors.specs.Reading.{MovesOn}
 use Rattle.run_code.specs.Places.{ones_from, places_up}
-use Rattle.run_code.specs.Extraction.{filled_at}
+use Rattle.run_code.specs.Extraction.{parse_filled}
 use Rattle.run_code.proofs.inverse.take_up.Given as goal
 
 -- reading on at the ones from here on gives what reading from the start gives
@@ -11,7 +11,7 @@ invariant-loop-place l = record {
   within : l.from ≤ length l.x;
   places : length l.into ≡ length l.x;
   moves : MovesOn l.fn.eye l.eye;
-  same : filled_at (places_up l.x) (replicate (length l.x) false) (bits_left l.fn.eye) ≡ filled_at (ones_from l.from (drop l.from l.x)) l.into (bits_left l.eye);
+  same : parse_filled (places_up l.x) (replicate (length l.x) false) (bits_left l.fn.eye) ≡ parse_filled (ones_from l.from (drop l.from l.x)) l.into (bits_left l.eye);
 }
 
 abbrev pub decreases-loop-place : goal.decreases-loop-place

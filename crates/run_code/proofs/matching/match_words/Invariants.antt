@@ -1,6 +1,6 @@
 use Rattle.std.proofs.Common.{◌≡◌, ◌≤◌, length}
 use Rattle.bit_vectors.specs.Eye.{bits_left}
-use Rattle.bit_vectors.specs.Reading.{MovesOn, same_at}
+use Rattle.bit_vectors.specs.Reading.{MovesOn, parse_word}
 use Rattle.run_code.specs.Runs.{runs_from, run_bits}
 use Rattle.run_code.proofs.Ones.{ones_below}
 use Rattle.run_code.proofs.matching.match_words.Given as goal
@@ -10,7 +10,7 @@ abbrev pub invariant-loop-place : goal.invariant-loop-place
 invariant-loop-place l = record {
   within : l.below ≤ length l.v;
   moves : MovesOn l.fn.eye l.eye;
-  same : same_at (run_bits l.v) (bits_left l.fn.eye) ≡ same_at (runs_from l.below (ones_below l.below l.v)) (bits_left l.eye);
+  same : parse_word (run_bits l.v) (bits_left l.fn.eye) ≡ parse_word (runs_from l.below (ones_below l.below l.v)) (bits_left l.eye);
 }
 
 abbrev pub decreases-loop-place : goal.decreases-loop-place

@@ -3,7 +3,7 @@ use Rattle.std.proofs.lemmas.List.{length-replicate, length-set}
 use Rattle.std.proofs.lemmas.Result.{err_from_is_err_and}
 use Rattle.bit_vectors.specs.Eye.{bits_left}
 use Rattle.bit_vectors.proofs.EyeReading.{MovesOn-refl, MovesOn-then}
-use Rattle.run_code.proofs.ExactRuns.{ones_at-value, ones_at-end, ones_at-fault, vector_at_is}
+use Rattle.run_code.proofs.ExactRuns.{parse_ones-value, parse_ones-end, parse_ones-fault, vector_at_is}
 use Rattle.run_code.proofs.runs.read_runs.Goals as goal
 
 pub loop-distance-init : goal.loop-distance-init
@@ -21,14 +21,14 @@ pub returns-in_err-distance-clause-reading : goal.returns-in_err-distance-clause
 returns-in_err-distance-clause-reading c =
     let p = err_from_is_err_and c.from_residual.result c.from_residual.ensures.1 in
     let i = c.loop-distance.invariant in
-    rw (p.1, p.2, i.same.2) (ones_at-fault (λ (u : Unit {0}). c.loop-distance.into) i.same.0 c.loop-distance.below c.loop-distance.into (bits_left c.loop-distance.eye) c.in_err-distance.field-0.0 c.take_count.new.eye i.same.1 c.in_err-distance.ensures.reading)
+    rw (p.1, p.2, i.same.2) (parse_ones-fault (λ (u : Unit {0}). c.loop-distance.into) i.same.0 c.loop-distance.below c.loop-distance.into (bits_left c.loop-distance.eye) c.in_err-distance.field-0.0 c.take_count.new.eye i.same.1 c.in_err-distance.ensures.reading)
 
 pub loop-distance-preserved : goal.loop-distance-preserved
 loop-distance-preserved c =
     let i = c.loop-distance.invariant in
     let word = rw c.in-Value.is at c.in_ok-distance.ensures.word in
     let read = rw c.in-Value.is at c.in_ok-distance.ensures.reading in
-    let next = ones_at-value i.same.0 c.loop-distance.below c.loop-distance.into (bits_left c.loop-distance.eye) c.in-Value.distance (bits_left c.take_count.new.eye) i.same.1 word.0.0 word.0.1 read in
+    let next = parse_ones-value i.same.0 c.loop-distance.below c.loop-distance.into (bits_left c.loop-distance.eye) c.in-Value.distance (bits_left c.take_count.new.eye) i.same.1 word.0.0 word.0.1 read in
     record {
       within = rw c.set.ensures (omega (arith, i.within, length-set c.loop-distance.into (c.loop-distance.below - c.in-Value.distance) true));
       places = rw c.set.ensures (length-set c.loop-distance.into (c.loop-distance.below - c.in-Value.distance) true ∙ i.places);
@@ -40,4 +40,4 @@ pub returns-clause-reading : goal.returns-clause-reading
 returns-clause-reading c =
     let i = c.loop-distance.invariant in
     let read = rw c.in_default.is at c.in_ok-distance.ensures.reading in
-    i.same.2 ∙ ones_at-end i.same.0 c.loop-distance.below c.loop-distance.into (bits_left c.loop-distance.eye) (bits_left c.take_count.new.eye) i.same.1 read
+    i.same.2 ∙ parse_ones-end i.same.0 c.loop-distance.below c.loop-distance.into (bits_left c.loop-distance.eye) (bits_left c.take_count.new.eye) i.same.1 read

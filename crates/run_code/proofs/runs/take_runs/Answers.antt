@@ -1,6 +1,6 @@
 use Rattle.bit_vectors.proofs.EyeReading.{fault_by}
 use Rattle.std.proofs.Common.{length}
-use Rattle.run_code.specs.Runs.{IsRunWordOf, vector_at}
+use Rattle.run_code.specs.Runs.{IsRunWordOf, parse_vector}
 use Rattle.run_code.proofs.ExactRuns.{IsExact-vector_at, run_taken, run_only}
 use Rattle.run_code.proofs.runs.take_runs.Goals as goal
 
@@ -14,4 +14,4 @@ returns-clause-only c =
 
 pub returns-clause-fault : goal.returns-clause-fault
 returns-clause-fault c =
-    fault_by (IsRunWordOf (length c.args.into.now)) (vector_at (length c.args.into.now)) (IsExact-vector_at (length c.args.into.now)) (λ (u : Unit {0}). c.read_runs.new.into) c.args.eye.now c.read_runs.new.eye c.read_runs.result c.read_runs.ensures.moves c.read_runs.ensures.reading
+    fault_by (IsRunWordOf (length c.args.into.now)) (parse_vector (length c.args.into.now)) (IsExact-vector_at (length c.args.into.now)) (λ (u : Unit {0}). c.read_runs.new.into) c.args.eye.now c.read_runs.new.eye c.read_runs.result c.read_runs.ensures.moves c.read_runs.ensures.reading

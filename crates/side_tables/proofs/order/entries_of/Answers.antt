@@ -2,15 +2,15 @@ use Rattle.std.proofs.Common.{◌≡◌, ℕ, ◌<◌, ◌+◌, List, [], ◌∷
 use Rattle.std.specs.Result.{is_ok}
 use Rattle.std.proofs.lemmas.List.{map-append}
 use Rattle.std.proofs.lemmas.List.Elements.{All-push, Contains-append_left, Contains-push}
-use Rattle.side_tables.specs.declared.order.Entry.{Entry}
+use Rattle.side_tables.specs.declared.order.OrderEntry.{OrderEntry}
 use Rattle.side_tables.specs.Order.{IsEntryOf, places_of}
 use Rattle.side_tables.proofs.order.entries_of.Goals as goal
 
 -- one entry more, with the next place
-each_more : (entries : List Entry) (entry : Entry) (n : ℕ) → entry.place ≡ n → ((place : ℕ) → place < n → Contains (places_of entries) place)
+each_more : (entries : List OrderEntry) (entry : OrderEntry) (n : ℕ) → entry.place ≡ n → ((place : ℕ) → place < n → Contains (places_of entries) place)
     → (place : ℕ) → place < n + 1 → Contains (places_of (entries ++ entry ∷ [])) place
 each_more entries entry n next each =
-    rw (map-append (λ (e : Entry). e.place) entries (entry ∷ [])) (
+    rw (map-append (λ (e : OrderEntry). e.place) entries (entry ∷ [])) (
     below_more (λ place. Contains (places_of entries ++ entry.place ∷ []) place) n
     (λ place before. Contains-append_left (places_of entries) (entry.place ∷ []) place (each place before))
     (rw next (Contains-push (places_of entries) n)))

@@ -1,6 +1,6 @@
 use Rattle.std.proofs.Common.{◌≡◌, take}
-use Rattle.side_tables.specs.Tables.{flags_at}
+use Rattle.side_tables.specs.Tables.{flags_of_entries}
 use Rattle.side_tables.proofs.schedule.flags_by.Given as goal
 
 abbrev pub invariant-loop-entry : goal.invariant-loop-entry
-invariant-loop-entry l = l.flags ≡ flags_at l.rows l.t (take l.entry-index l.entry-items)
+invariant-loop-entry l = l.flags ≡ flags_of_entries l.rows l.t (take l.entry-index l.entry-items)

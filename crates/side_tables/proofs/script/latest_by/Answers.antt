@@ -3,7 +3,7 @@ use Rattle.std.proofs.lemmas.List.{take_all, take_more}
 use Rattle.side_tables.specs.Order.{no_entry}
 use Rattle.side_tables.specs.Rows.{copy_span}
 use Rattle.side_tables.proofs.Naming.{place_inside}
-use Rattle.side_tables.proofs.CopyRows.{IsLatest-all}
+use Rattle.side_tables.proofs.CopyRows.{IsLastRow-all}
 use Rattle.side_tables.proofs.script.latest_by.Goals as goal
 
 pub latest_with-latest-requires-clause-inside : goal.latest_with-latest-requires-clause-inside
@@ -17,4 +17,4 @@ loop-entry-preserved c =
 pub returns : goal.returns
 returns c =
     let whole : take c.loop-entry.entry-index c.entries_at-entry-items.result.now ≡ c.entries_at-entry-items.result.now = take_all c.loop-entry.entry-index c.entries_at-entry-items.result.now c.loop-entry-test.false in
-    IsLatest-all c.args.rows.now c.args.t c.entries_at-entry-items.result.now c.loop-entry.latest (c.entries_at-entry-items.ensures (map copy_span c.args.rows.now) c.requires.order) (rw whole at c.loop-entry.invariant)
+    IsLastRow-all c.args.rows.now c.args.t c.entries_at-entry-items.result.now c.loop-entry.latest (c.entries_at-entry-items.ensures (map copy_span c.args.rows.now) c.requires.order) (rw whole at c.loop-entry.invariant)

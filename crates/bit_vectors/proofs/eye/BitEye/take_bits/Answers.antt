@@ -2,7 +2,7 @@ use Rattle.std.proofs.Common.{◌≡◌, ◌+◌, ◌<◌, length, take, false, 
 use Rattle.std.proofs.lemmas.List.{length-set, take-append-drop, take_all, take_more, take_more_set, drop-set-lt}
 use Rattle.std.proofs.lemmas.Grind.{drop_more_same}
 use Rattle.bit_vectors.specs.Eye.{bits_left}
-use Rattle.bit_vectors.proofs.FrontReading.{HasTaken-more, HasTaken-all, next_is, front_at-short, front_at-taken}
+use Rattle.bit_vectors.proofs.FrontReading.{HasTaken-more, HasTaken-all, next_is, parse_front-short, parse_front-taken}
 use Rattle.bit_vectors.proofs.eye.BitEye.take_bits.Goals as goal
 use Rattle.bit_vectors.proofs.eye.BitEye.take_bits.Goals.{In_default}
 
@@ -27,7 +27,7 @@ returns-in_default-clause-early c = (λ e. fewer (goal.at.returns-in_default-cla
 pub returns-in_default-clause-reading : goal.returns-in_default-clause-reading
 returns-in_default-clause-reading c =
     let d = (goal.at.returns-in_default-clause-reading c).In_default in
-    (front_at-short (length c.args.into.now) (bits_left c.args.self.now) (fewer d), c.size.ensures.size, rw c.in_default.ensures.still (c.in_default.ensures.end.0 refl))
+    (parse_front-short (length c.args.into.now) (bits_left c.args.self.now) (fewer d), c.size.ensures.size, rw c.in_default.ensures.still (c.in_default.ensures.end.0 refl))
 
 pub loop-place-preserved : goal.loop-place-preserved
 loop-place-preserved c =
@@ -47,4 +47,4 @@ returns-clause-reading c =
     let i = c.loop-place.invariant in
     let whole : take c.loop-place.place c.loop-place.into ≡ c.loop-place.into = take_all c.loop-place.place c.loop-place.into (omega (arith, i.places, c.loop-place-test.false, c.len-place-end.ensures.len)) in
     let place : length c.args.into.now ≡ c.loop-place.place = omega (arith, c.loop-place-test.false, c.len-place-end.ensures.len) in
-    rw (place, front_at-taken c.args.self.now c.loop-place.self c.loop-place.place i.taken, ← i.done, whole) refl
+    rw (place, parse_front-taken c.args.self.now c.loop-place.self c.loop-place.place i.taken, ← i.done, whole) refl

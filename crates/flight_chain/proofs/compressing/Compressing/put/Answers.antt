@@ -7,7 +7,7 @@ use Rattle.desk_ports.proofs.Runs.{Ran-adds, Ran-ready_in, Ran-ready_out}
 use Rattle.mask_update.specs.Histories.{History}
 use Rattle.side_tables.specs.Rows.{flags_of}
 use Rattle.packet_encode.specs.Encoder.{StandsFor}
-use Rattle.packet_encode.specs.Packets.{with_input}
+use Rattle.packet_encode.specs.Packets.{with_next_input}
 use Rattle.packet_store.specs.SpacePackets.{period, space_packet}
 use Rattle.flight_chain.specs.Stores.{data_at}
 use Rattle.flight_chain.specs.Compressing.{Progress}
@@ -16,12 +16,12 @@ use Rattle.flight_chain.proofs.compressing.Compressing.put.Goals as goal
 -- the bytes that the pen has are those of the packet
 packet_is : (g : _) (c : goal.After-put g) (h : History) → StandsFor h c.args.self.now.encoder
     → space_packet c.self.inside.writer.apid (c.from.result % period) c.bytes.result.now
-    ≡ space_packet c.args.self.now.apid (c.args.t % period) (data_at (with_input h c.args.self.now.encoder.robust c.args.self.now.input (flags_of c.args.self.now.rows c.args.t)) (length h.steps))
+    ≡ space_packet c.args.self.now.apid (c.args.t % period) (data_at (with_next_input h c.args.self.now.encoder.robust c.args.self.now.input (flags_of c.args.self.now.rows c.args.t)) (length h.steps))
 packet_is g c h stands =
     let view = c.self.view_is in
     let kept = subst (λ (s : Progress). StandsFor h s.encoder) (sym c.self.view_is) stands in
     let flags = c.flags.ensures ∙ ap (λ (s : Progress). flags_of s.rows c.args.t) c.self.view_is in
-    let bytes = c.bytes.ensures.bytes ∙ (ap vector_bytes (c.encode.ensures.bits h kept) ∙ λ i. data_at (with_input h (view i).encoder.robust (view i).input (flags i)) (length h.steps)) in
+    let bytes = c.bytes.ensures.bytes ∙ (ap vector_bytes (c.encode.ensures.bits h kept) ∙ λ i. data_at (with_next_input h (view i).encoder.robust (view i).input (flags i)) (length h.steps)) in
     λ i. space_packet (view i).apid (c.from.ensures i % period) (bytes i)
 
 pub returns-clause-added : goal.returns-clause-added

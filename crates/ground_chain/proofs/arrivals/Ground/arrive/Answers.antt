@@ -2,7 +2,7 @@ use Rattle.std.proofs.Common.{◌≡◌, ℕ, Option, Some, None, refl, sym, ap,
 use Rattle.ground_chain.specs.declared.verdict.Verdict.{Verdict}
 use Rattle.ground_chain.specs.Numbers.{number_after, latest_after, expected}
 use Rattle.ground_chain.specs.Run.{Judged, lost_from, kind_of}
-use Rattle.ground_chain.specs.Reception.{Reception, StandsFor, known_by, next_judged}
+use Rattle.ground_chain.specs.Reception.{Reception, StandsFor, known_of, next_judged}
 use Rattle.ground_chain.proofs.Receptions.{judged_read, judged_repeat, stands_next}
 use Rattle.ground_chain.proofs.arrivals.Ground.arrive.Goals as goal
 
@@ -12,7 +12,7 @@ returns-in_default-clause-stands c = λ arrivals stands.
     let new : Reception = record { latest = c.next.new.self; decoder = c.self.inside.decoder } in
     let none : number_after c.self.inside.numbers c.args.count ≡ None = search rules in
     let same : c.next.new.self ≡ c.self.inside.numbers = search rules in
-    let known : known_by new ≡ (next_judged old c.args.count c.args.bytes.now).after =
+    let known : known_of new ≡ (next_judged old c.args.count c.args.bytes.now).after =
     ap (λ (latest : Option ℕ). record { latest = latest; state = c.self.inside.decoder.state }) same ∙ ap (λ (j : Judged). j.after) (judged_repeat old c.args.count c.args.bytes.now none) in
     stands_next arrivals old new c.args.count c.args.bytes.now refl known (subst (StandsFor arrivals) (sym c.self.view_is) stands)
 

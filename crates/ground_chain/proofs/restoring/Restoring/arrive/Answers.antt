@@ -1,11 +1,11 @@
 use Rattle.std.proofs.Common.{false, ◌≡◌, true, sym, ap, ◌∙◌, subst}
 use Rattle.desk_ports.specs.declared.desk.Outlet.TheVariants as outlet
 use Rattle.desk_ports.specs.Meanings.{Adds, AddsFront}
-use Rattle.packet_decode.specs.State.{Packet}
+use Rattle.packet_decode.specs.State.{WrittenPacket}
 use Rattle.packet_decode.specs.Decoding.{Decoding}
 use Rattle.ground_chain.specs.declared.verdict.Verdict.{Verdict}
 use Rattle.ground_chain.specs.Run.{Known, Judged}
-use Rattle.ground_chain.specs.Report.{is_written, verdict_rows}
+use Rattle.ground_chain.specs.Report.{is_written_kind, verdict_rows}
 use Rattle.ground_chain.specs.Reception.{next_judged}
 use Rattle.ground_chain.specs.Restoring.{Progress, WroteFront, judged_outputs, Wrote}
 use Rattle.ground_chain.proofs.Writings.{OnErr-always, kind_written, content_written, front_rows, front_content, no_content, wrote_all, wrote_rows}
@@ -32,12 +32,12 @@ returns-in_err-write_content-clause-front g c =
     let body = c.body.ensures ∙ ap (λ (s : Progress). s.reader.body) c.self.view_is in
     let same : inner ≡ next_judged c.args.self.now.reception c.args.count c.args.self.now.reader.body = λ i. next_judged (c.self.view_is i).reception c.args.count (body i) in
     let rows = c.as_bytes.ensures ∙ (c.rows_of.ensures ∙ ap verdict_rows c.arrive-verdict.ensures.verdict) in
-    let written : is_written c.arrive-verdict.result.kind ≡ true = sym c.is_written.ensures ∙ c.if-is_written.true in
+    let written : is_written_kind c.arrive-verdict.result.kind ≡ true = sym c.is_written.ensures ∙ c.if-is_written.true in
     let latest = c.arrive-verdict.ensures.written (kind_written c.arrive-verdict.result.kind written) in
-    let packet : Packet = record { number = c.arrive-verdict.result.t; mask = latest.mask; content = latest.content } in
+    let packet : WrittenPacket = record { number = c.arrive-verdict.result.t; mask = latest.mask; content = latest.content } in
     let state = ap (λ (x : Decoding). x.state) latest.is in
     let after = ap (λ (k : Known). k.state) c.arrive-verdict.ensures.known in
-    let kind : is_written inner.verdict.kind ≡ true = ap (λ (v : Verdict). is_written v.kind) (sym c.arrive-verdict.ensures.verdict) ∙ written in
+    let kind : is_written_kind inner.verdict.kind ≡ true = ap (λ (v : Verdict). is_written_kind v.kind) (sym c.arrive-verdict.ensures.verdict) ∙ written in
     let content = content_written inner c.arrive-verdict.new.self.decoder.places c.arrive-verdict.new.self.decoder.state packet kind after state in
     let front = front_content a b d inner _ (subst (Adds a b outlet.Report) rows c.in_ok-write_all.ensures.added) c.in_err-write_content.ensures.front content in
     OnErr-always c.from_residual-in_err-write_content.result (WroteFront a d (judged_outputs (next_judged c.args.self.now.reception c.args.count c.args.self.now.reader.body)))
@@ -51,7 +51,7 @@ returns-else-is_written-clause-wrote g c =
     let body = c.body.ensures ∙ ap (λ (s : Progress). s.reader.body) c.self.view_is in
     let same : inner ≡ next_judged c.args.self.now.reception c.args.count c.args.self.now.reader.body = λ i. next_judged (c.self.view_is i).reception c.args.count (body i) in
     let rows = c.as_bytes.ensures ∙ (c.rows_of.ensures ∙ ap verdict_rows c.arrive-verdict.ensures.verdict) in
-    let other : is_written inner.verdict.kind ≡ false = ap (λ (v : Verdict). is_written v.kind) (sym c.arrive-verdict.ensures.verdict) ∙ (sym c.is_written.ensures ∙ c.if-is_written.false) in
+    let other : is_written_kind inner.verdict.kind ≡ false = ap (λ (v : Verdict). is_written_kind v.kind) (sym c.arrive-verdict.ensures.verdict) ∙ (sym c.is_written.ensures ∙ c.if-is_written.false) in
     let wrote = wrote_rows a b inner (subst (Adds a b outlet.Report) rows c.in_ok-write_all.ensures.added) (no_content inner other) in
     subst (λ (j : Judged). Wrote a b (judged_outputs j)) same wrote
 
@@ -64,12 +64,12 @@ returns-in_ok-write_content-clause-wrote g c =
     let body = c.body.ensures ∙ ap (λ (s : Progress). s.reader.body) c.self.view_is in
     let same : inner ≡ next_judged c.args.self.now.reception c.args.count c.args.self.now.reader.body = λ i. next_judged (c.self.view_is i).reception c.args.count (body i) in
     let rows = c.as_bytes.ensures ∙ (c.rows_of.ensures ∙ ap verdict_rows c.arrive-verdict.ensures.verdict) in
-    let written : is_written c.arrive-verdict.result.kind ≡ true = sym c.is_written.ensures ∙ c.if-is_written.true in
+    let written : is_written_kind c.arrive-verdict.result.kind ≡ true = sym c.is_written.ensures ∙ c.if-is_written.true in
     let latest = c.arrive-verdict.ensures.written (kind_written c.arrive-verdict.result.kind written) in
-    let packet : Packet = record { number = c.arrive-verdict.result.t; mask = latest.mask; content = latest.content } in
+    let packet : WrittenPacket = record { number = c.arrive-verdict.result.t; mask = latest.mask; content = latest.content } in
     let state = ap (λ (x : Decoding). x.state) latest.is in
     let after = ap (λ (k : Known). k.state) c.arrive-verdict.ensures.known in
-    let kind : is_written inner.verdict.kind ≡ true = ap (λ (v : Verdict). is_written v.kind) (sym c.arrive-verdict.ensures.verdict) ∙ written in
+    let kind : is_written_kind inner.verdict.kind ≡ true = ap (λ (v : Verdict). is_written_kind v.kind) (sym c.arrive-verdict.ensures.verdict) ∙ written in
     let content = content_written inner c.arrive-verdict.new.self.decoder.places c.arrive-verdict.new.self.decoder.state packet kind after state in
     let wrote = wrote_all a b d inner _ (subst (Adds a b outlet.Report) rows c.in_ok-write_all.ensures.added) c.in_ok-write_content.ensures.added content in
     subst (λ (j : Judged). Wrote a d (judged_outputs j)) same wrote

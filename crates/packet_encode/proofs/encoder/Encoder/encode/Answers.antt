@@ -11,7 +11,7 @@ use Rattle.robust_window.specs.Window.{StandsFor as WindowStandsFor}
 use Rattle.robust_window.proofs.Earlier.{latest_change-is, mask_steps-push}
 use Rattle.packet_encode.specs.Encoder.{EncoderState, StandsFor}
 use Rattle.packet_encode.specs.Forms.{change_bits, data_bits, form_bits}
-use Rattle.packet_encode.specs.Packets.{content_of, form_at, form_of, sent_of, with_input}
+use Rattle.packet_encode.specs.Packets.{sent_content, form_at, form_of, sent_of, with_next_input}
 use Rattle.packet_encode.proofs.OfHistories.{form_of-most, form_of-same, written_is}
 use Rattle.packet_encode.proofs.encoder.Encoder.encode.Goals as goal
 
@@ -19,7 +19,7 @@ abbrev step : goal.After-put_data → History → Step
 step c h = step_of (λ _. c.args.flags) (λ _. c.args.self.now.robust) (length h.steps, c.args.input.now)
 
 abbrev after : goal.After-put_data → History → History
-after c h = with_input h c.args.self.now.robust c.args.input.now c.args.flags
+after c h = with_next_input h c.args.self.now.robust c.args.input.now c.args.flags
 
 flags_are : (c : goal.After-put_data) (h : History) → StandsFor h c.args.self.now → flags_after c.args.self.now.robust (length h.steps) c.args.flags ≡ c.forced-flags.result
 flags_are c h stands = ap (λ n. flags_after c.args.self.now.robust n c.args.flags) (sym stands.masks.taken) ∙ sym c.forced-flags.ensures
@@ -51,7 +51,7 @@ written c =
     ∙ ap (λ bits. bits ++ change_bits (form_of c.mask-mask.result.now c.step-2.new.self.recent c.step-2.new.self.level c.step-2.new.self.twice c.args.input.now c.forced-flags.result)) c.requires.empty)
     c.put_changes-wide.ensures.wide
     (c.put_data.ensures.bits
-    ∙ ap (λ v. c.put_changes-wide.new.pen.bits ++ data_bits (sent_of c.forced-flags.result.f c.mask-mask.result.now) (content_of c.forced-flags.result.r c.args.input.now (cond c.put_changes-wide.result (or_bits c.mask-mask.result.now v) c.mask-mask.result.now)))
+    ∙ ap (λ v. c.put_changes-wide.new.pen.bits ++ data_bits (sent_of c.forced-flags.result.f c.mask-mask.result.now) (sent_content c.forced-flags.result.r c.args.input.now (cond c.put_changes-wide.result (or_bits c.mask-mask.result.now v) c.mask-mask.result.now)))
     c.recent-recent.ensures.kept)
     ∙ ap (λ v. form_bits (form_of v c.step-2.new.self.recent c.step-2.new.self.level c.step-2.new.self.twice c.args.input.now c.forced-flags.result)) c.mask-mask.ensures.kept
 

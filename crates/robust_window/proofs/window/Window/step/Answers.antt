@@ -1,7 +1,7 @@
 use Rattle.std.proofs.Common.{◌≡◌, ◌+◌, List, [], ◌∷◌, ◌++◌, length, Bool, false, drop, replicate, subst, sym, ap, ◌∙◌, arith}
 use Rattle.std.specs.Prelude.{All}
 use Rattle.circular_buffer.specs.Buffer.{Buffer, keep_last}
-use Rattle.robust_window.specs.Window.{Kept}
+use Rattle.robust_window.specs.Window.{WindowState}
 use Rattle.robust_window.proofs.Scanning.{gathered, length-gathered}
 use Rattle.robust_window.proofs.Standing.{All-pushed, StandsFor-next, keep_last-full, length-pushed}
 use Rattle.robust_window.proofs.window.Window.step.Goals as goal
@@ -19,15 +19,15 @@ new_masks_are c =
     ∙ keep_last-full c.self.inside.new_masks.items c.args.new_mask c.self.invariant.new_masks_len
 
 change_len : (c : goal.After-self-3-1) → length c.args.change.now ≡ length c.self.inside.recent
-change_len c = c.requires.places ∙ ap (λ (k : Kept). length k.recent) (sym c.self.view_is)
+change_len c = c.requires.places ∙ ap (λ (k : WindowState). length k.recent) (sym c.self.view_is)
 
 pub returns-clause-places : goal.returns-clause-places
-returns-clause-places c = recent_len c ∙ ap (λ (k : Kept). length k.recent) c.self.view_is
+returns-clause-places c = recent_len c ∙ ap (λ (k : WindowState). length k.recent) c.self.view_is
 
 pub invariant_of-self : goal.invariant_of-self
 invariant_of-self c =
     let same : length c.gather.new.recent ≡ length c.self.inside.recent = recent_len c in
-    let taken : c.self.inside.taken ≡ c.args.self.now.taken = ap (λ (k : Kept). k.taken) c.self.view_is in
+    let taken : c.self.inside.taken ≡ c.args.self.now.taken = ap (λ (k : WindowState). k.taken) c.self.view_is in
     record {
       vector = (omega (arith, c.self.invariant.vector.0), omega (arith, c.self.invariant.vector.1));
       changes_full = ap (λ (b : Buffer (List Bool)). b.capacity) c.push_change.ensures;
@@ -46,21 +46,21 @@ invariant_of-self c =
 pub returns-clause-stands : goal.returns-clause-stands
 returns-clause-stands c = λ steps step stands change new_mask robust.
     let was = sym c.self.view_is in
-    let robust_is : step.robust ≡ c.self.inside.robust = robust ∙ ap (λ (k : Kept). k.robust) was in
-    let taken_is : c.args.self.now.taken ≡ c.self.inside.taken = ap (λ (k : Kept). k.taken) was in
+    let robust_is : step.robust ≡ c.self.inside.robust = robust ∙ ap (λ (k : WindowState). k.robust) was in
+    let taken_is : c.args.self.now.taken ≡ c.self.inside.taken = ap (λ (k : WindowState). k.taken) was in
     StandsFor-next steps step c.args.self.now _ stands (record {
-      full = ap (λ (k : Kept). length k.changes) was ∙ c.self.invariant.changes_len;
-      flags_full = ap (λ (k : Kept). length k.new_masks) was ∙ c.self.invariant.new_masks_len;
+      full = ap (λ (k : WindowState). length k.changes) was ∙ c.self.invariant.changes_len;
+      flags_full = ap (λ (k : WindowState). length k.new_masks) was ∙ c.self.invariant.new_masks_len;
       robust_most = omega (arith, c.self.invariant.robust_most);
       places = ap length change ∙ c.requires.places;
       start = λ none. change ∙ c.requires.first_change none ∙ ap (λ (v : List Bool). replicate (length v) false) (sym change);
-      changes = changes_are c ∙ ap (λ (k : Kept). drop 1 k.changes ++ c.args.change.now ∷ []) c.self.view_is ∙ ap (λ v. drop 1 c.args.self.now.changes ++ v ∷ []) (sym change);
-      new_masks = new_masks_are c ∙ ap (λ (k : Kept). drop 1 k.new_masks ++ c.args.new_mask ∷ []) c.self.view_is ∙ ap (λ b. drop 1 c.args.self.now.new_masks ++ b ∷ []) (sym new_mask);
+      changes = changes_are c ∙ ap (λ (k : WindowState). drop 1 k.changes ++ c.args.change.now ∷ []) c.self.view_is ∙ ap (λ v. drop 1 c.args.self.now.changes ++ v ∷ []) (sym change);
+      new_masks = new_masks_are c ∙ ap (λ (k : WindowState). drop 1 k.new_masks ++ c.args.new_mask ∷ []) c.self.view_is ∙ ap (λ b. drop 1 c.args.self.now.new_masks ++ b ∷ []) (sym new_mask);
       recent =
           c.gather.ensures
-          ∙ ap (λ (k : Kept). gathered (length k.recent) c.push_change.new.changes.items (c.self.inside.robust + 1)) c.self.view_is
+          ∙ ap (λ (k : WindowState). gathered (length k.recent) c.push_change.new.changes.items (c.self.inside.robust + 1)) c.self.view_is
           ∙ ap (λ r. gathered (length c.args.self.now.recent) c.push_change.new.changes.items (r + 1)) (sym robust_is);
-      recent_len = recent_len c ∙ ap (λ (k : Kept). length k.recent) c.self.view_is;
+      recent_len = recent_len c ∙ ap (λ (k : WindowState). length k.recent) c.self.view_is;
       level_least = omega (arith, c.quiet_level-self-inside.ensures.least);
       level_most = omega (arith, c.quiet_level-self-inside.ensures.most);
       quiet = λ back above most. c.quiet_level-self-inside.ensures.quiet back (omega arith) most;
