@@ -4,12 +4,13 @@ use Rattle.std.proofs.lemmas.Bool.{false_from_ne_true, true≢false}
 use Rattle.std.proofs.lemmas.List.Elements.{All-contains, All-map}
 use Rattle.side_tables.specs.declared.order.OrderEntry.{OrderEntry}
 use Rattle.side_tables.specs.declared.rows.CopyRow.{CopyRow}
-use Rattle.side_tables.specs.Order.{HaveAllAt, places_of}
+use Rattle.side_tables.specs.Order.{places_of}
 use Rattle.side_tables.specs.Spans.{names}
 use Rattle.side_tables.specs.Rows.{copy_span, copies_of}
 use Rattle.side_tables.specs.Tables.{IsLastRowOf, IsLastRow, row_names, no_copy_row}
 use Rattle.side_tables.proofs.Naming.{naming_among}
 use Rattle.side_tables.proofs.Places.{find-reverse_none, find-reverse_last}
+use Rattle.side_tables.proofs.Orders.{HaveAllAt}
 
 -- what holds of the entries that have all at the number holds of all rows
 pub IsLastRow-all : (rows : List CopyRow) (t : ℕ) (entries : List OrderEntry) (latest : Option ℕ) → HaveAllAt (map copy_span rows) t entries → IsLastRowOf rows t entries latest → IsLastRow rows t latest

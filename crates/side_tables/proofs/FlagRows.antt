@@ -6,11 +6,12 @@ use Rattle.std.proofs.lemmas.List.Folds.{list_any_more}
 use Rattle.bit_vectors.specs.declared.flags.Flags.{Flags}
 use Rattle.side_tables.specs.declared.order.OrderEntry.{OrderEntry}
 use Rattle.side_tables.specs.declared.rows.FlagRow.{FlagRow}
-use Rattle.side_tables.specs.Order.{HaveAllAt, entry_at, no_entry}
+use Rattle.side_tables.specs.Order.{entry_at, no_entry}
 use Rattle.side_tables.specs.Rows.{flag_span, flags_of, gives_flag}
 use Rattle.side_tables.specs.Tables.{flags_of_entries, flags_with, flag_row_at, no_flag_row}
 use Rattle.side_tables.proofs.Naming.{both, naming_among}
 use Rattle.side_tables.proofs.Places.{list_any-places}
+use Rattle.side_tables.proofs.Orders.{HaveAllAt}
 
 given_more : (flag : Flags → Bool) (rows : List FlagRow) (t : ℕ) (entries : List OrderEntry) (i : ℕ) → i < length entries
     → list_any (λ entry. gives_flag flag t (flag_row_at rows entry)) (take (i + 1) entries)

@@ -1,4 +1,5 @@
 pub mod Orders
+pub mod Turns
 pub mod Places
 pub mod Naming
 pub mod FlagRows

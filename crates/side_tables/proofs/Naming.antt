@@ -4,8 +4,9 @@ use Rattle.std.proofs.lemmas.List.{get_or-map, length-map}
 use Rattle.std.proofs.lemmas.List.Elements.{All-get_or}
 use Rattle.side_tables.specs.declared.order.OrderEntry.{OrderEntry}
 use Rattle.side_tables.specs.declared.span.Span.{Span}
-use Rattle.side_tables.specs.Order.{HaveAllAt, places_of, entry_at, no_entry, no_span}
+use Rattle.side_tables.specs.Order.{places_of, entry_at, no_entry, no_span}
 use Rattle.side_tables.specs.Spans.{names}
+use Rattle.side_tables.proofs.Orders.{HaveAllAt}
 
 pub both : (a b : Bool) → (a && b) ≡ true → (a ≡ true) × (b ≡ true)
 both true b is = (refl, is)

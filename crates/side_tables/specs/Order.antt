@@ -1,11 +1,11 @@
 -- Spans in the order of their first numbers.
-use Rattle.std.specs.Prelude.{◌≡◌, ℕ, ◌<◌, ◌≤◌, List, length, slice_index_or, All, map, Contains}
+use Rattle.std.specs.Prelude.{◌≡◌, ℕ, suc, zero, ◌+◌, ◌/◌, ◌<◌, ◌≤◌, max, nat_le, Bool, true, false, ◌&&◌, List, [], ◌∷◌, length, take, drop, slice_index_or, Option, None, Some, All, map, Contains}
 use Rattle.std.specs.List.Sorted.{IsNonDecreasingBy}
 use Rattle.side_tables.specs.declared.order.OrderEntry.{OrderEntry}
 use Rattle.side_tables.specs.declared.span.Span.{Span}
 
 abbrev pub no_entry : OrderEntry
-no_entry = record { first = 0; reach = 0; place = 0 }
+no_entry = record { first = 0; last = 0; reach = 0; place = 0 }
 
 abbrev pub no_span : Span
 no_span = record { first = 0; last = 0; step = 0 }
@@ -16,11 +16,11 @@ entry_at entries k = slice_index_or entries k no_entry
 abbrev pub span_at : List Span → ℕ → Span
 span_at spans place = slice_index_or spans place no_span
 
--- an entry of a span: its place and its first number, and a reach no less than its last number
+-- an entry of a span: its place, its first and its last number
 pub record IsEntryOf (spans : List Span) (entry : OrderEntry) : Type 0 where
   pub inside : entry.place < length spans
   pub first : entry.first ≡ (span_at spans entry.place).first
-  pub last : (span_at spans entry.place).last ≤ entry.reach
+  pub last : entry.last ≡ (span_at spans entry.place).last
 
 abbrev pub places_of : List OrderEntry → List ℕ
 places_of entries = map (λ entry. entry.place) entries
@@ -30,20 +30,58 @@ pub record AreEntriesOf (spans : List Span) (entries : List OrderEntry) : Type 0
   pub own : All (IsEntryOf spans) entries
   pub each : (place : ℕ) → place < length spans → Contains (places_of entries) place
 
--- In the order of their first numbers, and each reaches at least as far as all before it.
+-- how far entries reach: their greatest last number
+abbrev pub reach_of : List OrderEntry → ℕ
+reach_of [] = 0
+reach_of (entry ∷ entries) = max entry.last (reach_of entries)
+
+-- the middle one of entries, and the halves before it and behind it
+abbrev pub middle_of : List OrderEntry → OrderEntry
+middle_of entries = entry_at entries (length entries / 2)
+
+abbrev pub before_middle : List OrderEntry → List OrderEntry
+before_middle entries = take (length entries / 2) entries
+
+abbrev pub behind_middle : List OrderEntry → List OrderEntry
+behind_middle entries = drop (length entries / 2 + 1) entries
+
+-- The middle one's reach is that of all, and so it is in the halves before and behind it, and in theirs, down to a depth.
+abbrev pub HaveReachesTo : ℕ → List OrderEntry → Type 0
+HaveReachesTo zero entries = Unit {0}
+HaveReachesTo (suc depth) entries = (0 < length entries → (middle_of entries).reach ≡ reach_of entries)
+    × HaveReachesTo depth (before_middle entries) × HaveReachesTo depth (behind_middle entries)
+
+-- in each half, and half of a half, the middle one's reach is that of the half
+abbrev pub HaveReaches : List OrderEntry → Type 0
+HaveReaches entries = (depth : ℕ) → HaveReachesTo depth entries
+
+-- in the order of their first numbers, with the reach of each half
+pub record AreOrdered (entries : List OrderEntry) : Type 0 where
+  pub rising : IsNonDecreasingBy (λ entry. entry.first) entries
+  pub reaches : HaveReaches entries
+
+-- the order of spans
 pub record IsOrderOf (spans : List Span) (entries : List OrderEntry) : Type 0 where
   pub are : AreEntriesOf spans entries
-  pub rising : IsNonDecreasingBy (λ entry. entry.first) entries
-  pub reach : (j k : ℕ) → j ≤ k → k < length entries → (span_at spans (entry_at entries j).place).last ≤ (entry_at entries k).reach
+  pub ordered : AreOrdered entries
 
--- the same entries, with reaches that are no less than those of all before
-pub record AreRaised (old new : List OrderEntry) : Type 0 where
+-- an entry of the same span, whatever its reach
+pub record IsSameButReach (old new : OrderEntry) : Type 0 where
+  pub first : new.first ≡ old.first
+  pub last : new.last ≡ old.last
+  pub place : new.place ≡ old.place
+
+-- entries of the same spans, one by one
+pub record SameButReach (old new : List OrderEntry) : Type 0 where
   pub len : length new ≡ length old
-  pub first : (k : ℕ) → (entry_at new k).first ≡ (entry_at old k).first
-  pub place : (k : ℕ) → (entry_at new k).place ≡ (entry_at old k).place
-  pub reach : (j k : ℕ) → j ≤ k → k < length old → (entry_at old j).reach ≤ (entry_at new k).reach
+  pub each : (k : ℕ) → IsSameButReach (entry_at old k) (entry_at new k)
 
--- among the entries is one for each span that has the number from its first to its last
-pub record HaveAllAt (spans : List Span) (t : ℕ) (entries : List OrderEntry) : Type 0 where
-  pub own : All (λ entry. entry.place < length spans) entries
-  pub each : (place : ℕ) → place < length spans → (span_at spans place).first ≤ t → t ≤ (span_at spans place).last → Contains (places_of entries) place
+-- whether the number is from an entry's first to its last
+abbrev pub lies_over : ℕ → OrderEntry → Bool
+lies_over t entry = nat_le entry.first t && nat_le t entry.last
+
+-- the first entry, from a place on, that lies over the number
+abbrev pub IsNextAt : List OrderEntry → ℕ → ℕ → Option ℕ → Type 0
+IsNextAt entries start t None = (k : ℕ) → start ≤ k → k < length entries → lies_over t (entry_at entries k) ≡ false
+IsNextAt entries start t (Some k) = (start ≤ k) × (k < length entries) × (lies_over t (entry_at entries k) ≡ true)
+    × ((j : ℕ) → start ≤ j → j < k → lies_over t (entry_at entries j) ≡ false)
