@@ -1,5 +1,5 @@
 -- A packet that is not read: what stands at the front of the input then, and how the walk ends there.
-use Rattle.std.proofs.Common.{◌≡◌, ◌≢◌, refl, [], ◌∷◌, Bool, true, false, ◌==◌, nat_le, if◌then◌else◌, ℕ, ◌+◌, ◌^◌, ◌<◌, ◌≤◌, List, ◌++◌, length, take, drop, Option, sym, ap, subst, ◌∙◌, append-nil, length-append, arith}
+use Rattle.std.proofs.Common.{◌≡◌, ◌≢◌, refl, [], ◌∷◌, Bool, true, false, not, ◌&&◌, ◌==◌, nat_le, if◌then◌else◌, ℕ, ◌+◌, ◌^◌, ◌<◌, ◌≤◌, List, ◌++◌, length, take, drop, Option, sym, ap, subst, ◌∙◌, append-nil, length-append, arith}
 use Rattle.std.proofs.lemmas.Grind.{common_steps}
 use Rattle.std.specs.Io.KnownBytes.{IsAtEnd}
 use Rattle.desk_ports.specs.declared.desk.Inlet.TheVariants as inlet
@@ -17,7 +17,7 @@ use Rattle.packet_store.specs.declared.fault.WalkFault.TheVariants as fault
 use Rattle.packet_store.specs.declared.reader.Taken.{Taken}
 use Rattle.packet_store.specs.SpacePackets.{IsHeader, header_of, packet_bytes, is_chosen, is_misshapen}
 use Rattle.packet_store.specs.Walks.{IsGood, Front, Good, Bad, by_checks, front_after, front, Walk, behind_packet, walk_from}
-use Rattle.packet_store.specs.StoreReader.{ReaderState, state_of, span_of, AreWithin, Takes, Stops, Loses, AfterFault}
+use Rattle.packet_store.specs.StoreReader.{ReaderState, state_of, span_by, span_of, AreWithin, Takes, Stops, Loses, AfterFault}
 use Rattle.packet_store.specs.Reading.{IsBad, IsNoPacket, AfterUnread, of_short, in_room, fault_at}
 use Rattle.packet_store.proofs.Packets.{header_at-header_of}
 use Rattle.packet_store.proofs.Walks.{not_full, walk_from-none, walk_from-good, walk_from-bad, walk_from-too_many, walk_from-no_packet}
@@ -36,21 +36,33 @@ IsNoPacket-short : (chosen : Option ℕ) (bytes : List ℕ) → length bytes < 6
 IsNoPacket-short chosen [] few = tt
 IsNoPacket-short chosen (a ∷ bytes) few = subst IsNoPacket (sym (front-short chosen (a ∷ bytes) (omega arith) few)) tt
 
-span_of-short : (bytes : List ℕ) → length bytes < 6 → span_of bytes ≡ 6
-span_of-short [] few = refl
-span_of-short (a ∷ []) few = refl
-span_of-short (a ∷ b ∷ []) few = refl
-span_of-short (a ∷ b ∷ c ∷ []) few = refl
-span_of-short (a ∷ b ∷ c ∷ d ∷ []) few = refl
-span_of-short (a ∷ b ∷ c ∷ d ∷ e ∷ []) few = refl
-span_of-short (a ∷ b ∷ c ∷ d ∷ e ∷ f ∷ bytes) few = absurd (omega arith)
+span_of-short : (chosen : Option ℕ) (bytes : List ℕ) → length bytes < 6 → span_of chosen bytes ≡ 6
+span_of-short chosen [] few = refl
+span_of-short chosen (a ∷ []) few = refl
+span_of-short chosen (a ∷ b ∷ []) few = refl
+span_of-short chosen (a ∷ b ∷ c ∷ []) few = refl
+span_of-short chosen (a ∷ b ∷ c ∷ d ∷ []) few = refl
+span_of-short chosen (a ∷ b ∷ c ∷ d ∷ e ∷ []) few = refl
+span_of-short chosen (a ∷ b ∷ c ∷ d ∷ e ∷ f ∷ bytes) few = absurd (omega arith)
 
 -- a header and the bytes behind it
 front-header : (chosen : Option ℕ) (h : Header) (bytes : List ℕ) → IsHeader h → front chosen (header_of h ++ bytes) ≡ front_after chosen h bytes
 front-header chosen h bytes fields = ap (λ h. front_after chosen h bytes) (header_at-header_of h fields)
 
-span_of-header : (h : Header) (bytes : List ℕ) → IsHeader h → span_of (header_of h ++ bytes) ≡ h.length + 7
-span_of-header h bytes fields = ap (λ (h : Header). h.length + 7) (header_at-header_of h fields)
+span_of-header : (chosen : Option ℕ) (h : Header) (bytes : List ℕ) → IsHeader h → span_of chosen (header_of h ++ bytes) ≡ span_by chosen h
+span_of-header chosen h bytes fields = ap (span_by chosen) (header_at-header_of h fields)
+
+-- the header is always within
+span_by-header : (chosen : Option ℕ) (h : Header) → 6 ≤ span_by chosen h
+span_by-header chosen h = least (h.version == 0 && not (is_misshapen chosen h)) where
+  least : (right : Bool) → 6 ≤ (if right then h.length + 7 else 6)
+  least true = omega arith
+  least false = omega arith
+
+span_by-right : (chosen : Option ℕ) (h : Header) → h.version ≡ 0 → is_misshapen chosen h ≡ false → span_by chosen h ≡ h.length + 7
+span_by-right chosen h version shape =
+    let zero : (h.version == 0) ≡ true = ap (λ n. n == 0) version in
+    λ i. if zero i && not (shape i) then h.length + 7 else 6
 
 not_zero : (n : ℕ) → n ≢ 0 → (n == 0) ≡ false
 not_zero n some = grind (arith, common_steps)
@@ -86,9 +98,9 @@ AfterUnread-start chosen a b short.Cut lost cut =
       moved = at.3;
       told = IfSome-IsAtEnd (left b inlet.Main) at.4;
       is = ap (front chosen) none ∙ front-short chosen at.0 at.1 at.2;
-      within = omega (arith, at.2, span_of-short at.0 at.2);
+      within = omega (arith, at.2, span_of-short chosen at.0 at.2);
     }
-AfterUnread-start chosen a b short.ReadFault lost cut = record { lost = lost.0; moved = lost.2; none = IsNoPacket-short chosen lost.0 lost.1; within = omega (arith, lost.1, span_of-short lost.0 lost.1) }
+AfterUnread-start chosen a b short.ReadFault lost cut = record { lost = lost.0; moved = lost.2; none = IsNoPacket-short chosen lost.0 lost.1; within = omega (arith, lost.1, span_of-short chosen lost.0 lost.1) }
 
 IsBad-header : (chosen : Option ℕ) (a b : Meanings) (h : Header) (start : List ℕ) (why : StoreKind) → IsHeader h → start ≡ header_of h → Moves a b inlet.Main start → ((rest : List ℕ) → front chosen (header_of h ++ rest) ≡ Bad why) → IsBad chosen a b why
 IsBad-header chosen a b h start why fields spelled moved is = record {
@@ -97,7 +109,7 @@ IsBad-header chosen a b h start why fields spelled moved is = record {
   moved = subst (Moves a b inlet.Main) spelled moved;
   told = IfSome-rest_of (left b inlet.Main);
   is = is (rest_of (left b inlet.Main));
-  within = omega (arith, span_of-header h [] fields);
+  within = omega (arith, span_of-header chosen h [] fields, span_by-header chosen h);
 }
 
 -- a header of another version
@@ -108,7 +120,7 @@ IsBad-version chosen a b h start fields spelled moved other = IsBad-header chose
 pub IsBad-shape : (chosen : Option ℕ) (a b : Meanings) (h : Header) (start : List ℕ) → IsHeader h → start ≡ header_of h → Moves a b inlet.Main start → h.version ≡ 0 → is_misshapen chosen h ≡ true → IsBad chosen a b kind.Shape
 IsBad-shape chosen a b h start fields spelled moved version other = IsBad-header chosen a b h start kind.Shape fields spelled moved (λ rest. front-shape chosen h rest fields version other)
 
-unread : (chosen : Option ℕ) (a b : Meanings) (taken : List ℕ) (s : Short) → Moves a b inlet.Main taken → front chosen taken ≡ Bad kind.Cut → length taken ≤ span_of taken → (s ≡ short.Cut → IsAtEnd (left b inlet.Main)) → AfterUnread chosen a b (of_short s)
+unread : (chosen : Option ℕ) (a b : Meanings) (taken : List ℕ) (s : Short) → Moves a b inlet.Main taken → front chosen taken ≡ Bad kind.Cut → length taken ≤ span_of chosen taken → (s ≡ short.Cut → IsAtEnd (left b inlet.Main)) → AfterUnread chosen a b (of_short s)
 unread chosen a b taken short.Cut moves is within cut = record { taken = taken; rest = []; moved = moves; told = IfSome-IsAtEnd (left b inlet.Main) (cut refl); is = ap (front chosen) (append-nil taken) ∙ is; within = within }
 unread chosen a b taken short.ReadFault moves is within cut = record { lost = taken; moved = moves; none = subst IsNoPacket (sym is) tt; within = within }
 
@@ -118,7 +130,7 @@ pub AfterUnread-body : (chosen : Option ℕ) (a b c : Meanings) (h : Header) (st
 AfterUnread-body chosen a b c h start s fields spelled moved version shape lost cut =
     let taken = header_of h ++ lost.0 in
     let moves = Moves-then a b c inlet.Main (header_of h) lost.0 (subst (Moves a b inlet.Main) spelled moved) lost.2 in
-    let within : length taken ≤ span_of taken = omega (arith, span_of-header h lost.0 fields, lost.1, length-append (header_of h) lost.0) in
+    let within : length taken ≤ span_of chosen taken = omega (arith, span_of-header chosen h lost.0 fields, span_by-right chosen h version shape, lost.1, length-append (header_of h) lost.0) in
     unread chosen a c taken s moves (front-cut chosen h lost.0 fields version shape lost.1) within cut
 
 -- nothing was lost
@@ -144,8 +156,8 @@ Stops-too_many s a b (x ∷ []) full one moved =
       within = subst (λ n. 1 ≤ (if n == 2 ^ 32 then 1 else 6)) (sym full) one_byte;
     }
 
-AreWithin-span : (s : ReaderState) (bytes : List ℕ) → s.taken < 2 ^ 32 → length bytes ≤ span_of bytes → AreWithin s bytes
-AreWithin-span s bytes few within = subst (λ b. length bytes ≤ (if b then 1 else span_of bytes)) (sym (not_full s.taken few)) within
+AreWithin-span : (s : ReaderState) (bytes : List ℕ) → s.taken < 2 ^ 32 → length bytes ≤ span_of s.chosen bytes → AreWithin s bytes
+AreWithin-span s bytes few within = subst (λ b. length bytes ≤ (if b then 1 else span_of s.chosen bytes)) (sym (not_full s.taken few)) within
 
 Stops-bad : (s : ReaderState) (a b : Meanings) (why : StoreKind) → s.taken < 2 ^ 32 → IsBad s.chosen a b why → Stops s a b (fault.Bad s.offset why)
 Stops-bad s a b why few bad = record {

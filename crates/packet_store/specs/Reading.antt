@@ -26,7 +26,7 @@ pub record IsBad (chosen : Option ℕ) (old new : Meanings) (why : StoreKind) : 
   pub moved : Moves old new inlet.Main taken
   pub told : IfSome (left new inlet.Main) (λ bytes. bytes ≡ rest)
   pub is : front chosen (taken ++ rest) ≡ Bad why
-  pub within : length taken ≤ span_of taken
+  pub within : length taken ≤ span_of chosen taken
 
 -- no packet stands there
 abbrev pub IsNoPacket : Front → Type 0
@@ -39,7 +39,7 @@ pub record IsLost (chosen : Option ℕ) (old new : Meanings) : Type 0 where
   pub lost : List ℕ
   pub moved : Moves old new inlet.Main lost
   pub none : IsNoPacket (front chosen lost)
-  pub within : length lost ≤ span_of lost
+  pub within : length lost ≤ span_of chosen lost
 
 -- after a packet that was not read
 abbrev pub AfterUnread : Option ℕ → Meanings → Meanings → PacketFault → Type 0

@@ -1,5 +1,5 @@
 -- A reader of a store: what it stands at, and what a call of `next` does to it and to the desk.
-use Rattle.std.specs.Prelude.{◌≡◌, ℕ, ◌+◌, ◌*◌, ◌^◌, ◌<◌, ◌≤◌, Bool, true, false, ◌==◌, if◌then◌else◌, List, [], ◌∷◌, ◌++◌, length, take, drop, Option, IfSome}
+use Rattle.std.specs.Prelude.{◌≡◌, ℕ, ◌+◌, ◌*◌, ◌^◌, ◌<◌, ◌≤◌, Bool, true, false, not, ◌&&◌, ◌==◌, if◌then◌else◌, List, [], ◌∷◌, ◌++◌, length, take, drop, Option, IfSome}
 use Rattle.desk_ports.specs.Meanings.{Meanings, Moves, left}
 use Rattle.desk_ports.specs.declared.desk.Inlet.TheVariants as inlet
 use Rattle.packet_store.specs.declared.header.Header.{Header}
@@ -9,7 +9,7 @@ use Rattle.packet_store.specs.declared.fault.WalkFault.{WalkFault}
 use Rattle.packet_store.specs.declared.fault.WalkFault.TheVariants as fault
 use Rattle.packet_store.specs.declared.fault.StoreFault.{StoreFault}
 use Rattle.packet_store.specs.declared.fault.StoreFault.TheVariants.{Cut, Version, Shape, ReadFault, TooMany}
-use Rattle.packet_store.specs.SpacePackets.{packet_bytes, header_at, is_chosen}
+use Rattle.packet_store.specs.SpacePackets.{packet_bytes, header_at, is_chosen, is_misshapen}
 use Rattle.packet_store.specs.Walks.{IsGood, Walk, walk_from, behind_packet, stopped_at}
 
 -- the chosen APID, the number of packets given so far and of their bytes, whether the reader goes on,
@@ -46,14 +46,19 @@ pub record Takes (old new : ReaderState) (before after : Meanings) (given : Take
   pub others : new ≡ record old { taken = old.taken + 1; offset = old.offset + length new.packet; packet = new.packet; body = new.body }
   pub goes_on : (rest : List ℕ) → walk_on old (new.packet ++ rest) ≡ behind_packet (record { header = header; body = new.body }) (walk_on new rest)
 
--- as many bytes as a packet has that begins so, and those of a header where none is whole
-abbrev pub span_of : List ℕ → ℕ
-span_of (a ∷ b ∷ c ∷ d ∷ e ∷ f ∷ bytes) = (header_at a b c d e f).length + 7
-span_of bytes = 6
+-- as many bytes as a packet with this header has, and those of the header alone where it has another version or shape
+abbrev pub span_by : Option ℕ → Header → ℕ
+span_by chosen h = if h.version == 0 && not (is_misshapen chosen h) then h.length + 7 else 6
 
--- these bytes are not more than one packet, and not more than one byte behind the last that may be given
+-- the same of the header that these bytes begin with, and those of a header where none is whole
+abbrev pub span_of : Option ℕ → List ℕ → ℕ
+span_of chosen (a ∷ b ∷ c ∷ d ∷ e ∷ f ∷ bytes) = span_by chosen (header_at a b c d e f)
+span_of chosen bytes = 6
+
+-- These bytes are not more than one packet, only its header where that has another version or shape, and not more than one
+-- byte behind the last that may be given.
 abbrev pub AreWithin : ReaderState → List ℕ → Type 0
-AreWithin old bytes = length bytes ≤ (if old.taken == 2 ^ 32 then 1 else span_of bytes)
+AreWithin old bytes = length bytes ≤ (if old.taken == 2 ^ 32 then 1 else span_of old.chosen bytes)
 
 -- The walk ends with this fault: no more than one packet was taken, and nothing else changed.
 pub record Stops (old : ReaderState) (before after : Meanings) (reason : WalkFault) : Type 0 where
