@@ -1,5 +1,7 @@
-ghost use Rattle.std.specs.Prelude.{◌≡◌, ◌≤◌, ◌+◌, ◌-◌, ◌^◌, min, length, IsTrue, IsErr, IfOk, OnOk, OnErr};
-ghost use Rattle.desk_ports.specs.Meanings.{nothing_told, Counts, HasWriteCause};
+ghost use Rattle.std.specs.Prelude.{◌≡◌, ◌≤◌, ◌<◌, ◌+◌, ◌-◌, ◌^◌, [], min, length, take, IsTrue, IsErr, IfOk, OnOk, OnErr};
+ghost use Rattle.std.specs.Io.KnownBytes.{IsAtEnd};
+ghost use Rattle.desk_ports.specs.Meanings.{nothing_told, Adds, Begins, Counts, HasReadCause, HasWriteCause, IsReadyIn, IsReadyOut, Keeps, Moves, Opens, left};
+ghost use Rattle.desk_ports.specs.FileDesk.{file_counts, file_meanings, gathered_at, other_sink, other_source, read_ahead_at};
 
 use crate::desk::{Desk, Failed, Inlet, Outlet};
 use std::fs::File;
@@ -18,11 +20,12 @@ enum Source {
 }
 
 impl Source {
-    ghost use Rattle.desk_ports.specs.FileDesk.{is_opened_source};
+    ghost use Rattle.desk_ports.specs.FileDesk.{is_opened_source, read_ahead};
 
     // The name `-` is standard input.
     fn open(rt: &HostRuntime, name: &str) -> io::Result<Source>
-        ensures { IfOk result (λ source. IsTrue (is_opened_source source)) }
+        ensures opened { IfOk result (λ source. IsTrue (is_opened_source source)) }
+        ensures none { IfOk result (λ source. read_ahead source ≡ []) }
     {
         if name == "-" {
             let stdin = BufReader::with_capacity(rt.alloc(), READ_AHEAD, rt.stdin())?;
@@ -57,11 +60,12 @@ enum Sink {
 }
 
 impl Sink {
-    ghost use Rattle.desk_ports.specs.FileDesk.{is_opened_sink};
+    ghost use Rattle.desk_ports.specs.FileDesk.{gathered, is_opened_sink};
 
     // The name `-` is standard output. A file that is there is emptied.
     fn open(rt: &HostRuntime, name: &str) -> io::Result<Sink>
-        ensures { IfOk result (λ sink. IsTrue (is_opened_sink sink)) }
+        ensures opened { IfOk result (λ sink. IsTrue (is_opened_sink sink)) }
+        ensures none { IfOk result (λ sink. gathered sink ≡ []) }
     {
         if name == "-" {
             let stdout = BufWriter::with_capacity(rt.alloc(), GATHERED, rt.stdout())?;
@@ -85,7 +89,8 @@ impl Sink {
 
     // Hands everything to the system that was gathered, where the outlet was opened.
     fn flush(&mut self) -> io::Result<()>
-        ensures { is_opened_sink self.new ≡ is_opened_sink self.old }
+        ensures opened { is_opened_sink self.new ≡ is_opened_sink self.old }
+        ensures handed { OnOk result (gathered self.new ≡ []) }
     {
         match self {
             Sink::Nothing => Ok(()),
@@ -134,6 +139,8 @@ impl<'a> FileDesk<'a> {
     pub fn hand_over(&mut self) -> Result<(), Failed>
         ensures meaning { ⟦<FileDesk<'a> as Desk>⟧.meaning self.new ≡ ⟦<FileDesk<'a> as Desk>⟧.meaning self.old }
         ensures cause { HasWriteCause (⟦<FileDesk<'a> as Desk>⟧.counts self.old) (⟦<FileDesk<'a> as Desk>⟧.counts self.new) result }
+        ensures main { OnOk result (gathered_at self.new Outlet.Main ≡ []) }
+        ensures report { OnOk result (gathered_at self.new Outlet.Report ≡ []) }
     {
         let output = self.output.flush();
         let report = self.report.flush();
@@ -181,13 +188,20 @@ impl<'a> FileDesk<'a> {
 }
 
 impl<'a> Desk for FileDesk<'a> {
-    ghost use Rattle.desk_ports.specs.FileDesk.{file_meanings};
+    ghost meaning = { file_meanings };
 
-    ghost meaning = { λ desk. file_meanings desk.side desk.input desk.output desk.report };
+    ghost counts = { file_counts };
 
-    ghost counts = { λ desk. record { reads = desk.read_faults; writes = desk.write_faults } };
+    fn open_in(&mut self, inlet: Inlet, name: &str) -> Result<(), Failed>
+        requires { IsTrue ((file_meanings self.old).grants_in name.now) }
+        ensures opened { OnOk result (Opens (file_meanings self.old) (file_meanings self.new) inlet name.now) }
+        ensures unchanged { OnErr result (file_meanings self.new ≡ file_meanings self.old) }
+        ensures cause { HasReadCause (file_counts self.old) (file_counts self.new) result }
 
-    fn open_in(&mut self, inlet: Inlet, name: &str) -> Result<(), Failed> {
+        // Nothing is read ahead of the inlet, and the other one is as before.
+        ensures none { OnOk result (read_ahead_at self.new inlet ≡ []) }
+        ensures other { other_source self.new inlet ≡ other_source self.old inlet }
+    {
         let source = Source::open(self.rt, name);
         let source = self.or_read_fault(source)?;
         match inlet {
@@ -197,7 +211,16 @@ impl<'a> Desk for FileDesk<'a> {
         Ok(())
     }
 
-    fn open_out(&mut self, outlet: Outlet, name: &str) -> Result<(), Failed> {
+    fn open_out(&mut self, outlet: Outlet, name: &str) -> Result<(), Failed>
+        requires { IsTrue ((file_meanings self.old).grants_out name.now) }
+        ensures opened { OnOk result (Begins (file_meanings self.old) (file_meanings self.new) outlet name.now) }
+        ensures unchanged { OnErr result (file_meanings self.new ≡ file_meanings self.old) }
+        ensures cause { HasWriteCause (file_counts self.old) (file_counts self.new) result }
+
+        // Nothing is gathered for the outlet, and the other one is as before.
+        ensures none { OnOk result (gathered_at self.new outlet ≡ []) }
+        ensures other { other_sink self.new outlet ≡ other_sink self.old outlet }
+    {
         let sink = Sink::open(self.rt, name);
         let sink = self.or_write_fault(sink)?;
         match outlet {
@@ -207,7 +230,18 @@ impl<'a> Desk for FileDesk<'a> {
         Ok(())
     }
 
-    fn read(&mut self, inlet: Inlet, buf: &mut [u8]) -> Result<usize, Failed> {
+    fn read(&mut self, inlet: Inlet, buf: &mut [u8]) -> Result<usize, Failed>
+        requires open { IsReadyIn (file_meanings self.old) inlet }
+        requires room { 0 < length buf.old }
+        ensures within { IfOk result (λ n. n ≤ length buf.old) }
+        ensures moved { IfOk result (λ n. Moves (file_meanings self.old) (file_meanings self.new) inlet (take n buf.new)) }
+        ensures at_end { IfOk result (λ n. n ≡ 0 → IsAtEnd (left (file_meanings self.new) inlet)) }
+        ensures unchanged { OnErr result (file_meanings self.new ≡ file_meanings self.old) }
+        ensures cause { HasReadCause (file_counts self.old) (file_counts self.new) result }
+
+        // The other inlet is as before, with what was read ahead of it.
+        ensures other { other_source self.new inlet ≡ other_source self.old inlet }
+    {
         let moved = match inlet {
             Inlet::Side => self.side.read(buf),
             Inlet::Main => self.input.read(buf),
@@ -215,7 +249,18 @@ impl<'a> Desk for FileDesk<'a> {
         self.or_read_fault(moved)
     }
 
-    fn write(&mut self, outlet: Outlet, bytes: &[u8]) -> Result<usize, Failed> {
+    fn write(&mut self, outlet: Outlet, bytes: &[u8]) -> Result<usize, Failed>
+        requires open { IsReadyOut (file_meanings self.old) outlet }
+        requires some { 0 < length bytes.now }
+        ensures within { IfOk result (λ n. n ≤ length bytes.now) }
+        ensures progress { IfOk result (λ n. 0 < n) }
+        ensures added { IfOk result (λ n. Adds (file_meanings self.old) (file_meanings self.new) outlet (take n bytes.now)) }
+        ensures unchanged { OnErr result (file_meanings self.new ≡ file_meanings self.old) }
+        ensures cause { HasWriteCause (file_counts self.old) (file_counts self.new) result }
+
+        // The other outlet is as before, with what it gathered.
+        ensures other { other_sink self.new outlet ≡ other_sink self.old outlet }
+    {
         let taken = match outlet {
             Outlet::Main => self.output.write(bytes),
             Outlet::Report => self.report.write(bytes),
@@ -226,7 +271,16 @@ impl<'a> Desk for FileDesk<'a> {
         }
     }
 
-    fn finish(&mut self, outlet: Outlet) -> Result<(), Failed> {
+    fn finish(&mut self, outlet: Outlet) -> Result<(), Failed>
+        requires { IsReadyOut (file_meanings self.old) outlet }
+        ensures kept { OnOk result (Keeps (file_meanings self.old) (file_meanings self.new) outlet) }
+        ensures unchanged { OnErr result (file_meanings self.new ≡ file_meanings self.old) }
+        ensures cause { HasWriteCause (file_counts self.old) (file_counts self.new) result }
+
+        // Nothing is gathered for the outlet any more, and the other one is as before.
+        ensures handed { OnOk result (gathered_at self.new outlet ≡ []) }
+        ensures other { other_sink self.new outlet ≡ other_sink self.old outlet }
+    {
         let flushed = match outlet {
             Outlet::Main => self.output.flush(),
             Outlet::Report => self.report.flush(),
