@@ -17,10 +17,10 @@ use Rattle.packet_store.specs.declared.fault.WalkFault.TheVariants as fault
 use Rattle.packet_store.specs.declared.reader.Taken.{Taken}
 use Rattle.packet_store.specs.SpacePackets.{IsHeader, header_of, packet_bytes, is_chosen, is_misshapen}
 use Rattle.packet_store.specs.Walks.{IsGood, Front, Good, Bad, by_checks, front_after, front, Walk, behind_packet, walk_from}
-use Rattle.packet_store.specs.StoreReader.{ReaderState, state_of, span_by, span_of, AreWithin, Takes, Stops, Loses, AfterFault}
-use Rattle.packet_store.specs.Reading.{IsBad, IsNoPacket, AfterUnread, of_short, in_room, fault_at}
+use Rattle.packet_store.specs.StoreReader.{ReaderState, state_of, span_by, span_of, AreWithin, Takes, Stops, IsOnlyCut, Loses, AfterFault}
+use Rattle.packet_store.specs.Reading.{IsBad, IsEarly, AfterUnread, of_short, in_room, fault_at}
 use Rattle.packet_store.proofs.Packets.{header_at-header_of}
-use Rattle.packet_store.proofs.Walks.{not_full, walk_from-none, walk_from-good, walk_from-bad, walk_from-too_many, walk_from-no_packet}
+use Rattle.packet_store.proofs.Walks.{not_full, walk_from-none, walk_from-good, walk_from-bad, walk_from-too_many, walk_from-early}
 
 -- fewer bytes than a header has
 front-short : (chosen : Option ℕ) (bytes : List ℕ) → 0 < length bytes → length bytes < 6 → front chosen bytes ≡ Bad kind.Cut
@@ -32,9 +32,9 @@ front-short chosen (a ∷ b ∷ c ∷ d ∷ []) some few = refl
 front-short chosen (a ∷ b ∷ c ∷ d ∷ e ∷ []) some few = refl
 front-short chosen (a ∷ b ∷ c ∷ d ∷ e ∷ f ∷ bytes) some few = absurd (omega arith)
 
-IsNoPacket-short : (chosen : Option ℕ) (bytes : List ℕ) → length bytes < 6 → IsNoPacket (front chosen bytes)
-IsNoPacket-short chosen [] few = tt
-IsNoPacket-short chosen (a ∷ bytes) few = subst IsNoPacket (sym (front-short chosen (a ∷ bytes) (omega arith) few)) tt
+IsEarly-short : (chosen : Option ℕ) (bytes : List ℕ) → length bytes < 6 → IsEarly (front chosen bytes)
+IsEarly-short chosen [] few = tt
+IsEarly-short chosen (a ∷ bytes) few = subst IsEarly (sym (front-short chosen (a ∷ bytes) (omega arith) few)) tt
 
 span_of-short : (chosen : Option ℕ) (bytes : List ℕ) → length bytes < 6 → span_of chosen bytes ≡ 6
 span_of-short chosen [] few = refl
@@ -100,7 +100,7 @@ AfterUnread-start chosen a b short.Cut lost cut =
       is = ap (front chosen) none ∙ front-short chosen at.0 at.1 at.2;
       within = omega (arith, at.2, span_of-short chosen at.0 at.2);
     }
-AfterUnread-start chosen a b short.ReadFault lost cut = record { lost = lost.0; moved = lost.2; none = IsNoPacket-short chosen lost.0 lost.1; within = omega (arith, lost.1, span_of-short chosen lost.0 lost.1) }
+AfterUnread-start chosen a b short.ReadFault lost cut = record { lost = lost.0; moved = lost.2; early = IsEarly-short chosen lost.0 lost.1; within = omega (arith, lost.1, span_of-short chosen lost.0 lost.1) }
 
 IsBad-header : (chosen : Option ℕ) (a b : Meanings) (h : Header) (start : List ℕ) (why : StoreKind) → IsHeader h → start ≡ header_of h → Moves a b inlet.Main start → ((rest : List ℕ) → front chosen (header_of h ++ rest) ≡ Bad why) → IsBad chosen a b why
 IsBad-header chosen a b h start why fields spelled moved is = record {
@@ -122,7 +122,7 @@ IsBad-shape chosen a b h start fields spelled moved version other = IsBad-header
 
 unread : (chosen : Option ℕ) (a b : Meanings) (taken : List ℕ) (s : Short) → Moves a b inlet.Main taken → front chosen taken ≡ Bad kind.Cut → length taken ≤ span_of chosen taken → (s ≡ short.Cut → IsAtEnd (left b inlet.Main)) → AfterUnread chosen a b (of_short s)
 unread chosen a b taken short.Cut moves is within cut = record { taken = taken; rest = []; moved = moves; told = IfSome-IsAtEnd (left b inlet.Main) (cut refl); is = ap (front chosen) (append-nil taken) ∙ is; within = within }
-unread chosen a b taken short.ReadFault moves is within cut = record { lost = taken; moved = moves; none = subst IsNoPacket (sym is) tt; within = within }
+unread chosen a b taken short.ReadFault moves is within cut = record { lost = taken; moved = moves; early = subst IsEarly (sym is) tt; within = within }
 
 -- the input ended or failed behind a header
 pub AfterUnread-body : (chosen : Option ℕ) (a b c : Meanings) (h : Header) (start : List ℕ) (s : Short) → IsHeader h → start ≡ header_of h → Moves a b inlet.Main start → h.version ≡ 0 → is_misshapen chosen h ≡ false
@@ -135,7 +135,7 @@ AfterUnread-body chosen a b c h start s fields spelled moved version shape lost 
 
 -- nothing was lost
 pub Loses-none : (s : ReaderState) (a b : Meanings) → Moves a b inlet.Main [] → Loses s a b
-Loses-none s a b moved = record { lost = []; moved = moved; none = ap (λ (w : Walk). w.packets) (walk_from-none s.chosen s.taken s.offset); within = least (s.taken == 2 ^ 32) } where
+Loses-none s a b moved = record { lost = []; moved = moved; none = ap (λ (w : Walk). w.packets) (walk_from-none s.chosen s.taken s.offset); early = subst (λ (w : Walk). IsOnlyCut w.ending) (sym (walk_from-none s.chosen s.taken s.offset)) tt; within = least (s.taken == 2 ^ 32) } where
   least : (full : Bool) → 0 ≤ (if full then 1 else 6)
   least true = omega arith
   least false = omega arith
@@ -174,7 +174,9 @@ pub AfterFault-unread : (s : ReaderState) (a b : Meanings) (unread : PacketFault
 AfterFault-unread s a b (packet.Bad kind.Cut) few bad = Stops-bad s a b kind.Cut few bad
 AfterFault-unread s a b (packet.Bad kind.Version) few bad = Stops-bad s a b kind.Version few bad
 AfterFault-unread s a b (packet.Bad kind.Shape) few bad = Stops-bad s a b kind.Shape few bad
-AfterFault-unread s a b packet.ReadFault few lost = record { lost = lost.lost; moved = lost.moved; none = walk_from-no_packet s.chosen s.taken s.offset lost.lost lost.none; within = AreWithin-span s lost.lost few lost.within }
+AfterFault-unread s a b packet.ReadFault few lost =
+    let early = walk_from-early s.chosen s.taken s.offset lost.lost few lost.early in
+    record { lost = lost.lost; moved = lost.moved; none = early.0; early = early.1; within = AreWithin-span s lost.lost few lost.within }
 
 -- a packet was read
 pub Takes-read : (s : ReaderState) (h : Header) (held : ℕ) (room : List ℕ) (given : Taken) (a b : Meanings) → s.live ≡ true → s.taken < 2 ^ 32 → h.length + 7 ≡ held

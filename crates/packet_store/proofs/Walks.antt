@@ -4,11 +4,13 @@ use Rattle.std.proofs.lemmas.List.{drop_at}
 use Rattle.std.proofs.lemmas.List.Elements.{All-drop}
 use Rattle.std.proofs.lemmas.Grind.{common_steps}
 use Rattle.packet_store.specs.declared.fault.StoreKind.{StoreKind}
+use Rattle.packet_store.specs.declared.fault.StoreKind.TheVariants as kind
 use Rattle.packet_store.specs.declared.fault.WalkFault.{WalkFault}
 use Rattle.packet_store.specs.declared.fault.WalkFault.TheVariants as fault
 use Rattle.packet_store.specs.SpacePackets.{IsPacket, Packet, packet_bytes, plain_packet, store_bytes}
 use Rattle.packet_store.specs.Walks.{IsGood, Front, End, Good, Bad, front, Walk, walked, stopped_at, behind_packet, at_limit, by_front, walk_step, walk_by, walk_from, packets_bytes, by_checks, bad_at, ending_at}
-use Rattle.packet_store.specs.Reading.{IsNoPacket}
+use Rattle.packet_store.specs.Reading.{IsEarly}
+use Rattle.packet_store.specs.StoreReader.{IsOnlyCut}
 use Rattle.packet_store.proofs.Packets.{front-good, front-Good, front-shorter, IsGood-plain}
 
 either_way : (b : Bool) (w : Walk) → (if b then w else w) ≡ w
@@ -89,6 +91,12 @@ walk_from-too_many chosen taken offset b bytes full =
 pub walk_from-none : (chosen : Option ℕ) (taken offset : ℕ) → walk_from chosen taken offset [] ≡ walked
 walk_from-none chosen taken offset = walk_from-step chosen taken offset [] ∙ either_way (taken == 2 ^ 32) walked
 
+-- no good packet stands there
+abbrev IsNoPacket : Front → Type 0
+IsNoPacket End = Unit {0}
+IsNoPacket (Good p rest) = ⊥
+IsNoPacket (Bad why) = Unit {0}
+
 no_packets_at_limit : (bytes : List ℕ) → (at_limit bytes).packets ≡ []
 no_packets_at_limit [] = refl
 no_packets_at_limit (b ∷ bytes) = refl
@@ -100,10 +108,25 @@ no_packets false on offset bytes (Good p rest) none = absurd none
 no_packets false on offset bytes (Bad why) none = refl
 
 -- where no good packet stands none is walked
-pub walk_from-no_packet : (chosen : Option ℕ) (taken offset : ℕ) (bytes : List ℕ) → IsNoPacket (front chosen bytes) → (walk_from chosen taken offset bytes).packets ≡ []
+walk_from-no_packet : (chosen : Option ℕ) (taken offset : ℕ) (bytes : List ℕ) → IsNoPacket (front chosen bytes) → (walk_from chosen taken offset bytes).packets ≡ []
 walk_from-no_packet chosen taken offset bytes none =
     let on : Packet → List ℕ → Walk = λ q left. walk_from chosen (taken + 1) (offset + length (packet_bytes q)) left in
     ap (λ (w : Walk). w.packets) (walk_from-step chosen taken offset bytes) ∙ no_packets (taken == 2 ^ 32) on offset bytes (front chosen bytes) none
+
+early_end : (on : Packet → List ℕ → Walk) (offset : ℕ) (bytes : List ℕ) (found : Front) → IsEarly found → ((by_front on offset bytes found).packets ≡ []) × IsOnlyCut (by_front on offset bytes found).ending
+early_end on offset bytes End early = (refl, tt)
+early_end on offset bytes (Good p rest) early = absurd early
+early_end on offset bytes (Bad kind.Cut) early = (refl, tt)
+early_end on offset bytes (Bad kind.Version) early = absurd early
+early_end on offset bytes (Bad kind.Shape) early = absurd early
+
+-- where nothing is wrong but that bytes are missing, no packet is walked, and nothing is wrong in the walk but that
+pub walk_from-early : (chosen : Option ℕ) (taken offset : ℕ) (bytes : List ℕ) → taken < 2 ^ 32 → IsEarly (front chosen bytes)
+    → ((walk_from chosen taken offset bytes).packets ≡ []) × IsOnlyCut (walk_from chosen taken offset bytes).ending
+walk_from-early chosen taken offset bytes few early =
+    let on : Packet → List ℕ → Walk = λ q left. walk_from chosen (taken + 1) (offset + length (packet_bytes q)) left in
+    let walked_so = walk_from-step chosen taken offset bytes ∙ (λ i. if not_full taken few i then at_limit bytes else by_front on offset bytes (front chosen bytes)) in
+    subst (λ (w : Walk). (w.packets ≡ []) × IsOnlyCut w.ending) (sym walked_so) (early_end on offset bytes (front chosen bytes) early)
 
 -- The parts of a walk: good packets, not too many, and a rest that tells how it ends. Joined they are the bytes.
 pub record IsWalk (chosen : Option ℕ) (taken offset : ℕ) (bytes : List ℕ) (w : Walk) : Type 0 where

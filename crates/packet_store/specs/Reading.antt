@@ -28,17 +28,19 @@ pub record IsBad (chosen : Option ℕ) (old new : Meanings) (why : StoreKind) : 
   pub is : front chosen (taken ++ rest) ≡ Bad why
   pub within : length taken ≤ span_of chosen taken
 
--- no packet stands there
-abbrev pub IsNoPacket : Front → Type 0
-IsNoPacket End = Unit {0}
-IsNoPacket (Good p rest) = ⊥
-IsNoPacket (Bad why) = Unit {0}
+-- no packet stands there, and nothing is wrong but that bytes are missing
+abbrev pub IsEarly : Front → Type 0
+IsEarly End = Unit {0}
+IsEarly (Good p rest) = ⊥
+IsEarly (Bad kind.Cut) = Unit {0}
+IsEarly (Bad kind.Version) = ⊥
+IsEarly (Bad kind.Shape) = ⊥
 
--- less than a packet was lost
+-- less than a packet was lost, with nothing wrong in it
 pub record IsLost (chosen : Option ℕ) (old new : Meanings) : Type 0 where
   pub lost : List ℕ
   pub moved : Moves old new inlet.Main lost
-  pub none : IsNoPacket (front chosen lost)
+  pub early : IsEarly (front chosen lost)
   pub within : length lost ≤ span_of chosen lost
 
 -- after a packet that was not read

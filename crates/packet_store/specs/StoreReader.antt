@@ -1,5 +1,5 @@
 -- A reader of a store: what it stands at, and what a call of `next` does to it and to the desk.
-use Rattle.std.specs.Prelude.{◌≡◌, ℕ, ◌+◌, ◌*◌, ◌^◌, ◌<◌, ◌≤◌, Bool, true, false, not, ◌&&◌, ◌==◌, if◌then◌else◌, List, [], ◌∷◌, ◌++◌, length, take, drop, Option, IfSome}
+use Rattle.std.specs.Prelude.{◌≡◌, ℕ, ◌+◌, ◌*◌, ◌^◌, ◌<◌, ◌≤◌, Bool, true, false, not, ◌&&◌, ◌==◌, if◌then◌else◌, List, [], ◌∷◌, ◌++◌, length, take, drop, Option, Some, None, IfSome}
 use Rattle.desk_ports.specs.Meanings.{Meanings, Moves, left}
 use Rattle.desk_ports.specs.declared.desk.Inlet.TheVariants as inlet
 use Rattle.packet_store.specs.declared.header.Header.{Header}
@@ -69,11 +69,20 @@ pub record Stops (old : ReaderState) (before after : Meanings) (reason : WalkFau
   pub ends : walk_on old (taken ++ rest) ≡ stopped_at reason (taken ++ rest)
   pub within : AreWithin old taken
 
--- A reading failed: less than a packet of the walk is lost, and nothing else changed.
+-- nothing is wrong, or only that the bytes end
+abbrev pub IsOnlyCut : Option WalkFault → Type 0
+IsOnlyCut None = Unit {0}
+IsOnlyCut (Some (fault.Bad byte kind.Cut)) = Unit {0}
+IsOnlyCut (Some (fault.Bad byte kind.Version)) = ⊥
+IsOnlyCut (Some (fault.Bad byte kind.Shape)) = ⊥
+IsOnlyCut (Some fault.TooMany) = ⊥
+
+-- A reading failed: less than a packet of the walk is lost, with nothing wrong in it, and nothing else changed.
 pub record Loses (old : ReaderState) (before after : Meanings) : Type 0 where
   pub lost : List ℕ
   pub moved : Moves before after inlet.Main lost
   pub none : (walk_on old lost).packets ≡ []
+  pub early : IsOnlyCut (walk_on old lost).ending
   pub within : AreWithin old lost
 
 -- after a fault of the store or of the desk

@@ -1,5 +1,5 @@
 ghost use Rattle.std.specs.Prelude.{◌≡◌, ◌+◌, ◌<◌, ◌≤◌};
-ghost use Rattle.packet_store.specs.SpacePackets.{IsHeader, header_of, header_bytes, is_chosen, is_misshapen};
+ghost use Rattle.packet_store.specs.SpacePackets.{IsHeader, header_of, header_bytes, is_chosen, is_misshapen, period};
 
 /// The bytes of a primary header.
 pub const HEADER_BYTES: usize = 6;
@@ -61,7 +61,7 @@ impl Header {
 /// and `size` data bytes.
 pub fn header_bytes(apid: u16, count: u16, size: u32) -> [u8; HEADER_BYTES]
     requires apid_bits { apid ≤ 2047 }
-    requires count_bits { count < PERIOD }
+    requires count_bits { count < period }
     requires some { 1 ≤ size }
     requires most { size ≤ 65536 }
     ensures { result ≡ header_bytes apid count size }

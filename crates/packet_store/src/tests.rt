@@ -125,7 +125,9 @@ const HEADERS: [(u16, u16, u32, [u8; 6]); 4] = [
 #[test]
 fn headers_both_ways(rt: HostRuntime) {
     for (apid, count, size, bytes) in HEADERS {
-        if apid <= 2047 && u64::from(count) < PERIOD && size > 0 && size <= 65_536 {
+        let right = apid <= 2047 && u64::from(count) < PERIOD && size > 0 && size <= 65_536;
+        assert!(rt; right);
+        if right {
             assert_eq!(rt; header_bytes(apid, count, size), bytes);
         }
         let header = read_header(&bytes);

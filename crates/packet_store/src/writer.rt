@@ -1,8 +1,8 @@
 ghost use Rattle.std.specs.Prelude.{◌≡◌, ◌<◌, ◌≤◌, length, IfOk, OnOk, OnErr};
 ghost use Rattle.desk_ports.specs.Meanings.{Adds, AddsFront, IsReadyOut, HasWriteCause};
-ghost use Rattle.packet_store.specs.SpacePackets.{space_packet};
+ghost use Rattle.packet_store.specs.SpacePackets.{period, space_packet};
 
-use crate::header::{HEADER_BYTES, PERIOD, header_bytes};
+use crate::header::{HEADER_BYTES, header_bytes};
 use crate::reader::PACKET_BYTES;
 use bit_vectors::NoMemory;
 use desk_ports::{Desk, Failed, Outlet, write_all};
@@ -42,7 +42,7 @@ impl StoreWriter {
     /// of it was appended. It takes no memory.
     pub fn put<D: Desk>(&mut self, desk: &mut D, count: u16, body: &[u8]) -> Result<(), Failed>
         requires open { IsReadyOut (D.meaning desk.old) Outlet.Main }
-        requires count_bits { count < PERIOD }
+        requires count_bits { count < period }
         requires some { 1 ≤ length body.now }
         requires most { length body.now ≤ 65536 }
         ensures added { OnOk result (Adds (D.meaning desk.old) (D.meaning desk.new) Outlet.Main (space_packet self.old.apid count body.now)) }
