@@ -1,6 +1,6 @@
 //! A recording that is being compressed, packet by packet.
 
-ghost use Rattle.std.specs.Prelude.{◌≡◌, ◌+◌, ◌%◌, ◌<◌, ◌≤◌, ℕ, [], ◌∷◌, ◌++◌, Bool, List, length, true, false, Ok, IfOk, IfErr, IfSome, OnOk, OnErr};
+ghost use Rattle.std.specs.Prelude.{◌≡◌, ◌+◌, ◌%◌, ◌<◌, ◌≤◌, [], ◌∷◌, ◌++◌, Bool, List, length, true, false, Ok, IfOk, IfSome, OnOk, OnErr};
 ghost use Rattle.std.specs.Io.KnownBytes.{IsAtEnd};
 ghost use Rattle.desk_ports.specs.Meanings.{IsReadyIn, IsReadyOut, HasWriteCause, Adds, AddsFront, left};
 ghost use Rattle.desk_ports.specs.Courses.{AfterRun, AfterTurn, HasCause, no_outputs};
@@ -10,7 +10,7 @@ ghost use Rattle.packet_encode.specs.Encoder.{StandsFor};
 ghost use Rattle.packet_encode.specs.Packets.{with_next_input};
 ghost use Rattle.packet_store.specs.SpacePackets.{space_packet};
 ghost use Rattle.flight_chain.specs.Stores.{data_at};
-ghost use Rattle.flight_chain.specs.Compressing.{Compression, HasTaken, KeepsInputs, all_inputs, compression_of, rest_course};
+ghost use Rattle.flight_chain.specs.Compressing.{Compression, HasTaken, KeepsInputs, all_inputs, rest_course};
 
 use crate::fault::RecordFault;
 use crate::reading::read_input;

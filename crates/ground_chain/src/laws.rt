@@ -1,6 +1,6 @@
 //! What the definitions of numbers and runs mean.
 
-ghost use Rattle.std.specs.Prelude.{◌≡◌, ◌<◌, ◌≤◌, ◌↔◌, ◌∷◌, [], ◌++◌, ◌+◌, ℕ, length, false, All, List, Option, Some, None, map};
+ghost use Rattle.std.specs.Prelude.{◌≡◌, ◌<◌, ◌≤◌, ◌↔◌, ◌∷◌, [], ◌++◌, ◌+◌, ℕ, length, false, All, List, Some, None, map};
 ghost use Rattle.std.specs.List.{range_with_len};
 ghost use Rattle.packet_store.specs.SpacePackets.{period};
 ghost use Rattle.ground_chain.specs.Numbers.{HasCount, number_after, expected};

@@ -1,6 +1,6 @@
 //! A store that is being played, packet by packet.
 
-ghost use Rattle.std.specs.Prelude.{◌≡◌, ◌+◌, ◌^◌, ◌<◌, ◌≤◌, true, false, IsTrue, length, if◌then◌else◌, Ok, IfOk, IfErr, IfSome, OnOk, OnErr};
+ghost use Rattle.std.specs.Prelude.{◌≡◌, ◌+◌, ◌^◌, ◌<◌, ◌≤◌, true, false, IsTrue, length, Ok, IfOk, IfErr, IfSome, OnOk, OnErr};
 ghost use Rattle.std.specs.Io.KnownBytes.{IsAtEnd};
 ghost use Rattle.desk_ports.specs.Meanings.{IsReadyIn, IsReadyOut, HasWriteCause, Adds, AddsFront, left};
 ghost use Rattle.desk_ports.specs.Courses.{AfterRun, AfterStop, AfterTurn, GoesOn, HasCause, IsAtLast, to_report};

@@ -1,5 +1,5 @@
 -- What the values stand for by which packets are read.
-use Rattle.std.specs.Prelude.{◌≡◌, ℕ, ◌-◌, nat_le, List, Bool, false, replicate, IfNone, length, Option, None, Some}
+use Rattle.std.specs.Prelude.{◌≡◌, ℕ, ◌-◌, List, Bool, false, replicate, IfNone, length, Option, None, Some}
 use Rattle.bit_vectors.specs.Vectors.{IsVector}
 use Rattle.packet_encode.specs.Forms.{Directions}
 use Rattle.packet_decode.specs.declared.draft.DataKind.{DataKind}

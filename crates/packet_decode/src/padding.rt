@@ -1,7 +1,7 @@
 //! What follows a packet that is spelled: the zeros that fill its last byte, and nothing else. What follows an
 //! opaque front is not looked at.
 
-ghost use Rattle.std.specs.Prelude.{◌≡◌, ◌≤◌, Bool, List, length};
+ghost use Rattle.std.specs.Prelude.{◌≤◌, Bool, List, length};
 ghost use Rattle.bit_vectors.specs.Eye.{bits_left};
 ghost use Rattle.bit_vectors.specs.Reading.{MovesOn, Gives};
 ghost use Rattle.packet_decode.specs.PacketReading.{parse_padding, parse_end};

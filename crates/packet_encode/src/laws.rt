@@ -1,10 +1,10 @@
 //! What the definitions of packets mean.
 
-ghost use Rattle.std.specs.Prelude.{◌≡◌, ℕ, ◌↔◌, ◌⊎◌, ◌+◌, ◌*◌, ◌<◌, ◌≤◌, true, false, [], ◌∷◌, length, Contains, Some, None};
+ghost use Rattle.std.specs.Prelude.{◌≡◌, ℕ, ◌↔◌, ◌⊎◌, ◌+◌, ◌*◌, ◌<◌, ◌≤◌, true, [], ◌∷◌, length, Contains, Some, None};
 ghost use Rattle.bit_vectors.specs.Vectors.{bits_of, byte_count, padded};
 ghost use Rattle.mask_update.specs.Histories.{History, IsValid, Step, input_at, robust_at, with_step};
 ghost use Rattle.mask_update.specs.Masks.{mask_at};
-ghost use Rattle.packet_encode.specs.Forms.{Fits, Form, IsForm, Whole, Part, form_bits};
+ghost use Rattle.packet_encode.specs.Forms.{Fits, IsForm, Whole, Part, form_bits};
 ghost use Rattle.packet_encode.specs.Packets.{AgreeUpTo, form_at, packet_at};
 ghost use Rattle.packet_encode.specs.Deliveries.{IsLatestWritten, Listed, WrittenAt, count_to_last, is_written, latest_written, listed_numbers, written_numbers};
 ghost use Rattle.robust_window.specs.Worked.{worked};

@@ -5,7 +5,6 @@ ghost use Rattle.packet_store.specs.SpacePackets.{IsHeader, header_of, packet_by
 ghost use Rattle.packet_store.specs.Walks.{IsGood};
 ghost use Rattle.packet_store.specs.Answers.{IfGiven, OnEnd};
 ghost use Rattle.packet_store.specs.Reading.{AfterUnread, HasPacketCause, HasShortCause, fault_at, in_room};
-ghost use Rattle.packet_store.specs.declared.packet.PacketFault.TheVariants as packet_fault;
 ghost use Rattle.packet_store.specs.declared.packet.Short.TheVariants as short;
 
 use crate::fault::{StoreFault, StoreKind};

@@ -1,6 +1,5 @@
 //! A run over a desk, from the opening of its names to the finishing of its outputs.
 ghost use Rattle.std.specs.Prelude.{◌≡◌, is_some, IsTrue, IfSome};
-ghost use Rattle.std.specs.Option.{option_map};
 ghost use Rattle.desk_ports.specs.Courses.{HasCause};
 ghost use Rattle.pocket_cmd.specs.Jobs.{job_course, writes_report};
 ghost use Rattle.pocket_cmd.specs.Openings.{view_names};

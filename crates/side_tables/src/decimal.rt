@@ -1,6 +1,6 @@
 //! Plain decimals.
 
-ghost use Rattle.std.specs.Prelude.{◌≡◌, ◌<◌, ◌^◌};
+ghost use Rattle.std.specs.Prelude.{◌≡◌, ◌<◌};
 ghost use Rattle.std.specs.Str.{all_ascii_digits};
 ghost use Rattle.side_tables.specs.Numbers.{is_plain_decimal, number_of};
 

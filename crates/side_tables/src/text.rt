@@ -1,6 +1,6 @@
 //! Tables from texts: each record of comma-separated values is a row.
 
-ghost use Rattle.std.specs.Prelude.{◌≡◌, ℕ, ◌<◌, List, length, Option, IfOk, IfErr};
+ghost use Rattle.std.specs.Prelude.{◌≡◌, ℕ, ◌<◌, List, Option, IfOk, IfErr};
 ghost use Rattle.csv.specs.Records.{fields_of};
 ghost use Rattle.side_tables.specs.Texts.{AreRowsOf, IsFaultOf};
 
