@@ -24,7 +24,8 @@ pub fn put_extract(pen: &mut BitPen, a: &Bits, b: &Bits)
 }
 
 /// Takes a bit for each one of `b`, which has as many places as `a`, from the highest place down, and makes
-/// it the bit of `a` at that place. The other bits of `a` stay, also where the bits end early. No bit is wrong.
+/// it the bit of `a` at that place. The other bits of `a` stay. Where the bits end early, those at the ones of
+/// `b` are any bits then. No bit is wrong.
 pub fn take_into(eye: &mut BitEye, a: &mut Bits, b: &Bits) -> Result<(), BitFault>
     requires { length a.old ≡ length b.now }
     ensures places { length a.new ≡ length a.old }
