@@ -1,6 +1,6 @@
 //! How bits lie in bytes: eight to a byte, the bit of the greatest weight first.
 
-ghost use Rattle.std.specs.Prelude.{◌≡◌, ℕ, ◌+◌, ◌*◌, ◌/◌, ◌^◌, ◌<◌, ◌≤◌, ◌↔◌, Bool, true, false, length, take, drop, slice_index, slice_index_or, slice_set, Contains, IsTrue};
+ghost use Rattle.std.specs.Prelude.{◌≡◌, ℕ, ◌+◌, ◌*◌, ◌/◌, ◌^◌, ◌<◌, ◌≤◌, ◌↔◌, true, false, length, take, drop, slice_index, slice_index_or, slice_set, Contains, IsTrue};
 ghost use Rattle.bit_vectors.specs.Vectors.{bits_of, byte_count, vector_bytes};
 
 /// The bit with this number, over all the bytes.
