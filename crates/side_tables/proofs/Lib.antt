@@ -1,10 +1,5 @@
 pub mod Orders
-pub mod Turns
 pub mod Places
-pub mod Naming
-pub mod FlagRows
-pub mod CopyRows
 pub mod Records
 pub mod RowTexts
 pub mod Numbers
-pub mod RightRows

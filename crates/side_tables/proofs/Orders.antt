@@ -1,15 +1,16 @@
--- Entries in the order of their first numbers, and those of them that lie over a number.
-use Rattle.std.proofs.Common.{◌≡◌, ℕ, zero, suc, ◌+◌, ◌-◌, ◌/◌, ◌<◌, ◌≤◌, max, Bool, true, false, cond, List, [], ◌∷◌, ◌++◌, length, map, drop, get_or, filter, Some, None, All, Contains, refl, sym, ◌∙◌, arith, inl, inr}
+-- Entries in the order of their first numbers, and those of them that name a number.
+use Rattle.std.proofs.Common.{◌≡◌, ℕ, zero, suc, ◌+◌, ◌-◌, ◌/◌, ◌<◌, ◌≤◌, max, Bool, true, false, ◌&&◌, leb-true, cond, List, [], ◌∷◌, ◌++◌, length, map, drop, get_or, filter, Some, None, Contains, refl, sym, ap, ◌∙◌, arith, inl, inr}
 use Rattle.std.proofs.lemmas.List.{append_assoc, length_push, drop-drop, drop_at, take_at, get_or_at, get_or_append_left, get_or-append_right, length-append, get_or-map, get_or-take, get_or-drop, length-map, length-take-le, length-drop}
 use Rattle.std.proofs.lemmas.List.Recursion.{max_bounds}
-use Rattle.std.proofs.lemmas.Bool.{cases_lt}
-use Rattle.std.proofs.lemmas.List.Elements.{All-filter, Contains-append_left, Contains-append_right, Contains-push, All-weaker, All-get_or, All-from_get_or}
+use Rattle.std.proofs.lemmas.Bool.{cases_lt, false_from_ne_true}
+use Rattle.std.proofs.lemmas.List.Elements.{All-take, All-drop, All-map, All-filter, filter_passes, Contains-append_left, Contains-append_right, Contains-push, All-get_or, All-from_get_or}
 use Rattle.std.proofs.lemmas.List.Sorted.{IsNonDecreasingBy-from_default, IsNonDecreasingBy-take, IsNonDecreasingBy-drop}
-use Rattle.std.proofs.lemmas.Bool.Decides.{nat_tests}
 use Rattle.std.specs.List.Sorted.{IsNonDecreasingBy}
 use Rattle.side_tables.specs.declared.order.OrderEntry.{OrderEntry}
 use Rattle.side_tables.specs.declared.span.Span.{Span}
-use Rattle.side_tables.specs.Order.{IsOrderOf, IsEntryOf, AreEntriesOf, AreOrdered, HaveReaches, IsNextAt, SameButReach, IsSameButReach, entry_at, span_at, places_of, no_entry, lies_over, reach_of, middle_of, before_middle, behind_middle}
+use Rattle.side_tables.specs.Spans.{names, IsSpan}
+use Rattle.side_tables.specs.Tables.{ArePlacesNaming, RowNames}
+use Rattle.side_tables.specs.Order.{IsOrderOf, IsEntryOf, AreEntriesOf, AreOrdered, HaveReaches, IsNextAt, SameButReach, IsSameButReach, entry_at, span_at, places_of, no_entry, places_naming, reach_of, middle_of, before_middle, behind_middle}
 
 -- the place of an entry, as one of the places
 pub place_among : (entries : List OrderEntry) (k d : ℕ) → k < length entries → get_or (places_of entries) k d ≡ (entry_at entries k).place
@@ -20,52 +21,60 @@ Contains-place entries k place inside is =
     let within : k < length (places_of entries) = rw (length-map entries (λ (e : OrderEntry). e.place)) inside in
     (k, within, place_among entries k place inside ∙ is)
 
--- ---- what lies over a number
+-- ---- what names a number
 
-not_over_early : (entry : OrderEntry) (t : ℕ) → t < entry.first → lies_over t entry ≡ false
-not_over_early entry t early = grind (arith, nat_tests)
+pub both : (a b : Bool) → (a && b) ≡ true → (a ≡ true) × (b ≡ true)
+both true b is = (refl, is)
+both false b is = absurd cc
 
-not_over_late : (entry : OrderEntry) (t : ℕ) → entry.last < t → lies_over t entry ≡ false
-not_over_late entry t late = grind (arith, nat_tests)
+names-within : (span : Span) (t : ℕ) → names span t ≡ true → (span.first ≤ t) × (t ≤ span.last)
+names-within span t is =
+    let range = both _ _ (both _ _ is).0 in
+    (leb-true _ _ range.0, leb-true _ _ range.1)
 
-over : (entry : OrderEntry) (t : ℕ) → entry.first ≤ t → t ≤ entry.last → lies_over t entry ≡ true
-over entry t first last = grind (arith, nat_tests)
+not_early : (span : Span) (t : ℕ) → t < span.first → names span t ≡ false
+not_early span t early = false_from_ne_true _ (λ is. let within = names-within span t is in absurd (omega arith))
+
+not_late : (span : Span) (t : ℕ) → span.last < t → names span t ≡ false
+not_late span t late = false_from_ne_true _ (λ is. let within = names-within span t is in absurd (omega arith))
 
 -- ---- halves of an order
 
-last_within : (entries : List OrderEntry) (k : ℕ) → k < length entries → (entry_at entries k).last ≤ reach_of entries
-last_within entries k inside = max_bounds reach_of (λ (e : OrderEntry). e.last) refl (λ x xs. refl) entries k no_entry inside
+last_within : (entries : List OrderEntry) (k : ℕ) → k < length entries → (entry_at entries k).span.last ≤ reach_of entries
+last_within entries k inside = max_bounds reach_of (λ (e : OrderEntry). e.span.last) refl (λ x xs. refl) entries k no_entry inside
 
 pub AreOrdered-before : (entries : List OrderEntry) → AreOrdered entries → AreOrdered (before_middle entries)
 AreOrdered-before entries order = record {
-  rising = IsNonDecreasingBy-take (λ (e : OrderEntry). e.first) (length entries / 2) entries order.rising;
+  right = All-take (λ (e : OrderEntry). IsSpan e.span) (length entries / 2) entries order.right;
+  rising = IsNonDecreasingBy-take (λ (e : OrderEntry). e.span.first) (length entries / 2) entries order.rising;
   reaches = λ depth. (order.reaches (suc depth)).1;
 }
 
 pub AreOrdered-behind : (entries : List OrderEntry) → AreOrdered entries → AreOrdered (behind_middle entries)
 AreOrdered-behind entries order = record {
-  rising = IsNonDecreasingBy-drop (λ (e : OrderEntry). e.first) (length entries / 2 + 1) entries order.rising;
+  right = All-drop (λ (e : OrderEntry). IsSpan e.span) (length entries / 2 + 1) entries order.right;
+  rising = IsNonDecreasingBy-drop (λ (e : OrderEntry). e.span.first) (length entries / 2 + 1) entries order.rising;
   reaches = λ depth. (order.reaches (suc depth)).2;
 }
 
 -- ---- the next entry
 
 -- all begin after the number
-pub none_begun : (entries : List OrderEntry) (start t : ℕ) → AreOrdered entries → t < (entry_at entries 0).first → IsNextAt entries start t None
+pub none_begun : (entries : List OrderEntry) (start t : ℕ) → AreOrdered entries → t < (entry_at entries 0).span.first → IsNextAt entries start t None
 none_begun entries start t order early = λ k from inside.
     let later = order.rising 0 k no_entry (omega arith) inside in
-    not_over_early (entry_at entries k) t (omega arith)
+    not_early (entry_at entries k).span t (omega arith)
 
 -- none reaches the number
 pub none_reaches : (entries : List OrderEntry) (start t : ℕ) → AreOrdered entries → (middle_of entries).reach < t → IsNextAt entries start t None
 none_reaches entries start t order low = λ k from inside.
     let within = last_within entries k inside in
     let reach = (order.reaches 1).0 (omega arith) in
-    not_over_late (entry_at entries k) t (omega arith)
+    not_late (entry_at entries k).span t (omega arith)
 
 -- none up to the middle
-none_to_middle : (entries : List OrderEntry) (start t : ℕ) → IsNextAt (before_middle entries) start t None → (start ≤ length entries / 2 → lies_over t (middle_of entries) ≡ false)
-    → (j : ℕ) → start ≤ j → j < length entries / 2 + 1 → lies_over t (entry_at entries j) ≡ false
+none_to_middle : (entries : List OrderEntry) (start t : ℕ) → IsNextAt (before_middle entries) start t None → (start ≤ length entries / 2 → names (middle_of entries).span t ≡ false)
+    → (j : ℕ) → start ≤ j → j < length entries / 2 + 1 → names (entry_at entries j).span t ≡ false
 none_to_middle entries start t none not j from to =
     let size : length (before_middle entries) ≡ length entries / 2 = length-take-le (length entries / 2) entries (omega arith) in
     elim (cases_lt j (length entries / 2)) [
@@ -79,7 +88,7 @@ behind_at entries j from =
     get_or-drop (length entries / 2 + 1) entries (j - (length entries / 2 + 1)) no_entry ∙ rw same refl
 
 -- what is next behind the middle is next, where none up to the middle is
-pub next_behind : (entries : List OrderEntry) (start t k : ℕ) → IsNextAt (before_middle entries) start t None → (start ≤ length entries / 2 → lies_over t (middle_of entries) ≡ false)
+pub next_behind : (entries : List OrderEntry) (start t k : ℕ) → IsNextAt (before_middle entries) start t None → (start ≤ length entries / 2 → names (middle_of entries).span t ≡ false)
     → IsNextAt (behind_middle entries) (start - (length entries / 2 + 1)) t (Some k) → IsNextAt entries start t (Some (length entries / 2 + 1 + k))
 next_behind entries start t k none not next =
     let size : length (behind_middle entries) ≡ length entries - (length entries / 2 + 1) = length-drop (length entries / 2 + 1) entries in
@@ -93,7 +102,7 @@ next_behind entries start t k none not next =
       ],
     )
 
-pub none_behind : (entries : List OrderEntry) (start t : ℕ) → IsNextAt (before_middle entries) start t None → (start ≤ length entries / 2 → lies_over t (middle_of entries) ≡ false)
+pub none_behind : (entries : List OrderEntry) (start t : ℕ) → IsNextAt (before_middle entries) start t None → (start ≤ length entries / 2 → names (middle_of entries).span t ≡ false)
     → IsNextAt (behind_middle entries) (start - (length entries / 2 + 1)) t None → IsNextAt entries start t None
 none_behind entries start t none not rest =
     let size : length (behind_middle entries) ≡ length entries - (length entries / 2 + 1) = length-drop (length entries / 2 + 1) entries in
@@ -115,22 +124,22 @@ filter_to_first p (x ∷ xs) zero d inside is none = rw is refl
 filter_to_first p (x ∷ xs) (suc k) d inside is none = rw (none 0 (omega arith)) (filter_to_first p xs k d (omega arith) is (λ j below. none (suc j) (omega arith)))
 
 -- none of the entries from a place on
-pub filter_none : (entries : List OrderEntry) (start t : ℕ) → IsNextAt entries start t None → filter (lies_over t) (drop start entries) ≡ []
-filter_none entries start t none = filter_nothing (lies_over t) (drop start entries) no_entry (λ k inside.
+pub places_naming-none : (entries : List OrderEntry) (start t : ℕ) → IsNextAt entries start t None → places_naming t (drop start entries) ≡ []
+places_naming-none entries start t none = ap places_of (filter_nothing (λ (e : OrderEntry). names e.span t) (drop start entries) no_entry (λ k inside.
     let within : k < length entries - start = rw (length-drop start entries) at inside in
-    rw (get_or-drop start entries k no_entry) (none (start + k) (omega arith) (omega arith)))
+    rw (get_or-drop start entries k no_entry) (none (start + k) (omega arith) (omega arith))))
 
--- the next one, and those behind it
-pub filter_next : (entries : List OrderEntry) (start t k : ℕ) → IsNextAt entries start t (Some k)
-    → filter (lies_over t) (drop start entries) ≡ entry_at entries k ∷ filter (lies_over t) (drop (k + 1) entries)
-filter_next entries start t k next =
+-- the next one, and those after it
+pub places_naming-next : (entries : List OrderEntry) (start t k : ℕ) → IsNextAt entries start t (Some k)
+    → places_naming t (drop start entries) ≡ (entry_at entries k).place ∷ places_naming t (drop (k + 1) entries)
+places_naming-next entries start t k next =
     let place : start + (k - start) ≡ k = omega arith in
     let here : get_or (drop start entries) (k - start) no_entry ≡ entry_at entries k = get_or-drop start entries (k - start) no_entry ∙ rw place refl in
     let past : start + suc (k - start) ≡ k + 1 = omega arith in
     let rest : drop (suc (k - start)) (drop start entries) ≡ drop (k + 1) entries = drop-drop (suc (k - start)) start entries ∙ rw past refl in
-    let found = filter_to_first (lies_over t) (drop start entries) (k - start) no_entry (rw (length-drop start entries) (omega arith)) (rw here next.2) (λ j below.
+    let found = filter_to_first (λ (e : OrderEntry). names e.span t) (drop start entries) (k - start) no_entry (rw (length-drop start entries) (omega arith)) (rw here next.2) (λ j below.
     rw (get_or-drop start entries j no_entry) (next.3 (start + j) (omega arith) (omega arith))) in
-    rw (here, rest) at found
+    ap places_of (rw (here, rest) at found)
 
 Contains-filter : {X : Type 0} (p : X → Bool) (f : X → ℕ) (xs : List X) (k : ℕ) (d : X) → k < length xs → p (get_or xs k d) ≡ true → Contains (map f (filter p xs)) (f (get_or xs k d))
 Contains-filter p f [] k d inside is = absurd (omega arith)
@@ -142,24 +151,24 @@ Contains-filter p f (x ∷ xs) (suc k) d inside is =
       | false ↦ there
     ]
 
--- among the entries is one for each span that has the number from its first to its last
-pub record HaveAllAt (spans : List Span) (t : ℕ) (entries : List OrderEntry) : Type 0 where
-  pub own : All (λ entry. entry.place < length spans) entries
-  pub each : (place : ℕ) → place < length spans → (span_at spans place).first ≤ t → t ≤ (span_at spans place).last → Contains (places_of entries) place
-
--- those that lie over the number are such entries
-pub HaveAllAt-filter : (spans : List Span) (entries : List OrderEntry) (t : ℕ) → IsOrderOf spans entries → HaveAllAt spans t (filter (lies_over t) entries)
-HaveAllAt-filter spans entries t order = record {
-  own = All-filter (lies_over t) (λ e. e.place < length spans) entries (All-weaker (IsEntryOf spans) (λ e. e.place < length spans) (λ e is. is.inside) entries order.are.own);
-  each = λ place inside first last.
-      let found = order.are.each place inside in
-      let there : found.0 < length entries = rw (length-map entries (λ (e : OrderEntry). e.place)) at found.1 in
-      let is : (entry_at entries found.0).place ≡ place = sym (place_among entries found.0 place there) ∙ found.2 in
-      let entry : IsEntryOf spans (entry_at entries found.0) = All-get_or (IsEntryOf spans) entries found.0 no_entry there order.are.own in
-      let begins : (entry_at entries found.0).first ≡ (span_at spans place).first = rw is at entry.first in
-      let ends : (entry_at entries found.0).last ≡ (span_at spans place).last = rw is at entry.last in
-      rw is at (Contains-filter (lies_over t) (λ (e : OrderEntry). e.place) entries found.0 no_entry there (over (entry_at entries found.0) t (omega arith) (omega arith)));
-}
+-- the places of the rows that name the number
+pub ArePlacesNaming-order : {R : Type 0} (span_of : R → Span) (rows : List R) (entries : List OrderEntry) (t : ℕ) → IsOrderOf (map span_of rows) entries → ArePlacesNaming span_of rows t (places_naming t entries)
+ArePlacesNaming-order span_of rows entries t order =
+    let naming = filter (λ (e : OrderEntry). names e.span t) entries in
+    record {
+      own = All-map (λ place. (place < length rows) × RowNames span_of rows t place) (λ (e : OrderEntry). e.place) naming (
+          All-from_get_or (λ (e : OrderEntry). (e.place < length rows) × RowNames span_of rows t e.place) naming no_entry (λ k inside.
+          let entry : IsEntryOf (map span_of rows) (entry_at naming k) = All-get_or (IsEntryOf (map span_of rows)) naming k no_entry inside (All-filter (λ (e : OrderEntry). names e.span t) (IsEntryOf (map span_of rows)) entries order.are.own) in
+          let names_it : names (entry_at naming k).span t ≡ true = All-get_or (λ (e : OrderEntry). names e.span t ≡ true) naming k no_entry inside (filter_passes (λ (e : OrderEntry). names e.span t) entries) in
+          (rw (length-map rows span_of) at entry.inside, rw entry.span at names_it)));
+      each = λ place inside names_it.
+          let found = order.are.each place (rw (length-map rows span_of) inside) in
+          let there : found.0 < length entries = rw (length-map entries (λ (e : OrderEntry). e.place)) at found.1 in
+          let is : (entry_at entries found.0).place ≡ place = sym (place_among entries found.0 place there) ∙ found.2 in
+          let entry : IsEntryOf (map span_of rows) (entry_at entries found.0) = All-get_or (IsEntryOf (map span_of rows)) entries found.0 no_entry there order.are.own in
+          let span : (entry_at entries found.0).span ≡ span_at (map span_of rows) place = rw is at entry.span in
+          rw is at (Contains-filter (λ (e : OrderEntry). names e.span t) (λ (e : OrderEntry). e.place) entries found.0 no_entry there (rw span names_it));
+    }
 
 -- ---- the reaches of halves
 
@@ -167,7 +176,7 @@ pub HaveReaches-none : HaveReaches []
 HaveReaches-none zero = tt
 HaveReaches-none (suc depth) = (λ some. absurd (omega arith), HaveReaches-none depth, HaveReaches-none depth)
 
-pub reach_of-joined : (before behind : List OrderEntry) (entry : OrderEntry) → reach_of (before ++ entry ∷ behind) ≡ max (max (reach_of before) entry.last) (reach_of behind)
+pub reach_of-joined : (before behind : List OrderEntry) (entry : OrderEntry) → reach_of (before ++ entry ∷ behind) ≡ max (max (reach_of before) entry.span.last) (reach_of behind)
 reach_of-joined [] behind entry = omega arith
 reach_of-joined (e ∷ before) behind entry = rw (reach_of-joined before behind entry) (omega arith)
 
@@ -204,21 +213,24 @@ SameButReach-joined before behind others rest entry other front back same = reco
 -- ---- the order
 
 -- entries of spans in the order of their first numbers, with the reaches of halves
-pub IsOrderOf-from_reaches : (spans : List Span) (entries others : List OrderEntry) → AreEntriesOf spans entries → IsNonDecreasingBy (λ (e : OrderEntry). e.first) entries → SameButReach entries others → HaveReaches others
+pub IsOrderOf-from_reaches : (spans : List Span) (entries others : List OrderEntry) → AreEntriesOf spans entries → IsNonDecreasingBy (λ (e : OrderEntry). e.span.first) entries → SameButReach entries others → HaveReaches others
     → IsOrderOf spans others
 IsOrderOf-from_reaches spans entries others are rising same reaches = record {
   are = record {
     own = All-from_get_or (IsEntryOf spans) others no_entry (λ k inside.
         let entry : IsEntryOf spans (entry_at entries k) = All-get_or (IsEntryOf spans) entries k no_entry (rw same.len at inside) are.own in
         let other = same.each k in
-        record { inside = rw other.place entry.inside; first = other.first ∙ rw other.place entry.first; last = other.last ∙ rw other.place entry.last });
+        record { inside = rw other.place entry.inside; span = other.span ∙ rw other.place entry.span; right = rw other.span entry.right });
     each = λ place inside.
         let found = are.each place inside in
         let there : found.0 < length entries = rw (length-map entries (λ (e : OrderEntry). e.place)) at found.1 in
         Contains-place others found.0 place (rw same.len there) ((same.each found.0).place ∙ sym (place_among entries found.0 place there) ∙ found.2);
   };
   ordered = record {
-    rising = IsNonDecreasingBy-from_default (λ (e : OrderEntry). e.first) others no_entry (λ i j le inside. rw ((same.each i).first, (same.each j).first) (rising i j no_entry le (rw same.len at inside)));
+    right = All-from_get_or (λ (e : OrderEntry). IsSpan e.span) others no_entry (λ k inside.
+        let entry : IsEntryOf spans (entry_at entries k) = All-get_or (IsEntryOf spans) entries k no_entry (rw same.len at inside) are.own in
+        rw ((same.each k).span) entry.right);
+    rising = IsNonDecreasingBy-from_default (λ (e : OrderEntry). e.span.first) others no_entry (λ i j le inside. rw ((same.each i).span, (same.each j).span) (rising i j no_entry le (rw same.len at inside)));
     reaches = reaches;
   };
 }

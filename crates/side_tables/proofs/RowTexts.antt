@@ -3,12 +3,15 @@ use Rattle.std.proofs.Common.{Bor, ◌≡◌, ℕ, suc, ◌+◌, ◌-◌, ◌<�
 use Rattle.std.specs.List.{filter_map, position_from}
 use Rattle.std.proofs.lemmas.List.{map-append, length-map, length-append}
 use Rattle.csv.specs.Machine.{next_record}
-use Rattle.csv.specs.Reading.{Reached, ReadRecord, source_of, records_from, default_config, strip_bom, is_bom}
+use Rattle.csv.specs.Reading.{Reached, ReadRecord, source_of, records_from, default_config, strip_bom, is_bom, is_flexible, ExplainsRead}
 use Rattle.csv.proofs.ReadFacts.{rows-more}
+use Rattle.std.proofs.lemmas.Bool.{true≢false, false≢true}
+use Rattle.csv.specs.declared.error.ErrorKind.{ErrorKind}
+use Rattle.csv.specs.declared.error.ErrorKind.TheVariants as kind
 use Rattle.csv.specs.declared.reader.Reader.{Reader}
 use Rattle.csv.specs.declared.parser.State.{State}
 use Rattle.csv.specs.declared.parser.State.TheVariants as st
-use Rattle.side_tables.specs.Texts.{records_of, bad_row, AreRowsOf}
+use Rattle.side_tables.specs.Texts.{records_of, bad_row, AreRowsOf, CanCome}
 use Rattle.side_tables.proofs.Records.{reached-count, records-reached, records-none}
 
 -- the records so far are these rows
@@ -75,7 +78,7 @@ AreRowsOf-end row_of text raw rows s ys within good reached none =
 -- a record that is no row behind others
 bad_row-reached : {R : Type 0} (row_of : List (List ℕ) → Option R) (text : List ℕ) (raw : List (List (List ℕ))) (rows : List R) (bad : List (List ℕ)) (s : State) (ys : List ℕ)
     → AreGood row_of raw rows → row_of bad ≡ None → Reached default_config st.StartRecord (strip_bom text) (raw ++ bad ∷ []) s ys
-    → (bad_row row_of (records_of text) ≡ Some (length rows + 1)) × (length rows < length text)
+    → (bad_row row_of text ≡ Some (length rows + 1)) × (length rows < length text)
 bad_row-reached row_of text raw rows bad s ys good none reached =
     let count = reached-count st.StartRecord s (strip_bom text) ys (raw ++ bad ∷ []) refl reached in
     let size : length (raw ++ bad ∷ []) ≡ length raw + 1 = length-append raw (bad ∷ []) in
@@ -91,7 +94,16 @@ bad_row-reached row_of text raw rows bad s ys good none reached =
 pub bad_row-read : {R : Type 0} (row_of : List (List ℕ) → Option R) (text : Bor (List ℕ)) (old new : Reader (Bor (List ℕ))) (y : List ℕ) (raw : List (List (List ℕ))) (rows : List R) (bad : List (List ℕ))
     → old.config ≡ default_config → source_of (λ s. Some s.now) old ≡ Some y → Reached default_config st.StartRecord (strip_bom text.now) raw old.state y
     → AreGood row_of raw rows → row_of bad ≡ None → ReadRecord (λ s. Some s.now) old new true bad
-    → (bad_row row_of (records_of text.now) ≡ Some (length rows + 1)) × (length rows < length text.now)
+    → (bad_row row_of text.now ≡ Some (length rows + 1)) × (length rows < length text.now)
 bad_row-read row_of text old new y raw rows bad config source reached good none read =
     let m = rows-more (λ (s : Bor (List ℕ)). Some s.now) old new bad default_config st.StartRecord (strip_bom text.now) y raw config source reached read in
     bad_row-reached row_of text.now raw rows bad new.state m.0 good none m.2
+
+-- what a reader that takes records of any length can't read has no fault of its own
+pub CanCome-flexible : {R : Type 0} (rem : R → Option (List ℕ)) (old new : Reader R) (k : ErrorKind) → is_flexible old ≡ true → ExplainsRead rem old new false k → CanCome k
+CanCome-flexible rem old new (kind.Io e) flexible why = tt
+CanCome-flexible rem old new kind.OutOfMemory flexible why = tt
+CanCome-flexible rem old new (kind.UnequalLengths pos expected len) flexible why = true≢false (sym flexible ∙ why.0)
+CanCome-flexible rem old new (kind.Utf8 pos err) flexible why = false≢true why.0
+CanCome-flexible rem old new (kind.Serialize text) flexible why = why
+CanCome-flexible rem old new (kind.Deserialize pos err) flexible why = why

@@ -8,8 +8,7 @@ use Rattle.side_tables.specs.declared.rows.FlagRow.{FlagRow}
 use Rattle.side_tables.specs.declared.rows.CopyRow.{CopyRow}
 use Rattle.side_tables.specs.declared.span.Span.{Span}
 use Rattle.side_tables.specs.Numbers.{number_of}
-use Rattle.side_tables.specs.Texts.{records_of, bad_row}
-use Rattle.std.specs.List.{filter_map}
+use Rattle.side_tables.specs.Texts.{rows_of, bad_row}
 
 infixl 10 ◌>>=◌
 abbrev pub ◌>>=◌ : {A B : Type 0} → Option A → (A → Option B) → Option B
@@ -79,13 +78,13 @@ copy_row_of fields = field_at fields 0 >>= λ word. if bytes_eq word (codes "dro
 
 -- the rows of a schedule's and of a script's text, and the number of the first record that is none
 abbrev pub flag_rows_of : List ℕ → List FlagRow
-flag_rows_of text = filter_map flag_row_of (records_of text)
+flag_rows_of text = rows_of flag_row_of text
 
 abbrev pub copy_rows_of : List ℕ → List CopyRow
-copy_rows_of text = filter_map copy_row_of (records_of text)
+copy_rows_of text = rows_of copy_row_of text
 
 abbrev pub bad_flag_row : List ℕ → Option ℕ
-bad_flag_row text = bad_row flag_row_of (records_of text)
+bad_flag_row text = bad_row flag_row_of text
 
 abbrev pub bad_copy_row : List ℕ → Option ℕ
-bad_copy_row text = bad_row copy_row_of (records_of text)
+bad_copy_row text = bad_row copy_row_of text

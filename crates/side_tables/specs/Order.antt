@@ -1,14 +1,15 @@
--- Spans in the order of their first numbers.
-use Rattle.std.specs.Prelude.{◌≡◌, ℕ, suc, zero, ◌+◌, ◌/◌, ◌<◌, ◌≤◌, max, nat_le, Bool, true, false, ◌&&◌, List, [], ◌∷◌, length, take, drop, slice_index_or, Option, None, Some, All, map, Contains}
+-- Rows in the order of their first numbers, by the spans of numbers that they name.
+use Rattle.std.specs.Prelude.{◌≡◌, ℕ, suc, zero, ◌+◌, ◌/◌, ◌<◌, ◌≤◌, max, true, false, List, [], ◌∷◌, length, take, drop, slice_index_or, Option, None, Some, All, map, filter, Contains}
 use Rattle.std.specs.List.Sorted.{IsNonDecreasingBy}
 use Rattle.side_tables.specs.declared.order.OrderEntry.{OrderEntry}
 use Rattle.side_tables.specs.declared.span.Span.{Span}
-
-abbrev pub no_entry : OrderEntry
-no_entry = record { first = 0; last = 0; reach = 0; place = 0 }
+use Rattle.side_tables.specs.Spans.{names, IsSpan}
 
 abbrev pub no_span : Span
 no_span = record { first = 0; last = 0; step = 0 }
+
+abbrev pub no_entry : OrderEntry
+no_entry = record { span = no_span; reach = 0; place = 0 }
 
 abbrev pub entry_at : List OrderEntry → ℕ → OrderEntry
 entry_at entries k = slice_index_or entries k no_entry
@@ -16,11 +17,11 @@ entry_at entries k = slice_index_or entries k no_entry
 abbrev pub span_at : List Span → ℕ → Span
 span_at spans place = slice_index_or spans place no_span
 
--- an entry of a span: its place, its first and its last number
+-- an entry of a span: its place and its numbers
 pub record IsEntryOf (spans : List Span) (entry : OrderEntry) : Type 0 where
   pub inside : entry.place < length spans
-  pub first : entry.first ≡ (span_at spans entry.place).first
-  pub last : entry.last ≡ (span_at spans entry.place).last
+  pub span : entry.span ≡ span_at spans entry.place
+  pub right : IsSpan entry.span
 
 abbrev pub places_of : List OrderEntry → List ℕ
 places_of entries = map (λ entry. entry.place) entries
@@ -33,7 +34,7 @@ pub record AreEntriesOf (spans : List Span) (entries : List OrderEntry) : Type 0
 -- how far entries reach: their greatest last number
 abbrev pub reach_of : List OrderEntry → ℕ
 reach_of [] = 0
-reach_of (entry ∷ entries) = max entry.last (reach_of entries)
+reach_of (entry ∷ entries) = max entry.span.last (reach_of entries)
 
 -- the middle one of entries, and the halves before it and behind it
 abbrev pub middle_of : List OrderEntry → OrderEntry
@@ -57,7 +58,8 @@ HaveReaches entries = (depth : ℕ) → HaveReachesTo depth entries
 
 -- in the order of their first numbers, with the reach of each half
 pub record AreOrdered (entries : List OrderEntry) : Type 0 where
-  pub rising : IsNonDecreasingBy (λ entry. entry.first) entries
+  pub right : All (λ entry. IsSpan entry.span) entries
+  pub rising : IsNonDecreasingBy (λ entry. entry.span.first) entries
   pub reaches : HaveReaches entries
 
 -- the order of spans
@@ -67,8 +69,7 @@ pub record IsOrderOf (spans : List Span) (entries : List OrderEntry) : Type 0 wh
 
 -- an entry of the same span, whatever its reach
 pub record IsSameButReach (old new : OrderEntry) : Type 0 where
-  pub first : new.first ≡ old.first
-  pub last : new.last ≡ old.last
+  pub span : new.span ≡ old.span
   pub place : new.place ≡ old.place
 
 -- entries of the same spans, one by one
@@ -76,12 +77,12 @@ pub record SameButReach (old new : List OrderEntry) : Type 0 where
   pub len : length new ≡ length old
   pub each : (k : ℕ) → IsSameButReach (entry_at old k) (entry_at new k)
 
--- whether the number is from an entry's first to its last
-abbrev pub lies_over : ℕ → OrderEntry → Bool
-lies_over t entry = nat_le entry.first t && nat_le t entry.last
-
--- the first entry, from a place on, that lies over the number
+-- the first entry, from a place on, that names the number
 abbrev pub IsNextAt : List OrderEntry → ℕ → ℕ → Option ℕ → Type 0
-IsNextAt entries start t None = (k : ℕ) → start ≤ k → k < length entries → lies_over t (entry_at entries k) ≡ false
-IsNextAt entries start t (Some k) = (start ≤ k) × (k < length entries) × (lies_over t (entry_at entries k) ≡ true)
-    × ((j : ℕ) → start ≤ j → j < k → lies_over t (entry_at entries j) ≡ false)
+IsNextAt entries start t None = (k : ℕ) → start ≤ k → k < length entries → names (entry_at entries k).span t ≡ false
+IsNextAt entries start t (Some k) = (start ≤ k) × (k < length entries) × (names (entry_at entries k).span t ≡ true)
+    × ((j : ℕ) → start ≤ j → j < k → names (entry_at entries j).span t ≡ false)
+
+-- the places of the entries that name the number
+abbrev pub places_naming : ℕ → List OrderEntry → List ℕ
+places_naming t entries = places_of (filter (λ entry. names entry.span t) entries)

@@ -36,9 +36,9 @@ flags_of rows t = record {
 }
 
 -- the last row that names the number
-abbrev pub last_row : List CopyRow → ℕ → Option CopyRow
-last_row rows t = find (λ row. names (copy_span row) t) (reverse rows)
+abbrev pub last_row : {R : Type 0} → (R → Span) → List R → ℕ → Option R
+last_row span_of rows t = find (λ row. names (span_of row) t) (reverse rows)
 
 -- the copies that the last row that names the number gives, and one where none does
 abbrev pub copies_of : List CopyRow → ℕ → ℕ
-copies_of rows t = option_map_or (λ row. row.copies) (last_row rows t) 1
+copies_of rows t = option_map_or (λ row. row.copies) (last_row copy_span rows t) 1

@@ -1,6 +1,6 @@
 //! Plain decimals.
 
-ghost use Rattle.std.specs.Prelude.{◌≡◌, ◌<◌};
+ghost use Rattle.std.specs.Prelude.{◌≡◌, ◌<◌, ◌≤◌, IfSome};
 ghost use Rattle.std.specs.Str.{all_ascii_digits};
 ghost use Rattle.side_tables.specs.Numbers.{is_plain_decimal, number_of};
 
@@ -29,7 +29,9 @@ fn is_plain_decimal(text: &[u8]) -> bool
 
 /// The number that a plain decimal from `low` to `high` says.
 pub fn number(text: &[u8], low: u32, high: u32) -> Option<u32>
-    ensures { result ≡ number_of low high text.now }
+    ensures number { result ≡ number_of low high text.now }
+    ensures low { IfSome result (λ number. low ≤ number) }
+    ensures high { IfSome result (λ number. number ≤ high) }
 {
     match str::from_utf8(text) {
         Ok(text) => number_in_text(text, low, high),
@@ -39,7 +41,9 @@ pub fn number(text: &[u8], low: u32, high: u32) -> Option<u32>
 
 /// The number that a plain decimal from `low` to `high` says.
 fn number_in_text(text: &str, low: u32, high: u32) -> Option<u32>
-    ensures { result ≡ number_of low high text.now }
+    ensures number { result ≡ number_of low high text.now }
+    ensures low { IfSome result (λ number. low ≤ number) }
+    ensures high { IfSome result (λ number. number ≤ high) }
 {
     if !is_plain_decimal(text.as_bytes()) {
         return None;

@@ -1,19 +1,26 @@
 //! Which records are rows.
 
-ghost use Rattle.std.specs.Prelude.{◌≡◌, ◌<◌};
+ghost use Rattle.std.specs.Prelude.{◌≡◌, ◌<◌, ◌≤◌, IfSome};
 ghost use Rattle.std.specs.List.{list_all};
 ghost use Rattle.csv.specs.Records.{fields_of};
+ghost use Rattle.side_tables.specs.Rows.{IsFlagRow, IsCopyRow, flag_span, copy_span};
+ghost use Rattle.side_tables.specs.Spans.{IsSpan};
 ghost use Rattle.side_tables.specs.Grammar.{number_at, span_from, flags_named, are_letters, is_letter, count_of, flag_row_of, drop_row_of, repeat_row_of, copy_row_of};
 
 use crate::decimal::number;
-use crate::rows::{CopyRow, FlagRow};
+use crate::rows::{CopyRow, FlagRow, TableRow};
 use crate::span::Span;
-use crate::text::TextRow;
 use bit_vectors::Flags;
 use csv::ByteRecord;
 
-impl TextRow for FlagRow {
+impl TableRow for FlagRow {
     ghost row_of = { flag_row_of };
+
+    ghost span_of = { flag_span };
+
+    ghost is_right = { IsFlagRow };
+
+    ghost names_packets = { λ row right. right };
 
     fn from_record(fields: &ByteRecord) -> Option<FlagRow> {
         if fields.len() != 4 {
@@ -28,10 +35,24 @@ impl TextRow for FlagRow {
             flags,
         })
     }
+
+    fn span(&self) -> Span {
+        Span {
+            first: self.first,
+            last: self.last,
+            step: self.step,
+        }
+    }
 }
 
-impl TextRow for CopyRow {
+impl TableRow for CopyRow {
     ghost row_of = { copy_row_of };
+
+    ghost span_of = { copy_span };
+
+    ghost is_right = { IsCopyRow };
+
+    ghost names_packets = { λ row right. right.span };
 
     fn from_record(fields: &ByteRecord) -> Option<CopyRow> {
         match fields.get(0)? {
@@ -40,11 +61,20 @@ impl TextRow for CopyRow {
             _ => None,
         }
     }
+
+    fn span(&self) -> Span {
+        Span {
+            first: self.first,
+            last: self.last,
+            step: self.step,
+        }
+    }
 }
 
 /// The packets that are dropped.
 fn drop_row(fields: &ByteRecord) -> Option<CopyRow>
-    ensures { result ≡ drop_row_of (fields_of fields.now) }
+    ensures row { result ≡ drop_row_of (fields_of fields.now) }
+    ensures right { IfSome result IsCopyRow }
 {
     if fields.len() != 4 {
         return None;
@@ -60,7 +90,8 @@ fn drop_row(fields: &ByteRecord) -> Option<CopyRow>
 
 /// The packets that are repeated.
 fn repeat_row(fields: &ByteRecord) -> Option<CopyRow>
-    ensures { result ≡ repeat_row_of (fields_of fields.now) }
+    ensures row { result ≡ repeat_row_of (fields_of fields.now) }
+    ensures right { IfSome result IsCopyRow }
 {
     if fields.len() != 5 {
         return None;
@@ -78,7 +109,8 @@ fn repeat_row(fields: &ByteRecord) -> Option<CopyRow>
 /// The first and last number and the step that three fields say.
 fn span_from(fields: &ByteRecord, place: usize) -> Option<Span>
     requires { place < 4 }
-    ensures { result ≡ span_from (fields_of fields.now) place }
+    ensures span { result ≡ span_from (fields_of fields.now) place }
+    ensures right { IfSome result IsSpan }
 {
     let first = number_at(fields, place, 0)?;
     let last = number_at(fields, place + 1, first)?;
@@ -88,7 +120,8 @@ fn span_from(fields: &ByteRecord, place: usize) -> Option<Span>
 
 /// The number that a field says, where it is not below a least one.
 fn number_at(fields: &ByteRecord, place: usize, least: u32) -> Option<u32>
-    ensures { result ≡ number_at (fields_of fields.now) place least }
+    ensures number { result ≡ number_at (fields_of fields.now) place least }
+    ensures least { IfSome result (λ number. least ≤ number) }
 {
     number(fields.get(place)?, least, u32::MAX)
 }

@@ -9,13 +9,16 @@ mod rows;
 mod schedule;
 mod script;
 mod span;
+mod table;
 mod text;
 
 pub use decimal::number;
 pub use fault::SideFault;
-pub use rows::{CopyRow, FlagRow};
+pub use rows::{CopyRow, FlagRow, TableRow};
 pub use schedule::Schedule;
 pub use script::Script;
+pub use span::Span;
+pub use table::Table;
 
 #[cfg(test)]
 mod tests;

@@ -1,28 +1,21 @@
 //! Tables from texts: each record of comma-separated values is a row.
 
-ghost use Rattle.std.specs.Prelude.{◌≡◌, ℕ, ◌<◌, List, Option, IfOk, IfErr};
-ghost use Rattle.csv.specs.Records.{fields_of};
-ghost use Rattle.side_tables.specs.Texts.{AreRowsOf, IsFaultOf};
+ghost use Rattle.std.specs.Prelude.{◌≡◌, ◌<◌, All, IfOk, IfErr};
+ghost use Rattle.csv.specs.Reading.{error_kind};
+ghost use Rattle.side_tables.specs.Texts.{AreRowsOf, CanCome, IsFaultOf};
 
 use crate::fault::SideFault;
-use csv::{ByteRecord, ReaderBuilder};
+use crate::rows::TableRow;
+use csv::ReaderBuilder;
 use std::alloc::Global;
 
 /// The most bytes of a text.
 pub const MOST_BYTES: usize = 1_048_576;
 
-/// A row that a record can be.
-pub trait TextRow: Copy {
-    ghost row_of: { List (List ℕ) → Option Self };
-
-    /// The row that the record is, where it is one.
-    fn from_record(fields: &ByteRecord) -> Option<Self>
-        ensures { result ≡ row_of (fields_of fields.now) };
-}
-
 /// The rows of a text, or why it is not one of rows.
-pub fn read_rows<R: TextRow>(alloc: Global, text: &[u8]) -> Result<Vec<R>, SideFault>
+pub fn read_rows<R: TableRow>(alloc: Global, text: &[u8]) -> Result<Vec<R>, SideFault>
     ensures rows { IfOk result (λ rows. AreRowsOf R.row_of text.now rows.items) }
+    ensures right { IfOk result (λ rows. All R.is_right rows.items) }
     ensures fault { IfErr result (IsFaultOf R.row_of text.now) }
 {
     if text.len() > MOST_BYTES {
@@ -35,8 +28,9 @@ pub fn read_rows<R: TextRow>(alloc: Global, text: &[u8]) -> Result<Vec<R>, SideF
         .into_byte_records();
     let mut rows = Vec::new(alloc);
     'records: for record in records {
-        let Ok(record) = record else {
-            return Err(SideFault::NoMemory);
+        let record = match record {
+            Ok(record) => record,
+            Err(error) => return Err(refused(&error)),
         };
         let Some(row) = R::from_record(&record) else {
             return Err(SideFault::Row {
@@ -48,4 +42,13 @@ pub fn read_rows<R: TextRow>(alloc: Global, text: &[u8]) -> Result<Vec<R>, SideF
         }
     }
     Ok(rows)
+}
+
+/// What it means that `csv` can't read a record of a text in memory: memory was refused. Each record may have a number
+/// of fields of its own.
+fn refused(error: &csv::Error) -> SideFault
+    requires { CanCome (error_kind error.now) }
+    ensures { result ≡ SideFault.NoMemory }
+{
+    SideFault::NoMemory
 }

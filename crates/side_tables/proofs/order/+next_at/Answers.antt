@@ -2,7 +2,7 @@ use Rattle.std.proofs.Common.{◌+◌, ◌/◌, length, sym, ◌∙◌, arith, r
 use Rattle.std.proofs.lemmas.List.{take_rest}
 use Rattle.side_tables.proofs.Orders.{AreOrdered-before, AreOrdered-behind, none_begun, none_reaches, next_behind, none_behind}
 use Rattle.side_tables.proofs.order.+next_at.Goals as goal
-use Rattle.side_tables.proofs.order.+next_at.Goals.{else-start-middle-via-then-start-middle+else-lies_over, else-start-middle-via-else-start-middle, then-start-order-via-then-start-order, then-start-order-via-else-start-order+then-t-order, then-start-order-via-else-start-order+else-t-order+then-order-middle}
+use Rattle.side_tables.proofs.order.+next_at.Goals.{else-start-middle-via-then-start-middle+else-names, else-start-middle-via-else-start-middle, then-start-order-via-then-start-order, then-start-order-via-else-start-order+then-t-order, then-start-order-via-else-start-order+else-t-order+then-order-middle}
 
 pub returns-then-start-order : goal.returns-then-start-order
 returns-then-start-order t c = elim c.then-start-order.branch [
@@ -21,7 +21,7 @@ pub returns-in_err-k : goal.returns-in_err-k
 returns-in_err-k t c =
     let none = rw (take_rest c.args.order.now (length c.args.order.now / 2 + 1), c.saturating_sub.ensures) at c.in_err-k.ensures in
     rw c.from_residual.ensures (none_behind c.args.order.now c.args.start c.args.t c.in_default.ensures (elim c.else-start-middle.branch [
-      | else-start-middle-via-then-start-middle+else-lies_over w ↦ λ begins. sym w.lies_over.ensures ∙ w.if-lies_over.false
+      | else-start-middle-via-then-start-middle+else-names w ↦ λ begins. sym w.names.ensures ∙ w.if-names.false
       | else-start-middle-via-else-start-middle w ↦ λ begins. absurd (omega arith)
     ]) none)
 
@@ -29,6 +29,6 @@ pub returns : goal.returns
 returns t c =
     let next = rw (take_rest c.args.order.now (length c.args.order.now / 2 + 1), c.saturating_sub.ensures) at c.in_ok-k.ensures in
     next_behind c.args.order.now c.args.start c.args.t c.in_ok-k.k c.in_default.ensures (elim c.else-start-middle.branch [
-      | else-start-middle-via-then-start-middle+else-lies_over w ↦ λ begins. sym w.lies_over.ensures ∙ w.if-lies_over.false
+      | else-start-middle-via-then-start-middle+else-names w ↦ λ begins. sym w.names.ensures ∙ w.if-names.false
       | else-start-middle-via-else-start-middle w ↦ λ begins. absurd (omega arith)
     ]) next

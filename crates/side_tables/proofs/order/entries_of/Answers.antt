@@ -1,9 +1,10 @@
-use Rattle.std.proofs.Common.{◌≡◌, ℕ, ◌<◌, ◌+◌, List, [], ◌∷◌, ◌++◌, true, Contains, refl, rules, arith, below_more}
+use Rattle.std.proofs.Common.{◌≡◌, ℕ, ◌<◌, ◌+◌, List, [], ◌∷◌, ◌++◌, true, map, length, sym, ap, ◌∙◌, Contains, refl, rules, arith, below_more}
 use Rattle.std.specs.Result.{is_ok}
-use Rattle.std.proofs.lemmas.List.{map-append}
-use Rattle.std.proofs.lemmas.List.Elements.{All-push, Contains-append_left, Contains-push}
+use Rattle.std.proofs.lemmas.List.{map-append, length-map, get_or-map}
+use Rattle.std.proofs.lemmas.List.Elements.{All-push, All-get_or, Contains-append_left, Contains-push}
 use Rattle.side_tables.specs.declared.order.OrderEntry.{OrderEntry}
-use Rattle.side_tables.specs.Order.{IsEntryOf, places_of}
+use Rattle.side_tables.specs.Order.{IsEntryOf, no_span, span_at, places_of}
+use Rattle.side_tables.specs.Spans.{IsSpan}
 use Rattle.side_tables.proofs.order.entries_of.Goals as goal
 
 -- one entry more, with the next place
@@ -16,10 +17,16 @@ each_more entries entry n next each =
     (rw next (Contains-push (places_of entries) n)))
 
 pub loop-place-preserved : goal.loop-place-preserved
-loop-place-preserved c =
+loop-place-preserved g c =
     let good : is_ok c.push.result ≡ true = search rules in
     let items = rw good at c.push.ensures.items in
+    let inside : c.loop-place.place < length c.args.rows.now = omega arith in
+    let row = c.index-rows-place.result in
+    let span : span_at (map g.R.TableRow.span_of c.args.rows.now) c.loop-place.place ≡ g.R.TableRow.span_of row =
+    get_or-map g.R.TableRow.span_of c.args.rows.now c.loop-place.place row no_span inside ∙ ap g.R.TableRow.span_of (sym c.index-rows-place.is) in
+    let own : g.R.TableRow.is_right row = rw (sym c.index-rows-place.is) at (All-get_or g.R.TableRow.is_right c.args.rows.now c.loop-place.place row inside c.requires) in
+    let right : IsSpan c.span-span.result = rw c.span-span.ensures (g.met.R.TableRow.names_packets row own) in
     rw items (record {
-      own = All-push (IsEntryOf c.args.spans.now) c.loop-place.entries.items _ c.loop-place.invariant.own (record { inside = omega arith; first = search rules; last = search rules });
+      own = All-push (IsEntryOf (map g.R.TableRow.span_of c.args.rows.now)) c.loop-place.entries.items _ c.loop-place.invariant.own (record { inside = rw (length-map c.args.rows.now g.R.TableRow.span_of) inside; span = c.span-span.ensures ∙ sym span; right = right });
       each = each_more c.loop-place.entries.items _ c.loop-place.place refl c.loop-place.invariant.each;
     })

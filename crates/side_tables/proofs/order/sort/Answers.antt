@@ -10,4 +10,4 @@ returns-clause-same c = λ spans are. record {
 }
 
 pub returns-clause-rising : goal.returns-clause-rising
-returns-clause-rising c = IsNonDecreasingBy-from_sort_by_key (λ entry. entry.first) _ c.sort_unstable_by_key.ensures.sorted (λ a r q k. search rules)
+returns-clause-rising c = IsNonDecreasingBy-from_sort_by_key (λ entry. entry.span.first) _ c.sort_unstable_by_key.ensures.sorted (λ a r q k. search rules)

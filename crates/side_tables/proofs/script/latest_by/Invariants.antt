@@ -1,7 +1,0 @@
-use Rattle.std.proofs.Common.{length, take, filter}
-use Rattle.side_tables.specs.Order.{lies_over}
-use Rattle.side_tables.specs.Tables.{IsLastRowOf}
-use Rattle.side_tables.proofs.script.latest_by.Given as goal
-
-abbrev pub invariant-loop-entry : goal.invariant-loop-entry
-invariant-loop-entry l = IsLastRowOf l.rows l.t (take (length l.yielded) (filter (lies_over l.t) l.order)) l.latest
