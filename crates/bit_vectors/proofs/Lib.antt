@@ -1,4 +1,5 @@
 pub mod NumberBits
+pub mod Numbers
 pub mod ByteBits
 pub mod Places
 pub mod PenBits
