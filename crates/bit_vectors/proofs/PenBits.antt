@@ -75,7 +75,7 @@ pub written_bits-more : (bytes new : List ℕ) (len room : ℕ) (bit : Bool) →
 written_bits-more bytes new len room bit h lt wrote =
     rw wrote (take_more_set (bits_of bytes) len bit (omega (arith, length-bits_of bytes, h.bytes_fit)))
 
-AreBytes-take : (n : ℕ) (bytes : List ℕ) → AreBytes bytes → AreBytes (take n bytes)
+pub AreBytes-take : (n : ℕ) (bytes : List ℕ) → AreBytes bytes → AreBytes (take n bytes)
 AreBytes-take n bytes below i =
     elim (cases_lt i n) [
       | inl lt ↦ rw (get_or-take n bytes i 0 lt) (below i)

@@ -61,6 +61,20 @@ impl BitPen {
         ensures bits { self.new.bits ≡ self.old.bits ++ number_bits width value }
         ensures room { self.new.room ≡ self.old.room }
     {
+        if width != 0 {
+            self.put_word(u64::from(value), width);
+        }
+    }
+
+    /// Appends a number in `width` bits, from 1 to 64, the greatest weight first.
+    pub fn put_word(&mut self, value: u64, width: u32)
+        requires some { 1 ≤ width }
+        requires most { width ≤ 64 }
+        requires fits { value < 2 ^ width }
+        requires room { length self.old.bits + width ≤ self.old.room }
+        ensures bits { self.new.bits ≡ self.old.bits ++ number_bits width value }
+        ensures room { self.new.room ≡ self.old.room }
+    {
         for weight in (0..width).rev() {
             self.put((value >> weight) & 1 == 1);
         }
