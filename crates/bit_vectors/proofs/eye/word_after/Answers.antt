@@ -1,5 +1,4 @@
-use Rattle.std.proofs.Common.{◌≡◌, get_or, sym, ◌∙◌, arith}
-use Rattle.std.proofs.lemmas.Option.{unwrap_or-slice_get}
+use Rattle.std.proofs.Common.{◌≡◌, get_or, ◌∙◌, arith}
 use Rattle.bit_vectors.proofs.FrontWord.{after_fits, Shows-after}
 use Rattle.bit_vectors.proofs.eye.word_after.Goals as goal
 use Rattle.bit_vectors.proofs.eye.word_after.Goals.{After-from}

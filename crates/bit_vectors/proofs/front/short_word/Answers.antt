@@ -1,5 +1,5 @@
-use Rattle.std.proofs.Common.{ℕ, List, ◌++◌, ◌-◌, length, drop, replicate, refl, arith}
-use Rattle.bit_vectors.proofs.FrontWord.{Shows-bytes, Shows-short}
+use Rattle.std.proofs.Common.{◌++◌, length, drop, replicate, refl, arith}
+use Rattle.bit_vectors.proofs.FrontWord.{Shows-short}
 use Rattle.bit_vectors.proofs.front.short_word.Goals as goal
 
 pub returns : goal.returns

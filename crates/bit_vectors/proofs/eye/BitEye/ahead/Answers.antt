@@ -1,4 +1,4 @@
-use Rattle.std.proofs.Common.{◌≡◌, ◌-◌, ◌/◌, ℕ, List, length, ap, subst, arith}
+use Rattle.std.proofs.Common.{◌-◌, ◌/◌, length, subst, arith}
 use Rattle.bit_vectors.specs.Vectors.{bits_of}
 use Rattle.bit_vectors.specs.Eye.{EyeState, bits_left, Shows}
 use Rattle.bit_vectors.proofs.FrontWord.{Shows-from}
