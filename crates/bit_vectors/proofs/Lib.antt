@@ -1,4 +1,5 @@
 pub mod NumberBits
+pub mod Numbers
 pub mod ByteBits
 pub mod Places
 pub mod PenBits
@@ -6,3 +7,5 @@ pub mod ExactReading
 pub mod EyeReading
 pub mod FrontReading
 pub mod SameWord
+pub mod NumberReading
+pub mod FrontWord

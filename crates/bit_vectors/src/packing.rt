@@ -56,23 +56,3 @@ pub fn pack(places: &[bool], bytes: &mut [u8])
         *byte = byte_of(places, index);
     }
 }
-
-/// Makes the bit with this number, which is 0, `bit`.
-pub fn write_bit(bytes: &mut [u8], place: usize, bit: bool)
-    requires within { place < 8 * length bytes.old }
-    requires zero { slice_index_or (bits_of bytes.old) place false ≡ false }
-    ensures { bits_of bytes.new ≡ slice_set (bits_of bytes.old) place bit }
-{
-    if bit {
-        bytes[place / 8] |= 1 << (7 - place % 8);
-    }
-}
-
-/// The bytes that the first `len` bits take, where all bits after them are 0.
-pub fn first_bytes(bytes: &[u8], len: usize) -> &[u8]
-    requires within { len ≤ 8 * length bytes.now }
-    requires rest { (k : ℕ) → len ≤ k → slice_index_or (bits_of bytes.now) k false ≡ false }
-    ensures { result.now ≡ vector_bytes (take len (bits_of bytes.now)) }
-{
-    &bytes[..len.div_ceil(8)]
-}

@@ -1,29 +1,23 @@
 -- Reading a number of a fixed width.
-use Rattle.std.proofs.Common.{◌≡◌, ℕ, ◌^◌, ◌<◌, Bool, List, [], ◌++◌, length, take, refl, sym, ap, ◌∙◌}
-use Rattle.std.proofs.lemmas.List.{append-nil, take-append-drop, length-take-le}
+use Rattle.std.proofs.Common.{◌≡◌, ℕ, ◌^◌, ◌<◌, ◌≤◌, Bool, List, [], length, take, drop, refl, sym, ◌∙◌}
+use Rattle.std.proofs.lemmas.List.{append-nil}
 use Rattle.std.proofs.Math.Nat.{mod-eq_of_lt}
 use Rattle.bit_vectors.specs.Vectors.{number_bits, bits_number}
-use Rattle.bit_vectors.specs.Eye.{EyeState, bits_left}
-use Rattle.bit_vectors.specs.Reading.{Read, TooShort, IsExact, parse_front}
+use Rattle.bit_vectors.specs.Reading.{Read, TooShort, IsExact, parse_front, parse_number}
 use Rattle.bit_vectors.proofs.NumberBits.{length-number_bits, bits_number-number_bits, number_bits-bits_number, bits_number_below}
 use Rattle.bit_vectors.proofs.ExactReading.{IsWordThen, IsExact-give, IsExact-same, IsExact-then}
-use Rattle.bit_vectors.proofs.FrontReading.{HasTaken, IsFront, IsExact-front_at, parse_front-short, parse_front-taken}
-use Rattle.count_code.specs.Counts.{parse_number}
+use Rattle.bit_vectors.proofs.FrontReading.{IsFront, IsExact-front_at, parse_front-short, parse_front-enough}
 
 pub parse_number-short : (width : ℕ) (bits : List Bool) → length bits < width → parse_number width bits ≡ TooShort
 unfolding parse_number
 parse_number-short width bits short = rw (parse_front-short width bits short) refl
 
-pub parse_number-taken : (old eye : EyeState) (width : ℕ) → HasTaken old eye width → parse_number width (bits_left old) ≡ Read (bits_number (take width (bits_left old))) (bits_left eye)
+-- the number whose bits come first
+pub parse_number-enough : (width n : ℕ) (bits : List Bool) → n < 2 ^ width → width ≤ length bits → number_bits width n ≡ take width bits → parse_number width bits ≡ Read n (drop width bits)
 unfolding parse_number
-parse_number-taken old eye width taken = rw (parse_front-taken old eye width taken) refl
-
--- the bits that were taken are those of their number
-pub number_taken : (old eye : EyeState) (width : ℕ) → HasTaken old eye width → bits_left old ≡ number_bits width (bits_number (take width (bits_left old))) ++ bits_left eye
-number_taken old eye width taken =
-    let len : length (take width (bits_left old)) ≡ width = length-take-le width (bits_left old) taken.enough in
-    let front : number_bits width (bits_number (take width (bits_left old))) ≡ take width (bits_left old) = ap (λ (w : ℕ). number_bits w (bits_number (take width (bits_left old)))) (sym len) ∙ number_bits-bits_number (take width (bits_left old)) in
-    rw (front, taken.left) (sym (take-append-drop width (bits_left old)))
+parse_number-enough width n bits below enough same =
+    let number : bits_number (take width bits) ≡ n = rw (← same, bits_number-number_bits width n) (mod-eq_of_lt below) in
+    rw (parse_front-enough width bits enough, number) refl
 
 -- ---- exact
 
