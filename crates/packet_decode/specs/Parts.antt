@@ -1,5 +1,7 @@
 -- What the values stand for by which packets are read.
-use Rattle.std.specs.Prelude.{◌≡◌, ℕ, ◌-◌, List, Bool, false, replicate, IfNone, length, Option, None, Some}
+use Rattle.std.specs.Prelude.{◌≡◌, ℕ, ◌-◌, List, Bool, false, replicate, IfNone, IfSome, length, Option, None, Some}
+use Rattle.std.specs.Borrow.{Bor}
+use Rattle.std.specs.Option.{option_map}
 use Rattle.bit_vectors.specs.Vectors.{IsVector}
 use Rattle.packet_encode.specs.Forms.{Directions}
 use Rattle.packet_decode.specs.declared.draft.DataKind.{DataKind}
@@ -39,6 +41,18 @@ pub record IsDraft (f : ℕ) (draft : Draft) : Type 0 where
   pub content : length draft.content ≡ f
   pub places : length draft.places ≡ f
   pub spare : length draft.spare ≡ f
+
+-- the vectors that were lent, if there are any
+abbrev pub lent : Option (Bor (List Bool)) → Option (List Bool)
+lent vector = option_map (λ v. v.now) vector
+
+-- What holds where the parts after the first one are read: the first part, the deduced mask and the known content, if there
+-- are such, have the draft's places.
+pub record IsReady (first : Change) (mask content : Option (List Bool)) (vectors : Draft) : Type 0 where
+  pub change : length first.recent ≡ length vectors.content
+  pub deduced : IfSome mask (λ v. length v ≡ length vectors.content)
+  pub known : IfSome content (λ v. length v ≡ length vectors.content)
+  pub draft : IsDraft (length vectors.content) vectors
 
 -- What holds of the parts of a decoder: the latest packet and its first part, and what is filled as the next one is read.
 pub record IsDecoder (latest : Latest) (shown next : Change) (deduced : List Bool) (draft : Draft) : Type 0 where

@@ -1,11 +1,10 @@
 //! The content of a packet: all of it, or its extracted bits (CCSDS 124.0-B-1).
 
-ghost use Rattle.std.specs.Prelude.{◌≡◌, length, IfSome, Some};
-ghost use Rattle.std.specs.Option.{option_map};
+ghost use Rattle.std.specs.Prelude.{◌≡◌, length, None};
 ghost use Rattle.bit_vectors.specs.Eye.{bits_left};
 ghost use Rattle.bit_vectors.specs.Reading.{MovesOn};
 ghost use Rattle.packet_decode.specs.PacketReading.{Tells, parse_kept, parse_whole_with, parse_part_with, parse_content};
-ghost use Rattle.packet_decode.specs.Parts.{IsDraft, outcome_of};
+ghost use Rattle.packet_decode.specs.Parts.{IsDraft, IsReady, lent, outcome_of};
 
 use crate::change::FirstPart;
 use crate::draft::{DataKind, Draft};
@@ -22,13 +21,11 @@ pub fn take_content(
     known: Option<&Bits>,
     draft: &mut Draft,
 ) -> Result<DataKind, BitFault>
-    requires change { length change.now.recent ≡ length draft.old.content }
-    requires known { IfSome known (λ v. length v.now ≡ length draft.old.content) }
-    requires draft { IsDraft (length draft.old.content) draft.old }
+    requires { IsReady change.now None (lent known) draft.old }
     ensures draft { IsDraft (length draft.old.content) draft.new }
     ensures moves { MovesOn eye.old eye.new }
     ensures reading { Tells (λ kind. outcome_of kind draft.new.mask draft.new.content) result eye.new
-        (parse_content (length draft.old.content) change.now draft.old.mask (option_map (λ v. v.now) known.entry) (bits_left eye.old)) }
+        (parse_content (length draft.old.content) change.now draft.old.mask (lent known.entry) (bits_left eye.old)) }
 {
     if eye.take_bit()? {
         take_whole(eye, change, known, draft)
@@ -45,13 +42,11 @@ pub fn take_part(
     known: Option<&Bits>,
     draft: &mut Draft,
 ) -> Result<DataKind, BitFault>
-    requires change { length change.now.recent ≡ length draft.old.content }
-    requires known { IfSome known (λ v. length v.now ≡ length draft.old.content) }
-    requires draft { IsDraft (length draft.old.content) draft.old }
+    requires { IsReady change.now None (lent known) draft.old }
     ensures draft { IsDraft (length draft.old.content) draft.new }
     ensures moves { MovesOn eye.old eye.new }
     ensures reading { Tells (λ kind. outcome_of kind draft.new.mask draft.new.content) result eye.new
-        (parse_part_with change.now draft.old.mask (option_map (λ v. v.now) known.entry) (bits_left eye.old)) }
+        (parse_part_with change.now draft.old.mask (lent known.entry) (bits_left eye.old)) }
 {
     let Some(known) = known else {
         return Ok(DataKind::Opaque);
@@ -71,13 +66,11 @@ pub fn take_whole(
     known: Option<&Bits>,
     draft: &mut Draft,
 ) -> Result<DataKind, BitFault>
-    requires change { length change.now.recent ≡ length draft.old.content }
-    requires known { IfSome known (λ v. length v.now ≡ length draft.old.content) }
-    requires draft { IsDraft (length draft.old.content) draft.old }
+    requires { IsReady change.now None (lent known) draft.old }
     ensures draft { IsDraft (length draft.old.content) draft.new }
     ensures moves { MovesOn eye.old eye.new }
     ensures reading { Tells (λ kind. outcome_of kind draft.new.mask draft.new.content) result eye.new
-        (parse_whole_with (length draft.old.content) change.now draft.old.mask (option_map (λ v. v.now) known.entry) (bits_left eye.old)) }
+        (parse_whole_with (length draft.old.content) change.now draft.old.mask (lent known.entry) (bits_left eye.old)) }
 {
     match_count(eye, draft.content.len())?;
     let Some(known) = known else {

@@ -1,12 +1,11 @@
 //! The parts of a packet after the first one, by a deduced mask and a known content, where there are such
 //! (CCSDS 124.0-B-1).
 
-ghost use Rattle.std.specs.Prelude.{◌≡◌, length, IfSome, Some};
-ghost use Rattle.std.specs.Option.{option_map};
+ghost use Rattle.std.specs.Prelude.{◌≡◌, length, None};
 ghost use Rattle.bit_vectors.specs.Eye.{bits_left};
 ghost use Rattle.bit_vectors.specs.Reading.{MovesOn};
 ghost use Rattle.packet_decode.specs.PacketReading.{Tells, parse_unsent, parse_maskless, parse_data};
-ghost use Rattle.packet_decode.specs.Parts.{IsDraft, outcome_of};
+ghost use Rattle.packet_decode.specs.Parts.{IsDraft, IsReady, lent, outcome_of};
 
 use crate::change::FirstPart;
 use crate::content::{take_content, take_part, take_whole};
@@ -23,14 +22,11 @@ pub fn take_data(
     known: Option<&Bits>,
     draft: &mut Draft,
 ) -> Result<DataKind, BitFault>
-    requires change { length change.now.recent ≡ length draft.old.content }
-    requires deduced { IfSome deduced (λ v. length v.now ≡ length draft.old.content) }
-    requires known { IfSome known (λ v. length v.now ≡ length draft.old.content) }
-    requires draft { IsDraft (length draft.old.content) draft.old }
+    requires { IsReady change.now (lent deduced) (lent known) draft.old }
     ensures draft { IsDraft (length draft.old.content) draft.new }
     ensures moves { MovesOn eye.old eye.new }
     ensures reading { Tells (λ kind. outcome_of kind draft.new.mask draft.new.content) result eye.new
-        (parse_data (length draft.old.content) change.now (option_map (λ v. v.now) deduced.entry) (option_map (λ v. v.now) known.entry) (bits_left eye.old)) }
+        (parse_data (length draft.old.content) change.now (lent deduced.entry) (lent known.entry) (bits_left eye.old)) }
 {
     if eye.take_bit()? {
         take_unsent(eye, change, deduced, known, draft)
@@ -51,14 +47,11 @@ fn take_unsent(
     known: Option<&Bits>,
     draft: &mut Draft,
 ) -> Result<DataKind, BitFault>
-    requires change { length change.now.recent ≡ length draft.old.content }
-    requires deduced { IfSome deduced (λ v. length v.now ≡ length draft.old.content) }
-    requires known { IfSome known (λ v. length v.now ≡ length draft.old.content) }
-    requires draft { IsDraft (length draft.old.content) draft.old }
+    requires { IsReady change.now (lent deduced) (lent known) draft.old }
     ensures draft { IsDraft (length draft.old.content) draft.new }
     ensures moves { MovesOn eye.old eye.new }
     ensures reading { Tells (λ kind. outcome_of kind draft.new.mask draft.new.content) result eye.new
-        (parse_unsent change.now (option_map (λ v. v.now) deduced.entry) (option_map (λ v. v.now) known.entry) (bits_left eye.old)) }
+        (parse_unsent change.now (lent deduced.entry) (lent known.entry) (bits_left eye.old)) }
 {
     let Some(mask) = deduced else {
         return Ok(DataKind::Opaque);
@@ -76,14 +69,11 @@ fn take_maskless(
     known: Option<&Bits>,
     draft: &mut Draft,
 ) -> Result<DataKind, BitFault>
-    requires change { length change.now.recent ≡ length draft.old.content }
-    requires deduced { IfSome deduced (λ v. length v.now ≡ length draft.old.content) }
-    requires known { IfSome known (λ v. length v.now ≡ length draft.old.content) }
-    requires draft { IsDraft (length draft.old.content) draft.old }
+    requires { IsReady change.now (lent deduced) (lent known) draft.old }
     ensures draft { IsDraft (length draft.old.content) draft.new }
     ensures moves { MovesOn eye.old eye.new }
     ensures reading { Tells (λ kind. outcome_of kind draft.new.mask draft.new.content) result eye.new
-        (parse_maskless (length draft.old.content) change.now (option_map (λ v. v.now) deduced.entry) (option_map (λ v. v.now) known.entry) (bits_left eye.old)) }
+        (parse_maskless (length draft.old.content) change.now (lent deduced.entry) (lent known.entry) (bits_left eye.old)) }
 {
     let Some(mask) = deduced else {
         return Ok(DataKind::Opaque);
