@@ -1,6 +1,6 @@
 -- What a desk over real files tells: of each inlet and outlet whether it was opened, and no content. And what it has read
 -- ahead and gathered.
-use Rattle.std.specs.Prelude.{Bool, true, false, ℕ, List, []}
+use Rattle.std.specs.Prelude.{Bool, true, false, ℕ, List, [], is_some}
 use Rattle.std.specs.Io.Buffered.{reader_buffer, writer_buffer}
 use Rattle.desk_ports.specs.declared.desk.Inlet.{Inlet}
 use Rattle.desk_ports.specs.declared.desk.Inlet.TheVariants as inlet
@@ -21,7 +21,7 @@ is_opened_source (source.File file) = true
 abbrev pub is_opened_sink : Sink → Bool
 is_opened_sink sink.Nothing = false
 is_opened_sink (sink.StandardOutput stdout) = true
-is_opened_sink (sink.File file) = true
+is_opened_sink (sink.File file part) = true
 
 abbrev pub file_meanings : FileDesk → Meanings
 file_meanings desk = untold (is_opened_source desk.side) (is_opened_source desk.input) (is_opened_sink desk.output) (is_opened_sink desk.report)
@@ -44,12 +44,23 @@ read_ahead_at desk inlet.Main = read_ahead desk.input
 abbrev pub gathered : Sink → List ℕ
 gathered sink.Nothing = []
 gathered (sink.StandardOutput stdout) = writer_buffer stdout
-gathered (sink.File file) = writer_buffer file
+gathered (sink.File file part) = writer_buffer file
 
 -- those of an outlet
 abbrev pub gathered_at : FileDesk → Outlet → List ℕ
 gathered_at desk outlet.Main = gathered desk.output
 gathered_at desk outlet.Report = gathered desk.report
+
+-- whether a part waits for its name
+abbrev pub waits : Sink → Bool
+waits sink.Nothing = false
+waits (sink.StandardOutput stdout) = false
+waits (sink.File file part) = is_some part
+
+-- the same of an outlet
+abbrev pub waits_at : FileDesk → Outlet → Bool
+waits_at desk outlet.Main = waits desk.output
+waits_at desk outlet.Report = waits desk.report
 
 -- where the bytes of the other inlet come from
 abbrev pub other_source : FileDesk → Inlet → Source

@@ -1,11 +1,15 @@
-ghost use Rattle.std.specs.Prelude.{◌≡◌, ◌≤◌, ◌<◌, ◌+◌, ◌-◌, ◌^◌, [], min, length, take, IsTrue, IsErr, IfOk, OnOk, OnErr};
+//! The desk over real files.
+
+ghost use Rattle.std.specs.Prelude.{◌≡◌, ◌≤◌, ◌<◌, ◌+◌, ◌-◌, ◌^◌, false, [], min, length, take, IsTrue, IsErr, IfOk, OnOk, OnErr};
 ghost use Rattle.std.specs.Io.KnownBytes.{IsAtEnd};
 ghost use Rattle.desk_ports.specs.Meanings.{nothing_told, Adds, Begins, HasReadCause, HasWriteCause, IsReadyIn, IsReadyOut, Keeps, Moves, Opens, left};
-ghost use Rattle.desk_ports.specs.FileDesk.{file_counts, file_meanings, gathered_at, other_sink, other_source, read_ahead_at};
+ghost use Rattle.desk_ports.specs.FileDesk.{file_counts, file_meanings, gathered_at, other_sink, other_source, read_ahead_at, waits_at};
 
 use crate::desk::{Desk, Failed, Inlet, Outlet};
+use crate::part::{Node, Part};
+use crate::progress::Progress;
 use std::fs::File;
-use std::io::{BufReader, BufWriter, Read, Stdin, Stdout, Write};
+use std::io::{BufReader, BufWriter, IsTerminal, Read, Stdin, Stdout, Write};
 use std::{fs, io};
 
 /// How many bytes of an inlet are read at once.
@@ -35,6 +39,29 @@ impl Source {
         Ok(Source::File(file))
     }
 
+    // Which file of the system it is.
+    fn node(&self, rt: &HostRuntime) -> Option<Node> {
+        match self {
+            Source::Nothing => None,
+            Source::StandardInput(_) => Node::named(rt, "/dev/stdin"),
+            Source::File(file) => {
+                let metadata = file.get_ref().metadata().ok()?;
+                Some(Node::of(&metadata))
+            }
+        }
+    }
+
+    // How many bytes it has, if it is a regular file.
+    fn whole(&self) -> Option<u64> {
+        match self {
+            Source::Nothing | Source::StandardInput(_) => None,
+            Source::File(file) => {
+                let metadata = file.get_ref().metadata().ok()?;
+                metadata.is_file().then_some(metadata.len())
+            }
+        }
+    }
+
     fn read(&mut self, buf: &mut [u8]) -> io::Result<usize>
         requires { IsTrue (is_opened_source self.old) }
         ensures within { IfOk result (λ n. n ≤ length buf.old) }
@@ -51,28 +78,46 @@ impl Source {
 /// How many bytes of an outlet are gathered before they are handed to the system.
 const GATHERED: usize = 131_072;
 
-// Where the bytes of an outlet go. They are gathered, and handed to the system when there are enough.
+// The names of standard output.
+const STANDARD_OUTPUT: [&str; 4] = ["-", "/dev/stdout", "/dev/fd/1", "/proc/self/fd/1"];
+
+// Where the bytes of an outlet go. They are gathered, and handed to the system when there are enough. A file that is a part
+// waits for its name.
 #[derive(Drop)]
 enum Sink {
     Nothing,
     StandardOutput(BufWriter<Stdout>),
-    File(BufWriter<File>),
+    File(BufWriter<File>, Option<Part>),
 }
 
 impl Sink {
-    ghost use Rattle.desk_ports.specs.FileDesk.{gathered, is_opened_sink};
+    ghost use Rattle.desk_ports.specs.FileDesk.{gathered, is_opened_sink, waits};
 
-    // The name `-` is standard output. A file that is there is emptied.
-    fn open(rt: &HostRuntime, name: &str) -> io::Result<Sink>
+    // What stands under the name is not changed.
+    fn open(rt: &HostRuntime, name: &str, inputs: &[Option<Node>], other: &Sink) -> io::Result<Sink>
         ensures opened { IfOk result (λ sink. IsTrue (is_opened_sink sink)) }
         ensures none { IfOk result (λ sink. gathered sink ≡ []) }
     {
-        if name == "-" {
+        if STANDARD_OUTPUT.contains(&name) {
             let stdout = BufWriter::with_capacity(rt.alloc(), GATHERED, rt.stdout())?;
             return Ok(Sink::StandardOutput(stdout));
         }
-        let file = BufWriter::with_capacity(rt.alloc(), GATHERED, fs::create(rt, name)?)?;
-        Ok(Sink::File(file))
+        let (file, part) = Part::open(rt, name, inputs, other.part())?;
+        let file = BufWriter::with_capacity(rt.alloc(), GATHERED, file)?;
+        Ok(Sink::File(file, part))
+    }
+
+    // Whether it is standard output, and that a terminal.
+    fn is_terminal(&self, rt: &HostRuntime) -> bool {
+        matches!(self, Sink::StandardOutput(_)) && rt.stdout().is_terminal()
+    }
+
+    // The part that waits for its name.
+    fn part(&self) -> Option<&Part> {
+        match self {
+            Sink::Nothing | Sink::StandardOutput(_) => None,
+            Sink::File(_, part) => part.as_ref(),
+        }
     }
 
     fn write(&mut self, bytes: &[u8]) -> io::Result<usize>
@@ -83,11 +128,11 @@ impl Sink {
         match self {
             Sink::Nothing => unreachable!(),
             Sink::StandardOutput(stdout) => stdout.write(bytes),
-            Sink::File(file) => file.write(bytes),
+            Sink::File(file, _) => file.write(bytes),
         }
     }
 
-    // Hands everything to the system that was gathered, where the outlet was opened.
+    // Hands everything to the system that was gathered, if the outlet was opened.
     fn flush(&mut self) -> io::Result<()>
         ensures opened { is_opened_sink self.new ≡ is_opened_sink self.old }
         ensures handed { OnOk result (gathered self.new ≡ []) }
@@ -95,8 +140,25 @@ impl Sink {
         match self {
             Sink::Nothing => Ok(()),
             Sink::StandardOutput(stdout) => stdout.flush(),
-            Sink::File(file) => file.flush(),
+            Sink::File(file, _) => file.flush(),
         }
+    }
+
+    // Hands everything to the system that was gathered, and gives a part the name that it waits for.
+    fn finish(&mut self, rt: &HostRuntime) -> io::Result<()>
+        ensures opened { is_opened_sink self.new ≡ is_opened_sink self.old }
+        ensures handed { OnOk result (gathered self.new ≡ []) }
+        ensures named { OnOk result (waits self.new ≡ false) }
+    {
+        self.flush()?;
+        if let Sink::File(file, part) = self {
+            if let Some(waiting) = part {
+                file.get_ref().sync_all()?;
+                waiting.take_name(rt)?;
+            }
+            *part = None;
+        }
+        Ok(())
     }
 }
 
@@ -106,6 +168,10 @@ impl Sink {
 /// and so is a write that takes nothing. Of each inlet up to 131,072 bytes are read ahead. What is written is gathered,
 /// up to 131,072 bytes for each outlet, and handed to the system when there is no more room, at `finish` and by
 /// `hand_over`.
+///
+/// An output appears under its name when it is whole: it is written to a part beside the name, `NAME.part`, which takes the
+/// name at `finish`. Before that the name has what it had. A name that is there and is no regular file, as a device or a
+/// pipe, is written directly. If standard error is a terminal, a line there tells how far the main input is.
 #[derive(Drop)]
 pub struct FileDesk<'a> {
     rt: &'a HostRuntime,
@@ -115,6 +181,7 @@ pub struct FileDesk<'a> {
     report: Sink,
     read_faults: u64,
     write_faults: u64,
+    progress: Progress,
 }
 
 impl<'a> FileDesk<'a> {
@@ -131,6 +198,7 @@ impl<'a> FileDesk<'a> {
             report: Sink::Nothing,
             read_faults: 0,
             write_faults: 0,
+            progress: Progress::new(rt),
         }
     }
 
@@ -142,6 +210,7 @@ impl<'a> FileDesk<'a> {
         ensures main { OnOk result (gathered_at self.new Outlet.Main ≡ []) }
         ensures report { OnOk result (gathered_at self.new Outlet.Report ≡ []) }
     {
+        self.progress.end(self.rt);
         let output = self.output.flush();
         let report = self.report.flush();
         self.or_write_fault(output.and(report))
@@ -206,7 +275,10 @@ impl<'a> Desk for FileDesk<'a> {
         let source = self.or_read_fault(source)?;
         match inlet {
             Inlet::Side => self.side = source,
-            Inlet::Main => self.input = source,
+            Inlet::Main => {
+                self.progress.begin(source.whole());
+                self.input = source;
+            }
         }
         Ok(())
     }
@@ -221,8 +293,16 @@ impl<'a> Desk for FileDesk<'a> {
         ensures none { OnOk result (gathered_at self.new outlet ≡ []) }
         ensures other { other_sink self.new outlet ≡ other_sink self.old outlet }
     {
-        let sink = Sink::open(self.rt, name);
+        let inputs = [self.side.node(self.rt), self.input.node(self.rt)];
+        let other = match outlet {
+            Outlet::Main => &self.report,
+            Outlet::Report => &self.output,
+        };
+        let sink = Sink::open(self.rt, name, &inputs, other);
         let sink = self.or_write_fault(sink)?;
+        if sink.is_terminal(self.rt) {
+            self.progress.hide();
+        }
         match outlet {
             Outlet::Main => self.output = sink,
             Outlet::Report => self.report = sink,
@@ -246,6 +326,9 @@ impl<'a> Desk for FileDesk<'a> {
             Inlet::Side => self.side.read(buf),
             Inlet::Main => self.input.read(buf),
         };
+        if let (Inlet::Main, Ok(bytes)) = (inlet, &moved) {
+            self.progress.count(self.rt, *bytes);
+        }
         self.or_read_fault(moved)
     }
 
@@ -277,14 +360,16 @@ impl<'a> Desk for FileDesk<'a> {
         ensures unchanged { OnErr result (file_meanings self.new ≡ file_meanings self.old) }
         ensures cause { HasWriteCause (file_counts self.old) (file_counts self.new) result }
 
-        // Nothing is gathered for the outlet any more, and the other one is as before.
+        // Nothing is gathered for the outlet any more, its part no longer waits for its name, and the other one is as before.
         ensures handed { OnOk result (gathered_at self.new outlet ≡ []) }
+        ensures named { OnOk result (waits_at self.new outlet ≡ false) }
         ensures other { other_sink self.new outlet ≡ other_sink self.old outlet }
     {
-        let flushed = match outlet {
-            Outlet::Main => self.output.flush(),
-            Outlet::Report => self.report.flush(),
+        self.progress.end(self.rt);
+        let finished = match outlet {
+            Outlet::Main => self.output.finish(self.rt),
+            Outlet::Report => self.report.finish(self.rt),
         };
-        self.or_write_fault(flushed)
+        self.or_write_fault(finished)
     }
 }

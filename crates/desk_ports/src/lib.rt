@@ -7,6 +7,8 @@ mod file;
 mod laws;
 mod log;
 mod memory;
+mod part;
+mod progress;
 mod quiet;
 mod row;
 mod stop;

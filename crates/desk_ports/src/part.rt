@@ -1,0 +1,144 @@
+//! The part of an output: a file beside a name, which takes the name when the output is whole.
+
+use std::fs::{File, Metadata, OpenOptions};
+use std::os::unix::fs::MetadataExt;
+use std::{fs, io};
+
+/// Which file of the system something is: its device, and its number there. Two names of one file have one node.
+#[derive(Clone, Copy, Debug, PartialEq, Eq)]
+pub struct Node {
+    device: u64,
+    number: u64,
+}
+
+impl Node {
+    /// The node of the file that this is told of.
+    pub fn of(metadata: &Metadata) -> Node {
+        Node {
+            device: metadata.dev(),
+            number: metadata.ino(),
+        }
+    }
+
+    /// The node of the file that has this name, or of which a link of this name tells.
+    pub fn named(rt: &HostRuntime, name: &str) -> Option<Node> {
+        let metadata = fs::metadata(rt, name).ok()?;
+        Some(Node::of(&metadata))
+    }
+}
+
+/// A file beside a name, which takes the name when the output is whole.
+#[derive(Debug, Drop)]
+pub struct Part {
+    /// The name of the file until then.
+    own: String,
+    /// The name that it takes.
+    target: String,
+    node: Node,
+}
+
+impl Part {
+    /// Opens what an output is written to: the file that has this name, if it is a device, a pipe or another one that
+    /// is no regular file, and otherwise a part beside the name. Nothing that stands under the name is changed.
+    ///
+    /// It fails if the part would have to replace one of the `inputs`, or the other output or its part.
+    pub fn open(
+        rt: &HostRuntime,
+        name: &str,
+        inputs: &[Option<Node>],
+        other: Option<&Part>,
+    ) -> io::Result<(File, Option<Part>)> {
+        match OpenOptions::new().write(true).open(rt, name) {
+            Ok(standing) => {
+                let metadata = standing.metadata()?;
+                if !metadata.is_file() {
+                    return Ok((standing, None));
+                }
+                let (file, part) = Part::beside(rt, name, inputs, other)?;
+                file.set_permissions(metadata.permissions())?;
+                Ok((file, Some(part)))
+            }
+            Err(error) if error.kind() == io::ErrorKind::NotFound => {
+                let (file, part) = Part::beside(rt, name, inputs, other)?;
+                Ok((file, Some(part)))
+            }
+            Err(error) => Err(error),
+        }
+    }
+
+    /// Makes the part of a name.
+    fn beside(
+        rt: &HostRuntime,
+        name: &str,
+        inputs: &[Option<Node>],
+        other: Option<&Part>,
+    ) -> io::Result<(File, Part)> {
+        let target = target_of(rt, name)?;
+        let own = format!(in rt.alloc(); "{target}.part")?;
+        remove_standing(rt, &own, inputs, other)?;
+        let file = OpenOptions::new()
+            .write(true)
+            .create_new(true)
+            .open(rt, &own)?;
+        let node = Node::of(&file.metadata()?);
+        if is_target(rt, node, other) {
+            fs::remove_file(rt, &own)?;
+            return Err(refused());
+        }
+        Ok((file, Part { own, target, node }))
+    }
+
+    /// Gives the part the name that it waits for. What stood under that name is then gone.
+    pub fn take_name(&self, rt: &HostRuntime) -> io::Result<()> {
+        fs::rename(rt, &self.own, &self.target)
+    }
+}
+
+/// The file of which a link of this name tells, and the name itself if it is no link.
+fn target_of(rt: &HostRuntime, name: &str) -> io::Result<String> {
+    let is_link = fs::symlink_metadata(rt, name).is_ok_and(|found| found.is_symlink());
+    if !is_link {
+        return Ok(format!(in rt.alloc(); "{name}")?);
+    }
+    let path = fs::canonicalize(rt, name)?;
+    Ok(format!(in rt.alloc(); "{}", path.display())?)
+}
+
+/// Removes what stands under the name of a part. It is an earlier part, and no input, no link and no part of the other
+/// output.
+fn remove_standing(
+    rt: &HostRuntime,
+    own: &str,
+    inputs: &[Option<Node>],
+    other: Option<&Part>,
+) -> io::Result<()> {
+    match fs::symlink_metadata(rt, own) {
+        Err(error) if error.kind() == io::ErrorKind::NotFound => Ok(()),
+        Err(error) => Err(error),
+        Ok(standing) => {
+            let node = Node::of(&standing);
+            let is_input = inputs.contains(&Some(node));
+            let is_part = other.is_some_and(|part| part.node == node);
+            if !standing.is_file() || is_input || is_part || is_target(rt, node, other) {
+                return Err(refused());
+            }
+            fs::remove_file(rt, own)
+        }
+    }
+}
+
+/// Whether the file is the one that the other output's part will replace.
+fn is_target(rt: &HostRuntime, node: Node, other: Option<&Part>) -> bool {
+    match other {
+        None => false,
+        Some(part) => Node::named(rt, &part.target) == Some(node),
+    }
+}
+
+/// Why a part is not made.
+fn refused() -> io::Error {
+    io::Error::new(
+        io::ErrorKind::AlreadyExists,
+        "the part of an output would replace another file",
+    )
+}
