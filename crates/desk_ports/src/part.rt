@@ -54,6 +54,9 @@ impl Part {
                 if !metadata.is_file() {
                     return Ok((standing, None));
                 }
+                if is_part(Node::of(&metadata), other) {
+                    return Err(refused());
+                }
                 let (file, part) = Part::beside(rt, name, inputs, other)?;
                 file.set_permissions(metadata.permissions())?;
                 Ok((file, Some(part)))
@@ -118,13 +121,18 @@ fn remove_standing(
         Ok(standing) => {
             let node = Node::of(&standing);
             let is_input = inputs.contains(&Some(node));
-            let is_part = other.is_some_and(|part| part.node == node);
-            if !standing.is_file() || is_input || is_part || is_target(rt, node, other) {
+            let is_other = is_part(node, other) || is_target(rt, node, other);
+            if !standing.is_file() || is_input || is_other {
                 return Err(refused());
             }
             fs::remove_file(rt, own)
         }
     }
+}
+
+/// Whether the file is the part of the other output.
+fn is_part(node: Node, other: Option<&Part>) -> bool {
+    other.is_some_and(|part| part.node == node)
 }
 
 /// Whether the file is the one that the other output's part will replace.
