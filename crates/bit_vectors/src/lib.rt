@@ -8,6 +8,8 @@ mod flags;
 mod laws;
 mod packing;
 mod pen;
+mod word_bytes;
+mod words;
 
 pub use bits::{Bits, byte_len};
 pub use eye::BitEye;
