@@ -10,3 +10,5 @@ pub mod ExactReading
 pub mod EyeReading
 pub mod FrontReading
 pub mod SameWord
+pub mod NumberReading
+pub mod FrontWord

@@ -1,97 +1,251 @@
--- What a pen's bytes hold after each bit.
-use Rattle.std.proofs.Common.{◌≡◌, ◌≢◌, ℕ, ◌+◌, ◌-◌, ◌*◌, ◌/◌, ◌%◌, ◌^◌, ◌<◌, ◌≤◌, Bool, true, false, eqb, List, [], ◌∷◌, ◌++◌, length, get_or, set, take, drop, replicate, bit_or, w8, refl, sym, ap, ◌∙◌, arith, inl, inr}
-use Rattle.std.specs.Int.{bit_at}
-use Rattle.std.proofs.lemmas.Bool.{cases_lt, cases_eq, eq-eqb}
-use Rattle.std.proofs.lemmas.List.{length-take, length-set, length-replicate, get_or-replicate, get_or-set_same, get_or-set_other, get_or-drop, get_or-take, get_or_past, take-take, take_more_set, ext_get_or}
-use Rattle.std.proofs.lemmas.Nat.Bits.{bit_at_set_same, bit_at_set_other, bit_at-zero}
-use Rattle.bit_vectors.specs.Vectors.{bits_of, AreBytes, byte_count, padded, vector_bytes}
-use Rattle.bit_vectors.specs.Pen.{written_bits, HasRoom}
-use Rattle.bit_vectors.proofs.ByteBits.{length-bits_of, bits_of-take, get_or-bits_of, vector_bytes_is, padded_is}
+-- What a pen's bytes and its word hold after each number.
+use Rattle.std.proofs.Common.{◌≡◌, ℕ, ◌+◌, ◌-◌, ◌*◌, ◌/◌, ◌%◌, ◌^◌, ◌<◌, ◌≤◌, Bool, true, false, List, [], ◌∷◌, ◌++◌, length, take, replicate, w64, refl, sym, ap, ◌∙◌, arith, inl, inr, append_assoc}
+use Rattle.std.specs.Int.{to_be_bytes}
+use mir.Val.{bool_byte}
+use Rattle.std.proofs.lemmas.Bool.{cases_lt}
+use Rattle.std.proofs.lemmas.List.{length-append, length-take, length-take-le, append-nil, take_at, take-take, take-replicate, get_or-take, get_or_past}
+use Rattle.std.proofs.lemmas.List.Concat.{flat_map-append}
+use Rattle.std.proofs.lemmas.Nat.{pow-add, pow_pos, mod_below, shl-shr, shr_split, shr_below, shl_below, shl_whole, mul-mod_first}
+use Rattle.std.proofs.Math.Nat.{mul-mod_left, mul-le-mul_right}
+use Rattle.std.proofs.Math.Seq.{take-append-add}
+use Rattle.bit_vectors.specs.Vectors.{number_bits, bits_of, AreBytes, byte_count, padded, vector_bytes}
+use Rattle.bit_vectors.specs.Pen.{written_bits, pen_bytes, HasRoom}
+use Rattle.bit_vectors.proofs.NumberBits.{length-number_bits}
+use Rattle.bit_vectors.proofs.Numbers.{number_bits-cat, number_bits-split, number_bits-mod, high_bits}
+use Rattle.bit_vectors.proofs.ByteBits.{length-bits_of, bits_of-take, vector_bytes_is}
+use Rattle.bit_vectors.proofs.FrontWord.{bits_of-to_be_bytes, shl_word}
 
--- ---- a byte with one bit set
+pub no_bits : (n : ℕ) → number_bits 0 n ≡ []
+unfolding number_bits
+no_bits n = refl
 
--- the byte of a bit, with that bit set
-abbrev byte_with_one : List ℕ → ℕ → ℕ
-byte_with_one bytes p = bit_or (get_or bytes (p / 8) 0) (1 * 2 ^ (7 - p % 8) % 256)
+pub number_bits-bit : (bit : Bool) → number_bits 1 (bool_byte bit) ≡ bit ∷ []
+unfolding number_bits
+number_bits-bit true = refl
+number_bits-bit false = refl
 
-at_bit : (bytes : List ℕ) (p : ℕ) → p < 8 * length bytes → eqb (bit_at (get_or (set bytes (p / 8) (byte_with_one bytes p)) (p / 8) 0) (7 - p % 8)) 1 ≡ true
-at_bit bytes p lt =
-    let within : p / 8 < length bytes = omega arith in
-    rw (get_or-set_same bytes (p / 8) (byte_with_one bytes p) 0 within) (eq-eqb _ _ (bit_at_set_same w8 (get_or bytes (p / 8) 0) (7 - p % 8) (omega arith)))
+-- ---- a word with room for a number
 
-at_other : (bytes : List ℕ) (p i : ℕ) → p < 8 * length bytes → i ≢ p
-    → eqb (bit_at (get_or (set bytes (p / 8) (byte_with_one bytes p)) (i / 8) 0) (7 - i % 8)) 1 ≡ eqb (bit_at (get_or bytes (i / 8) 0) (7 - i % 8)) 1
-at_other bytes p i lt ne =
-    elim (cases_eq (i / 8) (p / 8)) [
-      | inl same ↦
-          let within : p / 8 < length bytes = omega arith in
-          let apart : 7 - i % 8 ≢ 7 - p % 8 = omega arith in
-          rw (same, get_or-set_same bytes (p / 8) (byte_with_one bytes p) 0 within, bit_at_set_other w8 (get_or bytes (p / 8) 0) (7 - p % 8) (omega arith) (7 - i % 8) apart) refl
-      | inr other ↦ rw (get_or-set_other bytes (p / 8) (i / 8) (byte_with_one bytes p) 0 other) refl
-    ]
+-- the number of the bits held, with the number after it
+joined : (word value held width : ℕ) → held + width ≤ 64 → word % 2 ^ (64 - held) ≡ 0 → word + value * 2 ^ (64 - (held + width)) ≡ (word / 2 ^ (64 - held) * 2 ^ width + value) * 2 ^ (64 - (held + width))
+joined word value held width within clean =
+    let all : width + (64 - (held + width)) ≡ 64 - held = omega arith in
+    let power : 2 ^ (64 - held) ≡ 2 ^ width * 2 ^ (64 - (held + width)) = ap (λ (k : ℕ). 2 ^ k) (sym all) ∙ pow-add 2 width (64 - (held + width)) in
+    let product : word / 2 ^ (64 - held) * 2 ^ (64 - held) ≡ word / 2 ^ (64 - held) * (2 ^ width * 2 ^ (64 - (held + width))) = ap (λ (p : ℕ). word / 2 ^ (64 - held) * p) power in
+    omega (arith, shr_split word (64 - held))
 
-pub bits_of-set_one : (bytes : List ℕ) (p : ℕ) → p < 8 * length bytes → bits_of (set bytes (p / 8) (byte_with_one bytes p)) ≡ set (bits_of bytes) p true
-bits_of-set_one bytes p lt =
-    let len : length (set bytes (p / 8) (byte_with_one bytes p)) ≡ length bytes = length-set bytes (p / 8) (byte_with_one bytes p) in
-    ext_get_or false (bits_of (set bytes (p / 8) (byte_with_one bytes p))) (set (bits_of bytes) p true)
-    (omega (arith, length-bits_of (set bytes (p / 8) (byte_with_one bytes p)), length-bits_of bytes, length-set (bits_of bytes) p true))
-    (λ i i_lt.
-    let within : i < 8 * length bytes = omega (arith, length-bits_of (set bytes (p / 8) (byte_with_one bytes p))) in
-    get_or-bits_of (set bytes (p / 8) (byte_with_one bytes p)) i (omega arith) ∙ elim (cases_eq i p) [
-      | inl here ↦ rw (here, at_bit bytes p lt) (sym (get_or-set_same (bits_of bytes) p true false (omega (arith, length-bits_of bytes))))
-      | inr other ↦ at_other bytes p i lt other ∙ sym (get_or-set_other (bits_of bytes) p i true false other ∙ get_or-bits_of bytes i within)
-    ])
+-- a number of i bits above one of j bits
+cat_below : (i j a b : ℕ) → a < 2 ^ i → b < 2 ^ j → a * 2 ^ j + b < 2 ^ (i + j)
+cat_below i j a b a_lt b_lt =
+    let next : a + 1 ≤ 2 ^ i = omega arith in
+    rw (pow-add 2 i j) (omega (arith, mul-le-mul_right (2 ^ j) next))
 
--- ---- zeros
+-- the bits that are held, as a number
+low_below : (word held : ℕ) → held ≤ 64 → word < 2 ^ 64 → word / 2 ^ (64 - held) < 2 ^ held
+low_below word held le small = let all : held + (64 - held) ≡ 64 = omega arith in shr_below word held (64 - held) (rw all small)
 
-pub zeros_have_no_one : (n k : ℕ) → get_or (bits_of (replicate n 0)) k false ≡ false
-zeros_have_no_one n k =
-    elim (cases_lt k (8 * n)) [
-      | inl lt ↦
-          let byte = get_or-replicate {A = ℕ} n (k / 8) 0 0 (omega arith) in
-          get_or-bits_of (replicate n 0) k (omega (arith, length-replicate {A = ℕ} n 0)) ∙ rw (byte, bit_at-zero) refl
-      | inr le ↦ get_or_past (bits_of (replicate n 0)) k false (omega (arith, length-bits_of (replicate n 0), length-replicate {A = ℕ} n 0))
-    ]
+-- the word with the number after its bits
+abbrev pub joined_word : ℕ → ℕ → ℕ → ℕ → ℕ
+joined_word word value held width = word + value * 2 ^ (64 - (held + width)) % 2 ^ 64
 
-pub HasRoom-zeros : (room : ℕ) → room ≤ 524288 → HasRoom (replicate (byte_count room) 0) 0 room
-HasRoom-zeros room most = record { within = omega arith; most = most; bytes_fit = length-replicate {A = ℕ} (byte_count room) 0; rest_is_zero = λ k le. zeros_have_no_one (byte_count room) k }
+module _ (word value held width : ℕ) (within : held + width ≤ 64) (small : word < 2 ^ 64) (clean : word % 2 ^ (64 - held) ≡ 0) (fits : value < 2 ^ width) where
+  joined_is : joined_word word value held width ≡ (word / 2 ^ (64 - held) * 2 ^ width + value) * 2 ^ (64 - (held + width))
+  joined_is = rw (shl_whole value width (64 - (held + width)) 64 fits (omega arith)) (joined word value held width within clean)
 
--- ---- the pen
+  pub joined_bits : number_bits (held + width) (joined_word word value held width / 2 ^ (64 - (held + width))) ≡ number_bits held (word / 2 ^ (64 - held)) ++ number_bits width value
+  joined_bits =
+      rw (joined_is, shl-shr (word / 2 ^ (64 - held) * 2 ^ width + value) (64 - (held + width))) (number_bits-cat held width (word / 2 ^ (64 - held)) value fits)
 
-pub length-written_bits : (bytes : List ℕ) (len room : ℕ) → HasRoom bytes len room → length (written_bits bytes len) ≡ len
-length-written_bits bytes len room h = omega (arith, length-take len (bits_of bytes), length-bits_of bytes, h.within, h.bytes_fit)
+  pub joined_clean : joined_word word value held width % 2 ^ (64 - (held + width)) ≡ 0
+  joined_clean = rw joined_is (mul-mod_left (word / 2 ^ (64 - held) * 2 ^ width + value) (2 ^ (64 - (held + width))))
 
-pub HasRoom-more : (bytes new : List ℕ) (len room : ℕ) (bit : Bool) → HasRoom bytes len room → len < room → bits_of new ≡ set (bits_of bytes) len bit → HasRoom new (len + 1) room
-HasRoom-more bytes new len room bit h lt wrote =
-    let same : length new ≡ length bytes = omega (arith, length-bits_of new, length-bits_of bytes, ap (λ (bits : List Bool). length bits) wrote, length-set (bits_of bytes) len bit) in
-    record {
-      within = omega arith;
-      most = h.most;
-      bytes_fit = omega (arith, h.bytes_fit);
-      rest_is_zero = λ k le. let other : k ≢ len = omega arith in rw (wrote, get_or-set_other (bits_of bytes) len k bit false other) (h.rest_is_zero k (omega arith));
-    }
+  pub joined_small : joined_word word value held width < 2 ^ 64
+  joined_small =
+      let all : held + width + (64 - (held + width)) ≡ 64 = omega arith in
+      let below = shl_below (word / 2 ^ (64 - held) * 2 ^ width + value) (held + width) (64 - (held + width)) (cat_below held width (word / 2 ^ (64 - held)) value (low_below word held (omega arith) small) fits) in
+      rw joined_is (rw all at below)
 
-pub written_bits-more : (bytes new : List ℕ) (len room : ℕ) (bit : Bool) → HasRoom bytes len room → len < room → bits_of new ≡ set (bits_of bytes) len bit → written_bits new (len + 1) ≡ written_bits bytes len ++ bit ∷ []
-written_bits-more bytes new len room bit h lt wrote =
-    rw wrote (take_more_set (bits_of bytes) len bit (omega (arith, length-bits_of bytes, h.bytes_fit)))
+-- ---- a word that gets full
 
-AreBytes-take : (n : ℕ) (bytes : List ℕ) → AreBytes bytes → AreBytes (take n bytes)
+-- the full word, and the word after it
+abbrev pub full_word : ℕ → ℕ → ℕ → ℕ → ℕ
+full_word word value held width = word + value / 2 ^ (held + width - 64)
+
+abbrev pub rest_word : ℕ → ℕ → ℕ → ℕ → ℕ
+rest_word word value held width = value * 2 ^ (63 - (held + width - 64)) % 2 ^ 64 * 2 ^ 1 % 2 ^ 64
+
+module _ (word value held width : ℕ) (short : held < 64) (full : 64 ≤ held + width) (most : width ≤ 64) (small : word < 2 ^ 64) (clean : word % 2 ^ (64 - held) ≡ 0) (fits : value < 2 ^ width) where
+  first_below : value / 2 ^ (held + width - 64) < 2 ^ (64 - held)
+  first_below = let all : 64 - held + (held + width - 64) ≡ width = omega arith in shr_below value (64 - held) (held + width - 64) (rw all fits)
+
+  all : 64 ≡ held + (64 - held)
+  all = omega arith
+
+  full_is : full_word word value held width ≡ word / 2 ^ (64 - held) * 2 ^ (64 - held) + value / 2 ^ (held + width - 64)
+  full_is = omega (arith, shr_split word (64 - held))
+
+  pub full_bits : number_bits 64 (full_word word value held width) ≡ number_bits held (word / 2 ^ (64 - held)) ++ number_bits (64 - held) (value / 2 ^ (held + width - 64))
+  full_bits = rw full_is (ap (λ (w : ℕ). number_bits w (word / 2 ^ (64 - held) * 2 ^ (64 - held) + value / 2 ^ (held + width - 64))) all ∙ number_bits-cat held (64 - held) (word / 2 ^ (64 - held)) (value / 2 ^ (held + width - 64)) first_below)
+
+  pub full_small : full_word word value held width < 2 ^ 64
+  full_small =
+      let below = cat_below held (64 - held) (word / 2 ^ (64 - held)) (value / 2 ^ (held + width - 64)) (low_below word held (omega arith) small) first_below in
+      rw full_is (rw (← all) at below)
+
+  rest_is : rest_word word value held width ≡ (value % 2 ^ (held + width - 64)) * 2 ^ (64 - (held + width - 64))
+  rest_is =
+      let one_more : 63 - (held + width - 64) + 1 ≡ 64 - (held + width - 64) = omega arith in
+      let back : 64 - (64 - (held + width - 64)) ≡ held + width - 64 = omega arith in
+      let power : 2 ^ (64 - (held + width - 64)) ≡ 2 ^ (63 - (held + width - 64)) * 2 ^ 1 = ap (λ (k : ℕ). 2 ^ k) (sym one_more) ∙ pow-add 2 (63 - (held + width - 64)) 1 in
+      let product : value * 2 ^ (63 - (held + width - 64)) * 2 ^ 1 ≡ value * 2 ^ (64 - (held + width - 64)) = rw power (omega arith) in
+      let shifted : value * 2 ^ (64 - (held + width - 64)) % 2 ^ 64 ≡ (value % 2 ^ (held + width - 64)) * 2 ^ (64 - (held + width - 64)) = rw back at (shl_word value (64 - (held + width - 64)) (omega arith)) in
+      mul-mod_first (value * 2 ^ (63 - (held + width - 64))) (2 ^ 1) (2 ^ 64) ∙ ap (λ (n : ℕ). n % 2 ^ 64) product ∙ shifted
+
+  pub rest_bits : number_bits (held + width - 64) (rest_word word value held width / 2 ^ (64 - (held + width - 64))) ≡ number_bits (held + width - 64) value
+  rest_bits = rw (rest_is, shl-shr (value % 2 ^ (held + width - 64)) (64 - (held + width - 64))) (number_bits-mod (held + width - 64) (held + width - 64) value (omega arith))
+
+  pub rest_clean : rest_word word value held width % 2 ^ (64 - (held + width - 64)) ≡ 0
+  rest_clean = rw rest_is (mul-mod_left (value % 2 ^ (held + width - 64)) (2 ^ (64 - (held + width - 64))))
+
+  -- together they have the bits held and those of the number
+  pub both_bits : number_bits 64 (full_word word value held width) ++ number_bits (held + width - 64) (rest_word word value held width / 2 ^ (64 - (held + width - 64))) ≡ number_bits held (word / 2 ^ (64 - held)) ++ number_bits width value
+  both_bits =
+      let all : width ≡ 64 - held + (held + width - 64) = omega arith in
+      rw (full_bits, rest_bits) (append_assoc (number_bits held (word / 2 ^ (64 - held))) (number_bits (64 - held) (value / 2 ^ (held + width - 64))) (number_bits (held + width - 64) value)
+      ∙ ap (λ (bits : List Bool). number_bits held (word / 2 ^ (64 - held)) ++ bits) (sym (number_bits-split (64 - held) (held + width - 64) value) ∙ ap (λ (w : ℕ). number_bits w value) (sym all)))
+
+-- ---- what the bytes hold
+
+-- bytes with a word written after so many
+abbrev pub HasWord : List ℕ → List ℕ → ℕ → ℕ → Type 0
+HasWord bytes new words word = take (8 * words + 8) new ≡ take (8 * words) bytes ++ to_be_bytes w64 word
+
+length-word : (word : ℕ) → length (to_be_bytes w64 word) ≡ 8
+length-word word = refl
+
+-- the words before it stay
+pub words_before : (bytes new : List ℕ) (words word : ℕ) → 8 * words ≤ length bytes → HasWord bytes new words word → take (8 * words) new ≡ take (8 * words) bytes
+words_before bytes new words word within has =
+    let len : length (take (8 * words) bytes) ≡ 8 * words = length-take-le (8 * words) bytes within in
+    sym (take-take (8 * words) (8 * words + 8) new (omega arith)) ∙ ap (take (8 * words)) has ∙ take_at (take (8 * words) bytes) (to_be_bytes w64 word) (8 * words) len
+
+-- the bits of the words and of the one after them
+pub bits_with : (bytes new : List ℕ) (words word : ℕ) → HasWord bytes new words word → bits_of (take (8 * words + 8) new) ≡ bits_of (take (8 * words) bytes) ++ number_bits 64 word
+bits_with bytes new words word has =
+    ap (λ (b : List ℕ). bits_of b) has ∙ flat_map-append (number_bits 8) (take (8 * words) bytes) (to_be_bytes w64 word) ∙ rw (bits_of-to_be_bytes word) refl
+
+pub length-written : (bytes : List ℕ) (capacity words word held room : ℕ) → HasRoom bytes capacity words word held room → length (written_bits bytes words word held) ≡ 64 * words + held
+length-written bytes capacity words word held room h =
+    omega (arith, length-append (bits_of (take (8 * words) bytes)) (number_bits held (word / 2 ^ (64 - held))), length-bits_of (take (8 * words) bytes), length-take (8 * words) bytes, length-number_bits held (word / 2 ^ (64 - held)), h.within, h.bytes_fit)
+
+pub HasRoom-none : (bytes : List ℕ) (capacity room : ℕ) → room ≤ 524288 → length bytes ≡ pen_bytes room → capacity ≡ pen_bytes room → HasRoom bytes capacity 0 0 0 room
+HasRoom-none bytes capacity room most fit taken = record { within = omega arith; most = most; bytes_fit = fit; taken = taken; short = omega arith; small = omega arith; clean = refl; kept = λ some. absurd (omega arith) }
+
+pub written-none : (bytes : List ℕ) → written_bits bytes 0 0 0 ≡ []
+written-none bytes = no_bits (0 / 2 ^ 64)
+
+-- a number after the bits of a word that doesn't get full
+module _ (bytes new : List ℕ) (capacity words word held room value width : ℕ) (h : HasRoom bytes capacity words word held room) (lt : held + width < 64) (fits : value < 2 ^ width) (within : 64 * words + held + width ≤ room)
+    (same : length new ≡ length bytes) (has : HasWord bytes new words (joined_word word value held width)) where
+  pub HasRoom-joined : HasRoom new capacity words (joined_word word value held width) (held + width) room
+  HasRoom-joined = record {
+    within = omega arith;
+    most = h.most;
+    bytes_fit = same ∙ h.bytes_fit;
+    taken = h.taken;
+    short = lt;
+    small = joined_small word value held width (omega arith) h.small h.clean fits;
+    clean = joined_clean word value held width (omega arith) h.small h.clean fits;
+    kept = λ some. rw (words_before bytes new words (joined_word word value held width) (omega (arith, h.within, h.bytes_fit)) has) has;
+  }
+
+  pub written-joined : written_bits new words (joined_word word value held width) (held + width) ≡ written_bits bytes words word held ++ number_bits width value
+  written-joined =
+      rw (words_before bytes new words (joined_word word value held width) (omega (arith, h.within, h.bytes_fit)) has, joined_bits word value held width (omega arith) h.small h.clean fits)
+      (sym (append_assoc (bits_of (take (8 * words) bytes)) (number_bits held (word / 2 ^ (64 - held))) (number_bits width value)))
+
+-- bytes with two words written after so many
+abbrev pub HasWords : List ℕ → List ℕ → ℕ → ℕ → ℕ → Type 0
+HasWords bytes new words first second = take (8 * words + 16) new ≡ take (8 * words) bytes ++ to_be_bytes w64 first ++ to_be_bytes w64 second
+
+pub HasWords-both : (bytes mid new : List ℕ) (words first second : ℕ) → HasWord bytes mid words first → HasWord mid new (words + 1) second → HasWords bytes new words first second
+HasWords-both bytes mid new words first second one two =
+    let end : 8 * words + 16 ≡ 8 * (words + 1) + 8 = omega arith in
+    let next : 8 * (words + 1) ≡ 8 * words + 8 = omega arith in
+    ap (λ (n : ℕ). take n new) end ∙ two ∙ ap (λ (b : List ℕ). b ++ to_be_bytes w64 second) (ap (λ (n : ℕ). take n mid) next ∙ one)
+
+-- a number that fills the word, and whose last bits are those of the next
+module _ (bytes new : List ℕ) (capacity words word held room value width : ℕ) (h : HasRoom bytes capacity words word held room) (full : 64 ≤ held + width) (most : width ≤ 64) (fits : value < 2 ^ width) (within : 64 * words + held + width ≤ room)
+    (same : length new ≡ length bytes) (has : HasWords bytes new words (full_word word value held width) (rest_word word value held width)) where
+  before : take (8 * (words + 1)) new ≡ take (8 * words) bytes ++ to_be_bytes w64 (full_word word value held width)
+  before =
+      let len : length (take (8 * words) bytes ++ to_be_bytes w64 (full_word word value held width)) ≡ 8 * (words + 1) =
+      omega (arith, length-append (take (8 * words) bytes) (to_be_bytes w64 (full_word word value held width)), length-word (full_word word value held width), length-take (8 * words) bytes, h.within, h.bytes_fit) in
+      sym (take-take (8 * (words + 1)) (8 * words + 16) new (omega arith)) ∙ ap (take (8 * (words + 1))) has
+      ∙ take_at (take (8 * words) bytes ++ to_be_bytes w64 (full_word word value held width)) (to_be_bytes w64 (rest_word word value held width)) (8 * (words + 1)) len
+
+  pub HasRoom-full : HasRoom new capacity (words + 1) (rest_word word value held width) (held + width - 64) room
+  HasRoom-full =
+      let end : 8 * (words + 1) + 8 ≡ 8 * words + 16 = omega arith in
+      record {
+        within = omega arith;
+        most = h.most;
+        bytes_fit = same ∙ h.bytes_fit;
+        taken = h.taken;
+        short = omega (arith, h.short);
+        small = mod_below (value * 2 ^ (63 - (held + width - 64)) % 2 ^ 64 * 2 ^ 1) (2 ^ 64) (pow_pos 64);
+        clean = rest_clean word value held width h.short full most h.small h.clean fits;
+        kept = λ some. rw (before, end) has;
+      }
+
+  pub written-full : written_bits new (words + 1) (rest_word word value held width) (held + width - 64) ≡ written_bits bytes words word held ++ number_bits width value
+  written-full =
+      let whole : bits_of (take (8 * (words + 1)) new) ≡ bits_of (take (8 * words) bytes) ++ number_bits 64 (full_word word value held width) =
+      ap (λ (b : List ℕ). bits_of b) before ∙ flat_map-append (number_bits 8) (take (8 * words) bytes) (to_be_bytes w64 (full_word word value held width)) ∙ rw (bits_of-to_be_bytes (full_word word value held width)) refl in
+      rw whole (append_assoc (bits_of (take (8 * words) bytes)) (number_bits 64 (full_word word value held width)) _ ∙ rw (both_bits word value held width h.short full most h.small h.clean fits) (sym (append_assoc (bits_of (take (8 * words) bytes)) (number_bits held (word / 2 ^ (64 - held))) (number_bits width value))))
+
+-- ---- the bytes of the bits
+
+pub AreBytes-take : (n : ℕ) (bytes : List ℕ) → AreBytes bytes → AreBytes (take n bytes)
 AreBytes-take n bytes below i =
     elim (cases_lt i n) [
       | inl lt ↦ rw (get_or-take n bytes i 0 lt) (below i)
       | inr le ↦ rw (get_or_past (take n bytes) i 0 (omega (arith, length-take n bytes))) (omega arith)
     ]
 
+-- some of the bytes of the words and of the one after them
+front_bits : (bytes : List ℕ) (words word held count : ℕ) → held < 64 → word % 2 ^ (64 - held) ≡ 0 → 8 * words ≤ length bytes → HasWord bytes bytes words word → count ≤ 8 * words + 8 → 64 * words + held ≤ 8 * count
+    → bits_of (take count bytes) ≡ written_bits bytes words word held ++ replicate (8 * count - (64 * words + held)) false
+front_bits bytes words word held count short clean within has most least =
+    let bits = written_bits bytes words word held in
+    let len : length (written_bits bytes words word held) ≡ 64 * words + held = omega (arith, length-append (bits_of (take (8 * words) bytes)) (number_bits held (word / 2 ^ (64 - held))), length-bits_of (take (8 * words) bytes), length-take (8 * words) bytes, length-number_bits held (word / 2 ^ (64 - held))) in
+    let all : bits_of (take (8 * words + 8) bytes) ≡ written_bits bytes words word held ++ replicate (64 - held) false =
+    bits_with bytes bytes words word has ∙ rw (high_bits held 64 word (omega arith) clean) (sym (append_assoc (bits_of (take (8 * words) bytes)) (number_bits held (word / 2 ^ (64 - held))) (replicate (64 - held) false))) in
+    let place : 8 * count ≡ length (written_bits bytes words word held) + (8 * count - (64 * words + held)) = omega arith in
+    ap (λ (b : List ℕ). bits_of b) (sym (take-take count (8 * words + 8) bytes most)) ∙ bits_of-take count (take (8 * words + 8) bytes) ∙ ap (take (8 * count)) all
+    ∙ ap (λ (n : ℕ). take n (written_bits bytes words word held ++ replicate (64 - held) false)) place
+    ∙ take-append-add (written_bits bytes words word held) (replicate (64 - held) false) (8 * count - (64 * words + held))
+    ∙ ap (λ (zeros : List Bool). written_bits bytes words word held ++ zeros) (take-replicate (8 * count - (64 * words + held)) (64 - held) false (omega arith))
+
+-- whole words fill their bytes
+whole_bits : (bytes : List ℕ) (words word : ℕ) → 8 * words ≤ length bytes → bits_of (take (byte_count (64 * words + 0)) bytes) ≡ padded (written_bits bytes words word 0)
+whole_bits bytes words word within =
+    let count : byte_count (64 * words + 0) ≡ 8 * words = omega arith in
+    let none : 8 * byte_count (length (bits_of (take (8 * words) bytes))) - length (bits_of (take (8 * words) bytes)) ≡ 0 = omega (arith, length-bits_of (take (8 * words) bytes)) in
+    rw (count, no_bits (word / 2 ^ 64), append-nil (bits_of (take (8 * words) bytes)), none) (sym (append-nil (bits_of (take (8 * words) bytes))))
+
+padded_bits : (bytes : List ℕ) (capacity words word held room : ℕ) → HasRoom bytes capacity words word held room → bits_of (take (byte_count (64 * words + held)) bytes) ≡ padded (written_bits bytes words word held)
+padded_bits bytes capacity words word held room h =
+    let len = length-written bytes capacity words word held room h in
+    elim (cases_lt 0 held) [
+      | inl some ↦ rw len (front_bits bytes words word held (byte_count (64 * words + held)) h.short h.clean (omega (arith, h.within, h.bytes_fit)) (h.kept some) (omega (arith, h.short)) (omega arith))
+      | inr none ↦
+          let nothing : held ≡ 0 = omega arith in
+          rw nothing (whole_bits bytes words word (omega (arith, h.within, h.bytes_fit)))
+    ]
+
 -- the bytes that the bits lie in are those of the bits
-pub first_bytes_are : (bytes : List ℕ) (len : ℕ) → AreBytes bytes → len ≤ 8 * length bytes → ((k : ℕ) → len ≤ k → get_or (bits_of bytes) k false ≡ false) → take (byte_count len) bytes ≡ vector_bytes (take len (bits_of bytes))
-first_bytes_are bytes len below within none =
-    let all : bits_of (take (byte_count len) bytes) ≡ take (8 * byte_count len) (bits_of bytes) = bits_of-take (byte_count len) bytes in
-    let count : length (take (byte_count len) bytes) ≡ byte_count len = omega (arith, length-take (byte_count len) bytes) in
-    let front : take len (take (8 * byte_count len) (bits_of bytes)) ≡ take len (bits_of bytes) = take-take len (8 * byte_count len) (bits_of bytes) (omega arith) in
-    let after : (i : ℕ) → get_or (drop len (bits_of (take (byte_count len) bytes))) i false ≡ false =
-    λ i. get_or-drop len (bits_of (take (byte_count len) bytes)) i false ∙ rw all (elim (cases_lt (len + i) (8 * byte_count len)) [
-      | inl lt ↦ get_or-take (8 * byte_count len) (bits_of bytes) (len + i) false lt ∙ none (len + i) (omega arith)
-      | inr le ↦ get_or_past (take (8 * byte_count len) (bits_of bytes)) (len + i) false (omega (arith, length-take (8 * byte_count len) (bits_of bytes)))
-    ]) in
-    let is_padded = padded_is (bits_of (take (byte_count len) bytes)) len (omega (arith, length-bits_of (take (byte_count len) bytes))) (omega (arith, length-bits_of (take (byte_count len) bytes))) after in
-    vector_bytes_is (take (byte_count len) bytes) (take len (bits_of bytes)) (AreBytes-take (byte_count len) bytes below) (is_padded ∙ ap padded (ap (take len) all ∙ front))
+pub pen_bytes_are : (bytes : List ℕ) (capacity words word held room : ℕ) → HasRoom bytes capacity words word held room → AreBytes (take (byte_count (64 * words + held)) bytes)
+    → take (byte_count (64 * words + held)) bytes ≡ vector_bytes (written_bits bytes words word held)
+pen_bytes_are bytes capacity words word held room h below =
+    vector_bytes_is (take (byte_count (64 * words + held)) bytes) (written_bits bytes words word held) below (padded_bits bytes capacity words word held room h)

@@ -1,5 +1,6 @@
 -- What an eye sees: all bits, and the number of the next one.
-use Rattle.std.specs.Prelude.{ℕ, Bool, List, drop}
+use Rattle.std.specs.Prelude.{◌≡◌, ℕ, ◌-◌, ◌<◌, ◌==◌, Bool, false, List, drop, slice_index_or}
+use Rattle.std.specs.Int.{bit_at}
 
 pub record EyeState : Type 0 where
   pub bits : List Bool
@@ -8,3 +9,7 @@ pub record EyeState : Type 0 where
 -- the bits that are still to be read
 abbrev pub bits_left : EyeState → List Bool
 bits_left eye = drop eye.place eye.bits
+
+-- the 64 bits of a word are the first of these bits, and zeros past their end
+abbrev pub Shows : List Bool → ℕ → Type 0
+Shows bits word = (k : ℕ) → k < 64 → (bit_at word (63 - k) == 1) ≡ slice_index_or bits k false

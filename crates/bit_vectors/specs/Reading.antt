@@ -1,9 +1,10 @@
 -- Reading a list of bits from its front: the value that its first bits spell and the bits after them, or the first
 -- fault. A reader is exact for words where it gives each word's value, and finds each fault at the first bit at which
 -- it can be seen.
-use Rattle.std.specs.Prelude.{◌≡◌, ℕ, ◌+◌, ◌-◌, ◌<◌, ◌≤◌, nat_le, Bool, not, List, [], ◌∷◌, ◌++◌, length, take, drop, Result, Ok, Err, if◌then◌else◌}
+use Rattle.std.specs.Prelude.{◌≡◌, ℕ, ◌+◌, ◌-◌, ◌<◌, ◌≤◌, nat_le, Bool, true, not, List, [], ◌∷◌, ◌++◌, length, take, drop, Result, Ok, Err, if◌then◌else◌}
 use Rattle.bit_vectors.specs.declared.fault.BitFault.{BitFault}
 use Rattle.bit_vectors.specs.declared.fault.BitFault.TheVariants.{Wrong, EndsEarly}
+use Rattle.bit_vectors.specs.Vectors.{bits_number}
 use Rattle.bit_vectors.specs.Eye.{EyeState, bits_left}
 
 -- a value and the bits after it; the bits after the first wrong one; or the bits end before a word does
@@ -28,9 +29,17 @@ bit_where ok (bit ∷ rest) = if ok bit then Read bit rest else WrongBit rest
 abbrev pub allowed : Bool → Bool → Bool → Bool
 allowed zero one bit = if bit then one else zero
 
+-- one bit, whatever it is
+abbrev pub any_bit : List Bool → Parsed Bool
+any_bit bits = bit_where (allowed true true) bits
+
 -- so many bits, whatever they are
 unfoldable pub parse_front : ℕ → List Bool → Parsed (List Bool)
 parse_front count bits = if nat_le count (length bits) then Read (take count bits) (drop count bits) else TooShort
+
+-- a number of this width, whatever its bits are
+unfoldable pub parse_number : ℕ → List Bool → Parsed ℕ
+parse_number width bits = parse_front width bits >>= λ front rest. Read (bits_number front) rest
 
 -- the bits of a word, and no others
 unfoldable pub parse_word : List Bool → List Bool → Parsed (Unit {0})

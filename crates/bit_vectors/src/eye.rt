@@ -1,12 +1,10 @@
 //! Reading bytes bit by bit.
 
-ghost use Rattle.std.specs.Prelude.{◌≡◌, ◌+◌, ◌<◌, ◌≤◌, ◌↔◌, ◌++◌, [], ◌∷◌, length, take, drop, IsNone, IfSome, OnSome, IfNone, IsErr, IfErr, OnOk, OnErr};
+ghost use Rattle.std.specs.Prelude.{◌≡◌, ◌+◌, ◌<◌, ◌≤◌, ◌↔◌, [], ◌∷◌, length, drop, IsNone, IfSome, OnSome, IfNone};
 ghost use Rattle.bit_vectors.specs.Vectors.{bits_of};
-ghost use Rattle.bit_vectors.specs.Eye.{EyeState, bits_left};
-ghost use Rattle.bit_vectors.specs.Reading.{MovesOn, Gives, parse_front};
+ghost use Rattle.bit_vectors.specs.Eye.{EyeState, bits_left, Shows};
 
-use crate::bits::Bits;
-use crate::fault::BitFault;
+use crate::front::front_word;
 use crate::packing::bit_in;
 use std::marker::Model;
 
@@ -73,25 +71,38 @@ impl<'a> BitEye<'a> {
         Some(bit)
     }
 
-    /// Takes as many bits as `into` has places, from place 0 up. No bit is wrong. Where the bits end early,
-    /// those that were left are the first of `into`, its other places stay, and the eye stands at the end.
-    pub fn take_bits(&mut self, into: &mut Bits) -> Result<(), BitFault>
-        ensures places { length into.new ≡ length into.old }
-        ensures bits { let left = bits_left self.old in
-            into.new ≡ take (length into.old) left ++ drop (length left) into.old }
-        ensures moves { MovesOn self.old self.new }
-        ensures taken { OnOk result (bits_left self.old ≡ into.new ++ bits_left self.new) }
-        ensures early { IsErr result ↔ (length (bits_left self.old) < length into.old) }
-        ensures fault { IfErr result (λ fault. fault ≡ BitFault.EndsEarly (length self.old.bits)) }
-        ensures at_end { OnErr result (self.new.place ≡ length self.old.bits) }
-        ensures reading { Gives (λ _. into.new) result self.new (parse_front (length into.old) (bits_left self.old)) }
+    /// The number of bits that are left.
+    pub fn left(&self) -> u32
+        ensures left { result ≡ length (bits_left self.now) }
+        ensures rest { result + self.now.place ≡ length self.now.bits }
     {
-        for place in 0..into.len() {
-            let Some(bit) = self.take() else {
-                return Err(BitFault::EndsEarly { bit: self.size() });
-            };
-            into.set(place, bit);
-        }
-        Ok(())
+        self.size() - self.place
     }
+
+    /// The next 64 bits as a word, the next one of the greatest weight, and zeros past the end. The eye
+    /// stays.
+    pub fn ahead(&self) -> u64
+        ensures { Shows (bits_left self.now) result }
+    {
+        word_after(&self.bytes[self.place as usize / 8..], self.place % 8)
+    }
+
+    /// Moves on by so many bits, at most those that are left.
+    pub fn pass(&mut self, width: u32)
+        requires { width ≤ length (bits_left self.old) }
+        ensures left { bits_left self.new ≡ drop width (bits_left self.old) }
+        ensures place { self.new.place ≡ self.old.place + width }
+        ensures bits { self.new.bits ≡ self.old.bits }
+    {
+        self.place += width;
+    }
+}
+
+/// The 64 bits after the first `skipped`, which are fewer than eight, and zeros past the end.
+fn word_after(bytes: &[u8], skipped: u32) -> u64
+    requires { skipped < 8 }
+    ensures { Shows (drop skipped (bits_of bytes.now)) result }
+{
+    let next = bytes.get(8).copied().unwrap_or(0);
+    (front_word(bytes) << skipped) + (u64::from(next) >> (8 - skipped))
 }

@@ -1,31 +1,36 @@
 //! Writing bits one after the other.
 
-ghost use Rattle.std.specs.Prelude.{◌≡◌, ◌+◌, ◌^◌, ◌<◌, ◌≤◌, [], ◌∷◌, ◌++◌, length, IfOk};
-ghost use Rattle.bit_vectors.specs.Vectors.{number_bits, byte_count, vector_bytes};
+ghost use Rattle.std.specs.Prelude.{◌≡◌, ◌+◌, ◌*◌, ◌^◌, ◌<◌, ◌≤◌, [], ◌∷◌, ◌++◌, length, take, replicate, IfOk};
+ghost use Rattle.std.specs.Int.{w64, to_be_bytes};
+ghost use Rattle.std.specs.Vec.{vec_capacity};
+ghost use Rattle.bit_vectors.specs.Vectors.{number_bits, AreBytes, byte_count, vector_bytes};
 
 use crate::bits::Bits;
 use crate::fault::NoMemory;
-use crate::packing::{first_bytes, write_bit};
 use std::alloc::Global;
 use std::marker::Model;
 
 /// A list of bits with a fixed room, which was taken when the pen was made. Contracts see the bits and
-/// the room.
+/// the room. Whole words of 64 bits lie in the bytes; the word after them, which isn't full, lies there too
+/// where it has a bit, and is held so that it need not be read.
 #[derive(Debug, Drop)]
 pub struct BitPen {
     bytes: Vec<u8>,
-    len: u32,
+    words: u32,
+    word: u64,
+    held: u32,
     room: u32,
 }
 
 impl Model for BitPen {
+    ghost use Rattle.std.specs.Vec.{vec_capacity};
     ghost use Rattle.bit_vectors.specs.Pen.{PenState, written_bits, HasRoom};
 
     ghost Value = { PenState };
 
-    ghost view = { λ p. record { bits = written_bits p.bytes.items p.len; room = p.room } };
+    ghost view = { λ p. record { bits = written_bits p.bytes.items p.words p.word p.held; room = p.room } };
 
-    ghost invariant = { λ p. HasRoom p.bytes.items p.len p.room };
+    ghost invariant = { λ p. HasRoom p.bytes.items (vec_capacity p.bytes) p.words p.word p.held p.room };
 }
 
 impl BitPen {
@@ -35,10 +40,12 @@ impl BitPen {
         ensures bits { IfOk result (λ pen. pen.bits ≡ []) }
         ensures room { IfOk result (λ pen. pen.room ≡ bits) }
     {
-        let bytes = vec![in alloc; 0; bits.div_ceil(8) as usize]?;
+        let bytes = zero_bytes(alloc, 8 * bits.div_ceil(64) as usize + 8)?;
         Ok(BitPen {
             bytes,
-            len: 0,
+            words: 0,
+            word: 0,
+            held: 0,
             room: bits,
         })
     }
@@ -49,8 +56,7 @@ impl BitPen {
         ensures bits { self.new.bits ≡ self.old.bits ++ bit ∷ [] }
         ensures room { self.new.room ≡ self.old.room }
     {
-        write_bit(&mut self.bytes, self.len as usize, bit);
-        self.len += 1;
+        self.put_word(u64::from(bit), 1);
     }
 
     /// Appends a number in `width` bits, at most 32, the greatest weight first.
@@ -61,8 +67,32 @@ impl BitPen {
         ensures bits { self.new.bits ≡ self.old.bits ++ number_bits width value }
         ensures room { self.new.room ≡ self.old.room }
     {
-        for weight in (0..width).rev() {
-            self.put((value >> weight) & 1 == 1);
+        if width != 0 {
+            self.put_word(u64::from(value), width);
+        }
+    }
+
+    /// Appends a number in `width` bits, from 1 to 64, the greatest weight first.
+    pub fn put_word(&mut self, value: u64, width: u32)
+        requires some { 1 ≤ width }
+        requires most { width ≤ 64 }
+        requires fits { value < 2 ^ width }
+        requires room { length self.old.bits + width ≤ self.old.room }
+        ensures bits { self.new.bits ≡ self.old.bits ++ number_bits width value }
+        ensures room { self.new.room ≡ self.old.room }
+    {
+        let end = self.held + width;
+        if end < 64 {
+            self.word += value << (64 - end);
+            self.held = end;
+            write_word(&mut self.bytes, self.words, self.word);
+        } else {
+            let rest = end - 64;
+            let full = self.word + (value >> rest);
+            self.word = value << (63 - rest) << 1;
+            self.held = rest;
+            write_two_words(&mut self.bytes, self.words, full, self.word);
+            self.words += 1;
         }
     }
 
@@ -82,8 +112,9 @@ impl BitPen {
         ensures bits { self.new.bits ≡ [] }
         ensures room { self.new.room ≡ self.old.room }
     {
-        self.bytes.fill(0);
-        self.len = 0;
+        self.words = 0;
+        self.word = 0;
+        self.held = 0;
     }
 
     /// The number of bits.
@@ -91,7 +122,7 @@ impl BitPen {
         ensures len { result ≡ length self.now.bits }
         ensures within { result ≤ self.now.room }
     {
-        self.len
+        64 * self.words + self.held
     }
 
     /// The room: how many bits the pen can hold, at most 524,288.
@@ -108,6 +139,47 @@ impl BitPen {
         ensures len { length result.now ≡ byte_count (length self.now.bits) }
         ensures most { length result.now ≤ 65536 }
     {
-        first_bytes(&self.bytes, self.len as usize)
+        first_bytes(&self.bytes, self.len().div_ceil(8))
     }
+}
+
+/// So many bytes of zeros, and room for no more.
+fn zero_bytes(alloc: Global, count: usize) -> Result<Vec<u8>, NoMemory>
+    ensures bytes { IfOk result (λ bytes. bytes.items ≡ replicate count 0) }
+    ensures full { IfOk result (λ bytes. vec_capacity bytes ≡ count) }
+{
+    let mut bytes = Vec::with_capacity(alloc, count)?;
+    for _ in 0..count {
+        bytes.push_reserved(0);
+    }
+    Ok(bytes)
+}
+
+/// Writes a word into the eight bytes after so many words.
+fn write_word(bytes: &mut [u8], words: u32, word: u64)
+    requires { 8 * words + 8 ≤ length bytes.old }
+    ensures { take (8 * words + 8) bytes.new ≡ take (8 * words) bytes.old ++ to_be_bytes w64 word }
+{
+    let at = 8 * words as usize;
+    bytes[at..at + 8].copy_from_slice(&word.to_be_bytes());
+}
+
+/// Writes two words into the sixteen bytes after so many words.
+fn write_two_words(bytes: &mut [u8], words: u32, first: u64, second: u64)
+    requires most { words ≤ 8192 }
+    requires room { 8 * words + 16 ≤ length bytes.old }
+    ensures { take (8 * words + 16) bytes.new
+        ≡ take (8 * words) bytes.old ++ to_be_bytes w64 first ++ to_be_bytes w64 second }
+{
+    write_word(bytes, words, first);
+    write_word(bytes, words + 1, second);
+}
+
+/// The first so many of the bytes.
+fn first_bytes(bytes: &[u8], count: u32) -> &[u8]
+    requires { count ≤ length bytes.now }
+    ensures first { result.now ≡ take count bytes.now }
+    ensures bytes { AreBytes result.now }
+{
+    &bytes[..count as usize]
 }

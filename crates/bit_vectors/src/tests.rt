@@ -31,6 +31,45 @@ fn pen_with_room(rt: HostRuntime) -> Result<(), Fail> {
     Ok(())
 }
 
+/// Ten bits at each place around the edges of words, and what the bytes there are.
+#[test]
+fn numbers_across_words(rt: HostRuntime) -> Result<(), Fail> {
+    let rows: [(u32, [u8; 3]); 7] = [
+        (0, [0xa6, 0x40, 0x00]),
+        (1, [0x53, 0x20, 0x00]),
+        (53, [0x05, 0x32, 0x00]),
+        (54, [0x02, 0x99, 0x00]),
+        (55, [0x01, 0x4c, 0x80]),
+        (63, [0x01, 0x4c, 0x80]),
+        (127, [0x01, 0x4c, 0x80]),
+    ];
+    for (before, bytes) in rows {
+        let mut pen = BitPen::with_room(rt.alloc(), 192)?;
+        assert!(rt; before < 128 && pen.len() == 0 && pen.room() == 192);
+        for _ in 0..before {
+            assert!(rt; pen.len() < 128 && pen.room() == 192);
+            pen.put(false);
+        }
+        assert!(rt; pen.len() < 128 && pen.room() == 192);
+        pen.put_word(0b10_1001_1001, 10);
+        let written = pen.bytes();
+        for (index, byte) in bytes.into_iter().enumerate() {
+            let found = written.get((before / 8) as usize + index);
+            assert_eq!(rt; found.copied().unwrap_or(0), byte);
+        }
+        let mut eye = BitEye::new(pen.bytes());
+        assert!(rt; before <= eye.left());
+        eye.pass(before);
+        assert_eq!(rt; eye.ahead() >> 54, 0b10_1001_1001);
+        assert_eq!(rt; eye.take_word(10), Ok(0b10_1001_1001));
+        assert_eq!(rt;
+            eye.take_word(64),
+            Err(BitFault::EndsEarly { bit: eye.size() })
+        );
+    }
+    Ok(())
+}
+
 #[test]
 fn texts_of_faults(rt: HostRuntime) -> Result<(), Fail> {
     let texts = [

@@ -2,4 +2,3 @@ pub mod Digits
 pub mod CountWords
 pub mod Steps
 pub mod ExactCounts
-pub mod Numbers

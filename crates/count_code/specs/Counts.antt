@@ -1,7 +1,6 @@
 -- Words within a limit, and reading them.
 use Rattle.std.specs.Prelude.{◌≡◌, ℕ, zero, suc, ◌+◌, ◌-◌, ◌*◌, ◌^◌, ◌≤◌, nat_le, Bool, true, false, if◌then◌else◌, List}
-use Rattle.bit_vectors.specs.Vectors.{bits_number}
-use Rattle.bit_vectors.specs.Reading.{Parsed, Read, ◌>>=◌, bit_where, allowed, parse_front}
+use Rattle.bit_vectors.specs.Reading.{Parsed, Read, ◌>>=◌, bit_where, allowed}
 use Rattle.count_code.specs.declared.count.Count.{Count}
 use Rattle.count_code.specs.declared.count.Count.TheVariants.{Value, End}
 use Rattle.count_code.specs.Code.{count_bits, end_bits}
@@ -28,10 +27,6 @@ abbrev pub IsCode : ℕ → List Bool → Type 0
 IsCode limit word = (count : Count) × IsCodeOf limit count word
 
 -- ---- reading
-
--- a number of this width, whatever its bits are
-unfoldable pub parse_number : ℕ → List Bool → Parsed ℕ
-parse_number width bits = parse_front width bits >>= λ front rest. Read (bits_number front) rest
 
 -- the last bits of a number that is at most `most` and begins with `so_far`
 unfoldable pub parse_bounded : ℕ → ℕ → ℕ → List Bool → Parsed ℕ

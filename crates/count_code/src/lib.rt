@@ -9,8 +9,8 @@ mod writing;
 
 pub use count::Count;
 pub use laws::{long_words, no_word_begins_another};
-pub use matching::{match_count, match_number};
-pub use reading::{take_count, take_number};
+pub use matching::match_count;
+pub use reading::take_count;
 pub use writing::{count_len, put_count, put_end};
 
 #[cfg(test)]

@@ -1,6 +1,6 @@
 //! The words of counts, and the first faults of others, by worked examples.
 
-use crate::{Count, count_len, match_count, put_count, put_end, take_count, take_number};
+use crate::{Count, count_len, match_count, put_count, put_end, take_count};
 use bit_vectors::{BitEye, BitFault, BitPen};
 use std::test::Fail;
 
@@ -26,7 +26,7 @@ fn words_of_counts(rt: HostRuntime) -> Result<(), Fail> {
         assert_eq!(rt; take_count(&mut eye, 49_152), Ok(Count::End));
         let mut again = BitEye::new(pen.bytes());
         assert_eq!(rt; match_count(&mut again, a), Ok(()));
-        assert_eq!(rt; take_number(&mut again, 2), Ok(0b10));
+        assert_eq!(rt; again.take_number(2), Ok(0b10));
     }
     Ok(())
 }

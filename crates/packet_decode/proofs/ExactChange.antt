@@ -6,10 +6,9 @@ use Rattle.std.proofs.lemmas.Bool.{true≢false, ltb-true, lt-ltb}
 use Rattle.std.proofs.lemmas.List.{get_or_default}
 use Rattle.std.proofs.lemmas.List.Folds.{list_any_at}
 use Rattle.bit_vectors.specs.Vectors.{number_bits, IsOne}
-use Rattle.bit_vectors.specs.Reading.{Read, ◌>>=◌, bit_where, allowed, IsExact}
+use Rattle.bit_vectors.specs.Reading.{any_bit, parse_number, Read, ◌>>=◌, bit_where, allowed, IsExact}
 use Rattle.bit_vectors.proofs.ExactReading.{IsBitWhere, IsWordThen, IsExact-give, IsExact-bit_where, IsExact-same, IsExact-then}
-use Rattle.count_code.specs.Counts.{parse_number}
-use Rattle.count_code.proofs.Numbers.{IsNumberOfWidth, IsExact-number_at}
+use Rattle.bit_vectors.proofs.NumberReading.{IsNumberOfWidth, IsExact-number_at}
 use Rattle.run_code.specs.Extraction.{bits_up, IsInverseWord, parse_inverse}
 use Rattle.run_code.specs.Runs.{run_bits, IsRunWordOf, parse_vector}
 use Rattle.run_code.proofs.Ones.{one_within}
@@ -17,7 +16,7 @@ use Rattle.run_code.proofs.ExactRuns.{IsExact-vector_at}
 use Rattle.run_code.proofs.InverseBits.{IsExact-inverse_at}
 use Rattle.packet_encode.specs.Forms.{Directions, Part, Form, AreDirections, direction_bits, change_bits}
 use Rattle.packet_decode.specs.State.{Change, change_of}
-use Rattle.packet_decode.specs.PacketReading.{any_bit, parse_named, parse_directions, parse_change}
+use Rattle.packet_decode.specs.PacketReading.{parse_named, parse_directions, parse_change}
 use Rattle.packet_decode.proofs.Readers.{HasWord, IsImage, IsExact-map, IsBitThen, IsExact-bit, any_may}
 
 -- a form with these recent changes and this level

@@ -5,9 +5,8 @@ use Rattle.bit_vectors.specs.declared.fault.BitFault.{BitFault}
 use Rattle.bit_vectors.specs.declared.fault.BitFault.TheVariants.{Wrong, EndsEarly}
 use Rattle.bit_vectors.specs.Vectors.{byte_count}
 use Rattle.bit_vectors.specs.Eye.{EyeState, bits_left}
-use Rattle.bit_vectors.specs.Reading.{Parsed, Read, WrongBit, TooShort, ◌>>=◌, bit_where, allowed, parse_front, parse_word}
+use Rattle.bit_vectors.specs.Reading.{Parsed, Read, WrongBit, TooShort, ◌>>=◌, any_bit, bit_where, allowed, parse_front, parse_number, parse_word}
 use Rattle.count_code.specs.Code.{count_bits}
-use Rattle.count_code.specs.Counts.{parse_number}
 use Rattle.run_code.specs.Places.{places_down}
 use Rattle.run_code.specs.Edges.{edges}
 use Rattle.run_code.specs.Extraction.{parse_filled, parse_inverse}
@@ -28,10 +27,6 @@ pub record Found : Type 0 where
   pub outcome : Outcome
 
 -- ---- general readers
-
--- one bit, whatever it is
-abbrev pub any_bit : List Bool → Parsed Bool
-any_bit bits = bit_where (allowed true true) bits
 
 -- A vector from place 0 up that has the known bit at each place but these. The first bit that differs is wrong.
 unfoldable pub parse_kept : List Bool → List Bool → List Bool → Parsed (List Bool)

@@ -10,7 +10,6 @@ ghost use Rattle.packet_decode.specs.PacketReading.{parse_change};
 
 use crate::directions::take_directions;
 use bit_vectors::{BitEye, BitFault, Bits, NoMemory};
-use count_code::take_number;
 use run_code::take_runs;
 use std::alloc::Global;
 use std::marker::Model;
@@ -63,7 +62,7 @@ impl FirstPart {
         ensures reading { Gives (λ _. self.new) result eye.new (parse_change (length self.old.recent) (bits_left eye.old)) }
     {
         take_runs(eye, &mut self.recent)?;
-        self.level = take_number(eye, 4)? as u8;
+        self.level = eye.take_number(4)? as u8;
         self.twice = take_directions(eye, &self.recent, self.level, &mut self.predictable)?;
         Ok(())
     }

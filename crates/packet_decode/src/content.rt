@@ -7,7 +7,6 @@ ghost use Rattle.bit_vectors.specs.Reading.{MovesOn};
 ghost use Rattle.packet_decode.specs.PacketReading.{Tells, parse_kept, parse_whole_with, parse_part_with, parse_content};
 ghost use Rattle.packet_decode.specs.Parts.{IsDraft, outcome_of};
 
-use crate::bit::take_bit;
 use crate::change::FirstPart;
 use crate::draft::{DataKind, Draft};
 use bit_vectors::{BitEye, BitFault, Bits};
@@ -31,7 +30,7 @@ pub fn take_content(
     ensures reading { Tells (λ kind. outcome_of kind draft.new.mask draft.new.content) result eye.new
         (parse_content (length draft.old.content) change.now draft.old.mask (option_map (λ v. v.now) known.entry) (bits_left eye.old)) }
 {
-    if take_bit(eye)? {
+    if eye.take_bit()? {
         take_whole(eye, change, known, draft)
     } else {
         take_part(eye, change, known, draft)

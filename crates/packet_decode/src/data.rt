@@ -8,7 +8,6 @@ ghost use Rattle.bit_vectors.specs.Reading.{MovesOn};
 ghost use Rattle.packet_decode.specs.PacketReading.{Tells, parse_unsent, parse_maskless, parse_data};
 ghost use Rattle.packet_decode.specs.Parts.{IsDraft, outcome_of};
 
-use crate::bit::{take_bit, take_one};
 use crate::change::FirstPart;
 use crate::content::{take_content, take_part, take_whole};
 use crate::draft::{DataKind, Draft};
@@ -33,9 +32,9 @@ pub fn take_data(
     ensures reading { Tells (λ kind. outcome_of kind draft.new.mask draft.new.content) result eye.new
         (parse_data (length draft.old.content) change.now (option_map (λ v. v.now) deduced.entry) (option_map (λ v. v.now) known.entry) (bits_left eye.old)) }
 {
-    if take_bit(eye)? {
+    if eye.take_bit()? {
         take_unsent(eye, change, deduced, known, draft)
-    } else if take_bit(eye)? {
+    } else if eye.take_bit()? {
         take_mask(eye, deduced, &mut draft.mask, &mut draft.spare)?;
         take_content(eye, change, known, draft)
     } else {
@@ -89,7 +88,7 @@ fn take_maskless(
     let Some(mask) = deduced else {
         return Ok(DataKind::Opaque);
     };
-    take_one(eye)?;
+    eye.take_allowed(false, true)?;
     draft.mask.copy_from(mask);
     take_whole(eye, change, known, draft)
 }

@@ -6,7 +6,6 @@ ghost use Rattle.bit_vectors.specs.Reading.{MovesOn, Gives};
 ghost use Rattle.packet_decode.specs.PacketReading.{parse_directions, parse_named};
 ghost use Rattle.packet_decode.specs.Parts.{sent_directions};
 
-use crate::bit::take_bit;
 use bit_vectors::{BitEye, BitFault, Bits};
 use run_code::take_inverse_up;
 
@@ -29,7 +28,7 @@ pub fn take_directions(
     if recent.is_zero() || level == 0 {
         return Ok(None);
     }
-    if !take_bit(eye)? {
+    if !eye.take_bit()? {
         return Ok(None);
     }
     let twice = take_named(eye, recent, predictable)?;
@@ -48,5 +47,5 @@ fn take_named(eye: &mut BitEye, recent: &Bits, predictable: &mut Bits) -> Result
         (parse_named recent.now (bits_left eye.old)) }
 {
     take_inverse_up(eye, recent, predictable)?;
-    take_bit(eye)
+    eye.take_bit()
 }

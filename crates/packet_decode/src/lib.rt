@@ -1,7 +1,6 @@
 //! Reading the data of packets of compressed housekeeping (CCSDS 124.0-B-1).
 #![tactic(auto)]
 
-mod bit;
 mod change;
 mod content;
 mod data;

@@ -9,7 +9,6 @@ ghost use Rattle.packet_decode.specs.Parts.{outcome_of};
 
 use crate::draft::DataKind;
 use bit_vectors::{BitEye, BitFault};
-use count_code::match_number;
 
 /// Takes the zeros, fewer than eight, up to a whole byte.
 #[tactic(auto, unfolding(crate::specs::PacketReading::parse_padding), using(crate::proofs::PaddingBits::zeros_are))]
@@ -21,7 +20,7 @@ pub fn take_padding(eye: &mut BitEye, kind: DataKind) -> Result<(), BitFault>
 {
     let place = eye.at();
     match kind {
-        DataKind::Spelled => match_number(eye, 0, (8 - place % 8) % 8),
+        DataKind::Spelled => eye.match_number(0, (8 - place % 8) % 8),
         DataKind::Opaque => Ok(()),
     }
 }

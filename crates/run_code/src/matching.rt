@@ -6,7 +6,7 @@ ghost use Rattle.bit_vectors.specs.Reading.{MovesOn, Gives, IsFirstFault, parse_
 ghost use Rattle.run_code.specs.Runs.{run_bits};
 
 use bit_vectors::{BitEye, BitFault, Bits};
-use count_code::{match_count, match_number};
+use count_code::match_count;
 
 /// Takes the run word of `v`. The first bit that differs from it is wrong, and the bits end early where they
 /// are the front of it.
@@ -30,5 +30,5 @@ fn match_words(eye: &mut BitEye, v: &Bits) -> Result<(), BitFault>
         match_count(eye, below - place)?;
         below = place;
     }
-    match_number(eye, 0b10, 2)
+    eye.match_number(0b10, 2)
 }

@@ -16,7 +16,7 @@ returns-in_err-bit-clause-reading c =
     let zero_is = zero_fits_is c.args.most c.loop-weight.number c.loop-weight.weight c.loop-weight-test.true i.fits c.requires.most in
     let one_is = one_fits_is c.args.most c.loop-weight.number c.loop-weight.weight c.loop-weight-test.true i.short i.fits c.requires.most in
     let given = rw (zero_is, one_is) at c.in_err-bit.ensures.reading in
-    rw (p.1, p.2) (number_fault c.args.eye.now c.loop-weight.eye c.take_allowed.new.eye c.args.most c.args.so_far c.args.width c.loop-weight.number c.loop-weight.weight c.in_err-bit.field-0.0 c.loop-weight-test.true i given)
+    rw (p.1, p.2) (number_fault c.args.eye.now c.loop-weight.eye c.take_allowed.new.self c.args.most c.args.so_far c.args.width c.loop-weight.number c.loop-weight.weight c.in_err-bit.field-0.0 c.loop-weight-test.true i given)
 
 pub loop-weight-preserved : goal.loop-weight-preserved
 loop-weight-preserved c =
@@ -25,7 +25,7 @@ loop-weight-preserved c =
     let one_is = one_fits_is c.args.most c.loop-weight.number c.loop-weight.weight c.loop-weight-test.true i.short i.fits c.requires.most in
     let right = rw (zero_is, one_is) at c.in_ok-bit.ensures.right in
     let read = rw (zero_is, one_is) at c.in_ok-bit.ensures.reading in
-    number_more c.args.eye.now c.loop-weight.eye c.take_allowed.new.eye c.args.most c.args.so_far c.args.width c.loop-weight.number c.loop-weight.weight c.in_ok-bit.bit c.from.result c.loop-weight-test.true i c.in_ok-bit.ensures.moves right read (c.from.ensures ∙ bool_byte_is c.in_ok-bit.bit)
+    number_more c.args.eye.now c.loop-weight.eye c.take_allowed.new.self c.args.most c.args.so_far c.args.width c.loop-weight.number c.loop-weight.weight c.in_ok-bit.bit c.from.result c.loop-weight-test.true i c.in_ok-bit.ensures.moves right read (c.from.ensures ∙ bool_byte_is c.in_ok-bit.bit)
 
 pub returns-clause-reading : goal.returns-clause-reading
 unfolding parse_bounded

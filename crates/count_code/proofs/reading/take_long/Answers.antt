@@ -7,17 +7,17 @@ returns-in_err-take_allowed-clause-reading c =
     let i = c.loop-digits.invariant in
     let p = err_from_is_err_and c.from_residual.result c.from_residual.ensures.1 in
     let given = rw (power_fits_is c.args.most c.loop-digits.digits i.short) at c.in_err-take_allowed.ensures.reading in
-    rw (p.1, p.2) (long_fault c.args.eye.now c.loop-digits.eye c.take_allowed.new.eye c.args.most c.loop-digits.digits c.in_err-take_allowed.field-0.0 c.requires.least i given)
+    rw (p.1, p.2) (long_fault c.args.eye.now c.loop-digits.eye c.take_allowed.new.self c.args.most c.loop-digits.digits c.in_err-take_allowed.field-0.0 c.requires.least i given)
 
 pub loop-digits-preserved : goal.loop-digits-preserved
 loop-digits-preserved c =
     let i = c.loop-digits.invariant in
     let right = rw (power_fits_is c.args.most c.loop-digits.digits i.short, c.if-not-branch.true) at c.in_ok-take_allowed.ensures.right in
     let read = rw (power_fits_is c.args.most c.loop-digits.digits i.short, c.if-not-branch.true) at c.in_ok-take_allowed.ensures.reading in
-    long_more c.args.eye.now c.loop-digits.eye c.take_allowed.new.eye c.args.most c.loop-digits.digits c.requires.least c.requires.most i c.in_ok-take_allowed.ensures.moves right read
+    long_more c.args.eye.now c.loop-digits.eye c.take_allowed.new.self c.args.most c.loop-digits.digits c.requires.least c.requires.most i c.in_ok-take_allowed.ensures.moves right read
 
 pub returns-clause-reading : goal.returns-clause-reading
 returns-clause-reading c =
     let i = c.loop-digits.invariant in
     let read = rw (power_fits_is c.args.most c.loop-digits.digits i.short, c.if-not-branch.false) at c.in_ok-take_allowed.ensures.reading in
-    long_end c.args.eye.now c.loop-digits.eye c.take_allowed.new.eye c.take_bounded.new.eye c.args.most c.loop-digits.digits c.take_bounded.result c.requires.least i read c.take_bounded.ensures.reading
+    long_end c.args.eye.now c.loop-digits.eye c.take_allowed.new.self c.take_bounded.new.eye c.args.most c.loop-digits.digits c.take_bounded.result c.requires.least i read c.take_bounded.ensures.reading

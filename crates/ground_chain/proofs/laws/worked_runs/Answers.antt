@@ -1,8 +1,8 @@
 use Rattle.std.proofs.Common.{refl}
 use Rattle.bit_vectors.specs.Vectors.{number_bits, bits_number}
-use Rattle.bit_vectors.specs.Reading.{parse_front, parse_word}
+use Rattle.bit_vectors.specs.Reading.{parse_front, parse_word, parse_number}
 use Rattle.count_code.specs.Code.{count_bits}
-use Rattle.count_code.specs.Counts.{parse_number, parse_bounded, parse_long, parse_above_one, parse_after_one, parse_count}
+use Rattle.count_code.specs.Counts.{parse_bounded, parse_long, parse_above_one, parse_after_one, parse_count}
 use Rattle.run_code.specs.Places.{ones_from}
 use Rattle.run_code.specs.Runs.{run_bits, runs_from, parse_ones, parse_vector}
 use Rattle.run_code.specs.Extraction.{parse_filled, parse_inverse}

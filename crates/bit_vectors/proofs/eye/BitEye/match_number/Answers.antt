@@ -1,0 +1,12 @@
+use Rattle.bit_vectors.proofs.SameWord.{matched, matched_only, matched_fault}
+use Rattle.bit_vectors.specs.Vectors.{number_bits}
+use Rattle.bit_vectors.proofs.eye.BitEye.match_number.Goals as goal
+
+pub returns-clause-word : goal.returns-clause-word
+returns-clause-word c = matched (number_bits c.args.width c.args.value) c.args.self.now c.match_bits.new.self c.match_bits.result c.match_bits.ensures.reading
+
+pub returns-clause-only : goal.returns-clause-only
+returns-clause-only c = matched_only (number_bits c.args.width c.args.value) c.args.self.now c.match_bits.new.self c.match_bits.result c.match_bits.ensures.reading
+
+pub returns-clause-fault : goal.returns-clause-fault
+returns-clause-fault c = matched_fault (number_bits c.args.width c.args.value) c.args.self.now c.match_bits.new.self c.match_bits.result c.match_bits.ensures.moves c.match_bits.ensures.reading

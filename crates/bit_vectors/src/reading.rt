@@ -1,0 +1,130 @@
+//! Values read by an eye: bits, numbers and vectors, or the first fault.
+
+ghost use Rattle.std.specs.Prelude.{◌≡◌, ◌-◌, ◌/◌, ◌^◌, ◌<◌, ◌≤◌, ◌↔◌, ◌++◌, Bool, List, length, take, drop, IsOk, IfOk, IsErr, IfErr, OnOk, OnErr, IsTrue};
+ghost use Rattle.bit_vectors.specs.Vectors.{number_bits};
+ghost use Rattle.bit_vectors.specs.Eye.{bits_left};
+ghost use Rattle.bit_vectors.specs.Reading.{MovesOn, Gives, IsFirstFault, any_bit, bit_where, allowed, parse_front, parse_number, parse_word};
+
+use crate::bits::Bits;
+use crate::eye::BitEye;
+use crate::fault::BitFault;
+
+impl<'a> BitEye<'a> {
+    /// Takes the next bit, whatever it is, or the early end.
+    pub fn take_bit(&mut self) -> Result<bool, BitFault>
+        ensures moves { MovesOn self.old self.new }
+        ensures reading { Gives (λ bit. bit) result self.new (any_bit (bits_left self.old)) }
+    {
+        self.take().ok_or(BitFault::EndsEarly { bit: self.size() })
+    }
+
+    /// Takes a bit, which is wrong where it is not allowed.
+    pub fn take_allowed(&mut self, zero: bool, one: bool) -> Result<bool, BitFault>
+        ensures moves { MovesOn self.old self.new }
+        ensures right { IfOk result (λ bit. IsTrue (allowed zero one bit)) }
+        ensures reading { Gives (λ bit. bit) result self.new (bit_where (allowed zero one) (bits_left self.old)) }
+    {
+        let Some(bit) = self.take() else {
+            return Err(BitFault::EndsEarly { bit: self.size() });
+        };
+        if bit && one || !bit && zero {
+            Ok(bit)
+        } else {
+            Err(BitFault::Wrong { bit: self.at() - 1 })
+        }
+    }
+
+    /// Takes a number of `width` bits, at most 64, the greatest weight first. No bit is wrong. Where the bits
+    /// end early, the eye stands at the end.
+    pub fn take_word(&mut self, width: u32) -> Result<u64, BitFault>
+        requires { width ≤ 64 }
+        ensures moves { MovesOn self.old self.new }
+        ensures number { IfOk result (λ n. bits_left self.old ≡ number_bits width n ++ bits_left self.new) }
+        ensures fits { IfOk result (λ n. n < 2 ^ width) }
+        ensures early { IsErr result ↔ (length (bits_left self.old) < width) }
+        ensures fault { IfErr result (λ fault. fault ≡ BitFault.EndsEarly (length self.old.bits)) }
+        ensures at_end { OnErr result (self.new.place ≡ length self.old.bits) }
+        ensures reading { Gives (λ n. n) result self.new (parse_number width (bits_left self.old)) }
+    {
+        let left = self.left();
+        if left < width {
+            self.pass(left);
+            return Err(BitFault::EndsEarly { bit: self.size() });
+        }
+        let word = high_bits(self.ahead(), width);
+        self.pass(width);
+        Ok(word)
+    }
+
+    /// Takes a number of `width` bits, at most 32, the greatest weight first. No bit is wrong. Where the bits
+    /// end early, the eye stands at the end.
+    pub fn take_number(&mut self, width: u32) -> Result<u32, BitFault>
+        requires { width ≤ 32 }
+        ensures moves { MovesOn self.old self.new }
+        ensures number { IfOk result (λ n. bits_left self.old ≡ number_bits width n ++ bits_left self.new) }
+        ensures fits { IfOk result (λ n. n < 2 ^ width) }
+        ensures early { IsErr result ↔ (length (bits_left self.old) < width) }
+        ensures fault { IfErr result (λ fault. fault ≡ BitFault.EndsEarly (length self.old.bits)) }
+        ensures at_end { OnErr result (self.new.place ≡ length self.old.bits) }
+        ensures reading { Gives (λ n. n) result self.new (parse_number width (bits_left self.old)) }
+    {
+        let number = self.take_word(width)?;
+        Ok(number as u32)
+    }
+
+    /// Takes the `width` lowest bits of a number, at most 32, the greatest weight first. The first bit that
+    /// differs from them is wrong, and the bits end early where they are the front of them.
+    pub fn match_number(&mut self, value: u32, width: u32) -> Result<(), BitFault>
+        requires { width ≤ 32 }
+        ensures moves { MovesOn self.old self.new }
+        ensures word { OnOk result (bits_left self.old ≡ number_bits width value ++ bits_left self.new) }
+        ensures only { (rest : List Bool) → bits_left self.old ≡ number_bits width value ++ rest → IsOk result }
+        ensures fault { IfErr result (λ fault. IsFirstFault (λ word. word ≡ number_bits width value) self.old self.new fault) }
+        ensures reading { Gives (λ _. tt) result self.new (parse_word (number_bits width value) (bits_left self.old)) }
+    {
+        self.match_bits(value, width)
+    }
+
+    /// Takes as many bits as `into` has places, from place 0 up. No bit is wrong. Where the bits end early,
+    /// those that were left are the first of `into`, its other places stay, and the eye stands at the end.
+    pub fn take_bits(&mut self, into: &mut Bits) -> Result<(), BitFault>
+        ensures places { length into.new ≡ length into.old }
+        ensures bits { let left = bits_left self.old in
+            into.new ≡ take (length into.old) left ++ drop (length left) into.old }
+        ensures moves { MovesOn self.old self.new }
+        ensures taken { OnOk result (bits_left self.old ≡ into.new ++ bits_left self.new) }
+        ensures early { IsErr result ↔ (length (bits_left self.old) < length into.old) }
+        ensures fault { IfErr result (λ fault. fault ≡ BitFault.EndsEarly (length self.old.bits)) }
+        ensures at_end { OnErr result (self.new.place ≡ length self.old.bits) }
+        ensures reading { Gives (λ _. into.new) result self.new (parse_front (length into.old) (bits_left self.old)) }
+    {
+        for place in 0..into.len() {
+            let Some(bit) = self.take() else {
+                return Err(BitFault::EndsEarly { bit: self.size() });
+            };
+            into.set(place, bit);
+        }
+        Ok(())
+    }
+
+    /// Takes the bits of a number.
+    fn match_bits(&mut self, value: u32, width: u32) -> Result<(), BitFault>
+        requires { width ≤ 32 }
+        ensures moves { MovesOn self.old self.new }
+        ensures reading { Gives (λ _. tt) result self.new (parse_word (number_bits width value) (bits_left self.old)) }
+    {
+        for weight in (0..width).rev() {
+            let bit = (value >> weight) & 1 == 1;
+            self.take_allowed(!bit, bit)?;
+        }
+        Ok(())
+    }
+}
+
+/// The number of the first `width` bits of a word.
+fn high_bits(word: u64, width: u32) -> u64
+    requires { width ≤ 64 }
+    ensures { result ≡ word / 2 ^ (64 - width) }
+{
+    if width == 0 { 0 } else { word >> (64 - width) }
+}
