@@ -1,6 +1,7 @@
 //! Values read by an eye: bits, numbers and vectors, or the first fault.
 
 ghost use Rattle.std.specs.Prelude.{◌≡◌, ◌-◌, ◌/◌, ◌^◌, ◌<◌, ◌≤◌, ◌↔◌, ◌++◌, Bool, List, length, take, drop, IsOk, IfOk, IsErr, IfErr, OnOk, OnErr, IsTrue};
+ghost use Rattle.std.specs.Bool.{OnTrue};
 ghost use Rattle.bit_vectors.specs.Vectors.{number_bits};
 ghost use Rattle.bit_vectors.specs.Eye.{bits_left};
 ghost use Rattle.bit_vectors.specs.Reading.{MovesOn, Gives, IsFirstFault, any_bit, bit_where, allowed, parse_front, parse_number, parse_word};
@@ -82,7 +83,16 @@ impl<'a> BitEye<'a> {
         ensures fault { IfErr result (λ fault. IsFirstFault (λ word. word ≡ number_bits width value) self.old self.new fault) }
         ensures reading { Gives (λ _. tt) result self.new (parse_word (number_bits width value) (bits_left self.old)) }
     {
-        self.match_bits(value, width)
+        self.match_ahead(value, width)
+    }
+
+    /// Whether the next bits are the `width` lowest of a number, at most 32, the greatest weight first.
+    pub fn comes_next(&self, value: u32, width: u32) -> bool
+        requires { width ≤ 32 }
+        ensures next { IsTrue result ↔ (take width (bits_left self.now) ≡ number_bits width value) }
+        ensures enough { OnTrue result (width ≤ length (bits_left self.now)) }
+    {
+        width <= self.left() && high_bits(self.ahead(), width) == u64::from(value) % (1 << width)
     }
 
     /// Takes as many bits as `into` has places, from place 0 up. No bit is wrong. Where the bits end early,
@@ -107,7 +117,20 @@ impl<'a> BitEye<'a> {
         Ok(())
     }
 
-    /// Takes the bits of a number.
+    /// Takes the bits of a number: at once where they come next, else bit by bit.
+    fn match_ahead(&mut self, value: u32, width: u32) -> Result<(), BitFault>
+        requires { width ≤ 32 }
+        ensures moves { MovesOn self.old self.new }
+        ensures reading { Gives (λ _. tt) result self.new (parse_word (number_bits width value) (bits_left self.old)) }
+    {
+        if self.comes_next(value, width) {
+            self.pass(width);
+            return Ok(());
+        }
+        self.match_bits(value, width)
+    }
+
+    /// Takes the bits of a number one by one, to name the first that differs.
     fn match_bits(&mut self, value: u32, width: u32) -> Result<(), BitFault>
         requires { width ≤ 32 }
         ensures moves { MovesOn self.old self.new }
