@@ -1,4 +1,4 @@
--- The bits of a word, and those of its bytes.
+-- A word that shows the bits ahead.
 use Rattle.std.proofs.Common.{◌≡◌, ℕ, zero, suc, ◌+◌, ◌-◌, ◌*◌, ◌/◌, ◌%◌, ◌^◌, ◌<◌, ◌≤◌, Bool, false, eqb, List, [], ◌∷◌, ◌++◌, length, get_or, take, drop, replicate, refl, sym, ap, ◌∙◌, arith, inl, inr}
 use Rattle.std.specs.Int.{bit_at, byte_at, bytes_high_first, to_be_bytes, from_be_bytes}
 use Rattle.std.proofs.Common.{w64}
@@ -11,75 +11,11 @@ use Rattle.bit_vectors.specs.Vectors.{number_bits, bits_of, AreBytes}
 use Rattle.bit_vectors.specs.Eye.{Shows}
 use Rattle.bit_vectors.proofs.NumberBits.{length-number_bits, get_or-number_bits}
 use Rattle.bit_vectors.proofs.Numbers.{number_bits-split, number_bits-cat, number_bits-mod, bit_at_shr}
+use Rattle.bit_vectors.proofs.WordBytes.{get_or-bits_of_all}
 use Rattle.bit_vectors.proofs.ByteBits.{length-bits_of, get_or-bits_of}
-
-byte_power : (k : ℕ) → 256 ^ k ≡ 2 ^ (8 * k)
-byte_power zero = refl
-byte_power (suc k) =
-    let next : 8 * suc k ≡ 8 * k + 8 = omega arith in
-    let one_more : 256 ^ suc k ≡ 256 * 256 ^ k = pow-succ' 256 k in
-    let eight : 2 ^ (8 * k + 8) ≡ 2 ^ (8 * k) * 2 ^ 8 = pow-add 2 (8 * k) 8 in
-    rw next (omega (arith, byte_power k))
-
-bits_of-byte_at : (k n : ℕ) → number_bits 8 (byte_at k n) ≡ number_bits 8 (n / 2 ^ (8 * k))
-bits_of-byte_at zero n =
-    let whole : n / 2 ^ (8 * 0) ≡ n = omega arith in
-    let power : 256 ≡ 2 ^ 8 = refl in
-    number_bits-mod 8 8 n (omega arith) ∙ ap (number_bits 8) (sym whole)
-bits_of-byte_at (suc k) n = rw (byte_power (suc k)) (number_bits-mod 8 8 (n / 2 ^ (8 * suc k)) (omega arith))
-
-no_bits : (n : ℕ) → [] ≡ number_bits 0 n
-unfolding number_bits
-no_bits n = refl
-
-bits_of-bytes_high_first : (k n : ℕ) → bits_of (bytes_high_first k n) ≡ number_bits (8 * k) n
-bits_of-bytes_high_first zero n = no_bits n
-bits_of-bytes_high_first (suc k) n =
-    let next : 8 * suc k ≡ 8 + 8 * k = omega arith in
-    rw (next, number_bits-split 8 (8 * k) n, bits_of-byte_at k n, bits_of-bytes_high_first k n) refl
-
-pub bits_of-to_be_bytes : (n : ℕ) → bits_of (to_be_bytes w64 n) ≡ number_bits 64 n
-bits_of-to_be_bytes n = bits_of-bytes_high_first 8 n
 
 pub Shows-is : (bits : List Bool) (word : ℕ) → ((k : ℕ) → k < 64 → get_or (number_bits 64 word) k false ≡ get_or bits k false) → Shows bits word
 Shows-is bits word same = λ k lt. sym (get_or-number_bits 64 word k lt) ∙ same k lt
-
--- the bit with a number, past the end too
-pub get_or-bits_of_all : (bytes : List ℕ) (i : ℕ) → get_or (bits_of bytes) i false ≡ eqb (bit_at (get_or bytes (i / 8) 0) (7 - i % 8)) 1
-get_or-bits_of_all bytes i =
-    elim (cases_lt i (8 * length bytes)) [
-      | inl lt ↦ get_or-bits_of bytes i lt
-      | inr le ↦
-          let none : get_or bytes (i / 8) 0 ≡ 0 = get_or_past bytes (i / 8) 0 (omega arith) in
-          get_or_past (bits_of bytes) i false (omega (arith, length-bits_of bytes)) ∙ rw (none, bit_at-zero (7 - i % 8)) refl
-    ]
-
--- the word of eight bytes shows them, and zeros where they are zeros past an end
-pub Shows-bytes : (bytes front : List ℕ) (word : ℕ) → length front ≡ 8 → AreBytes front → word ≡ from_be_bytes w64 front
-    → ((i : ℕ) → i < 8 → get_or front i 0 ≡ get_or bytes i 0) → Shows (bits_of bytes) word
-Shows-bytes bytes front word len below is same =
-    let bits : number_bits 64 word ≡ bits_of front = sym (bits_of-to_be_bytes word) ∙ ap (λ (b : List ℕ). bits_of b) (be_bytes_8 front word len below is) in
-    Shows-is (bits_of bytes) word (λ k lt. rw (bits, get_or-bits_of_all front k, same (k / 8) (omega arith)) (sym (get_or-bits_of_all bytes k)))
-
-get_or-zeros : (n i : ℕ) → get_or {A = ℕ} (replicate n 0) i 0 ≡ 0
-get_or-zeros zero i = refl
-get_or-zeros (suc n) zero = refl
-get_or-zeros (suc n) (suc i) = get_or-zeros n i
-
--- zeros after bytes
-pub get_or-then_zeros : (bytes : List ℕ) (n i : ℕ) → get_or (bytes ++ replicate n 0) i 0 ≡ get_or bytes i 0
-get_or-then_zeros [] n i = get_or-zeros n i
-get_or-then_zeros (b ∷ bytes) n zero = refl
-get_or-then_zeros (b ∷ bytes) n (suc i) = get_or-then_zeros bytes n i
-
-drop-eight : (n : ℕ) → n ≤ 8 → drop n (replicate {A = ℕ} 8 0) ≡ replicate (8 - n) 0
-drop-eight n le = drop-replicate n 8 0
-
-pub Shows-short : (bytes front : List ℕ) (word : ℕ) → length bytes < 8 → AreBytes bytes → front ≡ bytes ++ drop (length bytes) (replicate {A = ℕ} 8 0) → word ≡ from_be_bytes w64 front → Shows (bits_of bytes) word
-Shows-short bytes front word lt below front-is is =
-    let whole : front ≡ bytes ++ replicate (8 - length bytes) 0 = front-is ∙ rw (drop-eight (length bytes) (omega arith)) refl in
-    Shows-bytes bytes front word (rw whole (omega (arith, length-append bytes (replicate (8 - length bytes) 0), length-replicate {A = ℕ} (8 - length bytes) 0)))
-    (λ i. rw (whole, get_or-then_zeros bytes (8 - length bytes) i) (below i)) is (λ i i_lt. rw whole (get_or-then_zeros bytes (8 - length bytes) i))
 
 -- ---- a word, and the first bits of the byte after it
 

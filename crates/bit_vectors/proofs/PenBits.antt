@@ -13,7 +13,8 @@ use Rattle.bit_vectors.specs.Pen.{written_bits, pen_bytes, HasRoom}
 use Rattle.bit_vectors.proofs.NumberBits.{length-number_bits}
 use Rattle.bit_vectors.proofs.Numbers.{number_bits-cat, number_bits-split, number_bits-mod, high_bits}
 use Rattle.bit_vectors.proofs.ByteBits.{length-bits_of, bits_of-take, vector_bytes_is}
-use Rattle.bit_vectors.proofs.FrontWord.{bits_of-to_be_bytes, shl_word}
+use Rattle.bit_vectors.proofs.FrontWord.{shl_word}
+use Rattle.bit_vectors.proofs.WordBytes.{bits_of-to_be_bytes}
 
 pub no_bits : (n : ℕ) → number_bits 0 n ≡ []
 unfolding number_bits
@@ -205,13 +206,6 @@ module _ (bytes new : List ℕ) (capacity words word held room value width : ℕ
       rw whole (append_assoc (bits_of (take (8 * words) bytes)) (number_bits 64 (full_word word value held width)) _ ∙ rw (both_bits word value held width h.short full most h.small h.clean fits) (sym (append_assoc (bits_of (take (8 * words) bytes)) (number_bits held (word / 2 ^ (64 - held))) (number_bits width value))))
 
 -- ---- the bytes of the bits
-
-pub AreBytes-take : (n : ℕ) (bytes : List ℕ) → AreBytes bytes → AreBytes (take n bytes)
-AreBytes-take n bytes below i =
-    elim (cases_lt i n) [
-      | inl lt ↦ rw (get_or-take n bytes i 0 lt) (below i)
-      | inr le ↦ rw (get_or_past (take n bytes) i 0 (omega (arith, length-take n bytes))) (omega arith)
-    ]
 
 -- some of the bytes of the words and of the one after them
 front_bits : (bytes : List ℕ) (words word held count : ℕ) → held < 64 → word % 2 ^ (64 - held) ≡ 0 → 8 * words ≤ length bytes → HasWord bytes bytes words word → count ≤ 8 * words + 8 → 64 * words + held ≤ 8 * count

@@ -5,11 +5,11 @@ mod bits;
 mod eye;
 mod fault;
 mod flags;
-mod front;
 mod laws;
-mod packing;
 mod pen;
 mod reading;
+mod word_bytes;
+mod words;
 
 pub use bits::{Bits, byte_len};
 pub use eye::BitEye;
