@@ -6,9 +6,11 @@ use Rattle.std.proofs.lemmas.Bool.{cases_lt}
 use Rattle.std.proofs.lemmas.List.{get_or-take, get_or-drop, get_or_append_left, get_or-append-add, get_or_past, length-append, length-drop, length-replicate, take_all, drop-replicate, length-take-le, ext_get_or}
 use Rattle.std.proofs.lemmas.Nat.{be_bytes_8, pow-add, mod-pow-add, shl-shr, shr_below, mod_below, pow_pos}
 use Rattle.std.proofs.lemmas.Nat.Bits.{bit_at-zero}
+use Rattle.std.proofs.Math.Seq.{take-add}
 use Rattle.std.proofs.Math.Nat.{pow-succ', mul-mod_left, mul-le-mul_right}
 use Rattle.bit_vectors.specs.Vectors.{number_bits, bits_of, AreBytes}
 use Rattle.bit_vectors.specs.Eye.{Shows}
+use Rattle.bit_vectors.specs.Words.{IsWord}
 use Rattle.bit_vectors.proofs.NumberBits.{length-number_bits, get_or-number_bits}
 use Rattle.bit_vectors.proofs.Numbers.{number_bits-split, number_bits-cat, number_bits-mod, bit_at_shr}
 use Rattle.bit_vectors.proofs.WordBytes.{get_or-bits_of_all}
@@ -31,8 +33,8 @@ number_bits-then word byte s lt below =
     ap (λ (w : ℕ). number_bits w (word * 2 ^ s % 2 ^ 64 + byte)) (sym all)
     ∙ rw (shl_word word s (omega arith), number_bits-cat (64 - s) s (word % 2 ^ (64 - s)) byte below, number_bits-mod (64 - s) (64 - s) word (omega arith)) refl
 
-high_below : (byte s : ℕ) → s < 8 → byte < 256 → byte / 2 ^ (8 - s) < 2 ^ s
-high_below byte s lt below =
+byte_below : (byte s : ℕ) → s < 8 → byte < 256 → byte / 2 ^ (8 - s) < 2 ^ s
+byte_below byte s lt below =
     let all : s + (8 - s) ≡ 8 = omega arith in
     let power : 2 ^ (s + (8 - s)) ≡ 256 = ap (λ (k : ℕ). 2 ^ k) all in
     shr_below byte s (8 - s) (rw power below)
@@ -43,12 +45,12 @@ after_fits word byte s lt below =
     let power : 2 ^ (64 - s + s) ≡ 2 ^ 64 = ap (λ (k : ℕ). 2 ^ k) all in
     let product = pow-add 2 (64 - s) s in
     let high : word % 2 ^ (64 - s) + 1 ≤ 2 ^ (64 - s) = omega (arith, mod_below word (2 ^ (64 - s)) (pow_pos (64 - s))) in
-    rw (shl_word word s (omega arith), ← power, product) (omega (arith, high_below byte s lt below, mul-le-mul_right (2 ^ s) high))
+    rw (shl_word word s (omega arith), ← power, product) (omega (arith, byte_below byte s lt below, mul-le-mul_right (2 ^ s) high))
 
 pub Shows-after : (bytes : List ℕ) (word byte s : ℕ) → s < 8 → byte < 256 → byte ≡ get_or bytes 8 0 → Shows (bits_of bytes) word → Shows (drop s (bits_of bytes)) (word * 2 ^ s % 2 ^ 64 + byte / 2 ^ (8 - s))
 Shows-after bytes word byte s lt below is shows =
     Shows-is (drop s (bits_of bytes)) (word * 2 ^ s % 2 ^ 64 + byte / 2 ^ (8 - s)) (λ k k_lt.
-    rw (number_bits-then word (byte / 2 ^ (8 - s)) s lt (high_below byte s lt below), get_or-drop s (bits_of bytes) k false) (elim (cases_lt k (64 - s)) [
+    rw (number_bits-then word (byte / 2 ^ (8 - s)) s lt (byte_below byte s lt below), get_or-drop s (bits_of bytes) k false) (elim (cases_lt k (64 - s)) [
       | inl low ↦
           let weight : 64 - s - 1 - k ≡ 63 - (s + k) = omega arith in
           get_or_append_left (number_bits (64 - s) word) (number_bits s (byte / 2 ^ (8 - s))) false k (omega (arith, length-number_bits (64 - s) word))
@@ -82,3 +84,13 @@ shown_front bits word width shows most le =
     let below : k < width = omega (arith, length-number_bits width (word / 2 ^ (64 - width))) in
     let weight : 64 - width + (width - 1 - k) ≡ 63 - k = omega arith in
     get_or-number_bits width (word / 2 ^ (64 - width)) k below ∙ rw (bit_at_shr word (64 - width) (width - 1 - k), weight) (shows k (omega arith) ∙ sym (get_or-take width bits k false below)))
+
+-- the first bits of a vector's word, after the words before it
+pub word_part : (v : List Bool) (index word width : ℕ) → IsWord v index word → width ≤ 64 → 64 * index + width ≤ length v → take (64 * index) v ++ number_bits width (word / 2 ^ (64 - width)) ≡ take (64 * index + width) v
+word_part v index word width is most within =
+    let shows : Shows (drop (64 * index) v) word = λ k lt. is k lt ∙ sym (get_or-drop (64 * index) v k false) in
+    rw (shown_front (drop (64 * index) v) word width shows most (omega (arith, length-drop (64 * index) v))) (sym (take-add (64 * index) width v))
+
+-- the number of so many first bits of a word
+pub high_below : (word width : ℕ) → word < 2 ^ 64 → width ≤ 64 → word / 2 ^ (64 - width) < 2 ^ width
+high_below word width small most = let all : width + (64 - width) ≡ 64 = omega arith in shr_below word width (64 - width) (rw all small)

@@ -1,6 +1,6 @@
 //! Reading bytes bit by bit.
 
-ghost use Rattle.std.specs.Prelude.{◌≡◌, ◌+◌, ◌<◌, ◌≤◌, ◌↔◌, [], ◌∷◌, length, drop, IsNone, IfSome, OnSome, IfNone};
+ghost use Rattle.std.specs.Prelude.{◌≡◌, ◌+◌, ◌*◌, ◌<◌, ◌≤◌, ◌↔◌, [], ◌∷◌, length, drop, slice_index_or, false, IsNone, IfSome, OnSome, IfNone};
 ghost use Rattle.bit_vectors.specs.Vectors.{bits_of};
 ghost use Rattle.bit_vectors.specs.Eye.{EyeState, bits_left, Shows};
 
