@@ -1,25 +1,29 @@
 -- A word that shows the bits ahead.
-use Rattle.std.proofs.Common.{◌≡◌, ℕ, zero, suc, ◌+◌, ◌-◌, ◌*◌, ◌/◌, ◌%◌, ◌^◌, ◌<◌, ◌≤◌, Bool, false, eqb, List, [], ◌∷◌, ◌++◌, length, get_or, take, drop, replicate, refl, sym, ap, ◌∙◌, arith, inl, inr}
-use Rattle.std.specs.Int.{bit_at, byte_at, bytes_high_first, to_be_bytes, from_be_bytes}
-use Rattle.std.proofs.Common.{w64}
-use Rattle.std.proofs.lemmas.Bool.{cases_lt}
-use Rattle.std.proofs.lemmas.List.{get_or-take, get_or-drop, get_or_append_left, get_or-append-add, get_or_past, length-append, length-drop, length-replicate, take_all, drop-replicate, length-take-le, ext_get_or}
-use Rattle.std.proofs.lemmas.Nat.{be_bytes_8, pow-add, mod-pow-add, shl-shr, shr_below, mod_below, pow_pos}
-use Rattle.std.proofs.lemmas.Nat.Bits.{bit_at-zero}
+use Rattle.std.proofs.Common.{◌≡◌, ◌≢◌, ℕ, ◌+◌, ◌-◌, ◌*◌, ◌/◌, ◌%◌, ◌^◌, ◌<◌, ◌≤◌, Bool, false, List, ◌++◌, length, get_or, take, drop, refl, sym, ap, ◌∙◌, arith, inl, inr}
+use Rattle.std.specs.Int.{bit_at}
+use Rattle.std.proofs.lemmas.Bool.{cases_lt, cases_eq}
+use Rattle.std.proofs.lemmas.List.{get_or-take, get_or-drop, get_or_append_left, get_or-append-add, length-drop, take_all, length-take-le, ext_get_or}
+use Rattle.std.proofs.lemmas.Nat.{pow-add, mod-pow-add, shl-shr, shr_below, shl_whole, one_shl, mod_below, pow_pos}
+use Rattle.std.proofs.lemmas.Nat.Bits.{bit_at_cat_low, bit_at_cat_high}
 use Rattle.std.proofs.Math.Seq.{take-add}
-use Rattle.std.proofs.Math.Nat.{pow-succ', mul-mod_left, mul-le-mul_right}
-use Rattle.bit_vectors.specs.Vectors.{number_bits, bits_of, AreBytes}
+use Rattle.std.proofs.Math.Nat.{mul-mod_left, mul-le-mul_right}
+use Rattle.bit_vectors.specs.Vectors.{number_bits, bits_of}
 use Rattle.bit_vectors.specs.Eye.{Shows}
 use Rattle.bit_vectors.specs.Words.{IsWord}
 use Rattle.bit_vectors.proofs.NumberBits.{length-number_bits, get_or-number_bits}
-use Rattle.bit_vectors.proofs.Numbers.{number_bits-split, number_bits-cat, number_bits-mod, bit_at_shr}
+use Rattle.bit_vectors.proofs.Numbers.{number_bits-cat, number_bits-mod, bit_at_shr, bit_at_mod}
 use Rattle.bit_vectors.proofs.WordBytes.{get_or-bits_of_all}
-use Rattle.bit_vectors.proofs.ByteBits.{length-bits_of, get_or-bits_of}
 
 pub Shows-is : (bits : List Bool) (word : ℕ) → ((k : ℕ) → k < 64 → get_or (number_bits 64 word) k false ≡ get_or bits k false) → Shows bits word
 Shows-is bits word same = λ k lt. sym (get_or-number_bits 64 word k lt) ∙ same k lt
 
 -- ---- a word, and the first bits of the byte after it
+
+-- a number of i bits above one of j bits
+pub cat_below : (i j a b : ℕ) → a < 2 ^ i → b < 2 ^ j → a * 2 ^ j + b < 2 ^ (i + j)
+cat_below i j a b a_lt b_lt =
+    let next : a + 1 ≤ 2 ^ i = omega arith in
+    rw (pow-add 2 i j) (omega (arith, mul-le-mul_right (2 ^ j) next))
 
 pub shl_word : (word s : ℕ) → s ≤ 64 → word * 2 ^ s % 2 ^ 64 ≡ (word % 2 ^ (64 - s)) * 2 ^ s
 shl_word word s le =
@@ -94,3 +98,54 @@ word_part v index word width is most within =
 -- the number of so many first bits of a word
 pub high_below : (word width : ℕ) → word < 2 ^ 64 → width ≤ 64 → word / 2 ^ (64 - width) < 2 ^ width
 high_below word width small most = let all : width + (64 - width) ≡ 64 = omega arith in shr_below word width (64 - width) (rw all small)
+
+-- ---- the first bits of one word, and the others of another
+
+module _ (word front width : ℕ) (some : 1 ≤ width) (most : width < 64) (below : front < 2 ^ 64) where
+  -- what the code computes
+  abbrev mixed : ℕ
+  mixed = front / 2 ^ (64 - width) * 2 ^ (64 - width) % 2 ^ 64 + word % (1 * 2 ^ (64 - width) % 2 ^ 64)
+
+  mixed_is : mixed ≡ front / 2 ^ (64 - width) * 2 ^ (64 - width) + word % 2 ^ (64 - width)
+  mixed_is =
+      rw (shl_whole (front / 2 ^ (64 - width)) width (64 - width) 64 (high_below front width below (omega arith)) (omega arith), one_shl (64 - width) 64 (omega arith)) refl
+
+  low_below : word % 2 ^ (64 - width) < 2 ^ (64 - width)
+  low_below = mod_below word (2 ^ (64 - width)) (pow_pos (64 - width))
+
+  pub mixed_below : mixed < 2 ^ 64
+  mixed_below =
+      let all : width + (64 - width) ≡ 64 = omega arith in
+      rw mixed_is (rw all at (cat_below width (64 - width) (front / 2 ^ (64 - width)) (word % 2 ^ (64 - width)) (high_below front width below (omega arith)) low_below))
+
+  pub mixed_front : (k : ℕ) → k < width → bit_at mixed (63 - k) ≡ bit_at front (63 - k)
+  mixed_front k lt =
+      let place : 64 - width + (63 - k - (64 - width)) ≡ 63 - k = omega arith in
+      rw (mixed_is, bit_at_cat_high (front / 2 ^ (64 - width)) (64 - width) (word % 2 ^ (64 - width)) (63 - k) low_below (omega arith), bit_at_shr front (64 - width) (63 - k - (64 - width)), place) refl
+
+  pub mixed_others : (k : ℕ) → width ≤ k → k < 64 → bit_at mixed (63 - k) ≡ bit_at word (63 - k)
+  mixed_others k le lt =
+      rw (mixed_is, bit_at_cat_low (front / 2 ^ (64 - width)) (64 - width) (word % 2 ^ (64 - width)) (63 - k) (omega arith)) (bit_at_mod word (64 - width) (63 - k) (omega arith))
+
+-- a vector whose whole words before one have the front of some bits, after that word was written with so many bits more
+module _ (left v into new : List Bool) (index width word front mixed : ℕ) (lt : width < 64) (done : (k : ℕ) → k < 64 * index → get_or into k false ≡ get_or left k false) (others : (k : ℕ) → 64 * index ≤ k → get_or into k false ≡ get_or v k false)
+    (was : IsWord into index word) (shows : Shows (drop (64 * index) left) front) (first : (k : ℕ) → k < width → bit_at mixed (63 - k) ≡ bit_at front (63 - k)) (last : (k : ℕ) → width ≤ k → k < 64 → bit_at mixed (63 - k) ≡ bit_at word (63 - k))
+    (now : IsWord new index mixed) (same : (k : ℕ) → k / 64 ≢ index → get_or new k false ≡ get_or into k false) where
+  pub places_front : (k : ℕ) → k < 64 * index + width → get_or new k false ≡ get_or left k false
+  places_front k below =
+      elim (cases_eq (k / 64) index) [
+        | inl here ↦
+            let place : 64 * index + k % 64 ≡ k = omega arith in
+            ap (λ (p : ℕ). get_or new p false) (sym place) ∙ sym (now (k % 64) (omega arith)) ∙ rw (first (k % 64) (omega arith)) (shows (k % 64) (omega arith)) ∙ get_or-drop (64 * index) left (k % 64) false ∙ rw place refl
+        | inr other ↦ same k other ∙ done k (omega arith)
+      ]
+
+  pub places_others : (k : ℕ) → 64 * index + width ≤ k → get_or new k false ≡ get_or v k false
+  places_others k above =
+      elim (cases_eq (k / 64) index) [
+        | inl here ↦
+            let place : 64 * index + k % 64 ≡ k = omega arith in
+            let kept : get_or into (64 * index + k % 64) false ≡ get_or v k false = rw place (others k (omega arith)) in
+            ap (λ (p : ℕ). get_or new p false) (sym place) ∙ sym (now (k % 64) (omega arith)) ∙ rw (last (k % 64) (omega arith) (omega arith)) (was (k % 64) (omega arith)) ∙ kept
+        | inr other ↦ same k other ∙ others k (omega arith)
+      ]

@@ -3,17 +3,17 @@ use Rattle.std.proofs.Common.{◌≡◌, ℕ, ◌+◌, ◌-◌, ◌*◌, ◌/◌
 use Rattle.std.specs.Int.{to_be_bytes}
 use mir.Val.{bool_byte}
 use Rattle.std.proofs.lemmas.Bool.{cases_lt}
-use Rattle.std.proofs.lemmas.List.{length-append, length-take, length-take-le, append-nil, take_at, take-take, take-replicate, get_or-take, get_or_past}
+use Rattle.std.proofs.lemmas.List.{length-append, length-take, length-take-le, append-nil, take_at, take-take, take-replicate}
 use Rattle.std.proofs.lemmas.List.Concat.{flat_map-append}
 use Rattle.std.proofs.lemmas.Nat.{pow-add, pow_pos, mod_below, shl-shr, shr_split, shr_below, shl_below, shl_whole, mul-mod_first}
-use Rattle.std.proofs.Math.Nat.{mul-mod_left, mul-le-mul_right}
+use Rattle.std.proofs.Math.Nat.{mul-mod_left}
 use Rattle.std.proofs.Math.Seq.{take-append-add}
 use Rattle.bit_vectors.specs.Vectors.{number_bits, bits_of, AreBytes, byte_count, padded, vector_bytes}
 use Rattle.bit_vectors.specs.Pen.{written_bits, pen_bytes, HasRoom}
 use Rattle.bit_vectors.proofs.NumberBits.{length-number_bits}
 use Rattle.bit_vectors.proofs.Numbers.{number_bits-cat, number_bits-split, number_bits-mod, high_bits}
 use Rattle.bit_vectors.proofs.ByteBits.{length-bits_of, bits_of-take, vector_bytes_is}
-use Rattle.bit_vectors.proofs.FrontWord.{shl_word}
+use Rattle.bit_vectors.proofs.FrontWord.{cat_below, shl_word}
 use Rattle.bit_vectors.proofs.WordBytes.{bits_of-to_be_bytes}
 
 pub no_bits : (n : ℕ) → number_bits 0 n ≡ []
@@ -34,12 +34,6 @@ joined word value held width within clean =
     let power : 2 ^ (64 - held) ≡ 2 ^ width * 2 ^ (64 - (held + width)) = ap (λ (k : ℕ). 2 ^ k) (sym all) ∙ pow-add 2 width (64 - (held + width)) in
     let product : word / 2 ^ (64 - held) * 2 ^ (64 - held) ≡ word / 2 ^ (64 - held) * (2 ^ width * 2 ^ (64 - (held + width))) = ap (λ (p : ℕ). word / 2 ^ (64 - held) * p) power in
     omega (arith, shr_split word (64 - held))
-
--- a number of i bits above one of j bits
-cat_below : (i j a b : ℕ) → a < 2 ^ i → b < 2 ^ j → a * 2 ^ j + b < 2 ^ (i + j)
-cat_below i j a b a_lt b_lt =
-    let next : a + 1 ≤ 2 ^ i = omega arith in
-    rw (pow-add 2 i j) (omega (arith, mul-le-mul_right (2 ^ j) next))
 
 -- the bits that are held, as a number
 low_below : (word held : ℕ) → held ≤ 64 → word < 2 ^ 64 → word / 2 ^ (64 - held) < 2 ^ held

@@ -1,7 +1,8 @@
 //! Values read by an eye: bits, numbers and vectors, or the first fault.
 
-ghost use Rattle.std.specs.Prelude.{◌≡◌, ◌-◌, ◌/◌, ◌^◌, ◌<◌, ◌≤◌, ◌↔◌, ◌++◌, Bool, List, length, take, drop, IsOk, IfOk, IsErr, IfErr, OnOk, OnErr, IsTrue};
+ghost use Rattle.std.specs.Prelude.{◌≡◌, ℕ, ◌+◌, ◌-◌, ◌/◌, ◌^◌, ◌<◌, ◌≤◌, ◌↔◌, ◌++◌, Bool, List, length, take, drop, IsOk, IfOk, IsErr, IfErr, OnOk, OnErr, IsTrue};
 ghost use Rattle.std.specs.Bool.{OnTrue};
+ghost use Rattle.std.specs.Int.{bit_at};
 ghost use Rattle.bit_vectors.specs.Vectors.{number_bits};
 ghost use Rattle.bit_vectors.specs.Eye.{bits_left};
 ghost use Rattle.bit_vectors.specs.Reading.{MovesOn, Gives, IsFirstFault, any_bit, bit_where, allowed, parse_front, parse_number, parse_word};
@@ -108,13 +109,36 @@ impl<'a> BitEye<'a> {
         ensures at_end { OnErr result (self.new.place ≡ length self.old.bits) }
         ensures reading { Gives (λ _. into.new) result self.new (parse_front (length into.old) (bits_left self.old)) }
     {
-        for place in 0..into.len() {
-            let Some(bit) = self.take() else {
-                return Err(BitFault::EndsEarly { bit: self.size() });
-            };
-            into.set(place, bit);
+        let left = self.left();
+        if left < into.len() {
+            self.take_front(into, left);
+            return Err(BitFault::EndsEarly { bit: self.size() });
         }
+        self.take_front(into, into.len());
         Ok(())
+    }
+
+    /// Takes so many bits into the first places of `into`. Its other places stay.
+    fn take_front(&mut self, into: &mut Bits, count: u32)
+        requires left { count ≤ length (bits_left self.old) }
+        requires places { count ≤ length into.old }
+        ensures bits { into.new ≡ take count (bits_left self.old) ++ drop count into.old }
+        ensures places { length into.new ≡ length into.old }
+        ensures left { bits_left self.new ≡ drop count (bits_left self.old) }
+        ensures place { self.new.place ≡ self.old.place + count }
+        ensures same { self.new.bits ≡ self.old.bits }
+    {
+        for index in 0..count / 64 {
+            into.set_word(index, self.ahead());
+            self.pass(64);
+        }
+        let rest = count % 64;
+        if rest == 0 {
+            return;
+        }
+        let word = with_front(into.word(count / 64), self.ahead(), rest);
+        into.set_word(count / 64, word);
+        self.pass(rest);
     }
 
     /// Takes the bits of a number: at once where they come next, else bit by bit.
@@ -150,4 +174,15 @@ fn high_bits(word: u64, width: u32) -> u64
     ensures { result ≡ word / 2 ^ (64 - width) }
 {
     if width == 0 { 0 } else { word >> (64 - width) }
+}
+
+/// The first `width` bits of `front`, and the others of `word`.
+fn with_front(word: u64, front: u64, width: u32) -> u64
+    requires some { 1 ≤ width }
+    requires most { width < 64 }
+    ensures front { (k : ℕ) → k < width → bit_at result (63 - k) ≡ bit_at front (63 - k) }
+    ensures others { (k : ℕ) → width ≤ k → k < 64 → bit_at result (63 - k) ≡ bit_at word (63 - k) }
+{
+    let low = 64 - width;
+    (front >> low << low) + word % (1 << low)
 }
