@@ -13,8 +13,8 @@ use Rattle.bit_vectors.specs.Pen.{written_bits, pen_bytes, HasRoom}
 use Rattle.bit_vectors.proofs.NumberBits.{length-number_bits}
 use Rattle.bit_vectors.proofs.Numbers.{number_bits-cat, number_bits-split, number_bits-mod, high_bits}
 use Rattle.bit_vectors.proofs.ByteBits.{length-bits_of, bits_of-take, vector_bytes_is}
-use Rattle.bit_vectors.proofs.FrontWord.{cat_below, shl_word}
-use Rattle.bit_vectors.proofs.WordBytes.{bits_of-to_be_bytes}
+use Rattle.bit_vectors.proofs.FrontWord.{bits_of-to_be_bytes, shl_word}
+use Rattle.bit_vectors.proofs.WordParts.{cat_below}
 
 pub no_bits : (n : ℕ) → number_bits 0 n ≡ []
 unfolding number_bits

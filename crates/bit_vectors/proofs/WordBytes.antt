@@ -1,102 +1,27 @@
 -- Words and the bytes that hold the same bits.
-use Rattle.std.proofs.Common.{◌≡◌, ℕ, zero, suc, ◌+◌, ◌-◌, ◌*◌, ◌/◌, ◌%◌, ◌^◌, ◌<◌, ◌≤◌, min, Bool, true, false, eqb, List, [], ◌++◌, length, get_or, set, take, drop, replicate, w8, w64, refl, sym, ap, ◌∙◌, arith, inl, inr}
+use Rattle.std.proofs.Common.{◌≡◌, ℕ, zero, suc, ◌+◌, ◌-◌, ◌*◌, ◌/◌, ◌%◌, ◌^◌, ◌<◌, ◌≤◌, min, Bool, true, false, eqb, List, ◌++◌, length, get_or, set, take, drop, w8, w64, refl, sym, ap, ◌∙◌, arith, inl, inr}
 use Rattle.std.specs.Prelude.{Contains, IsTrue, not}
 use borrow.Rule.Slice.PartMut.{put_mid}
-use Rattle.std.specs.Int.{bit_at, trailing_zeros, to_be_bytes, from_be_bytes, bytes_high_first, byte_at}
+use Rattle.std.specs.Int.{bit_at, trailing_zeros, to_be_bytes}
 use Rattle.std.proofs.lemmas.Bool.{cases_lt, cases_eq}
 use Rattle.std.proofs.Math.Dec.{eqb-suc-zero}
-use Rattle.std.proofs.Math.Nat.{pow-succ', pow-le-pow_right}
-use Rattle.std.proofs.lemmas.Nat.{be_bytes_8, pow-add, pow_pos, mod_below, one_shl}
-use Rattle.std.proofs.lemmas.List.{length-take, length-take-le, length-drop, take_rest, get_or-set_same, get_or-set_other, length-append, length-replicate, get_or-drop, get_or-take, get_or_past, get_or_append_left, get_or-append_right, get_or-replicate}
+use Rattle.std.proofs.Math.Nat.{pow-le-pow_right}
+use Rattle.std.proofs.lemmas.Nat.{pow_pos, mod_below, one_shl}
+use Rattle.std.proofs.lemmas.List.{length-take, length-take-le, length-drop, take_rest, get_or-set_same, get_or-set_other, length-append, get_or-drop, get_or-take, get_or_past, get_or_append_left, get_or-append_right}
 use Rattle.std.proofs.lemmas.Nat.Bits.{bit_at-zero, bit_at_above, bit_at-trailing_zeros}
-use Rattle.bit_vectors.specs.Vectors.{number_bits, bits_of, AreBytes, byte_count}
+use Rattle.bit_vectors.specs.Vectors.{bits_of, byte_count}
+use Rattle.bit_vectors.specs.Eye.{Shows}
 use Rattle.bit_vectors.specs.Words.{bit_of, IsWord}
 use Rattle.bit_vectors.proofs.NumberBits.{get_or-number_bits}
-use Rattle.bit_vectors.proofs.Numbers.{bit_at_mod, number_bits-split, number_bits-mod}
-use Rattle.bit_vectors.proofs.ByteBits.{bits_of-take, length-bits_of, get_or-bits_of, one_from, none_from}
+use Rattle.bit_vectors.proofs.Numbers.{bit_at_mod}
+use Rattle.bit_vectors.proofs.ByteBits.{length-bits_of, one_from, none_from}
+use Rattle.bit_vectors.proofs.FrontWord.{bits_of-to_be_bytes, get_or-bits_of_all}
 use Rattle.bit_vectors.proofs.WordBits.{bit_of-past}
-
-pow_of_bytes : (m : ℕ) → 256 ^ m ≡ 2 ^ (8 * m)
-pow_of_bytes zero = refl
-pow_of_bytes (suc m) =
-    let next : 8 * suc m ≡ 8 + 8 * m = omega arith in
-    pow-succ' 256 m ∙ rw (pow_of_bytes m, next, pow-add 2 8 (8 * m)) refl
-
-byte_is : (m n : ℕ) → byte_at m n ≡ n / 2 ^ (8 * m) % 2 ^ 8
-byte_is zero n = omega arith
-byte_is (suc m) n = rw (pow_of_bytes (suc m)) refl
-
--- each bit of bytes, and zeros past their end
-pub get_or-bits_of_all : (bytes : List ℕ) (k : ℕ) → get_or (bits_of bytes) k false ≡ eqb (bit_at (get_or bytes (k / 8) 0) (7 - k % 8)) 1
-get_or-bits_of_all bytes k =
-    elim (cases_lt k (8 * length bytes)) [
-      | inl lt ↦ get_or-bits_of bytes k lt
-      | inr le ↦
-          let none : get_or bytes (k / 8) 0 ≡ 0 = get_or_past bytes (k / 8) 0 (omega arith) in
-          get_or_past (bits_of bytes) k false (omega (arith, length-bits_of bytes)) ∙ rw (none, bit_at-zero (7 - k % 8)) refl
-    ]
-
-no_bits : (n : ℕ) → [] ≡ number_bits 0 n
-unfolding number_bits
-no_bits n = refl
-
-bits_of-bytes_high_first : (m n : ℕ) → bits_of (bytes_high_first m n) ≡ number_bits (8 * m) n
-bits_of-bytes_high_first zero n = no_bits n
-bits_of-bytes_high_first (suc m) n =
-    let next : 8 * suc m ≡ 8 + 8 * m = omega arith in
-    let first : number_bits 8 (byte_at m n) ≡ number_bits 8 (n / 2 ^ (8 * m)) = ap (number_bits 8) (byte_is m n) ∙ number_bits-mod 8 8 (n / 2 ^ (8 * m)) (omega arith) in
-    rw (first, bits_of-bytes_high_first m n) (sym (number_bits-split 8 (8 * m) n) ∙ ap (λ (w : ℕ). number_bits w n) (sym next))
-
-pub bits_of-to_be_bytes : (n : ℕ) → bits_of (to_be_bytes w64 n) ≡ number_bits 64 n
-bits_of-to_be_bytes n = bits_of-bytes_high_first 8 n
-
--- the word of eight bytes has their bits
-pub bits_of-eight : (bytes : List ℕ) (n : ℕ) → length bytes ≡ 8 → AreBytes bytes → n ≡ from_be_bytes w64 bytes → bits_of bytes ≡ number_bits 64 n
-bits_of-eight bytes n len below n_is = ap (λ (bs : List ℕ). bits_of bs) (sym (be_bytes_8 bytes n len below n_is)) ∙ bits_of-to_be_bytes n
-
--- the 64 bits of the number are the first of the bits, with zeros past their end
-abbrev pub IsFront : List Bool → ℕ → Type 0
-IsFront bits n = (k : ℕ) → k < 64 → eqb (bit_at n (63 - k)) 1 ≡ get_or bits k false
-
-IsFront-eight : (bytes : List ℕ) (n : ℕ) → length bytes ≡ 8 → AreBytes bytes → n ≡ from_be_bytes w64 bytes → IsFront (bits_of bytes) n
-IsFront-eight bytes n len below n_is k lt =
-    let place : 64 - 1 - k ≡ 63 - k = omega arith in
-    sym (ap (λ (bits : List Bool). get_or bits k false) (bits_of-eight bytes n len below n_is) ∙ get_or-number_bits 64 n k lt ∙ rw place refl)
-
-AreBytes-take : (n : ℕ) (bytes : List ℕ) → AreBytes bytes → AreBytes (take n bytes)
-AreBytes-take n bytes below i =
-    elim (cases_lt i n) [
-      | inl lt ↦ rw (get_or-take n bytes i 0 lt) (below i)
-      | inr le ↦ rw (get_or_past (take n bytes) i 0 (omega (arith, length-take n bytes))) (omega arith)
-    ]
-
-pub IsFront-long : (bytes : List ℕ) (n : ℕ) → 8 ≤ length bytes → AreBytes bytes → n ≡ from_be_bytes w64 (take 8 bytes) → IsFront (bits_of bytes) n
-IsFront-long bytes n le below n_is k lt =
-    IsFront-eight (take 8 bytes) n (length-take-le 8 bytes le) (AreBytes-take 8 bytes below) n_is k lt
-    ∙ ap (λ (bits : List Bool). get_or bits k false) (bits_of-take 8 bytes) ∙ get_or-take 64 (bits_of bytes) k false lt
-
--- zeros after the bytes change no bit
-get_or-zeros_after : (bytes : List ℕ) (n i : ℕ) → get_or (bytes ++ replicate n 0) i 0 ≡ get_or bytes i 0
-get_or-zeros_after bytes n i =
-    elim (cases_lt i (length bytes)) [
-      | inl lt ↦ get_or_append_left bytes (replicate n 0) 0 i lt
-      | inr le ↦ get_or-append_right bytes (replicate n 0) (length bytes) i 0 refl le ∙ elim (cases_lt (i - length bytes) n) [
-        | inl within ↦ get_or-replicate {A = ℕ} n (i - length bytes) 0 0 within ∙ sym (get_or_past bytes i 0 le)
-        | inr past ↦ get_or_past (replicate n 0) (i - length bytes) 0 (omega (arith, length-replicate {A = ℕ} n 0)) ∙ sym (get_or_past bytes i 0 le)
-      ]
-    ]
-
-pub IsFront-short : (bytes : List ℕ) (n : ℕ) → length bytes < 8 → AreBytes bytes → n ≡ from_be_bytes w64 (bytes ++ replicate (8 - length bytes) 0) → IsFront (bits_of bytes) n
-IsFront-short bytes n lt below n_is k k_lt =
-    let front = bytes ++ replicate (8 - length bytes) 0 in
-    let len : length (bytes ++ replicate (8 - length bytes) 0) ≡ 8 = omega (arith, length-append bytes (replicate (8 - length bytes) 0), length-replicate {A = ℕ} (8 - length bytes) 0) in
-    IsFront-eight (bytes ++ replicate (8 - length bytes) 0) n len (λ i. rw (get_or-zeros_after bytes (8 - length bytes) i) (below i)) n_is k k_lt
-    ∙ get_or-bits_of_all (bytes ++ replicate (8 - length bytes) 0) k ∙ rw (get_or-zeros_after bytes (8 - length bytes) (k / 8)) (sym (get_or-bits_of_all bytes k))
 
 -- ---- words from bytes
 
 -- the front of the bytes from a word's place on is that word
-pub IsWord-front : (bytes : List ℕ) (i n : ℕ) → IsFront (bits_of (drop (8 * i) bytes)) n → IsWord (bits_of bytes) i n
+pub IsWord-front : (bytes : List ℕ) (i n : ℕ) → Shows (bits_of (drop (8 * i) bytes)) n → IsWord (bits_of bytes) i n
 IsWord-front bytes i n front k lt =
     let byte : 8 * i + k / 8 ≡ (64 * i + k) / 8 = omega arith in
     let place : k % 8 ≡ (64 * i + k) % 8 = omega arith in
@@ -116,7 +41,7 @@ loaded_bits bytes words most filled k =
     ]
 
 -- one word more
-pub loaded_more : (bytes words : List ℕ) (index w : ℕ) → index < length words → w < 2 ^ 64 → IsFront (bits_of (take (length bytes - 8 * index) (drop (8 * index) bytes))) w → ((i : ℕ) → i < index → IsWord (bits_of bytes) i (get_or words i 0) × (get_or words i 0 < 2 ^ 64))
+pub loaded_more : (bytes words : List ℕ) (index w : ℕ) → index < length words → w < 2 ^ 64 → Shows (bits_of (take (length bytes - 8 * index) (drop (8 * index) bytes))) w → ((i : ℕ) → i < index → IsWord (bits_of bytes) i (get_or words i 0) × (get_or words i 0 < 2 ^ 64))
     → (i : ℕ) → i < index + 1 → IsWord (bits_of bytes) i (get_or (set words index w) i 0) × (get_or (set words index w) i 0 < 2 ^ 64)
 loaded_more bytes words index w lt below front filled i i_lt =
     elim (cases_eq i index) [

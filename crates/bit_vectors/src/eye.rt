@@ -4,7 +4,7 @@ ghost use Rattle.std.specs.Prelude.{◌≡◌, ◌+◌, ◌*◌, ◌<◌, ◌≤
 ghost use Rattle.bit_vectors.specs.Vectors.{bits_of};
 ghost use Rattle.bit_vectors.specs.Eye.{EyeState, bits_left, Shows};
 
-use crate::word_bytes::front_word;
+use crate::front::front_word;
 use std::marker::Model;
 
 /// Reads borrowed bytes bit by bit, the bit of the greatest weight of each byte first. Contracts see all

@@ -5,6 +5,7 @@ mod bits;
 mod eye;
 mod fault;
 mod flags;
+mod front;
 mod laws;
 mod pen;
 mod reading;

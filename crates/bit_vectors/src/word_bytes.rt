@@ -5,25 +5,7 @@ ghost use Rattle.std.specs.Int.{bit_at};
 ghost use Rattle.bit_vectors.specs.Vectors.{bits_of, byte_count};
 ghost use Rattle.bit_vectors.specs.Words.{bit_of};
 
-/// The first 64 bits of the bytes, and zeros past their end.
-pub fn front_word(bytes: &[u8]) -> u64
-    ensures { (k : ℕ) → k < 64 → (bit_at result (63 - k) == 1) ≡ slice_index_or (bits_of bytes.now) k false }
-{
-    match bytes.first_chunk() {
-        Some(front) => u64::from_be_bytes(*front),
-        None => short_word(bytes),
-    }
-}
-
-/// The bits of fewer than eight bytes, and zeros after them.
-fn short_word(bytes: &[u8]) -> u64
-    requires { length bytes.now < 8 }
-    ensures { (k : ℕ) → k < 64 → (bit_at result (63 - k) == 1) ≡ slice_index_or (bits_of bytes.now) k false }
-{
-    let mut front = [0; 8];
-    front[..bytes.len()].copy_from_slice(bytes);
-    u64::from_be_bytes(front)
-}
+use crate::front::front_word;
 
 /// Fills the words with the bits of the bytes, and with zeros past their end.
 pub fn load_words(bytes: &[u8], words: &mut [u64])

@@ -5,9 +5,11 @@ use Rattle.bit_vectors.proofs.FrontReading.{parse_front-enough, parse_front-shor
 use Rattle.bit_vectors.proofs.eye.BitEye.take_bits.Goals as goal
 
 pub returns-then-left-len-clause-reading : goal.returns-then-left-len-clause-reading
-returns-then-left-len-clause-reading c =
-    (parse_front-short (length c.args.into.now) (bits_left c.args.self.now) (omega (arith, c.left-left.ensures.left, c.len.ensures.len)), c.size.ensures.size,
-    omega (arith, c.left-left.ensures.rest, c.take_front.ensures.place, ap length c.take_front.ensures.same))
+returns-then-left-len-clause-reading c = (
+  parse_front-short (length c.args.into.now) (bits_left c.args.self.now) (omega (arith, c.left-left.ensures.left, c.len.ensures.len)),
+  c.size.ensures.size,
+  omega (arith, c.left-left.ensures.rest, c.take_front.ensures.place, ap length c.take_front.ensures.same),
+)
 
 pub returns-clause-reading : goal.returns-clause-reading
 returns-clause-reading c =

@@ -2,7 +2,7 @@ use Rattle.std.proofs.Common.{◌≡◌, ◌+◌, ◌-◌, ◌*◌, ◌/◌, ◌
 use Rattle.std.proofs.lemmas.List.{take_all}
 use Rattle.bit_vectors.specs.Vectors.{number_bits}
 use Rattle.bit_vectors.specs.Words.{IsWord}
-use Rattle.bit_vectors.proofs.FrontWord.{word_part, high_below}
+use Rattle.bit_vectors.proofs.WordParts.{word_part, high_below}
 use Rattle.bit_vectors.proofs.pen.BitPen.put_bits.Goals as goal
 use Rattle.bit_vectors.proofs.pen.BitPen.put_bits.Goals.{After-word-2}
 
@@ -18,9 +18,10 @@ whole_word before now v index word so_far is within =
     rw (next, ← all) (appended before now v index word 64 so_far is (omega arith) within)
 
 pub loop-index-preserved : goal.loop-index-preserved
-loop-index-preserved c =
-    (c.put_word.ensures.bits ∙ whole_word c.args.self.now.bits c.loop-index.self.bits c.args.bits.now c.loop-index.index c.word.result c.loop-index.invariant.0 c.word.ensures (omega (arith, c.word_count-last.ensures.count, c.loop-index-test.true)),
-    c.put_word.ensures.room ∙ c.loop-index.invariant.1)
+loop-index-preserved c = (
+  c.put_word.ensures.bits ∙ whole_word c.args.self.now.bits c.loop-index.self.bits c.args.bits.now c.loop-index.index c.word.result c.loop-index.invariant.0 c.word.ensures (omega (arith, c.word_count-last.ensures.count, c.loop-index-test.true)),
+  c.put_word.ensures.room ∙ c.loop-index.invariant.1,
+)
 
 -- the width of the last word
 last_width : (c : After-word-2) → c.len.result - 64 * (c.word_count-last.result - 1) ≤ 64
