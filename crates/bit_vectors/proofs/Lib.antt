@@ -12,3 +12,4 @@ pub mod FrontReading
 pub mod SameWord
 pub mod NumberReading
 pub mod FrontWord
+pub mod WordParts

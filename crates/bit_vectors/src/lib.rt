@@ -7,7 +7,6 @@ mod fault;
 mod flags;
 mod front;
 mod laws;
-mod packing;
 mod pen;
 mod reading;
 mod word_bytes;

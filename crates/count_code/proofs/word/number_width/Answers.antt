@@ -1,7 +1,7 @@
 use Rattle.std.proofs.Common.{◌+◌, ◌-◌, ◌*◌, ◌≤◌, refl, arith}
 use Rattle.count_code.proofs.Digits.{HasDigits, digits_is, digits_long, digits_most, power_le, power_more}
-use Rattle.count_code.proofs.writing.number_width.Goals as goal
-use Rattle.count_code.proofs.writing.number_width.Goals.{After-ilog2}
+use Rattle.count_code.proofs.word.number_width.Goals as goal
+use Rattle.count_code.proofs.word.number_width.Goals.{After-ilog2}
 
 has : (c : After-ilog2) → HasDigits c.args.number c.ilog2.result
 has c = record { low = c.ilog2.ensures.power_le; high = omega (arith, c.ilog2.ensures.next_power_gt, power_more c.ilog2.result) }
