@@ -1,6 +1,6 @@
 -- Exact readers, and how they are put together.
-use Rattle.std.proofs.Common.{◌≡◌, ◌≤◌, Bool, true, false, cond, List, [], ◌∷◌, ◌++◌, length, ◌⊎◌, refl, sym, ap, ◌∙◌, subst, arith, append_assoc, inl, inr}
-use Rattle.std.proofs.lemmas.List.{length-append}
+use Rattle.std.proofs.Common.{◌≡◌, ℕ, ◌≤◌, Bool, true, false, cond, List, [], ◌∷◌, ◌++◌, length, take, drop, ◌⊎◌, refl, sym, ap, ◌∙◌, subst, arith, append_assoc, inl, inr}
+use Rattle.std.proofs.lemmas.List.{length-append, take-append-drop}
 use Rattle.std.proofs.lemmas.Bool.{cases_lt, true≢false}
 use Rattle.bit_vectors.specs.Reading.{Parsed, Read, WrongBit, TooShort, ◌>>=◌, bit_where, CanBegin, IsWrongBefore, IsExact}
 
@@ -14,6 +14,11 @@ cut_longer (x ∷ a) b (y ∷ c) d e le =
     let tails : a ++ b ≡ c ++ d = cc in
     let m = cut_longer a b c d tails (omega arith) in
     (m.0, rw heads (ap (λ (t : List Bool). y ∷ t) m.1), m.2)
+
+-- a word that comes next is read
+pub IsExact-next : {A : Type 0} (W : A → List Bool → Type 0) (f : List Bool → Parsed A) → IsExact W f → (value : A) (word bits : List Bool) (width : ℕ) → W value word → take width bits ≡ word → f bits ≡ Read value (drop width bits)
+IsExact-next W f exact value word bits width w next =
+    ap f (sym (take-append-drop width bits) ∙ ap (λ (front : List Bool). front ++ drop width bits) next) ∙ exact.reads value word (drop width bits) w
 
 -- ---- single steps
 

@@ -1,7 +1,7 @@
 -- So many bits from the front of those that are left, one after the other.
 use Rattle.std.proofs.Common.{◌≡◌, ℕ, ◌+◌, ◌-◌, ◌<◌, ◌≤◌, Bool, false, List, [], ◌∷◌, ◌++◌, length, get_or, take, drop, replicate, refl, sym, ap, ◌∙◌, arith, inl, inr}
 use Rattle.std.proofs.lemmas.Bool.{cases_lt, le-leb, lt-leb}
-use Rattle.std.proofs.lemmas.List.{length-append, length-take-le, length-drop, length-replicate, take_at, drop_at, take-append-drop, drop_more}
+use Rattle.std.proofs.lemmas.List.{ext_get_or, get_or-take, get_or-drop, get_or_append_left, get_or-append_right, length-append, length-take-le, length-drop, length-replicate, take_at, drop_at, take-append-drop, drop_more}
 use Rattle.bit_vectors.specs.Eye.{EyeState, bits_left}
 use Rattle.bit_vectors.specs.Reading.{Parsed, Read, WrongBit, TooShort, MovesOn, CanBegin, IsWrongBefore, IsExact, parse_front}
 use Rattle.bit_vectors.proofs.EyeReading.{MovesOn-refl, MovesOn-then}
@@ -38,6 +38,17 @@ HasTaken-more old eye new count bit taken moves next = record {
 pub HasTaken-all : (old eye : EyeState) (count : ℕ) → HasTaken old eye count → bits_left eye ≡ [] → length (bits_left old) ≡ count
 HasTaken-all old eye count taken none =
     omega (arith, taken.enough, ap (λ (bits : List Bool). length bits) (sym taken.left ∙ none), length-drop count (bits_left old))
+
+-- the front of some bits, and the other places of a vector
+pub front_is : (left v new : List Bool) (count : ℕ) → length new ≡ length v → count ≤ length left → count ≤ length v → ((k : ℕ) → k < count → get_or new k false ≡ get_or left k false) → ((k : ℕ) → count ≤ k → get_or new k false ≡ get_or v k false)
+    → new ≡ take count left ++ drop count v
+front_is left v new count len enough within front others =
+    ext_get_or false new (take count left ++ drop count v) (omega (arith, length-append (take count left) (drop count v), length-take-le count left enough, length-drop count v)) (λ k lt. elim (cases_lt k count) [
+      | inl below ↦ front k below ∙ sym (get_or_append_left (take count left) (drop count v) false k (omega (arith, length-take-le count left enough)) ∙ get_or-take count left k false below)
+      | inr above ↦
+          let place : count + (k - count) ≡ k = omega arith in
+          others k above ∙ sym (get_or-append_right (take count left) (drop count v) count k false (length-take-le count left enough) above ∙ get_or-drop count v (k - count) false ∙ rw place refl)
+    ])
 
 -- ---- what reading them gives
 

@@ -1,7 +1,10 @@
 pub mod NumberBits
 pub mod Numbers
 pub mod ByteBits
+pub mod WordBits
+pub mod WordBytes
 pub mod Places
+pub mod Keeping
 pub mod PenBits
 pub mod ExactReading
 pub mod EyeReading
@@ -9,3 +12,4 @@ pub mod FrontReading
 pub mod SameWord
 pub mod NumberReading
 pub mod FrontWord
+pub mod WordParts

@@ -3,10 +3,10 @@ use Rattle.std.proofs.Common.{◌≡◌, ℕ, ◌+◌, ◌-◌, ◌*◌, ◌/◌
 use Rattle.std.specs.Int.{to_be_bytes}
 use mir.Val.{bool_byte}
 use Rattle.std.proofs.lemmas.Bool.{cases_lt}
-use Rattle.std.proofs.lemmas.List.{length-append, length-take, length-take-le, append-nil, take_at, take-take, take-replicate, get_or-take, get_or_past}
+use Rattle.std.proofs.lemmas.List.{length-append, length-take, length-take-le, append-nil, take_at, take-take, take-replicate}
 use Rattle.std.proofs.lemmas.List.Concat.{flat_map-append}
 use Rattle.std.proofs.lemmas.Nat.{pow-add, pow_pos, mod_below, shl-shr, shr_split, shr_below, shl_below, shl_whole, mul-mod_first}
-use Rattle.std.proofs.Math.Nat.{mul-mod_left, mul-le-mul_right}
+use Rattle.std.proofs.Math.Nat.{mul-mod_left}
 use Rattle.std.proofs.Math.Seq.{take-append-add}
 use Rattle.bit_vectors.specs.Vectors.{number_bits, bits_of, AreBytes, byte_count, padded, vector_bytes}
 use Rattle.bit_vectors.specs.Pen.{written_bits, pen_bytes, HasRoom}
@@ -14,6 +14,7 @@ use Rattle.bit_vectors.proofs.NumberBits.{length-number_bits}
 use Rattle.bit_vectors.proofs.Numbers.{number_bits-cat, number_bits-split, number_bits-mod, high_bits}
 use Rattle.bit_vectors.proofs.ByteBits.{length-bits_of, bits_of-take, vector_bytes_is}
 use Rattle.bit_vectors.proofs.FrontWord.{bits_of-to_be_bytes, shl_word}
+use Rattle.bit_vectors.proofs.WordParts.{cat_below}
 
 pub no_bits : (n : ℕ) → number_bits 0 n ≡ []
 unfolding number_bits
@@ -33,12 +34,6 @@ joined word value held width within clean =
     let power : 2 ^ (64 - held) ≡ 2 ^ width * 2 ^ (64 - (held + width)) = ap (λ (k : ℕ). 2 ^ k) (sym all) ∙ pow-add 2 width (64 - (held + width)) in
     let product : word / 2 ^ (64 - held) * 2 ^ (64 - held) ≡ word / 2 ^ (64 - held) * (2 ^ width * 2 ^ (64 - (held + width))) = ap (λ (p : ℕ). word / 2 ^ (64 - held) * p) power in
     omega (arith, shr_split word (64 - held))
-
--- a number of i bits above one of j bits
-cat_below : (i j a b : ℕ) → a < 2 ^ i → b < 2 ^ j → a * 2 ^ j + b < 2 ^ (i + j)
-cat_below i j a b a_lt b_lt =
-    let next : a + 1 ≤ 2 ^ i = omega arith in
-    rw (pow-add 2 i j) (omega (arith, mul-le-mul_right (2 ^ j) next))
 
 -- the bits that are held, as a number
 low_below : (word held : ℕ) → held ≤ 64 → word < 2 ^ 64 → word / 2 ^ (64 - held) < 2 ^ held
@@ -205,13 +200,6 @@ module _ (bytes new : List ℕ) (capacity words word held room value width : ℕ
       rw whole (append_assoc (bits_of (take (8 * words) bytes)) (number_bits 64 (full_word word value held width)) _ ∙ rw (both_bits word value held width h.short full most h.small h.clean fits) (sym (append_assoc (bits_of (take (8 * words) bytes)) (number_bits held (word / 2 ^ (64 - held))) (number_bits width value))))
 
 -- ---- the bytes of the bits
-
-pub AreBytes-take : (n : ℕ) (bytes : List ℕ) → AreBytes bytes → AreBytes (take n bytes)
-AreBytes-take n bytes below i =
-    elim (cases_lt i n) [
-      | inl lt ↦ rw (get_or-take n bytes i 0 lt) (below i)
-      | inr le ↦ rw (get_or_past (take n bytes) i 0 (omega (arith, length-take n bytes))) (omega arith)
-    ]
 
 -- some of the bytes of the words and of the one after them
 front_bits : (bytes : List ℕ) (words word held count : ℕ) → held < 64 → word % 2 ^ (64 - held) ≡ 0 → 8 * words ≤ length bytes → HasWord bytes bytes words word → count ≤ 8 * words + 8 → 64 * words + held ≤ 8 * count

@@ -1,4 +1,5 @@
 pub mod Vectors
+pub mod Words
 pub mod Eye
 pub mod Pen
 pub mod Reading

@@ -1,11 +1,17 @@
 //! Vectors of bits.
 
-ghost use Rattle.std.specs.Prelude.{◌≡◌, ◌+◌, ◌*◌, ◌<◌, ◌≤◌, ◌↔◌, Bool, true, false, List, length, take, drop, replicate, slice_index_or, slice_set, Contains, IsTrue, IsNone, IfSome, IsErr, IfOk, OnOk, OnErr, count_by};
+ghost use Rattle.std.specs.Prelude.{◌≡◌, ◌≢◌, ℕ, ◌+◌, ◌*◌, ◌/◌, ◌<◌, ◌≤◌, ◌↔◌, Bool, true, false, List, length, take, drop, replicate, slice_index_or, slice_set, Contains, IsTrue, IsNone, IfSome, IsErr, IfOk, OnOk, OnErr, count_by};
 ghost use Rattle.std.specs.Bool.{OnFalse};
+ghost use Rattle.std.specs.Vec.{vec_capacity};
 ghost use Rattle.bit_vectors.specs.Vectors.{IsVector, xor_bits, or_bits, without_bits, IsOne, NoneIsOne, bits_of, byte_count, vector_bytes};
+ghost use Rattle.bit_vectors.specs.Words.{word_count, IsWord, HasNoSpareBit, vector_of, AreWords};
 
 use crate::fault::{NoMemory, SpareBit};
-use crate::packing::{has_one_from, pack, unpack};
+use crate::word_bytes::{has_spare_bit, load_words, store_words};
+use crate::words::{
+    are_zero, bit_in_words, drop_words, first_one, last_one, ones_in, or_words, write_bit_in_words,
+    xor_words, zero_words,
+};
 use std::alloc::Global;
 use std::marker::Model;
 
@@ -19,18 +25,21 @@ pub fn byte_len(f: u32) -> u32
 }
 
 /// A vector of 1 to 49,152 bits. Contracts see it as the list of them, place 0 first; in bytes, place 0
-/// is the bit of the greatest weight of the first byte.
+/// is the bit of the greatest weight of the first byte. It is kept in words of 64 bits, place 0 the bit of
+/// the greatest weight of the first; the bits after the last place are 0. The memory is taken when the
+/// vector is made, and there is room for no word more.
 #[derive(Debug, Drop)]
 pub struct Bits {
-    places: Vec<bool>,
+    words: Vec<u64>,
+    places: u32,
 }
 
 impl Model for Bits {
     ghost Value = { List Bool };
 
-    ghost view = { λ b. b.places.items };
+    ghost view = { λ b. vector_of b.words.items b.places };
 
-    ghost invariant = { λ b. IsVector b.places.items };
+    ghost invariant = { λ b. AreWords b.words.items b.places × (vec_capacity b.words ≡ word_count b.places) };
 }
 
 impl Bits {
@@ -40,8 +49,8 @@ impl Bits {
         requires most { f ≤ 49152 }
         ensures { IfOk result (λ v. v ≡ replicate f false) }
     {
-        let places = vec![in alloc; false; f as usize]?;
-        Ok(Bits { places })
+        let words = zero_words(alloc, f.div_ceil(64) as usize)?;
+        Ok(Bits { words, places: f })
     }
 
     /// The number of places.
@@ -49,7 +58,7 @@ impl Bits {
         ensures len { result ≡ length self.now }
         ensures vector { IsVector self.now }
     {
-        self.places.len() as u32
+        self.places
     }
 
     /// The bit at a place.
@@ -57,7 +66,7 @@ impl Bits {
         requires { place < length self.now }
         ensures { result ≡ slice_index_or self.now place false }
     {
-        self.places[place as usize]
+        bit_in_words(&self.words, place)
     }
 
     /// Makes the bit at a place `value`.
@@ -65,14 +74,14 @@ impl Bits {
         requires { place < length self.old }
         ensures { self.new ≡ slice_set self.old place value }
     {
-        self.places[place as usize] = value;
+        write_bit_in_words(&mut self.words, place, value);
     }
 
     /// Makes every bit 0.
     pub fn clear(&mut self)
         ensures { self.new ≡ replicate (length self.old) false }
     {
-        self.places.fill(false);
+        self.words.fill(0);
     }
 
     /// Makes this vector that of `other`, which has as many places.
@@ -80,7 +89,7 @@ impl Bits {
         requires { length self.old ≡ length other.now }
         ensures { self.new ≡ other.now }
     {
-        self.places.copy_from_slice(&other.places);
+        self.words.copy_from_slice(&other.words);
     }
 
     /// Makes the bits 1 at which exactly one of this vector and `other`, which has as many places, is 1,
@@ -90,7 +99,7 @@ impl Bits {
         ensures bits { self.new ≡ xor_bits self.old other.now }
         ensures len { length self.new ≡ length self.old }
     {
-        xor_places(&mut self.places, &other.places);
+        xor_words(&mut self.words, &other.words);
     }
 
     /// Makes the bits 1 at which `other`, which has as many places, is 1.
@@ -99,7 +108,7 @@ impl Bits {
         ensures bits { self.new ≡ or_bits self.old other.now }
         ensures len { length self.new ≡ length self.old }
     {
-        or_places(&mut self.places, &other.places);
+        or_words(&mut self.words, &other.words);
     }
 
     /// Makes the bits 0 at which `other`, which has as many places, is 1.
@@ -108,14 +117,14 @@ impl Bits {
         ensures bits { self.new ≡ without_bits self.old other.now }
         ensures len { length self.new ≡ length self.old }
     {
-        drop_places(&mut self.places, &other.places);
+        drop_words(&mut self.words, &other.words);
     }
 
     /// The number of ones.
     pub fn ones(&self) -> u32
         ensures { result ≡ count_by (λ bit. bit) self.now }
     {
-        self.places.iter().filter(|bit| **bit).count() as u32
+        ones_in(&self.words)
     }
 
     /// Whether every bit is 0.
@@ -123,7 +132,7 @@ impl Bits {
         ensures zero { IsTrue result ↔ (self.now ≡ replicate (length self.now) false) }
         ensures some { OnFalse result (Contains self.now true) }
     {
-        !self.places.contains(&true)
+        are_zero(&self.words)
     }
 
     /// The greatest place below `below` at which the bit is 1. `below` is at most the number of places.
@@ -134,12 +143,7 @@ impl Bits {
         ensures greatest { IfSome result (λ place. NoneIsOne self.now (place + 1) below) }
         ensures none { IsNone result ↔ NoneIsOne self.now 0 below }
     {
-        for place in (0..below).rev() {
-            if self.places[place as usize] {
-                return Some(place);
-            }
-        }
-        None
+        last_one(&self.words, below)
     }
 
     /// The least place from `from` on at which the bit is 1. `from` is at most the number of places.
@@ -150,12 +154,7 @@ impl Bits {
         ensures least { IfSome result (λ place. NoneIsOne self.now from place) }
         ensures none { IsNone result ↔ NoneIsOne self.now from (length self.now) }
     {
-        for place in from..self.len() {
-            if self.places[place as usize] {
-                return Some(place);
-            }
-        }
-        None
+        first_one(&self.words, from)
     }
 
     /// Makes this vector the first bits of `bytes`, which must be as many as the vector takes. The spare
@@ -168,10 +167,10 @@ impl Bits {
         ensures spare { IsErr result ↔ Contains (drop (length self.old) (bits_of bytes.now)) true }
         ensures unchanged { OnErr result (self.new ≡ self.old) }
     {
-        if has_one_from(bytes, self.places.len()) {
+        if has_spare_bit(bytes, self.places) {
             return Err(SpareBit);
         }
-        unpack(bytes, &mut self.places);
+        load_words(bytes, &mut self.words);
         Ok(())
     }
 
@@ -180,7 +179,7 @@ impl Bits {
         requires { length out.old ≡ byte_count (length self.now) }
         ensures { out.new ≡ vector_bytes self.now }
     {
-        pack(&self.places, out);
+        store_words(&self.words, out);
     }
 
     /// Whether the two vectors, which have as many places, are equal.
@@ -188,33 +187,35 @@ impl Bits {
         requires { length self.now ≡ length other.now }
         ensures { IsTrue result ↔ (self.now ≡ other.now) }
     {
-        self.places.as_slice() == other.places.as_slice()
+        self.words.as_slice() == other.words.as_slice()
     }
-}
 
-fn xor_places(places: &mut [bool], others: &[bool])
-    requires { length places.old ≡ length others.now }
-    ensures { places.new ≡ xor_bits places.old others.now }
-{
-    for (place, bit) in places.iter_mut().enumerate() {
-        *bit ^= others[place];
+    /// The number of words of 64 bits that the places take.
+    pub fn word_count(&self) -> u32
+        ensures count { result ≡ word_count (length self.now) }
+        ensures some { 1 ≤ result }
+    {
+        self.words.len() as u32
     }
-}
 
-fn or_places(places: &mut [bool], others: &[bool])
-    requires { length places.old ≡ length others.now }
-    ensures { places.new ≡ or_bits places.old others.now }
-{
-    for (place, bit) in places.iter_mut().enumerate() {
-        *bit |= others[place];
+    /// The word with this number: its bit of the greatest weight is that of place 64 * `index`, and the bits
+    /// after the last place are 0.
+    pub fn word(&self, index: u32) -> u64
+        requires { index < word_count (length self.now) }
+        ensures { IsWord self.now index result }
+    {
+        self.words[index as usize]
     }
-}
 
-fn drop_places(places: &mut [bool], others: &[bool])
-    requires { length places.old ≡ length others.now }
-    ensures { places.new ≡ without_bits places.old others.now }
-{
-    for (place, bit) in places.iter_mut().enumerate() {
-        *bit &= !others[place];
+    /// Makes the bits of the word with this number those of `value`, whose bits after the last place must
+    /// be 0.
+    pub fn set_word(&mut self, index: u32, value: u64)
+        requires index { index < word_count (length self.old) }
+        requires spare { HasNoSpareBit (length self.old) index value }
+        ensures word { IsWord self.new index value }
+        ensures others { (k : ℕ) → k / 64 ≢ index → slice_index_or self.new k false ≡ slice_index_or self.old k false }
+        ensures len { length self.new ≡ length self.old }
+    {
+        self.words[index as usize] = value;
     }
 }

@@ -1,11 +1,10 @@
 //! Reading bytes bit by bit.
 
-ghost use Rattle.std.specs.Prelude.{◌≡◌, ◌+◌, ◌<◌, ◌≤◌, ◌↔◌, [], ◌∷◌, length, drop, IsNone, IfSome, OnSome, IfNone};
+ghost use Rattle.std.specs.Prelude.{◌≡◌, ◌+◌, ◌*◌, ◌<◌, ◌≤◌, ◌↔◌, [], ◌∷◌, length, drop, slice_index_or, false, IsNone, IfSome, OnSome, IfNone};
 ghost use Rattle.bit_vectors.specs.Vectors.{bits_of};
 ghost use Rattle.bit_vectors.specs.Eye.{EyeState, bits_left, Shows};
 
 use crate::front::front_word;
-use crate::packing::bit_in;
 use std::marker::Model;
 
 /// Reads borrowed bytes bit by bit, the bit of the greatest weight of each byte first. Contracts see all
@@ -96,6 +95,14 @@ impl<'a> BitEye<'a> {
     {
         self.place += width;
     }
+}
+
+/// The bit with this number, over all the bytes.
+fn bit_in(bytes: &[u8], place: usize) -> bool
+    requires { place < 8 * length bytes.now }
+    ensures { result ≡ slice_index_or (bits_of bytes.now) place false }
+{
+    (bytes[place / 8] >> (7 - place % 8)) & 1 == 1
 }
 
 /// The 64 bits after the first `skipped`, which are fewer than eight, and zeros past the end.

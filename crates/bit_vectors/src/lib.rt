@@ -7,9 +7,10 @@ mod fault;
 mod flags;
 mod front;
 mod laws;
-mod packing;
 mod pen;
 mod reading;
+mod word_bytes;
+mod words;
 
 pub use bits::{Bits, byte_len};
 pub use eye::BitEye;

@@ -102,9 +102,12 @@ impl BitPen {
         ensures bits { self.new.bits ≡ self.old.bits ++ bits.now }
         ensures room { self.new.room ≡ self.old.room }
     {
-        for place in 0..bits.len() {
-            self.put(bits.get(place));
+        let last = bits.word_count() - 1;
+        for index in 0..last {
+            self.put_word(bits.word(index), 64);
         }
+        let width = bits.len() - 64 * last;
+        self.put_word(bits.word(last) >> (64 - width), width);
     }
 
     /// Takes all bits away. The room stays.

@@ -1,6 +1,8 @@
 //! Values read by an eye: bits, numbers and vectors, or the first fault.
 
-ghost use Rattle.std.specs.Prelude.{◌≡◌, ◌-◌, ◌/◌, ◌^◌, ◌<◌, ◌≤◌, ◌↔◌, ◌++◌, Bool, List, length, take, drop, IsOk, IfOk, IsErr, IfErr, OnOk, OnErr, IsTrue};
+ghost use Rattle.std.specs.Prelude.{◌≡◌, ℕ, ◌+◌, ◌-◌, ◌/◌, ◌^◌, ◌<◌, ◌≤◌, ◌↔◌, ◌++◌, Bool, List, length, take, drop, IsOk, IfOk, IsErr, IfErr, OnOk, OnErr, IsTrue};
+ghost use Rattle.std.specs.Bool.{OnTrue};
+ghost use Rattle.std.specs.Int.{bit_at};
 ghost use Rattle.bit_vectors.specs.Vectors.{number_bits};
 ghost use Rattle.bit_vectors.specs.Eye.{bits_left};
 ghost use Rattle.bit_vectors.specs.Reading.{MovesOn, Gives, IsFirstFault, any_bit, bit_where, allowed, parse_front, parse_number, parse_word};
@@ -82,7 +84,16 @@ impl<'a> BitEye<'a> {
         ensures fault { IfErr result (λ fault. IsFirstFault (λ word. word ≡ number_bits width value) self.old self.new fault) }
         ensures reading { Gives (λ _. tt) result self.new (parse_word (number_bits width value) (bits_left self.old)) }
     {
-        self.match_bits(value, width)
+        self.match_ahead(value, width)
+    }
+
+    /// Whether the next bits are the `width` lowest of a number, at most 32, the greatest weight first.
+    pub fn comes_next(&self, value: u32, width: u32) -> bool
+        requires { width ≤ 32 }
+        ensures next { IsTrue result ↔ (take width (bits_left self.now) ≡ number_bits width value) }
+        ensures enough { OnTrue result (width ≤ length (bits_left self.now)) }
+    {
+        width <= self.left() && high_bits(self.ahead(), width) == u64::from(value) % (1 << width)
     }
 
     /// Takes as many bits as `into` has places, from place 0 up. No bit is wrong. Where the bits end early,
@@ -98,16 +109,52 @@ impl<'a> BitEye<'a> {
         ensures at_end { OnErr result (self.new.place ≡ length self.old.bits) }
         ensures reading { Gives (λ _. into.new) result self.new (parse_front (length into.old) (bits_left self.old)) }
     {
-        for place in 0..into.len() {
-            let Some(bit) = self.take() else {
-                return Err(BitFault::EndsEarly { bit: self.size() });
-            };
-            into.set(place, bit);
+        let left = self.left();
+        if left < into.len() {
+            self.take_front(into, left);
+            return Err(BitFault::EndsEarly { bit: self.size() });
         }
+        self.take_front(into, into.len());
         Ok(())
     }
 
-    /// Takes the bits of a number.
+    /// Takes so many bits into the first places of `into`. Its other places stay.
+    fn take_front(&mut self, into: &mut Bits, count: u32)
+        requires left { count ≤ length (bits_left self.old) }
+        requires places { count ≤ length into.old }
+        ensures bits { into.new ≡ take count (bits_left self.old) ++ drop count into.old }
+        ensures places { length into.new ≡ length into.old }
+        ensures left { bits_left self.new ≡ drop count (bits_left self.old) }
+        ensures place { self.new.place ≡ self.old.place + count }
+        ensures same { self.new.bits ≡ self.old.bits }
+    {
+        for index in 0..count / 64 {
+            into.set_word(index, self.ahead());
+            self.pass(64);
+        }
+        let rest = count % 64;
+        if rest == 0 {
+            return;
+        }
+        let word = with_front(into.word(count / 64), self.ahead(), rest);
+        into.set_word(count / 64, word);
+        self.pass(rest);
+    }
+
+    /// Takes the bits of a number: at once where they come next, else bit by bit.
+    fn match_ahead(&mut self, value: u32, width: u32) -> Result<(), BitFault>
+        requires { width ≤ 32 }
+        ensures moves { MovesOn self.old self.new }
+        ensures reading { Gives (λ _. tt) result self.new (parse_word (number_bits width value) (bits_left self.old)) }
+    {
+        if self.comes_next(value, width) {
+            self.pass(width);
+            return Ok(());
+        }
+        self.match_bits(value, width)
+    }
+
+    /// Takes the bits of a number one by one, to name the first that differs.
     fn match_bits(&mut self, value: u32, width: u32) -> Result<(), BitFault>
         requires { width ≤ 32 }
         ensures moves { MovesOn self.old self.new }
@@ -127,4 +174,15 @@ fn high_bits(word: u64, width: u32) -> u64
     ensures { result ≡ word / 2 ^ (64 - width) }
 {
     if width == 0 { 0 } else { word >> (64 - width) }
+}
+
+/// The first `width` bits of `front`, and the others of `word`.
+fn with_front(word: u64, front: u64, width: u32) -> u64
+    requires some { 1 ≤ width }
+    requires most { width < 64 }
+    ensures front { (k : ℕ) → k < width → bit_at result (63 - k) ≡ bit_at front (63 - k) }
+    ensures others { (k : ℕ) → width ≤ k → k < 64 → bit_at result (63 - k) ≡ bit_at word (63 - k) }
+{
+    let low = 64 - width;
+    (front >> low << low) + word % (1 << low)
 }

@@ -5,6 +5,7 @@ mod count;
 mod laws;
 mod matching;
 mod reading;
+mod word;
 mod writing;
 
 pub use count::Count;

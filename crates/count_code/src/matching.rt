@@ -5,7 +5,7 @@ ghost use Rattle.bit_vectors.specs.Eye.{bits_left};
 ghost use Rattle.bit_vectors.specs.Reading.{MovesOn, Gives, IsFirstFault, parse_word};
 ghost use Rattle.count_code.specs.Code.{count_bits};
 
-use crate::writing::count_len;
+use crate::word::count_word;
 use bit_vectors::{BitEye, BitFault};
 
 /// Takes the word of a count, which is from 1 to 49,152. The first bit that differs from it is wrong, and
@@ -19,25 +19,6 @@ pub fn match_count(eye: &mut BitEye, a: u32) -> Result<(), BitFault>
     ensures fault { IfErr result (λ fault. IsFirstFault (λ word. word ≡ count_bits a) eye.old eye.new fault) }
     ensures reading { Gives (λ _. tt) result eye.new (parse_word (count_bits a) (bits_left eye.old)) }
 {
-    match_word(eye, a)
-}
-
-/// Takes the word of a count, by its parts.
-fn match_word(eye: &mut BitEye, a: u32) -> Result<(), BitFault>
-    requires some { 1 ≤ a }
-    requires most { a ≤ 49152 }
-    ensures moves { MovesOn eye.old eye.new }
-    ensures reading { Gives (λ _. tt) result eye.new (parse_word (count_bits a) (bits_left eye.old)) }
-{
-    match a {
-        1 => eye.match_number(0, 1),
-        2..=33 => {
-            eye.match_number(0b110, 3)?;
-            eye.match_number(a - 2, 5)
-        }
-        _ => {
-            eye.match_number(0b111, 3)?;
-            eye.match_number(a - 2, count_len(a) - 3)
-        }
-    }
+    let word = count_word(a);
+    eye.match_number(word.value, word.width)
 }

@@ -1,4 +1,4 @@
-//! Counts from bits.
+//! Counts from bits. A count whose word comes whole is read at once; the readers bit by bit are for the faults.
 
 ghost use Rattle.std.specs.Prelude.{◌≡◌, ◌-◌, ◌*◌, ◌^◌, ◌≤◌, ◌++◌, Bool, List, Ok, IfOk, IfErr};
 ghost use Rattle.bit_vectors.specs.Eye.{bits_left};
@@ -7,6 +7,7 @@ ghost use Rattle.count_code.specs.Counts.{word_of, IsWithin, IsCode, parse_bound
 ghost use Rattle.count_code.specs.declared.count.Count.{Count};
 
 use crate::count::Count;
+use crate::word::count_word;
 use bit_vectors::{BitEye, BitFault};
 
 /// Takes the word of a count from 1 to `limit`, or the word that ends a list of counts. Wrong names the
@@ -24,9 +25,45 @@ pub fn take_count(eye: &mut BitEye, limit: u32) -> Result<Count, BitFault>
     read_count(eye, limit)
 }
 
-/// Takes a count or the end, as `parse_count` reads them.
-#[tactic(auto, unfolding(crate::specs::Counts::parse_count))]
+/// Takes a count or the end: at once where its word comes next whole, else bit by bit.
 fn read_count(eye: &mut BitEye, limit: u32) -> Result<Count, BitFault>
+    requires { limit ≤ 49152 }
+    ensures moves { MovesOn eye.old eye.new }
+    ensures reading { Gives (λ count. count) result eye.new (parse_count limit (bits_left eye.old)) }
+{
+    if eye.comes_next(0b10, 2) {
+        eye.pass(2);
+        return Ok(Count::End);
+    }
+    let a = guessed_count(eye.ahead());
+    let word = count_word(a);
+    if a <= limit && eye.comes_next(word.value, word.width) {
+        eye.pass(word.width);
+        return Ok(Count::Value(a));
+    }
+    read_bits(eye, limit)
+}
+
+/// The count whose word may be the first bits of `ahead`. Whatever it is, the bits are compared with its
+/// word; so only its bounds are known.
+fn guessed_count(ahead: u64) -> u32
+    ensures some { 1 ≤ result }
+    ensures most { result ≤ 49152 }
+{
+    if ahead >> 63 == 0 {
+        return 1;
+    }
+    if ahead >> 61 == 0b110 {
+        return 2 + ((ahead >> 56) % 32) as u32;
+    }
+    let digits = ahead << 3;
+    let width = 2 * digits.leading_zeros().min(10) + 6;
+    2 + (digits >> (64 - width)).min(49_150) as u32
+}
+
+/// Takes a count or the end bit by bit, as `parse_count` reads them, to name the fault.
+#[tactic(auto, unfolding(crate::specs::Counts::parse_count))]
+fn read_bits(eye: &mut BitEye, limit: u32) -> Result<Count, BitFault>
     requires { limit ≤ 49152 }
     ensures moves { MovesOn eye.old eye.new }
     ensures reading { Gives (λ count. count) result eye.new (parse_count limit (bits_left eye.old)) }

@@ -31,6 +31,38 @@ fn words_of_counts(rt: HostRuntime) -> Result<(), Fail> {
     Ok(())
 }
 
+/// A count and the end after so many zeros, so that the edge of a word is before, in or after them.
+#[test]
+fn counts_across_words(rt: HostRuntime) -> Result<(), Fail> {
+    let rows: [(u32, u32, u32, u64); 7] = [
+        (62, 1, 1, 0),
+        (63, 1, 1, 0),
+        (60, 2, 8, 0xc0),
+        (56, 33, 8, 0xdf),
+        (58, 34, 9, 0x1e0),
+        (54, 66, 11, 0x740),
+        (50, 49_152, 29, 0x1c00_bffe),
+    ];
+    for (before, a, len, word) in rows {
+        assert!(rt; 1 <= before && before <= 64 && 1 <= a && a <= 49_152 && len <= 29);
+        let mut pen = BitPen::with_room(rt.alloc(), 128)?;
+        pen.put_word(0, before);
+        assert!(rt; count_len(a) <= pen.room() - pen.len());
+        put_count(&mut pen, a);
+        assert!(rt; 2 <= pen.room() - pen.len());
+        put_end(&mut pen);
+        let mut eye = BitEye::new(pen.bytes());
+        assert_eq!(rt; eye.take_word(before), Ok(0));
+        let mut again = BitEye::new(pen.bytes());
+        assert_eq!(rt; again.take_word(before), Ok(0));
+        assert_eq!(rt; take_count(&mut eye, 49_152), Ok(Count::Value(a)));
+        assert_eq!(rt; take_count(&mut eye, 0), Ok(Count::End));
+        assert_eq!(rt; again.take_word(len), Ok(word));
+        assert_eq!(rt; take_count(&mut again, 0), Ok(Count::End));
+    }
+    Ok(())
+}
+
 #[test]
 fn first_faults(rt: HostRuntime) {
     let rows: [(&[u8], u32, BitFault); 4] = [

@@ -1,12 +1,16 @@
-use Rattle.std.proofs.Common.{◌≡◌, ℕ, List, take, arith}
-use Rattle.std.proofs.lemmas.List.{length-take-le, get_or-take}
+use Rattle.std.proofs.Common.{◌≡◌, ℕ, List, take, arith, inl, inr}
+use Rattle.std.proofs.lemmas.Bool.{cases_lt}
+use Rattle.std.proofs.lemmas.List.{length-take, length-take-le, get_or-take, get_or_past}
 use Rattle.bit_vectors.specs.Vectors.{AreBytes}
 use Rattle.bit_vectors.proofs.FrontWord.{Shows-bytes}
-use Rattle.bit_vectors.proofs.PenBits.{AreBytes-take}
 use Rattle.bit_vectors.proofs.front.front_word.Goals as goal
 
 front_bytes : (n : ℕ) (bytes front : List ℕ) → front ≡ take n bytes → AreBytes bytes → AreBytes front
-front_bytes n bytes front same below = λ i. rw same (AreBytes-take n bytes below i)
+front_bytes n bytes front same below i =
+    elim (cases_lt i n) [
+      | inl lt ↦ rw (same, get_or-take n bytes i 0 lt) (below i)
+      | inr le ↦ rw (same, get_or_past (take n bytes) i 0 (omega (arith, length-take n bytes))) (omega arith)
+    ]
 
 pub returns-in-Some : goal.returns-in-Some
 returns-in-Some c =

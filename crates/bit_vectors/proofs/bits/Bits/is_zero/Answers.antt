@@ -1,15 +1,18 @@
-use Rattle.std.proofs.Common.{true}
-use Rattle.std.specs.Bool.{Decides}
-use Rattle.std.specs.List.{Contains}
-use Rattle.std.specs.Cmp.{booleans_Decides}
-use Rattle.std.proofs.Math.Bool.{beq}
-use Rattle.std.proofs.lemmas.List.Elements.{contains_decides, Decides-contains}
-use Rattle.bit_vectors.proofs.ByteBits.{is_zero_by_test}
+use Rattle.std.proofs.Common.{◌≡◌, Bool, true, false}
+use Rattle.std.specs.Bool.{OnFalse}
+use Rattle.bit_vectors.proofs.Keeping.{holds_read, zero_vector, zero_words_of, some_one}
 use Rattle.bit_vectors.proofs.bits.Bits.is_zero.Goals as goal
+
+on_false : (test : Bool) (none some : Type 0) → (none → test ≡ true) → ((none → ⊥) → some) → OnFalse test some
+on_false true none some when not_none = tt
+on_false false none some when not_none = not_none (λ h. let e = when h in absurd cc)
 
 pub returns-clause-zero : goal.returns-clause-zero
 returns-clause-zero c =
-    let test : Decides c.contains.result (Contains c.deref.result.now true) =
-    Decides-contains c.deref.result.now true c.contains.result (contains_decides beq booleans_Decides c.deref.result.now true c.contains.result c.contains.ensures.cases) in
-    let same = rw (c.deref.ensures.value, c.self.view_is) at test in
-    is_zero_by_test c.args.self.now c.contains.result same
+    let h = holds_read _ _ _ _ c.deref.ensures.value c.self.invariant.0 c.self.view_is in
+    (λ e. zero_vector _ _ _ h (c.are_zero.ensures.0 e), λ zero_is. c.are_zero.ensures.1 (zero_words_of _ _ _ h zero_is))
+
+pub returns-clause-some : goal.returns-clause-some
+returns-clause-some c =
+    let h = holds_read _ _ _ _ c.deref.ensures.value c.self.invariant.0 c.self.view_is in
+    on_false c.are_zero.result _ _ c.are_zero.ensures.1 (some_one _ _ _ h)

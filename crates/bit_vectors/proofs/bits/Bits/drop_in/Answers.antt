@@ -1,0 +1,32 @@
+use Rattle.std.proofs.Common.{length, ◌&&◌, not, ap, sym, refl, ◌∙◌, arith}
+use Rattle.bit_vectors.specs.Vectors.{without_bits}
+use Rattle.bit_vectors.proofs.Keeping.{holds, holds_read, Becomes, Becomes-zip, words_become, vector_becomes}
+use Rattle.bit_vectors.proofs.bits.Bits.drop_in.Goals as goal
+use Rattle.bit_vectors.proofs.bits.Bits.drop_in.Goals.{After-drop_words}
+
+becomes : (c : After-drop_words) → Becomes c.self.inside.words.items c.drop_words.new.words c.self.inside.places (without_bits c.args.self.now c.args.other.now)
+becomes c =
+    Becomes-zip (λ a b. a && not b) refl _ _ _ _ _ _ _ (holds _ _ _ c.self.invariant.0 c.self.view_is) (holds_read _ _ _ _ c.deref.ensures.value c.other.invariant.0 c.other.view_is) c.requires
+    (c.drop_words.auto.words ∙ ap length c.deref_mut.ensures.value) (λ k. c.drop_words.ensures.bits k ∙ rw c.deref_mut.ensures.value refl) c.drop_words.ensures.numbers
+
+pub drop_words-requires : goal.drop_words-requires
+drop_words-requires c =
+    let h = holds _ _ _ c.self.invariant.0 c.self.view_is in
+    let g = holds _ _ _ c.other.invariant.0 c.other.view_is in
+    omega (arith, h.len, h.are.count, g.len, g.are.count, c.requires, ap length c.deref_mut.ensures.value, ap length c.deref.ensures.value)
+
+pub invariant_of-self : goal.invariant_of-self
+invariant_of-self c =
+    let d = (goal.at.invariant_of-self c).After-drop_words in
+    (words_become _ _ _ _ _ c.self.invariant.0 c.self.inside.words.ok.0 (becomes d), c.self.invariant.1)
+
+pub returns-clause-bits : goal.returns-clause-bits
+returns-clause-bits c =
+    let d = (goal.at.returns-clause-bits c).After-drop_words in
+    vector_becomes _ _ _ _ _ c.self.invariant.0 c.self.inside.words.ok.0 (becomes d)
+
+pub returns-clause-len : goal.returns-clause-len
+returns-clause-len c =
+    let d = (goal.at.returns-clause-len c).After-drop_words in
+    let h = holds _ _ _ c.self.invariant.0 c.self.view_is in
+    ap length (vector_becomes _ _ _ _ _ c.self.invariant.0 c.self.inside.words.ok.0 (becomes d)) ∙ (becomes d).len ∙ sym h.len

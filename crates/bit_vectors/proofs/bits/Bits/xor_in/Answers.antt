@@ -1,0 +1,32 @@
+use Rattle.std.proofs.Common.{length, if◌then◌else◌, not, ap, sym, refl, ◌∙◌, arith}
+use Rattle.bit_vectors.specs.Vectors.{xor_bits}
+use Rattle.bit_vectors.proofs.Keeping.{holds, holds_read, Becomes, Becomes-zip, words_become, vector_becomes}
+use Rattle.bit_vectors.proofs.bits.Bits.xor_in.Goals as goal
+use Rattle.bit_vectors.proofs.bits.Bits.xor_in.Goals.{After-xor_words}
+
+becomes : (c : After-xor_words) → Becomes c.self.inside.words.items c.xor_words.new.words c.self.inside.places (xor_bits c.args.self.now c.args.other.now)
+becomes c =
+    Becomes-zip (λ a b. if a then not b else b) refl _ _ _ _ _ _ _ (holds _ _ _ c.self.invariant.0 c.self.view_is) (holds_read _ _ _ _ c.deref.ensures.value c.other.invariant.0 c.other.view_is) c.requires
+    (c.xor_words.auto.words ∙ ap length c.deref_mut.ensures.value) (λ k. c.xor_words.ensures.bits k ∙ rw c.deref_mut.ensures.value refl) c.xor_words.ensures.numbers
+
+pub xor_words-requires : goal.xor_words-requires
+xor_words-requires c =
+    let h = holds _ _ _ c.self.invariant.0 c.self.view_is in
+    let g = holds _ _ _ c.other.invariant.0 c.other.view_is in
+    omega (arith, h.len, h.are.count, g.len, g.are.count, c.requires, ap length c.deref_mut.ensures.value, ap length c.deref.ensures.value)
+
+pub invariant_of-self : goal.invariant_of-self
+invariant_of-self c =
+    let d = (goal.at.invariant_of-self c).After-xor_words in
+    (words_become _ _ _ _ _ c.self.invariant.0 c.self.inside.words.ok.0 (becomes d), c.self.invariant.1)
+
+pub returns-clause-bits : goal.returns-clause-bits
+returns-clause-bits c =
+    let d = (goal.at.returns-clause-bits c).After-xor_words in
+    vector_becomes _ _ _ _ _ c.self.invariant.0 c.self.inside.words.ok.0 (becomes d)
+
+pub returns-clause-len : goal.returns-clause-len
+returns-clause-len c =
+    let d = (goal.at.returns-clause-len c).After-xor_words in
+    let h = holds _ _ _ c.self.invariant.0 c.self.view_is in
+    ap length (vector_becomes _ _ _ _ _ c.self.invariant.0 c.self.inside.words.ok.0 (becomes d)) ∙ (becomes d).len ∙ sym h.len

@@ -1,0 +1,43 @@
+-- The words of 64 bits in which a vector is kept: place 0 is the bit of the greatest weight of word 0.
+use Rattle.std.specs.Prelude.{◌≡◌, ℕ, ◌+◌, ◌-◌, ◌*◌, ◌/◌, ◌%◌, ◌^◌, ◌<◌, ◌≤◌, ◌==◌, Bool, false, List, length, take, slice_index, slice_index_or}
+use Rattle.std.specs.List.{flat_map}
+use Rattle.std.specs.Int.{bit_at}
+use Rattle.bit_vectors.specs.Vectors.{number_bits}
+
+-- how many words so many places take
+abbrev pub word_count : ℕ → ℕ
+word_count places = (places + 63) / 64
+
+-- the 64 bits of a word are those of the vector from place 64 * index on, and zeros past its end
+abbrev pub IsWord : List Bool → ℕ → ℕ → Type 0
+IsWord v index word = (k : ℕ) → k < 64 → (bit_at word (63 - k) == 1) ≡ slice_index_or v (64 * index + k) false
+
+-- each bit of the word with this number that belongs to none of so many places is zero
+abbrev pub HasNoSpareBit : ℕ → ℕ → ℕ → Type 0
+HasNoSpareBit places index word = (k : ℕ) → k < 64 → places ≤ 64 * index + k → bit_at word (63 - k) ≡ 0
+
+-- ---- what is kept
+
+-- the bit with this number, over all the words, and a zero past their end
+unfoldable pub bit_of : List ℕ → ℕ → Bool
+bit_of words k = bit_at (slice_index words (k / 64)) (63 - k % 64) == 1
+
+-- the bits of all the words
+abbrev pub word_bits : List ℕ → List Bool
+word_bits words = flat_map (number_bits 64) words
+
+-- the vector of so many places
+unfoldable pub vector_of : List ℕ → ℕ → List Bool
+vector_of words places = take places (word_bits words)
+
+-- the words have the places, and no spare bit is one
+pub record AreWords (words : List ℕ) (places : ℕ) : Type 0 where
+  pub some : 1 ≤ places
+  pub most : places ≤ 49152
+  pub count : length words ≡ word_count places
+  pub numbers : (i : ℕ) → slice_index words i < 2 ^ 64
+  pub spare : (k : ℕ) → places ≤ k → bit_of words k ≡ false
+
+-- no bit is one from one number up to another, which is not looked at
+abbrev pub NoBitIsOne : List ℕ → ℕ → ℕ → Type 0
+NoBitIsOne words from to = (k : ℕ) → from ≤ k → k < to → bit_of words k ≡ false

@@ -1,0 +1,42 @@
+//! Words of 64 bits and the bytes that hold the same bits: the bit of the greatest weight comes first.
+
+ghost use Rattle.std.specs.Prelude.{◌≡◌, ℕ, ◌+◌, ◌-◌, ◌*◌, ◌^◌, ◌<◌, ◌≤◌, ◌↔◌, ◌==◌, true, false, length, drop, slice_index, slice_index_or, Contains, IsTrue};
+ghost use Rattle.std.specs.Int.{bit_at};
+ghost use Rattle.bit_vectors.specs.Vectors.{bits_of, byte_count};
+ghost use Rattle.bit_vectors.specs.Words.{bit_of};
+
+use crate::front::front_word;
+
+/// Fills the words with the bits of the bytes, and with zeros past their end.
+pub fn load_words(bytes: &[u8], words: &mut [u64])
+    requires most { length bytes.now ≤ 8 * length words.old }
+    requires least { 8 * length words.old < length bytes.now + 8 }
+    ensures bits { (k : ℕ) → bit_of words.new k ≡ slice_index_or (bits_of bytes.now) k false }
+    ensures numbers { (i : ℕ) → slice_index words.new i < 2 ^ 64 }
+{
+    for (index, word) in words.iter_mut().enumerate() {
+        *word = front_word(&bytes[8 * index..]);
+    }
+}
+
+/// Writes the bits of the words to the bytes, which are as many as the words have, or up to seven fewer.
+pub fn store_words(words: &[u64], bytes: &mut [u8])
+    requires most { length bytes.old ≤ 8 * length words.now }
+    requires least { 8 * length words.now < length bytes.old + 8 }
+    ensures { (k : ℕ) → k < 8 * length bytes.old → slice_index_or (bits_of bytes.new) k false ≡ bit_of words.now k }
+{
+    for (index, word) in words.iter().enumerate() {
+        let end = bytes.len().min(8 * index + 8);
+        bytes[8 * index..end].copy_from_slice(&word.to_be_bytes()[..end - 8 * index]);
+    }
+}
+
+/// Whether a bit of the last byte that belongs to none of so many places is 1.
+pub fn has_spare_bit(bytes: &[u8], places: u32) -> bool
+    requires some { 1 ≤ places }
+    requires len { length bytes.now ≡ byte_count places }
+    ensures { IsTrue result ↔ Contains (drop places (bits_of bytes.now)) true }
+{
+    let last = places - 1;
+    bytes[(last / 8) as usize] % (1 << (7 - last % 8)) != 0
+}

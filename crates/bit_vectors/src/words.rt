@@ -1,0 +1,135 @@
+//! Words of 64 bits that keep the bits of a vector. Place 0 is the bit of the greatest weight of word 0.
+
+ghost use Rattle.std.specs.Prelude.{◌≡◌, ◌≢◌, ℕ, ◌+◌, ◌*◌, ◌^◌, ◌<◌, ◌≤◌, ◌↔◌, ◌&&◌, ◌||◌, Bool, true, not, if◌then◌else◌, length, replicate, slice_index, EachIndex, IsTrue, IfSome, IfNone, IfOk, count_by};
+ghost use Rattle.std.specs.Vec.{vec_capacity};
+ghost use Rattle.bit_vectors.specs.Words.{bit_of, word_bits, NoBitIsOne};
+
+use crate::fault::NoMemory;
+use std::alloc::Global;
+
+/// So many words of zeros, and room for no more.
+pub fn zero_words(alloc: Global, count: usize) -> Result<Vec<u64>, NoMemory>
+    ensures words { IfOk result (λ words. words.items ≡ replicate count 0) }
+    ensures full { IfOk result (λ words. vec_capacity words ≡ count) }
+{
+    let mut words = Vec::with_capacity(alloc, count)?;
+    for _ in 0..count {
+        words.push_reserved(0);
+    }
+    Ok(words)
+}
+
+/// The bit with this number, over all the words.
+pub fn bit_in_words(words: &[u64], place: u32) -> bool
+    requires { place < 64 * length words.now }
+    ensures { result ≡ bit_of words.now place }
+{
+    (words[(place / 64) as usize] >> (63 - place % 64)) & 1 == 1
+}
+
+/// Makes the bit with this number `value`.
+pub fn write_bit_in_words(words: &mut [u64], place: u32, value: bool)
+    requires { place < 64 * length words.old }
+    ensures bit { bit_of words.new place ≡ value }
+    ensures others { (k : ℕ) → k ≢ place → bit_of words.new k ≡ bit_of words.old k }
+    ensures numbers { (i : ℕ) → slice_index words.new i < 2 ^ 64 }
+{
+    let weight = 1 << (63 - place % 64);
+    if value {
+        words[(place / 64) as usize] |= weight;
+    } else {
+        words[(place / 64) as usize] &= !weight;
+    }
+}
+
+/// Makes each word the bits that exactly one of it and the other has.
+pub fn xor_words(words: &mut [u64], others: &[u64])
+    requires { length words.old ≡ length others.now }
+    ensures bits { (k : ℕ) → bit_of words.new k
+        ≡ (if bit_of words.old k then not (bit_of others.now k) else bit_of others.now k) }
+    ensures numbers { (i : ℕ) → slice_index words.new i < 2 ^ 64 }
+{
+    for (index, word) in words.iter_mut().enumerate() {
+        *word ^= others[index];
+    }
+}
+
+/// Adds to each word the bits of the other.
+pub fn or_words(words: &mut [u64], others: &[u64])
+    requires { length words.old ≡ length others.now }
+    ensures bits { (k : ℕ) → bit_of words.new k ≡ (bit_of words.old k || bit_of others.now k) }
+    ensures numbers { (i : ℕ) → slice_index words.new i < 2 ^ 64 }
+{
+    for (index, word) in words.iter_mut().enumerate() {
+        *word |= others[index];
+    }
+}
+
+/// Takes from each word the bits of the other.
+pub fn drop_words(words: &mut [u64], others: &[u64])
+    requires { length words.old ≡ length others.now }
+    ensures bits { (k : ℕ) → bit_of words.new k ≡ (bit_of words.old k && not (bit_of others.now k)) }
+    ensures numbers { (i : ℕ) → slice_index words.new i < 2 ^ 64 }
+{
+    for (index, word) in words.iter_mut().enumerate() {
+        *word &= !others[index];
+    }
+}
+
+/// The number of ones in at most 768 words.
+pub fn ones_in(words: &[u64]) -> u32
+    requires { length words.now ≤ 768 }
+    ensures { result ≡ count_by (λ bit. bit) (word_bits words.now) }
+{
+    let mut ones = 0;
+    for word in words {
+        ones += word.count_ones();
+    }
+    ones
+}
+
+/// Whether every word is 0.
+pub fn are_zero(words: &[u64]) -> bool
+    ensures { IsTrue result ↔ EachIndex words.now (λ i. slice_index words.now i ≡ 0) }
+{
+    words.iter().all(|word| *word == 0)
+}
+
+/// The number of the last one among the bits before `below`.
+pub fn last_one(words: &[u64], below: u32) -> Option<u32>
+    requires { below ≤ 64 * length words.now }
+    ensures one { IfSome result (λ place. bit_of words.now place ≡ true) }
+    ensures below { IfSome result (λ place. place < below) }
+    ensures greatest { IfSome result (λ place. NoBitIsOne words.now (place + 1) below) }
+    ensures none { IfNone result (NoBitIsOne words.now 0 below) }
+{
+    let mut end = below;
+    while end > 0 {
+        let last = end - 1;
+        let shifted = words[(last / 64) as usize] >> (63 - last % 64);
+        if shifted != 0 {
+            return Some(last - shifted.trailing_zeros());
+        }
+        end = last / 64 * 64;
+    }
+    None
+}
+
+/// The number of the first one among the bits from `from` on, which are at most 49,152.
+pub fn first_one(words: &[u64], from: u32) -> Option<u32>
+    requires { length words.now ≤ 768 }
+    ensures one { IfSome result (λ place. bit_of words.now place ≡ true) }
+    ensures from { IfSome result (λ place. from ≤ place) }
+    ensures least { IfSome result (λ place. NoBitIsOne words.now from place) }
+    ensures none { IfNone result (NoBitIsOne words.now from (64 * length words.now)) }
+{
+    let mut start = from;
+    while start < 64 * words.len() as u32 {
+        let shifted = words[(start / 64) as usize] << (start % 64);
+        if shifted != 0 {
+            return Some(start + shifted.leading_zeros());
+        }
+        start = start / 64 * 64 + 64;
+    }
+    None
+}
