@@ -1,6 +1,9 @@
 //! Each call that takes memory, with ample memory, and the texts of the faults.
 
-use crate::{BitEye, BitFault, BitPen, Bits, NoMemory, SpareBit};
+ghost use Rattle.std.specs.Prelude.{◌<◌, ◌≤◌};
+
+use crate::{BitEye, BitFault, BitPen, Bits, NoMemory, SpareBit, byte_len};
+use std::alloc::Global;
 use std::test::Fail;
 
 #[test]
@@ -20,6 +23,73 @@ fn vector_of_thirteen_places(rt: HostRuntime) -> Result<(), Fail> {
         Err(BitFault::EndsEarly { bit: 8 })
     );
     assert_eq!(rt; vector.next_one_up(8), Some(10));
+    Ok(())
+}
+
+#[test]
+fn words_of_vectors(rt: HostRuntime) -> Result<(), Fail> {
+    let mut vector = Bits::zeros(rt.alloc(), 13)?;
+    vector.load(&[0x12, 0x38])?;
+    assert_eq!(rt; vector.word_count(), 1);
+    assert_eq!(rt; vector.word(0), 0x1238_0000_0000_0000);
+    let mut vector = Bits::zeros(rt.alloc(), 65)?;
+    vector.set(64, true);
+    assert_eq!(rt; vector.word(1), 1 << 63);
+    assert_eq!(rt; vector.next_one_down(65), Some(64));
+    assert_eq!(rt; vector.next_one_down(64), None);
+    let mut other = Bits::zeros(rt.alloc(), 65)?;
+    other.set_word(1, 1 << 63);
+    assert!(rt; other.same(&vector));
+    Ok(())
+}
+
+/// A vector of so many places with its last place set, found there and nowhere else.
+fn finds_its_last_place(alloc: Global, places: u32) -> Result<bool, NoMemory>
+    requires some { 1 < places }
+    requires most { places ≤ 49152 }
+{
+    let last = places - 1;
+    let mut vector = Bits::zeros(alloc, places)?;
+    vector.set(last, true);
+    let up = vector.next_one_up(1) == Some(last);
+    let down = vector.next_one_down(places) == Some(last);
+    let word = vector.word(vector.word_count() - 1) == 1 << (63 - last % 64);
+    Ok(up & down & word & (vector.ones() == 1))
+}
+
+/// Two vectors of so many places put together, and one of them stored and loaded again.
+fn puts_together(alloc: Global, places: u32) -> Result<bool, NoMemory>
+    requires some { 1 < places }
+    requires most { places ≤ 49152 }
+{
+    let mut vector = Bits::zeros(alloc, places)?;
+    let mut both = Bits::zeros(alloc, places)?;
+    vector.set(places - 1, true);
+    both.copy_from(&vector);
+    both.set(0, true);
+    vector.xor_in(&both);
+    let first = vector.get(0) & (vector.ones() == 1);
+    vector.or_in(&both);
+    let joined = vector.same(&both);
+    vector.drop_in(&both);
+    let none = vector.is_zero();
+    let mut bytes = vec![in alloc; 0; byte_len(places) as usize]?;
+    both.store(&mut bytes);
+    let loaded = vector.load(&bytes).is_ok() & vector.same(&both);
+    vector.clear();
+    Ok(first & joined & none & loaded & vector.is_zero())
+}
+
+#[test]
+fn vectors_around_the_edges_of_words(rt: HostRuntime) -> Result<(), Fail> {
+    for places in [63, 64, 65, 127, 128, 49_152] {
+        assert!(rt; 1 < places && places <= 49_152);
+        assert!(rt; finds_its_last_place(rt.alloc(), places)?);
+        assert!(rt; puts_together(rt.alloc(), places)?);
+    }
+    let mut vector = Bits::zeros(rt.alloc(), 1)?;
+    vector.set(0, true);
+    assert_eq!(rt; vector.word(0), 1 << 63);
     Ok(())
 }
 
