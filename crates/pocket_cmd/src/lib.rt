@@ -6,6 +6,7 @@ mod fault;
 mod job;
 mod laws;
 mod mask;
+mod numbers;
 mod opening;
 mod rehearsal;
 mod run;

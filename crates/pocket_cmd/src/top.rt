@@ -13,7 +13,7 @@ ghost use Rattle.pocket_cmd.specs.Outcome.{Stands, IsTooLong, HasBadRow, IsUntou
 ghost use Rattle.pocket_cmd.specs.Status.{HasStatusCause, status_of};
 ghost use Rattle.pocket_cmd.specs.Words.{Assigns};
 
-use crate::command::command_of;
+use crate::command::Command;
 use crate::status::{Refusal, Status};
 use crate::work::perform;
 use desk_ports::{Desk, Inlet};
@@ -113,7 +113,7 @@ pub fn pocket<D: Desk>(alloc: Global, words: &[String], desk: &mut D) -> Status
     // These two faults come only where the desk failed in this call; after all other answers no count has changed.
     ensures cause { HasStatusCause (D.counts desk.old) (D.counts desk.new) result }
 {
-    match command_of(words) {
+    match Command::of(words) {
         Ok(command) => perform(alloc, &command, desk).into(),
         Err(word) => Status::Refused(Refusal::BadWords { word }),
     }

@@ -10,9 +10,6 @@ use Rattle.loss_player.specs.Played.{played_bytes}
 use Rattle.pocket_cmd.proofs.Headline.{Done-whole, HasWritten-restored, IsWhole-played}
 use Rattle.pocket_cmd.proofs.top.pocket.Goals as goal
 
-pub perform-requires-clause-right : goal.perform-requires-clause-right
-perform-requires-clause-right g c = (IsCommand-command_of (map string_bytes c.args.words.now) (view_command c.in-Ok.command) (sym c.in-Ok.ensures)).right
-
 pub perform-requires-clause-side : goal.perform-requires-clause-side
 perform-requires-clause-side g c =
     let command = view_command c.in-Ok.command in
