@@ -5,9 +5,9 @@ use Rattle.desk_ports.specs.Meanings.{Meanings, Counts, Kept, FailsToRead, Fails
 use Rattle.desk_ports.specs.declared.desk.Inlet.{Inlet}
 use Rattle.desk_ports.specs.declared.desk.Inlet.TheVariants as inlet
 use Rattle.desk_ports.specs.declared.desk.Outlet.TheVariants as outlet
-use Rattle.pocket_cmd.specs.declared.opening.Names.{Names as Held}
-use Rattle.pocket_cmd.specs.declared.opening.Unopened.{Unopened}
-use Rattle.pocket_cmd.specs.declared.opening.Unopened.TheVariants as unopened
+use Rattle.pocket_cmd.specs.declared.run.Names.{Names as Held}
+use Rattle.pocket_cmd.specs.declared.run.Unopened.{Unopened}
+use Rattle.pocket_cmd.specs.declared.run.Unopened.TheVariants as unopened
 use Rattle.pocket_cmd.specs.declared.side.TextFault.{TextFault}
 use Rattle.pocket_cmd.specs.declared.side.TextFault.TheVariants as unread
 use Rattle.pocket_cmd.specs.Command.{Names}

@@ -9,7 +9,7 @@ ghost use Rattle.pocket_cmd.specs.Words.{view_given, view_digits};
 
 use crate::mask::is_mask;
 use crate::numbers::{Apid, Places, Robustness};
-use crate::opening::Names;
+use crate::run::Names;
 use crate::words::{Given, Verb};
 
 /// What `compress` is told: the names of the recording, of the store and of a schedule, the bits of a packet, the APID, the
