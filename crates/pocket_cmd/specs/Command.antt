@@ -1,6 +1,8 @@
 -- The command that the words give, or the place of the first fault in them.
-use Rattle.std.specs.Prelude.{ℕ, ◌+◌, ◌≤◌, ◌≡◌, ◌⊎◌, Bool, List, [], ◌∷◌, length, codes, Option, Some, None, ok_or, Result, Ok, Err, IfSome}
+use Rattle.std.specs.Prelude.{ℕ, ◌+◌, ◌≤◌, ◌≡◌, ◌⊎◌, Bool, List, [], ◌∷◌, length, codes, map, Option, Some, None, ok_or, Result, Ok, Err, IfSome}
 use Rattle.std.specs.Option.{option_map}
+use Rattle.std.specs.String.{string_bytes}
+use Rattle.std.specs.declared.string.String.{String}
 use Rattle.pocket_cmd.specs.Masks.{first_mask, mask_of, no_mask}
 use Rattle.pocket_cmd.specs.Words.{Given, nothing_given, verb_of, given_by, Assigns, ◌>>=◌}
 use Rattle.pocket_cmd.specs.declared.words.Verb.{Verb}
@@ -164,3 +166,10 @@ command_of (word ∷ words) = do
   verb ← ok_or (verb_of word) 0
   given ← given_by verb nothing_given 1 words
   with_values verb given (length words + 1)
+
+-- the words give this command; they give a command of which this holds
+abbrev pub IsCommandOf : {Z : Type 0} → List (String Z) → Command → Type 0
+IsCommandOf words command = command_of (map string_bytes words) ≡ Ok command
+
+abbrev pub HasCommand : {Z : Type 0} → List (String Z) → (Command → Type 0) → Type 0
+HasCommand words Holds = (command : Command) × IsCommandOf words command × Holds command

@@ -36,6 +36,10 @@ abbrev pub side_given : Meanings → Option (List ℕ) → Option (List ℕ)
 side_given m None = Some []
 side_given m (Some name) = given m inlet.Side name
 
+-- the desk tells both inputs of these names
+abbrev pub AreTold : Names → Meanings → List ℕ → List ℕ → Type 0
+AreTold names m text input = (side_given m names.side ≡ Some text) × (given m inlet.Main names.input ≡ Some input)
+
 -- the text is that of the side input, where the desk tells it
 abbrev pub IsSideText : Meanings → Option (List ℕ) → List ℕ → Type 0
 IsSideText m side text = IfSome (side_given m side) (λ bytes. text ≡ bytes)

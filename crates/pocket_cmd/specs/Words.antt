@@ -1,7 +1,9 @@
 -- What the words of a command line say: a verb, and then `key=value` in any order.
-use Rattle.std.specs.Prelude.{ℕ, ◌+◌, Bool, false, not, ◌&&◌, ◌||◌, ◌==◌, nat_lt, List, [], ◌∷◌, ◌++◌, length, Contains, codes, Option, Some, None, ok_or, Result, Ok, Err, if◌then◌else◌}
+use Rattle.std.specs.Prelude.{ℕ, ◌+◌, Bool, false, not, ◌&&◌, ◌||◌, ◌==◌, nat_lt, List, [], ◌∷◌, ◌++◌, length, Contains, codes, map, Option, Some, None, ok_or, Result, Ok, Err, if◌then◌else◌}
 use Rattle.std.specs.Borrow.{Bor}
 use Rattle.std.specs.Option.{option_map}
+use Rattle.std.specs.String.{string_bytes}
+use Rattle.std.specs.declared.string.String.{String}
 use Rattle.std.specs.List.{list_any, before_first, after_first, position_or_len}
 use Rattle.std.specs.Str.{bytes_eq}
 use Rattle.side_tables.specs.Numbers.{number_of}
@@ -118,6 +120,17 @@ abbrev pub given_by : Verb → Given → ℕ → List (List ℕ) → Result Give
 given_by verb g place [] = Ok g
 given_by verb g place (word ∷ words) = ok_or (with_word verb g place word) place >>= λ more. given_by verb more (place + 1) words
 
+-- the keys whose values are names to read, and names to write
+abbrev pub read_keys : List (List ℕ)
+read_keys = codes "in" ∷ codes "plan" ∷ codes "script" ∷ []
+
+abbrev pub written_keys : List (List ℕ)
+written_keys = codes "out" ∷ codes "report" ∷ []
+
 -- one of the words gives this value to the key
 abbrev pub Assigns : List (List ℕ) → List ℕ → List ℕ → Type 0
 Assigns words key value = Contains words (key ++ 61 ∷ value)
+
+-- one of the words gives this name to one of the keys
+abbrev pub Gives : {Z : Type 0} → List (String Z) → List (List ℕ) → List ℕ → Type 0
+Gives words keys name = (key : List ℕ) × Contains keys key × Assigns (map string_bytes words) key name

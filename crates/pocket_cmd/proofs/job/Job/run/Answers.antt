@@ -1,4 +1,4 @@
-use Rattle.std.proofs.Common.{None, ap, ◌∙◌, sym}
+use Rattle.std.proofs.Common.{None, ap, sym}
 use Rattle.side_tables.specs.Rows.{copies_of}
 use Rattle.flight_chain.specs.Compressing.{compress_course, stop_by as flight_stop}
 use Rattle.loss_player.specs.Playing.{play_course, stop_by as play_stop}
