@@ -1,28 +1,36 @@
 -- What words that give a command grant, and how its answer is told.
-use Rattle.std.proofs.Common.{◌≡◌, ◌≢◌, ◌⊎◌, inl, inr, ℕ, Bool, IsTrue, List, Option, Some, None, IfSome, Result, Ok, Err, codes, ◌∙◌, subst}
-use Rattle.desk_ports.specs.declared.desk.Inlet.TheVariants as inlet
-use Rattle.desk_ports.specs.Meanings.{Meanings, Counts, Rose}
+use Rattle.std.specs.List.{Contains}
+use Rattle.std.proofs.Common.{refl, arith, ◌≡◌, ◌≢◌, ◌⊎◌, inl, inr, ℕ, Bool, IsTrue, List, Option, Some, None, IfSome, Result, Ok, Err, codes, ◌∙◌, subst}
+use Rattle.desk_ports.specs.Meanings.{Meanings, Counts}
 use Rattle.pocket_cmd.specs.declared.status.Status.{Status}
 use Rattle.pocket_cmd.specs.declared.status.Status.TheVariants.{Refused}
 use Rattle.pocket_cmd.specs.declared.status.Refusal.{Refusal}
 use Rattle.pocket_cmd.specs.declared.status.Refusal.TheVariants as refusal
-use Rattle.pocket_cmd.specs.Words.{Assigns}
+use Rattle.pocket_cmd.specs.Words.{Assigns, read_keys, written_keys}
 use Rattle.pocket_cmd.specs.Command.{Command, names_of}
-use Rattle.pocket_cmd.specs.Openings.{given, side_given}
+use Rattle.pocket_cmd.specs.Openings.{AreTold}
 use Rattle.pocket_cmd.specs.Status.{status_by}
-use Rattle.pocket_cmd.specs.Outcome.{IsAnswered, answer_to}
+use Rattle.pocket_cmd.specs.Outcome.{IsAnswered, NoneRose, answer_to}
 
--- the side input of a command is granted
-pub side_granted : (words : List (List ℕ)) (side : Option (List ℕ)) (grants : List ℕ → Bool) → ((name : List ℕ) → Assigns words (codes "plan") name → IsTrue (grants name)) → ((name : List ℕ) → Assigns words (codes "script") name → IsTrue (grants name))
+-- the names of a command are granted where all that words give to these keys are
+abbrev AreGranted : List (List ℕ) → List (List ℕ) → (List ℕ → Bool) → Type 0
+AreGranted words keys grants = (name : List ℕ) → (key : List ℕ) × Contains keys key × Assigns words key name → IsTrue (grants name)
+
+pub side_granted : (words : List (List ℕ)) (side : Option (List ℕ)) (grants : List ℕ → Bool) → AreGranted words read_keys grants
     → IfSome side (λ name. Assigns words (codes "plan") name ⊎ Assigns words (codes "script") name) → IfSome side (λ name. IsTrue (grants name))
-side_granted words None grants plans scripts given = tt
-side_granted words (Some name) grants plans scripts (inl plan) = plans name plan
-side_granted words (Some name) grants plans scripts (inr script) = scripts name script
+side_granted words None grants granted given = tt
+side_granted words (Some name) grants granted (inl plan) = granted name (codes "plan", (1, omega arith, refl), plan)
+side_granted words (Some name) grants granted (inr script) = granted name (codes "script", (2, omega arith, refl), script)
 
--- and its report
-pub report_granted : (words : List (List ℕ)) (report : Option (List ℕ)) (grants : List ℕ → Bool) → ((name : List ℕ) → Assigns words (codes "report") name → IsTrue (grants name)) → IfSome report (Assigns words (codes "report")) → IfSome report (λ name. IsTrue (grants name))
-report_granted words None grants reports given = tt
-report_granted words (Some name) grants reports given = reports name given
+pub input_granted : (words : List (List ℕ)) (name : List ℕ) (grants : List ℕ → Bool) → AreGranted words read_keys grants → Assigns words (codes "in") name → IsTrue (grants name)
+input_granted words name grants granted given = granted name (codes "in", (0, omega arith, refl), given)
+
+pub output_granted : (words : List (List ℕ)) (name : List ℕ) (grants : List ℕ → Bool) → AreGranted words written_keys grants → Assigns words (codes "out") name → IsTrue (grants name)
+output_granted words name grants granted given = granted name (codes "out", (0, omega arith, refl), given)
+
+pub report_granted : (words : List (List ℕ)) (report : Option (List ℕ)) (grants : List ℕ → Bool) → AreGranted words written_keys grants → IfSome report (Assigns words (codes "report")) → IfSome report (λ name. IsTrue (grants name))
+report_granted words None grants granted given = tt
+report_granted words (Some name) grants granted given = granted name (codes "report", (1, omega arith, refl), given)
 
 -- words give a command or have a fault
 pub not_both : {r : Result Command ℕ} {command : Command} {word : ℕ} → r ≡ Ok command → r ≡ Err word → ⊥
@@ -33,6 +41,6 @@ same_command one other = cc
 
 -- the answer of the command that the words give
 pub ends_for : {r : Result Command ℕ} (one other : Command) → r ≡ Ok one → r ≡ Ok other → (m : Meanings) (old new : Counts) (answer : Result (Unit {0}) Refusal) (status : Status) → status ≡ status_by answer → IsAnswered one m old new answer
-    → (text input : List ℕ) → side_given m (names_of other).side ≡ Some text → given m inlet.Main (names_of other).input ≡ Some input → status ≢ Refused refusal.NoMemory → ¬ Rose old.reads new.reads → ¬ Rose old.writes new.writes → status ≡ answer_to other text input
-ends_for one other is also m old new answer status told answered text input side_told input_told memory reads writes =
-    told ∙ subst (λ command. IsAnswered command m old new answer) (same_command is also) answered text input side_told input_told (λ e. memory (told ∙ e)) reads writes
+    → (text input : List ℕ) → AreTold (names_of other) m text input → status ≢ Refused refusal.NoMemory → NoneRose old new → status ≡ answer_to other text input
+ends_for one other is also m old new answer status told answered text input inputs memory none =
+    told ∙ subst (λ command. IsAnswered command m old new answer) (same_command is also) answered text input inputs.0 inputs.1 (λ e. memory (told ∙ e)) none.0 none.1

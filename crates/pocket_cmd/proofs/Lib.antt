@@ -1,4 +1,4 @@
-pub mod Places
+pub mod Bounds
 pub mod Faults
 pub mod Masks
 pub mod Given

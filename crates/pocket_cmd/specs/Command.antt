@@ -1,8 +1,10 @@
 -- The command that the words give, or the place of the first fault in them.
-use Rattle.std.specs.Prelude.{ℕ, ◌+◌, ◌≤◌, ◌≡◌, ◌⊎◌, Bool, List, [], ◌∷◌, length, codes, Option, Some, None, ok_or, Result, Ok, Err, IfSome}
+use Rattle.std.specs.Prelude.{ℕ, ◌+◌, ◌≤◌, ◌≡◌, ◌⊎◌, Bool, List, [], ◌∷◌, length, codes, map, Option, Some, None, ok_or, Result, Ok, Err, IfSome}
 use Rattle.std.specs.Option.{option_map}
+use Rattle.std.specs.String.{string_bytes}
+use Rattle.std.specs.declared.string.String.{String}
 use Rattle.pocket_cmd.specs.Masks.{first_mask, mask_of, no_mask}
-use Rattle.pocket_cmd.specs.Words.{Value, Named, Numbered, Plain, verb_of, first_faulty, value_of, place_of, Assigns}
+use Rattle.pocket_cmd.specs.Words.{Given, nothing_given, verb_of, given_by, Assigns, ◌>>=◌}
 use Rattle.pocket_cmd.specs.declared.words.Verb.{Verb}
 use Rattle.pocket_cmd.specs.declared.words.Verb.TheVariants as verb
 use Rattle.pocket_cmd.specs.declared.command.CompressValues.{CompressValues as HeldCompress}
@@ -91,17 +93,17 @@ view_compress c = record {
   input = c.input.now;
   output = c.output.now;
   plan = option_map (λ name. name.now) c.plan;
-  bits = c.bits;
-  apid = c.apid;
-  robust = c.robust;
-  mask = first_mask c.bits (option_map (λ text. text.now) c.mask);
+  bits = c.bits.value;
+  apid = c.apid.value;
+  robust = c.robust.value;
+  mask = first_mask c.bits.value (option_map (λ text. text.now) c.mask);
 }
 
 abbrev pub view_play : HeldPlay → PlayValues
-view_play p = record { input = p.input.now; output = p.output.now; report = p.report.now; script = p.script.now; apid = p.apid }
+view_play p = record { input = p.input.now; output = p.output.now; report = p.report.now; script = p.script.now; apid = p.apid.value }
 
 abbrev pub view_restore : HeldRestore → RestoreValues
-view_restore r = record { input = r.input.now; output = r.output.now; report = r.report.now; bits = r.bits; apid = r.apid }
+view_restore r = record { input = r.input.now; output = r.output.now; report = r.report.now; bits = r.bits.value; apid = r.apid.value }
 
 abbrev pub view_command : Held → Command
 view_command (held.Compress c) = Compress (view_compress c)
@@ -114,96 +116,60 @@ view_result (Err word) = Err word
 
 -- ---- from the words
 
--- the name that a value is, the number, and the text
-abbrev pub name_in : Option Value → Option (List ℕ)
-name_in None = None
-name_in (Some (Named direction text)) = Some text
-name_in (Some (Numbered n)) = None
-name_in (Some (Plain text)) = None
-
-abbrev pub number_in : Option Value → Option ℕ
-number_in None = None
-number_in (Some (Named direction text)) = None
-number_in (Some (Numbered n)) = Some n
-number_in (Some (Plain text)) = None
-
-abbrev pub text_in : Option Value → Option (List ℕ)
-text_in None = None
-text_in (Some (Named direction text)) = None
-text_in (Some (Numbered n)) = None
-text_in (Some (Plain text)) = Some text
-
-infixl 10 ◌>>=◌
-abbrev pub ◌>>=◌ : {A B : Type 0} → Result A ℕ → (A → Result B ℕ) → Result B ℕ
-(Ok x) >>= f = f x
-(Err e) >>= f = Err e
-
--- the name, or the number, that words give to a key; where it is missing, the number of all words
-abbrev pub name_given : Verb → List (List ℕ) → List ℕ → Result (List ℕ) ℕ
-name_given v words key = ok_or (name_in (value_of v words key)) (length words + 1)
-
-abbrev pub number_given : Verb → List (List ℕ) → List ℕ → Result ℕ ℕ
-number_given v words key = ok_or (number_in (value_of v words key)) (length words + 1)
-
 -- the mask that a text says, zero where there is none; where it says none, the place of its word
-abbrev pub mask_given : ℕ → Option (List ℕ) → ℕ → Result (List Bool) ℕ
-mask_given f None word = Ok (no_mask f)
-mask_given f (Some text) word = ok_or (mask_of f text) word
+abbrev pub mask_given : ℕ → Option (ℕ × List ℕ) → Result (List Bool) ℕ
+mask_given f None = Ok (no_mask f)
+mask_given f (Some (word, text)) = ok_or (mask_of f text) word
 
--- what `compress` is told by the words behind it
-unfoldable pub compress_values : List (List ℕ) → Result CompressValues ℕ
-compress_values words = do
-  input ← name_given verb.Compress words (codes "in")
-  output ← name_given verb.Compress words (codes "out")
-  bits ← number_given verb.Compress words (codes "bits")
-  apid ← number_given verb.Compress words (codes "apid")
-  robust ← number_given verb.Compress words (codes "robust")
-  mask ← mask_given bits (text_in (value_of verb.Compress words (codes "mask"))) (place_of verb.Compress words (codes "mask") + 1)
-  Ok (record {
-    input = input;
-    output = output;
-    plan = name_in (value_of verb.Compress words (codes "plan"));
-    bits = bits;
-    apid = apid;
-    robust = robust;
-    mask = mask;
-  })
+-- what `compress` is told by what the words give; or the number of all words, where one is missing; or the place of the word
+-- with the mask
+unfoldable pub compress_values : Given → ℕ → Result CompressValues ℕ
+compress_values g missing = do
+  bits ← ok_or g.bits missing
+  input ← ok_or g.input missing
+  output ← ok_or g.output missing
+  apid ← ok_or g.apid missing
+  robust ← ok_or g.robust missing
+  mask ← mask_given bits g.mask
+  Ok (record { input = input; output = output; plan = g.plan; bits = bits; apid = apid; robust = robust; mask = mask })
 
 -- what `play` is told
-unfoldable pub play_values : List (List ℕ) → Result PlayValues ℕ
-play_values words = do
-  input ← name_given verb.Play words (codes "in")
-  output ← name_given verb.Play words (codes "out")
-  report ← name_given verb.Play words (codes "report")
-  script ← name_given verb.Play words (codes "script")
-  apid ← number_given verb.Play words (codes "apid")
+unfoldable pub play_values : Given → ℕ → Result PlayValues ℕ
+play_values g missing = do
+  input ← ok_or g.input missing
+  output ← ok_or g.output missing
+  report ← ok_or g.report missing
+  script ← ok_or g.script missing
+  apid ← ok_or g.apid missing
   Ok (record { input = input; output = output; report = report; script = script; apid = apid })
 
 -- what `restore` is told
-unfoldable pub restore_values : List (List ℕ) → Result RestoreValues ℕ
-restore_values words = do
-  input ← name_given verb.Restore words (codes "in")
-  output ← name_given verb.Restore words (codes "out")
-  report ← name_given verb.Restore words (codes "report")
-  bits ← number_given verb.Restore words (codes "bits")
-  apid ← number_given verb.Restore words (codes "apid")
+unfoldable pub restore_values : Given → ℕ → Result RestoreValues ℕ
+restore_values g missing = do
+  input ← ok_or g.input missing
+  output ← ok_or g.output missing
+  report ← ok_or g.report missing
+  bits ← ok_or g.bits missing
+  apid ← ok_or g.apid missing
   Ok (record { input = input; output = output; report = report; bits = bits; apid = apid })
 
-abbrev pub with_values : Verb → List (List ℕ) → Result Command ℕ
-with_values verb.Compress words = compress_values words >>= λ c. Ok (Compress c)
-with_values verb.Play words = play_values words >>= λ p. Ok (Play p)
-with_values verb.Restore words = restore_values words >>= λ r. Ok (Restore r)
-
-abbrev pub unless_faulty : Option ℕ → Result Command ℕ → Result Command ℕ
-unless_faulty (Some word) command = Err (word + 1)
-unless_faulty None command = command
-
-abbrev pub with_verb : Option Verb → List (List ℕ) → Result Command ℕ
-with_verb None words = Err 0
-with_verb (Some v) words = unless_faulty (first_faulty v words) (with_values v words)
+abbrev pub with_values : Verb → Given → ℕ → Result Command ℕ
+with_values verb.Compress g missing = compress_values g missing >>= λ c. Ok (Compress c)
+with_values verb.Play g missing = play_values g missing >>= λ p. Ok (Play p)
+with_values verb.Restore g missing = restore_values g missing >>= λ r. Ok (Restore r)
 
 -- the verb with its values; or the place of the first faulty word; or the number of words, where one is missing; or the
 -- place of the word with the mask, where its text says none
 abbrev pub command_of : List (List ℕ) → Result Command ℕ
 command_of [] = Err 0
-command_of (word ∷ words) = with_verb (verb_of word) words
+command_of (word ∷ words) = do
+  verb ← ok_or (verb_of word) 0
+  given ← given_by verb nothing_given 1 words
+  with_values verb given (length words + 1)
+
+-- the words give this command; they give a command of which this holds
+abbrev pub IsCommandOf : {Z : Type 0} → List (String Z) → Command → Type 0
+IsCommandOf words command = command_of (map string_bytes words) ≡ Ok command
+
+abbrev pub HasCommand : {Z : Type 0} → List (String Z) → (Command → Type 0) → Type 0
+HasCommand words Holds = (command : Command) × IsCommandOf words command × Holds command

@@ -1,5 +1,5 @@
 -- The first mask, as hexadecimal digits say it.
-use Rattle.std.specs.Prelude.{ℕ, Bool, true, false, if◌then◌else◌, List, take, replicate, Option, Some, None, Result, Ok, Err, unwrap_or, is_some}
+use Rattle.std.specs.Prelude.{ℕ, Bool, false, if◌then◌else◌, List, take, replicate, Option, Some, None, Result, Ok, Err, unwrap_or, is_some}
 use Rattle.std.specs.Option.{option_map}
 use Rattle.bit_vectors.specs.Vectors.{bits_of, byte_count, has_spare_bit}
 use Rattle.hex.specs.Hex.{decode_sized}
@@ -17,10 +17,9 @@ mask_bytes f text = unless_spare f (decode_sized text (byte_count f))
 abbrev pub mask_of : ℕ → List ℕ → Option (List Bool)
 mask_of f text = option_map (λ bytes. take f (bits_of bytes)) (mask_bytes f text)
 
--- the text, where there is one, says a vector of f places
-abbrev pub is_mask : ℕ → Option (List ℕ) → Bool
-is_mask f None = true
-is_mask f (Some text) = is_some (mask_of f text)
+-- the text says a vector of f places
+abbrev pub is_mask : ℕ → List ℕ → Bool
+is_mask f text = is_some (mask_of f text)
 
 abbrev pub no_mask : ℕ → List Bool
 no_mask f = replicate f false

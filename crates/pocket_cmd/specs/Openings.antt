@@ -5,9 +5,9 @@ use Rattle.desk_ports.specs.Meanings.{Meanings, Counts, Kept, FailsToRead, Fails
 use Rattle.desk_ports.specs.declared.desk.Inlet.{Inlet}
 use Rattle.desk_ports.specs.declared.desk.Inlet.TheVariants as inlet
 use Rattle.desk_ports.specs.declared.desk.Outlet.TheVariants as outlet
-use Rattle.pocket_cmd.specs.declared.opening.Names.{Names as Held}
-use Rattle.pocket_cmd.specs.declared.opening.Unopened.{Unopened}
-use Rattle.pocket_cmd.specs.declared.opening.Unopened.TheVariants as unopened
+use Rattle.pocket_cmd.specs.declared.run.Names.{Names as Held}
+use Rattle.pocket_cmd.specs.declared.run.Unopened.{Unopened}
+use Rattle.pocket_cmd.specs.declared.run.Unopened.TheVariants as unopened
 use Rattle.pocket_cmd.specs.declared.side.TextFault.{TextFault}
 use Rattle.pocket_cmd.specs.declared.side.TextFault.TheVariants as unread
 use Rattle.pocket_cmd.specs.Command.{Names}
@@ -35,6 +35,10 @@ given m i name = given_by m.held (left m i) name
 abbrev pub side_given : Meanings → Option (List ℕ) → Option (List ℕ)
 side_given m None = Some []
 side_given m (Some name) = given m inlet.Side name
+
+-- the desk tells both inputs of these names
+abbrev pub AreTold : Names → Meanings → List ℕ → List ℕ → Type 0
+AreTold names m text input = (side_given m names.side ≡ Some text) × (given m inlet.Main names.input ≡ Some input)
 
 -- the text is that of the side input, where the desk tells it
 abbrev pub IsSideText : Meanings → Option (List ℕ) → List ℕ → Type 0

@@ -160,6 +160,10 @@ answer_by command text input = by_row (bad_row_of command text) (status_of (cour
 abbrev pub answer_to : Command → List ℕ → List ℕ → Status
 answer_to command text input = if nat_lt 1048576 (length text) then Refused refusal.SideTooLong else answer_by command text input
 
+-- no call failed, by the counts
+abbrev pub NoneRose : Counts → Counts → Type 0
+NoneRose old new = (¬ Rose old.reads new.reads) × (¬ Rose old.writes new.writes)
+
 -- where the input is told, memory was found and no count rose, the answer is this one
 abbrev pub IsAnsweredBy : Command → List ℕ → Meanings → Counts → Counts → Result (Unit {0}) Refusal → Type 0
 IsAnsweredBy command text m old new result =

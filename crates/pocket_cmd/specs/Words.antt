@@ -1,17 +1,15 @@
 -- What the words of a command line say: a verb, and then `key=value` in any order.
-use Rattle.std.specs.Prelude.{ℕ, Bool, true, false, not, ◌&&◌, ◌||◌, ◌==◌, nat_lt, List, [], ◌∷◌, ◌++◌, length, take, find, slice_index_or, Contains, codes, Option, Some, None, if◌then◌else◌}
-use Rattle.std.specs.List.{list_any, range_with_len, before_first, after_first, position_or_len}
+use Rattle.std.specs.Prelude.{ℕ, ◌+◌, Bool, false, not, ◌&&◌, ◌||◌, ◌==◌, nat_lt, List, [], ◌∷◌, ◌++◌, length, Contains, codes, map, Option, Some, None, ok_or, Result, Ok, Err, if◌then◌else◌}
+use Rattle.std.specs.Borrow.{Bor}
+use Rattle.std.specs.Option.{option_map}
+use Rattle.std.specs.String.{string_bytes}
+use Rattle.std.specs.declared.string.String.{String}
+use Rattle.std.specs.List.{list_any, before_first, after_first, position_or_len}
 use Rattle.std.specs.Str.{bytes_eq}
 use Rattle.side_tables.specs.Numbers.{number_of}
 use Rattle.pocket_cmd.specs.declared.words.Verb.{Verb}
 use Rattle.pocket_cmd.specs.declared.words.Verb.TheVariants.{Compress, Play, Restore}
-use Rattle.pocket_cmd.specs.declared.words.Direction.{Direction}
-use Rattle.pocket_cmd.specs.declared.words.Direction.TheVariants.{In, Out}
-use Rattle.pocket_cmd.specs.declared.words.KeyKind.{KeyKind}
-use Rattle.pocket_cmd.specs.declared.words.KeyKind.TheVariants.{Name, Number, Text}
-use Rattle.pocket_cmd.specs.declared.words.Value.{Value as HeldValue}
-use Rattle.pocket_cmd.specs.declared.words.Value.TheVariants as held
-use Rattle.pocket_cmd.specs.declared.words.WordEntry.{WordEntry as HeldEntry}
+use Rattle.pocket_cmd.specs.declared.words.Given.{Given as Held}
 
 -- the verb that a word names
 abbrev pub verb_of : List ℕ → Option Verb
@@ -21,150 +19,118 @@ verb_of word =
     else (if bytes_eq word (codes "restore") then Some Restore
     else None))
 
--- the bits of a packet, an APID that is no idle one, and a required robustness
-abbrev pub bits_kind : KeyKind
-bits_kind = Number 1 49152
+-- the keys of each verb
+abbrev pub keys_of : Verb → List (List ℕ)
+keys_of Compress = codes "in" ∷ codes "out" ∷ codes "bits" ∷ codes "apid" ∷ codes "robust" ∷ codes "plan" ∷ codes "mask" ∷ []
+keys_of Play = codes "in" ∷ codes "out" ∷ codes "apid" ∷ codes "script" ∷ codes "report" ∷ []
+keys_of Restore = codes "in" ∷ codes "out" ∷ codes "report" ∷ codes "bits" ∷ codes "apid" ∷ []
 
-abbrev pub apid_kind : KeyKind
-apid_kind = Number 0 2046
+abbrev pub has_key : Verb → List ℕ → Bool
+has_key verb key = list_any (bytes_eq key) (keys_of verb)
 
-abbrev pub robust_kind : KeyKind
-robust_kind = Number 0 7
+-- what words give: the value of each key that one of them has
+pub record Given : Type 0 where
+  pub input : Option (List ℕ)
+  pub plan : Option (List ℕ)
+  pub script : Option (List ℕ)
+  pub output : Option (List ℕ)
+  pub report : Option (List ℕ)
+  pub bits : Option ℕ
+  pub apid : Option ℕ
+  pub robust : Option ℕ
+  -- the place of its word, and the digits
+  pub mask : Option (ℕ × List ℕ)
 
--- what the keys of each verb take
-abbrev pub compress_key : List ℕ → Option KeyKind
-compress_key key =
-    if bytes_eq key (codes "in") || bytes_eq key (codes "plan") then Some (Name In)
-    else (if bytes_eq key (codes "out") then Some (Name Out)
-    else (if bytes_eq key (codes "bits") then Some bits_kind
-    else (if bytes_eq key (codes "apid") then Some apid_kind
-    else (if bytes_eq key (codes "robust") then Some robust_kind
-    else (if bytes_eq key (codes "mask") then Some Text
-    else None)))))
+abbrev pub nothing_given : Given
+nothing_given = record { input = None; plan = None; script = None; output = None; report = None; bits = None; apid = None; robust = None; mask = None }
 
-abbrev pub play_key : List ℕ → Option KeyKind
-play_key key =
-    if bytes_eq key (codes "in") || bytes_eq key (codes "script") then Some (Name In)
-    else (if bytes_eq key (codes "out") || bytes_eq key (codes "report") then Some (Name Out)
-    else (if bytes_eq key (codes "apid") then Some apid_kind
-    else None))
+abbrev pub view_digits : Option (ℕ × Bor (List ℕ)) → Option (ℕ × List ℕ)
+view_digits mask = option_map (λ mask. (mask.0, mask.1.now)) mask
 
-abbrev pub restore_key : List ℕ → Option KeyKind
-restore_key key =
-    if bytes_eq key (codes "in") then Some (Name In)
-    else (if bytes_eq key (codes "out") || bytes_eq key (codes "report") then Some (Name Out)
-    else (if bytes_eq key (codes "bits") then Some bits_kind
-    else (if bytes_eq key (codes "apid") then Some apid_kind
-    else None)))
+abbrev pub view_given : Held → Given
+view_given g = record {
+  input = option_map (λ name. name.now) g.input;
+  plan = option_map (λ name. name.now) g.plan;
+  script = option_map (λ name. name.now) g.script;
+  output = option_map (λ name. name.now) g.output;
+  report = option_map (λ name. name.now) g.report;
+  bits = option_map (λ places. places.value) g.bits;
+  apid = option_map (λ apid. apid.value) g.apid;
+  robust = option_map (λ robust. robust.value) g.robust;
+  mask = view_digits g.mask;
+}
 
--- what a key of a verb takes
-abbrev pub key_kind : Verb → List ℕ → Option KeyKind
-key_kind Compress key = compress_key key
-key_kind Play key = play_key key
-key_kind Restore key = restore_key key
+-- a name that was given, to read or to write
+abbrev pub is_name : List ℕ → Option (List ℕ) → Bool
+is_name name None = false
+is_name name (Some other) = bytes_eq other name
 
--- a value as its key takes it
-pub data Value : Type 0 where
-  Named : Direction → List ℕ → Value
-  Numbered : ℕ → Value
-  Plain : List ℕ → Value
+abbrev pub is_read : Given → List ℕ → Bool
+is_read g name = is_name name g.input || is_name name g.plan || is_name name g.script
 
-abbrev pub view_value : HeldValue → Value
-view_value (held.Name direction text) = Named direction text.now
-view_value (held.Number n) = Numbered n
-view_value (held.Text text) = Plain text.now
+abbrev pub is_written : Given → List ℕ → Bool
+is_written g name = is_name name g.output || is_name name g.report
 
--- any text that is not empty for a name
-abbrev pub read_name : Direction → List ℕ → Option Value
-read_name direction text = if length text == 0 then None else Some (Named direction text)
+-- a name has at least one byte and is none of the names so far; but `-` may stand once to read and once to write
+abbrev pub name_in : Given → List ℕ → Option (List ℕ)
+name_in g name =
+    if length name == 0 || is_read g name || (is_written g name && not (bytes_eq name (codes "-"))) then None else Some name
 
-abbrev pub numbered : Option ℕ → Option Value
-numbered None = None
-numbered (Some n) = Some (Numbered n)
+abbrev pub name_out : Given → List ℕ → Option (List ℕ)
+name_out g name =
+    if length name == 0 || is_written g name || (is_read g name && not (bytes_eq name (codes "-"))) then None else Some name
 
--- the value that a text is: a name, a plain decimal within its bounds, or the text itself
-abbrev pub read_value : KeyKind → List ℕ → Option Value
-read_value (Name direction) text = read_name direction text
-read_value (Number low high) text = numbered (number_of low high text)
-read_value Text text = Some (Plain text)
+-- the value of a key that had none
+abbrev pub once : {A : Type 0} → Option A → Option A → Option A
+once None value = value
+once (Some old) value = None
 
--- a word's key and its value
-pub record WordEntry : Type 0 where
-  pub key : List ℕ
-  pub value : Value
-
-abbrev pub view_entry : HeldEntry → WordEntry
-view_entry e = record { key = e.key.now; value = view_value e.value }
-
-abbrev pub entry_with : List ℕ → Option Value → Option WordEntry
-entry_with key None = None
-entry_with key (Some value) = Some (record { key = key; value = value })
-
-abbrev pub read_as : Option KeyKind → List ℕ → Option Value
-read_as None text = None
-read_as (Some kind) text = read_value kind text
+-- what is given when the word at this place gives this text to a key: each key has one value, a name, a plain decimal within
+-- its bounds, or any text
+abbrev pub with_text : Given → ℕ → List ℕ → List ℕ → Option Given
+with_text g place key text =
+    if bytes_eq key (codes "in") then option_map (λ name. record g { input = Some name }) (once g.input (name_in g text))
+    else (if bytes_eq key (codes "plan") then option_map (λ name. record g { plan = Some name }) (once g.plan (name_in g text))
+    else (if bytes_eq key (codes "script") then option_map (λ name. record g { script = Some name }) (once g.script (name_in g text))
+    else (if bytes_eq key (codes "out") then option_map (λ name. record g { output = Some name }) (once g.output (name_out g text))
+    else (if bytes_eq key (codes "report") then option_map (λ name. record g { report = Some name }) (once g.report (name_out g text))
+    else (if bytes_eq key (codes "bits") then option_map (λ n. record g { bits = Some n }) (once g.bits (number_of 1 49152 text))
+    else (if bytes_eq key (codes "apid") then option_map (λ n. record g { apid = Some n }) (once g.apid (number_of 0 2046 text))
+    else (if bytes_eq key (codes "robust") then option_map (λ n. record g { robust = Some n }) (once g.robust (number_of 0 7 text))
+    else (if bytes_eq key (codes "mask") then option_map (λ digits. record g { mask = Some digits }) (once g.mask (Some (place, text)))
+    else None))))))))
 
 abbrev pub is_equals_sign : ℕ → Bool
 is_equals_sign c = c == 61
 
--- a word split at its first `=`, where its key is one of the verb's and has this value
-abbrev pub entry_of : Verb → List ℕ → Option WordEntry
-entry_of verb word =
-    if nat_lt (position_or_len is_equals_sign word) (length word)
-    then entry_with (before_first is_equals_sign word) (read_as (key_kind verb (before_first is_equals_sign word)) (after_first is_equals_sign word))
+-- the same of a whole word, which is split at its first `=` and has a key of the verb
+abbrev pub with_word : Verb → Given → ℕ → List ℕ → Option Given
+with_word verb g place word =
+    if nat_lt (position_or_len is_equals_sign word) (length word) && has_key verb (before_first is_equals_sign word)
+    then with_text g place (before_first is_equals_sign word) (after_first is_equals_sign word)
     else None
 
-abbrev pub same_direction : Direction → Direction → Bool
-same_direction In In = true
-same_direction In Out = false
-same_direction Out In = false
-same_direction Out Out = true
+infixl 10 ◌>>=◌
+abbrev pub ◌>>=◌ : {A B : Type 0} → Result A ℕ → (A → Result B ℕ) → Result B ℕ
+(Ok x) >>= f = f x
+(Err e) >>= f = Err e
 
--- two values are one name that can't stand twice: any but the two standard streams
-abbrev pub meet : Value → Value → Bool
-meet (Named one text) (Named other again) = bytes_eq text again && (not (bytes_eq text (codes "-")) || same_direction one other)
-meet (Named one text) (Numbered n) = false
-meet (Named one text) (Plain other) = false
-meet (Numbered n) other = false
-meet (Plain text) other = false
+-- what words give, from this place on, behind those that gave this; or the place of the first that is faulty
+abbrev pub given_by : Verb → Given → ℕ → List (List ℕ) → Result Given ℕ
+given_by verb g place [] = Ok g
+given_by verb g place (word ∷ words) = ok_or (with_word verb g place word) place >>= λ more. given_by verb more (place + 1) words
 
--- two words can't stand together: one key, or one name
-abbrev pub clash : WordEntry → WordEntry → Bool
-clash one other = bytes_eq one.key other.key || meet one.value other.value
+-- the keys whose values are names to read, and names to write
+abbrev pub read_keys : List (List ℕ)
+read_keys = codes "in" ∷ codes "plan" ∷ codes "script" ∷ []
 
-abbrev pub clash_with_some : WordEntry → Option WordEntry → Bool
-clash_with_some one None = false
-clash_with_some one (Some other) = clash one other
-
-abbrev pub is_faulty_entry : Verb → List (List ℕ) → Option WordEntry → Bool
-is_faulty_entry verb earlier None = true
-is_faulty_entry verb earlier (Some entry) = list_any (λ word. clash_with_some entry (entry_of verb word)) earlier
-
--- a word behind these is faulty: it is no `key=value` of the verb, its value is not one of its key, or it can't stand beside an earlier word
-abbrev pub is_faulty : Verb → List (List ℕ) → List ℕ → Bool
-is_faulty verb earlier word = is_faulty_entry verb earlier (entry_of verb word)
-
--- the first word behind the verb that is faulty, counted from 0
-abbrev pub first_faulty : Verb → List (List ℕ) → Option ℕ
-first_faulty verb words = find (λ i. is_faulty verb (take i words) (slice_index_or words i [])) (range_with_len 0 (length words))
-
-abbrev pub value_unless : List ℕ → Option WordEntry → Option Value → Option Value
-value_unless key None rest = rest
-value_unless key (Some entry) rest = if bytes_eq entry.key key then Some entry.value else rest
-
--- the value that the words give to a key
-abbrev pub value_of : Verb → List (List ℕ) → List ℕ → Option Value
-value_of verb [] key = None
-value_of verb (word ∷ words) key = value_unless key (entry_of verb word) (value_of verb words key)
-
-abbrev pub has_key : List ℕ → Option WordEntry → Bool
-has_key key None = false
-has_key key (Some entry) = bytes_eq entry.key key
-
--- the place of the first word that has the key, counted from 0
-abbrev pub place_of : Verb → List (List ℕ) → List ℕ → ℕ
-place_of verb words key = position_or_len (λ word. has_key key (entry_of verb word)) words
+abbrev pub written_keys : List (List ℕ)
+written_keys = codes "out" ∷ codes "report" ∷ []
 
 -- one of the words gives this value to the key
 abbrev pub Assigns : List (List ℕ) → List ℕ → List ℕ → Type 0
 Assigns words key value = Contains words (key ++ 61 ∷ value)
+
+-- one of the words gives this name to one of the keys
+abbrev pub Gives : {Z : Type 0} → List (String Z) → List (List ℕ) → List ℕ → Type 0
+Gives words keys name = (key : List ℕ) × Contains keys key × Assigns (map string_bytes words) key name

@@ -3,19 +3,21 @@ ghost use Rattle.std.specs.Prelude.{◌≡◌, ◌≢◌, ◌≤◌, ℕ, Some, 
 ghost use Rattle.desk_ports.specs.Courses.{AfterRun, HasCause};
 ghost use Rattle.desk_ports.specs.Meanings.{IsReadyIn, IsReadyOut};
 ghost use Rattle.side_tables.specs.Grammar.{bad_copy_row, bad_flag_row, copy_rows_of};
-ghost use Rattle.pocket_cmd.specs.Command.{AreRight, IsChosen, IsPlaces, IsRight, names_of, view_command, view_compress};
-ghost use Rattle.pocket_cmd.specs.Courses.{course_of, bad_row_of, compression_by};
-ghost use Rattle.pocket_cmd.specs.Jobs.{job_course, writes_report};
+ghost use Rattle.pocket_cmd.specs.Command.{names_of, view_command, view_compress};
+ghost use Rattle.flight_chain.specs.Compressing.{stop_by as flight_stop};
+ghost use Rattle.packet_store.specs.Faults.{stop_of};
+ghost use Rattle.pocket_cmd.specs.Courses.{course_of, bad_row_of, compression_by, of_recording, of_store};
+ghost use Rattle.pocket_cmd.specs.Jobs.{job_course, stop_with, writes_report};
 
 use crate::command::{Command, CompressValues, PlayValues, RestoreValues};
 use crate::fault::DataFault;
 use crate::mask::first_mask;
-use crate::runs::{compress, play, restore};
 use bit_vectors::NoMemory;
 use desk_ports::{Desk, Inlet, Outlet, Stop};
-use flight_chain::Flight;
-use ground_chain::Restorer;
-use loss_player::Player;
+use flight_chain::{Flight, FlightFault};
+use ground_chain::{RestoreFault, Restorer};
+use loss_player::{PlayFault, Player};
+use packet_store::{StoreFault, WalkFault};
 use side_tables::{Schedule, Script, SideFault};
 use std::alloc::Global;
 
@@ -30,8 +32,7 @@ pub enum Job {
 impl Job {
     /// The job of a command whose side input has this text.
     pub fn of(alloc: Global, command: &Command<'_>, text: &[u8]) -> Result<Job, SideFault>
-        requires right { IsRight (view_command command.now) }
-        requires within { length text.now ≤ 1048576 }
+        requires { length text.now ≤ 1048576 }
         ensures course { IfOk result (λ job. job_course job ≡ course_of (view_command command.now) text.now) }
         ensures report { IfOk result (λ job. writes_report job ≡ is_some (names_of (view_command command.now)).report) }
         ensures rows { OnOk result (bad_row_of (view_command command.now) text.now ≡ None) }
@@ -56,17 +57,27 @@ impl Job {
         ensures ready_report { IsReadyOut (D.meaning desk.old) Outlet.Report → OnOk result (IsReadyOut (D.meaning desk.new) Outlet.Report) }
     {
         match self {
-            Job::Compress(flight) => compress(flight, desk),
-            Job::Play(player) => play(player, desk),
-            Job::Restore(restorer) => restore(restorer, desk),
+            Job::Compress(flight) => match flight.compress(desk) {
+                Ok(_) => Ok(()),
+                Err(fault) => Err(by_recording(fault)),
+            },
+            Job::Play(player) => match player.play(desk) {
+                Ok(_) => Ok(()),
+                Err(PlayFault::Store(fault)) => Err(by_store(fault)),
+                Err(PlayFault::WriteFault) => Err(Stop::WriteFault),
+            },
+            Job::Restore(restorer) => match restorer.restore(desk) {
+                Ok(_) => Ok(()),
+                Err(RestoreFault::Store(fault)) => Err(by_store(fault)),
+                Err(RestoreFault::WriteFault) => Err(Stop::WriteFault),
+            },
         }
     }
 }
 
 /// The flight of `compress`, whose schedule has this text.
 fn flight(alloc: Global, told: &CompressValues<'_>, text: &[u8]) -> Result<Flight, SideFault>
-    requires right { AreRight (view_compress told.now) }
-    requires within { length text.now ≤ 1048576 }
+    requires { length text.now ≤ 1048576 }
     ensures flight { IfOk result (λ flight. flight ≡ compression_by (view_compress told.now) text.now) }
     ensures rows { OnOk result (bad_flag_row text.now ≡ None) }
     ensures row { (row : ℕ) → result ≡ Err (SideFault.Row row) → bad_flag_row text.now ≡ Some row }
@@ -74,28 +85,50 @@ fn flight(alloc: Global, told: &CompressValues<'_>, text: &[u8]) -> Result<Fligh
 {
     let plan = Schedule::read(alloc, text)?;
     let mask = first_mask(alloc, told.bits, told.mask)?;
-    let (robust, apid) = (told.robust as u8, told.apid as u16);
-    Ok(Flight::open(alloc, told.bits, robust, apid, &mask, plan)?)
+    let (f, robust, apid) = (told.bits.value, told.robust.value, told.apid.value);
+    Ok(Flight::open(alloc, f, robust, apid, &mask, plan)?)
 }
 
 /// The player of `play`, whose script has this text.
 fn player(alloc: Global, told: &PlayValues<'_>, text: &[u8]) -> Result<Player, SideFault>
-    requires right { IsChosen told.now.apid }
-    requires within { length text.now ≤ 1048576 }
-    ensures player { IfOk result (λ player. player ≡ record { apid = told.now.apid; rows = copy_rows_of text.now }) }
+    requires { length text.now ≤ 1048576 }
+    ensures player { IfOk result (λ player. player ≡ record { apid = told.now.apid.value; rows = copy_rows_of text.now }) }
     ensures rows { OnOk result (bad_copy_row text.now ≡ None) }
     ensures row { (row : ℕ) → result ≡ Err (SideFault.Row row) → bad_copy_row text.now ≡ Some row }
     ensures within { result ≢ Err SideFault.TooLong }
 {
     let script = Script::read(alloc, text)?;
-    Ok(Player::open(alloc, told.apid as u16, script)?)
+    Ok(Player::open(alloc, told.apid.value, script)?)
 }
 
 /// The restorer of `restore`.
 fn restorer(alloc: Global, told: &RestoreValues<'_>) -> Result<Restorer, NoMemory>
-    requires bits { IsPlaces told.now.bits }
-    requires apid { IsChosen told.now.apid }
-    ensures { IfOk result (λ restorer. restorer ≡ record { places = told.now.bits; apid = told.now.apid }) }
+    ensures { IfOk result (λ restorer. restorer ≡ record { places = told.now.bits.value; apid = told.now.apid.value }) }
 {
-    Restorer::open(alloc, told.bits, told.apid as u16)
+    Restorer::open(alloc, told.bits.value, told.apid.value)
+}
+
+/// Why a recording ended a run.
+fn by_recording(fault: FlightFault) -> Stop<DataFault>
+    ensures { result ≡ stop_with of_recording (flight_stop fault) }
+{
+    match fault {
+        FlightFault::CutRecord { t } => Stop::Data(DataFault::CutRecord { t }),
+        FlightFault::SpareBit { t } => Stop::Data(DataFault::SpareBit { t }),
+        FlightFault::TooMany => Stop::Data(DataFault::TooMany),
+        FlightFault::ReadFault => Stop::ReadFault,
+        FlightFault::WriteFault => Stop::WriteFault,
+    }
+}
+
+/// Why a store ended a run.
+fn by_store(fault: StoreFault) -> Stop<DataFault>
+    ensures { result ≡ stop_with of_store (stop_of fault) }
+{
+    let stop: Stop<WalkFault> = fault.into();
+    match stop {
+        Stop::Data(fault) => Stop::Data(fault.into()),
+        Stop::ReadFault => Stop::ReadFault,
+        Stop::WriteFault => Stop::WriteFault,
+    }
 }

@@ -1,15 +1,15 @@
 //! A command over a desk that never fails and keeps nothing: what it would answer.
-ghost use Rattle.std.specs.Prelude.{◌≡◌, ◌≢◌, ◌<◌, ◌^◌, ◌↔◌, ℕ, List, length, map, Some, Ok, Err};
+ghost use Rattle.std.specs.Prelude.{◌≡◌, ◌≢◌, ◌<◌, ◌^◌, ◌↔◌, ℕ, List, length, map, Err};
 ghost use Rattle.std.specs.String.{string_bytes};
 ghost use Rattle.desk_ports.specs.QuietState.{quiet_meanings};
-ghost use Rattle.pocket_cmd.specs.Command.{Command as Told, command_of, names_of};
+ghost use Rattle.pocket_cmd.specs.Command.{Command as Told, IsCommandOf, command_of, names_of};
 ghost use Rattle.pocket_cmd.specs.Delivery.{IsSideRight, IsWhole};
-ghost use Rattle.pocket_cmd.specs.Openings.{given, side_given};
+ghost use Rattle.pocket_cmd.specs.Openings.{AreTold};
 ghost use Rattle.pocket_cmd.specs.Outcome.{answer_to};
 
 use crate::status::{Refusal, Status};
 use crate::top::pocket;
-use desk_ports::{Inlet, QuietDesk};
+use desk_ports::QuietDesk;
 use std::alloc::Global;
 
 /// Rehearses what the words say: reads the inputs that the desk has, and keeps nothing of what would be written.
@@ -22,14 +22,12 @@ pub fn rehearse(alloc: Global, words: &[String], desk: &mut QuietDesk<'_>) -> St
     ensures bad_words { (word : ℕ) → (result ≡ Status.Refused (Refusal.BadWords word))
         ↔ (command_of (map string_bytes words.now) ≡ Err word) }
     // Where both inputs are told and memory was found, the answer is that of the side text and of the input's course.
-    ensures ends { (command : Told) (text input : List ℕ) → command_of (map string_bytes words.now) ≡ Ok command
-        → side_given (quiet_meanings desk.old) (names_of command).side ≡ Some text
-        → given (quiet_meanings desk.old) Inlet.Main (names_of command).input ≡ Some input
+    ensures ends { (command : Told) (text input : List ℕ) → IsCommandOf words.now command
+        → AreTold (names_of command) (quiet_meanings desk.old) text input
         → result ≢ Status.Refused Refusal.NoMemory → result ≡ answer_to command text input }
     // Right words, a right side text and a whole input are done, where memory was found.
-    ensures complete { (command : Told) (text input : List ℕ) → command_of (map string_bytes words.now) ≡ Ok command
-        → side_given (quiet_meanings desk.old) (names_of command).side ≡ Some text
-        → given (quiet_meanings desk.old) Inlet.Main (names_of command).input ≡ Some input
+    ensures complete { (command : Told) (text input : List ℕ) → IsCommandOf words.now command
+        → AreTold (names_of command) (quiet_meanings desk.old) text input
         → IsSideRight command text → IsWhole command input
         → result ≢ Status.Refused Refusal.NoMemory → result ≡ Status.Done }
 {

@@ -1,14 +1,32 @@
-//! A run over a desk, from the opening of its names to the finishing of its outputs.
-ghost use Rattle.std.specs.Prelude.{◌≡◌, is_some, IsTrue, IfSome};
+//! A run over a desk: opening the names of a command, running its job, and finishing its outputs.
+ghost use Rattle.std.specs.Prelude.{◌≡◌, is_some, IsTrue, IfSome, IsSome, IfErr, OnOk, OnErr};
+ghost use Rattle.std.specs.Option.{option_map};
 ghost use Rattle.desk_ports.specs.Courses.{HasCause};
+ghost use Rattle.desk_ports.specs.Meanings.{IsReadyIn, IsReadyOut, HasWriteCause};
 ghost use Rattle.pocket_cmd.specs.Jobs.{job_course, writes_report};
-ghost use Rattle.pocket_cmd.specs.Openings.{view_names};
+ghost use Rattle.pocket_cmd.specs.Openings.{view_names, AfterOpening, HasOpeningCause, AfterFinishing, with_report};
 ghost use Rattle.pocket_cmd.specs.Outcome.{AfterNames};
+ghost use Rattle.pocket_cmd.specs.declared.run.Unopened.TheVariants as unopened;
 
 use crate::fault::DataFault;
 use crate::job::Job;
-use crate::opening::{Names, Unopened, finish_all, open_all};
-use desk_ports::{Desk, Stop};
+use desk_ports::{Desk, Failed, Inlet, Outlet, Stop};
+
+/// The names that a command opens: those of its side input and of its report, where it has them, too.
+#[derive(Clone, Copy, Debug)]
+pub struct Names<'a> {
+    pub side: Option<&'a str>,
+    pub input: &'a str,
+    pub output: &'a str,
+    pub report: Option<&'a str>,
+}
+
+/// What could not be opened.
+#[derive(Clone, Copy, Debug, PartialEq, Eq)]
+enum Unopened {
+    Input,
+    Output,
+}
 
 /// Opens the names, runs the job, and finishes the outputs.
 pub fn run<D: Desk>(desk: &mut D, names: &Names<'_>, job: Job) -> Result<(), Stop<DataFault>>
@@ -31,5 +49,60 @@ pub fn run<D: Desk>(desk: &mut D, names: &Names<'_>, job: Job) -> Result<(), Sto
     match finish_all(desk, names.report) {
         Ok(()) => Ok(()),
         Err(_) => Err(Stop::WriteFault),
+    }
+}
+
+/// Opens the input, the output, and the report where there is one.
+fn open_all<D: Desk>(desk: &mut D, names: &Names<'_>) -> Result<(), Unopened>
+    requires input { IsTrue ((D.meaning desk.old).grants_in names.now.input.now) }
+    requires output { IsTrue ((D.meaning desk.old).grants_out names.now.output.now) }
+    requires report { IfSome names.now.report (λ name. IsTrue ((D.meaning desk.old).grants_out name.now)) }
+    ensures opened { AfterOpening (view_names names.now) (D.meaning desk.old) (D.meaning desk.new) result }
+    ensures cause { HasOpeningCause (D.counts desk.old) (D.counts desk.new) result }
+    ensures ready_in { OnOk result (IsReadyIn (D.meaning desk.new) Inlet.Main) }
+    ensures ready_out { OnOk result (IsReadyOut (D.meaning desk.new) Outlet.Main) }
+    ensures ready_report { OnOk result (IsSome names.now.report → IsReadyOut (D.meaning desk.new) Outlet.Report) }
+{
+    let Ok(()) = desk.open_in(Inlet::Main, names.input) else {
+        return Err(Unopened::Input);
+    };
+    let Ok(()) = desk.open_out(Outlet::Main, names.output) else {
+        return Err(Unopened::Output);
+    };
+    open_report(desk, names.report)
+}
+
+/// Opens the report, where there is one.
+fn open_report<D: Desk>(desk: &mut D, name: Option<&str>) -> Result<(), Unopened>
+    requires { IfSome name (λ name. IsTrue ((D.meaning desk.old).grants_out name.now)) }
+    ensures opened { OnOk result (D.meaning desk.new ≡ with_report (D.meaning desk.old) (option_map (λ name. name.now) name.entry)) }
+    ensures only { IfErr result (λ fault. fault ≡ unopened.Output) }
+    ensures ready { OnOk result (IsSome name.entry → IsReadyOut (D.meaning desk.new) Outlet.Report) }
+    ensures ready_in { IsReadyIn (D.meaning desk.old) Inlet.Main → IsReadyIn (D.meaning desk.new) Inlet.Main }
+    ensures ready_out { IsReadyOut (D.meaning desk.old) Outlet.Main → IsReadyOut (D.meaning desk.new) Outlet.Main }
+    ensures report { OnErr result (IsSome name.entry) }
+    ensures unchanged { OnErr result (D.meaning desk.new ≡ D.meaning desk.old) }
+    ensures cause { HasWriteCause (D.counts desk.old) (D.counts desk.new) result }
+{
+    let Some(name) = name else {
+        return Ok(());
+    };
+    match desk.open_out(Outlet::Report, name) {
+        Ok(()) => Ok(()),
+        Err(_) => Err(Unopened::Output),
+    }
+}
+
+/// Finishes the output, and then the report, where there is one.
+fn finish_all<D: Desk>(desk: &mut D, report: Option<&str>) -> Result<(), Failed>
+    requires output { IsReadyOut (D.meaning desk.old) Outlet.Main }
+    requires report { IsSome report → IsReadyOut (D.meaning desk.old) Outlet.Report }
+    ensures finished { AfterFinishing (option_map (λ name. name.now) report.entry) (D.meaning desk.old) (D.meaning desk.new) result }
+    ensures cause { HasWriteCause (D.counts desk.old) (D.counts desk.new) result }
+{
+    desk.finish(Outlet::Main)?;
+    match report {
+        None => Ok(()),
+        Some(_) => desk.finish(Outlet::Report),
     }
 }

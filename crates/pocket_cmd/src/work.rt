@@ -1,6 +1,6 @@
 //! The work of a command.
 ghost use Rattle.std.specs.Prelude.{◌≡◌, ◌≤◌, length, IsTrue, IfSome};
-ghost use Rattle.pocket_cmd.specs.Command.{IsRight, names_of, view_command};
+ghost use Rattle.pocket_cmd.specs.Command.{names_of, view_command};
 ghost use Rattle.pocket_cmd.specs.Outcome.{AfterCommand, AfterText, IsAnswered, IsAnsweredBy};
 ghost use Rattle.pocket_cmd.specs.Status.{HasStatusCause, refused_by, status_by};
 
@@ -15,7 +15,6 @@ use std::alloc::Global;
 
 /// Reads the side input of a command, takes the memory of its run, and runs it.
 pub fn perform<D: Desk>(alloc: Global, command: &Command<'_>, desk: &mut D) -> Result<(), Refusal>
-    requires right { IsRight (view_command command.now) }
     requires side { IfSome (names_of (view_command command.now)).side (λ name. IsTrue ((D.meaning desk.old).grants_in name)) }
     requires input { IsTrue ((D.meaning desk.old).grants_in (names_of (view_command command.now)).input) }
     requires output { IsTrue ((D.meaning desk.old).grants_out (names_of (view_command command.now)).output) }
@@ -37,7 +36,6 @@ fn perform_with<D: Desk>(
     text: &[u8],
     desk: &mut D,
 ) -> Result<(), Refusal>
-    requires right { IsRight (view_command command.now) }
     requires within { length text.now ≤ 1048576 }
     requires input { IsTrue ((D.meaning desk.old).grants_in (names_of (view_command command.now)).input) }
     requires output { IsTrue ((D.meaning desk.old).grants_out (names_of (view_command command.now)).output) }

@@ -1,5 +1,5 @@
 use Rattle.std.proofs.Common.{◌≡◌, Err, inl, subst}
-use Rattle.pocket_cmd.specs.declared.opening.Unopened.TheVariants as unopened
+use Rattle.pocket_cmd.specs.declared.run.Unopened.TheVariants as unopened
 use Rattle.pocket_cmd.specs.Jobs.{job_course}
 use Rattle.pocket_cmd.specs.Openings.{view_names, AfterOpening}
 use Rattle.pocket_cmd.proofs.Opened.{AfterNames-stop, RunStands-finished, IsRunUnwritten-unfinished}

@@ -3,36 +3,35 @@ use Rattle.std.specs.String.{string_bytes}
 use Rattle.pocket_cmd.specs.declared.status.Refusal.TheVariants as refusal
 use Rattle.pocket_cmd.specs.Command.{Restore, names_of, view_command}
 use Rattle.pocket_cmd.proofs.Given.{IsCommand-command_of}
-use Rattle.pocket_cmd.proofs.Granted.{same_command, side_granted, report_granted, not_both, ends_for}
+use Rattle.pocket_cmd.proofs.Granted.{same_command, side_granted, input_granted, output_granted, report_granted, not_both, ends_for}
 use Rattle.pocket_cmd.proofs.Performed.{AfterRefusal-answer, Stands-answer}
 use Rattle.flight_chain.specs.Stores.{store_of}
 use Rattle.loss_player.specs.Played.{played_bytes}
 use Rattle.pocket_cmd.proofs.Headline.{Done-whole, HasWritten-restored, IsWhole-played}
 use Rattle.pocket_cmd.proofs.top.pocket.Goals as goal
 
-pub perform-requires-clause-right : goal.perform-requires-clause-right
-perform-requires-clause-right g c = (IsCommand-command_of (map string_bytes c.args.words.now) (view_command c.in-Ok.command) (sym c.in-Ok.ensures)).right
-
 pub perform-requires-clause-side : goal.perform-requires-clause-side
 perform-requires-clause-side g c =
     let command = view_command c.in-Ok.command in
-    side_granted (map string_bytes c.args.words.now) (names_of command).side (g.D.Desk.meaning c.args.desk.now).grants_in c.requires.plans c.requires.scripts
+    side_granted (map string_bytes c.args.words.now) (names_of command).side (g.D.Desk.meaning c.args.desk.now).grants_in c.requires.reads
     (IsCommand-command_of (map string_bytes c.args.words.now) command (sym c.in-Ok.ensures)).given.side
 
 pub perform-requires-clause-input : goal.perform-requires-clause-input
 perform-requires-clause-input g c =
     let command = view_command c.in-Ok.command in
-    c.requires.inputs (names_of command).input (IsCommand-command_of (map string_bytes c.args.words.now) command (sym c.in-Ok.ensures)).given.input
+    input_granted (map string_bytes c.args.words.now) (names_of command).input (g.D.Desk.meaning c.args.desk.now).grants_in c.requires.reads
+    (IsCommand-command_of (map string_bytes c.args.words.now) command (sym c.in-Ok.ensures)).given.input
 
 pub perform-requires-clause-output : goal.perform-requires-clause-output
 perform-requires-clause-output g c =
     let command = view_command c.in-Ok.command in
-    c.requires.outputs (names_of command).output (IsCommand-command_of (map string_bytes c.args.words.now) command (sym c.in-Ok.ensures)).given.output
+    output_granted (map string_bytes c.args.words.now) (names_of command).output (g.D.Desk.meaning c.args.desk.now).grants_out c.requires.writes
+    (IsCommand-command_of (map string_bytes c.args.words.now) command (sym c.in-Ok.ensures)).given.output
 
 pub perform-requires-clause-report : goal.perform-requires-clause-report
 perform-requires-clause-report g c =
     let command = view_command c.in-Ok.command in
-    report_granted (map string_bytes c.args.words.now) (names_of command).report (g.D.Desk.meaning c.args.desk.now).grants_out c.requires.reports
+    report_granted (map string_bytes c.args.words.now) (names_of command).report (g.D.Desk.meaning c.args.desk.now).grants_out c.requires.writes
     (IsCommand-command_of (map string_bytes c.args.words.now) command (sym c.in-Ok.ensures)).given.report
 
 pub returns-in-Ok-clause-side_too_long : goal.returns-in-Ok-clause-side_too_long
@@ -68,12 +67,12 @@ returns-in-Ok-clause-not_called g c = λ word e.
     absurd (AfterRefusal-answer (view_command c.in-Ok.command) (g.D.Desk.meaning c.args.desk.now) (g.D.Desk.meaning c.perform.new.desk) c.perform.result (refusal.BadWords word) c.perform.ensures.after (sym c.into.ensures ∙ e))
 
 pub returns-in-Ok-clause-ends : goal.returns-in-Ok-clause-ends
-returns-in-Ok-clause-ends g c = λ command text input is side_told input_told memory reads writes.
-    ends_for (view_command c.in-Ok.command) command (sym c.in-Ok.ensures) is (g.D.Desk.meaning c.args.desk.now) (g.D.Desk.counts c.args.desk.now) (g.D.Desk.counts c.perform.new.desk) c.perform.result c.into.result c.into.ensures c.perform.ensures.ends text input side_told input_told memory reads writes
+returns-in-Ok-clause-ends g c = λ command text input is told memory none.
+    ends_for (view_command c.in-Ok.command) command (sym c.in-Ok.ensures) is (g.D.Desk.meaning c.args.desk.now) (g.D.Desk.counts c.args.desk.now) (g.D.Desk.counts c.perform.new.desk) c.perform.result c.into.result c.into.ensures c.perform.ensures.ends text input told memory none
 
 pub returns-in-Ok-clause-complete : goal.returns-in-Ok-clause-complete
-returns-in-Ok-clause-complete g c = λ command text input is side_told input_told right whole memory reads writes.
-    returns-in-Ok-clause-ends g c command text input is side_told input_told memory reads writes ∙ Done-whole command text input right whole
+returns-in-Ok-clause-complete g c = λ command text input is told right whole memory none.
+    returns-in-Ok-clause-ends g c command text input is told memory none ∙ Done-whole command text input right whole
 
 pub returns-in-Ok-clause-headline : goal.returns-in-Ok-clause-headline
 returns-in-Ok-clause-headline g c = λ r h copies is played done.
@@ -81,7 +80,7 @@ returns-in-Ok-clause-headline g c = λ r h copies is played done.
     (same_command (sym c.in-Ok.ensures) is) (IsCommand-command_of (map string_bytes c.args.words.now) (Restore r) is).right.1 played c.perform.ensures.after (sym c.into.ensures ∙ done)
 
 pub returns-in-Ok-clause-headline_done : goal.returns-in-Ok-clause-headline_done
-returns-in-Ok-clause-headline_done g c = λ r h copies is played few memory reads writes.
+returns-in-Ok-clause-headline_done g c = λ r h copies is played few memory none.
     let chosen = (IsCommand-command_of (map string_bytes c.args.words.now) (Restore r) is).right.1 in
-    returns-in-Ok-clause-complete g c (Restore r) [] (played_bytes copies r.apid (store_of h r.apid)) is refl played.told refl
-    (IsWhole-played r h copies (g.D.Desk.meaning c.args.desk.now) chosen played few) memory reads writes
+    returns-in-Ok-clause-complete g c (Restore r) [] (played_bytes copies r.apid (store_of h r.apid)) is (refl, played.told) refl
+    (IsWhole-played r h copies (g.D.Desk.meaning c.args.desk.now) chosen played few) memory none
