@@ -1,6 +1,7 @@
 /* Counts the allocations, reads, writes and openings of a program, and lets one of them fail. Loaded by LD_PRELOAD.
    FAULT_CALL is one letter: a, an allocation; o, an opening; r or w, a read or a write that fails; s or t, a read or a
-   write of one byte. FAULT_NTH counts from 1. FAULT_LOG names a file that gets the letters a, o, r, w of all calls in order. */
+   write of one byte; n, a renaming; u, a removal; y, a sync to the disk; m, a change of the mode. FAULT_NTH counts from 1.
+   FAULT_LOG names a file that gets the letters a, o, r, w, n, u, y, m of all calls in order. */
 #define _GNU_SOURCE
 #include <dlfcn.h>
 #include <errno.h>
@@ -8,6 +9,7 @@
 #include <stdarg.h>
 #include <stdlib.h>
 #include <string.h>
+#include <sys/stat.h>
 #include <sys/syscall.h>
 #include <unistd.h>
 
@@ -77,3 +79,23 @@ static ssize_t write_out(int fd, const void *buf, size_t size) {
 
 ssize_t write(int fd, const void *buf, size_t size) { return write_out(fd, buf, size); }
 ssize_t __write(int fd, const void *buf, size_t size) { return write_out(fd, buf, size); }
+
+int rename(const char *from, const char *to) {
+    if (fails('n', 'n')) { errno = EIO; return -1; }
+    return syscall(SYS_rename, from, to);
+}
+
+int unlink(const char *name) {
+    if (fails('u', 'u')) { errno = EIO; return -1; }
+    return syscall(SYS_unlink, name);
+}
+
+int fsync(int fd) {
+    if (fails('y', 'y')) { errno = EIO; return -1; }
+    return syscall(SYS_fsync, fd);
+}
+
+int fchmod(int fd, mode_t mode) {
+    if (fails('m', 'm')) { errno = EIO; return -1; }
+    return syscall(SYS_fchmod, fd, mode);
+}

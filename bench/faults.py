@@ -1,9 +1,11 @@
 #!/usr/bin/env python3
-"""Lets each allocation, opening, read and write of the three commands fail in turn, and prints what each then answered.
+"""Lets each call of the system that the three commands make fail in turn, and prints what each then answered: allocations,
+openings, reads, writes, and what gives an output its name.
 
 Takes the proved program: bench/faults.py crates/pocket/out/pocket. It compiles faults.c with gcc, and runs the commands on
-the sample of four packets in a temporary folder. A failed run must end with the number and the text of its fault, and leave
-fronts of the outputs of the whole run, or no output where memory was wanting; a short read or write must change nothing.
+the sample of four packets in a temporary folder, over outputs that stood before. A failed run must end with the number and
+the text of its fault, and leave what stood, with fronts of the outputs of the whole run in their parts, or the first output
+whole and the second as it was; no part where memory was wanting before. A short read or write must change nothing.
 Then it counts the calls for recordings of one and of a thousand packets. Its status is 1 where something was otherwise.
 """
 
@@ -22,13 +24,20 @@ COMMANDS = {
     "restore": (["restore", "in=played", "out=OUT", "report=REPORT", "bits=8", "apid=100"], 2),
 }
 
-KINDS = {"a": "allocation", "o": "opening", "r": "read", "w": "write", "s": "short read", "t": "short write"}
+KINDS = {"a": "allocation", "o": "opening", "r": "read", "w": "write", "n": "renaming", "u": "removal", "y": "sync", "m": "change of mode",
+         "s": "short read", "t": "short write"}
+
+STOOD = b"what stood before"
 
 WANTED = {
     "a": {(5, "pocket: out of memory"), (1, "pocket: reading failed"), (1, "pocket: writing failed")},
     "o": {(1, "pocket: reading failed"), (1, "pocket: writing failed")},
     "r": {(1, "pocket: reading failed")},
     "w": {(1, "pocket: writing failed")},
+    "n": {(1, "pocket: writing failed")},
+    "u": {(1, "pocket: writing failed")},
+    "y": {(1, "pocket: writing failed")},
+    "m": {(1, "pocket: writing failed")},
     "s": {(0, "")},
     "t": {(0, "")},
 }
@@ -60,38 +69,41 @@ class Runner:
 
     def run(self, words, kind="", nth=0):
         """Its exit number, its text, both outputs, and the letters of its calls."""
-        for name in ("OUT", "REPORT", "log"):
-            if os.path.exists(self.path(name)):
-                os.remove(self.path(name))
+        for name in ("OUT", "REPORT", "OUT.part", "REPORT.part"):
+            self.put(name, STOOD)
         env = dict(os.environ, LD_PRELOAD=self.shim, FAULT_LOG=self.path("log"))
         if kind:
             env.update(FAULT_CALL=kind, FAULT_NTH=str(nth))
         ended = subprocess.run([self.program] + words, cwd=self.folder, env=env, capture_output=True)
         answer = (ended.returncode, ended.stderr.decode().strip())
-        return answer, self.get("OUT"), self.get("REPORT"), (self.get("log") or b"").decode()
+        outputs = [(self.get(name), self.get(name + ".part")) for name in ("OUT", "REPORT")]
+        return answer, outputs, (self.get("log") or b"").decode()
 
 
-def is_front(part, whole):
-    return part is None or whole is not None and whole.startswith(part)
+def is_right(name, part, whole):
+    """Whether an output is as it was with a front of the whole one in its part, or whole with no part."""
+    if (name, part) == (whole, None):
+        return True
+    return name == STOOD and (part is None or part == STOOD or whole.startswith(part))
 
 
-def judge(kind, answer, out, report, whole):
+def judge(kind, answer, outputs, whole):
     """What is wrong with a run in which a call failed, or None."""
     if kind in "st":
-        return None if (answer, out, report) == ((0, ""), whole[0], whole[1]) else "a short call changed it"
+        return None if (answer, outputs) == ((0, ""), whole) else "a short call changed it"
     if answer not in WANTED[kind]:
         return "an answer of another fault"
-    if answer[0] == 5 and (out is not None or report is not None):
+    if answer[0] == 5 and outputs != [(STOOD, STOOD)] * 2:
         return "an output after want of memory"
-    if not is_front(out, whole[0]) or not is_front(report, whole[1]):
-        return "an output that is no front"
+    if not all(is_right(name, part, told) for (name, part), (told, _) in zip(outputs, whole)):
+        return f"outputs that are not right: {outputs}"
     return None
 
 
 def fail_all(runner, name):
     """Lets each call of a command fail; tells how many runs were otherwise than they must be."""
     words, _ = COMMANDS[name]
-    answer, out, report, calls = runner.run(words)
+    answer, whole, calls = runner.run(words)
     if answer != (0, ""):
         print(f"{name}: {answer} with no fault")
         return 1
@@ -100,9 +112,9 @@ def fail_all(runner, name):
         of = calls.count({"s": "r", "t": "w"}.get(kind, kind))
         answers = {}
         for nth in range(1, of + 1):
-            got, part, rows, _ = runner.run(words, kind, nth)
+            got, outputs, _ = runner.run(words, kind, nth)
             answers.setdefault(got, []).append(nth)
-            fault = judge(kind, got, part, rows, (out, report))
+            fault = judge(kind, got, outputs, whole)
             if fault:
                 wrong += 1
                 print(f"{name}: {what} {nth}: {got}: {fault}")
@@ -134,7 +146,7 @@ def count_calls(runner, packets):
     runner.put("rec", bytes((t // 7) % 256 for t in range(packets)))
     counts = []
     for name, into in (("compress", "store"), ("play", "played"), ("restore", "")):
-        answer, out, _, calls = runner.run(COMMANDS[name][0])
+        answer, [(out, _), _], calls = runner.run(COMMANDS[name][0])
         if answer != (0, ""):
             print(f"{name} of {packets} packets: {answer}")
         if into:
@@ -155,7 +167,7 @@ def main():
         for name, into in (("compress", "store"), ("play", "played"), ("restore", "")):
             wrong += fail_all(runner, name)
             if into:
-                runner.put(into, runner.run(COMMANDS[name][0])[1])
+                runner.put(into, runner.run(COMMANDS[name][0])[1][0][0])
         one, many = count_calls(runner, 1), count_calls(runner, 1000)
         for (name, few, behind), (_, more, later) in zip(one, many):
             print(f"{name}: {few} allocations for 1 packet, {more} for 1,000; {behind} and {later} after the outputs are opened")

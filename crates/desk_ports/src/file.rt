@@ -3,7 +3,7 @@
 ghost use Rattle.std.specs.Prelude.{◌≡◌, ◌≤◌, ◌<◌, ◌+◌, ◌-◌, ◌^◌, false, [], min, length, take, IsTrue, IsErr, IfOk, OnOk, OnErr};
 ghost use Rattle.std.specs.Io.KnownBytes.{IsAtEnd};
 ghost use Rattle.desk_ports.specs.Meanings.{nothing_told, Adds, Begins, HasReadCause, HasWriteCause, IsReadyIn, IsReadyOut, Keeps, Moves, Opens, left};
-ghost use Rattle.desk_ports.specs.FileDesk.{file_counts, file_meanings, gathered_at, other_sink, other_source, read_ahead_at, waits_at};
+ghost use Rattle.desk_ports.specs.FileDesk.{file_counts, file_meanings, gathered, gathered_at, is_opened_sink, other_sink, other_source, read_ahead_at, waits_at};
 
 use crate::desk::{Desk, Failed, Inlet, Outlet};
 use crate::part::{Node, Part};
@@ -40,13 +40,13 @@ impl Source {
     }
 
     // Which file of the system it is.
-    fn node(&self, rt: &HostRuntime) -> Option<Node> {
+    fn node(&self, rt: &HostRuntime) -> io::Result<Option<Node>> {
         match self {
-            Source::Nothing => None,
-            Source::StandardInput(_) => Node::named(rt, "/dev/stdin"),
+            Source::Nothing => Ok(None),
+            Source::StandardInput(_) => Ok(Node::named(rt, "/dev/stdin")),
             Source::File(file) => {
-                let metadata = file.get_ref().metadata().ok()?;
-                Some(Node::of(&metadata))
+                let metadata = file.get_ref().metadata()?;
+                Ok(Some(Node::of(&metadata)))
             }
         }
     }
@@ -91,7 +91,7 @@ enum Sink {
 }
 
 impl Sink {
-    ghost use Rattle.desk_ports.specs.FileDesk.{gathered, is_opened_sink, waits};
+    ghost use Rattle.desk_ports.specs.FileDesk.{waits};
 
     // What stands under the name is not changed.
     fn open(rt: &HostRuntime, name: &str, inputs: &[Option<Node>], other: &Sink) -> io::Result<Sink>
@@ -216,6 +216,19 @@ impl<'a> FileDesk<'a> {
         self.or_write_fault(output.and(report))
     }
 
+    // Opens what the bytes of an outlet go to.
+    fn open_sink(&self, outlet: Outlet, name: &str) -> io::Result<Sink>
+        ensures opened { IfOk result (λ sink. IsTrue (is_opened_sink sink)) }
+        ensures none { IfOk result (λ sink. gathered sink ≡ []) }
+    {
+        let inputs = [self.side.node(self.rt)?, self.input.node(self.rt)?];
+        let other = match outlet {
+            Outlet::Main => &self.report,
+            Outlet::Report => &self.output,
+        };
+        Sink::open(self.rt, name, &inputs, other)
+    }
+
     // The answer of a call that reads. An error of the system is a fault.
     fn or_read_fault<T>(&mut self, answer: io::Result<T>) -> Result<T, Failed>
         ensures given { IfOk answer (λ given. result ≡ Ok given) }
@@ -293,12 +306,7 @@ impl<'a> Desk for FileDesk<'a> {
         ensures none { OnOk result (gathered_at self.new outlet ≡ []) }
         ensures other { other_sink self.new outlet ≡ other_sink self.old outlet }
     {
-        let inputs = [self.side.node(self.rt), self.input.node(self.rt)];
-        let other = match outlet {
-            Outlet::Main => &self.report,
-            Outlet::Report => &self.output,
-        };
-        let sink = Sink::open(self.rt, name, &inputs, other);
+        let sink = self.open_sink(outlet, name);
         let sink = self.or_write_fault(sink)?;
         if sink.is_terminal(self.rt) {
             self.progress.hide();
