@@ -1,11 +1,15 @@
 //! The program `pocket`: its words, the desk of files, and how it ends.
 #![tactic(auto)]
 
-ghost use Rattle.std.specs.Prelude.{◌≡◌, ◌≤◌, length, take};
+ghost use Rattle.std.specs.Prelude.{◌≡◌, ℕ, ◌≤◌, ◌↔◌, ◌⊎◌, drop, length, map, take, Err, IsSome, None};
 ghost use Rattle.std.specs.Process.{exit_status};
+ghost use Rattle.std.specs.String.{string_bytes};
+ghost use Rattle.desk_ports.specs.Meanings.{nothing_told};
+ghost use Rattle.pocket.specs.Program.{IsHandedOver, asked_by, seen};
+ghost use Rattle.pocket_cmd.specs.Command.{HasCommand, command_of};
 ghost use Rattle.pocket_cmd.specs.Status.{exit_number};
 
-use desk_ports::FileDesk;
+use desk_ports::{Desk, FileDesk};
 use pocket_cmd::{Refusal, Status, exit_code, pocket};
 use std::process::ExitCode;
 use std::{env, io};
@@ -29,11 +33,42 @@ pocket --version";
 
 const VERSION: &str = "pocket 0.1.0";
 
+/// What the program is asked of itself.
+#[derive(Clone, Copy, Debug, PartialEq, Eq)]
+enum Asked {
+    Help,
+    Version,
+}
+
+impl Asked {
+    /// What the only word asks.
+    fn by(words: &[String]) -> Option<Asked>
+        ensures { result ≡ asked_by (map string_bytes words.now) }
+    {
+        let [word] = words else {
+            return None;
+        };
+        match word.as_str() {
+            "--help" => Some(Asked::Help),
+            "--version" => Some(Asked::Version),
+            _ => None,
+        }
+    }
+
+    /// The text that answers it.
+    fn text(self) -> &'static str {
+        match self {
+            Asked::Help => HELP,
+            Asked::Version => VERSION,
+        }
+    }
+}
+
 fn main(rt: HostRuntime) -> ExitCode {
-    match words(&rt) {
-        Ok(words) => answer(&rt, &words),
+    match command_line(&rt) {
+        Ok(line) => answer(&rt, words(&line)),
         Err(error) if error.kind() == io::ErrorKind::OutOfMemory => {
-            ended(&rt, &Status::Refused(Refusal::NoMemory))
+            ended(&rt, Status::Refused(Refusal::NoMemory))
         }
         Err(_) => {
             let _ = eprintln!(rt; "pocket: words cannot be read");
@@ -42,30 +77,60 @@ fn main(rt: HostRuntime) -> ExitCode {
     }
 }
 
-/// The words after the program's name.
-fn words(rt: &HostRuntime) -> io::Result<Vec<String>> {
-    let mut words = Vec::new(rt.alloc());
-    for word in env::args(rt)?.skip(1) {
-        words.push(word)?;
+/// All words of the command line, the program's name first.
+fn command_line(rt: &HostRuntime) -> io::Result<Vec<String>> {
+    let mut line = Vec::new(rt.alloc());
+    for word in env::args(rt)? {
+        line.push(word)?;
     }
-    Ok(words)
+    Ok(line)
+}
+
+/// The words after the program's name.
+fn words(line: &[String]) -> &[String]
+    ensures { result.now ≡ drop 1 line.now }
+{
+    match line {
+        [] => line,
+        [_, words @ ..] => words,
+    }
 }
 
 /// Prints what is asked of the program itself, or runs the command.
-fn answer(rt: &HostRuntime, words: &[String]) -> ExitCode {
-    match words {
-        [word] if word.as_str() == "--help" => printed(rt, HELP),
-        [word] if word.as_str() == "--version" => printed(rt, VERSION),
-        _ => {
+fn answer(rt: &HostRuntime, words: &[String]) -> ExitCode
+    // Words that give no command, and ask nothing of the program, end it with 2.
+    ensures no_command { (word : ℕ) → asked_by (map string_bytes words.now) ≡ None
+        → command_of (seen words.now) ≡ Err word → exit_status result ≡ 2 }
+    // It ends with 0 only where the words are right or ask something of the program.
+    ensures done { exit_status result ≡ 0
+        → IsSome (asked_by (map string_bytes words.now)) ⊎ HasCommand (take 1000 words.now) (λ _. Unit {0}) }
+{
+    match Asked::by(words) {
+        Some(asked) => printed(rt, asked.text()),
+        None => {
             let mut desk = FileDesk::new(rt);
-            let status = pocket(rt.alloc(), first_words(words), &mut desk);
-            if status != Status::Done {
-                // The refusal is the answer, whether or not what stands can be handed over.
-                let _ = desk.hand_over();
-            }
-            ended(rt, &status)
+            let status = run(rt, first_words(words), &mut desk);
+            ended(rt, status)
         }
     }
+}
+
+/// Runs the command at a desk of files at which nothing was opened. What is gathered there is handed over at the end,
+/// whatever the answer, so that a refused run leaves what it wrote.
+fn run(rt: &HostRuntime, words: &[String], desk: &mut FileDesk<'_>) -> Status
+    requires few { length words.now ≤ 1000 }
+    requires fresh { ⟦<FileDesk<'_> as Desk>⟧.meaning desk.old ≡ nothing_told }
+    ensures no_command { (word : ℕ) → (result ≡ Status.Refused (Refusal.BadWords word))
+        ↔ (command_of (map string_bytes words.now) ≡ Err word) }
+    ensures done { result ≡ Status.Done → HasCommand words.now (λ _. Unit {0}) }
+    ensures handed { IsHandedOver desk.new }
+{
+    let status = pocket(rt.alloc(), words, desk);
+    let handed = desk.hand_over();
+    if handed.is_err() && status == Status::Done {
+        return Status::Refused(Refusal::WriteFault);
+    }
+    status
 }
 
 /// The words that are looked at.
@@ -80,16 +145,16 @@ fn first_words(words: &[String]) -> &[String]
 fn printed(rt: &HostRuntime, text: &str) -> ExitCode {
     match println!(rt; "{text}") {
         Ok(()) => ExitCode::SUCCESS,
-        Err(_) => ended(rt, &Status::Refused(Refusal::WriteFault)),
+        Err(_) => ended(rt, Status::Refused(Refusal::WriteFault)),
     }
 }
 
 /// Prints a refusal on standard error, and gives the exit number.
-fn ended(rt: &HostRuntime, status: &Status) -> ExitCode
-    ensures { exit_status result ≡ exit_number status.now }
+fn ended(rt: &HostRuntime, status: Status) -> ExitCode
+    ensures { exit_status result ≡ exit_number status }
 {
-    if let Status::Refused(refusal) = status {
+    if let Status::Refused(refusal) = &status {
         let _ = eprintln!(rt; "pocket: {refusal}");
     }
-    ExitCode::from(exit_code(status))
+    ExitCode::from(exit_code(&status))
 }

@@ -1,0 +1,27 @@
+-- What the program itself answers, and what it leaves at its desk of files.
+use Rattle.std.specs.Prelude.{◌≡◌, ℕ, ◌≤◌, ◌⊎◌, List, [], ◌∷◌, codes, Option, Some, None, if◌then◌else◌, take, map}
+use Rattle.std.specs.Str.{bytes_eq}
+use Rattle.std.specs.String.{string_bytes}
+use Rattle.std.specs.declared.string.String.{String}
+use Rattle.desk_ports.specs.declared.desk.Outlet.TheVariants as outlet
+use Rattle.desk_ports.specs.declared.file.FileDesk.{FileDesk}
+use Rattle.desk_ports.specs.FileDesk.{file_counts, gathered_at}
+use Rattle.pocket.specs.declared.Asked.{Asked}
+use Rattle.pocket.specs.declared.Asked.TheVariants as asked
+
+-- what the program is asked of itself: by the only word
+abbrev pub asked_by : List (List ℕ) → Option Asked
+asked_by [] = None
+asked_by (word ∷ []) =
+    if bytes_eq word (codes "--help") then Some asked.Help
+    else if bytes_eq word (codes "--version") then Some asked.Version
+    else None
+asked_by (word ∷ next ∷ rest) = None
+
+-- the words that are looked at
+abbrev pub seen : {Z : Type 0} → List (String Z) → List (List ℕ)
+seen words = map string_bytes (take 1000 words)
+
+-- nothing is gathered for either output, or a fault of writing was counted
+abbrev pub IsHandedOver : FileDesk → Type 0
+IsHandedOver desk = ((gathered_at desk outlet.Main ≡ []) × (gathered_at desk outlet.Report ≡ [])) ⊎ (1 ≤ (file_counts desk).writes)
