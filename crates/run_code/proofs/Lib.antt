@@ -5,3 +5,4 @@ pub mod InverseBits
 pub mod RunWords
 pub mod ExactRuns
 pub mod ExtractedBits
+pub mod Gathering
