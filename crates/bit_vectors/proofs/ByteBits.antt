@@ -4,7 +4,7 @@ use Rattle.std.specs.Int.{bit_at}
 use Rattle.std.specs.Prelude.{Contains, not}
 use Rattle.std.specs.Bool.{Decides}
 use Rattle.std.proofs.lemmas.Bool.{cases_lt, true≢false, false≢true, false_from_ne_true}
-use Rattle.std.proofs.lemmas.List.{length-append, length-take, length-drop, length-replicate, get_or_append_left, get_or-append-add, take_at, drop_at, take-append-drop, drop-drop, get_or-drop, get_or_default, get_or_past, get_or-take, ext_get_or, length-take-le}
+use Rattle.std.proofs.lemmas.List.{length-append, length-take, length-drop, length-replicate, get_or_append_left, get_or-append-add, take_at, drop_at, take-append-drop, drop-drop, get_or-drop, get_or_default, get_or_past, ext_get_or, length-take-le}
 use Rattle.std.proofs.Math.Nat.{pow-le-pow_right}
 use Rattle.std.proofs.Math.Seq.{take-append-add}
 use Rattle.bit_vectors.specs.Vectors.{number_bits, bits_number, bits_of, AreBytes, byte_count, padded, bytes_from, vector_bytes}
@@ -133,19 +133,6 @@ pub vector_bytes_is : (bytes : List ℕ) (bits : List Bool) → AreBytes bytes �
 vector_bytes_is bytes bits below same =
     bits_of_injective bytes (vector_bytes bits) below (AreBytes-vector_bytes bits) (same ∙ sym (bits_of-vector_bytes bits))
 
--- the byte with a number is the number of the eight bits there
-pub get_or-bytes_from : (n : ℕ) (bits : List Bool) (i : ℕ) → i < n → get_or (bytes_from n bits) i 0 ≡ bits_number (take 8 (drop (8 * i) bits))
-unfolding bytes_from
-get_or-bytes_from zero bits i lt = absurd (omega arith)
-get_or-bytes_from (suc n) bits zero lt = refl
-get_or-bytes_from (suc n) bits (suc i) lt =
-    let next : 8 + 8 * i ≡ 8 * suc i = omega arith in
-    get_or-bytes_from n (drop 8 bits) i (omega arith) ∙ rw (drop-drop (8 * i) 8 bits, next) refl
-
-pub get_or-vector_bytes : (bits : List Bool) (i : ℕ) → i < byte_count (length bits) → get_or (vector_bytes bits) i 0 ≡ bits_number (take 8 (drop (8 * i) (padded bits)))
-unfolding vector_bytes
-get_or-vector_bytes bits i lt = get_or-bytes_from (byte_count (length bits)) (padded bits) i lt
-
 pub get_or-padded : (bits : List Bool) (i : ℕ) → get_or (padded bits) i false ≡ get_or bits i false
 get_or-padded bits i = get_or-append-zeros bits (8 * byte_count (length bits) - length bits) i
 
@@ -177,26 +164,8 @@ zero_from_none bits none i =
       | inr le ↦ get_or_past bits i false le
     ]
 
--- the front of bits, place by place
-pub take_is : (front bits : List Bool) (n : ℕ) → length front ≡ n → n ≤ length bits → ((k : ℕ) → k < n → get_or front k false ≡ get_or bits k false) → front ≡ take n bits
-take_is front bits n len le same =
-    ext_get_or false front (take n bits) (omega (arith, length-take n bits)) (λ k lt. let below : k < n = omega arith in same k below ∙ sym (get_or-take n bits k false below))
-
 -- bytes that spell a vector of so many places: no bit past them is 1
 pub stored_is : (bytes : List ℕ) (len : ℕ) → AreBytes bytes → length bytes ≡ byte_count len → (Contains (drop len (bits_of bytes)) true → ⊥) → bytes ≡ vector_bytes (take len (bits_of bytes))
 stored_is bytes len below count none =
     vector_bytes_is bytes (take len (bits_of bytes)) below
     (padded_is (bits_of bytes) len (omega (arith, length-bits_of bytes)) (omega (arith, length-bits_of bytes)) (zero_from_none (drop len (bits_of bytes)) none))
-
-pub vector_bytes_by_index : (bytes : List ℕ) (bits : List Bool) → length bytes ≡ byte_count (length bits) → ((k : ℕ) → k < length bytes → get_or bytes k 0 ≡ get_or (vector_bytes bits) k 0) → bytes ≡ vector_bytes bits
-vector_bytes_by_index bytes bits len same = ext_get_or 0 bytes (vector_bytes bits) (omega (arith, length-vector_bytes bits)) same
-
-pub none_in_zeros : (n : ℕ) → Contains (replicate n false) true → ⊥
-none_in_zeros n one =
-    true≢false (sym one.2 ∙ get_or_default (replicate n false) one.0 true false one.1 ∙ get_or-zeros n one.0)
-
--- a test for a one tells whether a vector is zero
-pub is_zero_by_test : (bits : List Bool) (has_one : Bool) → Decides has_one (Contains bits true) → (not has_one ≡ true → bits ≡ replicate (length bits) false) × (bits ≡ replicate (length bits) false → not has_one ≡ true)
-is_zero_by_test bits true test =
-    (λ e. absurd cc, λ zero_is. absurd (none_in_zeros (length bits) (subst (λ (v : List Bool). Contains v true) zero_is (test.0 refl))))
-is_zero_by_test bits false test = (λ e. zeros_is bits (zero_from_none bits (λ one. false≢true (test.1 one))), λ zero_is. refl)

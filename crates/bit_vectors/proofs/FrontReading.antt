@@ -1,43 +1,8 @@
--- So many bits from the front of those that are left, one after the other.
-use Rattle.std.proofs.Common.{◌≡◌, ℕ, ◌+◌, ◌-◌, ◌<◌, ◌≤◌, Bool, false, List, [], ◌∷◌, ◌++◌, length, get_or, take, drop, replicate, refl, sym, ap, ◌∙◌, arith, inl, inr}
+-- So many bits from the front of those that are left.
+use Rattle.std.proofs.Common.{◌≡◌, ℕ, ◌+◌, ◌-◌, ◌<◌, ◌≤◌, Bool, false, List, ◌++◌, length, get_or, take, drop, replicate, refl, sym, ◌∙◌, arith, inl, inr}
 use Rattle.std.proofs.lemmas.Bool.{cases_lt, le-leb, lt-leb}
-use Rattle.std.proofs.lemmas.List.{ext_get_or, get_or-take, get_or-drop, get_or_append_left, get_or-append_right, length-append, length-take-le, length-drop, length-replicate, take_at, drop_at, take-append-drop, drop_more}
-use Rattle.bit_vectors.specs.Eye.{EyeState, bits_left}
-use Rattle.bit_vectors.specs.Reading.{Parsed, Read, WrongBit, TooShort, MovesOn, CanBegin, IsWrongBefore, IsExact, parse_front}
-use Rattle.bit_vectors.proofs.EyeReading.{MovesOn-refl, MovesOn-then}
-
--- so many bits were taken
-pub record HasTaken (old eye : EyeState) (count : ℕ) : Type 0 where
-  pub moves : MovesOn old eye
-  pub enough : count ≤ length (bits_left old)
-  pub left : bits_left eye ≡ drop count (bits_left old)
-
-pub HasTaken-none : (eye : EyeState) → HasTaken eye eye 0
-HasTaken-none eye = record { moves = MovesOn-refl eye; enough = omega arith; left = refl }
-
--- there is one more
-one_left : (old eye : EyeState) (count : ℕ) (bit : Bool) (rest : List Bool) → HasTaken old eye count → bits_left eye ≡ bit ∷ rest → count < length (bits_left old)
-one_left old eye count bit rest taken next =
-    omega (arith, taken.enough, ap (λ (bits : List Bool). length bits) (sym taken.left ∙ next), length-drop count (bits_left old))
-
-next_parts : (bits : List Bool) (count : ℕ) (bit : Bool) (rest : List Bool) → count < length bits → drop count bits ≡ bit ∷ rest → (get_or bits count false ≡ bit) × (drop (count + 1) bits ≡ rest)
-next_parts bits count bit rest lt next = let e = drop_more bits count false lt in (cc, cc)
-
-pub next_is : (old eye : EyeState) (count : ℕ) (bit : Bool) (rest : List Bool) → HasTaken old eye count → bits_left eye ≡ bit ∷ rest → get_or (bits_left old) count false ≡ bit
-next_is old eye count bit rest taken next =
-    (next_parts (bits_left old) count bit rest (one_left old eye count bit rest taken next) (sym taken.left ∙ next)).0
-
-pub HasTaken-more : (old eye new : EyeState) (count : ℕ) (bit : Bool) → HasTaken old eye count → MovesOn eye new → bits_left eye ≡ bit ∷ bits_left new → HasTaken old new (count + 1)
-HasTaken-more old eye new count bit taken moves next = record {
-  moves = MovesOn-then old eye new taken.moves moves;
-  enough = omega (arith, one_left old eye count bit (bits_left new) taken next);
-  left = sym (next_parts (bits_left old) count bit (bits_left new) (one_left old eye count bit (bits_left new) taken next) (sym taken.left ∙ next)).1;
-}
-
--- all that were left
-pub HasTaken-all : (old eye : EyeState) (count : ℕ) → HasTaken old eye count → bits_left eye ≡ [] → length (bits_left old) ≡ count
-HasTaken-all old eye count taken none =
-    omega (arith, taken.enough, ap (λ (bits : List Bool). length bits) (sym taken.left ∙ none), length-drop count (bits_left old))
+use Rattle.std.proofs.lemmas.List.{ext_get_or, get_or-take, get_or-drop, get_or_append_left, get_or-append_right, length-append, length-take-le, length-drop, length-replicate, take_at, drop_at, take-append-drop}
+use Rattle.bit_vectors.specs.Reading.{Parsed, Read, WrongBit, TooShort, CanBegin, IsWrongBefore, IsExact, parse_front}
 
 -- the front of some bits, and the other places of a vector
 pub front_is : (left v new : List Bool) (count : ℕ) → length new ≡ length v → count ≤ length left → count ≤ length v → ((k : ℕ) → k < count → get_or new k false ≡ get_or left k false) → ((k : ℕ) → count ≤ k → get_or new k false ≡ get_or v k false)
@@ -59,9 +24,6 @@ parse_front-enough count bits le = rw (le-leb count (length bits) le) refl
 pub parse_front-short : (count : ℕ) (bits : List Bool) → length bits < count → parse_front count bits ≡ TooShort
 unfolding parse_front
 parse_front-short count bits lt = rw (lt-leb count (length bits) lt) refl
-
-pub parse_front-taken : (old eye : EyeState) (count : ℕ) → HasTaken old eye count → parse_front count (bits_left old) ≡ Read (take count (bits_left old)) (bits_left eye)
-parse_front-taken old eye count taken = rw taken.left (parse_front-enough count (bits_left old) taken.enough)
 
 -- ---- exact
 

@@ -1,8 +1,7 @@
 -- The bits of a number, and the number of bits, undo each other.
-use Rattle.std.proofs.Common.{◌≡◌, ℕ, zero, suc, ◌+◌, ◌-◌, ◌*◌, ◌/◌, ◌%◌, ◌^◌, ◌<◌, ◌≤◌, Bool, true, false, cond, eqb, List, [], ◌∷◌, ◌++◌, length, get_or, take, refl, ap, ◌∙◌, arith}
+use Rattle.std.proofs.Common.{◌≡◌, ℕ, zero, suc, ◌+◌, ◌-◌, ◌*◌, ◌/◌, ◌%◌, ◌^◌, ◌<◌, ◌≤◌, Bool, true, false, cond, eqb, List, [], ◌∷◌, length, get_or, refl, ap, ◌∙◌, arith}
 use Rattle.std.specs.Int.{bit_at}
-use Rattle.std.proofs.lemmas.List.{length_push, length-take, take_more}
-use Rattle.std.proofs.Math.Nat.{pow-succ', pow-le-pow_right}
+use Rattle.std.proofs.Math.Nat.{pow-succ'}
 use Rattle.std.proofs.Common.{add-one}
 use Rattle.std.proofs.lemmas.Nat.{mod-pow-add}
 use Rattle.std.proofs.lemmas.Nat.Bits.{bit_at_cat_low, bit_at_cat_high, bit_at-lt}
@@ -63,26 +62,6 @@ number_bits-bits_number (false ∷ bits) =
     let none : length bits - length bits ≡ 0 = omega arith in
     let rest = number_bits_low (length bits) 0 (length bits) (bits_number bits) (omega arith) ∙ number_bits-bits_number bits in
     rw (one, bit_at_cat_high 0 (length bits) (bits_number bits) (length bits) below (omega arith), none, rest) refl
-
--- one more bit at the end
-pub bits_number-push : (bits : List Bool) (bit : Bool) → bits_number (bits ++ bit ∷ []) ≡ 2 * bits_number bits + cond bit 1 0
-unfolding bits_number
-bits_number-push [] true = refl
-bits_number-push [] false = refl
-bits_number-push (true ∷ bits) bit =
-    let e = bits_number-push bits bit in
-    let longer : 2 ^ length (bits ++ bit ∷ []) ≡ 2 * 2 ^ length bits = rw (length_push bits bit, add-one) (pow-succ' 2 (length bits)) in
-    omega arith
-bits_number-push (false ∷ bits) bit = let e = bits_number-push bits bit in omega arith
-
--- a number of so few bits is small
-pub bits_number_take_below : (bits : List Bool) (n most : ℕ) → n ≤ most → bits_number (take n bits) < 2 ^ most
-bits_number_take_below bits n most le =
-    omega (arith, bits_number_below (take n bits), pow-le-pow_right {n = 2} (omega arith) {i = length (take n bits)} {j = most} (omega (arith, length-take n bits)))
-
--- one bit more from the front of a list
-pub bits_number-take_more : (bits : List Bool) (n : ℕ) → n < length bits → bits_number (take (n + 1) bits) ≡ 2 * bits_number (take n bits) + cond (get_or bits n false) 1 0
-bits_number-take_more bits n lt = rw (take_more bits n false lt) (bits_number-push (take n bits) (get_or bits n false))
 
 pub number_bits-more : (width n : ℕ) → number_bits (width + 1) n ≡ eqb (bit_at n width) 1 ∷ number_bits width n
 unfolding number_bits

@@ -9,7 +9,7 @@ use Rattle.std.proofs.lemmas.Nat.{pow-add, pow_pos, mod_below, shl-shr, shr_spli
 use Rattle.std.proofs.Math.Nat.{mul-mod_left}
 use Rattle.std.proofs.Math.Seq.{take-append-add}
 use Rattle.bit_vectors.specs.Vectors.{number_bits, bits_of, AreBytes, byte_count, padded, vector_bytes}
-use Rattle.bit_vectors.specs.Pen.{written_bits, pen_bytes, HasRoom}
+use Rattle.bit_vectors.specs.Pen.{written_bits, HasRoom}
 use Rattle.bit_vectors.proofs.NumberBits.{length-number_bits}
 use Rattle.bit_vectors.proofs.Numbers.{number_bits-cat, number_bits-split, number_bits-mod, high_bits}
 use Rattle.bit_vectors.proofs.ByteBits.{length-bits_of, bits_of-take, vector_bytes_is}
@@ -132,12 +132,6 @@ bits_with bytes new words word has =
 pub length-written : (bytes : List ℕ) (capacity words word held room : ℕ) → HasRoom bytes capacity words word held room → length (written_bits bytes words word held) ≡ 64 * words + held
 length-written bytes capacity words word held room h =
     omega (arith, length-append (bits_of (take (8 * words) bytes)) (number_bits held (word / 2 ^ (64 - held))), length-bits_of (take (8 * words) bytes), length-take (8 * words) bytes, length-number_bits held (word / 2 ^ (64 - held)), h.within, h.bytes_fit)
-
-pub HasRoom-none : (bytes : List ℕ) (capacity room : ℕ) → room ≤ 524288 → length bytes ≡ pen_bytes room → capacity ≡ pen_bytes room → HasRoom bytes capacity 0 0 0 room
-HasRoom-none bytes capacity room most fit taken = record { within = omega arith; most = most; bytes_fit = fit; taken = taken; short = omega arith; small = omega arith; clean = refl; kept = λ some. absurd (omega arith) }
-
-pub written-none : (bytes : List ℕ) → written_bits bytes 0 0 0 ≡ []
-written-none bytes = no_bits (0 / 2 ^ 64)
 
 -- a number after the bits of a word that doesn't get full
 module _ (bytes new : List ℕ) (capacity words word held room value width : ℕ) (h : HasRoom bytes capacity words word held room) (lt : held + width < 64) (fits : value < 2 ^ width) (within : 64 * words + held + width ≤ room)

@@ -6,7 +6,7 @@ use Rattle.bit_vectors.specs.declared.fault.BitFault.TheVariants.{Wrong, EndsEar
 use Rattle.bit_vectors.specs.Eye.{EyeState, bits_left}
 use Rattle.bit_vectors.specs.Reading.{Read, ◌>>=◌, bit_where, allowed, parse_word, MovesOn, Gives, IsExact, IsFirstFault}
 use Rattle.bit_vectors.proofs.ExactReading.{IsBitWhere, IsWordThen, IsExact-give, IsExact-bit_where, IsExact-same, IsExact-then}
-use Rattle.bit_vectors.proofs.EyeReading.{Gives-then_ok, Gives-then_err, only_read, fault_by}
+use Rattle.bit_vectors.proofs.EyeReading.{Gives-then_err, only_read, fault_by}
 
 -- ---- one word after another
 
@@ -25,11 +25,6 @@ same_fault a b old new fault given =
 
 pub same_more : (a b left rest : List Bool) → parse_word a left ≡ Read tt rest → parse_word (a ++ b) left ≡ parse_word b rest
 same_more a b left rest read = parse_word-append a b left ∙ rw read refl
-
-pub same_then : (a b : List Bool) (old mid new : EyeState) (result : Result (Unit {0}) BitFault) → parse_word a (bits_left old) ≡ Read tt (bits_left mid) → Gives (λ (u : Unit {0}). tt) result new (parse_word b (bits_left mid))
-    → Gives (λ (u : Unit {0}). tt) result new (parse_word (a ++ b) (bits_left old))
-same_then a b old mid new result read given =
-    rw (parse_word-append a b (bits_left old)) (Gives-then_ok (λ (u : Unit {0}). tt) (λ (u : Unit {0}). tt) tt mid result new (parse_word a (bits_left old)) (λ u rest. parse_word b rest) read given)
 
 -- ---- one bit after another
 

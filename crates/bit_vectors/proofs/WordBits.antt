@@ -191,7 +191,7 @@ ones_none : count_ones 0 ≡ 0
 unfolding lib.Count.ones
 ones_none = refl
 
-count_by-number_bits : (width n : ℕ) → count_by (λ bit. bit) (number_bits width n) ≡ count_ones (n % 2 ^ width)
+pub count_by-number_bits : (width n : ℕ) → count_by (λ bit. bit) (number_bits width n) ≡ count_ones (n % 2 ^ width)
 unfolding number_bits
 count_by-number_bits zero n = let none : n % 2 ^ 0 ≡ 0 = omega arith in rw (none, ones_none) refl
 count_by-number_bits (suc w) n =
