@@ -130,7 +130,7 @@ zipped_numbers op f old others new b z i =
     ]
 
 -- the operations on two bits
-xor_digits : (x y : ℕ) → x < 2 → y < 2 → eqb ((x + y) % 2) 1 ≡ cond (eqb x 1) (not (eqb y 1)) (eqb y 1)
+pub xor_digits : (x y : ℕ) → x < 2 → y < 2 → eqb ((x + y) % 2) 1 ≡ cond (eqb x 1) (not (eqb y 1)) (eqb y 1)
 xor_digits zero zero x_lt y_lt = refl
 xor_digits zero (suc zero) x_lt y_lt = refl
 xor_digits (suc zero) zero x_lt y_lt = refl
@@ -191,7 +191,7 @@ ones_none : count_ones 0 ≡ 0
 unfolding lib.Count.ones
 ones_none = refl
 
-count_by-number_bits : (width n : ℕ) → count_by (λ bit. bit) (number_bits width n) ≡ count_ones (n % 2 ^ width)
+pub count_by-number_bits : (width n : ℕ) → count_by (λ bit. bit) (number_bits width n) ≡ count_ones (n % 2 ^ width)
 unfolding number_bits
 count_by-number_bits zero n = let none : n % 2 ^ 0 ≡ 0 = omega arith in rw (none, ones_none) refl
 count_by-number_bits (suc w) n =

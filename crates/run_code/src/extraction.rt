@@ -6,6 +6,7 @@ ghost use Rattle.bit_vectors.specs.Reading.{MovesOn, Gives};
 ghost use Rattle.run_code.specs.Places.{places_down};
 ghost use Rattle.run_code.specs.Extraction.{extract, SameOutside, parse_filled};
 
+use crate::words::put_gathered;
 use bit_vectors::{BitEye, BitFault, BitPen, Bits};
 
 /// Appends the bits of `a` at the ones of `b`, which has as many places, from the highest place down. The
@@ -16,10 +17,8 @@ pub fn put_extract(pen: &mut BitPen, a: &Bits, b: &Bits)
     ensures bits { pen.new.bits ≡ pen.old.bits ++ extract a.now b.now }
     ensures room { pen.new.room ≡ pen.old.room }
 {
-    let mut below = b.len();
-    while let Some(place) = b.next_one_down(below) {
-        pen.put(a.get(place));
-        below = place;
+    for index in (0..b.word_count()).rev() {
+        put_gathered(pen, a.word(index), b.word(index));
     }
 }
 

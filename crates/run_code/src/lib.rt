@@ -7,6 +7,7 @@ mod inverse;
 mod laws;
 mod matching;
 mod runs;
+mod words;
 
 pub use edge::{edges, from_edges};
 pub use extraction::{put_extract, take_into};

@@ -1,0 +1,206 @@
+-- The bits of a word at the ones of another, one after the other.
+use Rattle.std.proofs.Common.{◌≡◌, ℕ, zero, suc, ◌+◌, ◌-◌, ◌*◌, ◌/◌, ◌%◌, ◌^◌, ◌<◌, ◌≤◌, Bool, true, false, cond, eqb, List, [], ◌∷◌, ◌++◌, length, get_or, bit_and, w64, refl, sym, ap, ◌∙◌, arith, inl, inr}
+use Rattle.std.specs.Int.{bit_at, trailing_zeros}
+use Rattle.std.proofs.lemmas.Bool.{cases_eq}
+use Rattle.std.proofs.lemmas.Nat.{pow_pos, mod_below, shr_split, pow-add, ones-le}
+use Rattle.std.proofs.Math.Nat.{pow-succ', le-mul_of_pos_right, pow-le-pow_right, mod-eq_of_lt}
+use Rattle.std.specs.Int.RustNames.{count_ones}
+use Rattle.bit_vectors.proofs.WordBits.{count_by-number_bits}
+use Rattle.std.proofs.lemmas.Nat.Bits.{shr_and_one, bit_at_and, bit_at_cat_high, bit_at_cat_low, bit_at_ones_above, bit_at-trailing_zeros, same_from_bits_below, bit_at-zero, bit_at-lt}
+use Rattle.std.proofs.lemmas.List.{get_or_past, length-append}
+use Rattle.bit_vectors.specs.Vectors.{number_bits, bits_number, NoneIsOne}
+use Rattle.bit_vectors.specs.Words.{IsWord}
+use Rattle.bit_vectors.proofs.NumberBits.{length-number_bits, get_or-number_bits, bits_number_below, number_bits-bits_number}
+use Rattle.bit_vectors.proofs.Numbers.{bit_at_mod}
+use Rattle.run_code.specs.Places.{places_down}
+use Rattle.run_code.specs.Extraction.{bits_at, extract}
+use Rattle.run_code.proofs.Ones.{ones_below, ones_below-one, ones_below-none, places_down_is, length-places_down}
+use Rattle.run_code.proofs.InverseBits.{length-bits_at}
+
+-- ---- a number without its lowest one
+
+no_low_bits : (n t : ℕ) → ((i : ℕ) → i < t → bit_at n i ≡ 0) → n % 2 ^ t ≡ 0
+no_low_bits n t none =
+    same_from_bits_below t (n % 2 ^ t) 0 (mod_below n (2 ^ t) (pow_pos t)) (pow_pos t) (λ i lt. bit_at_mod n t i lt ∙ none i lt ∙ sym (bit_at-zero i))
+
+module _ (n t : ℕ) (one : bit_at n t ≡ 1) (none : (i : ℕ) → i < t → bit_at n i ≡ 0) where
+  -- the bits above the lowest one
+  abbrev above : ℕ
+  above = n / 2 ^ t / 2
+
+  twice : 2 ^ (t + 1) ≡ 2 ^ t * 2
+  twice = pow-add 2 t 1
+
+  number_is : n ≡ above * 2 ^ (t + 1) + 2 ^ t
+  number_is =
+      let odd : n / 2 ^ t ≡ 2 * (n / 2 ^ t / 2) + 1 = omega (arith, one) in
+      let whole : n / 2 ^ t * 2 ^ t ≡ n = omega (arith, shr_split n (2 ^ t), shr_split n t, no_low_bits n t none) in
+      rw twice (sym whole ∙ ap (λ (q : ℕ). q * 2 ^ t) odd ∙ omega arith)
+
+  less_is : n - 1 ≡ above * 2 ^ (t + 1) + (2 ^ t - 1)
+  less_is = omega (arith, number_is, pow_pos t)
+
+  small : 2 ^ t < 2 ^ (t + 1)
+  small = rw twice (omega (arith, pow_pos t))
+
+  pub without_above : (i : ℕ) → t < i → bit_at (bit_and n (n - 1)) i ≡ bit_at n i
+  without_above i lt =
+      let high : bit_at n i ≡ bit_at above (i - (t + 1)) = ap (λ (m : ℕ). bit_at m i) number_is ∙ bit_at_cat_high above (t + 1) (2 ^ t) i small (omega arith) in
+      let less : bit_at (n - 1) i ≡ bit_at above (i - (t + 1)) = ap (λ (m : ℕ). bit_at m i) less_is ∙ bit_at_cat_high above (t + 1) (2 ^ t - 1) i (omega (arith, small)) (omega arith) in
+      bit_at_and n (n - 1) i ∙ omega (arith, high, less)
+
+  pub without_below : (i : ℕ) → i ≤ t → bit_at (bit_and n (n - 1)) i ≡ 0
+  without_below i le =
+      elim (cases_eq i t) [
+        | inl here ↦
+            let less : bit_at (n - 1) t ≡ 0 = ap (λ (m : ℕ). bit_at m t) less_is ∙ bit_at_cat_low above (t + 1) (2 ^ t - 1) t (omega arith) ∙ bit_at_ones_above t t (omega arith) in
+            rw here (bit_at_and n (n - 1) t ∙ omega (arith, less))
+        | inr other ↦ bit_at_and n (n - 1) i ∙ omega (arith, none i (omega arith))
+      ]
+
+-- ---- ones below a place
+
+ones_below-skip : (v : List Bool) (p n : ℕ) → p ≤ n → NoneIsOne v p n → ones_below n v ≡ ones_below p v
+unfolding ones_below
+ones_below-skip v p zero le none = let same : p ≡ 0 = omega arith in rw same refl
+ones_below-skip v p (suc n) le none =
+    elim (cases_eq p (suc n)) [
+      | inl here ↦ rw here refl
+      | inr other ↦ rw (none n (omega arith) (omega arith)) (ones_below-skip v p n (omega arith) (λ k from to. none k from (omega arith)))
+    ]
+
+ones_below-same : (v w : List Bool) (n : ℕ) → ((k : ℕ) → k < n → get_or v k false ≡ get_or w k false) → ones_below n v ≡ ones_below n w
+unfolding ones_below
+ones_below-same v w zero same = refl
+ones_below-same v w (suc n) same = rw (same n (omega arith), ones_below-same v w n (λ k lt. same k (omega arith))) refl
+
+places_of_word : (n : ℕ) → places_down (number_bits 64 n) ≡ ones_below 64 (number_bits 64 n)
+places_of_word n = places_down_is (number_bits 64 n) ∙ ap (λ (len : ℕ). ones_below len (number_bits 64 n)) (length-number_bits 64 n)
+
+bit_is : (n k : ℕ) → k < 64 → get_or (number_bits 64 n) k false ≡ eqb (bit_at n (63 - k)) 1
+bit_is n k lt = get_or-number_bits 64 n k lt
+
+-- the place of the lowest one, and those of the others
+pub places-lowest : (n : ℕ) → 0 < n → n < 2 ^ 64 → places_down (number_bits 64 n) ≡ (63 - trailing_zeros w64 n) ∷ places_down (number_bits 64 (bit_and n (n - 1)))
+places-lowest n some below =
+    let t = trailing_zeros w64 n in
+    let lowest = bit_at-trailing_zeros w64 n some below in
+    let p = 63 - trailing_zeros w64 n in
+    let place : 63 - (63 - trailing_zeros w64 n) ≡ trailing_zeros w64 n = omega (arith, lowest.0) in
+    let one : get_or (number_bits 64 n) (63 - trailing_zeros w64 n) false ≡ true = bit_is n (63 - trailing_zeros w64 n) (omega arith) ∙ rw (place, lowest.1) refl in
+    let none : NoneIsOne (number_bits 64 n) (63 - trailing_zeros w64 n + 1) 64 = λ k from to. bit_is n k to ∙ rw (lowest.2 (63 - k) (omega arith)) refl in
+    let gone : NoneIsOne (number_bits 64 (bit_and n (n - 1))) (63 - trailing_zeros w64 n) 64 =
+    λ k from to. bit_is (bit_and n (n - 1)) k to ∙ rw (without_below n (trailing_zeros w64 n) lowest.1 lowest.2 (63 - k) (omega arith)) refl in
+    places_of_word n ∙ ones_below-one (number_bits 64 n) (63 - trailing_zeros w64 n) 64 (omega arith) one none
+    ∙ ap (λ (rest : List ℕ). (63 - trailing_zeros w64 n) ∷ rest)
+    (ones_below-same (number_bits 64 n) (number_bits 64 (bit_and n (n - 1))) (63 - trailing_zeros w64 n)
+    (λ k lt. bit_is n k (omega arith) ∙ rw (sym (without_above n (trailing_zeros w64 n) lowest.1 lowest.2 (63 - k) (omega arith))) (sym (bit_is (bit_and n (n - 1)) k (omega arith))))
+    ∙ sym (places_of_word (bit_and n (n - 1)) ∙ ones_below-skip (number_bits 64 (bit_and n (n - 1))) (63 - trailing_zeros w64 n) 64 (omega arith) gone))
+
+-- the bits of a word at the ones of another
+abbrev pub word_extract : ℕ → ℕ → List Bool
+word_extract bits at = extract (number_bits 64 bits) (number_bits 64 at)
+
+pub word_extract-lowest : (bits n : ℕ) → 0 < n → n < 2 ^ 64 → word_extract bits n ≡ eqb (bit_at bits (trailing_zeros w64 n)) 1 ∷ word_extract bits (bit_and n (n - 1))
+word_extract-lowest bits n some below =
+    let lowest = bit_at-trailing_zeros w64 n some below in
+    let place : 63 - (63 - trailing_zeros w64 n) ≡ trailing_zeros w64 n = omega (arith, lowest.0) in
+    let bit : get_or (number_bits 64 bits) (63 - trailing_zeros w64 n) false ≡ eqb (bit_at bits (trailing_zeros w64 n)) 1 = bit_is bits (63 - trailing_zeros w64 n) (omega arith) ∙ rw place refl in
+    rw (places-lowest n some below, bit) refl
+
+pub word_extract-none : (bits : ℕ) → word_extract bits 0 ≡ []
+word_extract-none bits =
+    rw (places_of_word 0, ones_below-none (number_bits 64 0) 64 (λ k from to. bit_is 0 k to ∙ rw (bit_at-zero (63 - k)) refl)) refl
+
+-- ---- one bit more of the number
+
+bits_number-first : (bit : ℕ) (bits : List Bool) → bit < 2 → bits_number (eqb bit 1 ∷ bits) ≡ bit * 2 ^ length bits + bits_number bits
+unfolding bits_number
+bits_number-first zero bits lt = omega arith
+bits_number-first (suc zero) bits lt = omega arith
+bits_number-first (suc (suc bit)) bits lt = absurd (omega arith)
+
+pub gathered_more : (bits n gathered total : ℕ) → 0 < n → n < 2 ^ 64 → gathered * 2 ^ length (word_extract bits n) + bits_number (word_extract bits n) ≡ total
+    → (2 * gathered + bit_and (bits / 2 ^ trailing_zeros w64 n) 1) * 2 ^ length (word_extract bits (bit_and n (n - 1))) + bits_number (word_extract bits (bit_and n (n - 1))) ≡ total
+gathered_more bits n gathered total some below so_far =
+    let lowest = word_extract-lowest bits n some below in
+    let bit = eqb (bit_at bits (trailing_zeros w64 n)) 1 in
+    let later = word_extract bits (bit_and n (n - 1)) in
+    let len : length (word_extract bits n) ≡ suc (length (word_extract bits (bit_and n (n - 1)))) = ap (λ (b : List Bool). length b) lowest in
+    let number : bits_number (word_extract bits n) ≡ bit_at bits (trailing_zeros w64 n) * 2 ^ length (word_extract bits (bit_and n (n - 1))) + bits_number (word_extract bits (bit_and n (n - 1))) =
+    ap bits_number lowest ∙ bits_number-first (bit_at bits (trailing_zeros w64 n)) (word_extract bits (bit_and n (n - 1))) (bit_at-lt bits (trailing_zeros w64 n)) in
+    let power : 2 ^ length (word_extract bits n) ≡ 2 * 2 ^ length (word_extract bits (bit_and n (n - 1))) = ap (λ (k : ℕ). 2 ^ k) len ∙ pow-succ' 2 (length (word_extract bits (bit_and n (n - 1)))) in
+    let last : bit_and (bits / 2 ^ trailing_zeros w64 n) 1 ≡ bit_at bits (trailing_zeros w64 n) = shr_and_one bits (trailing_zeros w64 n) in
+    let parts : gathered * (2 * 2 ^ length (word_extract bits (bit_and n (n - 1)))) + (bit_at bits (trailing_zeros w64 n) * 2 ^ length (word_extract bits (bit_and n (n - 1))) + bits_number (word_extract bits (bit_and n (n - 1)))) ≡ total = rw (power, number) at so_far in
+    rw last (omega (arith, parts))
+
+pub length-word_extract : (bits at : ℕ) → at < 2 ^ 64 → length (word_extract bits at) ≡ count_ones at
+length-word_extract bits at below =
+    length-bits_at (number_bits 64 bits) (places_down (number_bits 64 at)) ∙ length-places_down (number_bits 64 at) ∙ count_by-number_bits 64 at ∙ ap (λ (n : ℕ). count_ones n) (mod-eq_of_lt below)
+
+pub word_number_below : (bits at : ℕ) → at < 2 ^ 64 → bits_number (word_extract bits at) < 2 ^ count_ones at
+word_number_below bits at below = rw (← length-word_extract bits at below) (bits_number_below (word_extract bits at))
+
+word_number_fits : (bits at : ℕ) → at < 2 ^ 64 → bits_number (word_extract bits at) < 2 ^ 64
+word_number_fits bits at below =
+    omega (arith, word_number_below bits at below, pow-le-pow_right {n = 2} (omega arith) {i = count_ones at} {j = 64} (ones-le 64 at below))
+
+-- the numbers so far are small
+pub gathered_small : (bits n gathered at : ℕ) → 0 < n → n < 2 ^ 64 → at < 2 ^ 64 → gathered * 2 ^ length (word_extract bits n) + bits_number (word_extract bits n) ≡ bits_number (word_extract bits at)
+    → 2 * gathered + bit_and (bits / 2 ^ trailing_zeros w64 n) 1 < 2 ^ 64
+gathered_small bits n gathered at some below at_below so_far =
+    let more = gathered_more bits n gathered (bits_number (word_extract bits at)) some below so_far in
+    let one : 1 ≤ 2 ^ length (word_extract bits (bit_and n (n - 1))) = pow_pos (length (word_extract bits (bit_and n (n - 1)))) in
+    let next = 2 * gathered + bit_and (bits / 2 ^ trailing_zeros w64 n) 1 in
+    omega (arith, more, le-mul_of_pos_right (2 * gathered + bit_and (bits / 2 ^ trailing_zeros w64 n) 1) one, word_number_fits bits at at_below)
+
+-- with no one left, the number is that of the bits
+pub gathered_all : (bits at gathered : ℕ) → at < 2 ^ 64 → gathered * 2 ^ length (word_extract bits 0) + bits_number (word_extract bits 0) ≡ bits_number (word_extract bits at) → gathered ≡ bits_number (word_extract bits at)
+unfolding bits_number
+gathered_all bits at gathered below so_far =
+    let none = word_extract-none bits in
+    let last : gathered * 2 ^ 0 + 0 ≡ bits_number (word_extract bits at) = rw none at so_far in
+    omega (arith, last)
+
+pub gathered_bits : (bits at gathered : ℕ) → at < 2 ^ 64 → gathered ≡ bits_number (word_extract bits at) → number_bits (count_ones at) gathered ≡ word_extract bits at
+gathered_bits bits at gathered below is = rw (is, ← length-word_extract bits at below) (number_bits-bits_number (word_extract bits at))
+
+-- ---- words of vectors
+
+by_bit : (bit : Bool) (a x : List Bool) (p q : ℕ) (ps qs : List ℕ) (rest : List Bool) → get_or x q false ≡ get_or a p false → bits_at a ps ≡ bits_at x qs ++ rest → bits_at a (cond bit (p ∷ ps) ps) ≡ bits_at x (cond bit (q ∷ qs) qs) ++ rest
+by_bit true a x p q ps qs rest same later = rw (same, later) refl
+by_bit false a x p q ps qs rest same later = later
+
+-- the ones of a vector below a place in a word: those of the word's front, and those of the words before it
+word_below : (a b x y : List Bool) (start m : ℕ) → ((k : ℕ) → k < m → get_or x k false ≡ get_or a (start + k) false) → ((k : ℕ) → k < m → get_or y k false ≡ get_or b (start + k) false)
+    → bits_at a (ones_below (start + m) b) ≡ bits_at x (ones_below m y) ++ bits_at a (ones_below start b)
+unfolding ones_below
+word_below a b x y start zero same_a same_b = let none : start + 0 ≡ start = omega arith in rw none refl
+word_below a b x y start (suc m) same_a same_b =
+    let next : start + suc m ≡ suc (start + m) = omega arith in
+    let rest = word_below a b x y start m (λ k lt. same_a k (omega arith)) (λ k lt. same_b k (omega arith)) in
+    rw (next, same_b m (omega arith)) (by_bit (get_or b (start + m) false) a x (start + m) m (ones_below (start + m) b) (ones_below m y) (bits_at a (ones_below start b)) (same_a m (omega arith)) rest)
+
+pub word_extract-below : (a b : List Bool) (index bits at : ℕ) → IsWord a index bits → IsWord b index at → bits_at a (ones_below (64 * (index + 1)) b) ≡ word_extract bits at ++ bits_at a (ones_below (64 * index) b)
+word_extract-below a b index bits at is_a is_b =
+    let end : 64 * (index + 1) ≡ 64 * index + 64 = omega arith in
+    rw (end, places_of_word at) (word_below a b (number_bits 64 bits) (number_bits 64 at) (64 * index) 64 (λ k lt. bit_is bits k lt ∙ is_a k lt) (λ k lt. bit_is at k lt ∙ is_b k lt))
+
+-- no place past the end has a one
+pub ones_below-past : (v : List Bool) (n : ℕ) → length v ≤ n → ones_below n v ≡ places_down v
+ones_below-past v n le = ones_below-skip v (length v) n le (λ k from to. get_or_past v k false from) ∙ sym (places_down_is v)
+
+-- a word that isn't zero has a one
+pub some_one : (at : ℕ) → 0 < at → at < 2 ^ 64 → 1 ≤ count_ones at
+some_one at some below =
+    omega (arith, length-word_extract 0 at below, ap (λ (bits : List Bool). length bits) (word_extract-lowest 0 at some below))
+
+-- the bits at the ones of a word, and those of the words before it
+pub extract_step : (a b : List Bool) (index bits at : ℕ) → 0 < index → IsWord a (index - 1) bits → IsWord b (index - 1) at → bits_at a (ones_below (64 * index) b) ≡ word_extract bits at ++ bits_at a (ones_below (64 * (index - 1)) b)
+extract_step a b index bits at some is_a is_b =
+    let same : index ≡ index - 1 + 1 = omega arith in
+    ap (λ (i : ℕ). bits_at a (ones_below (64 * i) b)) same ∙ word_extract-below a b (index - 1) bits at is_a is_b
+
+pub ones_step : (a b : List Bool) (index bits at : ℕ) → 0 < index → at < 2 ^ 64 → IsWord a (index - 1) bits → IsWord b (index - 1) at → length (ones_below (64 * index) b) ≡ count_ones at + length (ones_below (64 * (index - 1)) b)
+ones_step a b index bits at some below is_a is_b =
+    omega (arith, length-bits_at a (ones_below (64 * index) b), length-bits_at a (ones_below (64 * (index - 1)) b), length-word_extract bits at below, length-append (word_extract bits at) (bits_at a (ones_below (64 * (index - 1)) b)), ap (λ (xs : List Bool). length xs) (extract_step a b index bits at some is_a is_b))

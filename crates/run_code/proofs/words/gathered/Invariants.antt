@@ -1,0 +1,14 @@
+use Rattle.std.proofs.Common.{◌≡◌, ◌+◌, ◌*◌, ◌^◌, ◌<◌, length}
+use Rattle.bit_vectors.specs.Vectors.{bits_number}
+use Rattle.run_code.proofs.Gathering.{word_extract}
+use Rattle.run_code.proofs.words.gathered.Given as goal
+
+-- the number so far, with the bits at the ones that are left after it, is the number of all
+abbrev pub invariant-loop-rest : goal.invariant-loop-rest
+invariant-loop-rest l = record {
+  small : l.rest < 2 ^ 64;
+  total : l.gathered * 2 ^ length (word_extract l.bits l.rest) + bits_number (word_extract l.bits l.rest) ≡ bits_number (word_extract l.bits l.at);
+}
+
+abbrev pub decreases-loop-rest : goal.decreases-loop-rest
+decreases-loop-rest l = l.rest
