@@ -114,3 +114,9 @@ parse_filled-none place places v = refl
 pub parse_filled-all : (v bits : List Bool) → parse_filled [] v bits ≡ Read v bits
 unfolding parse_filled
 parse_filled-all v bits = refl
+
+pub parse_filled-few : (places : List ℕ) (v bits : List Bool) → length bits < length places → parse_filled places v bits ≡ TooShort
+unfolding parse_filled
+parse_filled-few [] v bits lt = absurd (omega arith)
+parse_filled-few (place ∷ places) v [] lt = refl
+parse_filled-few (place ∷ places) v (bit ∷ bits) lt = parse_filled-few places (set v place bit) bits (omega arith)

@@ -6,3 +6,4 @@ pub mod RunWords
 pub mod ExactRuns
 pub mod ExtractedBits
 pub mod Gathering
+pub mod Spreading
