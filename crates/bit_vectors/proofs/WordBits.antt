@@ -130,7 +130,7 @@ zipped_numbers op f old others new b z i =
     ]
 
 -- the operations on two bits
-xor_digits : (x y : ℕ) → x < 2 → y < 2 → eqb ((x + y) % 2) 1 ≡ cond (eqb x 1) (not (eqb y 1)) (eqb y 1)
+pub xor_digits : (x y : ℕ) → x < 2 → y < 2 → eqb ((x + y) % 2) 1 ≡ cond (eqb x 1) (not (eqb y 1)) (eqb y 1)
 xor_digits zero zero x_lt y_lt = refl
 xor_digits zero (suc zero) x_lt y_lt = refl
 xor_digits (suc zero) zero x_lt y_lt = refl

@@ -1,5 +1,6 @@
 pub mod Ones
 pub mod EdgeBits
+pub mod EdgeWords
 pub mod Filling
 pub mod InverseBits
 pub mod RunWords

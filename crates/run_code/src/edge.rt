@@ -1,6 +1,6 @@
 //! The edges of masks (CCSDS 124.0-B-1).
 
-ghost use Rattle.std.specs.Prelude.{◌≡◌, length};
+ghost use Rattle.std.specs.Prelude.{◌≡◌, ◌*◌, ◌%◌, ◌^◌, ◌<◌, bit_xor, length};
 ghost use Rattle.run_code.specs.Edges.{edges, edges as edges_of};
 
 use bit_vectors::Bits;
@@ -12,11 +12,11 @@ pub fn edges(mask: &Bits, into: &mut Bits)
     ensures places { length into.new ≡ length into.old }
     ensures edges { into.new ≡ edges mask.now }
 {
-    let mut next = false;
-    for place in (0..mask.len()).rev() {
-        let bit = mask.get(place);
-        into.set(place, bit ^ next);
-        next = bit;
+    let mut next = 0;
+    for index in (0..mask.word_count()).rev() {
+        let word = mask.word(index);
+        into.set_word(index, word ^ ((word << 1) + next));
+        next = word >> 63;
     }
 }
 
@@ -26,9 +26,31 @@ pub fn from_edges(edges: &Bits, into: &mut Bits)
     ensures places { length into.new ≡ length into.old }
     ensures edges { edges_of into.new ≡ edges.now }
 {
-    let mut next = false;
-    for place in (0..edges.len()).rev() {
-        next ^= edges.get(place);
-        into.set(place, next);
+    let mut next = 0;
+    for index in (0..edges.word_count()).rev() {
+        let word = summed(edges.word(index)) ^ (u64::MAX * next);
+        into.set_word(index, word);
+        next = word >> 63;
     }
+}
+
+/// The word that gives `word` when it is added, without carries, to itself shifted by one place. Each step
+/// adds to every bit the sum of twice as many bits below it.
+fn summed(word: u64) -> u64
+    ensures { bit_xor result (result * 2 ^ 1 % 2 ^ 64) ≡ word }
+{
+    let mut sum = with_shifted(word, 32);
+    sum = with_shifted(sum, 16);
+    sum = with_shifted(sum, 8);
+    sum = with_shifted(sum, 4);
+    sum = with_shifted(sum, 2);
+    with_shifted(sum, 1)
+}
+
+/// A word added, without carries, to itself shifted by so many places.
+fn with_shifted(word: u64, by: u32) -> u64
+    requires { by < 64 }
+    ensures { result ≡ bit_xor word (word * 2 ^ by % 2 ^ 64) }
+{
+    word ^ (word << by)
 }

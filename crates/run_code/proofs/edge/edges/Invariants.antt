@@ -1,12 +1,14 @@
-use Rattle.std.proofs.Common.{◌≡◌, length, get_or, false, ℕ, ◌+◌, ◌<◌, ◌≤◌}
+use Rattle.std.proofs.Common.{◌≡◌, ◌*◌, length, get_or, eqb, false, ℕ, ◌+◌, ◌<◌, ◌≤◌}
+use Rattle.bit_vectors.specs.Words.{word_count}
 use Rattle.run_code.proofs.EdgeBits.{xor}
 use Rattle.run_code.proofs.edge.edges.Given as goal
 
--- the places from here on are done
-abbrev pub invariant-loop-place : goal.invariant-loop-place
-invariant-loop-place l = record {
+-- the words from here on are done
+abbrev pub invariant-loop-index : goal.invariant-loop-index
+invariant-loop-index l = record {
   same_length : length l.into ≡ length l.mask;
-  within : l.place ≤ length l.mask;
-  next : l.next ≡ get_or l.mask l.place false;
-  done : (k : ℕ) → l.place ≤ k → k < length l.mask → get_or l.into k false ≡ xor (get_or l.mask k false) (get_or l.mask (k + 1) false);
+  within : l.index ≤ word_count (length l.mask);
+  bit : l.next < 2;
+  next : eqb l.next 1 ≡ get_or l.mask (64 * l.index) false;
+  done : (k : ℕ) → 64 * l.index ≤ k → get_or l.into k false ≡ xor (get_or l.mask k false) (get_or l.mask (k + 1) false);
 }
