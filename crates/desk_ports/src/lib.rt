@@ -11,6 +11,7 @@ mod quiet;
 mod row;
 mod stop;
 mod transfer;
+mod turns;
 mod written;
 
 pub use calls::Call;
@@ -25,6 +26,7 @@ pub use quiet::QuietDesk;
 pub use row::{ROW_BYTES, Row};
 pub use stop::Stop;
 pub use transfer::{fill, write_all};
+pub use turns::{Run, Turn, drive};
 
 #[cfg(test)]
 mod tests;
