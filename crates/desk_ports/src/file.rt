@@ -1,3 +1,5 @@
+//! The desk of files, with standard input and output.
+
 ghost use Rattle.std.specs.Prelude.{◌≡◌, ◌≤◌, ◌<◌, ◌+◌, ◌-◌, ◌^◌, [], min, length, take, IsTrue, IsErr, IfOk, OnOk, OnErr};
 ghost use Rattle.std.specs.Io.KnownBytes.{IsAtEnd};
 ghost use Rattle.desk_ports.specs.Meanings.{nothing_told, Adds, Begins, HasReadCause, HasWriteCause, IsReadyIn, IsReadyOut, Keeps, Moves, Opens, left};

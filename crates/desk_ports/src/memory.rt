@@ -1,3 +1,5 @@
+//! The desk in memory, whose calls can be told to fail.
+
 ghost use Rattle.std.specs.Prelude.{◌≡◌, ◌≤◌, ◌<◌, ◌↔◌, ◌⊎◌, length, min, take, Some, None, IsTrue, IsErr, IfOk, OnOk, OnErr};
 ghost use Rattle.std.specs.FinMap as map;
 ghost use Rattle.std.specs.Io.KnownBytes.{IsAtEnd};
@@ -13,13 +15,13 @@ use std::alloc::Global;
 use std::marker::Model;
 
 // Where an inlet stands: before a place of the bytes of an entry of the log.
-#[derive(Clone, Copy)]
+#[derive(Clone, Copy, Debug)]
 enum Cursor {
     Nothing,
     Entry { at: usize, place: usize },
 }
 
-#[derive(Clone, Copy)]
+#[derive(Clone, Copy, Debug)]
 struct Cursors {
     side: Cursor,
     input: Cursor,
@@ -47,7 +49,7 @@ impl Cursors {
     }
 }
 
-#[derive(Clone, Copy)]
+#[derive(Clone, Copy, Debug)]
 struct Faults {
     reads: u64,
     writes: u64,
@@ -87,7 +89,7 @@ impl Faults {
 }
 
 /// The desk in memory. It tells everything, and its outlets grow.
-#[derive(Drop)]
+#[derive(Debug, Drop)]
 pub struct MemDesk {
     alloc: Global,
     log: Vec<LogEntry>,

@@ -19,7 +19,7 @@ use side_tables::Schedule;
 use std::alloc::Global;
 
 /// An encoder with its schedule and the writer of its store; a line and a vector for an input, and a pen for its packet.
-#[derive(Drop)]
+#[derive(Debug, Drop)]
 pub struct Compressing {
     encoder: Encoder,
     plan: Schedule,

@@ -17,7 +17,7 @@ use std::marker::Model;
 /// Compresses a recording: reads it from the main inlet of a desk, and writes the store of its packets to the main
 /// outlet. Contracts see the places of the vectors, the required robustness, the APID, the first mask and the rows of
 /// the schedule.
-#[derive(Drop)]
+#[derive(Debug, Drop)]
 pub struct Flight {
     compressing: Compressing,
 }

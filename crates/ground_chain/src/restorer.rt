@@ -20,7 +20,7 @@ use std::marker::Model;
 
 /// Restores a store: reads it from the main inlet of a desk, and writes the content of each restored packet to the
 /// main outlet, and the report. Contracts see the places of the vectors and the chosen APID.
-#[derive(Drop)]
+#[derive(Debug, Drop)]
 pub struct Restorer {
     restoring: Restoring,
 }

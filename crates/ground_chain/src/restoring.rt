@@ -20,7 +20,7 @@ use packet_store::{PERIOD, StoreReader, WalkFault};
 use std::alloc::Global;
 
 /// A reader, the arrivals so far with their numbers, and a line for a content.
-#[derive(Drop)]
+#[derive(Debug, Drop)]
 pub struct Restoring {
     reader: StoreReader,
     arrivals: Ground,

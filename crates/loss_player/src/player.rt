@@ -19,7 +19,7 @@ use std::marker::Model;
 /// Plays a store through a link: reads it from the main inlet of a desk, and writes each packet to the main outlet as
 /// often as it arrives, and the report. A script says so for the packets of the chosen APID, by their numbers in the
 /// store, and all others arrive once. Contracts see the chosen APID and the rows of the script.
-#[derive(Drop)]
+#[derive(Debug, Drop)]
 pub struct Player {
     playing: Playing,
 }

@@ -16,7 +16,7 @@ use side_tables::Script;
 use std::alloc::Global;
 
 /// A reader, the script, and the numbers so far.
-#[derive(Drop)]
+#[derive(Debug, Drop)]
 pub struct Playing {
     reader: StoreReader,
     script: Script,
