@@ -1,7 +1,8 @@
+pub mod Faults
 pub mod Transfers
 pub mod Runs
 pub mod Courses
-pub mod GoesOn
+pub mod Steps
 pub mod Logs
 pub mod Cursors
 pub mod Held

@@ -1,6 +1,6 @@
 -- What a command owes for its input, and what a run of it leaves of a desk, by its answer. Every command reads one input
 -- to its end and writes up to two outputs.
-use Rattle.std.specs.Prelude.{◌≡◌, ℕ, Bool, true, false, List, [], ◌++◌, Option, Some, None, Result, Ok, Err, IfSome}
+use Rattle.std.specs.Prelude.{◌≡◌, ℕ, List, [], ◌++◌, Option, Some, None, Result, Ok, Err, IfSome}
 use Rattle.desk_ports.specs.declared.desk.Inlet.TheVariants as inlet
 use Rattle.desk_ports.specs.declared.stop.Stop.{Stop}
 use Rattle.desk_ports.specs.declared.stop.Stop.TheVariants.{Data, ReadFault, WriteFault}
@@ -92,32 +92,10 @@ abbrev pub AfterRun : {T F : Type 0} → (List ℕ → Course F) → Meanings �
 AfterRun course_of old new (Ok done) = Ends course_of old new None
 AfterRun course_of old new (Err stop) = AfterStop course_of old new stop
 
--- Part of a run is done: some bytes were taken, and what the course owes for any bytes behind them is what stands and what
--- another course owes for those.
-pub record Reaches {F : Type 0} (course_of here : List ℕ → Course F) (old new : Meanings) : Type 0 where
-  pub taken : List ℕ
-  pub stand : Outputs
-  pub ran : Ran old new taken stand.output stand.report
-  pub goes_on : (rest : List ℕ) → course_of (taken ++ rest) ≡ behind stand (here rest)
-
--- What one function gives of the bytes still to come, the other gives of those that are left, where the desk tells them.
-abbrev pub GoesOn : {A : Type 0} → (List ℕ → A) → (List ℕ → A) → Meanings → Meanings → Type 0
-GoesOn here next old new = IfSome (left old inlet.Main) (λ bytes. (rest : List ℕ) × (left new inlet.Main ≡ Some rest) × (here bytes ≡ next rest))
-
--- the end of a whole input was met: what stands is all that is owed but this last part
-pub record IsAtLast {F : Type 0} (course_of : List ℕ → Course F) (old new : Meanings) (last : Outputs) : Type 0 where
-  pub input : List ℕ
-  pub stand : Outputs
-  pub went : Went old new input stand
-  pub read_out : IsReadOut new
-  pub ends : course_of input ≡ record { before = stand; after = last; ending = None }
-
--- after a turn of a run, by its answer: true where the run goes on with another course, false where only the last part
--- is owed
-abbrev pub AfterTurn : {F : Type 0} → (List ℕ → Course F) → (List ℕ → Course F) → Outputs → Meanings → Meanings → Result Bool (Stop F) → Type 0
-AfterTurn here next last old new (Ok true) = Reaches here next old new
-AfterTurn here next last old new (Ok false) = IsAtLast here old new last
-AfterTurn here next last old new (Err stop) = AfterStop here old new stop
+-- an answer, its fault as a reason to end a run
+abbrev pub by_stop : {T E F : Type 0} → (E → Stop F) → Result T E → Result T (Stop F)
+by_stop stop_of (Ok done) = Ok done
+by_stop stop_of (Err fault) = Err (stop_of fault)
 
 -- why a run ended: of every answer but a fault of the desk both counts are as before
 abbrev pub HasCause : {T F : Type 0} → Counts → Counts → Result T (Stop F) → Type 0

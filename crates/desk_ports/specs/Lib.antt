@@ -1,6 +1,7 @@
 pub mod Meanings
 pub mod Runs
 pub mod Courses
+pub mod Turns
 pub mod FileDesk
 pub mod Log
 pub mod MemState

@@ -1,5 +1,5 @@
 -- What a desk means: the bytes that come and go, the names, and what each call does to them.
-use Rattle.std.specs.Prelude.{◌≡◌, ℕ, ◌+◌, ◌-◌, ◌^◌, ◌≤◌, min, Bool, true, false, IsTrue, List, [], ◌++◌, Option, Some, None, Result, Ok, Err, IfSome, unwrap_or}
+use Rattle.std.specs.Prelude.{◌≡◌, ℕ, ◌+◌, ◌-◌, ◌^◌, ◌<◌, ◌≤◌, ◌⊎◌, min, Bool, true, false, IsTrue, List, [], ◌++◌, Option, Some, None, Result, Ok, Err, IfSome, unwrap_or}
 use Rattle.std.specs.Option.{option_map}
 use Rattle.std.specs.Ordering.{nat_cmp}
 use Rattle.std.specs.FinMap as map
@@ -121,22 +121,34 @@ kept_after None name made = None
 abbrev pub Keeps : Meanings → Meanings → Outlet → Type 0
 Keeps old new o = new ≡ record old { held = kept_after old.held (outgoing old o).name (made old o) }
 
+-- the next value of a count, which stands still at its last value
+abbrev pub next_count : ℕ → ℕ
+next_count n = min (n + 1) (2 ^ 64 - 1)
+
 -- a count rose, or it stands at its last value
 abbrev pub Rose : ℕ → ℕ → Type 0
-Rose old new = min (old + 1) (2 ^ 64 - 1) ≤ new
+Rose old new = next_count old ≤ new
 
--- neither count fell
-pub record Rises (old new : Counts) : Type 0 where
-  pub reads : old.reads ≤ new.reads
-  pub writes : old.writes ≤ new.writes
-
--- a reading failed: the count of reading rose, and neither count fell
+-- a reading failed: that is counted, once, and nothing else
 abbrev pub FailsToRead : Counts → Counts → Type 0
-FailsToRead old new = Rose old.reads new.reads × Rises old new × (new.writes ≡ old.writes)
+FailsToRead old new = new ≡ record old { reads = next_count old.reads }
 
--- a writing failed: the count of writing rose, and neither count fell
+-- a writing failed: that is counted, once, and nothing else
 abbrev pub FailsToWrite : Counts → Counts → Type 0
-FailsToWrite old new = Rose old.writes new.writes × Rises old new × (new.reads ≡ old.reads)
+FailsToWrite old new = new ≡ record old { writes = next_count old.writes }
+
+-- a call failed: that is counted, once, and nothing else
+abbrev pub Fails : Counts → Counts → Type 0
+Fails old new = FailsToRead old new ⊎ FailsToWrite old new
+
+-- how often the desk has failed
+abbrev pub faults : Counts → ℕ
+faults counts = counts.reads + counts.writes
+
+-- neither count stands at its last value
+pub record AreBelowLast (counts : Counts) : Type 0 where
+  pub reads : counts.reads < 2 ^ 64 - 1
+  pub writes : counts.writes < 2 ^ 64 - 1
 
 -- after a call that reads: Err comes only where a reading failed, and otherwise both counts are as before
 abbrev pub HasReadCause : {T E : Type 0} → Counts → Counts → Result T E → Type 0

@@ -1,5 +1,5 @@
 -- What a desk in memory is seen as, and what each of its calls does to that.
-use Rattle.std.specs.Prelude.{◌≡◌, ℕ, ◌+◌, ◌-◌, ◌^◌, min, Bool, true, false, List, [], Option, Some, None, refl, ◌++◌, ◌∷◌}
+use Rattle.std.specs.Prelude.{◌≡◌, ℕ, min, Bool, true, false, List, [], Option, Some, None, refl, ◌++◌, ◌∷◌}
 use Rattle.std.specs.List.{Contains}
 use Rattle.std.specs.Coded.{Coded, code_by, coded×, coded_ℕ, coded_bool, coded_list, coded_option}
 use Rattle.std.specs.FinMap as map
@@ -9,7 +9,7 @@ use Rattle.desk_ports.specs.declared.desk.Outlet.{Outlet}
 use Rattle.desk_ports.specs.declared.desk.Outlet.TheVariants as outlet
 use Rattle.desk_ports.specs.declared.calls.Call.{Call}
 use Rattle.desk_ports.specs.declared.calls.Call.TheVariants as call
-use Rattle.desk_ports.specs.Meanings.{Meanings, Counts, Kept}
+use Rattle.desk_ports.specs.Meanings.{Meanings, Counts, Kept, next_count}
 
 -- an input: the bytes still to come, and whether it was opened
 pub record MemIncoming : Type 0 where
@@ -148,10 +148,6 @@ mem_meanings state = record {
 
 abbrev pub mem_counts : MemState → Counts
 mem_counts state = record { reads = state.faults.reads; writes = state.faults.writes }
-
--- the next value of a count, which stands still at its last value
-abbrev pub next_count : ℕ → ℕ
-next_count n = min (n + 1) (2 ^ 64 - 1)
 
 -- as many bytes as one call may move
 abbrev pub capped : Option ℕ → ℕ → ℕ

@@ -1,4 +1,5 @@
-// The calls that a desk in memory is told to fail, by their kind and number.
+//! The calls that a desk in memory is told to fail, by their kind and number.
+
 ghost use Rattle.std.specs.Prelude.{◌≡◌, ◌↔◌, IsTrue, OnOk, OnErr};
 ghost use Rattle.desk_ports.specs.MemState.{no_calls, one_more, with_failing, IsNextFailing, empty_plan, calls_of, called, also_failing};
 
@@ -16,7 +17,7 @@ pub enum Call {
 }
 
 // The calls of one kind: how many were made, and the numbers of those that fail.
-#[derive(Drop)]
+#[derive(Debug, Drop)]
 struct Calls {
     calls: u64,
     failing: Vec<u64>,
@@ -61,7 +62,7 @@ impl Calls {
 }
 
 /// The calls of each kind.
-#[derive(Drop)]
+#[derive(Debug, Drop)]
 pub struct Plan {
     open_in: Calls,
     open_out: Calls,

@@ -1,3 +1,5 @@
+//! The desk: one trait for all that comes in and goes out.
+
 ghost use Rattle.std.specs.Prelude.{◌≡◌, ◌<◌, ◌≤◌, length, take, IsTrue, IfOk, OnOk, OnErr};
 ghost use Rattle.std.specs.Io.KnownBytes.{IsAtEnd};
 ghost use Rattle.desk_ports.specs.Meanings.{Meanings, Counts, Opens, Begins, Moves, Adds, Keeps, IsReadyIn, IsReadyOut, HasReadCause, HasWriteCause, left};

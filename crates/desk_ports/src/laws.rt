@@ -1,11 +1,11 @@
 //! What the definitions of a desk's calls mean together.
 
-ghost use Rattle.std.specs.Prelude.{◌≡◌, ◌++◌, ℕ, List, Option, Some, Result, IsSome, IfSome, IsOk};
+ghost use Rattle.std.specs.Prelude.{◌≡◌, ◌+◌, ◌++◌, ℕ, List, Option, Some, Result, IsSome, IfSome, IsOk};
 ghost use Rattle.std.specs.Io.KnownBytes.{append_known};
 ghost use Rattle.desk_ports.specs.declared.desk.Failed.{Failed};
 ghost use Rattle.desk_ports.specs.declared.desk.Inlet.{Inlet};
 ghost use Rattle.desk_ports.specs.declared.desk.Outlet.{Outlet};
-ghost use Rattle.desk_ports.specs.Meanings.{Meanings, Moves, Adds, Keeps, Opens, Rose, HasReadCause, HasWriteCause, left, made, outgoing};
+ghost use Rattle.desk_ports.specs.Meanings.{Meanings, Counts, Moves, Adds, AreBelowLast, Fails, Keeps, Opens, Rose, faults, HasReadCause, HasWriteCause, left, made, outgoing};
 ghost use Rattle.desk_ports.specs.Courses.{Course, Ends, owed};
 ghost use Rattle.desk_ports.specs.QuietState.{QuietState, quiet_meanings, quiet_counts};
 
@@ -32,6 +32,13 @@ pub fn runs_follow_their_course<F>()
         → (made b Outlet.Main ≡ append_known (made a Outlet.Main) (owed (course_of input)).output)
         × (made b Outlet.Report ≡ append_known (made a Outlet.Report) (owed (course_of input)).report)
         × ((course_of input).ending ≡ ending) }
+{}
+
+/// Each fault of a desk is counted once, where neither count stands at its last value. So nothing is done after it: where a
+/// call failed and another one behind it, the counts are not those of one fault.
+pub fn faults_count_once()
+    ensures one { (old new : Counts) → AreBelowLast old → Fails old new → faults new ≡ faults old + 1 }
+    ensures last { (a b c : Counts) → AreBelowLast b → Fails a b → Fails b c → ¬ Fails a c }
 {}
 
 /// At a quiet desk neither count ever rises, so no call fails there; and the bytes still to come at an inlet are told.

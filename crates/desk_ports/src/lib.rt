@@ -13,17 +13,22 @@ mod quiet;
 mod row;
 mod stop;
 mod transfer;
+mod turns;
 mod written;
 
 pub use calls::Call;
 pub use desk::{Desk, Failed, Inlet, Outlet};
 pub use file::FileDesk;
-pub use laws::{finished_is_held, pieces_join, quiet_desks_never_fail, runs_follow_their_course};
+pub use laws::{
+    faults_count_once, finished_is_held, pieces_join, quiet_desks_never_fail,
+    runs_follow_their_course,
+};
 pub use memory::MemDesk;
 pub use quiet::QuietDesk;
 pub use row::{ROW_BYTES, Row};
 pub use stop::Stop;
 pub use transfer::{fill, write_all};
+pub use turns::{Run, Turn, drive};
 
 #[cfg(test)]
 mod tests;

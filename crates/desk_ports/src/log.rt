@@ -1,4 +1,5 @@
-// Named bytes in the order in which they were kept. An entry never changes, so a reader of it needs no copy.
+//! Named bytes in the order in which they were kept. An entry never changes, so a reader of it needs no copy.
+
 ghost use Rattle.std.specs.Prelude.{◌≡◌, ◌<◌, ◌++◌, ◌∷◌, [], length, None, Some, MatchOption, OnOk, OnErr};
 ghost use Rattle.std.specs.FinMap as map;
 ghost use Rattle.desk_ports.specs.Log.{kept_of, bytes_at};
@@ -7,7 +8,7 @@ use std::alloc::{AllocError, Global};
 use std::marker::Model;
 
 /// A name and the bytes that were kept under it.
-#[derive(Drop)]
+#[derive(Debug, Drop)]
 pub struct LogEntry {
     name: Vec<u8>,
     bytes: Vec<u8>,

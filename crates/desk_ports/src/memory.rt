@@ -1,8 +1,10 @@
+//! The desk in memory, whose calls can be told to fail.
+
 ghost use Rattle.std.specs.Prelude.{◌≡◌, ◌≤◌, ◌<◌, ◌↔◌, ◌⊎◌, length, min, take, Some, None, IsTrue, IsErr, IfOk, OnOk, OnErr};
 ghost use Rattle.std.specs.FinMap as map;
 ghost use Rattle.std.specs.Io.KnownBytes.{IsAtEnd};
-ghost use Rattle.desk_ports.specs.Meanings.{Opens, Begins, Moves, Adds, Keeps, IsReadyIn, IsReadyOut, HasReadCause, HasWriteCause, left, kept_at};
-ghost use Rattle.desk_ports.specs.MemState.{empty_desk, mem_left, mem_made, mem_meanings, mem_counts, next_count, capped, also_failing, IsNamed, IsCalled, read_fault, write_fault, refusal};
+ghost use Rattle.desk_ports.specs.Meanings.{Opens, Begins, Moves, Adds, Keeps, IsReadyIn, IsReadyOut, HasReadCause, HasWriteCause, left, kept_at, next_count};
+ghost use Rattle.desk_ports.specs.MemState.{empty_desk, mem_left, mem_made, mem_meanings, mem_counts, capped, also_failing, IsNamed, IsCalled, read_fault, write_fault, refusal};
 
 use crate::calls::{Call, Plan};
 use crate::desk::{Desk, Failed, Inlet, Outlet};
@@ -13,13 +15,13 @@ use std::alloc::Global;
 use std::marker::Model;
 
 // Where an inlet stands: before a place of the bytes of an entry of the log.
-#[derive(Clone, Copy)]
+#[derive(Clone, Copy, Debug)]
 enum Cursor {
     Nothing,
     Entry { at: usize, place: usize },
 }
 
-#[derive(Clone, Copy)]
+#[derive(Clone, Copy, Debug)]
 struct Cursors {
     side: Cursor,
     input: Cursor,
@@ -47,7 +49,7 @@ impl Cursors {
     }
 }
 
-#[derive(Clone, Copy)]
+#[derive(Clone, Copy, Debug)]
 struct Faults {
     reads: u64,
     writes: u64,
@@ -87,7 +89,7 @@ impl Faults {
 }
 
 /// The desk in memory. It tells everything, and its outlets grow.
-#[derive(Drop)]
+#[derive(Debug, Drop)]
 pub struct MemDesk {
     alloc: Global,
     log: Vec<LogEntry>,

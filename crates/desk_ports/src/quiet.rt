@@ -1,3 +1,5 @@
+//! The quiet desk, at which no call fails.
+
 ghost use Rattle.std.specs.Prelude.{◌≡◌, ◌≢◌, ◌+◌, ◌-◌, ◌^◌, ◌++◌, [], List, ℕ, Some, IfSome, length, min, take};
 ghost use Rattle.desk_ports.specs.Meanings.{kept_at};
 ghost use Rattle.desk_ports.specs.QuietState.{both_kept, quiet_desk, quiet_counts, quiet_held};
@@ -6,7 +8,7 @@ use crate::desk::{Desk, Failed, Inlet, Outlet};
 use std::marker::Model;
 
 // The side input and the main one under their names. Every other name has no bytes.
-#[derive(Clone, Copy)]
+#[derive(Clone, Copy, Debug)]
 struct Inputs<'a> {
     side_name: &'a str,
     side: &'a [u8],
@@ -31,7 +33,7 @@ impl<'a> Inputs<'a> {
 }
 
 // An inlet: the bytes still to come, and whether it was opened.
-#[derive(Clone, Copy)]
+#[derive(Clone, Copy, Debug)]
 struct Source<'a> {
     left: &'a [u8],
     ready: bool,
@@ -53,7 +55,7 @@ impl<'a> Source<'a> {
 }
 
 // An outlet: how many bytes it took since it was opened, and whether it was opened.
-#[derive(Clone, Copy)]
+#[derive(Clone, Copy, Debug)]
 struct Taken {
     count: u64,
     ready: bool,
@@ -75,7 +77,7 @@ impl Taken {
 ///
 /// It tells what its inlets have left and, until an output is finished, what it keeps. Its outlets take every byte
 /// and keep only a count.
-#[derive(Drop)]
+#[derive(Debug, Drop)]
 pub struct QuietDesk<'a> {
     inputs: Inputs<'a>,
     side: Source<'a>,

@@ -1,3 +1,5 @@
+//! A row of a text.
+
 ghost use Rattle.std.specs.Prelude.{◌≡◌, ◌+◌, ◌≤◌, ◌++◌, [], length, decimal};
 
 use arrayvec::ArrayString;
@@ -8,7 +10,7 @@ use std::marker::Model;
 pub const ROW_BYTES: usize = 128;
 
 /// A row of a text that is put together before it is written in one piece. It takes no memory.
-#[derive(Drop)]
+#[derive(Debug, Drop)]
 pub struct Row {
     text: ArrayString<ROW_BYTES>,
 }

@@ -1,4 +1,5 @@
-// What no clause says: that the calls answer with ample memory, and that bytes come and go through real files.
+//! What no clause says: that the calls answer with ample memory, and that bytes come and go through real files.
+
 ghost use Rattle.std.specs.Prelude.{IsTrue};
 
 use super::*;
@@ -67,5 +68,60 @@ fn a_copy_of_a_file(rt: HostRuntime) -> Result<(), Fail> {
     assert_eq!(rt; unfinished.as_slice(), &ROW[..3]);
     fs::remove_file(&rt, "row")?;
     fs::remove_file(&rt, "copy")?;
+    Ok(())
+}
+
+// A run that makes so many turns, and then ends with a fault of its data.
+#[derive(Drop)]
+struct Countdown(u8);
+
+impl Run for Countdown {
+    type Answer = u8;
+
+    type Fault = u8;
+
+    type Data = u8;
+
+    ghost use Rattle.std.specs.Prelude.{◌≡◌, ℕ, List, Bool, false, Some};
+    ghost use Rattle.desk_ports.specs.Courses.{no_outputs};
+    ghost use Rattle.desk_ports.specs.declared.stop.Stop.TheVariants as stop;
+
+    ghost owes = { λ _ work. (input : List ℕ) → work.course input ≡ record { before = no_outputs; after = no_outputs; ending = Some 7 } };
+
+    ghost stop_of = { λ fault. stop.Data fault };
+
+    ghost writes = { λ _. false };
+
+    ghost remaining = { λ count. count.0 };
+
+    fn turn<D: Desk>(&mut self, _desk: &mut D) -> Result<Turn<u8>, u8> {
+        if self.0 == 0 {
+            return Err(7);
+        }
+        self.0 -= 1;
+        Ok(Turn::More)
+    }
+}
+
+// Counts down over a desk whose input is opened, where it can be.
+fn counted_down<D: Desk>(desk: &mut D, from: &str, count: &mut Countdown) -> Option<Result<u8, u8>>
+    requires { IsTrue ((D.meaning desk.old).grants_in from.now) }
+{
+    let Ok(()) = desk.open_in(Inlet::Main, from) else {
+        return None;
+    };
+    Some(drive(count, desk))
+}
+
+fn three_turns(desk: &mut MemDesk, count: &mut Countdown) -> Option<Result<u8, u8>> {
+    counted_down(desk, "row", count)
+}
+
+#[test]
+fn runs_make_all_their_turns(rt: HostRuntime) -> Result<(), Fail> {
+    let mut desk = desk_with(rt.alloc(), "row", &ROW)?;
+    let mut count = Countdown(3);
+    assert_eq!(rt; three_turns(&mut desk, &mut count), Some(Err(7)));
+    assert_eq!(rt; count.0, 0);
     Ok(())
 }

@@ -1,3 +1,5 @@
+//! Reading until a buffer is full, and writing all of one.
+
 ghost use Rattle.std.specs.Prelude.{◌<◌, ◌≤◌, ℕ, List, length, take, IfOk, OnOk, OnErr};
 ghost use Rattle.std.specs.Io.KnownBytes.{IsAtEnd};
 ghost use Rattle.desk_ports.specs.Meanings.{Moves, Adds, AddsFront, IsReadyIn, IsReadyOut, HasReadCause, HasWriteCause, left};

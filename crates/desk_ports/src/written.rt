@@ -1,3 +1,5 @@
+//! An outlet in memory, with the bytes that were written to it.
+
 ghost use Rattle.std.specs.Prelude.{◌≡◌, ◌∷◌, ◌++◌, [], true, OnOk, OnErr};
 ghost use Rattle.desk_ports.specs.MemState.{closed_outgoing};
 
@@ -6,7 +8,7 @@ use std::alloc::{AllocError, Global};
 use std::marker::Model;
 
 /// An output in memory: its name and the bytes that were written to it since it was opened.
-#[derive(Drop)]
+#[derive(Debug, Drop)]
 pub struct Written {
     name: Vec<u8>,
     made: Vec<u8>,

@@ -1,16 +1,18 @@
 -- What compressing a recording owes: the store of its history.
-use Rattle.std.specs.Prelude.{◌≡◌, ℕ, ◌+◌, ◌*◌, ◌%◌, Bool, List, [], ◌∷◌, ◌++◌, length, IfSome, Result, Ok, Err}
+use Rattle.std.specs.Prelude.{◌≡◌, ℕ, ◌+◌, ◌*◌, ◌%◌, Bool, true, false, List, [], ◌∷◌, ◌++◌, length, vec_len}
 use Rattle.bit_vectors.specs.Vectors.{IsVector, byte_count}
-use Rattle.desk_ports.specs.declared.desk.Inlet.TheVariants as inlet
+use Rattle.desk_ports.specs.declared.desk.Outlet.{Outlet}
+use Rattle.desk_ports.specs.declared.desk.Outlet.TheVariants as outlet
 use Rattle.desk_ports.specs.declared.stop.Stop.{Stop}
 use Rattle.desk_ports.specs.declared.stop.Stop.TheVariants as stop
-use Rattle.desk_ports.specs.Meanings.{Meanings, left}
 use Rattle.desk_ports.specs.Courses.{Course, no_outputs, to_output}
+use Rattle.desk_ports.specs.Turns.{Work}
 use Rattle.mask_update.specs.Histories.{History, history_of}
 use Rattle.side_tables.specs.declared.rows.FlagRow.{FlagRow}
 use Rattle.side_tables.specs.Rows.{flags_of}
-use Rattle.packet_encode.specs.Encoder.{EncoderState, StandsFor}
+use Rattle.packet_encode.specs.Encoder.{StandsFor}
 use Rattle.packet_store.specs.SpacePackets.{period, space_packet}
+use Rattle.flight_chain.specs.declared.compressing.Compressing.{Compressing}
 use Rattle.flight_chain.specs.declared.fault.RecordFault.{RecordFault}
 use Rattle.flight_chain.specs.declared.fault.FlightFault.{FlightFault}
 use Rattle.flight_chain.specs.declared.fault.RecordFault.TheVariants as record_fault
@@ -40,17 +42,7 @@ compress_course k recording = record {
   ending = (recording_walk k.places recording).ending;
 }
 
--- ---- answers
-
--- the reason to end a run, as it is answered
-abbrev pub fault_of : Stop RecordFault → FlightFault
-fault_of (stop.Data (record_fault.CutRecord t)) = CutRecord t
-fault_of (stop.Data (record_fault.SpareBit t)) = SpareBit t
-fault_of (stop.Data record_fault.TooMany) = TooMany
-fault_of stop.ReadFault = ReadFault
-fault_of stop.WriteFault = WriteFault
-
--- an answer, as the reason to end a run
+-- a fault, as a reason to end a run
 abbrev pub stop_by : FlightFault → Stop RecordFault
 stop_by (CutRecord t) = stop.Data (record_fault.CutRecord t)
 stop_by (SpareBit t) = stop.Data (record_fault.SpareBit t)
@@ -58,36 +50,25 @@ stop_by TooMany = stop.Data record_fault.TooMany
 stop_by ReadFault = stop.ReadFault
 stop_by WriteFault = stop.WriteFault
 
-abbrev pub as_run : {T : Type 0} → Result T FlightFault → Result T (Stop RecordFault)
-as_run (Ok done) = Ok done
-as_run (Err fault) = Err (stop_by fault)
-
 -- ---- on the way
 
--- a recording that is being compressed: what the encoder keeps, the APID, the rows of the schedule, and the latest input
-pub record Progress : Type 0 where
-  pub encoder : EncoderState
-  pub apid : ℕ
-  pub rows : List FlagRow
-  pub input : List Bool
-
 -- what a flight has been opened with, where nothing is read
-abbrev pub compression_of : Progress → Compression
+abbrev pub compression_of : Compressing → Compression
 compression_of s = record {
   places = length s.encoder.masks.mask;
   robust = s.encoder.robust;
-  apid = s.apid;
+  apid = s.writer.apid;
   mask = s.encoder.masks.mask;
-  rows = s.rows;
+  rows = s.plan;
 }
 
 -- these inputs are taken
-pub record HasTaken (k : Compression) (inputs : List (List Bool)) (s : Progress) : Type 0 where
+pub record HasTaken (k : Compression) (inputs : List (List Bool)) (s : Compressing) : Type 0 where
   pub stands : StandsFor (history_by k inputs) s.encoder
   pub places : length s.encoder.masks.mask ≡ k.places
   pub robust : s.encoder.robust ≡ k.robust
-  pub apid : s.apid ≡ k.apid
-  pub rows : s.rows ≡ k.rows
+  pub apid : s.writer.apid ≡ k.apid
+  pub rows : s.plan ≡ k.rows
 
 -- all inputs of a recording: those that are taken, and those of what is left
 abbrev pub all_inputs : Compression → List (List Bool) → List ℕ → List (List Bool)
@@ -110,18 +91,31 @@ rest_course k inputs bytes = record {
   ending = (recording_walk_from k.places (length inputs) bytes).ending;
 }
 
--- the inputs of the recording stay the same as it is read on, where the desk tells it
-abbrev pub KeepsInputs : Compression → List (List Bool) → List (List Bool) → Meanings → Meanings → Type 0
-KeepsInputs k inputs next old new =
-    IfSome (left old inlet.Main) (λ bytes. IfSome (left new inlet.Main) (λ rest. all_inputs k inputs bytes ≡ all_inputs k next rest))
+-- the work of compressing what is left of the recording, whose answer is the number of all inputs
+abbrev pub rest_work : Compression → List (List Bool) → Work ℕ RecordFault
+rest_work k inputs = record { course = rest_course k inputs; answer = λ bytes. length (all_inputs k inputs bytes) }
 
 -- the line has room for a packet of the recording, and the pen for one of the store
-pub record IsCompressing (encoder : EncoderState) (input : List Bool) (line room : ℕ) : Type 0 where
-  pub vector : IsVector input
-  pub places : length encoder.masks.mask ≡ length input
-  pub line_room : line ≡ byte_count (length input)
-  pub pen_room : room ≡ 10 * length input + 43
+pub record IsCompressing (s : Compressing) : Type 0 where
+  pub vector : IsVector s.input
+  pub places : length s.encoder.masks.mask ≡ length s.input
+  pub line : vec_len s.line ≡ byte_count (length s.input)
+  pub pen : s.pen.room ≡ 10 * length s.input + 43
+
+-- this work is owed: that of the rest of the recording, where some inputs are taken
+pub record Owes (s : Compressing) (work : Work ℕ RecordFault) : Type 0 where
+  pub k : Compression
+  pub inputs : List (List Bool)
+  pub taken : HasTaken k inputs s
+  pub work_is : work ≡ rest_work k inputs
+  pub right : IsCompressing s
 
 -- nothing is taken
-pub record HasTakenNothing (s : Progress) : Type 0 where
+pub record HasTakenNothing (s : Compressing) : Type 0 where
   pub none : HasTaken (compression_of s) [] s
+  pub right : IsCompressing s
+
+-- the main output
+abbrev pub is_main : Outlet → Bool
+is_main outlet.Main = true
+is_main outlet.Report = false

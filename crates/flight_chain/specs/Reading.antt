@@ -2,9 +2,10 @@
 use Rattle.std.specs.Prelude.{◌≡◌, ℕ, ◌+◌, ◌^◌, ◌<◌, Bool, List, [], ◌++◌, length, Result, Ok, Err, IfSome}
 use Rattle.desk_ports.specs.Meanings.{Meanings, Counts, Moves, FailsToRead, left}
 use Rattle.desk_ports.specs.declared.desk.Inlet.TheVariants as inlet
-use Rattle.desk_ports.specs.declared.stop.Stop.{Stop}
-use Rattle.desk_ports.specs.declared.stop.Stop.TheVariants as stop
 use Rattle.flight_chain.specs.declared.fault.RecordFault.{RecordFault}
+use Rattle.flight_chain.specs.declared.fault.RecordFault.TheVariants as record_fault
+use Rattle.flight_chain.specs.declared.fault.FlightFault.{FlightFault}
+use Rattle.flight_chain.specs.declared.fault.FlightFault.TheVariants.{CutRecord, SpareBit, TooMany, ReadFault}
 use Rattle.flight_chain.specs.declared.reading.Unread.{Unread}
 use Rattle.flight_chain.specs.declared.reading.Unread.TheVariants as unread
 use Rattle.flight_chain.specs.Recordings.{recording_walk_from, behind_input, stopped_at}
@@ -42,7 +43,9 @@ HasUnreadCause old new (Ok done) = new ≡ old
 HasUnreadCause old new (Err (unread.Data fault)) = new ≡ old
 HasUnreadCause old new (Err unread.ReadFault) = FailsToRead old new
 
--- the same, as a reason to end a run
-abbrev pub stop_of : Unread → Stop RecordFault
-stop_of (unread.Data fault) = stop.Data fault
-stop_of unread.ReadFault = stop.ReadFault
+-- the answer of a chain
+abbrev pub fault_by : Unread → FlightFault
+fault_by (unread.Data (record_fault.CutRecord t)) = CutRecord t
+fault_by (unread.Data (record_fault.SpareBit t)) = SpareBit t
+fault_by (unread.Data record_fault.TooMany) = TooMany
+fault_by unread.ReadFault = ReadFault

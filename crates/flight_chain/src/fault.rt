@@ -1,9 +1,9 @@
 //! Why a recording is not compressed to its end.
 
 ghost use Rattle.std.specs.Prelude.{◌≡◌};
-ghost use Rattle.flight_chain.specs.Compressing.{fault_of};
+ghost use Rattle.flight_chain.specs.declared.fault.FlightFault.TheVariants as fault;
 
-use desk_ports::Stop;
+use desk_ports::Failed;
 use thiserror::Error;
 
 /// Why the walk over a recording ends before the recording does. Packets are numbered from 0.
@@ -37,16 +37,10 @@ pub enum FlightFault {
     WriteFault,
 }
 
-impl From<Stop<RecordFault>> for FlightFault {
-    ghost from_gives = { λ s e. e ≡ fault_of s };
+impl From<Failed> for FlightFault {
+    ghost from_gives = { λ _ e. e ≡ fault.WriteFault };
 
-    fn from(stop: Stop<RecordFault>) -> FlightFault {
-        match stop {
-            Stop::Data(RecordFault::CutRecord { t }) => FlightFault::CutRecord { t },
-            Stop::Data(RecordFault::SpareBit { t }) => FlightFault::SpareBit { t },
-            Stop::Data(RecordFault::TooMany) => FlightFault::TooMany,
-            Stop::ReadFault => FlightFault::ReadFault,
-            Stop::WriteFault => FlightFault::WriteFault,
-        }
+    fn from(_failed: Failed) -> FlightFault {
+        FlightFault::WriteFault
     }
 }

@@ -2,14 +2,14 @@
 
 ghost use Rattle.std.specs.Prelude.{◌≡◌, ◌≤◌, length, IfOk, IfSome};
 ghost use Rattle.desk_ports.specs.Meanings.{IsReadyIn, IsReadyOut, left};
-ghost use Rattle.desk_ports.specs.Courses.{AfterRun, HasCause};
+ghost use Rattle.desk_ports.specs.Courses.{AfterRun, HasCause, by_stop};
 ghost use Rattle.flight_chain.specs.Recordings.{recording_walk};
-ghost use Rattle.flight_chain.specs.Compressing.{as_run, compress_course};
+ghost use Rattle.flight_chain.specs.Compressing.{compress_course, stop_by};
 
 use crate::compressing::Compressing;
 use crate::fault::FlightFault;
 use bit_vectors::{Bits, NoMemory};
-use desk_ports::{Desk, Inlet, Outlet};
+use desk_ports::{Desk, Inlet, Outlet, drive};
 use side_tables::Schedule;
 use std::alloc::Global;
 use std::marker::Model;
@@ -17,7 +17,7 @@ use std::marker::Model;
 /// Compresses a recording: reads it from the main inlet of a desk, and writes the store of its packets to the main
 /// outlet. Contracts see the places of the vectors, the required robustness, the APID, the first mask and the rows of
 /// the schedule.
-#[derive(Drop)]
+#[derive(Debug, Drop)]
 pub struct Flight {
     compressing: Compressing,
 }
@@ -60,14 +60,13 @@ impl Flight {
         requires input { IsReadyIn (D.meaning desk.old) Inlet.Main }
         requires output { IsReadyOut (D.meaning desk.old) Outlet.Main }
         // What stands after each answer is what the recording owes, all of it or up to where its walk or the desk ends it.
-        ensures ran { AfterRun (compress_course self) (D.meaning desk.old) (D.meaning desk.new) (as_run result) }
-        ensures cause { HasCause (D.counts desk.old) (D.counts desk.new) (as_run result) }
+        ensures ran { AfterRun (compress_course self) (D.meaning desk.old) (D.meaning desk.new) (by_stop stop_by result) }
+        ensures cause { HasCause (D.counts desk.old) (D.counts desk.new) (by_stop stop_by result) }
         // Where the desk tells the recording, the number is that of its packets.
         ensures packets { IfSome (left (D.meaning desk.old) Inlet.Main) (λ recording.
             IfOk result (λ packets. packets ≡ length (recording_walk self.places recording).inputs)) }
     {
         let mut compressing = self.compressing;
-        let packets = compressing.run(desk)?;
-        Ok(packets)
+        drive(&mut compressing, desk)
     }
 }

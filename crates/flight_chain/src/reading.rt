@@ -5,12 +5,12 @@ ghost use Rattle.std.specs.Io.KnownBytes.{IsAtEnd};
 ghost use Rattle.bit_vectors.specs.Vectors.{byte_count};
 ghost use Rattle.desk_ports.specs.Meanings.{Moves, IsReadyIn, left};
 ghost use Rattle.packet_store.specs.Answers.{IfGiven, OnEnd};
-ghost use Rattle.flight_chain.specs.Reading.{Takes, AfterUnread, HasUnreadCause, stop_of};
+ghost use Rattle.flight_chain.specs.Reading.{Takes, AfterUnread, HasUnreadCause, fault_by};
 ghost use Rattle.flight_chain.specs.declared.reading.Unread.TheVariants as unread;
 
-use crate::fault::RecordFault;
+use crate::fault::{FlightFault, RecordFault};
 use bit_vectors::Bits;
-use desk_ports::{Desk, Failed, Inlet, Stop, fill};
+use desk_ports::{Desk, Failed, Inlet, fill};
 
 /// Why a packet is not read.
 #[derive(Clone, Copy)]
@@ -27,13 +27,15 @@ impl From<Failed> for Unread {
     }
 }
 
-impl From<Unread> for Stop<RecordFault> {
-    ghost from_gives = { λ u e. e ≡ stop_of u };
+impl From<Unread> for FlightFault {
+    ghost from_gives = { λ u e. e ≡ fault_by u };
 
-    fn from(unread: Unread) -> Stop<RecordFault> {
+    fn from(unread: Unread) -> FlightFault {
         match unread {
-            Unread::Data(fault) => Stop::Data(fault),
-            Unread::ReadFault => Stop::ReadFault,
+            Unread::Data(RecordFault::CutRecord { t }) => FlightFault::CutRecord { t },
+            Unread::Data(RecordFault::SpareBit { t }) => FlightFault::SpareBit { t },
+            Unread::Data(RecordFault::TooMany) => FlightFault::TooMany,
+            Unread::ReadFault => FlightFault::ReadFault,
         }
     }
 }

@@ -1,4 +1,5 @@
-// What no clause says: that a flight opens with ample memory.
+//! What no clause says: that a flight opens with ample memory.
+
 ghost use Rattle.std.specs.Prelude.{◌≤◌};
 
 use super::*;

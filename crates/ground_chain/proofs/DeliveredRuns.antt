@@ -8,6 +8,7 @@ use Rattle.desk_ports.specs.declared.stop.Stop.{Stop}
 use Rattle.desk_ports.specs.declared.stop.Stop.TheVariants.{Data, ReadFault, WriteFault}
 use Rattle.desk_ports.specs.Meanings.{Meanings, Counts, Rose, left, made}
 use Rattle.desk_ports.specs.Courses.{AfterRun, HasCause, Outputs, by_ending, owed}
+use Rattle.desk_ports.proofs.Faults.{Rose-reads, Rose-writes}
 use Rattle.desk_ports.proofs.Courses.{Ends-told}
 use Rattle.mask_update.specs.Histories.{History, IsValid}
 use Rattle.packet_encode.specs.Deliveries.{arrivals}
@@ -85,5 +86,5 @@ IsOk-played f apid h copies a b old new (Err (Data reason)) played few ran cause
     let ends = (Ends-told (restore_course f apid) a b (Some reason) store played.input ran).2 in
     let whole = ap (λ (w : Walk). w.ending) (walk-played h copies apid played.valid played.chosen few) in
     let both = sym whole ∙ ends in absurd cc
-IsOk-played f apid h copies a b old new (Err ReadFault) played few ran cause reads writes = absurd (reads cause.0)
-IsOk-played f apid h copies a b old new (Err WriteFault) played few ran cause reads writes = absurd (writes cause.0)
+IsOk-played f apid h copies a b old new (Err ReadFault) played few ran cause reads writes = absurd (reads (Rose-reads old new cause))
+IsOk-played f apid h copies a b old new (Err WriteFault) played few ran cause reads writes = absurd (writes (Rose-writes old new cause))

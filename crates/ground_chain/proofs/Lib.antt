@@ -13,6 +13,5 @@ mod Counted
 mod Receptions
 mod Writings
 mod RestCourses
-mod Restorations
 pub mod PlayedHistories
 pub mod DeliveredRuns

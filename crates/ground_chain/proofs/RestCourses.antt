@@ -1,24 +1,25 @@
 -- What is owed for the rest of a store, packet by packet.
-use Rattle.std.proofs.Common.{◌≡◌, ℕ, Bool, true, false, if◌then◌else◌, List, [], ◌∷◌, ◌++◌, map, Option, None, refl, sym, ap, ◌∙◌, subst, append-nil}
+use Rattle.std.proofs.Common.{◌≡◌, ℕ, ◌*◌, ◌^◌, ◌≤◌, Bool, true, false, if◌then◌else◌, List, [], ◌∷◌, ◌++◌, map, Option, None, refl, sym, ap, ◌∙◌, subst, append-nil, arith}
 use Rattle.std.specs.List.{filter}
 use Rattle.std.proofs.lemmas.List.Concat.{flat_map-cons}
-use Rattle.desk_ports.specs.declared.desk.Inlet.TheVariants as inlet
-use Rattle.desk_ports.specs.Meanings.{Meanings, left}
-use Rattle.desk_ports.specs.Runs.{Ran}
-use Rattle.desk_ports.specs.Courses.{no_outputs, to_report, put, owed, behind, AreFronts, IsCutShort, Reaches}
-use Rattle.desk_ports.proofs.Runs.{Ran-then, Ran-moves}
-use Rattle.desk_ports.proofs.Courses.{owed-behind, AreFronts-then, Went-ran, rest_of}
+use Rattle.bit_vectors.specs.Vectors.{byte_count}
+use Rattle.desk_ports.specs.Meanings.{Meanings}
+use Rattle.desk_ports.specs.Courses.{no_outputs, to_report, behind}
+use Rattle.desk_ports.specs.Turns.{Work, Steps, IsLast}
 use Rattle.packet_store.specs.declared.reader.Taken.{Taken}
+use Rattle.packet_store.specs.declared.fault.WalkFault.{WalkFault}
 use Rattle.packet_store.specs.SpacePackets.{Packet, is_chosen}
 use Rattle.packet_store.specs.Walks.{Walk}
 use Rattle.packet_store.specs.StoreReader.{ReaderState, Takes, walk_on}
 use Rattle.packet_store.proofs.Walks.{walk_from-none}
 use Rattle.packet_store.proofs.StoreCourses.{FollowsWalk}
 use Rattle.ground_chain.specs.declared.restored.Restored.{Restored}
+use Rattle.ground_chain.specs.declared.restoring.Restoring.{Restoring}
+use Rattle.ground_chain.specs.Numbers.{expected}
 use Rattle.ground_chain.specs.Run.{Judged, run_from}
 use Rattle.ground_chain.specs.Report.{header_row, verdict_rows, written_bytes, run_bytes, run_rows, end_row, restored_of, restored_by, added}
-use Rattle.ground_chain.specs.Reception.{known_of, next_judged}
-use Rattle.ground_chain.specs.Restoring.{arrival_of, arrivals_of, store_run, restore_course, Progress, nothing_read, rest_run, all_restored, rest_course, judged_outputs, Wrote, WroteFront}
+use Rattle.ground_chain.specs.Reception.{Reception, known_of, next_judged}
+use Rattle.ground_chain.specs.Restoring.{arrival_of, arrivals_of, store_run, restore_course, rest_run, all_restored, rest_course, rest_work, judged_outputs, IsRestoring, Owes, HasReadNothing}
 use Rattle.ground_chain.proofs.Counted.{restored_of-cons, added-assoc, none-added, added-none}
 
 -- ---- the walk
@@ -51,17 +52,17 @@ passed_arrivals old new a b given takes other rest =
     ∙ ap (λ (chosen : Option ℕ). arrivals_of chosen (walk_on new rest).packets) (sym (same_chosen old new a b given takes)))
 
 -- what is owed stays
-abbrev SameRest : Progress → Progress → List ℕ → List ℕ → Type 0
+abbrev SameRest : Restoring → Restoring → List ℕ → List ℕ → Type 0
 SameRest s t bytes rest = (rest_run s bytes ≡ rest_run t rest) × ((walk_on s.reader bytes).ending ≡ (walk_on t.reader rest).ending)
 
-passed_rest : (s : Progress) (reader : ReaderState) (a b : Meanings) (given : Taken) → Takes s.reader reader a b given → given.chosen ≡ false → (rest : List ℕ)
+passed_rest : (s : Restoring) (reader : ReaderState) (a b : Meanings) (given : Taken) → Takes s.reader reader a b given → given.chosen ≡ false → (rest : List ℕ)
     → SameRest s (record s { reader = reader }) (reader.packet ++ rest) rest
 passed_rest s reader a b given takes other rest = (
-  ap (run_from s.reception.decoder.places (known_of s.reception)) (passed_arrivals s.reader reader a b given takes other rest),
+  ap (run_from s.arrivals.decoder.places (known_of s.arrivals)) (passed_arrivals s.reader reader a b given takes other rest),
   ending_taken s.reader reader a b given takes rest,
 )
 
-pub passed_course : (s : Progress) (reader : ReaderState) (a b : Meanings) (given : Taken) → Takes s.reader reader a b given → given.chosen ≡ false → (rest : List ℕ)
+pub passed_course : (s : Restoring) (reader : ReaderState) (a b : Meanings) (given : Taken) → Takes s.reader reader a b given → given.chosen ≡ false → (rest : List ℕ)
     → rest_course s (reader.packet ++ rest) ≡ rest_course (record s { reader = reader }) rest
 passed_course s reader a b given takes other rest =
     let same = passed_rest s reader a b given takes other rest in
@@ -71,22 +72,22 @@ passed_course s reader a b given takes other rest =
       ending = same.1 i;
     }
 
-pub passed_numbers : (s : Progress) (reader : ReaderState) (a b : Meanings) (given : Taken) → Takes s.reader reader a b given → given.chosen ≡ false → (rest : List ℕ)
+pub passed_numbers : (s : Restoring) (reader : ReaderState) (a b : Meanings) (given : Taken) → Takes s.reader reader a b given → given.chosen ≡ false → (rest : List ℕ)
     → all_restored s (reader.packet ++ rest) ≡ all_restored (record s { reader = reader }) rest
 passed_numbers s reader a b given takes other rest = ap (λ (l : List Judged). added s.restored (restored_of l)) (passed_rest s reader a b given takes other rest).0
 
 -- ---- a packet of the chosen APID
 
 -- one arrival was judged: what is kept and counted is what the run knows after it
-pub record Judges (s t : Progress) (reader : ReaderState) (count : ℕ) : Type 0 where
+pub record Judges (s t : Restoring) (reader : ReaderState) (count : ℕ) : Type 0 where
   pub reader_is : t.reader ≡ reader
-  pub known : known_of t.reception ≡ (next_judged s.reception count reader.body).after
-  pub places : t.reception.decoder.places ≡ s.reception.decoder.places
-  pub restored : t.restored ≡ added s.restored (restored_by (next_judged s.reception count reader.body).verdict)
+  pub known : known_of t.arrivals ≡ (next_judged s.arrivals count reader.body).after
+  pub places : t.arrivals.decoder.places ≡ s.arrivals.decoder.places
+  pub restored : t.restored ≡ added s.restored (restored_by (next_judged s.arrivals count reader.body).verdict)
 
-module _ (s t : Progress) (reader : ReaderState) (a b : Meanings) (given : Taken) (takes : Takes s.reader reader a b given) (own : given.chosen ≡ true) (is : Judges s t reader given.count) (rest : List ℕ) where
+module _ (s t : Restoring) (reader : ReaderState) (a b : Meanings) (given : Taken) (takes : Takes s.reader reader a b given) (own : given.chosen ≡ true) (is : Judges s t reader given.count) (rest : List ℕ) where
   judged : Judged
-  judged = next_judged s.reception given.count reader.body
+  judged = next_judged s.arrivals given.count reader.body
 
   p : Packet
   p = record { header = takes.header; body = reader.body }
@@ -103,10 +104,10 @@ module _ (s t : Progress) (reader : ReaderState) (a b : Meanings) (given : Taken
       ∙ (arrivals_chosen s.reader.chosen (record { header = takes.header; body = reader.body }) (walk_on reader rest).packets (sym takes.is_chosen ∙ own)
       ∙ (own_packet ∙ ap (λ (r : ReaderState). record { count = given.count; body = reader.body } ∷ arrivals_of r.chosen (walk_on r rest).packets) (sym is.reader_is)))
 
-  pub judged_run : rest_run s (reader.packet ++ rest) ≡ next_judged s.reception given.count reader.body ∷ rest_run t rest
+  pub judged_run : rest_run s (reader.packet ++ rest) ≡ next_judged s.arrivals given.count reader.body ∷ rest_run t rest
   judged_run =
-      ap (run_from s.reception.decoder.places (known_of s.reception)) own_arrivals
-      ∙ (let places = sym is.places in let known = sym is.known in λ i. next_judged s.reception given.count reader.body ∷ run_from (places i) (known i) (arrivals_of t.reader.chosen (walk_on t.reader rest).packets))
+      ap (run_from s.arrivals.decoder.places (known_of s.arrivals)) own_arrivals
+      ∙ (let places = sym is.places in let known = sym is.known in λ i. next_judged s.arrivals given.count reader.body ∷ run_from (places i) (known i) (arrivals_of t.reader.chosen (walk_on t.reader rest).packets))
 
   pub judged_ending : (walk_on s.reader (reader.packet ++ rest)).ending ≡ (walk_on t.reader rest).ending
   judged_ending = ending_taken s.reader reader a b given takes rest ∙ ap (λ (r : ReaderState). (walk_on r rest).ending) (sym is.reader_is)
@@ -114,75 +115,121 @@ module _ (s t : Progress) (reader : ReaderState) (a b : Meanings) (given : Taken
   pub judged_numbers : all_restored s (reader.packet ++ rest) ≡ all_restored t rest
   judged_numbers =
       ap (λ (l : List Judged). added s.restored (restored_of l)) judged_run
-      ∙ (ap (added s.restored) (restored_of-cons (next_judged s.reception given.count reader.body) (rest_run t rest))
-      ∙ (sym (added-assoc s.restored (restored_by (next_judged s.reception given.count reader.body).verdict) (restored_of (rest_run t rest)))
+      ∙ (ap (added s.restored) (restored_of-cons (next_judged s.arrivals given.count reader.body) (rest_run t rest))
+      ∙ (sym (added-assoc s.restored (restored_by (next_judged s.arrivals given.count reader.body).verdict) (restored_of (rest_run t rest)))
       ∙ ap (λ (r : Restored). added r (restored_of (rest_run t rest))) (sym is.restored)))
 
-  pub judged_course : rest_course s (reader.packet ++ rest) ≡ behind (judged_outputs (next_judged s.reception given.count reader.body)) (rest_course t rest)
+  pub judged_course : rest_course s (reader.packet ++ rest) ≡ behind (judged_outputs (next_judged s.arrivals given.count reader.body)) (rest_course t rest)
   judged_course =
-      let output = ap run_bytes judged_run ∙ flat_map-cons written_bytes (next_judged s.reception given.count reader.body) (rest_run t rest) in
-      let report = ap run_rows judged_run ∙ flat_map-cons (λ (j : Judged). verdict_rows j.verdict) (next_judged s.reception given.count reader.body) (rest_run t rest) in
+      let output = ap run_bytes judged_run ∙ flat_map-cons written_bytes (next_judged s.arrivals given.count reader.body) (rest_run t rest) in
+      let report = ap run_rows judged_run ∙ flat_map-cons (λ (j : Judged). verdict_rows j.verdict) (next_judged s.arrivals given.count reader.body) (rest_run t rest) in
       λ i. record {
         before = record { output = output i; report = report i };
         after = to_report (end_row (judged_numbers i));
         ending = judged_ending i;
       }
 
--- ---- the turns
+-- ---- the end
 
-no_rest : (s : Progress) → rest_run s [] ≡ []
-no_rest s = ap (λ (w : Walk). run_from s.reception.decoder.places (known_of s.reception) (arrivals_of s.reader.chosen w.packets)) (walk_from-none s.reader.chosen s.reader.taken s.reader.offset)
+no_rest : (s : Restoring) → rest_run s [] ≡ []
+no_rest s = ap (λ (w : Walk). run_from s.arrivals.decoder.places (known_of s.arrivals) (arrivals_of s.reader.chosen w.packets)) (walk_from-none s.reader.chosen s.reader.taken s.reader.offset)
 
--- nothing is left
-pub rest_numbers-none : (s : Progress) → all_restored s [] ≡ s.restored
-rest_numbers-none s = ap (λ (l : List Judged). added s.restored (restored_of l)) (no_rest s) ∙ added-none s.restored
-
-pub rest_course-none : (s : Progress) → rest_course s [] ≡ record { before = no_outputs; after = to_report (end_row s.restored); ending = None }
-rest_course-none s =
+-- nothing is left: the report's last row is owed
+pub IsLast-restored : (s : Restoring) → IsLast (rest_work s) (to_report (end_row s.restored)) s.restored
+IsLast-restored s =
     let run = no_rest s in
-    let numbers = rest_numbers-none s in
+    let numbers : all_restored s [] ≡ s.restored = ap (λ (l : List Judged). added s.restored (restored_of l)) (no_rest s) ∙ added-none s.restored in
     let ending = ap (λ (w : Walk). w.ending) (walk_from-none s.reader.chosen s.reader.taken s.reader.offset) in
-    λ i. record { before = record { output = run_bytes (run i); report = run_rows (run i) }; after = to_report (end_row (numbers i)); ending = ending i }
+    record {
+      course = λ i. record { before = record { output = run_bytes (run i); report = run_rows (run i) }; after = to_report (end_row (numbers i)); ending = ending i };
+      answer = numbers;
+    }
 
 -- where no packet is walked nothing is owed
-pub rest_follows : (s : Progress) → FollowsWalk (rest_course s) s.reader
+pub rest_follows : (s : Restoring) → FollowsWalk (rest_course s) s.reader
 rest_follows s = record {
-  nothing = λ bytes none. ap (λ (packets : List Packet). let run = run_from s.reception.decoder.places (known_of s.reception) (arrivals_of s.reader.chosen packets) in record { output = run_bytes run; report = run_rows run }) none;
+  nothing = λ bytes none. ap (λ (packets : List Packet). let run = run_from s.arrivals.decoder.places (known_of s.arrivals) (arrivals_of s.reader.chosen packets) in record { output = run_bytes run; report = run_rows run }) none;
   ends = λ bytes. refl;
 }
 
--- a whole store is owed from its first packet on, behind the report's first line
-pub restore_course-first : (f apid : ℕ) (store : List ℕ) → restore_course f apid store ≡ behind (to_report header_row) (rest_course (nothing_read f apid) store)
-restore_course-first f apid store =
-    let run = store_run f apid store in
-    let numbers = sym (none-added (restored_of (store_run f apid store))) in
-    λ i. record (restore_course f apid store) { after = to_report (end_row (numbers i)) }
+-- ---- the steps
 
--- a packet was read and all of it was written
-pub Reaches-judged : (s t : Progress) (reader : ReaderState) (a b c : Meanings) (given : Taken) → Takes s.reader reader a b given → given.chosen ≡ true → Judges s t reader given.count
-    → Wrote b c (judged_outputs (next_judged s.reception given.count reader.body)) → Reaches (rest_course s) (rest_course t) a c
-Reaches-judged s t reader a b c given takes own is wrote =
-    let all = judged_outputs (next_judged s.reception given.count reader.body) in
+-- a packet of the chosen APID: what is written of it is owed, and behind it the rest of the store
+pub Steps-judged : (s t : Restoring) (reader : ReaderState) (a b : Meanings) (given : Taken) → Takes s.reader reader a b given → given.chosen ≡ true → Judges s t reader given.count
+    → Steps (rest_work s) (rest_work t) reader.packet (judged_outputs (next_judged s.arrivals given.count reader.body))
+Steps-judged s t reader a b given takes own is = record {
+  course = λ rest. judged_course s t reader a b given takes own is rest;
+  answer = λ rest. judged_numbers s t reader a b given takes own is rest;
+}
+
+-- a packet of another APID: the rest of the store alone is owed
+pub Steps-passed : (s : Restoring) (reader : ReaderState) (a b : Meanings) (given : Taken) → Takes s.reader reader a b given → given.chosen ≡ false
+    → Steps (rest_work s) (rest_work (record s { reader = reader })) reader.packet no_outputs
+Steps-passed s reader a b given takes other = record {
+  course = λ rest. passed_course s reader a b given takes other rest;
+  answer = λ rest. passed_numbers s reader a b given takes other rest;
+}
+
+-- behind a packet the rest of the store is to restore
+pub Owes-next : (s t : Restoring) (reader : ReaderState) (a b : Meanings) (given : Taken) (work : Work Restored WalkFault) → Owes s work → Takes s.reader reader a b given → t.reader ≡ reader → IsRestoring t → Owes t (rest_work t)
+Owes-next s t reader a b given work owes takes reader_is right = record { work_is = refl; live = ap (λ (r : ReaderState). r.live) (reader_is ∙ takes.others) ∙ owes.live; right = right }
+
+-- with more packets given the numbers stay within their limits
+pub IsRestoring-passed : (s : Restoring) (reader : ReaderState) (a b : Meanings) (given : Taken) → IsRestoring s → Takes s.reader reader a b given → IsRestoring (record s { reader = reader })
+IsRestoring-passed s reader a b given right takes =
+    let taken = ap (λ (r : ReaderState). r.taken) takes.others in
     record {
-      taken = reader.packet;
-      stand = judged_outputs (next_judged s.reception given.count reader.body);
-      ran = subst (λ (taken : List ℕ). Ran a c taken all.output all.report) (append-nil reader.packet) (Ran-then a b c reader.packet [] [] all.output [] all.report (Ran-moves a b reader.packet takes.moved) wrote);
-      goes_on = λ rest. judged_course s t reader a b given takes own is rest;
+      line = right.line;
+      latest = omega (arith, right.latest, taken);
+      packets = omega (arith, right.packets, taken);
+      written = right.written;
+      repeats = right.repeats;
+      listed = right.listed;
     }
 
--- a packet was read and a front of it was written
-pub IsCutShort-judged : (s t : Progress) (reader : ReaderState) (a b c : Meanings) (given : Taken) → Takes s.reader reader a b given → given.chosen ≡ true → Judges s t reader given.count
-    → WroteFront b c (judged_outputs (next_judged s.reception given.count reader.body)) → IsCutShort (rest_course s) a c
-IsCutShort-judged s t reader a b c given takes own is cut =
-    let all = judged_outputs (next_judged s.reception given.count reader.body) in
-    let rest = rest_of (left c inlet.Main) in
-    let ran : Ran a c reader.packet cut.stand.output cut.stand.report =
-    subst (λ (taken : List ℕ). Ran a c taken cut.stand.output cut.stand.report) (append-nil reader.packet) (Ran-then a b c reader.packet [] [] cut.stand.output [] cut.stand.report (Ran-moves a b reader.packet takes.moved) cut.wrote) in
-    let owes : owed (rest_course s (reader.packet ++ rest)) ≡ put all (owed (rest_course t rest)) =
-    ap owed (judged_course s t reader a b given takes own is rest) ∙ owed-behind all (rest_course t rest) in
-    record {
-      input = reader.packet ++ rest_of (left c inlet.Main);
-      stand = cut.stand;
-      went = Went-ran a c reader.packet cut.stand ran;
-      fronts = subst (AreFronts cut.stand) (sym owes) (AreFronts-then cut.stand all (owed (rest_course t rest)) cut.fronts);
-    }
+-- ---- the whole store
+
+-- the work of restoring a store
+abbrev pub restore_work : ℕ → ℕ → Work Restored WalkFault
+restore_work f apid = record { course = restore_course f apid; answer = λ store. restored_of (store_run f apid store) }
+
+-- the report's first line is owed, and then the store from its first packet on
+pub Steps-header : (f apid : ℕ) (s : Restoring) → HasReadNothing f apid s → Steps (restore_work f apid) (rest_work s) [] (to_report header_row)
+Steps-header f apid s is = record { course = course; answer = numbers } where
+  run : (store : List ℕ) → store_run f apid store ≡ rest_run s store
+  run store =
+      let arrivals = sym is.arrivals in
+      let reader = sym is.reader in
+      λ i. run_from (arrivals i).decoder.places (known_of (arrivals i)) (arrivals_of (reader i).chosen (walk_on (reader i) store).packets)
+
+  numbers : (store : List ℕ) → restored_of (store_run f apid store) ≡ all_restored s store
+  numbers store =
+      let restored = sym is.restored in
+      let same = run store in
+      sym (none-added (restored_of (store_run f apid store))) ∙ λ i. added (restored i) (restored_of (same i))
+
+  course : (store : List ℕ) → restore_course f apid store ≡ behind (to_report header_row) (rest_course s store)
+  course store =
+      let same = run store in
+      let counted = numbers store in
+      let reader = sym is.reader in
+      λ i. record {
+        before = record { output = run_bytes (same i); report = header_row ++ run_rows (same i) };
+        after = to_report (end_row (counted i));
+        ending = (walk_on (reader i) store).ending;
+      }
+
+-- nothing is read
+pub Owes-unread : (f apid : ℕ) (s : Restoring) → HasReadNothing f apid s → Owes s (rest_work s)
+Owes-unread f apid s is = record {
+  work_is = refl;
+  live = ap (λ (r : ReaderState). r.live) is.reader;
+  right = record {
+    line = is.line ∙ ap (λ (r : Reception). byte_count r.decoder.places) (sym is.arrivals);
+    latest = subst (λ (r : Reception). expected r.latest ≤ 2 ^ 14 * s.reader.taken) (sym is.arrivals) (omega arith);
+    packets = subst (λ (r : Restored). r.packets ≤ s.reader.taken) (sym is.restored) (omega arith);
+    written = subst (λ (r : Restored). r.written ≤ r.packets) (sym is.restored) (omega arith);
+    repeats = subst (λ (r : Restored). r.repeats ≤ r.packets) (sym is.restored) (omega arith);
+    listed = subst (λ (r : Restored). r.listed ≤ 2 ^ 14 * r.packets) (sym is.restored) (omega arith);
+  };
+}

@@ -5,6 +5,7 @@ use Rattle.desk_ports.specs.declared.desk.Outlet.TheVariants as outlet
 use Rattle.desk_ports.specs.Meanings.{Meanings, Adds, AddsFront}
 use Rattle.desk_ports.specs.Runs.{Ran}
 use Rattle.desk_ports.specs.Courses.{to_report}
+use Rattle.desk_ports.specs.Turns.{Wrote, WroteFront}
 use Rattle.desk_ports.proofs.Runs.{Ran-then, Ran-adds, Ran-notes}
 use Rattle.packet_decode.specs.State.{State, WrittenPacket}
 use Rattle.packet_decode.specs.Decoding.{latest_content}
@@ -12,7 +13,7 @@ use Rattle.ground_chain.specs.declared.verdict.Kind.{Kind}
 use Rattle.ground_chain.specs.declared.verdict.Kind.TheVariants.{Written, Repeat, Unsynced, Gap, Refused}
 use Rattle.ground_chain.specs.Run.{Judged}
 use Rattle.ground_chain.specs.Report.{is_written_kind, content_bytes, verdict_rows, written_bytes}
-use Rattle.ground_chain.specs.Restoring.{Wrote, WroteFront, judged_outputs}
+use Rattle.ground_chain.specs.Restoring.{judged_outputs}
 
 pub OnErr-always : {T E : Type 0} (r : Result T E) (P : Type 0) → P → OnErr r P
 OnErr-always (Ok x) P p = tt

@@ -1,10 +1,10 @@
 //! Why a store is not restored to its end.
 
 ghost use Rattle.std.specs.Prelude.{◌≡◌};
-ghost use Rattle.ground_chain.specs.Restoring.{fault_of};
+ghost use Rattle.ground_chain.specs.declared.fault.RestoreFault.TheVariants as fault;
 
-use desk_ports::Stop;
-use packet_store::{StoreFault, WalkFault};
+use desk_ports::Failed;
+use packet_store::StoreFault;
 use thiserror::Error;
 
 /// Why a store is not restored to its end.
@@ -18,14 +18,18 @@ pub enum RestoreFault {
     WriteFault,
 }
 
-impl From<Stop<WalkFault>> for RestoreFault {
-    ghost from_gives = { λ s e. e ≡ fault_of s };
+impl From<StoreFault> for RestoreFault {
+    ghost from_gives = { λ f e. e ≡ fault.Store f };
 
-    fn from(stop: Stop<WalkFault>) -> RestoreFault {
-        match stop {
-            Stop::Data(fault) => RestoreFault::Store(StoreFault::from(fault)),
-            Stop::ReadFault => RestoreFault::Store(StoreFault::ReadFault),
-            Stop::WriteFault => RestoreFault::WriteFault,
-        }
+    fn from(fault: StoreFault) -> RestoreFault {
+        RestoreFault::Store(fault)
+    }
+}
+
+impl From<Failed> for RestoreFault {
+    ghost from_gives = { λ _ e. e ≡ fault.WriteFault };
+
+    fn from(_failed: Failed) -> RestoreFault {
+        RestoreFault::WriteFault
     }
 }

@@ -2,24 +2,25 @@
 
 ghost use Rattle.std.specs.Prelude.{◌≡◌, ◌≤◌, ◌^◌, ℕ, length, IsOk, IfOk, IfSome};
 ghost use Rattle.desk_ports.specs.Meanings.{IsReadyIn, IsReadyOut, Rose, left};
-ghost use Rattle.desk_ports.specs.Courses.{AfterRun, HasCause};
+ghost use Rattle.desk_ports.specs.Courses.{AfterRun, HasCause, by_stop};
 ghost use Rattle.mask_update.specs.Histories.{History};
 ghost use Rattle.packet_encode.specs.Deliveries.{arrivals};
 ghost use Rattle.ground_chain.specs.Deliveries.{IsDelivered, IsPlayed};
 ghost use Rattle.ground_chain.specs.Report.{restored_of};
-ghost use Rattle.ground_chain.specs.Restoring.{as_run, restore_course, store_run};
+ghost use Rattle.ground_chain.specs.Restoring.{restore_course, stop_by, store_run};
 
 use crate::fault::RestoreFault;
+use crate::report::HEADER;
 use crate::restored::Restored;
 use crate::restoring::Restoring;
 use bit_vectors::NoMemory;
-use desk_ports::{Desk, Inlet, Outlet};
+use desk_ports::{Desk, Inlet, Outlet, drive, write_all};
 use std::alloc::Global;
 use std::marker::Model;
 
 /// Restores a store: reads it from the main inlet of a desk, and writes the content of each restored packet to the
 /// main outlet, and the report. Contracts see the places of the vectors and the chosen APID.
-#[derive(Drop)]
+#[derive(Debug, Drop)]
 pub struct Restorer {
     restoring: Restoring,
 }
@@ -53,8 +54,8 @@ impl Restorer {
         requires output { IsReadyOut (D.meaning desk.old) Outlet.Main }
         requires report { IsReadyOut (D.meaning desk.old) Outlet.Report }
         // What stands after each answer is what the store owes, all of it or up to where its walk or the desk ends it.
-        ensures ran { AfterRun (restore_course self.places self.apid) (D.meaning desk.old) (D.meaning desk.new) (as_run result) }
-        ensures cause { HasCause (D.counts desk.old) (D.counts desk.new) (as_run result) }
+        ensures ran { AfterRun (restore_course self.places self.apid) (D.meaning desk.old) (D.meaning desk.new) (by_stop stop_by result) }
+        ensures cause { HasCause (D.counts desk.old) (D.counts desk.new) (by_stop stop_by result) }
         // Where the desk tells the store, the numbers are those of the run over it.
         ensures numbers { IfSome (left (D.meaning desk.old) Inlet.Main) (λ store.
             IfOk result (λ restored. restored ≡ restored_of (store_run self.places self.apid store))) }
@@ -69,7 +70,7 @@ impl Restorer {
             → IsOk result }
     {
         let mut restoring = self.restoring;
-        let restored = restoring.run(desk)?;
-        Ok(restored)
+        write_all(desk, Outlet::Report, HEADER.as_bytes())?;
+        drive(&mut restoring, desk)
     }
 }

@@ -1,3 +1,5 @@
+//! What no clause says: that the calls answer with ample memory, and what is restored then.
+
 use super::*;
 use packet_store::PERIOD;
 use std::test::Fail;

@@ -1,3 +1,5 @@
+//! The numbers of arrivals, from their sequence counts.
+
 ghost use Rattle.std.specs.Prelude.{◌≡◌, ◌+◌, ◌<◌, ◌≤◌, ◌^◌, None, IfSome};
 ghost use Rattle.ground_chain.specs.Numbers.{number_after, latest_after, expected};
 

@@ -1,7 +1,6 @@
 mod Tallies
 mod Copies
 mod PlayCourses
-mod Players
 mod PlayedPackets
 mod Gaps
 pub mod PlayedWalks

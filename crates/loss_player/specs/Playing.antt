@@ -1,17 +1,17 @@
 -- What playing a store owes: the played store and the play report.
-use Rattle.std.specs.Prelude.{◌≡◌, ℕ, ◌+◌, ◌≤◌, Bool, List, Some, Result, Ok, Err, unwrap_or}
+use Rattle.std.specs.Prelude.{◌≡◌, ℕ, ◌+◌, ◌≤◌, Bool, IsTrue, List, Some, unwrap_or}
 use Rattle.desk_ports.specs.declared.stop.Stop.{Stop}
 use Rattle.desk_ports.specs.declared.stop.Stop.TheVariants as stop
 use Rattle.desk_ports.specs.Courses.{Course, to_output, to_report}
+use Rattle.desk_ports.specs.Turns.{Work}
 use Rattle.side_tables.specs.declared.rows.CopyRow.{CopyRow}
 use Rattle.side_tables.specs.Rows.{copies_of}
 use Rattle.packet_store.specs.declared.fault.WalkFault.{WalkFault}
-use Rattle.packet_store.specs.declared.fault.StoreFault.TheVariants as fault
 use Rattle.packet_store.specs.Walks.{walk, packets_bytes}
-use Rattle.packet_store.specs.Faults.{store_fault, stop_of}
-use Rattle.packet_store.specs.StoreReader.{ReaderState, opened, walk_on}
+use Rattle.packet_store.specs.Faults.{stop_of}
+use Rattle.packet_store.specs.StoreReader.{opened, walk_on}
 use Rattle.loss_player.specs.declared.played.Played.{Played}
-use Rattle.loss_player.specs.declared.played.Tally.{Tally}
+use Rattle.loss_player.specs.declared.playing.Playing.{Playing}
 use Rattle.loss_player.specs.declared.fault.PlayFault.{PlayFault}
 use Rattle.loss_player.specs.declared.fault.PlayFault.TheVariants as play
 use Rattle.loss_player.specs.Played.{times_of, repeated, played_from, played_bytes, played_of, chosen_count, store_numbers}
@@ -27,22 +27,10 @@ play_course copies apid store = record {
   ending = (walk (Some apid) store).ending;
 }
 
--- ---- answers
-
--- the reason to end a run, as it is answered
-abbrev pub fault_of : Stop WalkFault → PlayFault
-fault_of (stop.Data fault) = play.Store (store_fault fault)
-fault_of stop.ReadFault = play.Store fault.ReadFault
-fault_of stop.WriteFault = play.WriteFault
-
--- an answer, as the reason to end a run
+-- a fault, as a reason to end a run
 abbrev pub stop_by : PlayFault → Stop WalkFault
 stop_by (play.Store fault) = stop_of fault
 stop_by play.WriteFault = stop.WriteFault
-
-abbrev pub as_run : {T : Type 0} → Result T PlayFault → Result T (Stop WalkFault)
-as_run (Ok done) = Ok done
-as_run (Err fault) = Err (stop_by fault)
 
 -- ---- on the way
 
@@ -51,41 +39,41 @@ pub record PlayerState : Type 0 where
   pub apid : ℕ
   pub rows : List CopyRow
 
--- a store that is being played: where its reader stands, the rows of the script, and the numbers so far
-pub record Progress : Type 0 where
-  pub reader : ReaderState
-  pub rows : List CopyRow
-  pub tally : Tally
-
-abbrev pub nothing_read : ℕ → List CopyRow → Progress
-nothing_read apid rows = record { reader = opened (Some apid); rows = rows; tally = no_tally }
+abbrev pub nothing_read : ℕ → List CopyRow → Playing
+nothing_read apid rows = record { reader = opened (Some apid); script = rows; tally = no_tally }
 
 -- the APID and the rows of one that has read nothing
-abbrev pub player_state : Progress → PlayerState
-player_state s = record { apid = unwrap_or s.reader.chosen 0; rows = s.rows }
+abbrev pub player_state : Playing → PlayerState
+player_state s = record { apid = unwrap_or s.reader.chosen 0; rows = s.script }
 
 -- the copies of a packet of the chosen APID, or of another one, that is read next
-abbrev pub next_copies : Progress → Bool → List ℕ → List ℕ
-next_copies s own packet = repeated (times_of own (copies_of s.rows) s.tally.played.packets) packet
+abbrev pub next_copies : Playing → Bool → List ℕ → List ℕ
+next_copies s own packet = repeated (times_of own (copies_of s.script) s.tally.played.packets) packet
 
 -- the numbers of all packets
-abbrev pub all_numbers : Progress → List ℕ → Played
-all_numbers s bytes = played_of (copies_of s.rows) (s.tally.played.packets + chosen_count s.reader.chosen (walk_on s.reader bytes).packets)
+abbrev pub all_numbers : Playing → List ℕ → Played
+all_numbers s bytes = played_of (copies_of s.script) (s.tally.played.packets + chosen_count s.reader.chosen (walk_on s.reader bytes).packets)
 
 -- what is owed for what is left of the store
-abbrev pub rest_course : Progress → List ℕ → Course WalkFault
+abbrev pub rest_course : Playing → List ℕ → Course WalkFault
 rest_course s bytes = record {
-  before = to_output (packets_bytes (played_from s.reader.chosen (copies_of s.rows) s.tally.played.packets (walk_on s.reader bytes).packets));
+  before = to_output (packets_bytes (played_from s.reader.chosen (copies_of s.script) s.tally.played.packets (walk_on s.reader bytes).packets));
   after = to_report (play_report (all_numbers s bytes));
   ending = (walk_on s.reader bytes).ending;
 }
 
--- the numbers so far are those of the packets so far, and within their limits
-pub record IsPlaying (reader : ReaderState) (rows : List CopyRow) (tally : Tally) : Type 0 where
-  pub packets : tally.played.packets ≤ reader.taken
-  pub counted : tally ≡ tally_of (copies_of rows) tally.played.packets
-  pub right : IsTally tally
+-- the work of playing what is left of the store
+abbrev pub rest_work : Playing → Work Played WalkFault
+rest_work s = record { course = rest_course s; answer = all_numbers s }
+
+-- This work is owed: that of the rest of the store. The numbers so far are those of the packets so far.
+pub record Owes (s : Playing) (work : Work Played WalkFault) : Type 0 where
+  pub work_is : work ≡ rest_work s
+  pub live : IsTrue s.reader.live
+  pub packets : s.tally.played.packets ≤ s.reader.taken
+  pub counted : s.tally ≡ tally_of (copies_of s.script) s.tally.played.packets
+  pub right : IsTally s.tally
 
 -- nothing is read
-abbrev pub IsPlayer : Progress → Type 0
-IsPlayer s = s ≡ nothing_read (unwrap_or s.reader.chosen 0) s.rows
+abbrev pub IsPlayer : Playing → Type 0
+IsPlayer s = s ≡ nothing_read (unwrap_or s.reader.chosen 0) s.script

@@ -1,10 +1,10 @@
 //! Why a store is not played to its end.
 
 ghost use Rattle.std.specs.Prelude.{◌≡◌};
-ghost use Rattle.loss_player.specs.Playing.{fault_of};
+ghost use Rattle.loss_player.specs.declared.fault.PlayFault.TheVariants as fault;
 
-use desk_ports::Stop;
-use packet_store::{StoreFault, WalkFault};
+use desk_ports::Failed;
+use packet_store::StoreFault;
 use thiserror::Error;
 
 /// Why a store is not played to its end.
@@ -18,14 +18,18 @@ pub enum PlayFault {
     WriteFault,
 }
 
-impl From<Stop<WalkFault>> for PlayFault {
-    ghost from_gives = { λ s e. e ≡ fault_of s };
+impl From<StoreFault> for PlayFault {
+    ghost from_gives = { λ f e. e ≡ fault.Store f };
 
-    fn from(stop: Stop<WalkFault>) -> PlayFault {
-        match stop {
-            Stop::Data(fault) => PlayFault::Store(StoreFault::from(fault)),
-            Stop::ReadFault => PlayFault::Store(StoreFault::ReadFault),
-            Stop::WriteFault => PlayFault::WriteFault,
-        }
+    fn from(fault: StoreFault) -> PlayFault {
+        PlayFault::Store(fault)
+    }
+}
+
+impl From<Failed> for PlayFault {
+    ghost from_gives = { λ _ e. e ≡ fault.WriteFault };
+
+    fn from(_failed: Failed) -> PlayFault {
+        PlayFault::WriteFault
     }
 }

@@ -2,16 +2,16 @@
 
 ghost use Rattle.std.specs.Prelude.{◌≡◌, ◌≤◌, IfOk, IfSome};
 ghost use Rattle.desk_ports.specs.Meanings.{IsReadyIn, IsReadyOut, left};
-ghost use Rattle.desk_ports.specs.Courses.{AfterRun, HasCause};
+ghost use Rattle.desk_ports.specs.Courses.{AfterRun, HasCause, by_stop};
 ghost use Rattle.side_tables.specs.Rows.{copies_of};
 ghost use Rattle.loss_player.specs.Played.{store_numbers};
-ghost use Rattle.loss_player.specs.Playing.{as_run, play_course};
+ghost use Rattle.loss_player.specs.Playing.{play_course, stop_by};
 
 use crate::fault::PlayFault;
 use crate::played::Played;
 use crate::playing::Playing;
 use bit_vectors::NoMemory;
-use desk_ports::{Desk, Inlet, Outlet};
+use desk_ports::{Desk, Inlet, Outlet, drive};
 use side_tables::Script;
 use std::alloc::Global;
 use std::marker::Model;
@@ -19,7 +19,7 @@ use std::marker::Model;
 /// Plays a store through a link: reads it from the main inlet of a desk, and writes each packet to the main outlet as
 /// often as it arrives, and the report. A script says so for the packets of the chosen APID, by their numbers in the
 /// store, and all others arrive once. Contracts see the chosen APID and the rows of the script.
-#[derive(Drop)]
+#[derive(Debug, Drop)]
 pub struct Player {
     playing: Playing,
 }
@@ -50,14 +50,13 @@ impl Player {
         requires output { IsReadyOut (D.meaning desk.old) Outlet.Main }
         requires report { IsReadyOut (D.meaning desk.old) Outlet.Report }
         // What stands after each answer is what the store owes, all of it or up to where its walk or the desk ends it.
-        ensures ran { AfterRun (play_course (copies_of self.rows) self.apid) (D.meaning desk.old) (D.meaning desk.new) (as_run result) }
-        ensures cause { HasCause (D.counts desk.old) (D.counts desk.new) (as_run result) }
+        ensures ran { AfterRun (play_course (copies_of self.rows) self.apid) (D.meaning desk.old) (D.meaning desk.new) (by_stop stop_by result) }
+        ensures cause { HasCause (D.counts desk.old) (D.counts desk.new) (by_stop stop_by result) }
         // Where the desk tells the store, the numbers are those of its packets and their copies.
         ensures numbers { IfSome (left (D.meaning desk.old) Inlet.Main) (λ store.
             IfOk result (λ played. played ≡ store_numbers (copies_of self.rows) self.apid store)) }
     {
         let mut playing = self.playing;
-        let played = playing.run(desk)?;
-        Ok(played)
+        drive(&mut playing, desk)
     }
 }

@@ -1,3 +1,5 @@
+//! Why a store is not read to its end.
+
 ghost use Rattle.std.specs.Prelude.{◌≡◌};
 ghost use Rattle.packet_store.specs.Faults.{store_fault, stop_of};
 ghost use Rattle.packet_store.specs.declared.fault.StoreFault.TheVariants as fault;

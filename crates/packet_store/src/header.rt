@@ -1,3 +1,5 @@
+//! The primary header of a Space Packet.
+
 ghost use Rattle.std.specs.Prelude.{◌≡◌, ◌+◌, ◌<◌, ◌≤◌};
 ghost use Rattle.packet_store.specs.SpacePackets.{IsHeader, header_of, header_bytes, is_chosen, is_misshapen, period};
 

@@ -1,3 +1,5 @@
+//! One packet of a store, as it is read.
+
 ghost use Rattle.std.specs.Prelude.{◌≡◌, ◌+◌, ◌<◌, ℕ, List, [], length, take, true, false, Ok, Err, IfErr, OnOk, OnErr};
 ghost use Rattle.std.specs.Io.KnownBytes.{IsAtEnd};
 ghost use Rattle.desk_ports.specs.Meanings.{Moves, IsReadyIn, HasReadCause, left};

@@ -1,3 +1,5 @@
+//! A store that is read packet by packet.
+
 ghost use Rattle.std.specs.Prelude.{◌≡◌, ◌<◌, ◌≤◌, [], length, Some, IsTrue, IfOk, IfErr};
 ghost use Rattle.std.specs.Io.KnownBytes.{IsAtEnd};
 ghost use Rattle.desk_ports.specs.Meanings.{Moves, IsReadyIn, left};
@@ -32,7 +34,7 @@ pub struct Taken {
 ///
 /// A packet of the chosen APID is an unsegmented telemetry packet of version 0 (CCSDS 133.0-B-2) with
 /// no secondary header. Packets of other APIDs may be of any type and shape; they have version 0 too.
-#[derive(Drop)]
+#[derive(Debug, Drop)]
 pub struct StoreReader {
     chosen: Option<u16>,
     taken: u64,

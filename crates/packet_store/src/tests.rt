@@ -1,4 +1,5 @@
-// What no clause says: that the calls answer with ample memory.
+//! What no clause says: that the calls answer with ample memory.
+
 ghost use Rattle.std.specs.Prelude.{◌≤◌, codes, IsTrue};
 ghost use Rattle.desk_ports.specs.Meanings.{IsReadyIn};
 

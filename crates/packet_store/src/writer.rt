@@ -1,3 +1,5 @@
+//! A store that is written packet by packet.
+
 ghost use Rattle.std.specs.Prelude.{◌≡◌, ◌<◌, ◌≤◌, length, IfOk, OnOk, OnErr};
 ghost use Rattle.desk_ports.specs.Meanings.{Adds, AddsFront, IsReadyOut, HasWriteCause};
 ghost use Rattle.packet_store.specs.SpacePackets.{period, space_packet};
@@ -11,7 +13,7 @@ use std::marker::Model;
 
 /// Writes a store packet by packet to the main outlet of a desk: unsegmented telemetry packets of
 /// version 0 (CCSDS 133.0-B-2) of one APID, with no secondary header.
-#[derive(Drop)]
+#[derive(Debug, Drop)]
 pub struct StoreWriter {
     apid: u16,
     room: Vec<u8>,

@@ -7,6 +7,7 @@ use Rattle.desk_ports.specs.declared.stop.Stop.{Stop}
 use Rattle.desk_ports.specs.declared.stop.Stop.TheVariants.{Data, ReadFault, WriteFault}
 use Rattle.desk_ports.specs.Meanings.{Meanings, Counts, Kept, Rose, kept_at, left}
 use Rattle.desk_ports.specs.Courses.{Course, HasCause}
+use Rattle.desk_ports.proofs.Faults.{Rose-reads, Rose-writes}
 use Rattle.pocket_cmd.specs.declared.fault.DataFault.{DataFault}
 use Rattle.pocket_cmd.specs.declared.fault.DataFault.TheVariants as fault
 use Rattle.pocket_cmd.specs.declared.status.Status.{Status}
@@ -48,8 +49,8 @@ status-run : (names : Names) (course : List ℕ → Course DataFault) (old new :
     → ¬ Rose counts.reads after.reads → ¬ Rose counts.writes after.writes → status_by (refused_by r) ≡ status_of (course input).ending
 status-run names course old new counts after (Ok done) input e cause told reads writes = ap status_of (sym (ending_is names course old new None input e told))
 status-run names course old new counts after (Err (Data f)) input e cause told reads writes = ap status_of (sym (ending_is names course old new (Some f) input e told))
-status-run names course old new counts after (Err ReadFault) input e cause told reads writes = absurd (reads cause.0)
-status-run names course old new counts after (Err WriteFault) input e cause told reads writes = absurd (writes cause.0)
+status-run names course old new counts after (Err ReadFault) input e cause told reads writes = absurd (reads (Rose-reads counts after cause))
+status-run names course old new counts after (Err WriteFault) input e cause told reads writes = absurd (writes (Rose-writes counts after cause))
 
 -- where the side text is a table, the answer is that of the course
 pub IsAnsweredBy-run : (command : Command) (text : List ℕ) (old new : Meanings) (counts after : Counts) (r : Result (Unit {0}) (Stop DataFault)) → bad_row_of command text ≡ None → AfterNames (names_of command) (course_of command text) old new r → HasCause counts after r

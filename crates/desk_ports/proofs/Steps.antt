@@ -1,0 +1,176 @@
+-- How the turns of a run are made and join.
+use Rattle.std.proofs.Common.{◌≡◌, ℕ, Bool, List, [], ◌++◌, Option, Some, None, IfOk, IfSome, Result, Ok, Err, refl, sym, ap, ◌∙◌, subst, append_assoc, append-nil}
+use Rattle.std.specs.Io.KnownBytes.{IsAtEnd, prepend_known}
+use Rattle.desk_ports.specs.declared.desk.Inlet.TheVariants as inlet
+use Rattle.desk_ports.specs.declared.desk.Outlet.{Outlet}
+use Rattle.desk_ports.specs.declared.desk.Outlet.TheVariants as outlet
+use Rattle.desk_ports.specs.declared.stop.Stop.{Stop}
+use Rattle.desk_ports.specs.declared.stop.Stop.TheVariants.{Data, ReadFault, WriteFault}
+use Rattle.desk_ports.specs.Meanings.{Meanings, Moves, AddsFront, left}
+use Rattle.desk_ports.specs.Runs.{Ran}
+use Rattle.desk_ports.specs.Courses.{Outputs, no_outputs, to_output, to_report, put, Course, owed, behind, AreFronts, Went, Ends, IsCutOff, IsCutShort, AfterStop, AfterRun}
+use Rattle.desk_ports.specs.Turns.{Work, AreReady, Steps, Reaches, Advances, IsAnswer, Finishes, IsLast, Wrote, WroteFront}
+use Rattle.desk_ports.proofs.Runs.{Ran-none, Ran-then, Ran-moves, Ran-adds, Ran-notes, Ran-ready_in, Ran-ready_out}
+use Rattle.desk_ports.proofs.Courses.{owed-behind, behind-behind, AreFronts-then, AreFronts-put, rest_of, Went-ran, Went-then, IfSome-IsAtEnd}
+use Rattle.desk_ports.proofs.Transfers.{prepend_known-none}
+
+-- ---- turns join
+
+-- no turn was made
+pub Reaches-none : {A F : Type 0} (work : Work A F) (m : Meanings) → Reaches work work m m
+Reaches-none work m = record { taken = []; outputs = no_outputs; ran = Ran-none m; steps = record { course = λ rest. refl; answer = λ rest. refl } }
+
+Steps-then : {A F : Type 0} (work here next : Work A F) (xs ys : List ℕ) (a b : Outputs) → Steps work here xs a → Steps here next ys b → Steps work next (xs ++ ys) (put a b)
+Steps-then work here next xs ys a b p q = record {
+  course = λ rest. ap work.course (append_assoc xs ys rest) ∙ (p.course (ys ++ rest) ∙ (ap (behind a) (q.course rest) ∙ behind-behind a b (next.course rest)));
+  answer = λ rest. ap work.answer (append_assoc xs ys rest) ∙ (p.answer (ys ++ rest) ∙ q.answer rest);
+}
+
+Reaches-then : {A F : Type 0} (work here next : Work A F) (a b c : Meanings) → Reaches work here a b → Reaches here next b c → Reaches work next a c
+Reaches-then work here next a b c p q = record {
+  taken = p.taken ++ q.taken;
+  outputs = put p.outputs q.outputs;
+  ran = Ran-then a b c p.taken q.taken p.outputs.output q.outputs.output p.outputs.report q.outputs.report p.ran q.ran;
+  steps = Steps-then work here next p.taken q.taken p.outputs q.outputs p.steps q.steps;
+}
+
+-- one turn more
+pub Advances-behind : {A F : Type 0} (work here : Work A F) (owes : Work A F → Type 0) (a b c : Meanings) → Reaches work here a b → Advances here owes b c → Advances work owes a c
+Advances-behind work here owes a b c p q = record { next = q.next; owed = q.owed; reaches = Reaches-then work here q.next a b c p q.reaches }
+
+Ends-behind : {A F : Type 0} (work here : Work A F) (a b c : Meanings) (ending : Option F) → Reaches work here a b → Ends here.course b c ending → Ends work.course a c ending
+Ends-behind {F = F} work here a b c ending p q =
+    let course = p.steps.course q.input in
+    record {
+      input = p.taken ++ q.input;
+      went = subst (Went a c (p.taken ++ q.input)) (sym (ap owed course ∙ owed-behind p.outputs (here.course q.input))) (Went-then a b c p.taken q.input p.outputs (owed (here.course q.input)) p.ran q.went);
+      ends = ap (λ (k : Course F). k.ending) course ∙ q.ends;
+      read_out = q.read_out;
+    }
+
+IsCutOff-behind : {A F : Type 0} (work here : Work A F) (a b c : Meanings) → Reaches work here a b → IsCutOff here.course b c → IsCutOff work.course a c
+IsCutOff-behind {F = F} work here a b c p q =
+    let stand = (here.course q.taken).before in
+    record {
+      taken = p.taken ++ q.taken;
+      ran = subst (λ (o : Outputs). Ran a c (p.taken ++ q.taken) o.output o.report) (sym (ap (λ (k : Course F). k.before) (p.steps.course q.taken))) (Ran-then a b c p.taken q.taken p.outputs.output stand.output p.outputs.report stand.report p.ran q.ran);
+    }
+
+IsCutShort-behind : {A F : Type 0} (work here : Work A F) (a b c : Meanings) → Reaches work here a b → IsCutShort here.course b c → IsCutShort work.course a c
+IsCutShort-behind work here a b c p q = record {
+  input = p.taken ++ q.input;
+  stand = put p.outputs q.stand;
+  went = Went-then a b c p.taken q.input p.outputs q.stand p.ran q.went;
+  fronts = subst (AreFronts (put p.outputs q.stand)) (sym (ap owed (p.steps.course q.input) ∙ owed-behind p.outputs (here.course q.input))) (AreFronts-put p.outputs q.stand (owed (here.course q.input)) q.fronts);
+}
+
+-- a fault that ended the run, behind the turns before it
+pub AfterStop-behind : {A F : Type 0} (work here : Work A F) (a b c : Meanings) (stop : Stop F) → Reaches work here a b → AfterStop here.course b c stop → AfterStop work.course a c stop
+AfterStop-behind work here a b c (Data fault) p q = Ends-behind work here a b c (Some fault) p q
+AfterStop-behind work here a b c ReadFault p q = IsCutOff-behind work here a b c p q
+AfterStop-behind work here a b c WriteFault p q = IsCutShort-behind work here a b c p q
+
+-- a run behind a part of it that was done before
+pub AfterRun-behind : {T A F : Type 0} (work here : Work A F) (a b c : Meanings) (result : Result T (Stop F)) → Reaches work here a b → AfterRun here.course b c result → AfterRun work.course a c result
+AfterRun-behind work here a b c (Ok done) p q = Ends-behind work here a b c None p q
+AfterRun-behind work here a b c (Err stop) p q = AfterStop-behind work here a b c stop p q
+
+told_behind : {A : Type 0} (f g : List ℕ → A) (x : A) (taken : List ℕ) (a b : Option (List ℕ)) → a ≡ prepend_known taken b → ((rest : List ℕ) → f (taken ++ rest) ≡ g rest) → IfSome b (λ bytes. x ≡ g bytes) → IfSome a (λ bytes. x ≡ f bytes)
+told_behind f g x taken None b moved on told = tt
+told_behind f g x taken (Some bytes) None moved on told = absurd (let e : ◌≡◌ {A = Option (List ℕ)} (Some bytes) None = moved in cc)
+told_behind f g x taken (Some bytes) (Some rest) moved on told =
+    let e : ◌≡◌ {A = Option (List ℕ)} (Some bytes) (Some (taken ++ rest)) = moved in
+    let same : bytes ≡ taken ++ rest = cc in
+    told ∙ sym (ap f same ∙ on rest)
+
+pub IsAnswer-behind : {A F : Type 0} (work here : Work A F) (a b : Meanings) (answer : A) → Reaches work here a b → IsAnswer here b answer → IsAnswer work a answer
+IsAnswer-behind work here a b answer p told = told_behind work.answer here.answer answer p.taken (left a inlet.Main) (left b inlet.Main) p.ran.input p.steps.answer told
+
+untold : (left : Option (List ℕ)) → IfSome left (λ bytes. Unit {0})
+untold None = tt
+untold (Some bytes) = tt
+
+pub answer-behind : {A E F : Type 0} (work here : Work A F) (a b : Meanings) (result : Result A E) → Reaches work here a b → IfSome (left b inlet.Main) (λ input. IfOk result (λ answer. answer ≡ here.answer input))
+    → IfSome (left a inlet.Main) (λ input. IfOk result (λ answer. answer ≡ work.answer input))
+answer-behind work here a b (Ok answer) p told = IsAnswer-behind work here a b answer p told
+answer-behind work here a b (Err fault) p told = untold (left a inlet.Main)
+
+pub Finishes-behind : {A F : Type 0} (work here : Work A F) (a b c : Meanings) (answer : A) → Reaches work here a b → Finishes here b c answer → Finishes work a c answer
+Finishes-behind work here a b c answer p q = record { ends = Ends-behind work here a b c None p q.ends; answered = IsAnswer-behind work here a b answer p q.answered }
+
+-- what was opened stays opened
+pub AreReady-ran : (writes : Outlet → Bool) (a b : Meanings) (xs us rs : List ℕ) → Ran a b xs us rs → AreReady writes a → AreReady writes b
+AreReady-ran writes a b xs us rs ran ready = record { input = Ran-ready_in a b xs us rs ran ready.input; outputs = λ outlet is. Ran-ready_out a b outlet xs us rs ran (ready.outputs outlet is) }
+
+-- ---- what is written
+
+pub WroteFront-output : (a b : Meanings) (bytes : List ℕ) → AddsFront a b outlet.Main bytes → WroteFront a b (to_output bytes)
+WroteFront-output a b bytes cut = record { stand = to_output cut.front; wrote = Ran-adds a b cut.front cut.added; fronts = record { rest = to_output cut.rest; joined = ap to_output cut.joined } }
+
+pub WroteFront-report : (a b : Meanings) (bytes : List ℕ) → AddsFront a b outlet.Report bytes → WroteFront a b (to_report bytes)
+WroteFront-report a b bytes cut = record { stand = to_report cut.front; wrote = Ran-notes a b cut.front cut.added; fronts = record { rest = to_report cut.rest; joined = ap to_report cut.joined } }
+
+-- ---- a turn
+
+Ran-taken : (a b c : Meanings) (taken : List ℕ) (outputs : Outputs) → Moves a b inlet.Main taken → Wrote b c outputs → Ran a c taken outputs.output outputs.report
+Ran-taken a b c taken outputs moves wrote = subst (λ (l : List ℕ). Ran a c l outputs.output outputs.report) (append-nil taken) (Ran-then a b c taken [] [] outputs.output [] outputs.report (Ran-moves a b taken moves) wrote)
+
+-- bytes were taken, and all that they owe was written
+pub Advances-taken : {A F : Type 0} (work next : Work A F) (owes : Work A F → Type 0) (a b c : Meanings) (taken : List ℕ) (outputs : Outputs) → owes next → Steps work next taken outputs → Moves a b inlet.Main taken → Wrote b c outputs → Advances work owes a c
+Advances-taken work next owes a b c taken outputs owed steps moves wrote = record { next = next; owed = owed; reaches = record { taken = taken; outputs = outputs; ran = Ran-taken a b c taken outputs moves wrote; steps = steps } }
+
+IsCutShort-front : {A F : Type 0} (work next : Work A F) (a b : Meanings) (taken : List ℕ) (stand outputs : Outputs) → Steps work next taken outputs → AreFronts stand outputs → Ran a b taken stand.output stand.report → IsCutShort work.course a b
+IsCutShort-front work next a b taken stand outputs steps fronts ran =
+    let rest = rest_of (left b inlet.Main) in
+    record {
+      input = taken ++ rest;
+      stand = stand;
+      went = Went-ran a b taken stand ran;
+      fronts = subst (AreFronts stand) (sym (ap owed (steps.course rest) ∙ owed-behind outputs (next.course rest))) (AreFronts-then stand outputs (owed (next.course rest)) fronts);
+    }
+
+-- and where a writing failed, a front of it
+pub IsCutShort-taken : {A F : Type 0} (work next : Work A F) (a b c : Meanings) (taken : List ℕ) (outputs : Outputs) → Steps work next taken outputs → Moves a b inlet.Main taken → WroteFront b c outputs → IsCutShort work.course a c
+IsCutShort-taken work next a b c taken outputs steps moves front = IsCutShort-front work next a c taken front.stand outputs steps front.fronts (Ran-taken a b c taken front.stand moves front.wrote)
+
+-- what is owed before anything is read was written
+pub Reaches-wrote : {A F : Type 0} (work next : Work A F) (a b : Meanings) (outputs : Outputs) → Steps work next [] outputs → Wrote a b outputs → Reaches work next a b
+Reaches-wrote work next a b outputs steps wrote = record { taken = []; outputs = outputs; ran = wrote; steps = steps }
+
+pub IsCutShort-wrote : {A F : Type 0} (work next : Work A F) (a b : Meanings) (outputs : Outputs) → Steps work next [] outputs → WroteFront a b outputs → IsCutShort work.course a b
+IsCutShort-wrote work next a b outputs steps front = IsCutShort-front work next a b [] front.stand outputs steps front.fronts front.wrote
+
+-- ---- the end
+
+Went-end : (a b c : Meanings) (stand : Outputs) → Moves a b inlet.Main [] → IsAtEnd (left a inlet.Main) → Wrote b c stand → Went a c [] stand
+Went-end a b c stand moves at_end wrote =
+    let ran = Ran-taken a b c [] stand moves wrote in
+    record { taken = []; rest = []; split = refl; told = IfSome-IsAtEnd (left c inlet.Main) (subst IsAtEnd (ran.input ∙ sym (prepend_known-none (left c inlet.Main))) at_end); ran = ran }
+
+told_end : {A : Type 0} (f : List ℕ → A) (x : A) (left : Option (List ℕ)) → IsAtEnd left → f [] ≡ x → IfSome left (λ bytes. x ≡ f bytes)
+told_end f x None at_end is = tt
+told_end f x (Some bytes) at_end is = sym (ap f at_end ∙ is)
+
+-- the input is at its end, and the last part was written
+pub Finishes-end : {A F : Type 0} (work : Work A F) (a b c : Meanings) (last : Outputs) (answer : A) → IsLast work last answer → Moves a b inlet.Main [] → IsAtEnd (left a inlet.Main) → Wrote b c last → Finishes work a c answer
+unfolding Went-end
+Finishes-end {F = F} work a b c last answer is moves at_end wrote =
+    let went = Went-end a b c last moves at_end wrote in
+    record {
+      ends = record {
+        input = [];
+        went = subst (Went a c []) (sym (ap owed is.course)) went;
+        ends = ap (λ (k : Course F). k.ending) is.course;
+        read_out = λ whole. went.told;
+      };
+      answered = told_end work.answer answer (left a inlet.Main) at_end is.answer;
+    }
+
+-- and where a writing failed, a front of it
+pub IsCutShort-end : {A F : Type 0} (work : Work A F) (a b c : Meanings) (last : Outputs) (answer : A) → IsLast work last answer → Moves a b inlet.Main [] → IsAtEnd (left a inlet.Main) → WroteFront b c last → IsCutShort work.course a c
+IsCutShort-end work a b c last answer is moves at_end front = record {
+  input = [];
+  stand = front.stand;
+  went = Went-end a b c front.stand moves at_end front.wrote;
+  fronts = subst (AreFronts front.stand) (sym (ap owed is.course)) front.fronts;
+}

@@ -1,0 +1,74 @@
+-- What a run over a desk still owes, and what one turn of it does.
+use Rattle.std.specs.Prelude.{◌≡◌, ℕ, Bool, IsTrue, List, [], ◌++◌, None, Result, Ok, Err, IfSome}
+use Rattle.desk_ports.specs.declared.desk.Inlet.TheVariants as inlet
+use Rattle.desk_ports.specs.declared.desk.Outlet.{Outlet}
+use Rattle.desk_ports.specs.declared.stop.Stop.{Stop}
+use Rattle.desk_ports.specs.declared.turns.Turn.{Turn}
+use Rattle.desk_ports.specs.declared.turns.Turn.TheVariants.{More, Done}
+use Rattle.desk_ports.specs.Meanings.{Meanings, IsReadyIn, IsReadyOut, left}
+use Rattle.desk_ports.specs.Runs.{Ran}
+use Rattle.desk_ports.specs.Courses.{Outputs, no_outputs, Course, behind, AreFronts, AfterStop, Ends}
+
+-- the work that is still to do: what is owed for the bytes that are left of the input, and what the run answers where they
+-- have no fault
+pub record Work (A F : Type 0) : Type 0 where
+  pub course : List ℕ → Course F
+  pub answer : List ℕ → A
+
+-- some work is owed
+pub record IsOwed {A F : Type 0} (owes : Work A F → Type 0) : Type 0 where
+  pub work : Work A F
+  pub owed : owes work
+
+-- the input was opened, and each output that is written
+pub record AreReady (writes : Outlet → Bool) (m : Meanings) : Type 0 where
+  pub input : IsReadyIn m inlet.Main
+  pub outputs : (outlet : Outlet) → IsTrue (writes outlet) → IsReadyOut m outlet
+
+-- Where the input begins with these bytes, they owe this, and for the bytes behind them the other work is to do.
+pub record Steps {A F : Type 0} (work next : Work A F) (taken : List ℕ) (outputs : Outputs) : Type 0 where
+  pub course : (rest : List ℕ) → work.course (taken ++ rest) ≡ behind outputs (next.course rest)
+  pub answer : (rest : List ℕ) → work.answer (taken ++ rest) ≡ next.answer rest
+
+-- Part of the work is done: some bytes were taken, and what they owe stands.
+pub record Reaches {A F : Type 0} (work next : Work A F) (old new : Meanings) : Type 0 where
+  pub taken : List ℕ
+  pub outputs : Outputs
+  pub ran : Ran old new taken outputs.output outputs.report
+  pub steps : Steps work next taken outputs
+
+-- part of the work is done, and some other work is owed
+pub record Advances {A F : Type 0} (work : Work A F) (owes : Work A F → Type 0) (old new : Meanings) : Type 0 where
+  pub next : Work A F
+  pub owed : owes next
+  pub reaches : Reaches work next old new
+
+-- the answer is that of the input, where the desk tells it
+abbrev pub IsAnswer : {A F : Type 0} → Work A F → Meanings → A → Type 0
+IsAnswer work old answer = IfSome (left old inlet.Main) (λ input. answer ≡ work.answer input)
+
+-- all of the work is done
+pub record Finishes {A F : Type 0} (work : Work A F) (old new : Meanings) (answer : A) : Type 0 where
+  pub ends : Ends work.course old new None
+  pub answered : IsAnswer work old answer
+
+-- after a turn of a run, by its answer
+abbrev pub AfterTurn : {A F : Type 0} → Work A F → (Work A F → Type 0) → Meanings → Meanings → Result (Turn A) (Stop F) → Type 0
+AfterTurn work owes old new (Ok More) = Advances work owes old new
+AfterTurn work owes old new (Ok (Done answer)) = Finishes work old new answer
+AfterTurn work owes old new (Err stop) = AfterStop work.course old new stop
+
+-- Nothing is left of the input: this last part is owed, and this is answered.
+pub record IsLast {A F : Type 0} (work : Work A F) (last : Outputs) (value : A) : Type 0 where
+  pub course : work.course [] ≡ record { before = no_outputs; after = last; ending = None }
+  pub answer : work.answer [] ≡ value
+
+-- these bytes were written, and nothing else happened
+abbrev pub Wrote : Meanings → Meanings → Outputs → Type 0
+Wrote old new all = Ran old new [] all.output all.report
+
+-- a front of these bytes was written, and nothing else happened
+pub record WroteFront (old new : Meanings) (all : Outputs) : Type 0 where
+  pub stand : Outputs
+  pub wrote : Wrote old new stand
+  pub fronts : AreFronts stand all
