@@ -30,7 +30,9 @@ pub struct Restoring {
 
 impl Run for Restoring {
     type Answer = Restored;
+
     type Fault = RestoreFault;
+
     type Data = WalkFault;
 
     ghost use Rattle.ground_chain.specs.Restoring.{Owes, stop_by};
