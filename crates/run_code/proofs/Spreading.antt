@@ -190,13 +190,6 @@ no_bit zero lt e = refl
 no_bit (suc zero) lt e = absurd cc
 no_bit (suc (suc bit)) lt e = absurd (omega arith)
 
--- no spare bit is set
-pub spread_spare : (a b : List Bool) (index word at new : ℕ) → length a ≡ length b → IsWord a index word → IsWord b index at → ((i : ℕ) → bit_at at i ≡ 0 → bit_at new i ≡ bit_at word i) → (k : ℕ) → k < 64 → length a ≤ 64 * index + k → bit_at new (63 - k) ≡ 0
-spread_spare a b index word at new len is_a is_b others k lt past =
-    let none_a : bit_at word (63 - k) ≡ 0 = no_bit (bit_at word (63 - k)) (bit_at-lt word (63 - k)) (is_a k lt ∙ get_or_past a (64 * index + k) false past) in
-    let none_b : bit_at at (63 - k) ≡ 0 = no_bit (bit_at at (63 - k)) (bit_at-lt at (63 - k)) (is_b k lt ∙ get_or_past b (64 * index + k) false (omega arith)) in
-    others (63 - k) none_b ∙ none_a
-
 -- the bits at the zeros stay
 pub spread_others : (a new b : List Bool) (index word at made : ℕ) → IsWord a index word → IsWord b index at → IsWord new index made → ((k : ℕ) → k / 64 ≢ index → get_or new k false ≡ get_or a k false) → ((i : ℕ) → bit_at at i ≡ 0 → bit_at made i ≡ bit_at word i)
     → (k : ℕ) → get_or b k false ≡ false → get_or new k false ≡ get_or a k false
