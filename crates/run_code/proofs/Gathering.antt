@@ -74,10 +74,10 @@ unfolding ones_below
 ones_below-same v w zero same = refl
 ones_below-same v w (suc n) same = rw (same n (omega arith), ones_below-same v w n (λ k lt. same k (omega arith))) refl
 
-places_of_word : (n : ℕ) → places_down (number_bits 64 n) ≡ ones_below 64 (number_bits 64 n)
+pub places_of_word : (n : ℕ) → places_down (number_bits 64 n) ≡ ones_below 64 (number_bits 64 n)
 places_of_word n = places_down_is (number_bits 64 n) ∙ ap (λ (len : ℕ). ones_below len (number_bits 64 n)) (length-number_bits 64 n)
 
-bit_is : (n k : ℕ) → k < 64 → get_or (number_bits 64 n) k false ≡ eqb (bit_at n (63 - k)) 1
+pub bit_is : (n k : ℕ) → k < 64 → get_or (number_bits 64 n) k false ≡ eqb (bit_at n (63 - k)) 1
 bit_is n k lt = get_or-number_bits 64 n k lt
 
 -- the place of the lowest one, and those of the others

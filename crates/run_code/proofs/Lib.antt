@@ -7,3 +7,4 @@ pub mod RunWords
 pub mod ExactRuns
 pub mod ExtractedBits
 pub mod Gathering
+pub mod Spreading

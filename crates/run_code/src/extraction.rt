@@ -6,7 +6,7 @@ ghost use Rattle.bit_vectors.specs.Reading.{MovesOn, Gives};
 ghost use Rattle.run_code.specs.Places.{places_down};
 ghost use Rattle.run_code.specs.Extraction.{extract, SameOutside, parse_filled};
 
-use crate::words::put_gathered;
+use crate::words::{put_gathered, spread};
 use bit_vectors::{BitEye, BitFault, BitPen, Bits};
 
 /// Appends the bits of `a` at the ones of `b`, which has as many places, from the highest place down. The
@@ -36,13 +36,16 @@ pub fn take_into(eye: &mut BitEye, a: &mut Bits, b: &Bits) -> Result<(), BitFaul
     ensures at_end { OnErr result (eye.new.place ≡ length eye.old.bits) }
     ensures reading { Gives (λ _. a.new) result eye.new (parse_filled (places_down b.now) a.old (bits_left eye.old)) }
 {
-    let mut below = b.len();
-    while let Some(place) = b.next_one_down(below) {
-        let Some(bit) = eye.take() else {
-            return Err(BitFault::EndsEarly { bit: eye.size() });
-        };
-        a.set(place, bit);
-        below = place;
+    let left = eye.left();
+    if left < b.ones() {
+        eye.pass(left);
+        return Err(BitFault::EndsEarly { bit: eye.size() });
+    }
+    for index in (0..b.word_count()).rev() {
+        let at = b.word(index);
+        let word = spread(a.word(index), at, eye.ahead());
+        a.set_word(index, word);
+        eye.pass(at.count_ones());
     }
     Ok(())
 }

@@ -79,9 +79,7 @@ fn take_up(eye: &mut BitEye, x: &Bits, into: &mut Bits) -> Result<(), BitFault>
     let mut from = 0;
     while let Some(place) = x.next_one_up(from) {
         prove!(place < places);
-        let Some(bit) = eye.take() else {
-            return Err(BitFault::EndsEarly { bit: eye.size() });
-        };
+        let bit = eye.take_bit()?;
         into.set(place, bit);
         from = place + 1;
     }

@@ -1,0 +1,203 @@
+-- Bits spread over the ones of a word, one after the other.
+use Rattle.std.proofs.Common.{◌≡◌, ◌≢◌, ℕ, zero, suc, ◌+◌, ◌-◌, ◌*◌, ◌/◌, ◌%◌, ◌^◌, ◌<◌, ◌≤◌, Bool, true, false, cond, eqb, List, [], ◌∷◌, ◌++◌, length, get_or, take, drop, append_assoc, bit_and, bit_or, w64, refl, sym, ap, ◌∙◌, arith, inl, inr}
+use Rattle.std.specs.Int.{bit_at, bit_not, trailing_zeros}
+use Rattle.std.specs.Int.RustNames.{count_ones}
+use Rattle.std.proofs.lemmas.Bool.{cases_lt, cases_eq}
+use Rattle.std.proofs.lemmas.List.{take-append-le, take-append-drop, get_or_past, map-append}
+use Rattle.std.proofs.lemmas.Nat.{one_shl, ones-le, and_le_l}
+use Rattle.std.proofs.lemmas.Nat.Bits.{bit_at_and, bit_at_or, bit_at_not, bit_at_above, bit_at-lt, bit_at-zero, bit_at-pow_same, bit_at-pow_other, bit_at-trailing_zeros}
+use Rattle.bit_vectors.specs.Vectors.{number_bits}
+use Rattle.bit_vectors.proofs.NumberBits.{length-number_bits, number_bits-more}
+use Rattle.bit_vectors.proofs.Numbers.{number_bits-cat, number_bits-mod, take-word}
+use Rattle.bit_vectors.proofs.FrontWord.{shl_word, shown_front}
+use Rattle.run_code.proofs.Gathering.{word_extract, word_extract-lowest, word_extract-none, length-word_extract, without_below, places_of_word, bit_is}
+use Rattle.run_code.proofs.Ones.{ones_below}
+use Rattle.run_code.specs.Extraction.{bits_at}
+use Rattle.bit_vectors.specs.Words.{IsWord}
+use Rattle.bit_vectors.specs.Eye.{Shows}
+
+-- ---- a word without the ones of another
+
+pub without_ones : (word at i : ℕ) → at < 2 ^ 64 → bit_at at i ≡ 1 → bit_at (bit_and word (bit_not w64 at)) i ≡ 0
+without_ones word at i below one =
+    elim (cases_lt i 64) [
+      | inl lt ↦ bit_at_and word (bit_not w64 at) i ∙ omega (arith, bit_at_not w64 at i below lt)
+      | inr le ↦ absurd (omega (arith, bit_at_above at 64 i below le))
+    ]
+
+pub without_others : (word at i : ℕ) → word < 2 ^ 64 → at < 2 ^ 64 → bit_at at i ≡ 0 → bit_at (bit_and word (bit_not w64 at)) i ≡ bit_at word i
+without_others word at i small below none =
+    elim (cases_lt i 64) [
+      | inl lt ↦ bit_at_and word (bit_not w64 at) i ∙ omega (arith, bit_at_not w64 at i below lt, bit_at-lt word i)
+      | inr le ↦ bit_at_and word (bit_not w64 at) i ∙ omega (arith, bit_at_above word 64 i small le)
+    ]
+
+-- ---- one bit more
+
+one_bit : (bit t : ℕ) → bit < 2 → t < 64 → bit_at (bit * 2 ^ t % 2 ^ 64) t ≡ bit
+one_bit zero t lt within = let none : 0 * 2 ^ t % 2 ^ 64 ≡ 0 = omega arith in rw none (bit_at-zero t)
+one_bit (suc zero) t lt within = rw (one_shl t 64 within) (bit_at-pow_same t)
+one_bit (suc (suc bit)) t lt within = absurd (omega arith)
+
+no_other_bit : (bit t i : ℕ) → bit < 2 → t < 64 → i ≢ t → bit_at (bit * 2 ^ t % 2 ^ 64) i ≡ 0
+no_other_bit zero t i lt within other = let none : 0 * 2 ^ t % 2 ^ 64 ≡ 0 = omega arith in rw none (bit_at-zero i)
+no_other_bit (suc zero) t i lt within other = rw (one_shl t 64 within) (bit_at-pow_other t i other)
+no_other_bit (suc (suc bit)) t i lt within other = absurd (omega arith)
+
+-- the first bit of a word, and those after it
+first_bits : (next m : ℕ) → next < 2 ^ 64 → m ≤ 63 → take (suc m) (number_bits 64 next) ≡ eqb (next / 2 ^ 63) 1 ∷ take m (number_bits 64 (next * 2 ^ 1 % 2 ^ 64))
+first_bits next m below most =
+    let first : next / 2 ^ 63 % 2 ≡ next / 2 ^ 63 = omega arith in
+    let whole : (next % 2 ^ 63) * 2 ^ 1 ≡ (next % 2 ^ 63) * 2 ^ 1 + 0 = omega arith in
+    let later : number_bits 64 (next * 2 ^ 1 % 2 ^ 64) ≡ number_bits 63 next ++ number_bits 1 0 =
+    ap (number_bits 64) (shl_word next 1 (omega arith) ∙ whole) ∙ number_bits-cat 63 1 (next % 2 ^ 63) 0 (omega arith) ∙ ap (λ (bits : List Bool). bits ++ number_bits 1 0) (number_bits-mod 63 63 next (omega arith)) in
+    ap (take (suc m)) (number_bits-more 63 next) ∙ rw (first, later, take-append-le m (number_bits 63 next) (number_bits 1 0) (omega (arith, length-number_bits 63 next))) refl
+
+-- ---- the step
+
+module _ (made next rest : ℕ) (some : 0 < rest) (small : rest < 2 ^ 64) (next_small : next < 2 ^ 64) (clear : (i : ℕ) → bit_at rest i ≡ 1 → bit_at made i ≡ 0) where
+  abbrev more : ℕ
+  more = bit_or made (next / 2 ^ 63 * 2 ^ trailing_zeros w64 rest % 2 ^ 64)
+
+  abbrev fewer : ℕ
+  fewer = bit_and rest (rest - 1)
+
+  bit_small : next / 2 ^ 63 < 2
+  bit_small = omega arith
+
+  lowest_within : trailing_zeros w64 rest < 64
+  lowest_within = (bit_at-trailing_zeros w64 rest some small).0
+
+  lowest_one : bit_at rest (trailing_zeros w64 rest) ≡ 1
+  lowest_one = (bit_at-trailing_zeros w64 rest some small).1
+
+  lowest_gone : bit_at fewer (trailing_zeros w64 rest) ≡ 0
+  lowest_gone = without_below rest (trailing_zeros w64 rest) lowest_one (bit_at-trailing_zeros w64 rest some small).2 (trailing_zeros w64 rest) (omega arith)
+
+  same_elsewhere : (i : ℕ) → i ≢ trailing_zeros w64 rest → bit_at more i ≡ bit_at made i
+  same_elsewhere i other =
+      bit_at_or made (next / 2 ^ 63 * 2 ^ trailing_zeros w64 rest % 2 ^ 64) i ∙ omega (arith, no_other_bit (next / 2 ^ 63) (trailing_zeros w64 rest) i bit_small lowest_within other)
+
+  bit_there : bit_at more (trailing_zeros w64 rest) ≡ next / 2 ^ 63
+  bit_there =
+      bit_at_or made (next / 2 ^ 63 * 2 ^ trailing_zeros w64 rest % 2 ^ 64) (trailing_zeros w64 rest)
+      ∙ omega (arith, clear (trailing_zeros w64 rest) lowest_one, one_bit (next / 2 ^ 63) (trailing_zeros w64 rest) bit_small lowest_within)
+
+  still_zero : (i : ℕ) → bit_at rest i ≡ 0 → bit_at fewer i ≡ 0
+  still_zero i none = bit_at_and rest (rest - 1) i ∙ omega (arith, none)
+
+  pub step_inside : (at i : ℕ) → (bit_at at i ≡ 0 → bit_at rest i ≡ 0) → bit_at at i ≡ 0 → bit_at fewer i ≡ 0
+  step_inside at i inside none = still_zero i (inside none)
+
+  pub step_clear : (i : ℕ) → bit_at fewer i ≡ 1 → bit_at more i ≡ 0
+  step_clear i one =
+      let was : bit_at rest i ≡ 1 = omega (arith, bit_at_and rest (rest - 1) i, one, bit_at-lt rest i) in
+      let other : i ≢ trailing_zeros w64 rest = λ same. absurd (omega (arith, sym (ap (bit_at (bit_and rest (rest - 1))) same) ∙ one, lowest_gone)) in
+      same_elsewhere i other ∙ clear i was
+
+  pub step_others : (word at : ℕ) → ((i : ℕ) → bit_at at i ≡ 0 → bit_at rest i ≡ 0) → ((i : ℕ) → bit_at at i ≡ 0 → bit_at made i ≡ bit_at word i) → (i : ℕ) → bit_at at i ≡ 0 → bit_at more i ≡ bit_at word i
+  step_others word at inside others i none =
+      let other : i ≢ trailing_zeros w64 rest = λ same. absurd (omega (arith, sym (ap (bit_at rest) same) ∙ inside i none, lowest_one)) in
+      same_elsewhere i other ∙ others i none
+
+  pub step_off : (new i : ℕ) → ((j : ℕ) → bit_at fewer j ≡ 0 → bit_at new j ≡ bit_at more j) → bit_at rest i ≡ 0 → bit_at new i ≡ bit_at made i
+  step_off new i agrees none =
+      let other : i ≢ trailing_zeros w64 rest = λ same. absurd (omega (arith, sym (ap (bit_at rest) same) ∙ none, lowest_one)) in
+      agrees i (still_zero i none) ∙ same_elsewhere i other
+
+  pub step_bits : (new : ℕ) → ((j : ℕ) → bit_at fewer j ≡ 0 → bit_at new j ≡ bit_at more j) → word_extract new fewer ≡ take (count_ones fewer) (number_bits 64 (next * 2 ^ 1 % 2 ^ 64)) → word_extract new rest ≡ take (count_ones rest) (number_bits 64 next)
+  step_bits new agrees later =
+      let lowest = word_extract-lowest new rest some small in
+      let fewer_small : bit_and rest (rest - 1) < 2 ^ 64 = omega (arith, and_le_l rest (rest - 1)) in
+      let count : count_ones rest ≡ suc (count_ones (bit_and rest (rest - 1))) =
+      sym (length-word_extract new rest small) ∙ ap (λ (bits : List Bool). length bits) lowest ∙ ap suc (length-word_extract new (bit_and rest (rest - 1)) fewer_small) in
+      let bit : bit_at new (trailing_zeros w64 rest) ≡ next / 2 ^ 63 = agrees (trailing_zeros w64 rest) lowest_gone ∙ bit_there in
+      lowest ∙ rw (bit, later, count) (sym (first_bits next (count_ones (bit_and rest (rest - 1))) next_small (omega (arith, ones-le 64 rest small))))
+
+-- with no one left
+pub none_left : (new bits rest : ℕ) → rest ≡ 0 → word_extract new rest ≡ take (count_ones rest) (number_bits 64 bits)
+none_left new bits rest zero_is =
+    let none = word_extract-none new in
+    let count : count_ones 0 ≡ 0 = sym (length-word_extract new 0 (omega arith)) ∙ ap (λ (b : List Bool). length b) none in
+    rw (zero_is, none, count) refl
+
+-- ---- whole vectors
+
+-- the ones from a place on, of so many places, the greatest first
+unfoldable pub ones_span : ℕ → ℕ → List Bool → List ℕ
+ones_span from zero v = []
+ones_span from (suc m) v = cond (get_or v (from + m) false) ((from + m) ∷ ones_span from m v) (ones_span from m v)
+
+pub span_none : (from : ℕ) (v : List Bool) → ones_span from 0 v ≡ []
+unfolding ones_span
+span_none from v = refl
+
+pub span_all : (n : ℕ) (v : List Bool) → ones_span 0 n v ≡ ones_below n v
+unfolding ones_span ones_below
+span_all zero v = refl
+span_all (suc n) v = let place : 0 + n ≡ n = omega arith in rw (place, span_all n v) refl
+
+cond_append : (bit : Bool) (x : ℕ) (xs ys : List ℕ) → cond bit (x ∷ (xs ++ ys)) (xs ++ ys) ≡ cond bit (x ∷ xs) xs ++ ys
+cond_append true x xs ys = refl
+cond_append false x xs ys = refl
+
+span_cat : (from m n : ℕ) (v : List Bool) → ones_span from (m + n) v ≡ ones_span (from + m) n v ++ ones_span from m v
+unfolding ones_span
+span_cat from m zero v = let none : m + 0 ≡ m = omega arith in rw none refl
+span_cat from m (suc n) v =
+    let next : m + suc n ≡ suc (m + n) = omega arith in
+    let place : from + (m + n) ≡ from + m + n = omega arith in
+    rw (next, place, span_cat from m n v) (cond_append (get_or v (from + m + n) false) (from + m + n) (ones_span (from + m) n v) (ones_span from m v))
+
+span_bit : (bit : Bool) (a x : List Bool) (p q : ℕ) (ps qs : List ℕ) → get_or a p false ≡ get_or x q false → bits_at a ps ≡ bits_at x qs → bits_at a (cond bit (p ∷ ps) ps) ≡ bits_at x (cond bit (q ∷ qs) qs)
+span_bit true a x p q ps qs same later = rw (same, later) refl
+span_bit false a x p q ps qs same later = later
+
+span_same : (a x v : List Bool) (from m : ℕ) → ((k : ℕ) → from ≤ k → get_or a k false ≡ get_or x k false) → bits_at a (ones_span from m v) ≡ bits_at x (ones_span from m v)
+unfolding ones_span
+span_same a x v from zero same = refl
+span_same a x v from (suc m) same = span_bit (get_or v (from + m) false) a x (from + m) (from + m) (ones_span from m v) (ones_span from m v) (same (from + m) (omega arith)) (span_same a x v from m same)
+
+span_front : (a x v y : List Bool) (from m : ℕ) → ((k : ℕ) → k < m → get_or x k false ≡ get_or a (from + k) false) → ((k : ℕ) → k < m → get_or y k false ≡ get_or v (from + k) false) → bits_at a (ones_span from m v) ≡ bits_at x (ones_below m y)
+unfolding ones_span ones_below
+span_front a x v y from zero same_a same_v = refl
+span_front a x v y from (suc m) same_a same_v =
+    rw (← same_v m (omega arith)) (span_bit (get_or y m false) a x (from + m) m (ones_span from m v) (ones_below m y) (sym (same_a m (omega arith))) (span_front a x v y from m (λ k lt. same_a k (omega arith)) (λ k lt. same_v k (omega arith))))
+
+span_word : (a b : List Bool) (index bits at : ℕ) → IsWord a index bits → IsWord b index at → bits_at a (ones_span (64 * index) 64 b) ≡ word_extract bits at
+span_word a b index bits at is_a is_b =
+    rw (places_of_word at) (span_front a (number_bits 64 bits) b (number_bits 64 at) (64 * index) 64 (λ k lt. bit_is bits k lt ∙ is_a k lt) (λ k lt. bit_is at k lt ∙ is_b k lt))
+
+shown_take : (bits : List Bool) (word width : ℕ) → Shows bits word → width ≤ 64 → width ≤ length bits → take width (number_bits 64 word) ≡ take width bits
+shown_take bits word width shows most enough = take-word width 64 word most ∙ shown_front bits word width shows most enough
+
+-- one word more
+pub spread_more : (old left a new b : List Bool) (index all at word ahead : ℕ) → 0 < index → 64 * index ≤ all → at < 2 ^ 64 → IsWord b (index - 1) at → IsWord new (index - 1) word → ((k : ℕ) → k / 64 ≢ index - 1 → get_or new k false ≡ get_or a k false)
+    → word_extract word at ≡ take (count_ones at) (number_bits 64 ahead) → Shows left ahead → count_ones at ≤ length left
+    → old ≡ bits_at a (ones_span (64 * index) (all - 64 * index) b) ++ left → old ≡ bits_at new (ones_span (64 * (index - 1)) (all - 64 * (index - 1)) b) ++ drop (count_ones at) left
+spread_more old left a new b index all at word ahead some within small is_b is_new same bits shows enough so_far =
+    let parts : all - 64 * (index - 1) ≡ 64 + (all - 64 * index) = omega arith in
+    let next : 64 * (index - 1) + 64 ≡ 64 * index = omega arith in
+    let kept : bits_at a (ones_span (64 * index) (all - 64 * index) b) ≡ bits_at new (ones_span (64 * index) (all - 64 * index) b) =
+    span_same a new b (64 * index) (all - 64 * index) (λ k le. let other : k / 64 ≢ index - 1 = omega arith in sym (same k other)) in
+    let here : bits_at new (ones_span (64 * (index - 1)) 64 b) ≡ take (count_ones at) left = span_word new b (index - 1) word at is_new is_b ∙ bits ∙ shown_take left ahead (count_ones at) shows (ones-le 64 at small) enough in
+    let split : bits_at new (ones_span (64 * (index - 1)) (all - 64 * (index - 1)) b) ≡ bits_at new (ones_span (64 * index) (all - 64 * index) b) ++ take (count_ones at) left =
+    rw (parts, span_cat (64 * (index - 1)) 64 (all - 64 * index) b, next) (map-append _ (ones_span (64 * index) (all - 64 * index) b) (ones_span (64 * (index - 1)) 64 b) ∙ ap (λ (last : List Bool). bits_at new (ones_span (64 * index) (all - 64 * index) b) ++ last) here) in
+    so_far ∙ rw (kept, split) (ap (λ (rest : List Bool). bits_at new (ones_span (64 * index) (all - 64 * index) b) ++ rest) (sym (take-append-drop (count_ones at) left)) ∙ sym (append_assoc (bits_at new (ones_span (64 * index) (all - 64 * index) b)) (take (count_ones at) left) (drop (count_ones at) left)))
+
+no_bit : (bit : ℕ) → bit < 2 → eqb bit 1 ≡ false → bit ≡ 0
+no_bit zero lt e = refl
+no_bit (suc zero) lt e = absurd cc
+no_bit (suc (suc bit)) lt e = absurd (omega arith)
+
+-- the bits at the zeros stay
+pub spread_others : (a new b : List Bool) (index word at made : ℕ) → IsWord a index word → IsWord b index at → IsWord new index made → ((k : ℕ) → k / 64 ≢ index → get_or new k false ≡ get_or a k false) → ((i : ℕ) → bit_at at i ≡ 0 → bit_at made i ≡ bit_at word i)
+    → (k : ℕ) → get_or b k false ≡ false → get_or new k false ≡ get_or a k false
+spread_others a new b index word at made is_a is_b is_new same others k none =
+    elim (cases_eq (k / 64) index) [
+      | inl here ↦
+          let place : 64 * index + k % 64 ≡ k = omega arith in
+          let zero_there : bit_at at (63 - k % 64) ≡ 0 = no_bit (bit_at at (63 - k % 64)) (bit_at-lt at (63 - k % 64)) (is_b (k % 64) (omega arith) ∙ ap (λ (p : ℕ). get_or b p false) place ∙ none) in
+          ap (λ (p : ℕ). get_or new p false) (sym place) ∙ sym (is_new (k % 64) (omega arith)) ∙ rw (others (63 - k % 64) zero_there) (is_a (k % 64) (omega arith) ∙ ap (λ (p : ℕ). get_or a p false) place)
+      | inr other ↦ same k other
+    ]
