@@ -1,13 +1,12 @@
 -- Numbers in parts: bits under shifts, and the bits of a number in two pieces.
-use Rattle.std.proofs.Common.{◌≡◌, ℕ, zero, suc, ◌+◌, ◌-◌, ◌*◌, ◌/◌, ◌%◌, ◌^◌, ◌<◌, ◌≤◌, Bool, false, eqb, List, ◌++◌, length, get_or, take, drop, replicate, refl, sym, ap, ◌∙◌, arith}
+use Rattle.std.proofs.Common.{◌≡◌, ℕ, zero, suc, ◌+◌, ◌-◌, ◌*◌, ◌/◌, ◌%◌, ◌^◌, ◌<◌, ◌≤◌, Bool, false, eqb, List, ◌++◌, replicate, refl, sym, ap, ◌∙◌, arith}
 use Rattle.std.specs.Int.{bit_at}
 use Rattle.std.proofs.Math.Nat.{pow-succ'}
-use Rattle.std.proofs.lemmas.List.{take_at, drop_at, ext_get_or}
 use Rattle.std.proofs.lemmas.Nat.{shr-shr, shr_split, shr_high, leading_top, pow_pos}
 use Rattle.std.proofs.lemmas.Nat.Bits.{bit_at_cat_low, bit_at_cat_high, bit_at-zero, bit_at_above, bit_at-lt}
 use lib.Count.{count_leading_zeros}
 use Rattle.bit_vectors.specs.Vectors.{number_bits}
-use Rattle.bit_vectors.proofs.NumberBits.{length-number_bits, get_or-number_bits, number_bits_low}
+use Rattle.bit_vectors.proofs.NumberBits.{number_bits_low}
 
 -- ---- one bit
 
@@ -69,17 +68,6 @@ pub number_bits-mod : (width k n : ℕ) → width ≤ k → number_bits width (n
 number_bits-mod width k n le =
     sym (number_bits_low width (n / 2 ^ k) k (n % 2 ^ k) le) ∙ ap (number_bits width) (shr_split n k)
 
--- the first and the last bits of a word
-pub take-word : (width all n : ℕ) → width ≤ all → take width (number_bits all n) ≡ number_bits width (n / 2 ^ (all - width))
-take-word width all n le =
-    let parts : all ≡ width + (all - width) = omega arith in
-    ap (λ (w : ℕ). take width (number_bits w n)) parts ∙ rw (number_bits-split width (all - width) n) (take_at (number_bits width (n / 2 ^ (all - width))) (number_bits (all - width) n) width (length-number_bits width (n / 2 ^ (all - width))))
-
-pub drop-word : (width all n : ℕ) → width ≤ all → drop width (number_bits all n) ≡ number_bits (all - width) n
-drop-word width all n le =
-    let parts : all ≡ width + (all - width) = omega arith in
-    ap (λ (w : ℕ). drop width (number_bits w n)) parts ∙ rw (number_bits-split width (all - width) n) (drop_at (number_bits width (n / 2 ^ (all - width))) (number_bits (all - width) n) width (length-number_bits width (n / 2 ^ (all - width))))
-
 pub number_bits-zero : (width : ℕ) → number_bits width 0 ≡ replicate width false
 unfolding number_bits
 number_bits-zero zero = refl
@@ -98,8 +86,3 @@ high_bits width all n le none =
 -- two bits are equal where their truth values are
 pub same_bit : (a i b j : ℕ) → eqb (bit_at a i) 1 ≡ eqb (bit_at b j) 1 → bit_at a i ≡ bit_at b j
 same_bit a i b j same = same_digit (bit_at a i) (bit_at b j) (bit_at-lt a i) (bit_at-lt b j) same
-
--- a list is the bits of a number where it is so place by place
-pub number_bits_is : (width n : ℕ) (bits : List Bool) → length bits ≡ width → ((i : ℕ) → i < width → get_or bits i false ≡ eqb (bit_at n (width - 1 - i)) 1) → bits ≡ number_bits width n
-number_bits_is width n bits len same =
-    ext_get_or false bits (number_bits width n) (len ∙ sym (length-number_bits width n)) (λ i lt. let within : i < width = omega arith in same i within ∙ sym (get_or-number_bits width n i within))
