@@ -1,13 +1,12 @@
 -- Numbers in parts: bits under shifts, and the bits of a number in two pieces.
-use Rattle.std.proofs.Common.{◌≡◌, ℕ, zero, suc, ◌+◌, ◌-◌, ◌*◌, ◌/◌, ◌%◌, ◌^◌, ◌<◌, ◌≤◌, Bool, false, eqb, List, ◌++◌, take, replicate, refl, sym, ap, ◌∙◌, arith}
+use Rattle.std.proofs.Common.{◌≡◌, ℕ, zero, suc, ◌+◌, ◌-◌, ◌*◌, ◌/◌, ◌%◌, ◌^◌, ◌<◌, ◌≤◌, Bool, false, eqb, List, ◌++◌, replicate, refl, sym, ap, ◌∙◌, arith}
 use Rattle.std.specs.Int.{bit_at}
 use Rattle.std.proofs.Math.Nat.{pow-succ'}
-use Rattle.std.proofs.lemmas.List.{take_at}
 use Rattle.std.proofs.lemmas.Nat.{shr-shr, shr_split, shr_high, leading_top, pow_pos}
 use Rattle.std.proofs.lemmas.Nat.Bits.{bit_at_cat_low, bit_at_cat_high, bit_at-zero, bit_at_above, bit_at-lt}
 use lib.Count.{count_leading_zeros}
 use Rattle.bit_vectors.specs.Vectors.{number_bits}
-use Rattle.bit_vectors.proofs.NumberBits.{length-number_bits, number_bits_low}
+use Rattle.bit_vectors.proofs.NumberBits.{number_bits_low}
 
 -- ---- one bit
 
@@ -68,12 +67,6 @@ number_bits-cat i j a b below =
 pub number_bits-mod : (width k n : ℕ) → width ≤ k → number_bits width (n % 2 ^ k) ≡ number_bits width n
 number_bits-mod width k n le =
     sym (number_bits_low width (n / 2 ^ k) k (n % 2 ^ k) le) ∙ ap (number_bits width) (shr_split n k)
-
--- the first bits of a word
-pub take-word : (width all n : ℕ) → width ≤ all → take width (number_bits all n) ≡ number_bits width (n / 2 ^ (all - width))
-take-word width all n le =
-    let parts : all ≡ width + (all - width) = omega arith in
-    ap (λ (w : ℕ). take width (number_bits w n)) parts ∙ rw (number_bits-split width (all - width) n) (take_at (number_bits width (n / 2 ^ (all - width))) (number_bits (all - width) n) width (length-number_bits width (n / 2 ^ (all - width))))
 
 pub number_bits-zero : (width : ℕ) → number_bits width 0 ≡ replicate width false
 unfolding number_bits
