@@ -18,11 +18,6 @@ pub Gives-then_err : {A B C D : Type 0} (view : A → B) (see : C → D) (fault 
 Gives-then_err view see (Wrong bit) new reading next h = (rw h.0 refl, h.1, h.2)
 Gives-then_err view see (EndsEarly bit) new reading next h = (rw h.0 refl, h.1, h.2)
 
--- a call after another one, which answered x
-pub Gives-then_ok : {A B C D : Type 0} (view : A → B) (see : C → D) (x : A) (mid : EyeState) (result : Result C BitFault) (new : EyeState) (reading : Parsed B) (next : B → List Bool → Parsed D)
-    → Gives view (Ok x) mid reading → Gives see result new (next (view x) (bits_left mid)) → Gives see result new (reading >>= next)
-Gives-then_ok view see x mid result new reading next first h = rw first h
-
 -- ---- by an exact reader
 
 pub only_read : {B : Type 0} (v w : B) (rest : List Bool) (new : EyeState) (result : Result (Unit {0}) BitFault) (reading : Parsed B) → Gives (λ (u : Unit {0}). v) result new reading → reading ≡ Read w rest → IsOk result × (v ≡ w)

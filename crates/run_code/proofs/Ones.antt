@@ -108,9 +108,6 @@ length-ones_from n (false ∷ bits) =
 pub length-places_down : (v : List Bool) → length (places_down v) ≡ count_by (λ bit. bit) v
 length-places_down v = length-reverse (places_up v) ∙ length-ones_from 0 v
 
-pub length-ones_below : (v : List Bool) → length (ones_below (length v) v) ≡ count_by (λ bit. bit) v
-length-ones_below v = ap (λ (places : List ℕ). length places) (sym (places_down_is v)) ∙ length-places_down v
-
 -- ---- which, and that they differ
 
 Contains-cons : (x y : ℕ) (xs : List ℕ) → Contains (x ∷ xs) y → (x ≡ y) ⊎ Contains xs y

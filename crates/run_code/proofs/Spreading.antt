@@ -3,12 +3,12 @@ use Rattle.std.proofs.Common.{◌≡◌, ◌≢◌, ℕ, zero, suc, ◌+◌, ◌
 use Rattle.std.specs.Int.{bit_at, bit_not, trailing_zeros}
 use Rattle.std.specs.Int.RustNames.{count_ones}
 use Rattle.std.proofs.lemmas.Bool.{cases_lt, cases_eq}
-use Rattle.std.proofs.lemmas.List.{take-append-le, take-append-drop, get_or_past, map-append}
+use Rattle.std.proofs.lemmas.List.{take_at, take-append-le, take-append-drop, map-append}
 use Rattle.std.proofs.lemmas.Nat.{one_shl, ones-le, and_le_l}
 use Rattle.std.proofs.lemmas.Nat.Bits.{bit_at_and, bit_at_or, bit_at_not, bit_at_above, bit_at-lt, bit_at-zero, bit_at-pow_same, bit_at-pow_other, bit_at-trailing_zeros}
 use Rattle.bit_vectors.specs.Vectors.{number_bits}
 use Rattle.bit_vectors.proofs.NumberBits.{length-number_bits, number_bits-more}
-use Rattle.bit_vectors.proofs.Numbers.{number_bits-cat, number_bits-mod, take-word}
+use Rattle.bit_vectors.proofs.Numbers.{number_bits-cat, number_bits-mod, number_bits-split}
 use Rattle.bit_vectors.proofs.FrontWord.{shl_word, shown_front}
 use Rattle.run_code.proofs.Gathering.{word_extract, word_extract-lowest, word_extract-none, length-word_extract, without_below, places_of_word, bit_is}
 use Rattle.run_code.proofs.Ones.{ones_below}
@@ -168,8 +168,13 @@ span_word : (a b : List Bool) (index bits at : ℕ) → IsWord a index bits → 
 span_word a b index bits at is_a is_b =
     rw (places_of_word at) (span_front a (number_bits 64 bits) b (number_bits 64 at) (64 * index) 64 (λ k lt. bit_is bits k lt ∙ is_a k lt) (λ k lt. bit_is at k lt ∙ is_b k lt))
 
+word_front : (width n : ℕ) → width ≤ 64 → take width (number_bits 64 n) ≡ number_bits width (n / 2 ^ (64 - width))
+word_front width n le =
+    let parts : 64 ≡ width + (64 - width) = omega arith in
+    ap (λ (w : ℕ). take width (number_bits w n)) parts ∙ rw (number_bits-split width (64 - width) n) (take_at (number_bits width (n / 2 ^ (64 - width))) (number_bits (64 - width) n) width (length-number_bits width (n / 2 ^ (64 - width))))
+
 shown_take : (bits : List Bool) (word width : ℕ) → Shows bits word → width ≤ 64 → width ≤ length bits → take width (number_bits 64 word) ≡ take width bits
-shown_take bits word width shows most enough = take-word width 64 word most ∙ shown_front bits word width shows most enough
+shown_take bits word width shows most enough = word_front width word most ∙ shown_front bits word width shows most enough
 
 -- one word more
 pub spread_more : (old left a new b : List Bool) (index all at word ahead : ℕ) → 0 < index → 64 * index ≤ all → at < 2 ^ 64 → IsWord b (index - 1) at → IsWord new (index - 1) word → ((k : ℕ) → k / 64 ≢ index - 1 → get_or new k false ≡ get_or a k false)
@@ -189,13 +194,6 @@ no_bit : (bit : ℕ) → bit < 2 → eqb bit 1 ≡ false → bit ≡ 0
 no_bit zero lt e = refl
 no_bit (suc zero) lt e = absurd cc
 no_bit (suc (suc bit)) lt e = absurd (omega arith)
-
--- no spare bit is set
-pub spread_spare : (a b : List Bool) (index word at new : ℕ) → length a ≡ length b → IsWord a index word → IsWord b index at → ((i : ℕ) → bit_at at i ≡ 0 → bit_at new i ≡ bit_at word i) → (k : ℕ) → k < 64 → length a ≤ 64 * index + k → bit_at new (63 - k) ≡ 0
-spread_spare a b index word at new len is_a is_b others k lt past =
-    let none_a : bit_at word (63 - k) ≡ 0 = no_bit (bit_at word (63 - k)) (bit_at-lt word (63 - k)) (is_a k lt ∙ get_or_past a (64 * index + k) false past) in
-    let none_b : bit_at at (63 - k) ≡ 0 = no_bit (bit_at at (63 - k)) (bit_at-lt at (63 - k)) (is_b k lt ∙ get_or_past b (64 * index + k) false (omega arith)) in
-    others (63 - k) none_b ∙ none_a
 
 -- the bits at the zeros stay
 pub spread_others : (a new b : List Bool) (index word at made : ℕ) → IsWord a index word → IsWord b index at → IsWord new index made → ((k : ℕ) → k / 64 ≢ index → get_or new k false ≡ get_or a k false) → ((i : ℕ) → bit_at at i ≡ 0 → bit_at made i ≡ bit_at word i)
