@@ -1,6 +1,6 @@
 //! The three commands one after the other at one desk.
 
-use super::desk::{HEADER, answer, desk_with, joined};
+use super::desk::{HEADER, answer, hold, joined};
 use super::samples::PLAY_HEADER;
 use crate::Status;
 use desk_ports::MemDesk;
@@ -60,14 +60,10 @@ fn assert_kept(rt: &impl Abort, chain: &Chain<'_>, desk: &MemDesk, name: &str, w
 }
 
 fn desk_of(alloc: Global, chain: &Chain<'_>, one_byte: bool) -> Result<MemDesk, Fail> {
-    let mut desk = desk_with(
-        alloc,
-        &[
-            ("recording", chain.recording),
-            ("plan", chain.plan.as_bytes()),
-            ("script", chain.script.as_bytes()),
-        ],
-    )?;
+    let mut desk = MemDesk::new(alloc);
+    hold(&mut desk, "recording", chain.recording)?;
+    hold(&mut desk, "plan", chain.plan.as_bytes())?;
+    hold(&mut desk, "script", chain.script.as_bytes())?;
     if one_byte {
         desk.pieces(1);
     }
@@ -101,4 +97,13 @@ pub fn assert_given_back(
     assert_done(rt, GIVE_BACK, chain.ground, desk)?;
     assert_kept(rt, chain, desk, "given_back", chain.recording);
     Ok(())
+}
+
+/// The recording goes through the three commands, and its store gives it back.
+pub fn assert_there_and_back(
+    rt: &(impl Abort + AllocGlobal),
+    chain: &Chain<'_>,
+) -> Result<(), Fail> {
+    let mut desk = assert_chain(rt, chain, false)?;
+    assert_given_back(rt, chain, &mut desk)
 }

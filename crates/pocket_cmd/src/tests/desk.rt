@@ -182,17 +182,23 @@ pub fn words_of(alloc: Global, line: &str) -> Result<Vec<String>, AllocError> {
     Ok(words)
 }
 
-/// A desk where these bytes are held under these names.
-pub fn desk_with(alloc: Global, held: &[(&str, &[u8])]) -> Result<MemDesk, NoMemory> {
-    let mut desk = MemDesk::new(alloc);
-    for (name, bytes) in held {
-        desk.put(name, bytes)?;
+/// Holds bytes under a name.
+pub fn hold(desk: &mut MemDesk, name: &str, bytes: &[u8]) -> Result<(), NoMemory> {
+    desk.put(name, bytes)
+}
+
+/// Holds the bytes of an input, where it is there.
+fn hold_some(desk: &mut MemDesk, name: &str, input: Option<&[u8]>) -> Result<(), NoMemory> {
+    match input {
+        None => Ok(()),
+        Some(bytes) => hold(desk, name, bytes),
     }
-    Ok(desk)
 }
 
 fn desk_for(alloc: Global, case: &Case<'_>) -> Result<MemDesk, NoMemory> {
-    let mut desk = desk_with_inputs(alloc, case.input, case.side)?;
+    let mut desk = MemDesk::new(alloc);
+    hold_some(&mut desk, "a", case.input)?;
+    hold_some(&mut desk, "s", case.side)?;
     if case.one_byte {
         desk.pieces(1);
     }
@@ -200,19 +206,6 @@ fn desk_for(alloc: Global, case: &Case<'_>) -> Result<MemDesk, NoMemory> {
         desk.fail(*call, *nth)?;
     }
     Ok(desk)
-}
-
-fn desk_with_inputs(
-    alloc: Global,
-    input: Option<&[u8]>,
-    side: Option<&[u8]>,
-) -> Result<MemDesk, NoMemory> {
-    match (input, side) {
-        (None, None) => desk_with(alloc, &[]),
-        (Some(input), None) => desk_with(alloc, &[("a", input)]),
-        (None, Some(side)) => desk_with(alloc, &[("s", side)]),
-        (Some(input), Some(side)) => desk_with(alloc, &[("a", input), ("s", side)]),
-    }
 }
 
 fn ended(status: Status, desk: &MemDesk) -> Ending<'_> {

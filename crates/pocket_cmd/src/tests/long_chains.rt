@@ -1,7 +1,8 @@
 //! Long recordings and large packets through the three commands.
 
-use super::chain::{Chain, assert_chain, assert_given_back};
+use super::chain::{Chain, assert_chain, assert_given_back, assert_there_and_back};
 use std::alloc::{AllocError, Global};
+use std::process::Abort;
 use std::test::Fail;
 
 /// Packets of zeros, as many as these, of which the last stands alone and those before it are lost.
@@ -92,21 +93,33 @@ fn packets_of_the_most_bits(rt: HostRuntime) -> Result<(), Fail> {
         restored: &recording,
         report: "end,2,2,0\n",
     };
-    let mut desk = assert_chain(&rt, &chain, false)?;
-    assert_given_back(&rt, &chain, &mut desk)?;
-    let store = desk.get("store");
+    assert_largest(&rt, &chain)
+}
+
+/// Such a recording goes there and back, and its store is as long as this.
+fn assert_largest(rt: &(impl Abort + AllocGlobal), chain: &Chain<'_>) -> Result<(), Fail> {
+    let mut desk = assert_chain(rt, chain, false)?;
+    assert_given_back(rt, chain, &mut desk)?;
+    assert_headers(rt, desk.get("store"));
+    Ok(())
+}
+
+fn assert_headers(rt: &impl Abort, store: &[u8]) {
     assert_eq!(rt; store.len(), 43_031);
     assert_eq!(rt; &store[..6], FIRST_HEADER);
     assert_eq!(rt; &store[6155..6161], SECOND_HEADER);
-    Ok(())
 }
 
 /// A packet of 128 bytes: its number in the first two, the number's hundreds in the eleventh, and a pattern in all others.
 fn push_counter(bytes: &mut Vec<u8>, t: u16) -> Result<(), AllocError> {
-    bytes.extend_from_slice(&t.to_be_bytes())?;
-    bytes.extend_from_slice(&[0xAA; 8])?;
-    bytes.push((t / 100 % 10) as u8)?;
-    bytes.extend_from_slice(&[0xAA; 117])
+    push_all(bytes, &t.to_be_bytes())?;
+    push_all(bytes, &[0xAA; 8])?;
+    push_all(bytes, &[(t / 100 % 10) as u8])?;
+    push_all(bytes, &[0xAA; 117])
+}
+
+fn push_all(bytes: &mut Vec<u8>, more: &[u8]) -> Result<(), AllocError> {
+    bytes.extend_from_slice(more)
 }
 
 /// A thousand of them.
@@ -148,6 +161,5 @@ fn a_thousand_counters(rt: HostRuntime) -> Result<(), Fail> {
             197,197,gap,4\n198,198,gap,5\n199,199,gap,6\n205,207,lost,0\n530,533,lost,0\n\
             end,1004,979,20\n",
     };
-    let mut desk = assert_chain(&rt, &chain, false)?;
-    assert_given_back(&rt, &chain, &mut desk)
+    assert_there_and_back(&rt, &chain)
 }

@@ -1,6 +1,6 @@
 //! Recordings of few packets through the three commands, one of them in reads and writes of one byte too.
 
-use super::chain::{Chain, assert_chain, assert_given_back};
+use super::chain::{Chain, assert_chain, assert_there_and_back};
 use super::samples::RECORDING;
 use std::test::Fail;
 
@@ -132,8 +132,7 @@ static CHAINS: [Chain<'static>; 11] = [
 #[test]
 fn short_chains(rt: HostRuntime) -> Result<(), Fail> {
     for chain in &CHAINS {
-        let mut desk = assert_chain(&rt, chain, false)?;
-        assert_given_back(&rt, chain, &mut desk)?;
+        assert_there_and_back(&rt, chain)?;
     }
     assert_chain(&rt, &ONE_LOST, true)?;
     Ok(())

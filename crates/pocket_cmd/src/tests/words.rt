@@ -1,7 +1,8 @@
 //! Words, and what is answered to them at a desk with nothing or with empty inputs.
 
-use super::desk::{answer, assert_ending, desk_with, refused, words_alone};
+use super::desk::{answer, assert_ending, hold, refused, words_alone};
 use crate::{Refusal, Status};
+use desk_ports::MemDesk;
 use std::alloc::Global;
 use std::test::Fail;
 
@@ -128,9 +129,9 @@ fn wrong_words(rt: HostRuntime) -> Result<(), Fail> {
 
 /// What is answered where these inputs are there, with no bytes.
 fn answer_with(alloc: Global, line: &str, inputs: &[&str]) -> Result<Status, Fail> {
-    let mut desk = desk_with(alloc, &[])?;
+    let mut desk = MemDesk::new(alloc);
     for name in inputs {
-        desk.put(name, &[])?;
+        hold(&mut desk, name, &[])?;
     }
     Ok(answer(alloc, line, &mut desk)?)
 }
