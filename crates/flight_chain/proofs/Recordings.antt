@@ -1,15 +1,20 @@
 -- What the walk over a recording means.
 use Rattle.std.proofs.Common.{◌≡◌, ℕ, zero, suc, ◌+◌, ◌-◌, ◌^◌, ◌<◌, ◌≤◌, Bool, List, [], ◌∷◌, ◌++◌, length, take, drop, Option, Some, None, refl, sym, ap, ◌∙◌, subst, append_assoc, length-drop, take-append-drop, replicate, get_or, inl, inr, true, false, ◌*◌, arith}
 use Rattle.std.specs.Prelude.{All, Contains}
-use Rattle.std.proofs.lemmas.Bool.{cases_lt, false≢true}
-use Rattle.std.proofs.lemmas.List.{length-take-le, drop_at, get_or_past}
+use Rattle.std.proofs.lemmas.Bool.{cases_lt, false≢true, true≢false}
+use Rattle.std.proofs.lemmas.List.{length-take-le, length-replicate, drop_at, get_or_past, get_or-replicate}
 use Rattle.std.proofs.lemmas.List.Elements.{All-nil, All-tail, All-drop, All-take}
 use Rattle.bit_vectors.specs.Vectors.{AreBytes, bits_of, byte_count, vector_bytes}
-use Rattle.bit_vectors.proofs.ByteBits.{length-bits_of, length-vector_bytes, bits_of-vector_bytes, take-bits_of-vector_bytes, none_in_zeros, stored_is}
+use Rattle.bit_vectors.proofs.ByteBits.{length-bits_of, length-vector_bytes, bits_of-vector_bytes, take-bits_of-vector_bytes, stored_is}
 use Rattle.flight_chain.specs.declared.fault.RecordFault.{RecordFault}
 use Rattle.flight_chain.specs.Recordings.{recording_of, first_packet, first_input, fault_at, RecordingWalk, walked, stopped_at, behind_input, recording_walk_from, ending_at}
 use Rattle.flight_chain.proofs.RecordingWalks.{recording_walk_from-none, recording_walk_from-fault, recording_walk_from-packet, BeginWithPacket, fault_at-told}
 use Rattle.flight_chain.proofs.Readings.{any_one, recording_walk_from-whole}
+
+none_in_zeros : (n : ℕ) → Contains (replicate n false) true → ⊥
+none_in_zeros n one =
+    let inside : one.0 < n = rw (length-replicate n false) at one.1 in
+    true≢false (sym one.2 ∙ get_or-replicate n one.0 false true inside)
 
 -- the bytes of a vector have no spare bit
 no_spare : (f : ℕ) (input : List Bool) → length input ≡ f → Contains (drop f (bits_of (vector_bytes input))) true → ⊥
