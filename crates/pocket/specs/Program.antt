@@ -9,13 +9,17 @@ use Rattle.desk_ports.specs.FileDesk.{file_counts, gathered_at}
 use Rattle.pocket.specs.declared.Asked.{Asked}
 use Rattle.pocket.specs.declared.Asked.TheVariants as asked
 
--- what the program is asked of itself: by the only word
-abbrev pub asked_by : List (List ℕ) → Option Asked
-asked_by [] = None
-asked_by (word ∷ []) =
+-- what a word asks of the program itself
+abbrev pub asked_of : List ℕ → Option Asked
+asked_of word =
     if bytes_eq word (codes "--help") then Some asked.Help
     else if bytes_eq word (codes "--version") then Some asked.Version
     else None
+
+-- what the program is asked by the only word
+abbrev pub asked_by : List (List ℕ) → Option Asked
+asked_by [] = None
+asked_by (word ∷ []) = asked_of word
 asked_by (word ∷ next ∷ rest) = None
 
 -- the words that are looked at

@@ -5,7 +5,7 @@ ghost use Rattle.std.specs.Prelude.{◌≡◌, ℕ, ◌≤◌, ◌↔◌, ◌⊎
 ghost use Rattle.std.specs.Process.{exit_status};
 ghost use Rattle.std.specs.String.{string_bytes};
 ghost use Rattle.desk_ports.specs.Meanings.{nothing_told};
-ghost use Rattle.pocket.specs.Program.{IsHandedOver, asked_by, seen};
+ghost use Rattle.pocket.specs.Program.{IsHandedOver, asked_by, asked_of, seen};
 ghost use Rattle.pocket_cmd.specs.Command.{HasCommand, command_of};
 ghost use Rattle.pocket_cmd.specs.Status.{exit_number};
 
@@ -45,10 +45,17 @@ impl Asked {
     fn by(words: &[String]) -> Option<Asked>
         ensures { result ≡ asked_by (map string_bytes words.now) }
     {
-        let [word] = words else {
-            return None;
-        };
-        match word.as_str() {
+        match words {
+            [word] => Asked::of(word.as_str()),
+            _ => None,
+        }
+    }
+
+    /// What a word asks.
+    fn of(word: &str) -> Option<Asked>
+        ensures { result ≡ asked_of word.now }
+    {
+        match word {
             "--help" => Some(Asked::Help),
             "--version" => Some(Asked::Version),
             _ => None,
@@ -117,20 +124,24 @@ fn answer(rt: &HostRuntime, words: &[String]) -> ExitCode
 
 /// Runs the command at a desk of files at which nothing was opened. What is gathered there is handed over at the end,
 /// whatever the answer, so that a refused run leaves what it wrote.
-fn run(rt: &HostRuntime, words: &[String], desk: &mut FileDesk<'_>) -> Status
+fn run<'a>(rt: &HostRuntime, words: &[String], desk: &mut FileDesk<'a>) -> Status
     requires few { length words.now ≤ 1000 }
-    requires fresh { ⟦<FileDesk<'_> as Desk>⟧.meaning desk.old ≡ nothing_told }
+    requires fresh { ⟦<FileDesk<'a> as Desk>⟧.meaning desk.old ≡ nothing_told }
     ensures no_command { (word : ℕ) → (result ≡ Status.Refused (Refusal.BadWords word))
         ↔ (command_of (map string_bytes words.now) ≡ Err word) }
     ensures done { result ≡ Status.Done → HasCommand words.now (λ _. Unit {0}) }
     ensures handed { IsHandedOver desk.new }
 {
-    let status = pocket(rt.alloc(), words, desk);
-    let handed = desk.hand_over();
-    if handed.is_err() && status == Status::Done {
-        return Status::Refused(Refusal::WriteFault);
+    match pocket(rt.alloc(), words, desk) {
+        Status::Done => match desk.hand_over() {
+            Ok(()) => Status::Done,
+            Err(_) => Status::Refused(Refusal::WriteFault),
+        },
+        Status::Refused(refusal) => {
+            let _ = desk.hand_over();
+            Status::Refused(refusal)
+        }
     }
-    status
 }
 
 /// The words that are looked at.
