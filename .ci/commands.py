@@ -238,16 +238,18 @@ def helps(runner):
 
 
 def wants_memory(runner):
-    """Whether a run that finds no memory is refused so: it gets little more than the program takes that does nothing."""
+    """Whether a run that finds no memory is refused so: it gets what the program takes that does nothing, and the room for a side
+    text is a megabyte more."""
     def limited(words, folder, size):
         limit = lambda: resource.setrlimit(resource.RLIMIT_AS, (size, size))
         return subprocess.run([runner.program] + words, cwd=folder, capture_output=True, preexec_fn=limit)
     folder = tempfile.mkdtemp(dir=runner.room)
-    put(os.path.join(folder, "x"), PLAYED, folder)
+    put(os.path.join(folder, "x"), RECORDING, folder)
+    put(os.path.join(folder, "s"), b"", folder)
     size = 1 << 20
     while limited(["--version"], folder, size).returncode != 0 and size < 1 << 30:
         size += 1 << 16
-    found = limited(RESTORE.replace("bits=8", "bits=49152").split(), folder, size)
+    found = limited((COMPRESS + " plan=s").split(), folder, size)
     if (found.returncode, found.stderr) != (5, b"pocket: out of memory\n") or got(os.path.join(folder, "y.part")) is not None:
         return f"it ended with {found.returncode}, {found.stderr}"
     return None
