@@ -64,10 +64,13 @@ fn a_copy_of_a_file(rt: HostRuntime) -> Result<(), Fail> {
     let copy = fs::read(&rt, "copy")?;
     assert_eq!(rt; copy.as_slice(), ROW.as_slice());
     assert_eq!(rt; left_unfinished(&mut desk), Ok(()));
-    let unfinished = fs::read(&rt, "copy")?;
+    let unfinished = fs::read(&rt, "copy.part")?;
     assert_eq!(rt; unfinished.as_slice(), &ROW[..3]);
+    let copy = fs::read(&rt, "copy")?;
+    assert_eq!(rt; copy.as_slice(), ROW.as_slice());
     fs::remove_file(&rt, "row")?;
     fs::remove_file(&rt, "copy")?;
+    fs::remove_file(&rt, "copy.part")?;
     Ok(())
 }
 
