@@ -119,7 +119,7 @@ pub edges_there : (v : List Bool) (index w next e : ℕ) → IsWord v index w �
 edges_there v index w next e word next_lt after edges k lt =
     rw (edges (63 - k) (omega arith)) (xor_digits (bit_at w (63 - k)) (next_bit w next (63 - k)) (bit_at-lt w (63 - k)) (next_bit-lt w next (63 - k) next_lt) ∙ rw (word k lt, next_there v index w next k word after lt) refl)
 
-zero_of : (bit : ℕ) → bit < 2 → eqb bit 1 ≡ false → bit ≡ 0
+pub zero_of : (bit : ℕ) → bit < 2 → eqb bit 1 ≡ false → bit ≡ 0
 zero_of zero lt e = refl
 zero_of (suc zero) lt e = absurd cc
 zero_of (suc (suc bit)) lt e = absurd (omega arith)

@@ -1,13 +1,10 @@
 -- Reading bits into places of a vector.
-use Rattle.std.proofs.Common.{◌≡◌, ◌≢◌, ℕ, zero, suc, ◌<◌, ◌≤◌, Bool, true, false, List, [], ◌∷◌, length, get_or, set, Err, refl, sym, ◌∙◌, arith, inl, inr}
+use Rattle.std.proofs.Common.{◌≡◌, ◌≢◌, ℕ, zero, suc, ◌<◌, ◌≤◌, Bool, true, false, List, [], ◌∷◌, length, get_or, set, refl, sym, ◌∙◌, arith, inl, inr}
 use Rattle.std.specs.Prelude.{Contains}
 use Rattle.std.proofs.lemmas.Bool.{cases_eq}
 use Rattle.std.proofs.lemmas.List.{length-set, get_or-set_same, get_or-set_other, ext_get_or}
-use Rattle.bit_vectors.specs.declared.fault.BitFault.{BitFault}
-use Rattle.bit_vectors.specs.declared.fault.BitFault.TheVariants.{Wrong, EndsEarly}
-use Rattle.bit_vectors.specs.Eye.{EyeState, bits_left}
-use Rattle.bit_vectors.specs.Reading.{Read, WrongBit, TooShort, any_bit, bit_where, Gives, IsExact}
-use Rattle.bit_vectors.proofs.ExactReading.{read_same, IsBitWhere, IsWordThen, IsExact-give, IsExact-bit_where, IsExact-same, IsExact-then}
+use Rattle.bit_vectors.specs.Reading.{Read, WrongBit, TooShort, bit_where, IsExact}
+use Rattle.bit_vectors.proofs.ExactReading.{IsBitWhere, IsWordThen, IsExact-give, IsExact-bit_where, IsExact-same, IsExact-then}
 use Rattle.run_code.specs.Extraction.{bits_at, parse_filled}
 use Rattle.run_code.proofs.Ones.{AreApart}
 
@@ -104,36 +101,6 @@ unfolding parse_filled
 parse_filled-no_wrong [] v bits rest wrong = cc
 parse_filled-no_wrong (place ∷ places) v [] rest wrong = cc
 parse_filled-no_wrong (place ∷ places) v (bit ∷ bits) rest wrong = parse_filled-no_wrong places (set v place bit) bits rest wrong
-
-not_wrong : (bits rest : List Bool) → any_bit bits ≡ WrongBit rest → ⊥
-not_wrong [] rest wrong = cc
-not_wrong (true ∷ bits) rest wrong = cc
-not_wrong (false ∷ bits) rest wrong = cc
-
-none_left : (bits : List Bool) → any_bit bits ≡ TooShort → bits ≡ []
-none_left [] short = refl
-none_left (true ∷ bits) short = absurd cc
-none_left (false ∷ bits) short = absurd cc
-
-parse_filled-none : (place : ℕ) (places : List ℕ) (v : List Bool) → parse_filled (place ∷ places) v [] ≡ TooShort
-unfolding parse_filled
-parse_filled-none place places v = refl
-
--- one bit more
-pub parse_filled-more : (place : ℕ) (places : List ℕ) (v bits rest : List Bool) (bit : Bool) → any_bit bits ≡ Read bit rest → parse_filled (place ∷ places) v bits ≡ parse_filled places (set v place bit) rest
-unfolding parse_filled
-parse_filled-more place places v [] rest bit read = absurd cc
-parse_filled-more place places v (true ∷ bits) rest bit read = let same = read_same true bit bits rest read in rw (same.0, same.1) refl
-parse_filled-more place places v (false ∷ bits) rest bit read = let same = read_same false bit bits rest read in rw (same.0, same.1) refl
-
--- no bit more
-pub parse_filled-fault : (place : ℕ) (places : List ℕ) (v new : List Bool) (old eye : EyeState) (fault : BitFault) → Gives (λ (bit : Bool). bit) (Err fault) eye (any_bit (bits_left old)) → Gives (λ (u : Unit {0}). new) (Err fault) eye (parse_filled (place ∷ places) v (bits_left old))
-parse_filled-fault place places v new old eye (Wrong bit) given = absurd (not_wrong (bits_left old) (bits_left eye) given.0)
-parse_filled-fault place places v new old eye (EndsEarly bit) given = (rw (none_left (bits_left old) given.0) (parse_filled-none place places v), given.1, given.2)
-
-pub parse_filled-all : (v bits : List Bool) → parse_filled [] v bits ≡ Read v bits
-unfolding parse_filled
-parse_filled-all v bits = refl
 
 pub parse_filled-few : (places : List ℕ) (v bits : List Bool) → length bits < length places → parse_filled places v bits ≡ TooShort
 unfolding parse_filled

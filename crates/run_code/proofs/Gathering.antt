@@ -2,7 +2,7 @@
 use Rattle.std.proofs.Common.{◌≡◌, ℕ, zero, suc, ◌+◌, ◌-◌, ◌*◌, ◌/◌, ◌%◌, ◌^◌, ◌<◌, ◌≤◌, Bool, true, false, cond, eqb, List, [], ◌∷◌, ◌++◌, length, get_or, bit_and, w64, refl, sym, ap, ◌∙◌, arith, inl, inr}
 use Rattle.std.specs.Int.{bit_at, trailing_zeros}
 use Rattle.std.proofs.lemmas.Bool.{cases_eq}
-use Rattle.std.proofs.lemmas.Nat.{pow_pos, mod_below, shr_split, pow-add, ones-le}
+use Rattle.std.proofs.lemmas.Nat.{pow_pos, mod_below, shr_split, pow-add, ones-le, and_le_l}
 use Rattle.std.proofs.Math.Nat.{pow-succ', le-mul_of_pos_right, pow-le-pow_right, mod-eq_of_lt}
 use Rattle.std.specs.Int.RustNames.{count_ones}
 use Rattle.bit_vectors.proofs.WordBits.{count_by-number_bits}
@@ -138,6 +138,11 @@ pub length-word_extract : (bits at : ℕ) → at < 2 ^ 64 → length (word_extra
 length-word_extract bits at below =
     length-bits_at (number_bits 64 bits) (places_down (number_bits 64 at)) ∙ length-places_down (number_bits 64 at) ∙ count_by-number_bits 64 at ∙ ap (λ (n : ℕ). count_ones n) (mod-eq_of_lt below)
 
+pub ones-lowest : (n : ℕ) → 0 < n → n < 2 ^ 64 → count_ones n ≡ suc (count_ones (bit_and n (n - 1)))
+ones-lowest n some below =
+    let fewer : bit_and n (n - 1) < 2 ^ 64 = omega (arith, and_le_l n (n - 1)) in
+    sym (length-word_extract 0 n below) ∙ ap (λ (bits : List Bool). length bits) (word_extract-lowest 0 n some below) ∙ ap suc (length-word_extract 0 (bit_and n (n - 1)) fewer)
+
 pub word_number_below : (bits at : ℕ) → at < 2 ^ 64 → bits_number (word_extract bits at) < 2 ^ count_ones at
 word_number_below bits at below = rw (← length-word_extract bits at below) (bits_number_below (word_extract bits at))
 
@@ -192,8 +197,7 @@ ones_below-past v n le = ones_below-skip v (length v) n le (λ k from to. get_or
 
 -- a word that isn't zero has a one
 pub some_one : (at : ℕ) → 0 < at → at < 2 ^ 64 → 1 ≤ count_ones at
-some_one at some below =
-    omega (arith, length-word_extract 0 at below, ap (λ (bits : List Bool). length bits) (word_extract-lowest 0 at some below))
+some_one at some below = omega (arith, ones-lowest at some below)
 
 -- the bits at the ones of a word, and those of the words before it
 pub extract_step : (a b : List Bool) (index bits at : ℕ) → 0 < index → IsWord a (index - 1) bits → IsWord b (index - 1) at → bits_at a (ones_below (64 * index) b) ≡ word_extract bits at ++ bits_at a (ones_below (64 * (index - 1)) b)

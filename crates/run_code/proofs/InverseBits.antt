@@ -2,8 +2,8 @@
 use Rattle.std.proofs.Common.{◌≡◌, ℕ, zero, suc, ◌+◌, ◌-◌, ◌<◌, ◌≤◌, Bool, true, false, cond, List, [], ◌∷◌, ◌++◌, length, get_or, set, take, replicate, Result, Ok, Err, refl, sym, ap, ◌∙◌, arith, ◌⊎◌, inl, inr, append_assoc}
 use Rattle.std.specs.Prelude.{◌↔◌, Contains, count_by, OnOk}
 use Rattle.std.specs.List.{list_any}
-use Rattle.std.proofs.lemmas.Bool.{true≢false}
-use Rattle.std.proofs.lemmas.List.{length-map, length-append, length-replicate, length-drop, length-take, get_or-map, get_or_default, get_or_at, ext_get_or, take_at, nil_from_length, append-nil}
+use Rattle.std.proofs.lemmas.Bool.{true≢false, cases_lt}
+use Rattle.std.proofs.lemmas.List.{length-map, length-append, length-replicate, length-drop, length-take, get_or-map, get_or_default, get_or_past, get_or_at, ext_get_or, take_at, nil_from_length, append-nil}
 use Rattle.std.proofs.lemmas.List.Folds.{list_any_at}
 use Rattle.bit_vectors.specs.declared.fault.BitFault.{BitFault}
 use Rattle.bit_vectors.specs.declared.fault.BitFault.TheVariants.{Wrong, EndsEarly}
@@ -62,6 +62,23 @@ inverse_filling x y word h = (
   h.bits,
 )
 
+-- a vector filled below a place that is past the end, which is zero where x is
+pub zeros_filling : (x y : List Bool) (n : ℕ) → length y ≡ length x → length x ≤ n → ((k : ℕ) → k < n → get_or x k false ≡ false → get_or y k false ≡ false) → IsFilling (places_up x) (zeros_like x) y (bits_up y x)
+zeros_filling x y n len all zeros = (
+  record {
+    same_length = len ∙ sym (length-replicate (length x) false);
+    others = λ k out.
+        elim (one_or_zero (get_or x k false)) [
+          | inl one ↦ absurd (out (places_up_has x k one))
+          | inr none ↦ elim (cases_lt k n) [
+            | inl lt ↦ zeros k lt none
+            | inr past ↦ get_or_past y k false (omega arith)
+          ] ∙ sym (zeros_at (length x) k)
+        ];
+  },
+  refl,
+)
+
 filling_inverse : (x y word : List Bool) → IsFilling (places_up x) (zeros_like x) y word → Contains y true → IsInverseWord x y word
 filling_inverse x y word h some = record {
   places = h.0.same_length ∙ length-replicate (length x) false;
@@ -97,7 +114,7 @@ filled_any [] v (bit ∷ word) len = absurd (omega arith)
 filled_any (place ∷ places) v [] len = absurd (omega arith)
 filled_any (place ∷ places) v (bit ∷ word) len = filled_any places (set v place bit) word (omega arith)
 
-filling_exact : (x : List Bool) → IsExact (IsFilling (places_up x) (zeros_like x)) (parse_filled (places_up x) (zeros_like x))
+pub filling_exact : (x : List Bool) → IsExact (IsFilling (places_up x) (zeros_like x)) (parse_filled (places_up x) (zeros_like x))
 filling_exact x = IsExact-filled_at (places_up x) (zeros_like x) (rw (length-replicate (length x) false) (places_up_apart x))
 
 a_word : (x front : List Bool) → length front + 1 ≡ length (places_up x) → (y : List Bool) × IsInverseWord x y (front ++ true ∷ [])

@@ -8,3 +8,4 @@ pub mod ExactRuns
 pub mod ExtractedBits
 pub mod Gathering
 pub mod Spreading
+mod Upward

@@ -1,8 +1,8 @@
 -- The places of a vector's ones, found one after the other.
-use Rattle.std.proofs.Common.{◌≡◌, ℕ, zero, suc, ◌+◌, ◌-◌, ◌<◌, ◌≤◌, Bool, true, false, cond, List, [], ◌∷◌, ◌++◌, length, get_or, take, drop, replicate, refl, sym, ap, ◌∙◌, arith, inl, inr, ◌⊎◌, add-one}
+use Rattle.std.proofs.Common.{◌≡◌, ℕ, zero, suc, ◌+◌, ◌-◌, ◌<◌, ◌≤◌, Bool, true, false, cond, List, [], ◌∷◌, ◌++◌, length, get_or, take, replicate, refl, sym, ap, ◌∙◌, arith, inl, inr, ◌⊎◌, add-one}
 use Rattle.std.specs.Prelude.{reverse, count_by, Contains}
 use Rattle.std.proofs.lemmas.Bool.{cases_eq, cases_lt, true≢false}
-use Rattle.std.proofs.lemmas.List.{reverse-append, append-nil, length-take, length-reverse, take_more, take_all, drop_more, drop_all, get_or_past, get_or-replicate, length-replicate}
+use Rattle.std.proofs.lemmas.List.{reverse-append, append-nil, length-take, length-reverse, take_more, take_all, get_or_past, get_or-replicate, length-replicate}
 use Rattle.std.proofs.lemmas.List.Sums.{sum_by-cons}
 use Rattle.bit_vectors.specs.Vectors.{NoneIsOne}
 use Rattle.run_code.specs.Places.{ones_from, places_up, places_down}
@@ -67,33 +67,9 @@ unfolding ones_below
 ones_below-none v zero none = refl
 ones_below-none v (suc n) none = rw (none n (omega arith) (omega arith)) (ones_below-none v n (λ k from to. none k from (omega arith)))
 
--- ---- from the least up
-
 pub one_within : (v : List Bool) (p : ℕ) → get_or v p false ≡ true → p < length v
 one_within v p one =
     elim (cases_lt p (length v)) [ inl lt ↦ lt | inr le ↦ absurd (true≢false (sym one ∙ get_or_past v p false le)) ]
-
-from_one : (d from : ℕ) (v : List Bool) (p : ℕ) → from + d ≡ p → get_or v p false ≡ true → NoneIsOne v from p
-    → ones_from from (drop from v) ≡ p ∷ ones_from (p + 1) (drop (p + 1) v)
-unfolding ones_from
-from_one zero from v p sum one none =
-    let here : from ≡ p = omega arith in
-    rw (here, drop_more v p false (one_within v p one), one) refl
-from_one (suc d) from v p sum one none =
-    rw (drop_more v from false (omega (arith, one_within v p one)), none from (omega arith) (omega arith)) (from_one d (from + 1) v p (omega arith) one (λ k le lt. none k (omega arith) lt))
-
-pub ones_from-one : (v : List Bool) (from p : ℕ) → from ≤ p → get_or v p false ≡ true → NoneIsOne v from p
-    → ones_from from (drop from v) ≡ p ∷ ones_from (p + 1) (drop (p + 1) v)
-ones_from-one v from p le = from_one (p - from) from v p (omega arith)
-
-none_from : (d from : ℕ) (v : List Bool) → from + d ≡ length v → NoneIsOne v from (length v) → ones_from from (drop from v) ≡ []
-unfolding ones_from
-none_from zero from v sum none = rw (drop_all from v (omega arith)) refl
-none_from (suc d) from v sum none =
-    rw (drop_more v from false (omega arith), none from (omega arith) (omega arith)) (none_from d (from + 1) v (omega arith) (λ k le lt. none k (omega arith) lt))
-
-pub ones_from-none : (v : List Bool) (from : ℕ) → from ≤ length v → NoneIsOne v from (length v) → ones_from from (drop from v) ≡ []
-ones_from-none v from le = none_from (length v - from) from v (omega arith)
 
 -- ---- how many
 

@@ -4,14 +4,15 @@ use Rattle.std.specs.Int.{bit_at, bit_not, trailing_zeros}
 use Rattle.std.specs.Int.RustNames.{count_ones}
 use Rattle.std.proofs.lemmas.Bool.{cases_lt, cases_eq}
 use Rattle.std.proofs.lemmas.List.{take_at, take-append-le, take-append-drop, map-append}
-use Rattle.std.proofs.lemmas.Nat.{one_shl, ones-le, and_le_l}
+use Rattle.std.proofs.lemmas.Nat.{one_shl, ones-le}
 use Rattle.std.proofs.lemmas.Nat.Bits.{bit_at_and, bit_at_or, bit_at_not, bit_at_above, bit_at-lt, bit_at-zero, bit_at-pow_same, bit_at-pow_other, bit_at-trailing_zeros}
 use Rattle.bit_vectors.specs.Vectors.{number_bits}
 use Rattle.bit_vectors.proofs.NumberBits.{length-number_bits, number_bits-more}
 use Rattle.bit_vectors.proofs.Numbers.{number_bits-cat, number_bits-mod, number_bits-split}
 use Rattle.bit_vectors.proofs.FrontWord.{shl_word, shown_front}
-use Rattle.run_code.proofs.Gathering.{word_extract, word_extract-lowest, word_extract-none, length-word_extract, without_below, places_of_word, bit_is}
+use Rattle.run_code.proofs.Gathering.{word_extract, word_extract-lowest, word_extract-none, length-word_extract, ones-lowest, without_below, places_of_word, bit_is}
 use Rattle.run_code.proofs.Ones.{ones_below}
+use Rattle.run_code.proofs.EdgeWords.{zero_of}
 use Rattle.run_code.specs.Extraction.{bits_at}
 use Rattle.bit_vectors.specs.Words.{IsWord}
 use Rattle.bit_vectors.specs.Eye.{Shows}
@@ -55,15 +56,12 @@ first_bits next m below most =
 
 -- ---- the step
 
-module _ (made next rest : ℕ) (some : 0 < rest) (small : rest < 2 ^ 64) (next_small : next < 2 ^ 64) (clear : (i : ℕ) → bit_at rest i ≡ 1 → bit_at made i ≡ 0) where
+module _ (made bit rest : ℕ) (some : 0 < rest) (small : rest < 2 ^ 64) (bit_small : bit < 2) (clear : (i : ℕ) → bit_at rest i ≡ 1 → bit_at made i ≡ 0) where
   abbrev more : ℕ
-  more = bit_or made (next / 2 ^ 63 * 2 ^ trailing_zeros w64 rest % 2 ^ 64)
+  more = bit_or made (bit * 2 ^ trailing_zeros w64 rest % 2 ^ 64)
 
   abbrev fewer : ℕ
   fewer = bit_and rest (rest - 1)
-
-  bit_small : next / 2 ^ 63 < 2
-  bit_small = omega arith
 
   lowest_within : trailing_zeros w64 rest < 64
   lowest_within = (bit_at-trailing_zeros w64 rest some small).0
@@ -76,12 +74,12 @@ module _ (made next rest : ℕ) (some : 0 < rest) (small : rest < 2 ^ 64) (next_
 
   same_elsewhere : (i : ℕ) → i ≢ trailing_zeros w64 rest → bit_at more i ≡ bit_at made i
   same_elsewhere i other =
-      bit_at_or made (next / 2 ^ 63 * 2 ^ trailing_zeros w64 rest % 2 ^ 64) i ∙ omega (arith, no_other_bit (next / 2 ^ 63) (trailing_zeros w64 rest) i bit_small lowest_within other)
+      bit_at_or made (bit * 2 ^ trailing_zeros w64 rest % 2 ^ 64) i ∙ omega (arith, no_other_bit bit (trailing_zeros w64 rest) i bit_small lowest_within other)
 
-  bit_there : bit_at more (trailing_zeros w64 rest) ≡ next / 2 ^ 63
+  bit_there : bit_at more (trailing_zeros w64 rest) ≡ bit
   bit_there =
-      bit_at_or made (next / 2 ^ 63 * 2 ^ trailing_zeros w64 rest % 2 ^ 64) (trailing_zeros w64 rest)
-      ∙ omega (arith, clear (trailing_zeros w64 rest) lowest_one, one_bit (next / 2 ^ 63) (trailing_zeros w64 rest) bit_small lowest_within)
+      bit_at_or made (bit * 2 ^ trailing_zeros w64 rest % 2 ^ 64) (trailing_zeros w64 rest)
+      ∙ omega (arith, clear (trailing_zeros w64 rest) lowest_one, one_bit bit (trailing_zeros w64 rest) bit_small lowest_within)
 
   still_zero : (i : ℕ) → bit_at rest i ≡ 0 → bit_at fewer i ≡ 0
   still_zero i none = bit_at_and rest (rest - 1) i ∙ omega (arith, none)
@@ -105,14 +103,15 @@ module _ (made next rest : ℕ) (some : 0 < rest) (small : rest < 2 ^ 64) (next_
       let other : i ≢ trailing_zeros w64 rest = λ same. absurd (omega (arith, sym (ap (bit_at rest) same) ∙ none, lowest_one)) in
       agrees i (still_zero i none) ∙ same_elsewhere i other
 
-  pub step_bits : (new : ℕ) → ((j : ℕ) → bit_at fewer j ≡ 0 → bit_at new j ≡ bit_at more j) → word_extract new fewer ≡ take (count_ones fewer) (number_bits 64 (next * 2 ^ 1 % 2 ^ 64)) → word_extract new rest ≡ take (count_ones rest) (number_bits 64 next)
-  step_bits new agrees later =
-      let lowest = word_extract-lowest new rest some small in
-      let fewer_small : bit_and rest (rest - 1) < 2 ^ 64 = omega (arith, and_le_l rest (rest - 1)) in
-      let count : count_ones rest ≡ suc (count_ones (bit_and rest (rest - 1))) =
-      sym (length-word_extract new rest small) ∙ ap (λ (bits : List Bool). length bits) lowest ∙ ap suc (length-word_extract new (bit_and rest (rest - 1)) fewer_small) in
-      let bit : bit_at new (trailing_zeros w64 rest) ≡ next / 2 ^ 63 = agrees (trailing_zeros w64 rest) lowest_gone ∙ bit_there in
-      lowest ∙ rw (bit, later, count) (sym (first_bits next (count_ones (bit_and rest (rest - 1))) next_small (omega (arith, ones-le 64 rest small))))
+  -- the bit that was put there comes first
+  pub step_bit : (new : ℕ) → ((j : ℕ) → bit_at fewer j ≡ 0 → bit_at new j ≡ bit_at more j) → word_extract new rest ≡ eqb bit 1 ∷ word_extract new fewer
+  step_bit new agrees =
+      let there : bit_at new (trailing_zeros w64 rest) ≡ bit = agrees (trailing_zeros w64 rest) lowest_gone ∙ bit_there in
+      rw there at (word_extract-lowest new rest some small)
+
+pub step_bits : (next rest : ℕ) (bits later : List Bool) → 0 < rest → rest < 2 ^ 64 → next < 2 ^ 64 → bits ≡ eqb (next / 2 ^ 63) 1 ∷ later → later ≡ take (count_ones (bit_and rest (rest - 1))) (number_bits 64 (next * 2 ^ 1 % 2 ^ 64)) → bits ≡ take (count_ones rest) (number_bits 64 next)
+step_bits next rest bits later some small next_small lowest rest_is =
+    lowest ∙ rw (rest_is, ones-lowest rest some small) (sym (first_bits next (count_ones (bit_and rest (rest - 1))) next_small (omega (arith, ones-lowest rest some small, ones-le 64 rest small))))
 
 -- with no one left
 pub none_left : (new bits rest : ℕ) → rest ≡ 0 → word_extract new rest ≡ take (count_ones rest) (number_bits 64 bits)
@@ -149,7 +148,7 @@ span_cat from m (suc n) v =
     let place : from + (m + n) ≡ from + m + n = omega arith in
     rw (next, place, span_cat from m n v) (cond_append (get_or v (from + m + n) false) (from + m + n) (ones_span (from + m) n v) (ones_span from m v))
 
-span_bit : (bit : Bool) (a x : List Bool) (p q : ℕ) (ps qs : List ℕ) → get_or a p false ≡ get_or x q false → bits_at a ps ≡ bits_at x qs → bits_at a (cond bit (p ∷ ps) ps) ≡ bits_at x (cond bit (q ∷ qs) qs)
+pub span_bit : (bit : Bool) (a x : List Bool) (p q : ℕ) (ps qs : List ℕ) → get_or a p false ≡ get_or x q false → bits_at a ps ≡ bits_at x qs → bits_at a (cond bit (p ∷ ps) ps) ≡ bits_at x (cond bit (q ∷ qs) qs)
 span_bit true a x p q ps qs same later = rw (same, later) refl
 span_bit false a x p q ps qs same later = later
 
@@ -190,11 +189,6 @@ spread_more old left a new b index all at word ahead some within small is_b is_n
     rw (parts, span_cat (64 * (index - 1)) 64 (all - 64 * index) b, next) (map-append _ (ones_span (64 * index) (all - 64 * index) b) (ones_span (64 * (index - 1)) 64 b) ∙ ap (λ (last : List Bool). bits_at new (ones_span (64 * index) (all - 64 * index) b) ++ last) here) in
     so_far ∙ rw (kept, split) (ap (λ (rest : List Bool). bits_at new (ones_span (64 * index) (all - 64 * index) b) ++ rest) (sym (take-append-drop (count_ones at) left)) ∙ sym (append_assoc (bits_at new (ones_span (64 * index) (all - 64 * index) b)) (take (count_ones at) left) (drop (count_ones at) left)))
 
-no_bit : (bit : ℕ) → bit < 2 → eqb bit 1 ≡ false → bit ≡ 0
-no_bit zero lt e = refl
-no_bit (suc zero) lt e = absurd cc
-no_bit (suc (suc bit)) lt e = absurd (omega arith)
-
 -- the bits at the zeros stay
 pub spread_others : (a new b : List Bool) (index word at made : ℕ) → IsWord a index word → IsWord b index at → IsWord new index made → ((k : ℕ) → k / 64 ≢ index → get_or new k false ≡ get_or a k false) → ((i : ℕ) → bit_at at i ≡ 0 → bit_at made i ≡ bit_at word i)
     → (k : ℕ) → get_or b k false ≡ false → get_or new k false ≡ get_or a k false
@@ -202,7 +196,7 @@ spread_others a new b index word at made is_a is_b is_new same others k none =
     elim (cases_eq (k / 64) index) [
       | inl here ↦
           let place : 64 * index + k % 64 ≡ k = omega arith in
-          let zero_there : bit_at at (63 - k % 64) ≡ 0 = no_bit (bit_at at (63 - k % 64)) (bit_at-lt at (63 - k % 64)) (is_b (k % 64) (omega arith) ∙ ap (λ (p : ℕ). get_or b p false) place ∙ none) in
+          let zero_there : bit_at at (63 - k % 64) ≡ 0 = zero_of (bit_at at (63 - k % 64)) (bit_at-lt at (63 - k % 64)) (is_b (k % 64) (omega arith) ∙ ap (λ (p : ℕ). get_or b p false) place ∙ none) in
           ap (λ (p : ℕ). get_or new p false) (sym place) ∙ sym (is_new (k % 64) (omega arith)) ∙ rw (others (63 - k % 64) zero_there) (is_a (k % 64) (omega arith) ∙ ap (λ (p : ℕ). get_or a p false) place)
       | inr other ↦ same k other
     ]

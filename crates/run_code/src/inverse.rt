@@ -7,6 +7,7 @@ ghost use Rattle.bit_vectors.specs.Reading.{MovesOn, Gives, IsFirstFault};
 ghost use Rattle.run_code.specs.Places.{places_up};
 ghost use Rattle.run_code.specs.Extraction.{inverse_up, bits_up, IsInverseWord, parse_filled, parse_inverse};
 
+use crate::words::{put_gathered_up, spread_up};
 use bit_vectors::{BitEye, BitFault, BitPen, Bits};
 
 /// Appends the inverted bits of `mask` at the ones of `x`, which has as many places, from the lowest place
@@ -17,12 +18,9 @@ pub fn put_inverse_up(pen: &mut BitPen, mask: &Bits, x: &Bits)
     ensures bits { pen.new.bits ≡ pen.old.bits ++ inverse_up mask.now x.now }
     ensures room { pen.new.room ≡ pen.old.room }
 {
-    let places = x.len();
-    let mut from = 0;
-    while let Some(place) = x.next_one_up(from) {
-        prove!(place < places);
-        pen.put(!mask.get(place));
-        from = place + 1;
+    for index in 0..x.word_count() {
+        let at = x.word(index);
+        put_gathered_up(pen, at & !mask.word(index), at);
     }
 }
 
@@ -74,14 +72,10 @@ fn take_up(eye: &mut BitEye, x: &Bits, into: &mut Bits) -> Result<(), BitFault>
     ensures reading { Gives (λ _. into.new) result eye.new
         (parse_filled (places_up x.now) (replicate (length x.now) false) (bits_left eye.old)) }
 {
-    into.clear();
-    let places = x.len();
-    let mut from = 0;
-    while let Some(place) = x.next_one_up(from) {
-        prove!(place < places);
-        let bit = eye.take_bit()?;
-        into.set(place, bit);
-        from = place + 1;
+    for index in 0..x.word_count() {
+        let at = x.word(index);
+        let number = eye.take_word(at.count_ones())?;
+        into.set_word(index, spread_up(number, at));
     }
     Ok(())
 }

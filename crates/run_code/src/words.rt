@@ -1,10 +1,11 @@
-//! The bits of one word at the ones of another, from the one of the least weight up.
+//! The bits of one word at the ones of another, from the one of the least weight up or from the other end.
+//! Each loop takes the lowest one of a word until none is left, so a word of zeros costs one comparison.
 
 ghost use Rattle.std.specs.Prelude.{◌≡◌, ℕ, ◌+◌, ◌^◌, ◌<◌, ◌≤◌, ◌++◌, length, take};
 ghost use Rattle.std.specs.Int.{bit_at};
 ghost use Rattle.std.specs.Int.RustNames.{count_ones};
 ghost use Rattle.bit_vectors.specs.Vectors.{number_bits};
-ghost use Rattle.run_code.specs.Extraction.{extract};
+ghost use Rattle.run_code.specs.Extraction.{extract, bits_up};
 
 use bit_vectors::BitPen;
 
@@ -44,6 +45,50 @@ pub fn spread(word: u64, at: u64, ahead: u64) -> u64
     while rest != 0 {
         made |= (next >> 63) << rest.trailing_zeros();
         next <<= 1;
+        rest &= rest - 1;
+    }
+    made
+}
+
+/// Appends the bits of `bits` at the ones of `at`, that of the greatest weight first.
+pub fn put_gathered_up(pen: &mut BitPen, bits: u64, at: u64)
+    requires { length pen.old.bits + count_ones at ≤ pen.old.room }
+    ensures bits { pen.new.bits ≡ pen.old.bits ++ bits_up (number_bits 64 bits) (number_bits 64 at) }
+    ensures room { pen.new.room ≡ pen.old.room }
+{
+    if at != 0 {
+        pen.put_word(gathered_up(bits, at), at.count_ones());
+    }
+}
+
+/// The bits of `bits` at the ones of `at`, as a number of so many bits, that of the greatest weight first.
+fn gathered_up(bits: u64, at: u64) -> u64
+    ensures bits { number_bits (count_ones at) result ≡ bits_up (number_bits 64 bits) (number_bits 64 at) }
+    ensures fits { result < 2 ^ count_ones at }
+{
+    let mut gathered = 0;
+    let mut taken: u32 = 0;
+    let mut rest = at;
+    while rest != 0 {
+        gathered += ((bits >> rest.trailing_zeros()) & 1) << taken;
+        taken += 1;
+        rest &= rest - 1;
+    }
+    gathered
+}
+
+/// The word that has the bits of `number` at the ones of `at`, its lowest bit at the one of the least
+/// weight, and zeros elsewhere.
+pub fn spread_up(number: u64, at: u64) -> u64
+    ensures bits { bits_up (number_bits 64 result) (number_bits 64 at) ≡ number_bits (count_ones at) number }
+    ensures others { (weight : ℕ) → bit_at at weight ≡ 0 → bit_at result weight ≡ 0 }
+{
+    let mut made = 0;
+    let mut next = number;
+    let mut rest = at;
+    while rest != 0 {
+        made |= (next % 2) << rest.trailing_zeros();
+        next /= 2;
         rest &= rest - 1;
     }
     made

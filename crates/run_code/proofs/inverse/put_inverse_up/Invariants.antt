@@ -1,17 +1,13 @@
-use Rattle.std.proofs.Common.{◌≡◌, ◌+◌, ◌-◌, ◌≤◌, ◌++◌, length, drop, map}
-use Rattle.std.specs.Prelude.{not}
-use Rattle.run_code.specs.Places.{ones_from}
-use Rattle.run_code.specs.Extraction.{bits_at, inverse_up}
+use Rattle.std.proofs.Common.{◌≡◌, ◌*◌, ◌++◌}
+use Rattle.std.specs.Prelude.{reverse}
+use Rattle.bit_vectors.specs.Vectors.{without_bits}
+use Rattle.run_code.specs.Extraction.{bits_at}
+use Rattle.run_code.proofs.Ones.{ones_below}
 use Rattle.run_code.proofs.inverse.put_inverse_up.Given as goal
 
--- the bits so far and those at the ones from here on are all bits
-abbrev pub invariant-loop-place : goal.invariant-loop-place
-invariant-loop-place l = record {
-  within : l.from ≤ length l.x;
+-- the bits at the ones of the words before are put
+abbrev pub invariant-loop-index : goal.invariant-loop-index
+invariant-loop-index l = record {
   room : l.pen.room ≡ l.initial.pen.room;
-  fits : length l.pen.bits + length (ones_from l.from (drop l.from l.x)) ≤ l.pen.room;
-  bits : l.pen.bits ++ map not (bits_at l.mask (ones_from l.from (drop l.from l.x))) ≡ l.initial.pen.bits ++ inverse_up l.mask l.x;
+  bits : l.pen.bits ≡ l.initial.pen.bits ++ reverse (bits_at (without_bits l.x l.mask) (ones_below (64 * l.index) l.x));
 }
-
-abbrev pub decreases-loop-place : goal.decreases-loop-place
-decreases-loop-place l = length l.x - l.from

@@ -1,33 +1,69 @@
-use Rattle.std.proofs.Common.{refl, ◌∙◌, arith}
-use Rattle.std.proofs.lemmas.List.{length-set}
+use Rattle.std.proofs.Common.{◌≡◌, ◌+◌, ◌*◌, ◌^◌, ◌<◌, ◌≤◌, ◌++◌, ℕ, Bool, List, false, length, refl, sym, ap, ◌∙◌, arith, replicate}
+use Rattle.std.specs.Prelude.{reverse}
+use Rattle.std.specs.Int.RustNames.{count_ones}
+use Rattle.std.proofs.lemmas.List.{length-append, length-reverse}
 use Rattle.std.proofs.lemmas.Result.{err_from_is_err_and}
 use Rattle.bit_vectors.specs.Eye.{bits_left}
-use Rattle.bit_vectors.proofs.EyeReading.{MovesOn-then}
-use Rattle.run_code.specs.Places.{ones_from}
-use Rattle.std.proofs.Common.{◌+◌, drop}
-use Rattle.run_code.proofs.Ones.{one_within, ones_from-one, ones_from-none}
-use Rattle.run_code.proofs.Filling.{parse_filled-more, parse_filled-fault, parse_filled-all}
+use Rattle.bit_vectors.specs.Words.{IsWord}
+use Rattle.bit_vectors.proofs.EyeReading.{MovesOn-refl, MovesOn-then}
+use Rattle.run_code.specs.Places.{places_up}
+use Rattle.run_code.specs.Extraction.{bits_at, bits_up, parse_filled}
+use Rattle.run_code.proofs.Ones.{ones_below, length-ones_from}
+use Rattle.run_code.proofs.Filling.{parse_filled-few}
+use Rattle.run_code.proofs.InverseBits.{length-bits_at, filling_exact, zeros_filling}
+use Rattle.run_code.proofs.Upward.{no_ones_below, ones_below-most, ones_step_up, upward_all, taken_step, zeros_step}
 use Rattle.run_code.proofs.inverse.take_up.Goals as goal
 
-pub loop-place-preserved : goal.loop-place-preserved
-loop-place-preserved c =
-    let i = c.loop-place.invariant in
-    let step = ones_from-one c.args.x.now c.loop-place.from c.in-Some.place c.in-Some.ensures.from c.in-Some.ensures.one c.in-Some.ensures.least in
+pub loop-index-init : goal.loop-index-init
+loop-index-init c = record {
+  moves = MovesOn-refl c.args.eye.now;
+  places = sym c.requires;
+  zeros = λ k lt. absurd (omega arith);
+  taken = rw (no_ones_below c.args.x.now) refl;
+}
+
+pub loop-index-preserved : goal.loop-index-preserved
+loop-index-preserved c =
+    let i = c.loop-index.invariant in
+    let at = c.word-at.result in
     record {
-      within = omega (arith, one_within c.args.x.now c.in-Some.place c.in-Some.ensures.one);
-      places = rw c.set.ensures (length-set c.loop-place.into c.in-Some.place c.in_ok-bit.bit ∙ i.places);
-      moves = MovesOn-then c.args.eye.now c.loop-place.eye c.take_bit.new.self i.moves c.in_ok-bit.ensures.moves;
-      same = i.same ∙ rw (step, c.set.ensures) (parse_filled-more c.in-Some.place (ones_from (c.in-Some.place + 1) (drop (c.in-Some.place + 1) c.args.x.now)) c.loop-place.into (bits_left c.loop-place.eye) (bits_left c.take_bit.new.self) c.in_ok-bit.bit c.in_ok-bit.ensures.reading);
+      moves = MovesOn-then c.args.eye.now c.loop-index.eye c.take_word.new.self i.moves c.in_ok-number.ensures.moves;
+      places = c.set_word.ensures.len ∙ i.places;
+      zeros = zeros_step c.loop-index.into c.set_word.new.self c.args.x.now c.loop-index.index c.spread_up.result at c.word-at.ensures c.set_word.ensures.word c.set_word.ensures.others c.spread_up.ensures.others i.zeros;
+      taken =
+          taken_step (bits_left c.args.eye.now) (bits_left c.loop-index.eye) (bits_left c.take_word.new.self) c.loop-index.into c.set_word.new.self c.args.x.now c.loop-index.index c.spread_up.result at c.in_ok-number.number c.word-at.ensures c.set_word.ensures.word c.set_word.ensures.others c.spread_up.ensures.bits c.in_ok-number.ensures.number i.taken;
     }
 
-pub returns-in_err-bit-clause-reading : goal.returns-in_err-bit-clause-reading
-returns-in_err-bit-clause-reading c =
+-- too few bits are left for a word's ones
+too_few : (old left into x : List Bool) (index at : ℕ) → at < 2 ^ 64 → IsWord x index at → old ≡ reverse (bits_at into (ones_below (64 * index) x)) ++ left → length left < count_ones at → length old < length (places_up x)
+too_few old left into x index at small is_x taken lt =
+    let before = bits_at into (ones_below (64 * index) x) in
+    omega (
+      arith,
+      ap (λ (bits : List Bool). length bits) taken,
+      length-append (reverse before) left,
+      length-reverse before,
+      length-bits_at into (ones_below (64 * index) x),
+      ones_step_up x index at small is_x,
+      ones_below-most x (64 * (index + 1)),
+      length-ones_from 0 x,
+    )
+
+pub returns-in_err-number-clause-reading : goal.returns-in_err-number-clause-reading
+returns-in_err-number-clause-reading c =
     let p = err_from_is_err_and c.from_residual.result c.from_residual.ensures.1 in
-    let step = ones_from-one c.args.x.now c.loop-place.from c.in-Some.place c.in-Some.ensures.from c.in-Some.ensures.one c.in-Some.ensures.least in
-    rw (p.1, p.2, c.loop-place.invariant.same, step)
-    (parse_filled-fault c.in-Some.place (ones_from (c.in-Some.place + 1) (drop (c.in-Some.place + 1) c.args.x.now)) c.loop-place.into c.loop-place.into c.loop-place.eye c.take_bit.new.self c.in_err-bit.field-0.0 c.in_err-bit.ensures.reading)
+    let i = c.loop-index.invariant in
+    let h = c.in_err-number.ensures in
+    let few = too_few (bits_left c.args.eye.now) (bits_left c.loop-index.eye) c.loop-index.into c.args.x.now c.loop-index.index c.word-at.result c.word-at.type_inv c.word-at.ensures i.taken (h.early.0 refl) in
+    let end = ap (λ (bits : List Bool). length bits) h.moves.bits in
+    rw (p.1, p.2, h.fault) (parse_filled-few (places_up c.args.x.now) (replicate (length c.args.x.now) false) (bits_left c.args.eye.now) few, sym end, h.at_end ∙ sym end)
 
 pub returns-clause-reading : goal.returns-clause-reading
 returns-clause-reading c =
-    let none = ones_from-none c.args.x.now c.loop-place.from c.loop-place.invariant.within (c.in_default.ensures.none.0 refl) in
-    c.loop-place.invariant.same ∙ rw none (parse_filled-all c.loop-place.into (bits_left c.loop-place.eye))
+    let i = c.loop-index.invariant in
+    let x = c.args.x.now in
+    let into = c.loop-index.into in
+    let end : length x ≤ 64 * c.loop-index.index = omega (arith, c.word_count-index-end.ensures.count) in
+    let taken : bits_left c.args.eye.now ≡ bits_up into x ++ bits_left c.loop-index.eye = i.taken ∙ ap (λ (bits : List Bool). bits ++ bits_left c.loop-index.eye) (upward_all into x c.loop-index.index end) in
+    ap (parse_filled (places_up x) (replicate (length x) false)) taken
+    ∙ (filling_exact x).reads into (bits_up into x) (bits_left c.loop-index.eye) (zeros_filling x into (64 * c.loop-index.index) i.places end i.zeros)

@@ -1,18 +1,16 @@
-use Rattle.std.proofs.Common.{◌≡◌, ◌-◌, ◌≤◌, length, drop, replicate, false}
+use Rattle.std.proofs.Common.{◌≡◌, ℕ, ◌*◌, ◌<◌, ◌++◌, false, length, get_or}
+use Rattle.std.specs.Prelude.{reverse}
 use Rattle.bit_vectors.specs.Eye.{bits_left}
 use Rattle.bit_vectors.specs.Reading.{MovesOn}
-use Rattle.run_code.specs.Places.{ones_from, places_up}
-use Rattle.run_code.specs.Extraction.{parse_filled}
+use Rattle.run_code.specs.Extraction.{bits_at}
+use Rattle.run_code.proofs.Ones.{ones_below}
 use Rattle.run_code.proofs.inverse.take_up.Given as goal
 
--- reading on at the ones from here on gives what reading from the start gives
-abbrev pub invariant-loop-place : goal.invariant-loop-place
-invariant-loop-place l = record {
-  within : l.from ≤ length l.x;
+-- the words before have the bits taken at the ones, and zeros elsewhere
+abbrev pub invariant-loop-index : goal.invariant-loop-index
+invariant-loop-index l = record {
+  moves : MovesOn l.initial.eye l.eye;
   places : length l.into ≡ length l.x;
-  moves : MovesOn l.fn.eye l.eye;
-  same : parse_filled (places_up l.x) (replicate (length l.x) false) (bits_left l.fn.eye) ≡ parse_filled (ones_from l.from (drop l.from l.x)) l.into (bits_left l.eye);
+  zeros : (k : ℕ) → k < 64 * l.index → get_or l.x k false ≡ false → get_or l.into k false ≡ false;
+  taken : bits_left l.initial.eye ≡ reverse (bits_at l.into (ones_below (64 * l.index) l.x)) ++ bits_left l.eye;
 }
-
-abbrev pub decreases-loop-place : goal.decreases-loop-place
-decreases-loop-place l = length l.x - l.from

@@ -1,0 +1,20 @@
+use Rattle.std.proofs.Common.{◌≡◌, ℕ, ◌^◌, ◌<◌}
+use Rattle.std.specs.Prelude.{reverse}
+use Rattle.std.specs.Int.{bit_at}
+use Rattle.std.specs.Int.RustNames.{count_ones}
+use Rattle.bit_vectors.specs.Vectors.{number_bits}
+use Rattle.run_code.proofs.Gathering.{word_extract}
+use Rattle.run_code.proofs.words.spread_up.Given as goal
+
+-- a word that is the one so far but at the ones that are left, and has the bits that are left there, has all bits
+abbrev pub invariant-loop-rest : goal.invariant-loop-rest
+invariant-loop-rest l = record {
+  small : l.rest < 2 ^ 64;
+  inside : (weight : ℕ) → bit_at l.at weight ≡ 0 → bit_at l.rest weight ≡ 0;
+  clear : (weight : ℕ) → bit_at l.rest weight ≡ 1 → bit_at l.made weight ≡ 0;
+  others : (weight : ℕ) → bit_at l.at weight ≡ 0 → bit_at l.made weight ≡ bit_at 0 weight;
+  right : (new : ℕ) → ((weight : ℕ) → bit_at l.rest weight ≡ 0 → bit_at new weight ≡ bit_at l.made weight) → reverse (word_extract new l.rest) ≡ number_bits (count_ones l.rest) l.next → reverse (word_extract new l.at) ≡ number_bits (count_ones l.at) l.number;
+}
+
+abbrev pub decreases-loop-rest : goal.decreases-loop-rest
+decreases-loop-rest l = l.rest
