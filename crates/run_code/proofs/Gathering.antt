@@ -60,7 +60,7 @@ module _ (n t : ℕ) (one : bit_at n t ≡ 1) (none : (i : ℕ) → i < t → bi
 
 -- ---- ones below a place
 
-ones_below-skip : (v : List Bool) (p n : ℕ) → p ≤ n → NoneIsOne v p n → ones_below n v ≡ ones_below p v
+pub ones_below-skip : (v : List Bool) (p n : ℕ) → p ≤ n → NoneIsOne v p n → ones_below n v ≡ ones_below p v
 unfolding ones_below
 ones_below-skip v p zero le none = let same : p ≡ 0 = omega arith in rw same refl
 ones_below-skip v p (suc n) le none =
@@ -108,9 +108,12 @@ word_extract-lowest bits n some below =
     let bit : get_or (number_bits 64 bits) (63 - trailing_zeros w64 n) false ≡ eqb (bit_at bits (trailing_zeros w64 n)) 1 = bit_is bits (63 - trailing_zeros w64 n) (omega arith) ∙ rw place refl in
     rw (places-lowest n some below, bit) refl
 
+pub no_places : places_down (number_bits 64 0) ≡ []
+no_places =
+    places_of_word 0 ∙ ones_below-none (number_bits 64 0) 64 (λ k from to. bit_is 0 k to ∙ rw (bit_at-zero (63 - k)) refl)
+
 pub word_extract-none : (bits : ℕ) → word_extract bits 0 ≡ []
-word_extract-none bits =
-    rw (places_of_word 0, ones_below-none (number_bits 64 0) 64 (λ k from to. bit_is 0 k to ∙ rw (bit_at-zero (63 - k)) refl)) refl
+word_extract-none bits = rw no_places refl
 
 -- ---- one bit more of the number
 

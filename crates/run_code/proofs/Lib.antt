@@ -9,3 +9,4 @@ pub mod ExtractedBits
 pub mod Gathering
 pub mod Spreading
 mod Upward
+mod OnesLeft

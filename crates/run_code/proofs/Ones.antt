@@ -40,7 +40,7 @@ reverse_push : (places : List ℕ) (bit : Bool) (n : ℕ) → reverse (places ++
 reverse_push places true n = reverse-append places (n ∷ [])
 reverse_push places false n = ap reverse (append-nil places)
 
-below_is : (n : ℕ) (v : List Bool) → n ≤ length v → reverse (ones_from 0 (take n v)) ≡ ones_below n v
+pub below_is : (n : ℕ) (v : List Bool) → n ≤ length v → reverse (ones_from 0 (take n v)) ≡ ones_below n v
 unfolding ones_from ones_below
 below_is zero v le = refl
 below_is (suc n) v le =

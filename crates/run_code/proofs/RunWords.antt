@@ -5,6 +5,7 @@ use Rattle.std.proofs.lemmas.List.{length-append}
 use Rattle.count_code.specs.Code.{count_bits, end_bits}
 use Rattle.count_code.proofs.Digits.{power_more, digits_of}
 use Rattle.count_code.proofs.CountWords.{count_bits-one, length-count_bits-short, length-count_bits-long}
+use Rattle.run_code.specs.Places.{places_down}
 use Rattle.run_code.specs.Runs.{runs_from, run_bits}
 use Rattle.run_code.proofs.Ones.{ones_below, places_down_is}
 
@@ -41,7 +42,7 @@ count_bits_most a some =
     ]
 
 -- each place is below the one before
-abbrev AreFalling : ℕ → List ℕ → Type 0
+abbrev pub AreFalling : ℕ → List ℕ → Type 0
 AreFalling place [] = Unit {0}
 AreFalling place (next ∷ places) = (next < place) × AreFalling next places
 
@@ -57,6 +58,9 @@ ones_below_fall : (n : ℕ) (v : List Bool) → AreFalling n (ones_below n v)
 unfolding ones_below
 ones_below_fall zero v = tt
 ones_below_fall (suc n) v = falling_case (get_or v n false) n (ones_below n v) (ones_below_fall n v)
+
+pub places_down_fall : (v : List Bool) → AreFalling (length v) (places_down v)
+places_down_fall v = rw (places_down_is v) (ones_below_fall (length v) v)
 
 runs_from_most : (place : ℕ) (places : List ℕ) → AreFalling place places → length (runs_from place places) ≤ 4 * place + 2
 unfolding runs_from

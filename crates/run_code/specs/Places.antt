@@ -1,5 +1,7 @@
 -- The places of a vector's ones.
-use Rattle.std.specs.Prelude.{ℕ, ◌+◌, Bool, List, [], ◌∷◌, reverse, if◌then◌else◌}
+use Rattle.std.specs.Prelude.{ℕ, ◌+◌, ◌*◌, ◌^◌, ◌<◌, ◌≤◌, Bool, List, [], ◌∷◌, ◌++◌, length, map, take, reverse, if◌then◌else◌}
+use Rattle.bit_vectors.specs.Vectors.{number_bits}
+use Rattle.run_code.specs.declared.descending.WordOnes.{WordOnes}
 
 -- the places of the ones of a list whose first bit has this place, the least first
 unfoldable pub ones_from : ℕ → List Bool → List ℕ
@@ -13,3 +15,13 @@ places_up v = ones_from 0 v
 -- the greatest first
 abbrev pub places_down : List Bool → List ℕ
 places_down v = reverse (places_up v)
+
+-- the ones that are left of a word, and those of the words before it, the greatest first
+unfoldable pub ones_left : List Bool → WordOnes → List ℕ
+ones_left v word = map (λ place. 64 * word.index + place) (places_down (number_bits 64 word.ones)) ++ places_down (take (64 * word.index) v)
+
+-- a word with its ones, of a vector
+pub record AreWithin (v : List Bool) (word : WordOnes) : Type 0 where
+  pub vector : length v ≤ 49152
+  pub index : 64 * word.index < length v
+  pub ones : word.ones < 2 ^ 64

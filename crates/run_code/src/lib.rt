@@ -1,6 +1,7 @@
 //! Codes of vectors: the words of runs, bits at places, and edges of masks.
 #![tactic(auto)]
 
+mod descending;
 mod edge;
 mod extraction;
 mod inverse;

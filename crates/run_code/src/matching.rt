@@ -5,6 +5,7 @@ ghost use Rattle.bit_vectors.specs.Eye.{bits_left};
 ghost use Rattle.bit_vectors.specs.Reading.{MovesOn, Gives, IsFirstFault, parse_word};
 ghost use Rattle.run_code.specs.Runs.{run_bits};
 
+use crate::descending::ones_down;
 use bit_vectors::{BitEye, BitFault, Bits};
 use count_code::match_count;
 
@@ -26,7 +27,7 @@ fn match_words(eye: &mut BitEye, v: &Bits) -> Result<(), BitFault>
     ensures reading { Gives (λ _. tt) result eye.new (parse_word (run_bits v.now) (bits_left eye.old)) }
 {
     let mut below = v.len();
-    while let Some(place) = v.next_one_down(below) {
+    for place in ones_down(v) {
         match_count(eye, below - place)?;
         below = place;
     }

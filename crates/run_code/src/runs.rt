@@ -5,6 +5,7 @@ ghost use Rattle.bit_vectors.specs.Eye.{bits_left};
 ghost use Rattle.bit_vectors.specs.Reading.{MovesOn, Gives, IsFirstFault};
 ghost use Rattle.run_code.specs.Runs.{run_bits, IsRunWord, parse_vector};
 
+use crate::descending::ones_down;
 use bit_vectors::{BitEye, BitFault, BitPen, Bits};
 use count_code::{Count, put_count, put_end, take_count};
 
@@ -18,7 +19,7 @@ pub fn put_runs(pen: &mut BitPen, v: &Bits)
     ensures room { pen.new.room ≡ pen.old.room }
 {
     let mut below = v.len();
-    while let Some(place) = v.next_one_down(below) {
+    for place in ones_down(v) {
         put_count(pen, below - place);
         below = place;
     }

@@ -2,16 +2,14 @@ use Rattle.std.proofs.Common.{◌≡◌, ◌≤◌, length}
 use Rattle.bit_vectors.specs.Eye.{bits_left}
 use Rattle.bit_vectors.specs.Reading.{MovesOn, parse_word}
 use Rattle.run_code.specs.Runs.{runs_from, run_bits}
-use Rattle.run_code.proofs.Ones.{ones_below}
+use Rattle.run_code.proofs.RunWords.{AreFalling}
 use Rattle.run_code.proofs.matching.match_words.Given as goal
 
--- matching the words of the ones below gives what matching from the start gives
+-- matching the words of the ones that are left gives what matching from the start gives
 abbrev pub invariant-loop-place : goal.invariant-loop-place
 invariant-loop-place l = record {
   within : l.below ≤ length l.v;
+  falling : AreFalling l.below l.place-iterator;
   moves : MovesOn l.fn.eye l.eye;
-  same : parse_word (run_bits l.v) (bits_left l.fn.eye) ≡ parse_word (runs_from l.below (ones_below l.below l.v)) (bits_left l.eye);
+  same : parse_word (run_bits l.v) (bits_left l.fn.eye) ≡ parse_word (runs_from l.below l.place-iterator) (bits_left l.eye);
 }
-
-abbrev pub decreases-loop-place : goal.decreases-loop-place
-decreases-loop-place l = l.below
