@@ -1,4 +1,5 @@
-//! Words worked by hand, each way, and the first wrong bit of others.
+//! Words worked by hand, each way, and the first wrong bit of others. A loop over places stands in `has_ones` alone,
+//! which looks at each place of a short vector.
 
 use crate::{
     edges, from_edges, match_runs, put_extract, put_inverse_up, put_runs, take_into,
@@ -8,7 +9,10 @@ use bit_vectors::{BitEye, BitFault, BitPen, Bits, NoMemory};
 use std::alloc::Global;
 use std::test::Fail;
 
-/// A vector of `f` places with ones at these.
+/// Ones at both ends of vectors and around the edges of words.
+const ONES: [u32; 7] = [0, 62, 63, 64, 65, 126, 127];
+
+/// A vector of `f` places with ones at those of these that are places.
 fn vector(alloc: Global, f: u32, ones: &[u32]) -> Result<Bits, NoMemory> {
     if f == 0 || f > 49152 {
         return Err(NoMemory);
@@ -36,7 +40,7 @@ fn eye(bytes: &[u8]) -> BitEye<'_> {
 
 #[test]
 fn run_words(rt: HostRuntime) -> Result<(), Fail> {
-    let rows: [(u32, &[u32], &[u8]); 9] = [
+    let rows: [(u32, &[u32], &[u8]); 14] = [
         (8, &[], &[0x80]),
         (8, &[7], &[0x40]),
         (8, &[0], &[0xc6, 0x80]),
@@ -46,6 +50,11 @@ fn run_words(rt: HostRuntime) -> Result<(), Fail> {
         (13, &[12, 6], &[0x62, 0x40]),
         (64, &[0], &[0xff, 0x40]),
         (65, &[0], &[0xff, 0xc0]),
+        (63, &ONES, &[0x7f, 0x20]),
+        (64, &ONES, &[0x3f, 0x90]),
+        (65, &ONES, &[0x1f, 0xc8]),
+        (127, &ONES, &[0x7e, 0xc7, 0xf2]),
+        (128, &ONES, &[0x3f, 0x63, 0xf9, 0x00]),
     ];
     for (f, ones, word) in rows {
         let v = vector(rt.alloc(), f, ones)?;
@@ -139,14 +148,57 @@ fn inverted_bits_both_ways(rt: HostRuntime) -> Result<(), Fail> {
     Ok(())
 }
 
+/// The bits of a vector at the ones, from the highest place down, and those of it as a mask, inverted, from the
+/// lowest up, each in one byte.
+#[test]
+fn bits_across_words(rt: HostRuntime) -> Result<(), Fail> {
+    let rows: [(u32, u8, u8); 6] = [
+        (1, 0x00, 0x80),
+        (63, 0x80, 0x80),
+        (64, 0x40, 0xa0),
+        (65, 0x20, 0xb0),
+        (127, 0x48, 0xb4),
+        (128, 0xa4, 0xb4),
+    ];
+    for (f, down, up) in rows {
+        let a = vector(rt.alloc(), f, &[62, 65, 127])?;
+        let b = vector(rt.alloc(), f, &ONES)?;
+        let mut into = vector(rt.alloc(), f, &[])?;
+        assert!(rt; a.len() == b.len() && into.len() == b.len());
+        assert!(rt; b.ones() <= 7 && !b.is_zero());
+        let mut pen = BitPen::with_room(rt.alloc(), 7)?;
+        put_extract(&mut pen, &a, &b);
+        assert_eq!(rt; pen.bytes(), [down].as_slice());
+        assert_eq!(rt; take_into(&mut eye(&[down]), &mut into, &b), Ok(()));
+        assert!(rt; into.same(&a));
+        let mut pen = BitPen::with_room(rt.alloc(), 7)?;
+        put_inverse_up(&mut pen, &a, &b);
+        assert_eq!(rt; pen.bytes(), [up].as_slice());
+        assert_eq!(rt; take_inverse_up(&mut eye(&[up]), &b, &mut into), Ok(()));
+        assert!(rt; has_ones(&into, &[0, 63, 64, 126]));
+    }
+    Ok(())
+}
+
 #[test]
 fn edges_both_ways(rt: HostRuntime) -> Result<(), Fail> {
-    let mask = vector(rt.alloc(), 8, &[4, 5, 6, 7])?;
-    let mut into = Bits::zeros(rt.alloc(), mask.len())?;
-    edges(&mask, &mut into);
-    assert!(rt; has_ones(&into, &[3, 7]));
-    let mut again = Bits::zeros(rt.alloc(), mask.len())?;
-    from_edges(&into, &mut again);
-    assert!(rt; again.same(&mask));
+    let rows: [(u32, &[u32], &[u32]); 7] = [
+        (8, &[4, 5, 6, 7], &[3, 7]),
+        (1, &ONES, &[0]),
+        (63, &ONES, &[0, 61, 62]),
+        (64, &ONES, &[0, 61, 63]),
+        (65, &ONES, &[0, 61, 64]),
+        (127, &ONES, &[0, 61, 65, 125, 126]),
+        (128, &ONES, &[0, 61, 65, 125, 127]),
+    ];
+    for (f, ones, expected) in rows {
+        let mask = vector(rt.alloc(), f, ones)?;
+        let mut into = Bits::zeros(rt.alloc(), mask.len())?;
+        edges(&mask, &mut into);
+        assert!(rt; has_ones(&into, expected));
+        let mut again = Bits::zeros(rt.alloc(), mask.len())?;
+        from_edges(&into, &mut again);
+        assert!(rt; again.same(&mask));
+    }
     Ok(())
 }
