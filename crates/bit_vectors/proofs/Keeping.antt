@@ -32,6 +32,10 @@ holds words places v are view_is = record {
 pub holds_read : (kept words : List ℕ) (places : ℕ) (v : List Bool) → words ≡ kept → AreWords kept places → vector_of kept places ≡ v → Holds words places v
 holds_read kept words places v same are view_is = subst (λ (ws : List ℕ). Holds ws places v) (sym same) (holds kept places v are view_is)
 
+-- vectors of as many places are kept in as many words
+pub same_count : (words others : List ℕ) (places count : ℕ) (v w : List Bool) → Holds words places v → Holds others count w → length v ≡ length w → length words ≡ length others
+same_count words others places count v w h g len = omega (arith, h.len, h.are.count, g.len, g.are.count)
+
 -- ---- a new vector
 
 -- the words that now keep another vector, of as many places

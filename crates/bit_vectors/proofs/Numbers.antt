@@ -10,14 +10,18 @@ use Rattle.bit_vectors.proofs.NumberBits.{number_bits_low}
 
 -- ---- one bit
 
+-- what holds of each two bits
+pub by_digits : (P : ℕ → ℕ → Type 0) → P 0 0 → P 0 1 → P 1 0 → P 1 1 → (x y : ℕ) → x < 2 → y < 2 → P x y
+by_digits P neither second first both zero zero x_lt y_lt = neither
+by_digits P neither second first both zero (suc zero) x_lt y_lt = second
+by_digits P neither second first both (suc zero) zero x_lt y_lt = first
+by_digits P neither second first both (suc zero) (suc zero) x_lt y_lt = both
+by_digits P neither second first both (suc (suc x)) y x_lt y_lt = absurd (omega arith)
+by_digits P neither second first both zero (suc (suc y)) x_lt y_lt = absurd (omega arith)
+by_digits P neither second first both (suc zero) (suc (suc y)) x_lt y_lt = absurd (omega arith)
+
 same_digit : (a b : ℕ) → a < 2 → b < 2 → eqb a 1 ≡ eqb b 1 → a ≡ b
-same_digit zero zero a_lt b_lt same = refl
-same_digit zero (suc zero) a_lt b_lt same = absurd cc
-same_digit (suc zero) zero a_lt b_lt same = absurd cc
-same_digit (suc zero) (suc zero) a_lt b_lt same = refl
-same_digit (suc (suc a)) b a_lt b_lt same = absurd (omega arith)
-same_digit zero (suc (suc b)) a_lt b_lt same = absurd (omega arith)
-same_digit (suc zero) (suc (suc b)) a_lt b_lt same = absurd (omega arith)
+same_digit = by_digits (λ a b. eqb a 1 ≡ eqb b 1 → a ≡ b) (λ same. refl) (λ same. absurd cc) (λ same. absurd cc) (λ same. refl)
 
 pub bit_at_mod : (n k i : ℕ) → i < k → bit_at (n % 2 ^ k) i ≡ bit_at n i
 bit_at_mod n k i lt =

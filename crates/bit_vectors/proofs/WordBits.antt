@@ -10,7 +10,7 @@ use Rattle.std.proofs.lemmas.Nat.Bits.{bit_at-zero, bit_at-lt, bit_at_above, bit
 use Rattle.bit_vectors.specs.Vectors.{number_bits}
 use Rattle.bit_vectors.specs.Words.{word_bits, bit_of, vector_of, AreWords, NoBitIsOne}
 use Rattle.bit_vectors.proofs.NumberBits.{length-number_bits, get_or-number_bits}
-use Rattle.bit_vectors.proofs.Numbers.{bit_at_mod, bit_at_shr, bit_at_shl, bit_at_shl_low, leading_is_one}
+use Rattle.bit_vectors.proofs.Numbers.{by_digits, bit_at_mod, bit_at_shr, bit_at_shl, bit_at_shl_low, leading_is_one}
 
 pub length-word_bits : (words : List ℕ) → length (word_bits words) ≡ 64 * length words
 length-word_bits [] = refl
@@ -131,31 +131,13 @@ zipped_numbers op f old others new b z i =
 
 -- the operations on two bits
 pub xor_digits : (x y : ℕ) → x < 2 → y < 2 → eqb ((x + y) % 2) 1 ≡ cond (eqb x 1) (not (eqb y 1)) (eqb y 1)
-xor_digits zero zero x_lt y_lt = refl
-xor_digits zero (suc zero) x_lt y_lt = refl
-xor_digits (suc zero) zero x_lt y_lt = refl
-xor_digits (suc zero) (suc zero) x_lt y_lt = refl
-xor_digits (suc (suc x)) y x_lt y_lt = absurd (omega arith)
-xor_digits zero (suc (suc y)) x_lt y_lt = absurd (omega arith)
-xor_digits (suc zero) (suc (suc y)) x_lt y_lt = absurd (omega arith)
+xor_digits = by_digits (λ x y. eqb ((x + y) % 2) 1 ≡ cond (eqb x 1) (not (eqb y 1)) (eqb y 1)) refl refl refl refl
 
 or_digits : (x y : ℕ) → x < 2 → y < 2 → eqb (max x y) 1 ≡ (eqb x 1 || eqb y 1)
-or_digits zero zero x_lt y_lt = refl
-or_digits zero (suc zero) x_lt y_lt = refl
-or_digits (suc zero) zero x_lt y_lt = refl
-or_digits (suc zero) (suc zero) x_lt y_lt = refl
-or_digits (suc (suc x)) y x_lt y_lt = absurd (omega arith)
-or_digits zero (suc (suc y)) x_lt y_lt = absurd (omega arith)
-or_digits (suc zero) (suc (suc y)) x_lt y_lt = absurd (omega arith)
+or_digits = by_digits (λ x y. eqb (max x y) 1 ≡ (eqb x 1 || eqb y 1)) refl refl refl refl
 
 drop_digits : (x y : ℕ) → x < 2 → y < 2 → eqb (min x (1 - y)) 1 ≡ (eqb x 1 && not (eqb y 1))
-drop_digits zero zero x_lt y_lt = refl
-drop_digits zero (suc zero) x_lt y_lt = refl
-drop_digits (suc zero) zero x_lt y_lt = refl
-drop_digits (suc zero) (suc zero) x_lt y_lt = refl
-drop_digits (suc (suc x)) y x_lt y_lt = absurd (omega arith)
-drop_digits zero (suc (suc y)) x_lt y_lt = absurd (omega arith)
-drop_digits (suc zero) (suc (suc y)) x_lt y_lt = absurd (omega arith)
+drop_digits = by_digits (λ x y. eqb (min x (1 - y)) 1 ≡ (eqb x 1 && not (eqb y 1))) refl refl refl refl
 
 pub Bitwise-xor : Bitwise bit_xor (λ a b. cond a (not b) b)
 Bitwise-xor = record {

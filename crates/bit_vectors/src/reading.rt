@@ -1,4 +1,5 @@
-//! Values read by an eye: bits, numbers and vectors, or the first fault.
+//! Values read by an eye: bits, numbers and vectors, or the first fault. The bits of a known number are looked at
+//! one by one only where they don't come next, to name the first that differs.
 
 ghost use Rattle.std.specs.Prelude.{◌≡◌, ℕ, ◌+◌, ◌-◌, ◌/◌, ◌^◌, ◌<◌, ◌≤◌, ◌↔◌, ◌++◌, Bool, List, length, take, drop, IsOk, IfOk, IsErr, IfErr, OnOk, OnErr, IsTrue};
 ghost use Rattle.std.specs.Bool.{OnTrue};

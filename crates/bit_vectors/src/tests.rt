@@ -1,4 +1,5 @@
-//! Each call that takes memory, with ample memory, and the texts of the faults.
+//! Each call that takes memory, with ample memory, and the texts of the faults. Zeros are put one by one before the
+//! numbers across words, so that `put` is tried at each place too.
 
 ghost use Rattle.std.specs.Prelude.{◌<◌, ◌≤◌};
 

@@ -1,6 +1,7 @@
-use Rattle.std.proofs.Common.{length, ◌&&◌, not, ap, sym, refl, ◌∙◌, arith}
+use Rattle.std.proofs.Common.{length, ◌&&◌, not, ap, refl, ◌∙◌}
+use Rattle.std.proofs.lemmas.Simd.{length-zip2}
 use Rattle.bit_vectors.specs.Vectors.{without_bits}
-use Rattle.bit_vectors.proofs.Keeping.{holds, holds_read, Becomes, Becomes-zip, words_become, vector_becomes}
+use Rattle.bit_vectors.proofs.Keeping.{holds, holds_read, same_count, Becomes, Becomes-zip, words_become, vector_becomes}
 use Rattle.bit_vectors.proofs.bits.Bits.drop_in.Goals as goal
 use Rattle.bit_vectors.proofs.bits.Bits.drop_in.Goals.{After-drop_words}
 
@@ -11,9 +12,9 @@ becomes c =
 
 pub drop_words-requires : goal.drop_words-requires
 drop_words-requires c =
-    let h = holds _ _ _ c.self.invariant.0 c.self.view_is in
-    let g = holds _ _ _ c.other.invariant.0 c.other.view_is in
-    omega (arith, h.len, h.are.count, g.len, g.are.count, c.requires, ap length c.deref_mut.ensures.value, ap length c.deref.ensures.value)
+    let h = holds_read _ _ _ _ c.deref_mut.ensures.value c.self.invariant.0 c.self.view_is in
+    let g = holds_read _ _ _ _ c.deref.ensures.value c.other.invariant.0 c.other.view_is in
+    same_count _ _ _ _ _ _ h g c.requires
 
 pub invariant_of-self : goal.invariant_of-self
 invariant_of-self c =
@@ -28,5 +29,4 @@ returns-clause-bits c =
 pub returns-clause-len : goal.returns-clause-len
 returns-clause-len c =
     let d = (goal.at.returns-clause-len c).After-drop_words in
-    let h = holds _ _ _ c.self.invariant.0 c.self.view_is in
-    ap length (vector_becomes _ _ _ _ _ c.self.invariant.0 c.self.inside.words.ok.0 (becomes d)) ∙ (becomes d).len ∙ sym h.len
+    ap length (vector_becomes _ _ _ _ _ c.self.invariant.0 c.self.inside.words.ok.0 (becomes d)) ∙ length-zip2 _ _ _ c.requires

@@ -1,6 +1,7 @@
-use Rattle.std.proofs.Common.{length, if◌then◌else◌, not, ap, sym, refl, ◌∙◌, arith}
+use Rattle.std.proofs.Common.{length, if◌then◌else◌, not, ap, refl, ◌∙◌}
+use Rattle.std.proofs.lemmas.Simd.{length-zip2}
 use Rattle.bit_vectors.specs.Vectors.{xor_bits}
-use Rattle.bit_vectors.proofs.Keeping.{holds, holds_read, Becomes, Becomes-zip, words_become, vector_becomes}
+use Rattle.bit_vectors.proofs.Keeping.{holds, holds_read, same_count, Becomes, Becomes-zip, words_become, vector_becomes}
 use Rattle.bit_vectors.proofs.bits.Bits.xor_in.Goals as goal
 use Rattle.bit_vectors.proofs.bits.Bits.xor_in.Goals.{After-xor_words}
 
@@ -11,9 +12,9 @@ becomes c =
 
 pub xor_words-requires : goal.xor_words-requires
 xor_words-requires c =
-    let h = holds _ _ _ c.self.invariant.0 c.self.view_is in
-    let g = holds _ _ _ c.other.invariant.0 c.other.view_is in
-    omega (arith, h.len, h.are.count, g.len, g.are.count, c.requires, ap length c.deref_mut.ensures.value, ap length c.deref.ensures.value)
+    let h = holds_read _ _ _ _ c.deref_mut.ensures.value c.self.invariant.0 c.self.view_is in
+    let g = holds_read _ _ _ _ c.deref.ensures.value c.other.invariant.0 c.other.view_is in
+    same_count _ _ _ _ _ _ h g c.requires
 
 pub invariant_of-self : goal.invariant_of-self
 invariant_of-self c =
@@ -28,5 +29,4 @@ returns-clause-bits c =
 pub returns-clause-len : goal.returns-clause-len
 returns-clause-len c =
     let d = (goal.at.returns-clause-len c).After-xor_words in
-    let h = holds _ _ _ c.self.invariant.0 c.self.view_is in
-    ap length (vector_becomes _ _ _ _ _ c.self.invariant.0 c.self.inside.words.ok.0 (becomes d)) ∙ (becomes d).len ∙ sym h.len
+    ap length (vector_becomes _ _ _ _ _ c.self.invariant.0 c.self.inside.words.ok.0 (becomes d)) ∙ length-zip2 _ _ _ c.requires
