@@ -1,5 +1,5 @@
-//! The bits of one word at the ones of another, from the one of the least weight up or from the other end.
-//! Each loop takes the lowest one of a word until none is left, so a word of zeros costs one comparison.
+//! The bits of one word at the ones of another, in either order. Each loop goes from one to one, by the lowest
+//! one that is left of a word, so a word of zeros costs one comparison.
 
 ghost use Rattle.std.specs.Prelude.{◌≡◌, ℕ, ◌+◌, ◌^◌, ◌<◌, ◌≤◌, ◌++◌, length, take};
 ghost use Rattle.std.specs.Int.{bit_at};
@@ -12,7 +12,8 @@ use bit_vectors::BitPen;
 /// Appends the bits of `bits` at the ones of `at`, that of the least weight first.
 pub fn put_gathered(pen: &mut BitPen, bits: u64, at: u64)
     requires { length pen.old.bits + count_ones at ≤ pen.old.room }
-    ensures bits { pen.new.bits ≡ pen.old.bits ++ extract (number_bits 64 bits) (number_bits 64 at) }
+    ensures bits { pen.new.bits
+        ≡ pen.old.bits ++ extract (number_bits 64 bits) (number_bits 64 at) }
     ensures room { pen.new.room ≡ pen.old.room }
 {
     if at != 0 {
@@ -22,7 +23,8 @@ pub fn put_gathered(pen: &mut BitPen, bits: u64, at: u64)
 
 /// The bits of `bits` at the ones of `at`, as a number of so many bits, that of the least weight first.
 fn gathered(bits: u64, at: u64) -> u64
-    ensures bits { number_bits (count_ones at) result ≡ extract (number_bits 64 bits) (number_bits 64 at) }
+    ensures bits { number_bits (count_ones at) result
+        ≡ extract (number_bits 64 bits) (number_bits 64 at) }
     ensures fits { result < 2 ^ count_ones at }
 {
     let mut gathered = 0;
@@ -36,8 +38,10 @@ fn gathered(bits: u64, at: u64) -> u64
 
 /// `word` with the first bits of `ahead` at the ones of `at`, the first at the one of the least weight.
 pub fn spread(word: u64, at: u64, ahead: u64) -> u64
-    ensures bits { extract (number_bits 64 result) (number_bits 64 at) ≡ take (count_ones at) (number_bits 64 ahead) }
-    ensures others { (weight : ℕ) → bit_at at weight ≡ 0 → bit_at result weight ≡ bit_at word weight }
+    ensures bits { extract (number_bits 64 result) (number_bits 64 at)
+        ≡ take (count_ones at) (number_bits 64 ahead) }
+    ensures others { (weight : ℕ) → bit_at at weight ≡ 0
+        → bit_at result weight ≡ bit_at word weight }
 {
     let mut made = word & !at;
     let mut next = ahead;
@@ -53,7 +57,8 @@ pub fn spread(word: u64, at: u64, ahead: u64) -> u64
 /// Appends the bits of `bits` at the ones of `at`, that of the greatest weight first.
 pub fn put_gathered_up(pen: &mut BitPen, bits: u64, at: u64)
     requires { length pen.old.bits + count_ones at ≤ pen.old.room }
-    ensures bits { pen.new.bits ≡ pen.old.bits ++ bits_up (number_bits 64 bits) (number_bits 64 at) }
+    ensures bits { pen.new.bits
+        ≡ pen.old.bits ++ bits_up (number_bits 64 bits) (number_bits 64 at) }
     ensures room { pen.new.room ≡ pen.old.room }
 {
     if at != 0 {
@@ -63,7 +68,8 @@ pub fn put_gathered_up(pen: &mut BitPen, bits: u64, at: u64)
 
 /// The bits of `bits` at the ones of `at`, as a number of so many bits, that of the greatest weight first.
 fn gathered_up(bits: u64, at: u64) -> u64
-    ensures bits { number_bits (count_ones at) result ≡ bits_up (number_bits 64 bits) (number_bits 64 at) }
+    ensures bits { number_bits (count_ones at) result
+        ≡ bits_up (number_bits 64 bits) (number_bits 64 at) }
     ensures fits { result < 2 ^ count_ones at }
 {
     let mut gathered = 0;
@@ -80,7 +86,8 @@ fn gathered_up(bits: u64, at: u64) -> u64
 /// The word that has the bits of `number` at the ones of `at`, its lowest bit at the one of the least
 /// weight, and zeros elsewhere.
 pub fn spread_up(number: u64, at: u64) -> u64
-    ensures bits { bits_up (number_bits 64 result) (number_bits 64 at) ≡ number_bits (count_ones at) number }
+    ensures bits { bits_up (number_bits 64 result) (number_bits 64 at)
+        ≡ number_bits (count_ones at) number }
     ensures others { (weight : ℕ) → bit_at at weight ≡ 0 → bit_at result weight ≡ 0 }
 {
     let mut made = 0;
