@@ -1,7 +1,7 @@
 -- What playing a store owes: the played store and the play report.
 use Rattle.std.specs.Prelude.{◌≡◌, ℕ, ◌+◌, ◌≤◌, Bool, IsTrue, List, Some, unwrap_or}
-use Rattle.desk_ports.specs.declared.stop.Stop.{Stop}
-use Rattle.desk_ports.specs.declared.stop.Stop.TheVariants as stop
+use Rattle.desk_ports.specs.Stop.{Stop}
+use Rattle.desk_ports.specs.Stop as stop
 use Rattle.desk_ports.specs.Courses.{Course, to_output, to_report}
 use Rattle.desk_ports.specs.Turns.{Work}
 use Rattle.side_tables.specs.declared.rows.CopyRow.{CopyRow}
