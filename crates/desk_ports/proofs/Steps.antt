@@ -101,6 +101,9 @@ Finishes-behind work here a b c answer p q = record { ends = Ends-behind work he
 pub AreReady-ran : (writes : Outlet → Bool) (a b : Meanings) (xs us rs : List ℕ) → Ran a b xs us rs → AreReady writes a → AreReady writes b
 AreReady-ran writes a b xs us rs ran ready = record { input = Ran-ready_in a b xs us rs ran ready.input; outputs = λ outlet is. Ran-ready_out a b outlet xs us rs ran (ready.outputs outlet is) }
 
+pub AreReady-moved : {writes : Outlet → Bool} {a b : Meanings} {taken : List ℕ} → Moves a b inlet.Main taken → AreReady writes a → AreReady writes b
+AreReady-moved {writes = writes} {a = a} {b = b} {taken = taken} moves ready = AreReady-ran writes a b taken [] [] (Ran-moves a b taken moves) ready
+
 -- ---- what is written
 
 pub WroteFront-output : (a b : Meanings) (bytes : List ℕ) → AddsFront a b outlet.Main bytes → WroteFront a b (to_output bytes)

@@ -9,7 +9,9 @@ use Rattle.side_tables.specs.Rows.{copies_of}
 use Rattle.packet_store.specs.declared.fault.WalkFault.{WalkFault}
 use Rattle.packet_store.specs.Walks.{walk, packets_bytes}
 use Rattle.packet_store.specs.Faults.{stop_of}
-use Rattle.packet_store.specs.StoreReader.{opened, walk_on}
+use Rattle.packet_store.specs.SpacePackets.{Packet}
+use Rattle.packet_store.specs.StoreReader.{opened}
+use Rattle.packet_store.specs.StoreWorks.{StoreWork, work_on}
 use Rattle.loss_player.specs.declared.played.Played.{Played}
 use Rattle.loss_player.specs.declared.playing.Playing.{Playing}
 use Rattle.loss_player.specs.declared.fault.PlayFault.{PlayFault}
@@ -50,21 +52,21 @@ player_state s = record { apid = unwrap_or s.reader.chosen 0; rows = s.script }
 abbrev pub next_copies : Playing → Bool → List ℕ → List ℕ
 next_copies s own packet = repeated (times_of own (copies_of s.script) s.tally.played.packets) packet
 
--- the numbers of all packets
-abbrev pub all_numbers : Playing → List ℕ → Played
-all_numbers s bytes = played_of (copies_of s.script) (s.tally.played.packets + chosen_count s.reader.chosen (walk_on s.reader bytes).packets)
+-- the numbers of all packets, with these that are read next
+abbrev pub all_numbers : Playing → List Packet → Played
+all_numbers s packets = played_of (copies_of s.script) (s.tally.played.packets + chosen_count s.reader.chosen packets)
 
--- what is owed for what is left of the store
-abbrev pub rest_course : Playing → List ℕ → Course WalkFault
-rest_course s bytes = record {
-  before = to_output (packets_bytes (played_from s.reader.chosen (copies_of s.script) s.tally.played.packets (walk_on s.reader bytes).packets));
-  after = to_report (play_report (all_numbers s bytes));
-  ending = (walk_on s.reader bytes).ending;
+-- what is owed for packets that are read next
+abbrev pub left_to_play : Playing → StoreWork Played
+left_to_play s = record {
+  before = λ packets. to_output (packets_bytes (played_from s.reader.chosen (copies_of s.script) s.tally.played.packets packets));
+  answer = all_numbers s;
+  report = play_report;
 }
 
 -- the work of playing what is left of the store
 abbrev pub rest_work : Playing → Work Played WalkFault
-rest_work s = record { course = rest_course s; answer = all_numbers s }
+rest_work s = work_on (left_to_play s) s.reader
 
 -- This work is owed: that of the rest of the store. The numbers so far are those of the packets so far.
 pub record Owes (s : Playing) (work : Work Played WalkFault) : Type 0 where
