@@ -17,18 +17,11 @@ use Rattle.loss_player.specs.declared.played.Played.{Played}
 use Rattle.loss_player.specs.declared.played.Tally.{Tally}
 use Rattle.loss_player.specs.declared.playing.Playing.{Playing}
 use Rattle.loss_player.specs.Played.{times_of, number_behind, played_from, repeated, played_of, chosen_count, store_numbers}
-use Rattle.loss_player.specs.Tallies.{IsTally, tally_of}
 use Rattle.loss_player.specs.Report.{play_report}
-use Rattle.loss_player.specs.Playing.{play_course, nothing_read, player_state, next_copies, all_numbers, left_to_play, rest_work, Owes, IsPlayer}
+use Rattle.loss_player.specs.Playing.{play_course, nothing_read, player_state, next_copies, all_numbers, left_to_play, rest_work, IsCounted, Counts, Owes, IsPlayer}
 use Rattle.loss_player.proofs.Copies.{packets_bytes-replicate}
 
 -- ---- one packet
-
--- a packet was counted: behind it the numbers go on
-pub record Counts (s t : Playing) (reader : ReaderState) (own : Bool) : Type 0 where
-  pub reader_is : t.reader ≡ reader
-  pub script : t.script ≡ s.script
-  pub packets : t.tally.played.packets ≡ number_behind own s.tally.played.packets
 
 number_with : (own : Bool) (t more : ℕ) → t + ((if own then 1 else 0) + more) ≡ number_behind own t + more
 number_with true t more = omega arith
@@ -47,14 +40,14 @@ times_at s own = times_of own (copies_of s.script) s.tally.played.packets
 abbrev rest_packets : Playing → List Packet → List Packet
 rest_packets s packets = played_from s.reader.chosen (copies_of s.script) s.tally.played.packets packets
 
-module _ (s t : Playing) (reader : ReaderState) (a b : Meanings) (given : Taken) (takes : Takes s.reader reader a b given) (is : Counts s t reader given.chosen) (packets : List Packet) where
+module _ (s t : Playing) (reader : ReaderState) (a b : Meanings) (given : Taken) (takes : Takes s.reader reader a b given) (is : Counts (record s { reader = reader }) t given.chosen) (packets : List Packet) where
   same_chosen : s.reader.chosen ≡ t.reader.chosen
   same_chosen = sym (ap (λ (r : ReaderState). r.chosen) is.reader_is ∙ ap (λ (r : ReaderState). r.chosen) takes.others)
 
   taken_packets : rest_packets s (packet_of takes.header reader ∷ packets) ≡ replicate (times_at s given.chosen) (packet_of takes.header reader) ++ rest_packets t packets
   taken_packets =
       ap (λ (own : Bool). replicate (times_at s own) (packet_of takes.header reader) ++ played_from s.reader.chosen (copies_of s.script) (number_behind own s.tally.played.packets) packets) (sym takes.is_chosen)
-      ∙ (let chosen = same_chosen in let rows = sym is.script in let number = sym is.packets in
+      ∙ (let chosen = same_chosen in let rows = sym is.script_is in let number = sym is.packets in
       λ i. replicate (times_at s given.chosen) (packet_of takes.header reader) ++ played_from (chosen i) (copies_of (rows i)) (number i) packets)
 
   pub taken_bytes : packets_bytes (rest_packets s (packet_of takes.header reader ∷ packets)) ≡ next_copies s given.chosen reader.packet ++ packets_bytes (rest_packets t packets)
@@ -71,10 +64,10 @@ module _ (s t : Playing) (reader : ReaderState) (a b : Meanings) (given : Taken)
       ∙ (let chosen = same_chosen in let number = sym is.packets in λ i. number i + chosen_count (chosen i) packets)))
 
   pub taken_numbers : all_numbers s (packet_of takes.header reader ∷ packets) ≡ all_numbers t packets
-  taken_numbers = let rows = sym is.script in let count = taken_count in λ i. played_of (copies_of (rows i)) (count i)
+  taken_numbers = let rows = sym is.script_is in let count = taken_count in λ i. played_of (copies_of (rows i)) (count i)
 
 -- a packet that is played: its copies are owed, and behind them what the packets behind it owe
-pub Reads-played : (s t : Playing) (reader : ReaderState) (a b : Meanings) (given : Taken) → Takes s.reader reader a b given → Counts s t reader given.chosen
+pub Reads-played : (s t : Playing) (reader : ReaderState) (a b : Meanings) (given : Taken) → Takes s.reader reader a b given → Counts (record s { reader = reader }) t given.chosen
     → ReadsPacket (left_to_play s) (left_to_play t) s.reader t.reader a b (to_output (next_copies s given.chosen reader.packet))
 Reads-played s t reader a b given takes is = subst (λ (r : ReaderState). ReadsPacket (left_to_play s) (left_to_play t) s.reader r a b (to_output (next_copies s given.chosen reader.packet))) (sym is.reader_is) (record {
   given = given;
@@ -91,23 +84,21 @@ number_behind-most true t = omega arith
 number_behind-most false t = omega arith
 
 -- behind it the rest of the store is to play
-pub Owes-played : (s t : Playing) (reader : ReaderState) (a b : Meanings) (given : Taken) (work : Work Played WalkFault) → Owes s work → Takes s.reader reader a b given → Counts s t reader given.chosen
-    → t.tally ≡ tally_of (copies_of t.script) t.tally.played.packets → IsTally t.tally → Owes t (rest_work t)
-Owes-played s t reader a b given work owes takes is counted right =
+pub Owes-played : (s t : Playing) (reader : ReaderState) (a b : Meanings) (given : Taken) (work : Work Played WalkFault) → Owes s work → Takes s.reader reader a b given → Counts (record s { reader = reader }) t given.chosen → IsCounted t → Owes t (rest_work t)
+Owes-played s t reader a b given work owes takes is counted =
     let reader_is = is.reader_is ∙ takes.others in
     record {
       work_is = refl;
       live = ap (λ (r : ReaderState). r.live) reader_is ∙ owes.live;
       packets = omega (arith, number_behind-most given.chosen s.tally.played.packets, is.packets, owes.packets, ap (λ (r : ReaderState). r.taken) reader_is);
       counted = counted;
-      right = right;
     }
 
 -- where nothing is left the numbers are those so far
 pub IsDone-played : (s : Playing) (work : Work Played WalkFault) → Owes s work → IsDone (left_to_play s) s.tally.played
 IsDone-played s work owes =
     let count : s.tally.played.packets + 0 ≡ s.tally.played.packets = omega arith in
-    record { nothing = refl; answer_is = ap (played_of (copies_of s.script)) count ∙ sym (ap (λ (t : Tally). t.played) owes.counted) }
+    record { nothing = refl; answer_is = ap (played_of (copies_of s.script)) count ∙ sym (ap (λ (t : Tally). t.played) owes.counted.counted) }
 
 -- ---- the whole store
 
@@ -121,8 +112,7 @@ Owes-unread s is = subst (λ (p : Playing). Owes p (play_work (player_state s).a
   work_is = λ i. record { course = λ store. course store i; answer = λ store. numbers store i };
   live = refl;
   packets = omega arith;
-  counted = refl;
-  right = record { delivered = omega arith; dropped = omega arith; repeats = omega arith; latest = tt };
+  counted = record { counted = refl; right = record { delivered = omega arith; dropped = omega arith; repeats = omega arith; latest = tt } };
 }) where
   numbers : (store : List ℕ) → store_numbers (copies_of s.script) (player_state s).apid store ≡ (rest_work (nothing_read (player_state s).apid s.script)).answer store
   numbers store = ap (played_of (copies_of s.script)) (sym (zero-add (chosen_count (Some (player_state s).apid) (walk (Some (player_state s).apid) store).packets)))

@@ -16,7 +16,7 @@ use Rattle.loss_player.specs.declared.played.Played.{Played}
 use Rattle.loss_player.specs.declared.playing.Playing.{Playing}
 use Rattle.loss_player.specs.declared.fault.PlayFault.{PlayFault}
 use Rattle.loss_player.specs.declared.fault.PlayFault.TheVariants as play
-use Rattle.loss_player.specs.Played.{times_of, repeated, played_from, played_bytes, played_of, chosen_count, store_numbers}
+use Rattle.loss_player.specs.Played.{times_of, number_behind, repeated, played_from, played_bytes, played_of, chosen_count, store_numbers}
 use Rattle.loss_player.specs.Tallies.{IsTally, no_tally, tally_of}
 use Rattle.loss_player.specs.Report.{play_report}
 
@@ -68,13 +68,23 @@ left_to_play s = record {
 abbrev pub rest_work : Playing → Work Played WalkFault
 rest_work s = work_on (left_to_play s) s.reader
 
--- This work is owed: that of the rest of the store. The numbers so far are those of the packets so far.
+-- the numbers so far are those of the packets so far
+pub record IsCounted (s : Playing) : Type 0 where
+  pub counted : s.tally ≡ tally_of (copies_of s.script) s.tally.played.packets
+  pub right : IsTally s.tally
+
+-- a packet was counted, which is of the chosen APID or of another one, and nothing else changed
+pub record Counts (old new : Playing) (own : Bool) : Type 0 where
+  pub reader_is : new.reader ≡ old.reader
+  pub script_is : new.script ≡ old.script
+  pub packets : new.tally.played.packets ≡ number_behind own old.tally.played.packets
+
+-- this work is owed: that of the rest of the store
 pub record Owes (s : Playing) (work : Work Played WalkFault) : Type 0 where
   pub work_is : work ≡ rest_work s
   pub live : IsTrue s.reader.live
   pub packets : s.tally.played.packets ≤ s.reader.taken
-  pub counted : s.tally ≡ tally_of (copies_of s.script) s.tally.played.packets
-  pub right : IsTally s.tally
+  pub counted : IsCounted s
 
 -- nothing is read
 abbrev pub IsPlayer : Playing → Type 0

@@ -5,7 +5,7 @@ use Rattle.desk_ports.proofs.Runs.{Ran-adds}
 use Rattle.desk_ports.proofs.Steps.{AreReady-moved, WroteFront-output}
 use Rattle.packet_store.proofs.StoreTurns.{AfterStop-on, Advances-on, IsCutShort-on, Finishes-on, IsCutShort-end-on}
 use Rattle.loss_player.specs.Playing.{left_to_play, next_copies}
-use Rattle.loss_player.proofs.PlayCourses.{Counts, IsDone-played, Owes-played, Reads-played}
+use Rattle.loss_player.proofs.PlayCourses.{IsDone-played, Owes-played, Reads-played}
 use Rattle.loss_player.proofs.playing.PlayingRun.turn.Goals as goal
 
 -- the store is not read on
@@ -46,8 +46,7 @@ returns-in_err-deliver-clause-turned g c = λ work owes.
     let reader = c.next.new.self in
     let taken = c.in-Some.taken in
     let told = rw c.in-Some.is at c.in_ok-taken.ensures in
-    let is : Counts s c.deliver.new.self reader taken.chosen = record { reader_is = c.deliver.ensures.reader; script = c.deliver.ensures.script; packets = c.deliver.ensures.packets } in
-    let reads = Reads-played s c.deliver.new.self reader (meaning c.args.desk.now) (meaning c.next.new.desk) taken told.some is in
+    let reads = Reads-played s c.deliver.new.self reader (meaning c.args.desk.now) (meaning c.next.new.desk) taken told.some c.deliver.ensures.counts in
     let front = WroteFront-output (meaning c.next.new.desk) (meaning c.deliver.new.desk) (next_copies s taken.chosen reader.packet) c.in_err-deliver.ensures.front in
     let p = err_from_is_err_and c.from_residual-in_err-deliver.result c.from_residual-in_err-deliver.ensures.1 in
     rw (p.1, p.2) (IsCutShort-on owes.work_is reads front)
@@ -59,7 +58,6 @@ returns-clause-turned g c = λ work owes.
     let reader = c.next.new.self in
     let taken = c.in-Some.taken in
     let told = rw c.in-Some.is at c.in_ok-taken.ensures in
-    let is : Counts s c.deliver.new.self reader taken.chosen = record { reader_is = c.deliver.ensures.reader; script = c.deliver.ensures.script; packets = c.deliver.ensures.packets } in
-    let reads = Reads-played s c.deliver.new.self reader (meaning c.args.desk.now) (meaning c.next.new.desk) taken told.some is in
+    let reads = Reads-played s c.deliver.new.self reader (meaning c.args.desk.now) (meaning c.next.new.desk) taken told.some c.deliver.ensures.counts in
     let added = Ran-adds (meaning c.next.new.desk) (meaning c.deliver.new.desk) (next_copies s taken.chosen reader.packet) c.in_ok-deliver.ensures.added in
-    Advances-on owes.work_is reads added (Owes-played s c.deliver.new.self reader (meaning c.args.desk.now) (meaning c.next.new.desk) taken work owes told.some is c.deliver.ensures.counted c.deliver.ensures.right)
+    Advances-on owes.work_is reads added (Owes-played s c.deliver.new.self reader (meaning c.args.desk.now) (meaning c.next.new.desk) taken work owes told.some c.deliver.ensures.counts c.deliver.ensures.counted)
