@@ -75,7 +75,7 @@ Reads-played s t reader a b given takes is = subst (λ (r : ReaderState). ReadsP
   goes_on = record {
     before = λ packets. ap to_output (taken_bytes s t reader a b given takes is packets);
     answer = λ packets. taken_numbers s t reader a b given takes is packets;
-    report = refl;
+    last = refl;
   };
 })
 

@@ -2,12 +2,10 @@
 use Rattle.std.proofs.Common.{◌≡◌, List, [], ◌∷◌, refl, sym, ap, ◌∙◌, subst}
 use Rattle.std.specs.Io.KnownBytes.{IsAtEnd}
 use Rattle.desk_ports.specs.declared.desk.Inlet.TheVariants as inlet
-use Rattle.desk_ports.specs.declared.desk.Outlet.TheVariants as outlet
-use Rattle.desk_ports.specs.Meanings.{Meanings, Moves, Adds, AddsFront, left}
-use Rattle.desk_ports.specs.Courses.{Outputs, no_outputs, to_report, put, AfterStop, IsCutShort}
+use Rattle.desk_ports.specs.Meanings.{Meanings, Moves, left}
+use Rattle.desk_ports.specs.Courses.{Outputs, no_outputs, put, AfterStop, IsCutShort}
 use Rattle.desk_ports.specs.Turns.{Work, Steps, Advances, Finishes, IsLast, Wrote, WroteFront}
-use Rattle.desk_ports.proofs.Runs.{Ran-notes}
-use Rattle.desk_ports.proofs.Steps.{Advances-taken, Finishes-end, IsCutShort-taken, IsCutShort-end, WroteFront-report}
+use Rattle.desk_ports.proofs.Steps.{Advances-taken, Finishes-end, IsCutShort-taken, IsCutShort-end}
 use Rattle.packet_store.specs.declared.header.Header.{Header}
 use Rattle.packet_store.specs.declared.reader.Taken.{Taken}
 use Rattle.packet_store.specs.declared.fault.WalkFault.{WalkFault}
@@ -39,7 +37,7 @@ packet_of header reader = record { header = header; body = reader.body }
 pub record GoesOn {A : Type 0} (k next : StoreWork A) (p : Packet) (outputs : Outputs) : Type 0 where
   pub before : (packets : List Packet) → k.before (p ∷ packets) ≡ put outputs (next.before packets)
   pub answer : (packets : List Packet) → k.answer (p ∷ packets) ≡ next.answer packets
-  pub report : k.report ≡ next.report
+  pub last : k.last ≡ next.last
 
 -- A packet was read that owes this, and behind it other work is to do.
 pub record ReadsPacket {A : Type 0} (k next : StoreWork A) (s t : ReaderState) (a b : Meanings) (outputs : Outputs) : Type 0 where
@@ -53,9 +51,9 @@ Steps-on k next s t a b outputs reads = record {
       let ps = (walk_on t rest).packets in
       let before = reads.goes_on.before ps in
       let answer = reads.goes_on.answer ps in
-      let report = reads.goes_on.report in
-      ap (λ (w : Walk). record { before = k.before w.packets; after = to_report (k.report (k.answer w.packets)); ending = w.ending }) (reads.takes.goes_on rest)
-      ∙ (λ i. record { before = before i; after = to_report (report i (answer i)); ending = (walk_on t rest).ending });
+      let last = reads.goes_on.last in
+      ap (λ (w : Walk). record { before = k.before w.packets; after = k.last (k.answer w.packets); ending = w.ending }) (reads.takes.goes_on rest)
+      ∙ (λ i. record { before = before i; after = last i (answer i); ending = (walk_on t rest).ending });
   answer = λ rest. ap (λ (w : Walk). k.answer w.packets) (reads.takes.goes_on rest) ∙ reads.goes_on.answer (walk_on t rest).packets;
 }
 
@@ -77,19 +75,19 @@ pub record IsDone {A : Type 0} (k : StoreWork A) (answer : A) : Type 0 where
   pub nothing : k.before [] ≡ no_outputs
   pub answer_is : k.answer [] ≡ answer
 
-IsLast-on : {A : Type 0} (k : StoreWork A) (s : ReaderState) (answer : A) → IsDone k answer → IsLast (work_on k s) (to_report (k.report answer)) answer
+IsLast-on : {A : Type 0} (k : StoreWork A) (s : ReaderState) (answer : A) → IsDone k answer → IsLast (work_on k s) (k.last answer) answer
 IsLast-on k s answer done =
     let walk = walk_from-none s.chosen s.taken s.offset in
     let nothing = ap (λ (w : Walk). k.before w.packets) walk ∙ done.nothing in
     let numbers = ap (λ (w : Walk). k.answer w.packets) walk ∙ done.answer_is in
-    record { course = λ i. record { before = nothing i; after = to_report (k.report (numbers i)); ending = (walk i).ending }; answer = numbers }
+    record { course = λ i. record { before = nothing i; after = k.last (numbers i); ending = (walk i).ending }; answer = numbers }
 
--- the input is at its end, and the report's last part was written
-pub Finishes-on : {A : Type 0} {k : StoreWork A} {work : Work A WalkFault} (s : ReaderState) {a b d : Meanings} {answer : A} → work ≡ work_on k s → IsDone k answer → Moves a b inlet.Main [] → IsAtEnd (left a inlet.Main) → Adds b d outlet.Report (k.report answer) → Finishes work a d answer
-Finishes-on {A = A} {k = k} s {a = a} {b = b} {d = d} {answer = answer} is done moved at_end added =
-    subst (λ (w : Work A WalkFault). Finishes w a d answer) (sym is) (Finishes-end (work_on k s) a b d (to_report (k.report answer)) answer (IsLast-on k s answer done) moved at_end (Ran-notes b d (k.report answer) added))
+-- the input is at its end, and the last part was written
+pub Finishes-on : {A : Type 0} {k : StoreWork A} {work : Work A WalkFault} (s : ReaderState) {a b d : Meanings} {answer : A} → work ≡ work_on k s → IsDone k answer → Moves a b inlet.Main [] → IsAtEnd (left a inlet.Main) → Wrote b d (k.last answer) → Finishes work a d answer
+Finishes-on {A = A} {k = k} s {a = a} {b = b} {d = d} {answer = answer} is done moved at_end wrote =
+    subst (λ (w : Work A WalkFault). Finishes w a d answer) (sym is) (Finishes-end (work_on k s) a b d (k.last answer) answer (IsLast-on k s answer done) moved at_end wrote)
 
 -- and where a writing failed, a front of it
-pub IsCutShort-end-on : {A : Type 0} {k : StoreWork A} {work : Work A WalkFault} (s : ReaderState) {a b d : Meanings} {answer : A} → work ≡ work_on k s → IsDone k answer → Moves a b inlet.Main [] → IsAtEnd (left a inlet.Main) → AddsFront b d outlet.Report (k.report answer) → IsCutShort work.course a d
+pub IsCutShort-end-on : {A : Type 0} {k : StoreWork A} {work : Work A WalkFault} (s : ReaderState) {a b d : Meanings} {answer : A} → work ≡ work_on k s → IsDone k answer → Moves a b inlet.Main [] → IsAtEnd (left a inlet.Main) → WroteFront b d (k.last answer) → IsCutShort work.course a d
 IsCutShort-end-on {A = A} {k = k} s {a = a} {b = b} {d = d} {answer = answer} is done moved at_end front =
-    subst (λ (w : Work A WalkFault). IsCutShort w.course a d) (sym is) (IsCutShort-end (work_on k s) a b d (to_report (k.report answer)) answer (IsLast-on k s answer done) moved at_end (WroteFront-report b d (k.report answer) front))
+    subst (λ (w : Work A WalkFault). IsCutShort w.course a d) (sym is) (IsCutShort-end (work_on k s) a b d (k.last answer) answer (IsLast-on k s answer done) moved at_end front)

@@ -1,9 +1,10 @@
 use Rattle.std.proofs.Common.{refl}
 use Rattle.std.proofs.lemmas.Result.{err_from_is_err_and}
 use Rattle.desk_ports.specs.declared.desk.Outlet.TheVariants as outlet
-use Rattle.desk_ports.proofs.Runs.{Ran-adds}
-use Rattle.desk_ports.proofs.Steps.{AreReady-moved, WroteFront-output}
+use Rattle.desk_ports.proofs.Runs.{Ran-adds, Ran-notes}
+use Rattle.desk_ports.proofs.Steps.{AreReady-moved, WroteFront-output, WroteFront-report}
 use Rattle.packet_store.proofs.StoreTurns.{AfterStop-on, Advances-on, IsCutShort-on, Finishes-on, IsCutShort-end-on}
+use Rattle.loss_player.specs.Report.{play_report}
 use Rattle.loss_player.specs.Playing.{left_to_play, next_copies}
 use Rattle.loss_player.proofs.PlayCourses.{IsDone-played, Owes-played, Reads-played}
 use Rattle.loss_player.proofs.playing.PlayingRun.turn.Goals as goal
@@ -26,12 +27,14 @@ pub returns-in_err-write_report-clause-turned : goal.returns-in_err-write_report
 returns-in_err-write_report-clause-turned g c = λ work owes.
     let told = rw c.in_default.is at c.in_ok-taken.ensures in
     let p = err_from_is_err_and c.from_residual-in_err-write_report.result c.from_residual-in_err-write_report.ensures.1 in
-    rw (p.1, p.2) (IsCutShort-end-on c.args.self.now.reader owes.work_is (IsDone-played c.args.self.now work owes) told.none told.at_end c.in_err-write_report.ensures.front)
+    let front = WroteFront-report (g.D.Desk.meaning c.next.new.desk) (g.D.Desk.meaning c.write_report.new.desk) (play_report c.args.self.now.tally.played) c.in_err-write_report.ensures.front in
+    rw (p.1, p.2) (IsCutShort-end-on c.args.self.now.reader owes.work_is (IsDone-played c.args.self.now work owes) told.none told.at_end front)
 
 pub returns-in_default-clause-turned : goal.returns-in_default-clause-turned
 returns-in_default-clause-turned g c = λ work owes.
     let told = rw c.in_default.is at c.in_ok-taken.ensures in
-    Finishes-on c.args.self.now.reader owes.work_is (IsDone-played c.args.self.now work owes) told.none told.at_end c.in_ok-write_report.ensures.added
+    let wrote = Ran-notes (g.D.Desk.meaning c.next.new.desk) (g.D.Desk.meaning c.write_report.new.desk) (play_report c.args.self.now.tally.played) c.in_ok-write_report.ensures.added in
+    Finishes-on c.args.self.now.reader owes.work_is (IsDone-played c.args.self.now work owes) told.none told.at_end wrote
 
 -- a packet was read
 pub deliver-requires-clause-output : goal.deliver-requires-clause-output
