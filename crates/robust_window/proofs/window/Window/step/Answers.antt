@@ -68,7 +68,7 @@ invariant_of-self c =
           (slot_len (not c.is_zero-changed.result) c.args.change.now kept (length c.gather.new.recent) (change_len c ∙ sym same) last));
       marked = marked_are c;
       zeros_are = c.self.invariant.zeros_are ∙ ap (λ (n : ℕ). replicate n false) (sym same);
-      level_most = omega (arith, c.self.invariant.robust_most, c.quiet_level-self-inside.ensures.most, c.min-most.ensures);
+      level_most = omega (arith, c.self.invariant.robust_most, c.quiet_level-self-inside.ensures.most);
       robust_most = c.self.invariant.robust_most;
       taken_most = omega arith;
     }
@@ -83,7 +83,7 @@ returns-clause-stands c = λ steps step stands change new_mask robust.
     let marks = c.pushed-self-inside.result in
     let slots = c.push_change.new.changes.items in
     let level = c.quiet_level-self-inside.result in
-    let most : level ≤ 15 = omega (arith, c.self.invariant.robust_most, c.quiet_level-self-inside.ensures.most, c.min-most.ensures) in
+    let most : level ≤ 15 = omega (arith, c.self.invariant.robust_most, c.quiet_level-self-inside.ensures.most) in
     StandsFor-next steps step c.args.self.now _ stands (record {
       full = ap (λ (k : WindowState). length k.changes) was ∙ length-changes_of f c.self.inside.changed c.self.inside.changes.items c.self.invariant.slots;
       flags_full = ap (λ (k : WindowState). length k.new_masks) was ∙ length-marks c.self.inside.new_masks;
