@@ -4,8 +4,7 @@ use Rattle.std.specs.Io.KnownBytes.{IsAtEnd, prepend_known}
 use Rattle.desk_ports.specs.declared.desk.Inlet.TheVariants as inlet
 use Rattle.desk_ports.specs.declared.desk.Outlet.{Outlet}
 use Rattle.desk_ports.specs.declared.desk.Outlet.TheVariants as outlet
-use Rattle.desk_ports.specs.declared.stop.Stop.{Stop}
-use Rattle.desk_ports.specs.declared.stop.Stop.TheVariants.{Data, ReadFault, WriteFault}
+use Rattle.desk_ports.specs.Stop.{Stop, Data, ReadFault, WriteFault}
 use Rattle.desk_ports.specs.Meanings.{Meanings, Moves, AddsFront, left}
 use Rattle.desk_ports.specs.Runs.{Ran}
 use Rattle.desk_ports.specs.Courses.{Outputs, no_outputs, to_output, to_report, put, Course, owed, behind, AreFronts, Went, Ends, IsCutOff, IsCutShort, AfterStop, AfterRun}
@@ -101,6 +100,9 @@ Finishes-behind work here a b c answer p q = record { ends = Ends-behind work he
 -- what was opened stays opened
 pub AreReady-ran : (writes : Outlet → Bool) (a b : Meanings) (xs us rs : List ℕ) → Ran a b xs us rs → AreReady writes a → AreReady writes b
 AreReady-ran writes a b xs us rs ran ready = record { input = Ran-ready_in a b xs us rs ran ready.input; outputs = λ outlet is. Ran-ready_out a b outlet xs us rs ran (ready.outputs outlet is) }
+
+pub AreReady-moved : {writes : Outlet → Bool} {a b : Meanings} {taken : List ℕ} → Moves a b inlet.Main taken → AreReady writes a → AreReady writes b
+AreReady-moved {writes = writes} {a = a} {b = b} {taken = taken} moves ready = AreReady-ran writes a b taken [] [] (Ran-moves a b taken moves) ready
 
 -- ---- what is written
 

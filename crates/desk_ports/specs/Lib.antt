@@ -1,5 +1,6 @@
 pub mod Meanings
 pub mod Runs
+pub mod Stop
 pub mod Courses
 pub mod Turns
 pub mod FileDesk

@@ -2,7 +2,7 @@
 use Rattle.std.specs.Prelude.{◌≡◌, ℕ, Bool, IsTrue, List, [], ◌++◌, None, Result, Ok, Err, IfSome}
 use Rattle.desk_ports.specs.declared.desk.Inlet.TheVariants as inlet
 use Rattle.desk_ports.specs.declared.desk.Outlet.{Outlet}
-use Rattle.desk_ports.specs.declared.stop.Stop.{Stop}
+use Rattle.desk_ports.specs.Stop.{Stop}
 use Rattle.desk_ports.specs.declared.turns.Turn.{Turn}
 use Rattle.desk_ports.specs.declared.turns.Turn.TheVariants.{More, Done}
 use Rattle.desk_ports.specs.Meanings.{Meanings, IsReadyIn, IsReadyOut, left}

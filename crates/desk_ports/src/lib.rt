@@ -11,7 +11,6 @@ mod part;
 mod progress;
 mod quiet;
 mod row;
-mod stop;
 mod transfer;
 mod turns;
 mod written;
@@ -26,7 +25,6 @@ pub use laws::{
 pub use memory::MemDesk;
 pub use quiet::QuietDesk;
 pub use row::{ROW_BYTES, Row};
-pub use stop::Stop;
 pub use transfer::{fill, write_all};
 pub use turns::{Run, Turn, drive};
 

@@ -87,7 +87,7 @@ impl Run for Countdown {
 
     ghost use Rattle.std.specs.Prelude.{◌≡◌, ℕ, List, Bool, false, Some};
     ghost use Rattle.desk_ports.specs.Courses.{no_outputs};
-    ghost use Rattle.desk_ports.specs.declared.stop.Stop.TheVariants as stop;
+    ghost use Rattle.desk_ports.specs.Stop as stop;
 
     ghost owes = { λ _ work. (input : List ℕ) → work.course input ≡ record { before = no_outputs; after = no_outputs; ending = Some 7 } };
 

@@ -2,7 +2,7 @@
 
 ghost use Rattle.std.specs.Prelude.{◌≡◌, ◌<◌, ℕ, Bool, Ok, IfOk, IfSome};
 ghost use Rattle.desk_ports.specs.declared.desk.Outlet.{Outlet};
-ghost use Rattle.desk_ports.specs.declared.stop.Stop.{Stop};
+ghost use Rattle.desk_ports.specs.Stop.{Stop};
 ghost use Rattle.desk_ports.specs.declared.turns.Turn.TheVariants as turn;
 ghost use Rattle.desk_ports.specs.Meanings.{left};
 ghost use Rattle.desk_ports.specs.Courses.{AfterRun, HasCause, by_stop};

@@ -3,8 +3,8 @@ use Rattle.std.specs.Prelude.{◌≡◌, ℕ, ◌+◌, ◌*◌, ◌%◌, Bool, t
 use Rattle.bit_vectors.specs.Vectors.{IsVector, byte_count}
 use Rattle.desk_ports.specs.declared.desk.Outlet.{Outlet}
 use Rattle.desk_ports.specs.declared.desk.Outlet.TheVariants as outlet
-use Rattle.desk_ports.specs.declared.stop.Stop.{Stop}
-use Rattle.desk_ports.specs.declared.stop.Stop.TheVariants as stop
+use Rattle.desk_ports.specs.Stop.{Stop}
+use Rattle.desk_ports.specs.Stop as stop
 use Rattle.desk_ports.specs.Courses.{Course, no_outputs, to_output}
 use Rattle.desk_ports.specs.Turns.{Work}
 use Rattle.mask_update.specs.Histories.{History, history_of}

@@ -4,8 +4,7 @@ use Rattle.std.specs.Io.KnownBytes.{append_known}
 use Rattle.std.proofs.lemmas.Bool.{cases_lt}
 use Rattle.desk_ports.specs.declared.desk.Inlet.TheVariants as inlet
 use Rattle.desk_ports.specs.declared.desk.Outlet.TheVariants as outlet
-use Rattle.desk_ports.specs.declared.stop.Stop.{Stop}
-use Rattle.desk_ports.specs.declared.stop.Stop.TheVariants.{Data, ReadFault, WriteFault}
+use Rattle.desk_ports.specs.Stop.{Stop, Data, ReadFault, WriteFault}
 use Rattle.desk_ports.specs.Meanings.{Meanings, Counts, Rose, left, made}
 use Rattle.desk_ports.specs.Courses.{AfterRun, HasCause, Outputs, by_ending, owed}
 use Rattle.desk_ports.proofs.Faults.{Rose-reads, Rose-writes}

@@ -2,8 +2,8 @@
 use Rattle.std.specs.Prelude.{◌≡◌, ℕ, ◌*◌, ◌^◌, ◌≤◌, IsTrue, List, [], ◌++◌, map, Option, Some, unwrap_or, vec_len}
 use Rattle.std.specs.List.{filter}
 use Rattle.bit_vectors.specs.Vectors.{byte_count}
-use Rattle.desk_ports.specs.declared.stop.Stop.{Stop}
-use Rattle.desk_ports.specs.declared.stop.Stop.TheVariants as stop
+use Rattle.desk_ports.specs.Stop.{Stop}
+use Rattle.desk_ports.specs.Stop as stop
 use Rattle.desk_ports.specs.Courses.{Outputs, Course, to_report}
 use Rattle.desk_ports.specs.Turns.{Work}
 use Rattle.packet_store.specs.declared.fault.WalkFault.{WalkFault}

@@ -1,35 +1,27 @@
 -- What is owed for the rest of a store, packet by packet.
-use Rattle.std.proofs.Common.{◌≡◌, ℕ, ◌+◌, ◌≤◌, Bool, true, false, if◌then◌else◌, List, [], ◌∷◌, ◌++◌, replicate, Option, Some, refl, sym, ap, ◌∙◌, subst, zero-add, arith}
+use Rattle.std.proofs.Common.{◌≡◌, ℕ, ◌+◌, ◌≤◌, Bool, true, false, if◌then◌else◌, List, ◌∷◌, ◌++◌, replicate, Option, Some, refl, sym, ap, ◌∙◌, subst, zero-add, arith}
 use Rattle.std.proofs.lemmas.List.Sums.{sum_by-cons}
 use Rattle.std.proofs.lemmas.Grind.{flat_map-append}
 use Rattle.desk_ports.specs.Meanings.{Meanings}
-use Rattle.desk_ports.specs.Courses.{Course, to_output, to_report, behind}
-use Rattle.desk_ports.specs.Turns.{Work, Steps, IsLast}
+use Rattle.desk_ports.specs.Courses.{to_output, to_report}
+use Rattle.desk_ports.specs.Turns.{Work}
 use Rattle.side_tables.specs.declared.rows.CopyRow.{CopyRow}
 use Rattle.side_tables.specs.Rows.{copies_of}
-use Rattle.packet_store.specs.declared.header.Header.{Header}
 use Rattle.packet_store.specs.declared.reader.Taken.{Taken}
 use Rattle.packet_store.specs.declared.fault.WalkFault.{WalkFault}
 use Rattle.packet_store.specs.SpacePackets.{Packet, packet_bytes, is_chosen}
-use Rattle.packet_store.specs.Walks.{Walk, walk, packets_bytes}
-use Rattle.packet_store.specs.StoreReader.{ReaderState, Takes, walk_on}
-use Rattle.packet_store.proofs.Walks.{walk_from-none}
-use Rattle.packet_store.proofs.StoreCourses.{FollowsWalk}
+use Rattle.packet_store.specs.Walks.{walk, packets_bytes}
+use Rattle.packet_store.specs.StoreReader.{ReaderState, Takes}
+use Rattle.packet_store.proofs.StoreTurns.{packet_of, ReadsPacket, IsDone}
 use Rattle.loss_player.specs.declared.played.Played.{Played}
+use Rattle.loss_player.specs.declared.played.Tally.{Tally}
 use Rattle.loss_player.specs.declared.playing.Playing.{Playing}
 use Rattle.loss_player.specs.Played.{times_of, number_behind, played_from, repeated, played_of, chosen_count, store_numbers}
-use Rattle.loss_player.specs.Tallies.{IsTally, tally_of}
 use Rattle.loss_player.specs.Report.{play_report}
-use Rattle.loss_player.specs.Playing.{play_course, nothing_read, player_state, next_copies, all_numbers, rest_course, rest_work, Owes, IsPlayer}
+use Rattle.loss_player.specs.Playing.{play_course, nothing_read, player_state, next_copies, all_numbers, left_to_play, rest_work, IsCounted, Counts, Owes, IsPlayer}
 use Rattle.loss_player.proofs.Copies.{packets_bytes-replicate}
 
 -- ---- one packet
-
--- a packet was counted: behind it the numbers go on
-pub record Counts (s t : Playing) (reader : ReaderState) (own : Bool) : Type 0 where
-  pub reader_is : t.reader ≡ reader
-  pub script : t.script ≡ s.script
-  pub packets : t.tally.played.packets ≡ number_behind own s.tally.played.packets
 
 number_with : (own : Bool) (t more : ℕ) → t + ((if own then 1 else 0) + more) ≡ number_behind own t + more
 number_with true t more = omega arith
@@ -40,111 +32,73 @@ chosen_count-cons chosen p packets =
     let one : Packet → ℕ = λ q. if is_chosen chosen q.header then 1 else 0 in
     sum_by-cons one p packets
 
--- the packet that a reader gave
-abbrev packet_of : Header → ReaderState → Packet
-packet_of header reader = record { header = header; body = reader.body }
-
 -- how often a packet arrives that is read next
 abbrev times_at : Playing → Bool → ℕ
 times_at s own = times_of own (copies_of s.script) s.tally.played.packets
 
--- what is owed behind the copies of a packet
-abbrev behind_copies : Playing → Playing → Bool → List ℕ → List ℕ → Course WalkFault
-behind_copies s t own packet rest = behind (to_output (next_copies s own packet)) (rest_course t rest)
+-- the packets that arrive of these
+abbrev rest_packets : Playing → List Packet → List Packet
+rest_packets s packets = played_from s.reader.chosen (copies_of s.script) s.tally.played.packets packets
 
--- the packets of the rest of a store that arrive
-abbrev rest_packets : Playing → List ℕ → List Packet
-rest_packets s bytes = played_from s.reader.chosen (copies_of s.script) s.tally.played.packets (walk_on s.reader bytes).packets
-
-module _ (s t : Playing) (reader : ReaderState) (a b : Meanings) (given : Taken) (takes : Takes s.reader reader a b given) (is : Counts s t reader given.chosen) (rest : List ℕ) where
-  walk_taken : (walk_on s.reader (reader.packet ++ rest)).packets ≡ packet_of takes.header reader ∷ (walk_on reader rest).packets
-  walk_taken = ap (λ (w : Walk). w.packets) (takes.goes_on rest)
-
+module _ (s t : Playing) (reader : ReaderState) (a b : Meanings) (given : Taken) (takes : Takes s.reader reader a b given) (is : Counts (record s { reader = reader }) t given.chosen) (packets : List Packet) where
   same_chosen : s.reader.chosen ≡ t.reader.chosen
   same_chosen = sym (ap (λ (r : ReaderState). r.chosen) is.reader_is ∙ ap (λ (r : ReaderState). r.chosen) takes.others)
 
-  rest_walk : (walk_on reader rest).packets ≡ (walk_on t.reader rest).packets
-  rest_walk = ap (λ (r : ReaderState). (walk_on r rest).packets) (sym is.reader_is)
-
-  taken_packets : rest_packets s (reader.packet ++ rest) ≡ replicate (times_at s given.chosen) (packet_of takes.header reader) ++ rest_packets t rest
+  taken_packets : rest_packets s (packet_of takes.header reader ∷ packets) ≡ replicate (times_at s given.chosen) (packet_of takes.header reader) ++ rest_packets t packets
   taken_packets =
-      ap (played_from s.reader.chosen (copies_of s.script) s.tally.played.packets) walk_taken
-      ∙ (ap (λ (own : Bool). replicate (times_at s own) (packet_of takes.header reader) ++ played_from s.reader.chosen (copies_of s.script) (number_behind own s.tally.played.packets) (walk_on reader rest).packets) (sym takes.is_chosen)
-      ∙ (let chosen = same_chosen in let rows = sym is.script in let number = sym is.packets in let on = rest_walk in
-      λ i. replicate (times_at s given.chosen) (packet_of takes.header reader) ++ played_from (chosen i) (copies_of (rows i)) (number i) (on i)))
+      ap (λ (own : Bool). replicate (times_at s own) (packet_of takes.header reader) ++ played_from s.reader.chosen (copies_of s.script) (number_behind own s.tally.played.packets) packets) (sym takes.is_chosen)
+      ∙ (let chosen = same_chosen in let rows = sym is.script_is in let number = sym is.packets in
+      λ i. replicate (times_at s given.chosen) (packet_of takes.header reader) ++ played_from (chosen i) (copies_of (rows i)) (number i) packets)
 
-  taken_bytes : packets_bytes (rest_packets s (reader.packet ++ rest)) ≡ next_copies s given.chosen reader.packet ++ packets_bytes (rest_packets t rest)
+  pub taken_bytes : packets_bytes (rest_packets s (packet_of takes.header reader ∷ packets)) ≡ next_copies s given.chosen reader.packet ++ packets_bytes (rest_packets t packets)
   taken_bytes =
       ap packets_bytes taken_packets
-      ∙ (flat_map-append packet_bytes (replicate (times_at s given.chosen) (packet_of takes.header reader)) (rest_packets t rest)
-      ∙ ap (λ (l : List ℕ). l ++ packets_bytes (rest_packets t rest)) (packets_bytes-replicate (times_at s given.chosen) (packet_of takes.header reader) ∙ ap (repeated (times_at s given.chosen)) (sym takes.packet)))
+      ∙ (flat_map-append packet_bytes (replicate (times_at s given.chosen) (packet_of takes.header reader)) (rest_packets t packets)
+      ∙ ap (λ (l : List ℕ). l ++ packets_bytes (rest_packets t packets)) (packets_bytes-replicate (times_at s given.chosen) (packet_of takes.header reader) ∙ ap (repeated (times_at s given.chosen)) (sym takes.packet)))
 
-  taken_count : s.tally.played.packets + chosen_count s.reader.chosen (walk_on s.reader (reader.packet ++ rest)).packets ≡ t.tally.played.packets + chosen_count t.reader.chosen (walk_on t.reader rest).packets
+  taken_count : s.tally.played.packets + chosen_count s.reader.chosen (packet_of takes.header reader ∷ packets) ≡ t.tally.played.packets + chosen_count t.reader.chosen packets
   taken_count =
-      ap (λ (l : List Packet). s.tally.played.packets + chosen_count s.reader.chosen l) walk_taken
-      ∙ (ap (λ (k : ℕ). s.tally.played.packets + k) (chosen_count-cons s.reader.chosen (packet_of takes.header reader) (walk_on reader rest).packets)
-      ∙ (ap (λ (b : Bool). s.tally.played.packets + ((if b then 1 else 0) + chosen_count s.reader.chosen (walk_on reader rest).packets)) (sym takes.is_chosen)
-      ∙ (number_with given.chosen s.tally.played.packets (chosen_count s.reader.chosen (walk_on reader rest).packets)
-      ∙ (let chosen = same_chosen in let number = sym is.packets in let on = rest_walk in λ i. number i + chosen_count (chosen i) (on i)))))
+      ap (λ (k : ℕ). s.tally.played.packets + k) (chosen_count-cons s.reader.chosen (packet_of takes.header reader) packets)
+      ∙ (ap (λ (b : Bool). s.tally.played.packets + ((if b then 1 else 0) + chosen_count s.reader.chosen packets)) (sym takes.is_chosen)
+      ∙ (number_with given.chosen s.tally.played.packets (chosen_count s.reader.chosen packets)
+      ∙ (let chosen = same_chosen in let number = sym is.packets in λ i. number i + chosen_count (chosen i) packets)))
 
-  pub taken_numbers : all_numbers s (reader.packet ++ rest) ≡ all_numbers t rest
-  taken_numbers = let rows = sym is.script in let count = taken_count in λ i. played_of (copies_of (rows i)) (count i)
+  pub taken_numbers : all_numbers s (packet_of takes.header reader ∷ packets) ≡ all_numbers t packets
+  taken_numbers = let rows = sym is.script_is in let count = taken_count in λ i. played_of (copies_of (rows i)) (count i)
 
-  pub taken_course : rest_course s (reader.packet ++ rest) ≡ behind_copies s t given.chosen reader.packet rest
-  taken_course =
-      let ending = ap (λ (w : Walk). w.ending) (takes.goes_on rest) ∙ ap (λ (r : ReaderState). (walk_on r rest).ending) (sym is.reader_is) in
-      let bytes = taken_bytes in
-      let numbers = taken_numbers in
-      λ i. record { before = to_output (bytes i); after = to_report (play_report (numbers i)); ending = ending i }
-
--- a packet that is played: its copies are owed, and behind them the rest of the store
-pub Steps-played : (s t : Playing) (reader : ReaderState) (a b : Meanings) (given : Taken) → Takes s.reader reader a b given → Counts s t reader given.chosen → Steps (rest_work s) (rest_work t) reader.packet (to_output (next_copies s given.chosen reader.packet))
-Steps-played s t reader a b given takes is = record {
-  course = λ rest. taken_course s t reader a b given takes is rest;
-  answer = λ rest. taken_numbers s t reader a b given takes is rest;
-}
+-- a packet that is played: its copies are owed, and behind them what the packets behind it owe
+pub Reads-played : (s t : Playing) (reader : ReaderState) (a b : Meanings) (given : Taken) → Takes s.reader reader a b given → Counts (record s { reader = reader }) t given.chosen
+    → ReadsPacket (left_to_play s) (left_to_play t) s.reader t.reader a b (to_output (next_copies s given.chosen reader.packet))
+Reads-played s t reader a b given takes is = subst (λ (r : ReaderState). ReadsPacket (left_to_play s) (left_to_play t) s.reader r a b (to_output (next_copies s given.chosen reader.packet))) (sym is.reader_is) (record {
+  given = given;
+  takes = takes;
+  goes_on = record {
+    before = λ packets. ap to_output (taken_bytes s t reader a b given takes is packets);
+    answer = λ packets. taken_numbers s t reader a b given takes is packets;
+    last = refl;
+  };
+})
 
 number_behind-most : (own : Bool) (t : ℕ) → number_behind own t ≤ t + 1
 number_behind-most true t = omega arith
 number_behind-most false t = omega arith
 
 -- behind it the rest of the store is to play
-pub Owes-played : (s t : Playing) (reader : ReaderState) (a b : Meanings) (given : Taken) (work : Work Played WalkFault) → Owes s work → Takes s.reader reader a b given → Counts s t reader given.chosen
-    → t.tally ≡ tally_of (copies_of t.script) t.tally.played.packets → IsTally t.tally → Owes t (rest_work t)
-Owes-played s t reader a b given work owes takes is counted right =
+pub Owes-played : (s t : Playing) (reader : ReaderState) (a b : Meanings) (given : Taken) (work : Work Played WalkFault) → Owes s work → Takes s.reader reader a b given → Counts (record s { reader = reader }) t given.chosen → IsCounted t → Owes t (rest_work t)
+Owes-played s t reader a b given work owes takes is counted =
     let reader_is = is.reader_is ∙ takes.others in
     record {
       work_is = refl;
       live = ap (λ (r : ReaderState). r.live) reader_is ∙ owes.live;
       packets = omega (arith, number_behind-most given.chosen s.tally.played.packets, is.packets, owes.packets, ap (λ (r : ReaderState). r.taken) reader_is);
       counted = counted;
-      right = right;
     }
 
--- ---- nothing is left
-
--- the report is owed
-pub IsLast-played : (s : Playing) → s.tally.played ≡ played_of (copies_of s.script) s.tally.played.packets → IsLast (rest_work s) (to_report (play_report s.tally.played)) s.tally.played
-IsLast-played s counted =
-    let walk = walk_from-none s.reader.chosen s.reader.taken s.reader.offset in
+-- where nothing is left the numbers are those so far
+pub IsDone-played : (s : Playing) (work : Work Played WalkFault) → Owes s work → IsDone (left_to_play s) s.tally.played
+IsDone-played s work owes =
     let count : s.tally.played.packets + 0 ≡ s.tally.played.packets = omega arith in
-    let numbers : all_numbers s [] ≡ s.tally.played =
-    ap (λ (w : Walk). played_of (copies_of s.script) (s.tally.played.packets + chosen_count s.reader.chosen w.packets)) walk ∙ (ap (played_of (copies_of s.script)) count ∙ sym counted) in
-    record {
-      course = λ i. record {
-        before = to_output (packets_bytes (played_from s.reader.chosen (copies_of s.script) s.tally.played.packets (walk i).packets));
-        after = to_report (play_report (numbers i));
-        ending = (walk i).ending;
-      };
-      answer = numbers;
-    }
-
--- where no packet is walked nothing is owed
-pub rest_follows : (s : Playing) → FollowsWalk (rest_course s) s.reader
-rest_follows s = record {
-  nothing = λ bytes none. ap (λ (packets : List Packet). to_output (packets_bytes (played_from s.reader.chosen (copies_of s.script) s.tally.played.packets packets))) none;
-  ends = λ bytes. refl;
-}
+    record { nothing = refl; answer_is = ap (played_of (copies_of s.script)) count ∙ sym (ap (λ (t : Tally). t.played) owes.counted.counted) }
 
 -- ---- the whole store
 
@@ -158,11 +112,10 @@ Owes-unread s is = subst (λ (p : Playing). Owes p (play_work (player_state s).a
   work_is = λ i. record { course = λ store. course store i; answer = λ store. numbers store i };
   live = refl;
   packets = omega arith;
-  counted = refl;
-  right = record { delivered = omega arith; dropped = omega arith; repeats = omega arith; latest = tt };
+  counted = record { counted = refl; right = record { delivered = omega arith; dropped = omega arith; repeats = omega arith; latest = tt } };
 }) where
-  numbers : (store : List ℕ) → store_numbers (copies_of s.script) (player_state s).apid store ≡ all_numbers (nothing_read (player_state s).apid s.script) store
+  numbers : (store : List ℕ) → store_numbers (copies_of s.script) (player_state s).apid store ≡ (rest_work (nothing_read (player_state s).apid s.script)).answer store
   numbers store = ap (played_of (copies_of s.script)) (sym (zero-add (chosen_count (Some (player_state s).apid) (walk (Some (player_state s).apid) store).packets)))
 
-  course : (store : List ℕ) → play_course (copies_of s.script) (player_state s).apid store ≡ rest_course (nothing_read (player_state s).apid s.script) store
+  course : (store : List ℕ) → play_course (copies_of s.script) (player_state s).apid store ≡ (rest_work (nothing_read (player_state s).apid s.script)).course store
   course store = let same = numbers store in λ i. record (play_course (copies_of s.script) (player_state s).apid store) { after = to_report (play_report (same i)) }

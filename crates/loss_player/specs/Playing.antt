@@ -1,7 +1,7 @@
 -- What playing a store owes: the played store and the play report.
 use Rattle.std.specs.Prelude.{◌≡◌, ℕ, ◌+◌, ◌≤◌, Bool, IsTrue, List, Some, unwrap_or}
-use Rattle.desk_ports.specs.declared.stop.Stop.{Stop}
-use Rattle.desk_ports.specs.declared.stop.Stop.TheVariants as stop
+use Rattle.desk_ports.specs.Stop.{Stop}
+use Rattle.desk_ports.specs.Stop as stop
 use Rattle.desk_ports.specs.Courses.{Course, to_output, to_report}
 use Rattle.desk_ports.specs.Turns.{Work}
 use Rattle.side_tables.specs.declared.rows.CopyRow.{CopyRow}
@@ -9,12 +9,14 @@ use Rattle.side_tables.specs.Rows.{copies_of}
 use Rattle.packet_store.specs.declared.fault.WalkFault.{WalkFault}
 use Rattle.packet_store.specs.Walks.{walk, packets_bytes}
 use Rattle.packet_store.specs.Faults.{stop_of}
-use Rattle.packet_store.specs.StoreReader.{opened, walk_on}
+use Rattle.packet_store.specs.SpacePackets.{Packet}
+use Rattle.packet_store.specs.StoreReader.{opened}
+use Rattle.packet_store.specs.StoreWorks.{StoreWork, work_on}
 use Rattle.loss_player.specs.declared.played.Played.{Played}
 use Rattle.loss_player.specs.declared.playing.Playing.{Playing}
 use Rattle.loss_player.specs.declared.fault.PlayFault.{PlayFault}
 use Rattle.loss_player.specs.declared.fault.PlayFault.TheVariants as play
-use Rattle.loss_player.specs.Played.{times_of, repeated, played_from, played_bytes, played_of, chosen_count, store_numbers}
+use Rattle.loss_player.specs.Played.{times_of, number_behind, repeated, played_from, played_bytes, played_of, chosen_count, store_numbers}
 use Rattle.loss_player.specs.Tallies.{IsTally, no_tally, tally_of}
 use Rattle.loss_player.specs.Report.{play_report}
 
@@ -50,29 +52,39 @@ player_state s = record { apid = unwrap_or s.reader.chosen 0; rows = s.script }
 abbrev pub next_copies : Playing → Bool → List ℕ → List ℕ
 next_copies s own packet = repeated (times_of own (copies_of s.script) s.tally.played.packets) packet
 
--- the numbers of all packets
-abbrev pub all_numbers : Playing → List ℕ → Played
-all_numbers s bytes = played_of (copies_of s.script) (s.tally.played.packets + chosen_count s.reader.chosen (walk_on s.reader bytes).packets)
+-- the numbers of all packets, with these that are read next
+abbrev pub all_numbers : Playing → List Packet → Played
+all_numbers s packets = played_of (copies_of s.script) (s.tally.played.packets + chosen_count s.reader.chosen packets)
 
--- what is owed for what is left of the store
-abbrev pub rest_course : Playing → List ℕ → Course WalkFault
-rest_course s bytes = record {
-  before = to_output (packets_bytes (played_from s.reader.chosen (copies_of s.script) s.tally.played.packets (walk_on s.reader bytes).packets));
-  after = to_report (play_report (all_numbers s bytes));
-  ending = (walk_on s.reader bytes).ending;
+-- what is owed for packets that are read next
+abbrev pub left_to_play : Playing → StoreWork Played
+left_to_play s = record {
+  before = λ packets. to_output (packets_bytes (played_from s.reader.chosen (copies_of s.script) s.tally.played.packets packets));
+  answer = all_numbers s;
+  last = λ played. to_report (play_report played);
 }
 
 -- the work of playing what is left of the store
 abbrev pub rest_work : Playing → Work Played WalkFault
-rest_work s = record { course = rest_course s; answer = all_numbers s }
+rest_work s = work_on (left_to_play s) s.reader
 
--- This work is owed: that of the rest of the store. The numbers so far are those of the packets so far.
+-- the numbers so far are those of the packets so far
+pub record IsCounted (s : Playing) : Type 0 where
+  pub counted : s.tally ≡ tally_of (copies_of s.script) s.tally.played.packets
+  pub right : IsTally s.tally
+
+-- a packet was counted, which is of the chosen APID or of another one, and nothing else changed
+pub record Counts (old new : Playing) (own : Bool) : Type 0 where
+  pub reader_is : new.reader ≡ old.reader
+  pub script_is : new.script ≡ old.script
+  pub packets : new.tally.played.packets ≡ number_behind own old.tally.played.packets
+
+-- this work is owed: that of the rest of the store
 pub record Owes (s : Playing) (work : Work Played WalkFault) : Type 0 where
   pub work_is : work ≡ rest_work s
   pub live : IsTrue s.reader.live
   pub packets : s.tally.played.packets ≤ s.reader.taken
-  pub counted : s.tally ≡ tally_of (copies_of s.script) s.tally.played.packets
-  pub right : IsTally s.tally
+  pub counted : IsCounted s
 
 -- nothing is read
 abbrev pub IsPlayer : Playing → Type 0

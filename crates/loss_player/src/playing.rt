@@ -3,8 +3,7 @@
 ghost use Rattle.std.specs.Prelude.{◌≡◌, ◌^◌, ◌+◌, ◌-◌, ◌<◌, ◌≤◌, true, length, IfOk, OnOk, OnErr};
 ghost use Rattle.desk_ports.specs.Meanings.{Adds, AddsFront, HasWriteCause, IsReadyOut};
 ghost use Rattle.side_tables.specs.Rows.{copies_of};
-ghost use Rattle.loss_player.specs.Played.{number_behind, repeated};
-ghost use Rattle.loss_player.specs.Tallies.{IsTally, tally_of};
+ghost use Rattle.loss_player.specs.Played.{repeated};
 
 use crate::fault::PlayFault;
 use crate::played::{Played, Tally};
@@ -51,7 +50,7 @@ impl Run for Playing {
 }
 
 impl Playing {
-    ghost use Rattle.loss_player.specs.Playing.{next_copies, nothing_read};
+    ghost use Rattle.loss_player.specs.Playing.{Counts, IsCounted, next_copies, nothing_read};
 
     /// Nothing is read. Takes all memory of the run.
     pub fn open(alloc: Global, apid: u16, script: Script) -> Result<Playing, NoMemory>
@@ -70,16 +69,14 @@ impl Playing {
     fn deliver<D: Desk>(&mut self, desk: &mut D, chosen: bool) -> Result<(), Failed>
         requires some { 0 < length self.old.reader.body }
         requires few { self.old.tally.played.packets < 2 ^ 32 }
-        requires counted { self.old.tally ≡ tally_of (copies_of self.old.script) self.old.tally.played.packets }
-        requires right { IsTally self.old.tally }
+        requires counted { IsCounted self.old }
         requires output { IsReadyOut (D.meaning desk.old) Outlet.Main }
-        ensures reader { self.new.reader ≡ self.old.reader }
-        ensures script { self.new.script ≡ self.old.script }
-        ensures packets { self.new.tally.played.packets ≡ number_behind chosen self.old.tally.played.packets }
-        ensures counted { self.new.tally ≡ tally_of (copies_of self.new.script) self.new.tally.played.packets }
-        ensures right { IsTally self.new.tally }
-        ensures added { OnOk result (Adds (D.meaning desk.old) (D.meaning desk.new) Outlet.Main (next_copies self.old chosen self.old.reader.packet)) }
-        ensures front { OnErr result (AddsFront (D.meaning desk.old) (D.meaning desk.new) Outlet.Main (next_copies self.old chosen self.old.reader.packet)) }
+        ensures counts { Counts self.old self.new chosen }
+        ensures counted { IsCounted self.new }
+        ensures added { OnOk result (Adds (D.meaning desk.old) (D.meaning desk.new) Outlet.Main
+            (next_copies self.old chosen self.old.reader.packet)) }
+        ensures front { OnErr result (AddsFront (D.meaning desk.old) (D.meaning desk.new) Outlet.Main
+            (next_copies self.old chosen self.old.reader.packet)) }
         ensures cause { HasWriteCause (D.counts desk.old) (D.counts desk.new) result }
     {
         let times = if chosen { self.count() } else { 1 };
@@ -89,14 +86,10 @@ impl Playing {
     /// Counts the packet that was read, which is of the chosen APID, and tells how many copies of it arrive.
     fn count(&mut self) -> u8
         requires few { self.old.tally.played.packets < 2 ^ 32 }
-        requires counted { self.old.tally ≡ tally_of (copies_of self.old.script) self.old.tally.played.packets }
-        requires right { IsTally self.old.tally }
+        requires counted { IsCounted self.old }
         ensures copies { result ≡ copies_of self.old.script self.old.tally.played.packets }
-        ensures reader { self.new.reader ≡ self.old.reader }
-        ensures script { self.new.script ≡ self.old.script }
-        ensures packets { self.new.tally.played.packets ≡ self.old.tally.played.packets + 1 }
-        ensures counted { self.new.tally ≡ tally_of (copies_of self.new.script) self.new.tally.played.packets }
-        ensures right { IsTally self.new.tally }
+        ensures counts { Counts self.old self.new true }
+        ensures counted { IsCounted self.new }
     {
         let copies = self.script.times(self.tally.played.packets as u32);
         self.tally.count(copies);
@@ -107,8 +100,10 @@ impl Playing {
 /// Writes the bytes of a packet so many times.
 fn write_copies<D: Desk>(desk: &mut D, packet: &[u8], times: u8) -> Result<(), Failed>
     requires { IsReadyOut (D.meaning desk.old) Outlet.Main }
-    ensures added { OnOk result (Adds (D.meaning desk.old) (D.meaning desk.new) Outlet.Main (repeated times packet.now)) }
-    ensures front { OnErr result (AddsFront (D.meaning desk.old) (D.meaning desk.new) Outlet.Main (repeated times packet.now)) }
+    ensures added { OnOk result
+        (Adds (D.meaning desk.old) (D.meaning desk.new) Outlet.Main (repeated times packet.now)) }
+    ensures front { OnErr result
+        (AddsFront (D.meaning desk.old) (D.meaning desk.new) Outlet.Main (repeated times packet.now)) }
     ensures cause { HasWriteCause (D.counts desk.old) (D.counts desk.new) result }
 {
     for _ in 0..times {

@@ -1,5 +1,5 @@
 -- A packet that is not read: what stands at the front of the input then, and how the walk ends there.
-use Rattle.std.proofs.Common.{◌≡◌, ◌≢◌, refl, [], ◌∷◌, Bool, true, false, not, ◌&&◌, ◌==◌, nat_le, if◌then◌else◌, ℕ, ◌+◌, ◌^◌, ◌<◌, ◌≤◌, List, ◌++◌, length, take, drop, Option, sym, ap, subst, ◌∙◌, append-nil, length-append, arith}
+use Rattle.std.proofs.Common.{◌≡◌, ◌≢◌, refl, [], ◌∷◌, Bool, true, false, not, ◌&&◌, ◌==◌, nat_le, if◌then◌else◌, ℕ, ◌+◌, ◌^◌, ◌<◌, ◌≤◌, List, ◌++◌, length, take, drop, Option, IfSome, sym, ap, subst, ◌∙◌, append-nil, length-append, arith}
 use Rattle.std.proofs.lemmas.Grind.{common_steps}
 use Rattle.std.specs.Io.KnownBytes.{IsAtEnd}
 use Rattle.desk_ports.specs.declared.desk.Inlet.TheVariants as inlet
@@ -9,18 +9,14 @@ use Rattle.desk_ports.proofs.Courses.{rest_of, IfSome-rest_of, IfSome-IsAtEnd}
 use Rattle.packet_store.specs.declared.header.Header.{Header}
 use Rattle.packet_store.specs.declared.fault.StoreKind.{StoreKind}
 use Rattle.packet_store.specs.declared.fault.StoreKind.TheVariants as kind
-use Rattle.packet_store.specs.declared.packet.Short.{Short}
-use Rattle.packet_store.specs.declared.packet.Short.TheVariants as short
-use Rattle.packet_store.specs.declared.packet.PacketFault.{PacketFault}
-use Rattle.packet_store.specs.declared.packet.PacketFault.TheVariants as packet
 use Rattle.packet_store.specs.declared.fault.WalkFault.TheVariants as fault
 use Rattle.packet_store.specs.declared.reader.Taken.{Taken}
 use Rattle.packet_store.specs.SpacePackets.{IsHeader, header_of, packet_bytes, is_chosen, is_misshapen}
 use Rattle.packet_store.specs.Walks.{IsGood, Front, Good, Bad, by_checks, front_after, front, Walk, behind_packet, walk_from}
-use Rattle.packet_store.specs.StoreReader.{ReaderState, state_of, span_by, span_of, AreWithin, Takes, Stops, IsOnlyCut, Loses, AfterFault}
-use Rattle.packet_store.specs.Reading.{IsBad, IsEarly, AfterUnread, of_short, in_room, fault_at}
+use Rattle.packet_store.specs.StoreReader.{ReaderState, state_of, span_by, span_of, AreWithin, Takes, Stops, IsOnlyCut, Loses}
+use Rattle.packet_store.specs.Reading.{in_room}
 use Rattle.packet_store.proofs.Packets.{header_at-header_of}
-use Rattle.packet_store.proofs.Walks.{not_full, walk_from-none, walk_from-good, walk_from-bad, walk_from-too_many, walk_from-early}
+use Rattle.packet_store.proofs.Walks.{not_full, IsEarly, walk_from-none, walk_from-good, walk_from-bad, walk_from-too_many, walk_from-early}
 
 -- fewer bytes than a header has
 front-short : (chosen : Option ℕ) (bytes : List ℕ) → 0 < length bytes → length bytes < 6 → front chosen bytes ≡ Bad kind.Cut
@@ -86,52 +82,82 @@ front-cut chosen h bytes fields version shape few =
     let zero : (h.version == 0) ≡ true = ap (λ n. n == 0) version in
     front-header chosen h bytes fields ∙ (λ i. by_checks (zero i) (shape i) (not_long (h.length + 1) (length bytes) few i) (found h bytes))
 
--- the input ended or failed inside a header
-pub AfterUnread-start : (chosen : Option ℕ) (a b : Meanings) (s : Short) → ((bytes : List ℕ) × (length bytes < 6) × Moves a b inlet.Main bytes)
-    → (s ≡ short.Cut → (bytes : List ℕ) × (0 < length bytes) × (length bytes < 6) × Moves a b inlet.Main bytes × IsAtEnd (left b inlet.Main)) → AfterUnread chosen a b (of_short s)
-AfterUnread-start chosen a b short.Cut lost cut =
-    let at = cut refl in
-    let none = append-nil at.0 in
-    record {
-      taken = at.0;
-      rest = [];
-      moved = at.3;
-      told = IfSome-IsAtEnd (left b inlet.Main) at.4;
-      is = ap (front chosen) none ∙ front-short chosen at.0 at.1 at.2;
-      within = omega (arith, at.2, span_of-short chosen at.0 at.2);
-    }
-AfterUnread-start chosen a b short.ReadFault lost cut = record { lost = lost.0; moved = lost.2; early = IsEarly-short chosen lost.0 lost.1; within = omega (arith, lost.1, span_of-short chosen lost.0 lost.1) }
+AreWithin-span : (s : ReaderState) (bytes : List ℕ) → s.taken < 2 ^ 32 → length bytes ≤ span_of s.chosen bytes → AreWithin s bytes
+AreWithin-span s bytes few within = subst (λ b. length bytes ≤ (if b then 1 else span_of s.chosen bytes)) (sym (not_full s.taken few)) within
 
-IsBad-header : (chosen : Option ℕ) (a b : Meanings) (h : Header) (start : List ℕ) (why : StoreKind) → IsHeader h → start ≡ header_of h → Moves a b inlet.Main start → ((rest : List ℕ) → front chosen (header_of h ++ rest) ≡ Bad why) → IsBad chosen a b why
-IsBad-header chosen a b h start why fields spelled moved is = record {
-  taken = header_of h;
-  rest = rest_of (left b inlet.Main);
-  moved = subst (Moves a b inlet.Main) spelled moved;
-  told = IfSome-rest_of (left b inlet.Main);
-  is = is (rest_of (left b inlet.Main));
-  within = omega (arith, span_of-header chosen h [] fields, span_by-header chosen h);
+-- no good packet stands at the front
+Stops-bad : (s : ReaderState) (a b : Meanings) (taken rest : List ℕ) (why : StoreKind) → s.taken < 2 ^ 32 → Moves a b inlet.Main taken → IfSome (left b inlet.Main) (λ bytes. bytes ≡ rest)
+    → front s.chosen (taken ++ rest) ≡ Bad why → length taken ≤ span_of s.chosen taken → Stops s a b (fault.Bad s.offset why)
+Stops-bad s a b taken rest why few moved told is within = record {
+  taken = taken;
+  rest = rest;
+  moved = moved;
+  told = told;
+  ends = walk_from-bad s.chosen s.taken s.offset (taken ++ rest) why is few;
+  within = AreWithin-span s taken few within;
 }
 
--- a header of another version
-pub IsBad-version : (chosen : Option ℕ) (a b : Meanings) (h : Header) (start : List ℕ) → IsHeader h → start ≡ header_of h → Moves a b inlet.Main start → h.version ≢ 0 → IsBad chosen a b kind.Version
-IsBad-version chosen a b h start fields spelled moved other = IsBad-header chosen a b h start kind.Version fields spelled moved (λ rest. front-version chosen h rest fields other)
+-- less than a packet was taken, and nothing is left
+Stops-cut : (s : ReaderState) (a b : Meanings) (taken : List ℕ) → s.taken < 2 ^ 32 → Moves a b inlet.Main taken → IsAtEnd (left b inlet.Main) → front s.chosen taken ≡ Bad kind.Cut → length taken ≤ span_of s.chosen taken → Stops s a b (fault.Bad s.offset kind.Cut)
+Stops-cut s a b taken few moved at_end is within = Stops-bad s a b taken [] kind.Cut few moved (IfSome-IsAtEnd (left b inlet.Main) at_end) (ap (front s.chosen) (append-nil taken) ∙ is) within
 
--- a header of the chosen APID and of another shape
-pub IsBad-shape : (chosen : Option ℕ) (a b : Meanings) (h : Header) (start : List ℕ) → IsHeader h → start ≡ header_of h → Moves a b inlet.Main start → h.version ≡ 0 → is_misshapen chosen h ≡ true → IsBad chosen a b kind.Shape
-IsBad-shape chosen a b h start fields spelled moved version other = IsBad-header chosen a b h start kind.Shape fields spelled moved (λ rest. front-shape chosen h rest fields version other)
+-- less than a packet was taken before a reading failed
+Loses-early : (s : ReaderState) (a b : Meanings) (lost : List ℕ) → s.taken < 2 ^ 32 → Moves a b inlet.Main lost → IsEarly (front s.chosen lost) → length lost ≤ span_of s.chosen lost → Loses s a b
+Loses-early s a b lost few moved early within =
+    let parts = walk_from-early s.chosen s.taken s.offset lost few early in
+    record { lost = lost; moved = moved; none = parts.0; early = parts.1; within = AreWithin-span s lost few within }
 
-unread : (chosen : Option ℕ) (a b : Meanings) (taken : List ℕ) (s : Short) → Moves a b inlet.Main taken → front chosen taken ≡ Bad kind.Cut → length taken ≤ span_of chosen taken → (s ≡ short.Cut → IsAtEnd (left b inlet.Main)) → AfterUnread chosen a b (of_short s)
-unread chosen a b taken short.Cut moves is within cut = record { taken = taken; rest = []; moved = moves; told = IfSome-IsAtEnd (left b inlet.Main) (cut refl); is = ap (front chosen) (append-nil taken) ∙ is; within = within }
-unread chosen a b taken short.ReadFault moves is within cut = record { lost = taken; moved = moves; early = subst IsEarly (sym is) tt; within = within }
+-- the input ended inside a header
+pub Stops-start : (s : ReaderState) (a b : Meanings) (bytes : List ℕ) → s.taken < 2 ^ 32 → 0 < length bytes → length bytes < 6 → Moves a b inlet.Main bytes → IsAtEnd (left b inlet.Main) → Stops s a b (fault.Bad s.offset kind.Cut)
+Stops-start s a b bytes few some short moved at_end = Stops-cut s a b bytes few moved at_end (front-short s.chosen bytes some short) (omega (arith, short, span_of-short s.chosen bytes short))
 
--- the input ended or failed behind a header
-pub AfterUnread-body : (chosen : Option ℕ) (a b c : Meanings) (h : Header) (start : List ℕ) (s : Short) → IsHeader h → start ≡ header_of h → Moves a b inlet.Main start → h.version ≡ 0 → is_misshapen chosen h ≡ false
-    → ((bytes : List ℕ) × (length bytes < h.length + 1) × Moves b c inlet.Main bytes) → (s ≡ short.Cut → IsAtEnd (left c inlet.Main)) → AfterUnread chosen a c (of_short s)
-AfterUnread-body chosen a b c h start s fields spelled moved version shape lost cut =
-    let taken = header_of h ++ lost.0 in
-    let moves = Moves-then a b c inlet.Main (header_of h) lost.0 (subst (Moves a b inlet.Main) spelled moved) lost.2 in
-    let within : length taken ≤ span_of chosen taken = omega (arith, span_of-header chosen h lost.0 fields, span_by-right chosen h version shape, lost.1, length-append (header_of h) lost.0) in
-    unread chosen a c taken s moves (front-cut chosen h lost.0 fields version shape lost.1) within cut
+-- a reading failed inside a header
+pub Loses-start : (s : ReaderState) (a b : Meanings) (bytes : List ℕ) → s.taken < 2 ^ 32 → length bytes < 6 → Moves a b inlet.Main bytes → Loses s a b
+Loses-start s a b bytes few short moved = Loses-early s a b bytes few moved (IsEarly-short s.chosen bytes short) (omega (arith, short, span_of-short s.chosen bytes short))
+
+-- a header was read
+pub record HasStart (a b : Meanings) (h : Header) (start : List ℕ) : Type 0 where
+  pub fields : IsHeader h
+  pub spelled : start ≡ header_of h
+  pub moved : Moves a b inlet.Main start
+
+Stops-header : (s : ReaderState) (a b : Meanings) (h : Header) (start : List ℕ) (why : StoreKind) → s.taken < 2 ^ 32 → HasStart a b h start → ((rest : List ℕ) → front s.chosen (header_of h ++ rest) ≡ Bad why) → Stops s a b (fault.Bad s.offset why)
+Stops-header s a b h start why few has is =
+    let rest = rest_of (left b inlet.Main) in
+    Stops-bad s a b (header_of h) rest why few (subst (Moves a b inlet.Main) has.spelled has.moved) (IfSome-rest_of (left b inlet.Main)) (is rest) (omega (arith, span_of-header s.chosen h [] has.fields, span_by-header s.chosen h))
+
+-- it is of another version
+pub Stops-version : (s : ReaderState) (a b : Meanings) (h : Header) (start : List ℕ) → s.taken < 2 ^ 32 → HasStart a b h start → h.version ≢ 0 → Stops s a b (fault.Bad s.offset kind.Version)
+Stops-version s a b h start few has other = Stops-header s a b h start kind.Version few has (λ rest. front-version s.chosen h rest has.fields other)
+
+-- it is of the chosen APID and of another shape
+pub Stops-shape : (s : ReaderState) (a b : Meanings) (h : Header) (start : List ℕ) → s.taken < 2 ^ 32 → HasStart a b h start → h.version ≡ 0 → is_misshapen s.chosen h ≡ true → Stops s a b (fault.Bad s.offset kind.Shape)
+Stops-shape s a b h start few has version other = Stops-header s a b h start kind.Shape few has (λ rest. front-shape s.chosen h rest has.fields version other)
+
+-- The header is right, and fewer bytes were taken behind it than its data.
+pub record HasPart (s : ReaderState) (a b c : Meanings) (h : Header) (start part : List ℕ) : Type 0 where
+  pub start_is : HasStart a b h start
+  pub version : h.version ≡ 0
+  pub shape : is_misshapen s.chosen h ≡ false
+  pub few : length part < h.length + 1
+  pub moved : Moves b c inlet.Main part
+
+Moves-part : (s : ReaderState) (a b c : Meanings) (h : Header) (start part : List ℕ) → HasPart s a b c h start part → Moves a c inlet.Main (header_of h ++ part)
+Moves-part s a b c h start part has = Moves-then a b c inlet.Main (header_of h) part (subst (Moves a b inlet.Main) has.start_is.spelled has.start_is.moved) has.moved
+
+within_part : (s : ReaderState) (a b c : Meanings) (h : Header) (start part : List ℕ) → HasPart s a b c h start part → length (header_of h ++ part) ≤ span_of s.chosen (header_of h ++ part)
+within_part s a b c h start part has = omega (arith, span_of-header s.chosen h part has.start_is.fields, span_by-right s.chosen h has.version has.shape, has.few, length-append (header_of h) part)
+
+front-part : (s : ReaderState) (a b c : Meanings) (h : Header) (start part : List ℕ) → HasPart s a b c h start part → front s.chosen (header_of h ++ part) ≡ Bad kind.Cut
+front-part s a b c h start part has = front-cut s.chosen h part has.start_is.fields has.version has.shape has.few
+
+-- the input ended behind a header
+pub Stops-body : (s : ReaderState) (a b c : Meanings) (h : Header) (start part : List ℕ) → s.taken < 2 ^ 32 → HasPart s a b c h start part → IsAtEnd (left c inlet.Main) → Stops s a c (fault.Bad s.offset kind.Cut)
+Stops-body s a b c h start part few has at_end = Stops-cut s a c (header_of h ++ part) few (Moves-part s a b c h start part has) at_end (front-part s a b c h start part has) (within_part s a b c h start part has)
+
+-- a reading failed behind a header
+pub Loses-body : (s : ReaderState) (a b c : Meanings) (h : Header) (start part : List ℕ) → s.taken < 2 ^ 32 → HasPart s a b c h start part → Loses s a c
+Loses-body s a b c h start part few has = Loses-early s a c (header_of h ++ part) few (Moves-part s a b c h start part has) (subst IsEarly (sym (front-part s a b c h start part has)) tt) (within_part s a b c h start part has)
 
 -- nothing was lost
 pub Loses-none : (s : ReaderState) (a b : Meanings) → Moves a b inlet.Main [] → Loses s a b
@@ -155,28 +181,6 @@ Stops-too_many s a b (x ∷ []) full one moved =
       ends = walk_from-too_many s.chosen s.taken s.offset x rest full;
       within = subst (λ n. 1 ≤ (if n == 2 ^ 32 then 1 else 6)) (sym full) one_byte;
     }
-
-AreWithin-span : (s : ReaderState) (bytes : List ℕ) → s.taken < 2 ^ 32 → length bytes ≤ span_of s.chosen bytes → AreWithin s bytes
-AreWithin-span s bytes few within = subst (λ b. length bytes ≤ (if b then 1 else span_of s.chosen bytes)) (sym (not_full s.taken few)) within
-
-Stops-bad : (s : ReaderState) (a b : Meanings) (why : StoreKind) → s.taken < 2 ^ 32 → IsBad s.chosen a b why → Stops s a b (fault.Bad s.offset why)
-Stops-bad s a b why few bad = record {
-  taken = bad.taken;
-  rest = bad.rest;
-  moved = bad.moved;
-  told = bad.told;
-  ends = walk_from-bad s.chosen s.taken s.offset (bad.taken ++ bad.rest) why bad.is few;
-  within = AreWithin-span s bad.taken few bad.within;
-}
-
--- where no packet was read the walk ends so
-pub AfterFault-unread : (s : ReaderState) (a b : Meanings) (unread : PacketFault) → s.taken < 2 ^ 32 → AfterUnread s.chosen a b unread → AfterFault s a b (fault_at s.offset unread)
-AfterFault-unread s a b (packet.Bad kind.Cut) few bad = Stops-bad s a b kind.Cut few bad
-AfterFault-unread s a b (packet.Bad kind.Version) few bad = Stops-bad s a b kind.Version few bad
-AfterFault-unread s a b (packet.Bad kind.Shape) few bad = Stops-bad s a b kind.Shape few bad
-AfterFault-unread s a b packet.ReadFault few lost =
-    let early = walk_from-early s.chosen s.taken s.offset lost.lost few lost.early in
-    record { lost = lost.lost; moved = lost.moved; none = early.0; early = early.1; within = AreWithin-span s lost.lost few lost.within }
 
 -- a packet was read
 pub Takes-read : (s : ReaderState) (h : Header) (held : ℕ) (room : List ℕ) (given : Taken) (a b : Meanings) → s.live ≡ true → s.taken < 2 ^ 32 → h.length + 7 ≡ held

@@ -1,22 +1,15 @@
 -- Why a store is not read on, and what the counts of the desk do then.
 use Rattle.std.specs.Prelude.{◌≡◌, Result, Ok, Err}
 use Rattle.desk_ports.specs.Meanings.{Counts, FailsToRead}
-use Rattle.desk_ports.specs.declared.stop.Stop.{Stop}
-use Rattle.desk_ports.specs.declared.stop.Stop.TheVariants as stop
+use Rattle.desk_ports.specs.Stop.{Stop}
+use Rattle.desk_ports.specs.Stop as stop
 use Rattle.packet_store.specs.declared.fault.StoreKind.TheVariants as kind
 use Rattle.packet_store.specs.declared.fault.WalkFault.{WalkFault}
 use Rattle.packet_store.specs.declared.fault.WalkFault.TheVariants as fault
 use Rattle.packet_store.specs.declared.fault.StoreFault.{StoreFault}
 use Rattle.packet_store.specs.declared.fault.StoreFault.TheVariants.{Cut, Version, Shape, ReadFault, TooMany}
 
--- the fault of a walk, as a reader answers it
-abbrev pub store_fault : WalkFault → StoreFault
-store_fault (fault.Bad byte kind.Cut) = Cut byte
-store_fault (fault.Bad byte kind.Version) = Version byte
-store_fault (fault.Bad byte kind.Shape) = Shape byte
-store_fault fault.TooMany = TooMany
-
--- the answer of a reader, as a reason to end a run
+-- the fault of a reader, as a reason to end a run
 abbrev pub stop_of : StoreFault → Stop WalkFault
 stop_of (Cut byte) = stop.Data (fault.Bad byte kind.Cut)
 stop_of (Version byte) = stop.Data (fault.Bad byte kind.Version)

@@ -3,5 +3,6 @@ pub mod Walks
 pub mod Answers
 pub mod Faults
 pub mod StoreReader
+pub mod StoreWorks
 pub mod Reading
 pub mod StoreWriter

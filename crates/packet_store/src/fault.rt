@@ -1,10 +1,9 @@
 //! Why a store is not read to its end.
 
 ghost use Rattle.std.specs.Prelude.{◌≡◌};
-ghost use Rattle.packet_store.specs.Faults.{store_fault, stop_of};
 ghost use Rattle.packet_store.specs.declared.fault.StoreFault.TheVariants as fault;
 
-use desk_ports::{Failed, Stop};
+use desk_ports::Failed;
 use thiserror::Error;
 
 /// What is wrong with the bytes of a store at a place.
@@ -56,35 +55,5 @@ impl From<Failed> for StoreFault {
 
     fn from(_failed: Failed) -> StoreFault {
         StoreFault::ReadFault
-    }
-}
-
-impl From<WalkFault> for StoreFault {
-    ghost from_gives = { λ f e. e ≡ store_fault f };
-
-    fn from(fault: WalkFault) -> StoreFault {
-        match fault {
-            WalkFault::Bad { byte, kind } => match kind {
-                StoreKind::Cut => StoreFault::Cut { byte },
-                StoreKind::Version => StoreFault::Version { byte },
-                StoreKind::Shape => StoreFault::Shape { byte },
-            },
-            WalkFault::TooMany => StoreFault::TooMany,
-        }
-    }
-}
-
-impl From<StoreFault> for Stop<WalkFault> {
-    ghost from_gives = { λ f e. e ≡ stop_of f };
-
-    fn from(fault: StoreFault) -> Stop<WalkFault> {
-        let bad = |byte, kind| Stop::Data(WalkFault::Bad { byte, kind });
-        match fault {
-            StoreFault::Cut { byte } => bad(byte, StoreKind::Cut),
-            StoreFault::Version { byte } => bad(byte, StoreKind::Version),
-            StoreFault::Shape { byte } => bad(byte, StoreKind::Shape),
-            StoreFault::TooMany => Stop::Data(WalkFault::TooMany),
-            StoreFault::ReadFault => Stop::ReadFault,
-        }
     }
 }

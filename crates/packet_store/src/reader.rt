@@ -102,10 +102,8 @@ impl StoreReader {
             }
             return Err(StoreFault::TooMany);
         }
-        let header = match read_packet(desk, self.chosen, &mut self.room) {
-            Ok(Some(header)) => header,
-            Ok(None) => return Ok(None),
-            Err(fault) => return Err(fault.at(self.offset)),
+        let Some(header) = read_packet(desk, self.chosen, self.offset, &mut self.room)? else {
+            return Ok(None);
         };
         self.live = true;
         self.held = HEADER_BYTES + header.size();

@@ -4,3 +4,4 @@ pub mod OfHistories
 pub mod Ranges
 pub mod Scanning
 pub mod Standing
+pub mod Marking

@@ -2,6 +2,7 @@
 use Rattle.std.proofs.Common.{◌≡◌, ℕ, zero, suc, ◌+◌, Bool, true, false, List, [], ◌∷◌, length, map, replicate, get_or, refl, sym, ap, ◌∙◌, arith, add-one}
 use Rattle.std.specs.Prelude.{◌||◌}
 use Rattle.std.specs.List.{list_any, range_with_len}
+use Rattle.std.proofs.lemmas.List.{length-replicate}
 use Rattle.std.proofs.lemmas.List.Folds.{list_any-append}
 use Rattle.std.proofs.lemmas.List.FromFn.{fill_by_all, length-map-range_with_len}
 use Rattle.std.proofs.lemmas.Simd.{zip2-map}
@@ -41,3 +42,15 @@ gathered-more f changes count len =
     ap (λ b. list_any (has place) (range_with_len 0 count) || b) (sym (or_false (has place count)))
     ∙ sym (list_any-append (has place) (range_with_len 0 count) (count ∷ []))
     ∙ ap (list_any (has place)) (sym (range_push 0 count count (omega arith)) ∙ ap (range_with_len 0) (sym (add-one count))))
+
+or_zeros : (v : List Bool) → or_bits v (replicate (length v) false) ≡ v
+or_zeros [] = refl
+or_zeros (bit ∷ v) = λ i. or_false bit i ∷ or_zeros v i
+
+-- a change of zeros gives nothing more
+pub gathered-quiet : (f : ℕ) (changes : List (List Bool)) (count : ℕ) → change_back changes count ≡ replicate f false → gathered f changes count ≡ gathered f changes (count + 1)
+gathered-quiet f changes count quiet =
+    let len = length-gathered f changes count in
+    sym (or_zeros (gathered f changes count))
+    ∙ ap (or_bits (gathered f changes count)) (ap (λ (n : ℕ). replicate n false) len ∙ sym quiet)
+    ∙ gathered-more f changes count (ap length quiet ∙ length-replicate f false)

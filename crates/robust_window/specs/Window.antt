@@ -1,7 +1,8 @@
 -- What a window keeps, and for which changes it stands.
-use Rattle.std.specs.Prelude.{◌≡◌, ℕ, ◌-◌, ◌<◌, ◌≤◌, Bool, false, List, [], length, replicate, All, slice_index_or}
+use Rattle.std.specs.Prelude.{◌≡◌, ℕ, ◌-◌, ◌<◌, ◌≤◌, ◌==◌, Bool, true, false, if◌then◌else◌, List, [], ◌∷◌, length, replicate, All, Contains, slice_index_or}
+use Rattle.std.specs.Int.{bit_at}
 use Rattle.circular_buffer.specs.Buffer.{Buffer}
-use Rattle.bit_vectors.specs.Vectors.{IsVector}
+use Rattle.bit_vectors.specs.Vectors.{IsVector, number_bits}
 use Rattle.robust_window.specs.Changes.{MaskStep, IsQuiet, latest_change, mask_step, takes_new_mask, recent_of, level_of, twice_of}
 
 -- The latest sixteen changes and new-mask flags, the oldest first; the values at the latest step; the required
@@ -21,6 +22,23 @@ change_back changes back = slice_index_or changes (15 - back) []
 
 abbrev pub new_mask_back : List Bool → ℕ → Bool
 new_mask_back new_masks back = slice_index_or new_masks (15 - back) false
+
+-- the marks of the latest sixteen steps, the oldest first, and that of so many steps back: the bits of a number
+abbrev pub marks_of : ℕ → List Bool
+marks_of marks = number_bits 16 marks
+
+abbrev pub mark_back : ℕ → ℕ → Bool
+mark_back marks back = bit_at marks back == 1
+
+-- the slots that are marked, and nothing in place of the others
+abbrev pub where_marked : {A : Type 0} → List Bool → List A → A → List A
+where_marked (mark ∷ marks) (slot ∷ slots) nothing = (if mark then slot else nothing) ∷ where_marked marks slots nothing
+where_marked (mark ∷ marks) [] nothing = []
+where_marked [] slots nothing = []
+
+-- the latest sixteen changes of so many places, the oldest first: a slot without a mark stands for zeros, whatever it has
+abbrev pub changes_of : ℕ → ℕ → List (List Bool) → List (List Bool)
+changes_of f marks slots = where_marked (marks_of marks) slots (replicate f false)
 
 -- A value for each of the latest sixteen of so many steps, by how many steps back it is, and a value that stands for none
 -- where there are fewer steps.
@@ -44,14 +62,15 @@ pub record StandsFor (steps : List MaskStep) (value : WindowState) : Type 0 wher
   pub twice : 0 < length steps → value.twice ≡ twice_of steps (latest_change steps)
   pub taken : value.taken ≡ length steps
 
--- the parts of a window agree: sixteen changes and flags, vectors of one length, and numbers within their bounds
-pub record IsWindow (changes : Buffer (List Bool)) (new_masks : Buffer Bool) (recent : List Bool) (level robust taken : ℕ) : Type 0 where
+-- The parts of a window agree: sixteen slots for changes, vectors of one length, and numbers within their bounds. What is
+-- marked is a change with a one.
+pub record IsWindow (changes : Buffer (List Bool)) (marks : ℕ) (zeros recent : List Bool) (level robust taken : ℕ) : Type 0 where
   pub vector : IsVector recent
-  pub changes_full : changes.capacity ≡ 16
-  pub changes_len : length changes.items ≡ 16
+  pub full : changes.capacity ≡ 16
+  pub slots : length changes.items ≡ 16
   pub places : All (λ change. length change ≡ length recent) changes.items
-  pub new_masks_full : new_masks.capacity ≡ 16
-  pub new_masks_len : length new_masks.items ≡ 16
+  pub marked : (back : ℕ) → back < 16 → mark_back marks back ≡ true → Contains (change_back changes.items back) true
+  pub zeros_are : zeros ≡ replicate (length recent) false
   pub level_most : level ≤ 15
   pub robust_most : robust ≤ 7
   pub taken_most : taken ≤ 4294967296

@@ -2,6 +2,7 @@
 #![tactic(auto)]
 
 mod laws;
+mod marks;
 mod scan;
 mod window;
 

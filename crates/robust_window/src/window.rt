@@ -4,7 +4,7 @@ ghost use Rattle.std.specs.Prelude.{◌≡◌, ◌+◌, ◌-◌, ◌<◌, ◌≤
 ghost use Rattle.robust_window.specs.Changes.{MaskStep, latest_change, level_of, mask_step, recent_of, twice_of};
 ghost use Rattle.robust_window.specs.Window.{StandsFor, change_back};
 
-use crate::scan;
+use crate::{marks, scan};
 use bit_vectors::{Bits, NoMemory};
 use circular_buffer::HeapCircularBuffer;
 use std::alloc::Global;
@@ -13,12 +13,15 @@ use std::marker::Model;
 /// The greatest effective robustness level.
 const MOST_LEVEL: u64 = 15;
 
-/// Keeps the latest sixteen changes of a mask and their new-mask flags, and not the history (CCSDS 124.0-B-1).
+/// Keeps the latest sixteen changes of a mask and their new-mask flags, and not the history (CCSDS 124.0-B-1). A mark
+/// tells which of the changes are not zero; the others are neither written nor read.
 /// Contracts see them and the values at the latest step, and say for which changes they stand.
 #[derive(Debug, Drop)]
 pub struct Window {
     changes: HeapCircularBuffer<Bits>,
-    new_masks: HeapCircularBuffer<bool>,
+    changed: u16,
+    new_masks: u16,
+    zeros: Bits,
     recent: Bits,
     level: u8,
     twice: bool,
@@ -27,13 +30,14 @@ pub struct Window {
 }
 
 impl Model for Window {
-    ghost use Rattle.robust_window.specs.Window.{WindowState, IsWindow};
+    ghost use Rattle.robust_window.specs.Window.{WindowState, IsWindow, changes_of, marks_of};
+    ghost use Rattle.std.specs.Prelude.{length};
 
     ghost Value = { WindowState };
 
     ghost view = { λ w. record {
-      changes = w.changes.items;
-      new_masks = w.new_masks.items;
+      changes = changes_of (length w.recent) w.changed w.changes.items;
+      new_masks = marks_of w.new_masks;
       recent = w.recent;
       level = w.level;
       twice = w.twice;
@@ -41,7 +45,7 @@ impl Model for Window {
       taken = w.taken;
     } };
 
-    ghost invariant = { λ w. IsWindow w.changes w.new_masks w.recent w.level w.robust w.taken };
+    ghost invariant = { λ w. IsWindow w.changes w.changed w.zeros w.recent w.level w.robust w.taken };
 }
 
 impl Window {
@@ -58,7 +62,9 @@ impl Window {
     {
         Ok(Window {
             changes: scan::zero_changes(alloc, f)?,
-            new_masks: scan::clear_flags(alloc)?,
+            changed: 0,
+            new_masks: 0,
+            zeros: Bits::zeros(alloc, f)?,
             recent: Bits::zeros(alloc, f)?,
             level: 0,
             twice: false,
@@ -83,11 +89,18 @@ impl Window {
         ensures taken { self.new.taken ≡ self.old.taken + 1 }
     {
         let most = self.taken.min(MOST_LEVEL) as u8;
-        scan::push_change(&mut self.changes, change);
-        self.new_masks.push_back(new_mask);
-        scan::gather(&self.changes, self.robust + 1, &mut self.recent);
-        self.level = scan::quiet_level(&self.changes, self.robust, most);
-        self.twice = scan::has_two(&self.new_masks, self.level + 1);
+        let changed = !change.is_zero();
+        scan::push_change(&mut self.changes, change, changed);
+        self.changed = marks::pushed(self.changed, changed);
+        self.new_masks = marks::pushed(self.new_masks, new_mask);
+        scan::gather(
+            &self.changes,
+            self.changed,
+            self.robust + 1,
+            &mut self.recent,
+        );
+        self.level = marks::quiet_level(self.changed, self.robust, most);
+        self.twice = marks::has_two(self.new_masks, self.level + 1);
         self.taken += 1;
     }
 
@@ -133,6 +146,10 @@ impl Window {
         ensures kept { result.now ≡ change_back self.now.changes back }
         ensures places { length result.now ≡ length self.now.recent }
     {
-        scan::change_back(&self.changes, back)
+        if marks::is_set(self.changed, back) {
+            scan::change_back(&self.changes, back)
+        } else {
+            &self.zeros
+        }
     }
 }

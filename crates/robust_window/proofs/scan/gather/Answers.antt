@@ -1,22 +1,42 @@
-use Rattle.std.proofs.Common.{◌≡◌, ◌-◌, false, ap, ◌∙◌, arith, List, Bool, [], length}
+use Rattle.std.proofs.Common.{◌≡◌, ◌-◌, ◌<◌, false, true, sym, ap, ◌∙◌, arith, List, Bool, [], length}
 use Rattle.std.proofs.lemmas.List.{length-replicate}
 use Rattle.std.proofs.lemmas.List.Elements.{All-get_or}
 use Rattle.bit_vectors.specs.Vectors.{or_bits}
-use Rattle.robust_window.specs.Window.{change_back}
-use Rattle.robust_window.proofs.Scanning.{gathered-more, gathered-none}
+use Rattle.robust_window.specs.Window.{change_back, changes_of, mark_back}
+use Rattle.robust_window.proofs.Marking.{changes_of-marked, changes_of-quiet}
+use Rattle.robust_window.proofs.Scanning.{gathered-more, gathered-none, gathered-quiet}
 use Rattle.robust_window.proofs.scan.gather.Goals as goal
+use Rattle.robust_window.proofs.scan.gather.Goals.{then-is_set, else-is_set}
 
 pub loop-back-init : goal.loop-back-init
-loop-back-init c = record { places = ap length c.clear.ensures ∙ length-replicate (length c.args.recent.now) false; gathered = c.clear.ensures ∙ gathered-none (length c.args.recent.now) c.args.changes.now.items }
+loop-back-init c =
+    let f = length c.args.recent.now in
+    record { places = ap length c.clear.ensures ∙ length-replicate f false; gathered = c.clear.ensures ∙ gathered-none f (changes_of f c.args.marks c.args.changes.now.items) }
 
 pub loop-back-preserved : goal.loop-back-preserved
 loop-back-preserved c =
-    record {
-      places = c.or_in.ensures.len ∙ c.loop-back.invariant.places;
-      gathered =
-          c.or_in.ensures.bits
-          ∙ ap (or_bits c.loop-back.recent) c.change_back.ensures
-          ∙ ap (λ v. or_bits v (change_back c.args.changes.now.items c.loop-back.back)) c.loop-back.invariant.gathered
-          ∙ gathered-more (length c.args.recent.now) c.args.changes.now.items c.loop-back.back
-          (All-get_or (λ (change : List Bool). length change ≡ length c.args.recent.now) c.args.changes.now.items (15 - c.loop-back.back) [] (omega arith) c.requires.places);
-    }
+    let f = length c.args.recent.now in
+    let slots = c.args.changes.now.items in
+    let back = c.loop-back.back in
+    let latest = changes_of f c.args.marks slots in
+    let lt : back < 16 = omega arith in
+    elim c.if-is_set.branch [
+      | then-is_set w ↦
+          let set : mark_back c.args.marks back ≡ true = sym c.is_set.ensures ∙ w.if-is_set.true in
+          let same = changes_of-marked f c.args.marks slots back c.requires.full lt set in
+          let places = All-get_or (λ (change : List Bool). length change ≡ f) slots (15 - back) [] (omega arith) c.requires.places in
+          record {
+            places = ap length w.recent-is ∙ (w.or_in.ensures.len ∙ c.loop-back.invariant.places);
+            gathered =
+                w.recent-is ∙ w.or_in.ensures.bits
+                ∙ ap (or_bits c.loop-back.recent) (w.change_back.ensures ∙ sym same)
+                ∙ ap (λ v. or_bits v (change_back latest back)) c.loop-back.invariant.gathered
+                ∙ gathered-more f latest back (ap length same ∙ places);
+          }
+      | else-is_set w ↦
+          let unset : mark_back c.args.marks back ≡ false = sym c.is_set.ensures ∙ w.if-is_set.false in
+          record {
+            places = ap length w.recent-is ∙ c.loop-back.invariant.places;
+            gathered = w.recent-is ∙ c.loop-back.invariant.gathered ∙ gathered-quiet f latest back (changes_of-quiet f c.args.marks slots back c.requires.full lt unset);
+          }
+    ]

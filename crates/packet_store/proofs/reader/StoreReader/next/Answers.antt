@@ -6,8 +6,7 @@ use Rattle.packet_store.specs.StoreReader.{ReaderState, state_of, Takes, Stops, 
 use Rattle.std.specs.Vec.{with_items}
 use Rattle.std.proofs.lemmas.List.{with_items_is}
 use Rattle.packet_store.specs.declared.reader.Taken.{Taken}
-use Rattle.packet_store.specs.Reading.{fault_at}
-use Rattle.packet_store.proofs.Reading.{Loses-none, Stops-too_many, AfterFault-unread, Takes-read}
+use Rattle.packet_store.proofs.Reading.{Loses-none, Stops-too_many, Takes-read}
 use Rattle.packet_store.proofs.reader.StoreReader.next.Goals as goal
 
 pub returns-in_err-is_at_end-clause-fault : goal.returns-in_err-is_at_end-clause-fault
@@ -26,16 +25,17 @@ returns-then-self-eq-MOST_PACKETS-clause-fault g c =
     let old = state_of inside.chosen inside.taken inside.offset inside.live inside.held inside.room.items in
     subst (λ s. Stops s a b fault.TooMany) c.self.view_is (Stops-too_many old a b c.is_at_end.new.room c.if-self-eq-MOST_PACKETS.true (grind (arith, common_steps)) (told.more refl))
 
-pub returns-in-Err-clause-fault : goal.returns-in-Err-clause-fault
-returns-in-Err-clause-fault g c =
+pub returns-in_err-header-clause-fault : goal.returns-in_err-header-clause-fault
+returns-in_err-header-clause-fault g c =
     let meaning = g.D.Desk.meaning in
     let a = meaning c.args.desk.now in
     let b = meaning c.read_packet.new.desk in
     let inside = c.self.inside in
     let old = state_of inside.chosen inside.taken inside.offset inside.live inside.held inside.room.items in
     let few : inside.taken < 2 ^ 32 = omega (arith, c.self.invariant.few, c.if-self-eq-MOST_PACKETS.false) in
-    let after = AfterFault-unread old a b c.in-Err.fault few c.in-Err.ensures.unread in
-    subst (λ f. AfterFault c.args.self.now a b f) (sym c.at.ensures) (subst (λ (s : ReaderState). AfterFault s a b (fault_at inside.offset c.in-Err.fault)) c.self.view_is after)
+    let after = c.in_err-header.ensures.unread old refl refl few in
+    let p = err_from_is_err_and c.from_residual-in_err-header.result c.from_residual-in_err-header.ensures.1 in
+    rw (p.1, p.2) (subst (λ (s : ReaderState). AfterFault s a b c.in_err-header.field-0.0) c.self.view_is after)
 
 pub returns-clause-some : goal.returns-clause-some
 returns-clause-some g c =
@@ -44,8 +44,8 @@ returns-clause-some g c =
     let b = meaning c.read_packet.new.desk in
     let inside = c.self.inside in
     let old = state_of inside.chosen inside.taken inside.offset inside.live inside.held inside.room.items in
-    let told = rw c.in-Ok-Some.field-0-is at c.in-Ok-Some.ensures in
-    let h = c.in-Ok-Some.header in
+    let told = rw c.in-Some.is at c.in_ok-header.ensures in
+    let h = c.in-Some.header in
     let few : inside.taken < 2 ^ 32 = omega (arith, c.self.invariant.few, c.if-self-eq-MOST_PACKETS.false) in
     let live : inside.live ≡ true = ap (λ (s : ReaderState). s.live) c.self.view_is ∙ c.requires.live in
     let size : h.length + 7 ≡ 6 + c.size.result = omega (arith, c.size.ensures) in

@@ -1,44 +1,74 @@
-use Rattle.std.proofs.Common.{◌≡◌, ◌+◌, List, [], ◌∷◌, ◌++◌, length, Bool, false, drop, replicate, subst, sym, ap, ◌∙◌, arith}
-use Rattle.std.specs.Prelude.{All}
-use Rattle.circular_buffer.specs.Buffer.{Buffer, keep_last}
-use Rattle.robust_window.specs.Window.{WindowState}
+use Rattle.std.proofs.Common.{◌≡◌, ℕ, ◌+◌, ◌-◌, ◌<◌, ◌≤◌, List, [], ◌∷◌, ◌++◌, length, Bool, true, false, if◌then◌else◌, drop, replicate, subst, sym, ap, ◌∙◌, arith}
+use Rattle.std.specs.Prelude.{All, Contains, not}
+use Rattle.std.proofs.lemmas.List.{length-replicate}
+use Rattle.std.proofs.lemmas.List.Elements.{All-get_or}
+use Rattle.circular_buffer.specs.Buffer.{Buffer}
+use Rattle.robust_window.specs.Window.{WindowState, change_back, changes_of, mark_back}
+use Rattle.robust_window.proofs.Marking.{changes_of-marked, changes_of-pushed, changes_of-quiet, length-changes_of, length-marks, marked-pushed, marked_one, unmarked_zeros}
 use Rattle.robust_window.proofs.Scanning.{gathered, length-gathered}
-use Rattle.robust_window.proofs.Standing.{All-pushed, StandsFor-next, keep_last-full, length-pushed}
+use Rattle.robust_window.proofs.Standing.{All-pushed, StandsFor-next, length-pushed}
 use Rattle.robust_window.proofs.window.Window.step.Goals as goal
 
-recent_len : (c : goal.After-self-3-1) → length c.gather.new.recent ≡ length c.self.inside.recent
-recent_len c = ap length c.gather.ensures ∙ length-gathered (length c.self.inside.recent) c.push_change.new.changes.items (c.self.inside.robust + 1)
+recent_len : (c : goal.After-self-5-1) → length c.gather.new.recent ≡ length c.self.inside.recent
+recent_len c =
+    let f = length c.self.inside.recent in
+    ap length c.gather.ensures ∙ length-gathered f (changes_of f c.pushed-self-inside.result c.push_change.new.changes.items) (c.self.inside.robust + 1)
 
-changes_are : (c : goal.After-self-3-1) → c.push_change.new.changes.items ≡ drop 1 c.self.inside.changes.items ++ c.args.change.now ∷ []
-changes_are c = ap (λ (b : Buffer (List Bool)). b.items) c.push_change.ensures
-
-new_masks_are : (c : goal.After-self-3-1) → c.push_back.new.self.items ≡ drop 1 c.self.inside.new_masks.items ++ c.args.new_mask ∷ []
-new_masks_are c =
-    ap (λ (b : Buffer Bool). b.items) c.push_back.ensures.items
-    ∙ ap (λ n. keep_last n (c.self.inside.new_masks.items ++ c.args.new_mask ∷ [])) c.self.invariant.new_masks_full
-    ∙ keep_last-full c.self.inside.new_masks.items c.args.new_mask c.self.invariant.new_masks_len
-
-change_len : (c : goal.After-self-3-1) → length c.args.change.now ≡ length c.self.inside.recent
+change_len : (c : goal.After-self-5-1) → length c.args.change.now ≡ length c.self.inside.recent
 change_len c = c.requires.places ∙ ap (λ (k : WindowState). length k.recent) (sym c.self.view_is)
+
+slots_are : (c : goal.After-self-5-1) → c.push_change.new.changes.items ≡ drop 1 c.self.inside.changes.items ++ (if not c.is_zero-changed.result then c.args.change.now else change_back c.self.inside.changes.items 15) ∷ []
+slots_are c = ap (λ (b : Buffer (List Bool)). b.items) c.push_change.ensures
+
+-- a change that isn't marked is zeros
+quiet_change : (c : goal.After-self-5-1) → not c.is_zero-changed.result ≡ false → c.args.change.now ≡ replicate (length c.self.inside.recent) false
+quiet_change c quiet = unmarked_zeros c.is_zero-changed.result c.args.change.now c.is_zero-changed.ensures.zero quiet ∙ ap (λ (n : ℕ). replicate n false) (change_len c)
+
+changes_are : (c : goal.After-self-5-1) → let f = length c.self.inside.recent in changes_of f c.pushed-self-inside.result c.push_change.new.changes.items ≡ drop 1 (changes_of f c.self.inside.changed c.self.inside.changes.items) ++ c.args.change.now ∷ []
+changes_are c =
+    let f = length c.self.inside.recent in
+    let slots = c.self.inside.changes.items in
+    ap (changes_of f c.pushed-self-inside.result) (slots_are c)
+    ∙ changes_of-pushed f c.self.inside.changed c.pushed-self-inside.result slots c.args.change.now (change_back slots 15) (not c.is_zero-changed.result) c.self.invariant.slots c.pushed-self-inside.ensures (quiet_change c)
 
 pub returns-clause-places : goal.returns-clause-places
 returns-clause-places c = recent_len c ∙ ap (λ (k : WindowState). length k.recent) c.self.view_is
+
+slots_len : (c : goal.After-self-5-1) → length c.push_change.new.changes.items ≡ 16
+slots_len c = ap length (slots_are c) ∙ length-pushed c.self.inside.changes.items (if not c.is_zero-changed.result then c.args.change.now else change_back c.self.inside.changes.items 15) c.self.invariant.slots
+
+-- what is marked has a one
+marked_are : (c : goal.After-self-5-1) → (back : ℕ) → back < 16 → mark_back c.pushed-self-inside.result back ≡ true → Contains (change_back c.push_change.new.changes.items back) true
+marked_are c =
+    let slots = c.self.inside.changes.items in
+    subst (λ (xs : List (List Bool)). (back : ℕ) → back < 16 → mark_back c.pushed-self-inside.result back ≡ true → Contains (change_back xs back) true) (sym (slots_are c))
+    (marked-pushed c.self.inside.changed c.pushed-self-inside.result slots c.args.change.now (change_back slots 15) (not c.is_zero-changed.result) c.self.invariant.slots c.pushed-self-inside.ensures
+    (marked_one c.is_zero-changed.result c.args.change.now c.is_zero-changed.ensures.some) c.self.invariant.marked)
+
+slot_len : (mark : Bool) (change kept : List Bool) (f : ℕ) → length change ≡ f → length kept ≡ f → length (if mark then change else kept) ≡ f
+slot_len true change kept f one other = one
+slot_len false change kept f one other = other
 
 pub invariant_of-self : goal.invariant_of-self
 invariant_of-self c =
     let same : length c.gather.new.recent ≡ length c.self.inside.recent = recent_len c in
     let taken : c.self.inside.taken ≡ c.args.self.now.taken = ap (λ (k : WindowState). k.taken) c.self.view_is in
+    let slots = c.self.inside.changes.items in
+    let kept = change_back slots 15 in
+    let fits = λ (v : List Bool). length v ≡ length c.gather.new.recent in
+    let places : All fits slots = λ k d lt. c.self.invariant.places k d lt ∙ sym same in
+    let last : length kept ≡ length c.gather.new.recent = All-get_or fits slots (15 - 15) [] (omega (arith, c.self.invariant.slots)) places in
     record {
       vector = (omega (arith, c.self.invariant.vector.0), omega (arith, c.self.invariant.vector.1));
-      changes_full = ap (λ (b : Buffer (List Bool)). b.capacity) c.push_change.ensures;
-      changes_len = ap length (changes_are c) ∙ length-pushed c.self.inside.changes.items c.args.change.now c.self.invariant.changes_len;
+      full = ap (λ (b : Buffer (List Bool)). b.capacity) c.push_change.ensures;
+      slots = slots_len c;
       places =
-          subst (λ xs. All (λ (v : List Bool). length v ≡ length c.gather.new.recent) xs) (sym (changes_are c))
-          (All-pushed (λ (v : List Bool). length v ≡ length c.gather.new.recent) c.self.inside.changes.items c.args.change.now
-          (λ k d lt. c.self.invariant.places k d lt ∙ sym same) (change_len c ∙ sym same));
-      new_masks_full = ap (λ (b : Buffer Bool). b.capacity) c.push_back.ensures.items ∙ c.self.invariant.new_masks_full;
-      new_masks_len = ap length (new_masks_are c) ∙ length-pushed c.self.inside.new_masks.items c.args.new_mask c.self.invariant.new_masks_len;
-      level_most = omega (arith, c.self.invariant.robust_most);
+          subst (All fits) (sym (slots_are c))
+          (All-pushed fits slots (if not c.is_zero-changed.result then c.args.change.now else kept) places
+          (slot_len (not c.is_zero-changed.result) c.args.change.now kept (length c.gather.new.recent) (change_len c ∙ sym same) last));
+      marked = marked_are c;
+      zeros_are = c.self.invariant.zeros_are ∙ ap (λ (n : ℕ). replicate n false) (sym same);
+      level_most = omega (arith, c.self.invariant.robust_most, c.quiet_level-self-inside.ensures.most);
       robust_most = c.self.invariant.robust_most;
       taken_most = omega arith;
     }
@@ -48,23 +78,39 @@ returns-clause-stands c = λ steps step stands change new_mask robust.
     let was = sym c.self.view_is in
     let robust_is : step.robust ≡ c.self.inside.robust = robust ∙ ap (λ (k : WindowState). k.robust) was in
     let taken_is : c.args.self.now.taken ≡ c.self.inside.taken = ap (λ (k : WindowState). k.taken) was in
+    let f = length c.self.inside.recent in
+    let places = length c.gather.new.recent in
+    let marks = c.pushed-self-inside.result in
+    let slots = c.push_change.new.changes.items in
+    let level = c.quiet_level-self-inside.result in
+    let most : level ≤ 15 = omega (arith, c.self.invariant.robust_most, c.quiet_level-self-inside.ensures.most) in
     StandsFor-next steps step c.args.self.now _ stands (record {
-      full = ap (λ (k : WindowState). length k.changes) was ∙ c.self.invariant.changes_len;
-      flags_full = ap (λ (k : WindowState). length k.new_masks) was ∙ c.self.invariant.new_masks_len;
+      full = ap (λ (k : WindowState). length k.changes) was ∙ length-changes_of f c.self.inside.changed c.self.inside.changes.items c.self.invariant.slots;
+      flags_full = ap (λ (k : WindowState). length k.new_masks) was ∙ length-marks c.self.inside.new_masks;
       robust_most = omega (arith, c.self.invariant.robust_most);
       places = ap length change ∙ c.requires.places;
       start = λ none. change ∙ c.requires.first_change none ∙ ap (λ (v : List Bool). replicate (length v) false) (sym change);
-      changes = changes_are c ∙ ap (λ (k : WindowState). drop 1 k.changes ++ c.args.change.now ∷ []) c.self.view_is ∙ ap (λ v. drop 1 c.args.self.now.changes ++ v ∷ []) (sym change);
-      new_masks = new_masks_are c ∙ ap (λ (k : WindowState). drop 1 k.new_masks ++ c.args.new_mask ∷ []) c.self.view_is ∙ ap (λ b. drop 1 c.args.self.now.new_masks ++ b ∷ []) (sym new_mask);
+      changes =
+          ap (λ (n : ℕ). changes_of n marks slots) (recent_len c)
+          ∙ changes_are c
+          ∙ ap (λ (k : WindowState). drop 1 k.changes ++ c.args.change.now ∷ []) c.self.view_is
+          ∙ ap (λ v. drop 1 c.args.self.now.changes ++ v ∷ []) (sym change);
+      new_masks = c.pushed-self-inside-2.ensures ∙ ap (λ (k : WindowState). drop 1 k.new_masks ++ c.args.new_mask ∷ []) c.self.view_is ∙ ap (λ b. drop 1 c.args.self.now.new_masks ++ b ∷ []) (sym new_mask);
       recent =
           c.gather.ensures
-          ∙ ap (λ (k : WindowState). gathered (length k.recent) c.push_change.new.changes.items (c.self.inside.robust + 1)) c.self.view_is
-          ∙ ap (λ r. gathered (length c.args.self.now.recent) c.push_change.new.changes.items (r + 1)) (sym robust_is);
+          ∙ ap (λ (n : ℕ). gathered f (changes_of n marks slots) (c.self.inside.robust + 1)) (sym (recent_len c))
+          ∙ ap (λ (k : WindowState). gathered (length k.recent) (changes_of places marks slots) (c.self.inside.robust + 1)) c.self.view_is
+          ∙ ap (λ r. gathered (length c.args.self.now.recent) (changes_of places marks slots) (r + 1)) (sym robust_is);
       recent_len = recent_len c ∙ ap (λ (k : WindowState). length k.recent) c.self.view_is;
       level_least = omega (arith, c.quiet_level-self-inside.ensures.least);
       level_most = omega (arith, c.quiet_level-self-inside.ensures.most);
-      quiet = λ back above most. c.quiet_level-self-inside.ensures.quiet back (omega arith) most;
-      stops = λ less. c.quiet_level-self-inside.ensures.stops (omega arith);
+      quiet = λ back above within.
+          let zeros = changes_of-quiet places marks slots back (slots_len c) (omega arith) (c.quiet_level-self-inside.ensures.quiet back (omega arith) within) in
+          zeros ∙ ap (λ (n : ℕ). replicate n false) (sym (ap length zeros ∙ length-replicate places false));
+      stops = λ less.
+          let next : level + 1 < 16 = omega (arith, less, c.self.invariant.robust_most, robust_is) in
+          let set = c.quiet_level-self-inside.ensures.stops (omega arith) in
+          subst (λ (v : List Bool). Contains v true) (sym (changes_of-marked places marks slots (level + 1) (slots_len c) next set)) (marked_are c (level + 1) next set);
       twice = c.has_two-self-inside.ensures;
       taken = omega arith;
     })

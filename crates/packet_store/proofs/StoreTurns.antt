@@ -1,0 +1,93 @@
+-- How a turn over a store is made, for every work that is made from the walk over it.
+use Rattle.std.proofs.Common.{◌≡◌, List, [], ◌∷◌, refl, sym, ap, ◌∙◌, subst}
+use Rattle.std.specs.Io.KnownBytes.{IsAtEnd}
+use Rattle.desk_ports.specs.declared.desk.Inlet.TheVariants as inlet
+use Rattle.desk_ports.specs.Meanings.{Meanings, Moves, left}
+use Rattle.desk_ports.specs.Courses.{Outputs, no_outputs, put, AfterStop, IsCutShort}
+use Rattle.desk_ports.specs.Turns.{Work, Steps, Advances, Finishes, IsLast, Wrote, WroteFront}
+use Rattle.desk_ports.proofs.Steps.{Advances-taken, Finishes-end, IsCutShort-taken, IsCutShort-end}
+use Rattle.packet_store.specs.declared.header.Header.{Header}
+use Rattle.packet_store.specs.declared.reader.Taken.{Taken}
+use Rattle.packet_store.specs.declared.fault.WalkFault.{WalkFault}
+use Rattle.packet_store.specs.declared.fault.StoreFault.{StoreFault}
+use Rattle.packet_store.specs.SpacePackets.{Packet}
+use Rattle.packet_store.specs.Walks.{Walk}
+use Rattle.packet_store.specs.Faults.{stop_of}
+use Rattle.packet_store.specs.StoreReader.{ReaderState, walk_on, Takes, AfterFault}
+use Rattle.packet_store.specs.StoreWorks.{StoreWork, course_on, work_on}
+use Rattle.packet_store.proofs.Walks.{walk_from-none}
+use Rattle.packet_store.proofs.StoreCourses.{FollowsWalk, AfterStop-fault}
+
+-- ---- the store is not read on
+
+follows : {A : Type 0} (k : StoreWork A) (s : ReaderState) → k.before [] ≡ no_outputs → FollowsWalk (course_on k s) s
+follows k s nothing = record { nothing = λ bytes none. ap k.before none ∙ nothing; ends = λ bytes. refl }
+
+-- a fault of the store, or of the desk, ends the run
+pub AfterStop-on : {A : Type 0} (k : StoreWork A) (work : Work A WalkFault) (s : ReaderState) (a b : Meanings) (reason : StoreFault) → work ≡ work_on k s → k.before [] ≡ no_outputs → AfterFault s a b reason → AfterStop work.course a b (stop_of reason)
+AfterStop-on {A = A} k work s a b reason is nothing after = subst (λ (w : Work A WalkFault). AfterStop w.course a b (stop_of reason)) (sym is) (AfterStop-fault (course_on k s) s a b reason (follows k s nothing) after)
+
+-- ---- a packet of it was read
+
+-- the packet that a reader gave
+abbrev pub packet_of : Header → ReaderState → Packet
+packet_of header reader = record { header = header; body = reader.body }
+
+-- a packet owes this, and the packets behind it other work
+pub record GoesOn {A : Type 0} (k next : StoreWork A) (p : Packet) (outputs : Outputs) : Type 0 where
+  pub before : (packets : List Packet) → k.before (p ∷ packets) ≡ put outputs (next.before packets)
+  pub answer : (packets : List Packet) → k.answer (p ∷ packets) ≡ next.answer packets
+  pub last : k.last ≡ next.last
+
+-- A packet was read that owes this, and behind it other work is to do.
+pub record ReadsPacket {A : Type 0} (k next : StoreWork A) (s t : ReaderState) (a b : Meanings) (outputs : Outputs) : Type 0 where
+  pub given : Taken
+  pub takes : Takes s t a b given
+  pub goes_on : GoesOn k next (packet_of takes.header t) outputs
+
+Steps-on : {A : Type 0} (k next : StoreWork A) (s t : ReaderState) (a b : Meanings) (outputs : Outputs) → ReadsPacket k next s t a b outputs → Steps (work_on k s) (work_on next t) t.packet outputs
+Steps-on k next s t a b outputs reads = record {
+  course = λ rest.
+      let ps = (walk_on t rest).packets in
+      let before = reads.goes_on.before ps in
+      let answer = reads.goes_on.answer ps in
+      let last = reads.goes_on.last in
+      ap (λ (w : Walk). record { before = k.before w.packets; after = k.last (k.answer w.packets); ending = w.ending }) (reads.takes.goes_on rest)
+      ∙ (λ i. record { before = before i; after = last i (answer i); ending = (walk_on t rest).ending });
+  answer = λ rest. ap (λ (w : Walk). k.answer w.packets) (reads.takes.goes_on rest) ∙ reads.goes_on.answer (walk_on t rest).packets;
+}
+
+-- all that it owes was written
+pub Advances-on : {A : Type 0} {k next : StoreWork A} {work : Work A WalkFault} {owes : Work A WalkFault → Type 0} {s t : ReaderState} {a b d : Meanings} {outputs : Outputs}
+    → work ≡ work_on k s → ReadsPacket k next s t a b outputs → Wrote b d outputs → owes (work_on next t) → Advances work owes a d
+Advances-on {A = A} {k = k} {next = next} {owes = owes} {s = s} {t = t} {a = a} {b = b} {d = d} {outputs = outputs} is reads wrote owed =
+    subst (λ (w : Work A WalkFault). Advances w owes a d) (sym is) (Advances-taken (work_on k s) (work_on next t) owes a b d t.packet outputs owed (Steps-on k next s t a b outputs reads) reads.takes.moved wrote)
+
+-- and where a writing failed, a front of it
+pub IsCutShort-on : {A : Type 0} {k next : StoreWork A} {work : Work A WalkFault} {s t : ReaderState} {a b d : Meanings} {outputs : Outputs} → work ≡ work_on k s → ReadsPacket k next s t a b outputs → WroteFront b d outputs → IsCutShort work.course a d
+IsCutShort-on {A = A} {k = k} {next = next} {s = s} {t = t} {a = a} {b = b} {d = d} {outputs = outputs} is reads front =
+    subst (λ (w : Work A WalkFault). IsCutShort w.course a d) (sym is) (IsCutShort-taken (work_on k s) (work_on next t) a b d t.packet outputs (Steps-on k next s t a b outputs reads) reads.takes.moved front)
+
+-- ---- nothing of it is left
+
+-- nothing is owed where no packet is, and this is answered
+pub record IsDone {A : Type 0} (k : StoreWork A) (answer : A) : Type 0 where
+  pub nothing : k.before [] ≡ no_outputs
+  pub answer_is : k.answer [] ≡ answer
+
+IsLast-on : {A : Type 0} (k : StoreWork A) (s : ReaderState) (answer : A) → IsDone k answer → IsLast (work_on k s) (k.last answer) answer
+IsLast-on k s answer done =
+    let walk = walk_from-none s.chosen s.taken s.offset in
+    let nothing = ap (λ (w : Walk). k.before w.packets) walk ∙ done.nothing in
+    let numbers = ap (λ (w : Walk). k.answer w.packets) walk ∙ done.answer_is in
+    record { course = λ i. record { before = nothing i; after = k.last (numbers i); ending = (walk i).ending }; answer = numbers }
+
+-- the input is at its end, and the last part was written
+pub Finishes-on : {A : Type 0} {k : StoreWork A} {work : Work A WalkFault} (s : ReaderState) {a b d : Meanings} {answer : A} → work ≡ work_on k s → IsDone k answer → Moves a b inlet.Main [] → IsAtEnd (left a inlet.Main) → Wrote b d (k.last answer) → Finishes work a d answer
+Finishes-on {A = A} {k = k} s {a = a} {b = b} {d = d} {answer = answer} is done moved at_end wrote =
+    subst (λ (w : Work A WalkFault). Finishes w a d answer) (sym is) (Finishes-end (work_on k s) a b d (k.last answer) answer (IsLast-on k s answer done) moved at_end wrote)
+
+-- and where a writing failed, a front of it
+pub IsCutShort-end-on : {A : Type 0} {k : StoreWork A} {work : Work A WalkFault} (s : ReaderState) {a b d : Meanings} {answer : A} → work ≡ work_on k s → IsDone k answer → Moves a b inlet.Main [] → IsAtEnd (left a inlet.Main) → WroteFront b d (k.last answer) → IsCutShort work.course a d
+IsCutShort-end-on {A = A} {k = k} s {a = a} {b = b} {d = d} {answer = answer} is done moved at_end front =
+    subst (λ (w : Work A WalkFault). IsCutShort w.course a d) (sym is) (IsCutShort-end (work_on k s) a b d (k.last answer) answer (IsLast-on k s answer done) moved at_end front)

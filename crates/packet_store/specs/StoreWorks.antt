@@ -1,0 +1,25 @@
+-- Work over a store, made from the walk over it.
+use Rattle.std.specs.Prelude.{ℕ, List}
+use Rattle.desk_ports.specs.Courses.{Outputs, Course}
+use Rattle.desk_ports.specs.Turns.{Work}
+use Rattle.packet_store.specs.declared.fault.WalkFault.{WalkFault}
+use Rattle.packet_store.specs.SpacePackets.{Packet}
+use Rattle.packet_store.specs.StoreReader.{ReaderState, walk_on}
+
+-- what packets owe, what is answered behind them where the store is whole, and what is owed last by that answer
+pub record StoreWork (A : Type 0) : Type 0 where
+  pub before : List Packet → Outputs
+  pub answer : List Packet → A
+  pub last : A → Outputs
+
+-- what is owed for what is left of a store
+abbrev pub course_on : {A : Type 0} → StoreWork A → ReaderState → List ℕ → Course WalkFault
+course_on k s bytes = record {
+  before = k.before (walk_on s bytes).packets;
+  after = k.last (k.answer (walk_on s bytes).packets);
+  ending = (walk_on s bytes).ending;
+}
+
+-- the work over what is left of a store
+abbrev pub work_on : {A : Type 0} → StoreWork A → ReaderState → Work A WalkFault
+work_on k s = record { course = course_on k s; answer = λ bytes. k.answer (walk_on s bytes).packets }

@@ -1,0 +1,44 @@
+//! Marks of the latest sixteen steps: the bits of a number, that of the latest step lowest.
+
+ghost use Rattle.std.specs.Prelude.{◌≡◌, ℕ, ◌+◌, ◌<◌, ◌≤◌, nat_le, false, true, [], ◌∷◌, ◌++◌, drop, max, count_by};
+ghost use Rattle.std.specs.List.{range_with_len};
+ghost use Rattle.robust_window.specs.Window.{mark_back, marks_of, new_mask_back};
+
+/// The marks with that of one step more, without the oldest.
+pub(crate) fn pushed(marks: u16, mark: bool) -> u16
+    ensures { marks_of result ≡ drop 1 (marks_of marks) ++ mark ∷ [] }
+{
+    marks << 1 | u16::from(mark)
+}
+
+/// The mark so many steps back, at most 15.
+pub(crate) fn is_set(marks: u16, back: u8) -> bool
+    requires { back ≤ 15 }
+    ensures { result ≡ mark_back marks back }
+{
+    marks >> back & 1 == 1
+}
+
+/// One less than how many steps back the latest mark is that is more than `robust` steps back, but `robust` or `most`
+/// at most, the greater of the two.
+pub(crate) fn quiet_level(marks: u16, robust: u8, most: u8) -> u8
+    requires robust { robust ≤ 7 }
+    requires most { most ≤ 15 }
+    ensures least { robust ≤ result }
+    ensures most { result ≤ max robust most }
+    ensures quiet { (back : ℕ) → robust < back → back ≤ result → mark_back marks back ≡ false }
+    ensures stops { result < max robust most → mark_back marks (result + 1) ≡ true }
+{
+    let earlier = marks >> (robust + 1);
+    let level = robust + earlier.trailing_zeros() as u8;
+    level.min(robust.max(most))
+}
+
+/// Whether two or more of the latest `count` marks are set, at least 1 and at most 16.
+pub(crate) fn has_two(marks: u16, count: u8) -> bool
+    requires some { 1 ≤ count }
+    requires most { count ≤ 16 }
+    ensures { result ≡ nat_le 2 (count_by (new_mask_back (marks_of marks)) (range_with_len 0 count)) }
+{
+    (marks << (16 - count)).count_ones() >= 2
+}
