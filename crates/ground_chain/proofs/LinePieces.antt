@@ -14,7 +14,7 @@ use Rattle.ground_chain.specs.declared.verdict.Verdict.{Verdict}
 use Rattle.ground_chain.specs.Run.{Judged}
 use Rattle.ground_chain.specs.Report.{is_written_kind}
 use Rattle.ground_chain.specs.Reception.{Shows}
-use Rattle.ground_chain.specs.Listing.{front_line, judged_lines, kind_text, lost_line, packet_text, vector_digits, vectors_text}
+use Rattle.ground_chain.specs.Listing.{front_line, judged_lines, kind_text, latest_vectors, lost_line, packet_text, vector_digits, vectors_text}
 use Rattle.ground_chain.proofs.Writings.{kind_written}
 
 -- ---- pieces
@@ -68,7 +68,7 @@ assoc_pieces a b c d rest =
 
 -- of a written packet the vectors come behind the level
 pub lines-written : (judged : Judged) (decoder : Decoding) → is_written_kind judged.verdict.kind ≡ true → Shows decoder judged
-    → front_line judged.verdict decoder.level ++ vectors_text decoder.recent (latest_mask decoder.places decoder.state) (latest_content decoder.places decoder.state) ≡ judged_lines judged
+    → front_line judged.verdict decoder.level ++ latest_vectors decoder ≡ judged_lines judged
 lines-written judged decoder written shows =
     let lost = lost_line judged.verdict.lost in
     let number = decimal judged.verdict.t in
@@ -78,7 +78,7 @@ lines-written judged decoder written shows =
     let level = packet.level in
     let state = packet.state in
     let vectors = vectors_text packet.change.recent packet.packet.mask packet.packet.content in
-    let shown : front_line judged.verdict decoder.level ++ vectors_text decoder.recent (latest_mask decoder.places decoder.state) (latest_content decoder.places decoder.state)
+    let shown : front_line judged.verdict decoder.level ++ latest_vectors decoder
     ≡ (lost_line judged.verdict.lost ++ (decimal judged.verdict.t ++ (codes " written " ++ (decimal packet.change.level ++ codes " ")))) ++ vectors_text packet.change.recent packet.packet.mask packet.packet.content =
     λ i. (lost ++ (number ++ kind_text (kind i) (decimal (level i) ++ codes " "))) ++ vectors_text (recent i) (latest_mask decoder.places (state i)) (latest_content decoder.places (state i)) in
     let whole = assoc_pieces (lost_line judged.verdict.lost) (decimal judged.verdict.t) (codes " written ") (decimal packet.change.level ++ codes " ") vectors in
@@ -92,6 +92,6 @@ pub front_front : (a b : Meanings) (judged : Judged) (decoder : Decoding) → Sh
 front_front a b judged decoder shows cut = by_kind (is_written_kind judged.verdict.kind) refl where
   by_kind : (written : Bool) → is_written_kind judged.verdict.kind ≡ written → AddsFront a b outlet.Main (judged_lines judged)
   by_kind true written =
-      let vectors = vectors_text decoder.recent (latest_mask decoder.places decoder.state) (latest_content decoder.places decoder.state) in
+      let vectors = latest_vectors decoder in
       subst (AddsFront a b outlet.Main) (lines-written judged decoder written shows) (AddsFront-then a b outlet.Main (front_line judged.verdict decoder.level) vectors cut)
   by_kind false other = subst (AddsFront a b outlet.Main) (lines-unwritten judged decoder.level other) cut

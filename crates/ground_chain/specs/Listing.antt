@@ -9,6 +9,7 @@ use Rattle.desk_ports.specs.declared.desk.Outlet.TheVariants as outlet
 use Rattle.desk_ports.specs.Courses.{Course, to_output}
 use Rattle.hex.specs.Hex.{encode_lower}
 use Rattle.packet_decode.specs.State.{State, Change}
+use Rattle.packet_decode.specs.Decoding.{Decoding, latest_content, latest_mask}
 use Rattle.packet_store.specs.declared.fault.WalkFault.{WalkFault}
 use Rattle.packet_store.specs.Walks.{walk}
 use Rattle.ground_chain.specs.declared.listing.Listing.{Listing}
@@ -31,6 +32,10 @@ vector_digits vector = encode_lower (vector_bytes vector)
 -- the vectors of a written packet: its recent changes, its mask and its content
 abbrev pub vectors_text : List Bool → List Bool → List Bool → List ℕ
 vectors_text recent mask content = vector_digits recent ++ codes " " ++ vector_digits mask ++ codes " " ++ vector_digits content ++ codes "\n"
+
+-- those of a decoder's latest packet
+abbrev pub latest_vectors : Decoding → List ℕ
+latest_vectors decoder = vectors_text decoder.recent (latest_mask decoder.places decoder.state) (latest_content decoder.places decoder.state)
 
 -- the level of a written packet, and its vectors
 abbrev pub packet_text : Option Change → State → List ℕ

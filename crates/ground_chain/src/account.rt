@@ -36,14 +36,17 @@ pub trait Account: Drop {
         ensures wrote { (judged : Judged) → judged.verdict ≡ verdict.now → Shows decoder.now judged
             → OnOk result (Wrote (D.meaning desk.old) (D.meaning desk.new) (texts.parts judged)) }
         ensures front { (judged : Judged) → judged.verdict ≡ verdict.now → Shows decoder.now judged
-            → OnErr result (WroteFront (D.meaning desk.old) (D.meaning desk.new) (texts.parts judged)) }
+            → OnErr result
+            (WroteFront (D.meaning desk.old) (D.meaning desk.new) (texts.parts judged)) }
         ensures room { has_room self.new decoder.now.places }
         ensures cause { HasWriteCause (D.counts desk.old) (D.counts desk.new) result };
 
     /// Writes the last part.
     fn end<D: Desk>(&self, desk: &mut D, restored: &Restored) -> Result<(), Failed>
         requires ready { AreReady writes (D.meaning desk.old) }
-        ensures wrote { OnOk result (Wrote (D.meaning desk.old) (D.meaning desk.new) (texts.last restored.now)) }
-        ensures front { OnErr result (WroteFront (D.meaning desk.old) (D.meaning desk.new) (texts.last restored.now)) }
+        ensures wrote { OnOk result
+            (Wrote (D.meaning desk.old) (D.meaning desk.new) (texts.last restored.now)) }
+        ensures front { OnErr result
+            (WroteFront (D.meaning desk.old) (D.meaning desk.new) (texts.last restored.now)) }
         ensures cause { HasWriteCause (D.counts desk.old) (D.counts desk.new) result };
 }

@@ -98,17 +98,21 @@ pub fn fronts_owe_fronts()
     ensures restored { (f apid : ℕ) (front rest : List ℕ) → All (λ b. b < 256) front →
         AreFronts (restore_course f apid front).before (restore_course f apid (front ++ rest)).before }
     ensures listed { (f apid : ℕ) (front rest : List ℕ) → All (λ b. b < 256) front →
-        AreFronts (listing_course f apid front).before (listing_course f apid (front ++ rest)).before }
+        AreFronts (listing_course f apid front).before
+        (listing_course f apid (front ++ rest)).before }
 {}
 
 /// Report and listing are accounts of one run: what a store owes as either is what is written of the same verdicts.
 /// Exactly the arrivals that are not written have a row, and their lines name the same cause and value.
 pub fn report_and_listing_agree()
-    ensures report { (f apid : ℕ) (store : List ℕ) →
-        restore_course f apid store ≡ behind (to_report header_row) (store_course restored_texts f apid store) }
-    ensures listing { (f apid : ℕ) (store : List ℕ) → listing_course f apid store ≡ store_course listed_texts f apid store }
-    ensures unwritten { (judged : Judged) → is_unwritten judged.verdict.kind ≡ true → IsToldAlike judged }
-    ensures others { (judged : Judged) → is_unwritten judged.verdict.kind ≡ false → own_row judged.verdict.t judged.verdict.kind ≡ [] }
+    ensures report { (f apid : ℕ) (store : List ℕ) → restore_course f apid store
+        ≡ behind (to_report header_row) (store_course restored_texts f apid store) }
+    ensures listing { (f apid : ℕ) (store : List ℕ) →
+        listing_course f apid store ≡ store_course listed_texts f apid store }
+    ensures unwritten { (judged : Judged) →
+        is_unwritten judged.verdict.kind ≡ true → IsToldAlike judged }
+    ensures others { (judged : Judged) → is_unwritten judged.verdict.kind ≡ false →
+        own_row judged.verdict.t judged.verdict.kind ≡ [] }
 {}
 
 /// Worked runs with vectors of 8 places: the verdicts of arrivals, each with its count and its data.

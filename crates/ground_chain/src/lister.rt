@@ -57,16 +57,19 @@ impl Lister {
         requires input { IsReadyIn (D.meaning desk.old) Inlet.Main }
         requires output { IsReadyOut (D.meaning desk.old) Outlet.Main }
         // What stands after each answer is what the store owes, all of it or up to where its walk or the desk ends it.
-        ensures ran { AfterRun (listing_course self.places self.apid) (D.meaning desk.old) (D.meaning desk.new) (by_stop stop_by result) }
+        ensures ran { AfterRun (listing_course self.places self.apid)
+            (D.meaning desk.old) (D.meaning desk.new) (by_stop stop_by result) }
         ensures cause { HasCause (D.counts desk.old) (D.counts desk.new) (by_stop stop_by result) }
         // Where the desk tells the store, the numbers are those of the run over it.
-        ensures numbers { IfSome (left (D.meaning desk.old) Inlet.Main) (λ store.
-            IfOk result (λ restored. restored ≡ restored_of (store_run self.places self.apid store))) }
+        ensures numbers { IfSome (left (D.meaning desk.old) Inlet.Main) (λ store. IfOk result (λ restored.
+            restored ≡ restored_of (store_run self.places self.apid store))) }
         // Over a desk that doesn't fail the run of the played store of a valid history is done, with gaps that are shorter than
         // the period of the sequence counts, if it has no more packets than a store may have.
-        ensures complete { (h : History) (copies : ℕ → ℕ) → IsPlayed self.places self.apid h copies (D.meaning desk.old)
+        ensures complete { (h : History) (copies : ℕ → ℕ)
+            → IsPlayed self.places self.apid h copies (D.meaning desk.old)
             → length (arrivals copies (length h.steps)) ≤ 2 ^ 32
-            → ¬ Rose (D.counts desk.old).reads (D.counts desk.new).reads → ¬ Rose (D.counts desk.old).writes (D.counts desk.new).writes
+            → ¬ Rose (D.counts desk.old).reads (D.counts desk.new).reads
+            → ¬ Rose (D.counts desk.old).writes (D.counts desk.new).writes
             → IsOk result }
     {
         let mut receiving = self.receiving;

@@ -2,8 +2,7 @@
 
 ghost use Rattle.std.specs.Prelude.{◌≡◌, ◌≤◌, ◌++◌, length, IfOk, OnOk, OnErr};
 ghost use Rattle.desk_ports.specs.Meanings.{IsReadyOut, Adds, AddsFront, HasWriteCause};
-ghost use Rattle.packet_decode.specs.Decoding.{latest_content, latest_mask};
-ghost use Rattle.ground_chain.specs.Listing.{vector_digits, vectors_text};
+ghost use Rattle.ground_chain.specs.Listing.{latest_vectors, vector_digits};
 
 use crate::account::Account;
 use crate::lines::{end_line, front_of};
@@ -72,10 +71,10 @@ impl Listing {
         requires room { HasVectorRoom self.old decoder.now.places }
         requires output { IsReadyOut (D.meaning desk.old) Outlet.Main }
         ensures room { HasVectorRoom self.new decoder.now.places }
-        ensures added { OnOk result (Adds (D.meaning desk.old) (D.meaning desk.new) Outlet.Main (vectors_text decoder.now.recent
-            (latest_mask decoder.now.places decoder.now.state) (latest_content decoder.now.places decoder.now.state))) }
-        ensures front { OnErr result (AddsFront (D.meaning desk.old) (D.meaning desk.new) Outlet.Main (vectors_text decoder.now.recent
-            (latest_mask decoder.now.places decoder.now.state) (latest_content decoder.now.places decoder.now.state))) }
+        ensures added { OnOk result (Adds (D.meaning desk.old) (D.meaning desk.new) Outlet.Main
+            (latest_vectors decoder.now)) }
+        ensures front { OnErr result (AddsFront (D.meaning desk.old) (D.meaning desk.new) Outlet.Main
+            (latest_vectors decoder.now)) }
         ensures cause { HasWriteCause (D.counts desk.old) (D.counts desk.new) result }
     {
         self.write_vector(desk, decoder.recent(), " ")?;
@@ -93,8 +92,10 @@ impl Listing {
         requires room { HasVectorRoom self.old (length vector.now) }
         requires output { IsReadyOut (D.meaning desk.old) Outlet.Main }
         ensures room { HasVectorRoom self.new (length vector.now) }
-        ensures added { OnOk result (Adds (D.meaning desk.old) (D.meaning desk.new) Outlet.Main (vector_digits vector.now ++ behind.now)) }
-        ensures front { OnErr result (AddsFront (D.meaning desk.old) (D.meaning desk.new) Outlet.Main (vector_digits vector.now ++ behind.now)) }
+        ensures added { OnOk result (Adds (D.meaning desk.old) (D.meaning desk.new) Outlet.Main
+            (vector_digits vector.now ++ behind.now)) }
+        ensures front { OnErr result (AddsFront (D.meaning desk.old) (D.meaning desk.new) Outlet.Main
+            (vector_digits vector.now ++ behind.now)) }
         ensures cause { HasWriteCause (D.counts desk.old) (D.counts desk.new) result }
     {
         self.spell(vector);

@@ -84,13 +84,15 @@ impl<A: Account> Receiving<A> {
         requires few { self.old.reader.taken ≤ 2 ^ 32 }
         requires right { IsReceiving A.has_room self.old }
         requires packets { self.old.restored.packets < self.old.reader.taken }
-        requires latest { expected self.old.arrivals.latest + PERIOD ≤ 2 ^ 14 * self.old.reader.taken }
+        requires latest { expected self.old.arrivals.latest + PERIOD
+            ≤ 2 ^ 14 * self.old.reader.taken }
         requires ready { AreReady A.writes (D.meaning desk.old) }
         ensures reader { self.new.reader ≡ self.old.reader }
-        ensures known { known_of self.new.arrivals ≡ (next_judged self.old.arrivals count self.old.reader.body).after }
+        ensures known { known_of self.new.arrivals
+            ≡ (next_judged self.old.arrivals count self.old.reader.body).after }
         ensures places { self.new.arrivals.decoder.places ≡ self.old.arrivals.decoder.places }
-        ensures restored { self.new.restored
-            ≡ added self.old.restored (restored_by (next_judged self.old.arrivals count self.old.reader.body).verdict) }
+        ensures restored { self.new.restored ≡ added self.old.restored
+            (restored_by (next_judged self.old.arrivals count self.old.reader.body).verdict) }
         ensures wrote { OnOk result (Wrote (D.meaning desk.old) (D.meaning desk.new)
             (A.texts.parts (next_judged self.old.arrivals count self.old.reader.body))) }
         ensures front { OnErr result (WroteFront (D.meaning desk.old) (D.meaning desk.new)

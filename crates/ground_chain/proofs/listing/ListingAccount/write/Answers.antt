@@ -5,10 +5,9 @@ use Rattle.desk_ports.specs.Turns.{WroteFront}
 use Rattle.desk_ports.proofs.Runs.{Ran-adds}
 use Rattle.desk_ports.proofs.Steps.{WroteFront-output}
 use Rattle.desk_ports.proofs.Transfers.{Adds-ready, Adds-then}
-use Rattle.packet_decode.specs.Decoding.{latest_content, latest_mask}
 use Rattle.ground_chain.specs.declared.verdict.Verdict.{Verdict}
 use Rattle.ground_chain.specs.Report.{is_written_kind}
-use Rattle.ground_chain.specs.Listing.{front_line, judged_lines, listed_texts, vectors_text}
+use Rattle.ground_chain.specs.Listing.{front_line, judged_lines, latest_vectors, listed_texts}
 use Rattle.ground_chain.proofs.Writings.{OnErr-always}
 use Rattle.ground_chain.proofs.LinePieces.{AddsFront-behind, front_front, lines-unwritten, lines-written}
 use Rattle.ground_chain.proofs.listing.ListingAccount.write.Goals as goal
@@ -42,7 +41,7 @@ returns-in_err-write_vectors-clause-front g c = λ judged verdict shows.
     let head = c.as_bytes.ensures ∙ (c.front_of.ensures ∙ λ i. front_line (v i) (level i)) in
     let kind : is_written_kind judged.verdict.kind ≡ true = ap (λ (v : Verdict). is_written_kind v.kind) verdict ∙ (sym c.is_written.ensures ∙ c.if-is_written.true) in
     let decoder = c.args.decoder.now in
-    let vectors = vectors_text decoder.recent (latest_mask decoder.places decoder.state) (latest_content decoder.places decoder.state) in
+    let vectors = latest_vectors decoder in
     let adds = subst (Adds a b outlet.Main) head c.in_ok-write_all.ensures.added in
     let cut = AddsFront-behind a b d outlet.Main (front_line judged.verdict decoder.level) vectors adds c.in_err-write_vectors.ensures.front in
     OnErr-always c.from_residual-in_err-write_vectors.result (WroteFront a d (listed_texts.parts judged))
@@ -68,7 +67,7 @@ returns-in_ok-write_vectors-clause-wrote g c = λ judged verdict shows.
     let head = c.as_bytes.ensures ∙ (c.front_of.ensures ∙ λ i. front_line (v i) (level i)) in
     let kind : is_written_kind judged.verdict.kind ≡ true = ap (λ (v : Verdict). is_written_kind v.kind) verdict ∙ (sym c.is_written.ensures ∙ c.if-is_written.true) in
     let decoder = c.args.decoder.now in
-    let vectors = vectors_text decoder.recent (latest_mask decoder.places decoder.state) (latest_content decoder.places decoder.state) in
+    let vectors = latest_vectors decoder in
     let adds = subst (Adds a b outlet.Main) head c.in_ok-write_all.ensures.added in
     let all = Adds-then a b d outlet.Main (front_line judged.verdict decoder.level) vectors adds c.in_ok-write_vectors.ensures.added in
     Ran-adds a d (judged_lines judged) (subst (Adds a d outlet.Main) (lines-written judged decoder kind shows) all)
