@@ -7,7 +7,7 @@ use Rattle.desk_ports.specs.declared.desk.Outlet.TheVariants as outlet
 use Rattle.desk_ports.specs.declared.stop.Stop.{Stop}
 use Rattle.desk_ports.specs.declared.stop.Stop.TheVariants.{Data, ReadFault, WriteFault}
 use Rattle.desk_ports.specs.Meanings.{Meanings, Counts, Rose, left, made}
-use Rattle.desk_ports.specs.Courses.{AfterRun, HasCause, Outputs, by_ending, owed}
+use Rattle.desk_ports.specs.Courses.{AfterRun, Course, HasCause, Outputs, by_ending, by_stop, owed}
 use Rattle.desk_ports.proofs.Faults.{Rose-reads, Rose-writes}
 use Rattle.desk_ports.proofs.Courses.{Ends-told}
 use Rattle.mask_update.specs.Histories.{History, IsValid}
@@ -17,10 +17,11 @@ use Rattle.packet_store.specs.Walks.{Walk, walk}
 use Rattle.flight_chain.specs.Stores.{store_of}
 use Rattle.loss_player.specs.Gaps.{AreGapsShort}
 use Rattle.loss_player.specs.Played.{played_bytes}
+use Rattle.ground_chain.specs.declared.fault.RestoreFault.{RestoreFault}
 use Rattle.ground_chain.specs.declared.restored.Restored.{Restored}
 use Rattle.ground_chain.specs.Run.{run}
 use Rattle.ground_chain.specs.Report.{end_row, header_row, restored_of, run_bytes, run_report, run_rows}
-use Rattle.ground_chain.specs.Restoring.{restore_course, store_run}
+use Rattle.ground_chain.specs.Restoring.{restore_course, stop_by, store_run}
 use Rattle.ground_chain.specs.Deliveries.{IsDelivered, IsPlayed, delivered_numbers, report_text, restored_bytes, history_arrivals}
 use Rattle.ground_chain.proofs.HistoryBytes.{bytes-history}
 use Rattle.ground_chain.proofs.HistoryNumbers.{numbers-history}
@@ -76,15 +77,25 @@ IsDelivered-done f apid h copies restored a b played ran numbers =
       numbers = subst (λ left. IfSome left (λ store. restored ≡ restored_of (store_run f apid store))) played.input numbers ∙ numbers_are;
     }
 
--- a run over a desk that doesn't fail is done, where the played store is not too long
-pub IsOk-played : (f apid : ℕ) (h : History) (copies : ℕ → ℕ) (a b : Meanings) (old new : Counts) (result : Result Restored (Stop WalkFault)) → IsPlayed f apid h copies a
-    → length (arrivals copies (length h.steps)) ≤ 2 ^ 32 → AfterRun (restore_course f apid) a b result → HasCause old new result
+-- a run over a desk that doesn't fail is done, where the played store is not too long and the course ends as the walk does
+pub IsOk-played : (f apid : ℕ) (course : List ℕ → Course WalkFault) (h : History) (copies : ℕ → ℕ) (a b : Meanings) (old new : Counts) (result : Result Restored (Stop WalkFault)) → ((store : List ℕ) → (course store).ending ≡ (walk (Some apid) store).ending)
+    → IsPlayed f apid h copies a → length (arrivals copies (length h.steps)) ≤ 2 ^ 32 → AfterRun course a b result → HasCause old new result
     → (Rose old.reads new.reads → ⊥) → (Rose old.writes new.writes → ⊥) → IsOk result
-IsOk-played f apid h copies a b old new (Ok restored) played few ran cause reads writes = refl
-IsOk-played f apid h copies a b old new (Err (Data reason)) played few ran cause reads writes =
+IsOk-played f apid course h copies a b old new (Ok restored) ends_so played few ran cause reads writes = refl
+IsOk-played f apid course h copies a b old new (Err (Data reason)) ends_so played few ran cause reads writes =
     let store : List ℕ = played_bytes copies apid (store_of h apid) in
-    let ends = (Ends-told (restore_course f apid) a b (Some reason) store played.input ran).2 in
-    let whole = ap (λ (w : Walk). w.ending) (walk-played h copies apid played.valid played.chosen few) in
+    let ends = (Ends-told course a b (Some reason) store played.input ran).2 in
+    let whole = ends_so store ∙ ap (λ (w : Walk). w.ending) (walk-played h copies apid played.valid played.chosen few) in
     let both = sym whole ∙ ends in absurd cc
-IsOk-played f apid h copies a b old new (Err ReadFault) played few ran cause reads writes = absurd (reads (Rose-reads old new cause))
-IsOk-played f apid h copies a b old new (Err WriteFault) played few ran cause reads writes = absurd (writes (Rose-writes old new cause))
+IsOk-played f apid course h copies a b old new (Err ReadFault) ends_so played few ran cause reads writes = absurd (reads (Rose-reads old new cause))
+IsOk-played f apid course h copies a b old new (Err WriteFault) ends_so played few ran cause reads writes = absurd (writes (Rose-writes old new cause))
+
+-- the same of an answer with a fault of a run
+pub IsOk-run : (f apid : ℕ) (course : List ℕ → Course WalkFault) (h : History) (copies : ℕ → ℕ) (a b : Meanings) (old new : Counts) (result : Result Restored RestoreFault) → ((store : List ℕ) → (course store).ending ≡ (walk (Some apid) store).ending)
+    → IsPlayed f apid h copies a → length (arrivals copies (length h.steps)) ≤ 2 ^ 32 → AfterRun course a b (by_stop stop_by result) → HasCause old new (by_stop stop_by result)
+    → (Rose old.reads new.reads → ⊥) → (Rose old.writes new.writes → ⊥) → IsOk result
+IsOk-run f apid course h copies a b old new result ends_so played few ran cause reads writes =
+    of_stop result (IsOk-played f apid course h copies a b old new (by_stop stop_by result) ends_so played few ran cause reads writes) where
+      of_stop : (r : Result Restored RestoreFault) → IsOk (by_stop stop_by r) → IsOk r
+      of_stop (Ok restored) ok = refl
+      of_stop (Err fault) ok = absurd cc

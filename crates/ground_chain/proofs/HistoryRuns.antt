@@ -4,6 +4,7 @@ use Rattle.std.specs.Prelude.{All}
 use Rattle.std.specs.List.{flat_map, last_or, range_with_len}
 use Rattle.std.proofs.lemmas.List.Elements.{All-append, All-cons, All-nil, All-replicate}
 use Rattle.bit_vectors.specs.declared.fault.BitFault.{BitFault}
+use Rattle.bit_vectors.specs.Vectors.{bits_of}
 use Rattle.packet_store.specs.SpacePackets.{period}
 use Rattle.mask_update.specs.Histories.{History, IsValid}
 use Rattle.robust_window.specs.Histories.{level_at}
@@ -13,7 +14,7 @@ use Rattle.loss_player.specs.Gaps.{AreGapsShort}
 use Rattle.flight_chain.specs.Stores.{data_at}
 use Rattle.ground_chain.specs.declared.verdict.Kind.TheVariants.{Written, Refused}
 use Rattle.ground_chain.specs.Numbers.{number_after, expected}
-use Rattle.ground_chain.specs.Run.{Known, Judged, nothing_known, lost_from, judged_by, judge, repeat_judged, run_from, known_from, known_after, run}
+use Rattle.ground_chain.specs.Run.{Known, Judged, nothing_known, change_after, lost_from, judged_by, judge, repeat_judged, run_from, known_from, known_after, run}
 use Rattle.ground_chain.specs.Deliveries.{arrival_at, history_arrivals}
 use Rattle.ground_chain.proofs.LastArrivals.{copies_of, last_before, last-dropped, last-arrived, number-arrived, number-repeated}
 use Rattle.ground_chain.proofs.HistoryPackets.{missed_behind, kind_at, kind_read, state_next, latest_written-dropped}
@@ -26,6 +27,7 @@ known_at h copies t = record { latest = last_before copies t; state = true_state
 abbrev pub judged_first : History → (ℕ → ℕ) → ℕ → Judged
 judged_first h copies t = record {
   verdict = record { lost = lost_from (expected (last_before copies t)) t; t = t; kind = kind_at h copies t };
+  change = change_after h.places (true_state h (latest_written h copies t)) t (bits_of (data_at h t));
   after = known_at h copies (t + 1);
 }
 
@@ -90,6 +92,7 @@ module _ (h : History) (copies : ℕ → ℕ) (valid : IsValid h) (short : AreGa
       let state = state_next h copies t c valid lt is in
       ap (judged_by h.places (known_at h copies t) (data_at h t)) number ∙ λ i. record {
         verdict = record { lost = lost_from (expected (last_before copies t)) t; t = t; kind = kind i };
+        change = change_after h.places (true_state h (latest_written h copies t)) t (bits_of (data_at h t));
         after = record { latest = latest i; state = state i };
       }
 

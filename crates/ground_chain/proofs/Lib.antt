@@ -12,6 +12,7 @@ mod ListedRows
 mod Counted
 mod Receptions
 mod Writings
+mod LinePieces
 mod RestCourses
 pub mod PlayedHistories
 pub mod DeliveredRuns

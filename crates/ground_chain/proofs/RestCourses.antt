@@ -1,10 +1,9 @@
 -- What is owed for the rest of a store, packet by packet.
 use Rattle.std.proofs.Common.{◌≡◌, ℕ, ◌*◌, ◌^◌, ◌≤◌, Bool, true, false, if◌then◌else◌, List, [], ◌∷◌, ◌++◌, map, Option, refl, sym, ap, ◌∙◌, subst, arith}
-use Rattle.std.specs.List.{filter}
+use Rattle.std.specs.List.{filter, flat_map}
 use Rattle.std.proofs.lemmas.List.Concat.{flat_map-cons}
-use Rattle.bit_vectors.specs.Vectors.{byte_count}
 use Rattle.desk_ports.specs.Meanings.{Meanings}
-use Rattle.desk_ports.specs.Courses.{no_outputs, to_report, behind}
+use Rattle.desk_ports.specs.Courses.{Outputs, Course, no_outputs, to_report, behind}
 use Rattle.desk_ports.specs.Turns.{Work, Steps, IsLast}
 use Rattle.packet_store.specs.declared.reader.Taken.{Taken}
 use Rattle.packet_store.specs.declared.fault.WalkFault.{WalkFault}
@@ -14,12 +13,15 @@ use Rattle.packet_store.specs.StoreReader.{ReaderState, Takes, walk_on}
 use Rattle.packet_store.proofs.Walks.{walk_from-none}
 use Rattle.packet_store.proofs.StoreCourses.{FollowsWalk}
 use Rattle.ground_chain.specs.declared.restored.Restored.{Restored}
-use Rattle.ground_chain.specs.declared.restoring.Restoring.{Restoring}
+use Rattle.ground_chain.specs.declared.receiving.Receiving.{Receiving}
 use Rattle.ground_chain.specs.Numbers.{expected}
 use Rattle.ground_chain.specs.Run.{Judged, run_from}
-use Rattle.ground_chain.specs.Report.{header_row, verdict_rows, written_bytes, run_bytes, run_rows, end_row, restored_of, restored_by, added}
+use Rattle.ground_chain.specs.Report.{header_row, restored_of, restored_by, added}
 use Rattle.ground_chain.specs.Reception.{Reception, known_of, next_judged}
-use Rattle.ground_chain.specs.Restoring.{arrival_of, arrivals_of, store_run, restore_course, rest_run, all_restored, rest_course, rest_work, judged_outputs, IsRestoring, Owes, HasReadNothing}
+use Rattle.ground_chain.specs.Accounts.{Texts, all_parts}
+use Rattle.ground_chain.specs.Restoring.{arrival_of, arrivals_of, store_run, restore_course, restored_texts}
+use Rattle.ground_chain.specs.Receiving.{rest_run, all_restored, rest_course, rest_work, store_course, IsReceiving, Owes, HasReadNothing}
+use Rattle.ground_chain.specs.Listing.{judged_lines, listing_course, listed_texts}
 use Rattle.ground_chain.proofs.Counted.{restored_of-cons, added-assoc, none-added, added-none}
 
 -- ---- the walk
@@ -52,40 +54,40 @@ passed_arrivals old new a b given takes other rest =
     ∙ ap (λ (chosen : Option ℕ). arrivals_of chosen (walk_on new rest).packets) (sym (same_chosen old new a b given takes)))
 
 -- what is owed stays
-abbrev SameRest : Restoring → Restoring → List ℕ → List ℕ → Type 0
+abbrev SameRest : {A : Type 0} → Receiving A → Receiving A → List ℕ → List ℕ → Type 0
 SameRest s t bytes rest = (rest_run s bytes ≡ rest_run t rest) × ((walk_on s.reader bytes).ending ≡ (walk_on t.reader rest).ending)
 
-passed_rest : (s : Restoring) (reader : ReaderState) (a b : Meanings) (given : Taken) → Takes s.reader reader a b given → given.chosen ≡ false → (rest : List ℕ)
+passed_rest : {A : Type 0} (s : Receiving A) (reader : ReaderState) (a b : Meanings) (given : Taken) → Takes s.reader reader a b given → given.chosen ≡ false → (rest : List ℕ)
     → SameRest s (record s { reader = reader }) (reader.packet ++ rest) rest
 passed_rest s reader a b given takes other rest = (
   ap (run_from s.arrivals.decoder.places (known_of s.arrivals)) (passed_arrivals s.reader reader a b given takes other rest),
   ending_taken s.reader reader a b given takes rest,
 )
 
-pub passed_course : (s : Restoring) (reader : ReaderState) (a b : Meanings) (given : Taken) → Takes s.reader reader a b given → given.chosen ≡ false → (rest : List ℕ)
-    → rest_course s (reader.packet ++ rest) ≡ rest_course (record s { reader = reader }) rest
-passed_course s reader a b given takes other rest =
+pub passed_course : {A : Type 0} (texts : Texts) (s : Receiving A) (reader : ReaderState) (a b : Meanings) (given : Taken) → Takes s.reader reader a b given → given.chosen ≡ false → (rest : List ℕ)
+    → rest_course texts s (reader.packet ++ rest) ≡ rest_course texts (record s { reader = reader }) rest
+passed_course texts s reader a b given takes other rest =
     let same = passed_rest s reader a b given takes other rest in
     λ i. record {
-      before = record { output = run_bytes (same.0 i); report = run_rows (same.0 i) };
-      after = to_report (end_row (added s.restored (restored_of (same.0 i))));
+      before = all_parts texts (same.0 i);
+      after = texts.last (added s.restored (restored_of (same.0 i)));
       ending = same.1 i;
     }
 
-pub passed_numbers : (s : Restoring) (reader : ReaderState) (a b : Meanings) (given : Taken) → Takes s.reader reader a b given → given.chosen ≡ false → (rest : List ℕ)
+pub passed_numbers : {A : Type 0} (s : Receiving A) (reader : ReaderState) (a b : Meanings) (given : Taken) → Takes s.reader reader a b given → given.chosen ≡ false → (rest : List ℕ)
     → all_restored s (reader.packet ++ rest) ≡ all_restored (record s { reader = reader }) rest
 passed_numbers s reader a b given takes other rest = ap (λ (l : List Judged). added s.restored (restored_of l)) (passed_rest s reader a b given takes other rest).0
 
 -- ---- a packet of the chosen APID
 
 -- one arrival was judged: what is kept and counted is what the run knows after it
-pub record Judges (s t : Restoring) (reader : ReaderState) (count : ℕ) : Type 0 where
+pub record Judges {A : Type 0} (s t : Receiving A) (reader : ReaderState) (count : ℕ) : Type 0 where
   pub reader_is : t.reader ≡ reader
   pub known : known_of t.arrivals ≡ (next_judged s.arrivals count reader.body).after
   pub places : t.arrivals.decoder.places ≡ s.arrivals.decoder.places
   pub restored : t.restored ≡ added s.restored (restored_by (next_judged s.arrivals count reader.body).verdict)
 
-module _ (s t : Restoring) (reader : ReaderState) (a b : Meanings) (given : Taken) (takes : Takes s.reader reader a b given) (own : given.chosen ≡ true) (is : Judges s t reader given.count) (rest : List ℕ) where
+module _ {A : Type 0} (texts : Texts) (s t : Receiving A) (reader : ReaderState) (a b : Meanings) (given : Taken) (takes : Takes s.reader reader a b given) (own : given.chosen ≡ true) (is : Judges s t reader given.count) (rest : List ℕ) where
   judged : Judged
   judged = next_judged s.arrivals given.count reader.body
 
@@ -119,67 +121,67 @@ module _ (s t : Restoring) (reader : ReaderState) (a b : Meanings) (given : Take
       ∙ (sym (added-assoc s.restored (restored_by (next_judged s.arrivals given.count reader.body).verdict) (restored_of (rest_run t rest)))
       ∙ ap (λ (r : Restored). added r (restored_of (rest_run t rest))) (sym is.restored)))
 
-  pub judged_course : rest_course s (reader.packet ++ rest) ≡ behind (judged_outputs (next_judged s.arrivals given.count reader.body)) (rest_course t rest)
+  pub judged_course : rest_course texts s (reader.packet ++ rest) ≡ behind (texts.parts (next_judged s.arrivals given.count reader.body)) (rest_course texts t rest)
   judged_course =
-      let output = ap run_bytes judged_run ∙ flat_map-cons written_bytes (next_judged s.arrivals given.count reader.body) (rest_run t rest) in
-      let report = ap run_rows judged_run ∙ flat_map-cons (λ (j : Judged). verdict_rows j.verdict) (next_judged s.arrivals given.count reader.body) (rest_run t rest) in
+      let output = ap (flat_map (λ (j : Judged). (texts.parts j).output)) judged_run ∙ flat_map-cons (λ (j : Judged). (texts.parts j).output) (next_judged s.arrivals given.count reader.body) (rest_run t rest) in
+      let report = ap (flat_map (λ (j : Judged). (texts.parts j).report)) judged_run ∙ flat_map-cons (λ (j : Judged). (texts.parts j).report) (next_judged s.arrivals given.count reader.body) (rest_run t rest) in
       λ i. record {
         before = record { output = output i; report = report i };
-        after = to_report (end_row (judged_numbers i));
+        after = texts.last (judged_numbers i);
         ending = judged_ending i;
       }
 
 -- ---- the end
 
-no_rest : (s : Restoring) → rest_run s [] ≡ []
+no_rest : {A : Type 0} (s : Receiving A) → rest_run s [] ≡ []
 no_rest s = ap (λ (w : Walk). run_from s.arrivals.decoder.places (known_of s.arrivals) (arrivals_of s.reader.chosen w.packets)) (walk_from-none s.reader.chosen s.reader.taken s.reader.offset)
 
--- nothing is left: the report's last row is owed
-pub IsLast-restored : (s : Restoring) → IsLast (rest_work s) (to_report (end_row s.restored)) s.restored
-IsLast-restored s =
+-- nothing is left: the last part is owed
+pub IsLast-received : {A : Type 0} (texts : Texts) (s : Receiving A) → IsLast (rest_work texts s) (texts.last s.restored) s.restored
+IsLast-received texts s =
     let run = no_rest s in
     let numbers : all_restored s [] ≡ s.restored = ap (λ (l : List Judged). added s.restored (restored_of l)) (no_rest s) ∙ added-none s.restored in
     let ending = ap (λ (w : Walk). w.ending) (walk_from-none s.reader.chosen s.reader.taken s.reader.offset) in
     record {
-      course = λ i. record { before = record { output = run_bytes (run i); report = run_rows (run i) }; after = to_report (end_row (numbers i)); ending = ending i };
+      course = λ i. record { before = all_parts texts (run i); after = texts.last (numbers i); ending = ending i };
       answer = numbers;
     }
 
 -- where no packet is walked nothing is owed
-pub rest_follows : (s : Restoring) → FollowsWalk (rest_course s) s.reader
-rest_follows s = record {
-  nothing = λ bytes none. ap (λ (packets : List Packet). let run = run_from s.arrivals.decoder.places (known_of s.arrivals) (arrivals_of s.reader.chosen packets) in record { output = run_bytes run; report = run_rows run }) none;
+pub rest_follows : {A : Type 0} (texts : Texts) (s : Receiving A) → FollowsWalk (rest_course texts s) s.reader
+rest_follows texts s = record {
+  nothing = λ bytes none. ap (λ (packets : List Packet). all_parts texts (run_from s.arrivals.decoder.places (known_of s.arrivals) (arrivals_of s.reader.chosen packets))) none;
   ends = λ bytes. refl;
 }
 
 -- ---- the steps
 
 -- a packet of the chosen APID: what is written of it is owed, and behind it the rest of the store
-pub Steps-judged : (s t : Restoring) (reader : ReaderState) (a b : Meanings) (given : Taken) → Takes s.reader reader a b given → given.chosen ≡ true → Judges s t reader given.count
-    → Steps (rest_work s) (rest_work t) reader.packet (judged_outputs (next_judged s.arrivals given.count reader.body))
-Steps-judged s t reader a b given takes own is = record {
-  course = λ rest. judged_course s t reader a b given takes own is rest;
-  answer = λ rest. judged_numbers s t reader a b given takes own is rest;
+pub Steps-judged : {A : Type 0} (texts : Texts) (s t : Receiving A) (reader : ReaderState) (a b : Meanings) (given : Taken) → Takes s.reader reader a b given → given.chosen ≡ true → Judges s t reader given.count
+    → Steps (rest_work texts s) (rest_work texts t) reader.packet (texts.parts (next_judged s.arrivals given.count reader.body))
+Steps-judged texts s t reader a b given takes own is = record {
+  course = λ rest. judged_course texts s t reader a b given takes own is rest;
+  answer = λ rest. judged_numbers texts s t reader a b given takes own is rest;
 }
 
 -- a packet of another APID: the rest of the store alone is owed
-pub Steps-passed : (s : Restoring) (reader : ReaderState) (a b : Meanings) (given : Taken) → Takes s.reader reader a b given → given.chosen ≡ false
-    → Steps (rest_work s) (rest_work (record s { reader = reader })) reader.packet no_outputs
-Steps-passed s reader a b given takes other = record {
-  course = λ rest. passed_course s reader a b given takes other rest;
+pub Steps-passed : {A : Type 0} (texts : Texts) (s : Receiving A) (reader : ReaderState) (a b : Meanings) (given : Taken) → Takes s.reader reader a b given → given.chosen ≡ false
+    → Steps (rest_work texts s) (rest_work texts (record s { reader = reader })) reader.packet no_outputs
+Steps-passed texts s reader a b given takes other = record {
+  course = λ rest. passed_course texts s reader a b given takes other rest;
   answer = λ rest. passed_numbers s reader a b given takes other rest;
 }
 
--- behind a packet the rest of the store is to restore
-pub Owes-next : (s t : Restoring) (reader : ReaderState) (a b : Meanings) (given : Taken) (work : Work Restored WalkFault) → Owes s work → Takes s.reader reader a b given → t.reader ≡ reader → IsRestoring t → Owes t (rest_work t)
-Owes-next s t reader a b given work owes takes reader_is right = record { work_is = refl; live = ap (λ (r : ReaderState). r.live) (reader_is ∙ takes.others) ∙ owes.live; right = right }
+-- behind a packet the rest of the store is to receive
+pub Owes-next : {A : Type 0} (texts : Texts) (has_room : A → ℕ → Type 0) (s t : Receiving A) (reader : ReaderState) (a b : Meanings) (given : Taken) (work : Work Restored WalkFault) → Owes texts has_room s work → Takes s.reader reader a b given → t.reader ≡ reader → IsReceiving has_room t → Owes texts has_room t (rest_work texts t)
+Owes-next texts has_room s t reader a b given work owes takes reader_is right = record { work_is = refl; live = ap (λ (r : ReaderState). r.live) (reader_is ∙ takes.others) ∙ owes.live; right = right }
 
 -- with more packets given the numbers stay within their limits
-pub IsRestoring-passed : (s : Restoring) (reader : ReaderState) (a b : Meanings) (given : Taken) → IsRestoring s → Takes s.reader reader a b given → IsRestoring (record s { reader = reader })
-IsRestoring-passed s reader a b given right takes =
+pub IsReceiving-passed : {A : Type 0} (has_room : A → ℕ → Type 0) (s : Receiving A) (reader : ReaderState) (a b : Meanings) (given : Taken) → IsReceiving has_room s → Takes s.reader reader a b given → IsReceiving has_room (record s { reader = reader })
+IsReceiving-passed has_room s reader a b given right takes =
     let taken = ap (λ (r : ReaderState). r.taken) takes.others in
     record {
-      line = right.line;
+      room = right.room;
       latest = omega (arith, right.latest, taken);
       packets = omega (arith, right.packets, taken);
       written = right.written;
@@ -189,13 +191,14 @@ IsRestoring-passed s reader a b given right takes =
 
 -- ---- the whole store
 
--- the work of restoring a store
-abbrev pub restore_work : ℕ → ℕ → Work Restored WalkFault
-restore_work f apid = record { course = restore_course f apid; answer = λ store. restored_of (store_run f apid store) }
+-- the work of a store with this course
+abbrev pub store_work : (List ℕ → Course WalkFault) → ℕ → ℕ → Work Restored WalkFault
+store_work course f apid = record { course = course; answer = λ store. restored_of (store_run f apid store) }
 
--- the report's first line is owed, and then the store from its first packet on
-pub Steps-header : (f apid : ℕ) (s : Restoring) → HasReadNothing f apid s → Steps (restore_work f apid) (rest_work s) [] (to_report header_row)
-Steps-header f apid s is = record { course = course; answer = numbers } where
+-- nothing is read, and what the store owes an account is owed from its first packet on
+pub Steps-unread : {A : Type 0} (texts : Texts) (has_room : A → ℕ → Type 0) (f apid : ℕ) (s : Receiving A) (course : List ℕ → Course WalkFault) (first : Outputs) → HasReadNothing has_room f apid s
+    → ((store : List ℕ) → course store ≡ behind first (store_course texts f apid store)) → Steps (store_work course f apid) (rest_work texts s) [] first
+Steps-unread texts has_room f apid s course first is same = record { course = course_is; answer = numbers } where
   run : (store : List ℕ) → store_run f apid store ≡ rest_run s store
   run store =
       let arrivals = sym is.arrivals in
@@ -205,27 +208,37 @@ Steps-header f apid s is = record { course = course; answer = numbers } where
   numbers : (store : List ℕ) → restored_of (store_run f apid store) ≡ all_restored s store
   numbers store =
       let restored = sym is.restored in
-      let same = run store in
-      sym (none-added (restored_of (store_run f apid store))) ∙ λ i. added (restored i) (restored_of (same i))
+      let same_run = run store in
+      sym (none-added (restored_of (store_run f apid store))) ∙ λ i. added (restored i) (restored_of (same_run i))
 
-  course : (store : List ℕ) → restore_course f apid store ≡ behind (to_report header_row) (rest_course s store)
-  course store =
-      let same = run store in
+  course_is : (store : List ℕ) → course store ≡ behind first (rest_course texts s store)
+  course_is store =
+      let same_run = run store in
       let counted = numbers store in
       let reader = sym is.reader in
-      λ i. record {
-        before = record { output = run_bytes (same i); report = header_row ++ run_rows (same i) };
-        after = to_report (end_row (counted i));
-        ending = (walk_on (reader i) store).ending;
-      }
+      same store ∙ λ i. behind first (record { before = all_parts texts (same_run i); after = texts.last (counted i); ending = (walk_on (reader i) store).ending })
+
+-- the report's first line stands before the rows
+pub restore_course-is : (f apid : ℕ) (store : List ℕ) → restore_course f apid store ≡ behind (to_report header_row) (store_course restored_texts f apid store)
+restore_course-is f apid store = refl
+
+no_report : (judged : List Judged) → flat_map (λ (j : Judged). (listed_texts.parts j).report) judged ≡ []
+no_report [] = refl
+no_report (j ∷ judged) = flat_map-cons (λ (j : Judged). (listed_texts.parts j).report) j judged ∙ no_report judged
+
+-- the lines alone are owed
+pub listing_course-is : (f apid : ℕ) (store : List ℕ) → listing_course f apid store ≡ store_course listed_texts f apid store
+listing_course-is f apid store =
+    let none = sym (no_report (store_run f apid store)) in
+    λ i. record (listing_course f apid store) { before = record { output = flat_map judged_lines (store_run f apid store); report = none i } }
 
 -- nothing is read
-pub Owes-unread : (f apid : ℕ) (s : Restoring) → HasReadNothing f apid s → Owes s (rest_work s)
-Owes-unread f apid s is = record {
+pub Owes-unread : {A : Type 0} (texts : Texts) (has_room : A → ℕ → Type 0) (f apid : ℕ) (s : Receiving A) → HasReadNothing has_room f apid s → Owes texts has_room s (rest_work texts s)
+Owes-unread texts has_room f apid s is = record {
   work_is = refl;
   live = ap (λ (r : ReaderState). r.live) is.reader;
   right = record {
-    line = is.line ∙ ap (λ (r : Reception). byte_count r.decoder.places) (sym is.arrivals);
+    room = subst (λ (r : Reception). has_room s.account r.decoder.places) (sym is.arrivals) is.room;
     latest = subst (λ (r : Reception). expected r.latest ≤ 2 ^ 14 * s.reader.taken) (sym is.arrivals) (omega arith);
     packets = subst (λ (r : Restored). r.packets ≤ s.reader.taken) (sym is.restored) (omega arith);
     written = subst (λ (r : Restored). r.written ≤ r.packets) (sym is.restored) (omega arith);

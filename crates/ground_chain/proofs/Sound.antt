@@ -5,14 +5,14 @@ use Rattle.bit_vectors.specs.Reading.{Parsed, Read, WrongBit, TooShort}
 use Rattle.bit_vectors.specs.Vectors.{bits_of}
 use Rattle.packet_decode.specs.declared.decoder.Reading.{Reading}
 use Rattle.packet_decode.specs.declared.decoder.Reading.TheVariants.{Written, Unsynced, Gap}
-use Rattle.packet_decode.specs.State.{State, IsState, Change}
+use Rattle.packet_decode.specs.State.{State, IsState, Change, change_of}
 use Rattle.packet_decode.specs.Answers.{IsSoundAnswer, IsExactAnswer}
 use Rattle.packet_decode.specs.PacketReading.{Outcome, Spelled, Opaque, Found, parse_whole_packet, parsed_answer, answer_of}
 use Rattle.packet_decode.proofs.ExactAnswers.{answer_of-exact}
 use Rattle.packet_decode.proofs.OneAnswer.{spells_read, says_answer, one_answer, sound_reading}
 use Rattle.ground_chain.specs.Numbers.{number_after}
-use Rattle.ground_chain.specs.Run.{Arrival, Known, Judged, kind_of, verdict_of, state_read, state_after, judge_as, judged_by, judge, run_from, run}
-use Rattle.ground_chain.specs.Sound.{IsSpelled, IsStateAfter, IsJudgedBy, AreJudged, without_fault, but_for_faults}
+use Rattle.ground_chain.specs.Run.{Arrival, Known, Judged, kind_of, verdict_of, change_read, change_after, state_read, state_after, judge_as, judged_by, judge, run_from, run}
+use Rattle.ground_chain.specs.Sound.{IsFirstPart, IsChangeAfter, IsSpelled, IsStateAfter, IsJudgedBy, AreJudged, without_fault, but_for_faults}
 
 module _ (f : ℕ) (state : State) (t : ℕ) (has : IsState f state) where
   -- ---- one answer, one state
@@ -61,26 +61,66 @@ module _ (f : ℕ) (state : State) (t : ℕ) (has : IsState f state) where
   IsState-follows bits next (Ok (Gap level)) same = subst (IsState f) (sym same) has
   IsState-follows bits next (Err fault) same = subst (IsState f) (sym same) has
 
+  -- ---- one first part
+
+  spelled_change : (bits : List Bool) (change : Option Change) → IsFirstPart f state t bits change → change_after f state t bits ≡ change
+  spelled_change bits change s = ap change_read (spells_read f state t has bits s.form s.mask s.content s.spells) ∙ sym s.is
+
+  opaque_change : (bits : List Bool) (change : Change) (rest : List Bool) → IsChangeAfter f state t bits None (parsed_answer state bits (Read (record { change = change; outcome = Opaque }) rest))
+  opaque_change bits change rest = by_state state where
+    by_state : (s : State) → IsChangeAfter f s t bits None (parsed_answer s bits (Read (record { change = change; outcome = Opaque }) rest))
+    by_state None = refl
+    by_state (Some latest) = refl
+
+  abbrev KeptBy : List Bool → Parsed Found → Type 0
+  KeptBy bits r = parse_whole_packet f state t bits ≡ r → IsExactAnswer f state t bits (parsed_answer state bits r) → IsChangeAfter f state t bits (change_read r) (parsed_answer state bits r)
+
+  kept_read : (bits rest : List Bool) (change : Change) (o : Outcome) → KeptBy bits (Read (record { change = change; outcome = o }) rest)
+  kept_read bits rest change (Spelled mask content) is (form, m, i, spells) =
+      record { form = form; mask = m; content = i; spells = spells; is = ap change_read (sym is) ∙ ap change_read (spells_read f state t has bits form m i spells) }
+  kept_read bits rest change Opaque is exact = opaque_change bits change rest
+
+  kept_by : (bits : List Bool) (r : Parsed Found) → KeptBy bits r
+  kept_by bits (Read found rest) is exact = kept_read bits rest found.change found.outcome is exact
+  kept_by bits (WrongBit rest) is exact = refl
+  kept_by bits TooShort is exact = refl
+
+  -- the first part that the run keeps follows its answer
+  pub kept_answer : (bits : List Bool) → IsChangeAfter f state t bits (change_after f state t bits) (answer_of f state t bits)
+  kept_answer bits = kept_by bits (parse_whole_packet f state t bits) refl (answer_of-exact f state t has bits)
+
+  -- no other first part does
+  one_change : (bits : List Bool) (kept other : Option Change) (answer : Result Reading BitFault) → IsChangeAfter f state t bits kept answer → IsChangeAfter f state t bits other answer → kept ≡ other
+  one_change bits kept other (Ok Written) a b = sym (spelled_change bits kept a) ∙ spelled_change bits other b
+  one_change bits kept other (Ok Unsynced) a b = a ∙ sym b
+  one_change bits kept other (Ok (Gap level)) a b = a ∙ sym b
+  one_change bits kept other (Err fault) a b = a ∙ sym b
+
+  change_is : (bits : List Bool) (kept : Option Change) → IsChangeAfter f state t bits kept (answer_of f state t bits) → kept ≡ change_after f state t bits
+  change_is bits kept follows = one_change bits kept (change_after f state t bits) (answer_of f state t bits) follows (kept_answer bits)
+
   -- ---- sound answers
 
-  -- a sound answer and the exact one differ in a fault alone, and the states after them are the same
-  record Alike (bits : List Bool) (next : State) (answer exact : Result Reading BitFault) (after : State) : Type 0 where
+  -- a sound answer and the exact one differ in a fault alone, and the states and first parts after them are the same
+  record Alike (bits : List Bool) (next : State) (kept : Option Change) (answer exact : Result Reading BitFault) (after : State) (first : Option Change) : Type 0 where
     kind : without_fault (kind_of answer) ≡ without_fault (kind_of exact)
     same : next ≡ after
+    first_same : kept ≡ first
 
   not_both : (fault : BitFault) (reading : Reading) → ◌≡◌ {A = Result Reading BitFault} (Err fault) (Ok reading) → ⊥
   not_both fault reading e = cc
 
-  alike : (bits : List Bool) (next after : State) (answer exact : Result Reading BitFault) → answer_of f state t bits ≡ exact → IsExactAnswer f state t bits exact → IsSoundAnswer f state t bits answer
-      → IsStateAfter f state t bits next answer → IsStateAfter f state t bits after exact → Alike bits next answer exact after
-  alike bits next after (Ok reading) exact is right sound a b =
+  alike : (bits : List Bool) (next after : State) (kept first : Option Change) (answer exact : Result Reading BitFault) → answer_of f state t bits ≡ exact → IsExactAnswer f state t bits exact → IsSoundAnswer f state t bits answer
+      → IsStateAfter f state t bits next answer → IsStateAfter f state t bits after exact → IsChangeAfter f state t bits kept answer → IsChangeAfter f state t bits first exact → Alike bits next kept answer exact after first
+  alike bits next after kept first (Ok reading) exact is right sound a b k e =
       let same : exact ≡ Ok reading = sym is ∙ says_answer f state t has bits reading sound in
       record {
         kind = ap (λ (x : Result Reading BitFault). without_fault (kind_of x)) (sym same);
         same = one_state bits next after (Ok reading) a (subst (IsStateAfter f state t bits after) same b);
+        first_same = one_change bits kept first (Ok reading) k (subst (IsChangeAfter f state t bits first) same e);
       }
-  alike bits next after (Err fault) (Ok reading) is right sound a b = absurd (not_both fault reading (sound_reading f state t has bits reading (Err fault) right sound))
-  alike bits next after (Err fault) (Err other) is right sound a b = record { kind = refl; same = a ∙ sym b }
+  alike bits next after kept first (Err fault) (Ok reading) is right sound a b k e = absurd (not_both fault reading (sound_reading f state t has bits reading (Err fault) right sound))
+  alike bits next after kept first (Err fault) (Err other) is right sound a b k e = record { kind = refl; same = a ∙ sym b; first_same = k ∙ sym e }
 
 -- ---- one arrival
 
@@ -95,32 +135,36 @@ module _ (f : ℕ) (known : Known) (has : IsState f known.state) where
     answer = answer_of f known.state t (bits_of body);
     right = answer_of-exact f known.state t has (bits_of body);
     verdict = refl;
+    change = kept_answer f known.state t has (bits_of body);
     latest = refl;
     state = follows_answer f known.state t has (bits_of body);
   }
 
-  read_same : (judged : Judged) (body : List ℕ) (t : ℕ) (answer : Result Reading BitFault) → answer ≡ answer_of f known.state t (bits_of body) → judged.verdict ≡ verdict_of known.latest t answer → judged.after.latest ≡ Some t
-      → judged.after.state ≡ state_after f known.state t (bits_of body) → judged ≡ judge_as f known body t
-  read_same judged body t answer same verdict latest state =
+  read_same : (judged : Judged) (body : List ℕ) (t : ℕ) (answer : Result Reading BitFault) → answer ≡ answer_of f known.state t (bits_of body) → judged.verdict ≡ verdict_of known.latest t answer → judged.change ≡ change_after f known.state t (bits_of body)
+      → judged.after.latest ≡ Some t → judged.after.state ≡ state_after f known.state t (bits_of body) → judged ≡ judge_as f known body t
+  read_same judged body t answer same verdict change latest state =
       let v = verdict ∙ ap (verdict_of known.latest t) same in
-      λ i. record { verdict = v i; after = record { latest = latest i; state = state i } }
+      λ i. record { verdict = v i; change = change i; after = record { latest = latest i; state = state i } }
 
   pub judged_only : (body : List ℕ) (judged : Judged) (number : Option ℕ) → IsJudgedBy IsExactAnswer f known body judged number → judged ≡ judged_by f known body number
   judged_only body judged None is = is
   judged_only body judged (Some t) is =
       let bits = bits_of body in
       let same = one_answer f known.state t has bits is.answer is.right in
-      read_same judged body t is.answer same is.verdict is.latest (state_is f known.state t has bits judged.after.state (subst (IsStateAfter f known.state t bits judged.after.state) same is.state))
+      let change = change_is f known.state t has bits judged.change (subst (IsChangeAfter f known.state t bits judged.change) same is.change) in
+      read_same judged body t is.answer same is.verdict change is.latest (state_is f known.state t has bits judged.after.state (subst (IsStateAfter f known.state t bits judged.after.state) same is.state))
 
   judged_alike : (body : List ℕ) (judged : Judged) (number : Option ℕ) → IsJudgedBy IsSoundAnswer f known body judged number → but_for_faults judged ≡ but_for_faults (judged_by f known body number)
   judged_alike body judged None is = ap but_for_faults is
   judged_alike body judged (Some t) is =
       let bits = bits_of body in
       let exact = answer_of f known.state t bits in
-      let both = alike f known.state t has bits judged.after.state (state_after f known.state t bits) is.answer exact refl (answer_of-exact f known.state t has bits) is.right is.state (follows_answer f known.state t has bits) in
+      let both = alike f known.state t has bits judged.after.state (state_after f known.state t bits) judged.change (change_after f known.state t bits) is.answer exact refl (answer_of-exact f known.state t has bits) is.right
+      is.state (follows_answer f known.state t has bits) is.change (kept_answer f known.state t has bits) in
       let v = is.verdict in
       λ i. record {
         verdict = record { lost = (v i).lost; t = (v i).t; kind = (ap (λ x. without_fault x.kind) v ∙ both.kind) i };
+        change = both.first_same i;
         after = record { latest = is.latest i; state = both.same i };
       }
 

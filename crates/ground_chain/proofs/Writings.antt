@@ -1,5 +1,5 @@
 -- What is written of one arrival: its rows, and then its content.
-use Rattle.std.proofs.Common.{◌≡◌, ℕ, Bool, true, false, if◌then◌else◌, List, [], Some, Result, Ok, Err, OnErr, refl, sym, ap, ◌∙◌, subst, append-nil}
+use Rattle.std.proofs.Common.{◌≡◌, ℕ, Bool, true, false, if◌then◌else◌, List, [], Some, Result, Ok, Err, OnOk, OnErr, refl, sym, ap, ◌∙◌, subst, append-nil}
 use Rattle.bit_vectors.specs.Vectors.{vector_bytes}
 use Rattle.desk_ports.specs.declared.desk.Outlet.TheVariants as outlet
 use Rattle.desk_ports.specs.Meanings.{Meanings, Adds, AddsFront}
@@ -7,17 +7,26 @@ use Rattle.desk_ports.specs.Runs.{Ran}
 use Rattle.desk_ports.specs.Courses.{to_report}
 use Rattle.desk_ports.specs.Turns.{Wrote, WroteFront}
 use Rattle.desk_ports.proofs.Runs.{Ran-then, Ran-adds, Ran-notes}
-use Rattle.packet_decode.specs.State.{State, WrittenPacket}
-use Rattle.packet_decode.specs.Decoding.{latest_content}
+use Rattle.packet_decode.specs.State.{State}
+use Rattle.packet_decode.specs.Decoding.{Decoding, latest_content}
 use Rattle.ground_chain.specs.declared.verdict.Kind.{Kind}
 use Rattle.ground_chain.specs.declared.verdict.Kind.TheVariants.{Written, Repeat, Unsynced, Gap, Refused}
 use Rattle.ground_chain.specs.Run.{Judged}
 use Rattle.ground_chain.specs.Report.{is_written_kind, content_bytes, verdict_rows, written_bytes}
-use Rattle.ground_chain.specs.Restoring.{judged_outputs}
+use Rattle.ground_chain.specs.Reception.{Shows}
+use Rattle.ground_chain.specs.Restoring.{restored_texts}
 
 pub OnErr-always : {T E : Type 0} (r : Result T E) (P : Type 0) → P → OnErr r P
 OnErr-always (Ok x) P p = tt
 OnErr-always (Err e) P p = p
+
+pub OnErr-map : {T E P Q : Type 0} (r : Result T E) → (P → Q) → OnErr r P → OnErr r Q
+OnErr-map (Ok x) f p = tt
+OnErr-map (Err e) f p = f p
+
+pub OnOk-map : {T E P Q : Type 0} (r : Result T E) → (P → Q) → OnOk r P → OnOk r Q
+OnOk-map (Ok x) f p = f p
+OnOk-map (Err e) f p = tt
 
 pub kind_written : (k : Kind) → is_written_kind k ≡ true → k ≡ Written
 kind_written Written is = refl
@@ -27,10 +36,11 @@ kind_written (Gap level) is = absurd cc
 kind_written (Refused fault) is = absurd cc
 
 -- the content of a written packet is that of the latest one
-pub content_written : (j : Judged) (f : ℕ) (state : State) (packet : WrittenPacket) → is_written_kind j.verdict.kind ≡ true → state ≡ j.after.state → state ≡ Some packet → vector_bytes (latest_content f state) ≡ written_bytes j
-content_written j f state packet written same is =
-    ap (λ (s : State). vector_bytes (latest_content f s)) is
-    ∙ (ap content_bytes (sym is ∙ same) ∙ ap (λ (b : Bool). if b then content_bytes j.after.state else []) (sym written))
+pub content_written : (j : Judged) (decoder : Decoding) → is_written_kind j.verdict.kind ≡ true → Shows decoder j → vector_bytes (latest_content decoder.places decoder.state) ≡ written_bytes j
+content_written j decoder written shows =
+    let packet = shows (kind_written j.verdict.kind written) in
+    ap (λ (s : State). vector_bytes (latest_content decoder.places s)) packet.state
+    ∙ (ap content_bytes (sym packet.after) ∙ ap (λ (b : Bool). if b then content_bytes j.after.state else []) (sym written))
 
 pub no_content : (j : Judged) → is_written_kind j.verdict.kind ≡ false → [] ≡ written_bytes j
 no_content j other = ap (λ (b : Bool). if b then content_bytes j.after.state else []) (sym other)
@@ -40,15 +50,15 @@ rows_then a b c rows bytes first next =
     subst (λ (l : List ℕ). Ran a c [] bytes l) (append-nil rows) (Ran-then a b c [] [] [] bytes rows [] (Ran-notes a b rows first) (Ran-adds b c bytes next))
 
 -- the rows and the content
-pub wrote_all : (a b c : Meanings) (j : Judged) (bytes : List ℕ) → Adds a b outlet.Report (verdict_rows j.verdict) → Adds b c outlet.Main bytes → bytes ≡ written_bytes j → Wrote a c (judged_outputs j)
+pub wrote_all : (a b c : Meanings) (j : Judged) (bytes : List ℕ) → Adds a b outlet.Report (verdict_rows j.verdict) → Adds b c outlet.Main bytes → bytes ≡ written_bytes j → Wrote a c (restored_texts.parts j)
 wrote_all a b c j bytes first next is = subst (λ (l : List ℕ). Ran a c [] l (verdict_rows j.verdict)) is (rows_then a b c (verdict_rows j.verdict) bytes first next)
 
 -- the rows alone
-pub wrote_rows : (a b : Meanings) (j : Judged) → Adds a b outlet.Report (verdict_rows j.verdict) → [] ≡ written_bytes j → Wrote a b (judged_outputs j)
+pub wrote_rows : (a b : Meanings) (j : Judged) → Adds a b outlet.Report (verdict_rows j.verdict) → [] ≡ written_bytes j → Wrote a b (restored_texts.parts j)
 wrote_rows a b j first is = subst (λ (l : List ℕ). Ran a b [] l (verdict_rows j.verdict)) is (Ran-notes a b (verdict_rows j.verdict) first)
 
 -- a front of the rows
-pub front_rows : (a b : Meanings) (j : Judged) → AddsFront a b outlet.Report (verdict_rows j.verdict) → WroteFront a b (judged_outputs j)
+pub front_rows : (a b : Meanings) (j : Judged) → AddsFront a b outlet.Report (verdict_rows j.verdict) → WroteFront a b (restored_texts.parts j)
 front_rows a b j cut = record {
   stand = to_report cut.front;
   wrote = Ran-notes a b cut.front cut.added;
@@ -56,7 +66,7 @@ front_rows a b j cut = record {
 }
 
 -- the rows, and a front of the content
-pub front_content : (a b c : Meanings) (j : Judged) (bytes : List ℕ) → Adds a b outlet.Report (verdict_rows j.verdict) → AddsFront b c outlet.Main bytes → bytes ≡ written_bytes j → WroteFront a c (judged_outputs j)
+pub front_content : (a b c : Meanings) (j : Judged) (bytes : List ℕ) → Adds a b outlet.Report (verdict_rows j.verdict) → AddsFront b c outlet.Main bytes → bytes ≡ written_bytes j → WroteFront a c (restored_texts.parts j)
 front_content a b c j bytes first cut is =
     let rows = verdict_rows j.verdict in
     record {

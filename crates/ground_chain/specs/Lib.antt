@@ -5,5 +5,8 @@ pub mod Report
 pub mod Told
 pub mod Deliveries
 pub mod Reception
+pub mod Accounts
 pub mod Restoring
+pub mod Receiving
+pub mod Listing
 pub mod Worked

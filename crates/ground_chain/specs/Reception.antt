@@ -3,10 +3,11 @@ use Rattle.std.specs.Prelude.{◌≡◌, ℕ, ◌+◌, ◌-◌, ◌<◌, ◌≤�
 use Rattle.bit_vectors.specs.Vectors.{bits_of}
 use Rattle.packet_encode.specs.Forms.{Form}
 use Rattle.packet_store.specs.SpacePackets.{period}
-use Rattle.packet_decode.specs.State.{IsState}
+use Rattle.packet_decode.specs.State.{IsState, WrittenPacket, Change}
 use Rattle.packet_decode.specs.Spelling.{Spells}
 use Rattle.packet_decode.specs.Decoding.{Decoding, latest_number}
 use Rattle.ground_chain.specs.declared.verdict.Lost.{Lost}
+use Rattle.ground_chain.specs.declared.verdict.Kind.TheVariants.{Written}
 use Rattle.ground_chain.specs.Numbers.{expected}
 use Rattle.ground_chain.specs.Run.{Arrival, Known, Judged, judge, known_after}
 
@@ -36,6 +37,20 @@ pub record HasDecoded (old new : Decoding) (t : ℕ) (body : List ℕ) : Type 0 
   pub content : List Bool
   pub spells : Spells old.places old.state t (bits_of body) form mask content
   pub is : new ≡ record { places = old.places; state = Some (record { number = t; mask = mask; content = content }); recent = form.recent; level = form.level }
+
+-- the decoder's latest packet is the written one of this arrival, and its first part is kept
+pub record HasWritten (decoder : Decoding) (judged : Judged) : Type 0 where
+  pub packet : WrittenPacket
+  pub change : Change
+  pub state : decoder.state ≡ Some packet
+  pub recent : decoder.recent ≡ change.recent
+  pub level : decoder.level ≡ change.level
+  pub after : judged.after.state ≡ Some packet
+  pub first : judged.change ≡ Some change
+
+-- where the arrival is written, the decoder's latest packet is that of it
+abbrev pub Shows : Decoding → Judged → Type 0
+Shows decoder judged = judged.verdict.kind ≡ Written → HasWritten decoder judged
 
 -- lost numbers are at least one, and fewer than there are sequence counts
 pub record AreLost (lost : Lost) : Type 0 where

@@ -5,7 +5,7 @@ use Rattle.bit_vectors.specs.Reading.{Parsed, Read, WrongBit, TooShort}
 use Rattle.bit_vectors.specs.Vectors.{bits_of}
 use Rattle.packet_decode.specs.declared.decoder.Reading.{Reading}
 use Rattle.packet_decode.specs.declared.decoder.Reading.TheVariants as answer
-use Rattle.packet_decode.specs.State.{State}
+use Rattle.packet_decode.specs.State.{State, Change}
 use Rattle.packet_decode.specs.PacketReading.{Outcome, Spelled, Opaque, Found, parse_whole_packet, answer_of}
 use Rattle.ground_chain.specs.declared.verdict.Lost.{Lost}
 use Rattle.ground_chain.specs.declared.verdict.Kind.{Kind}
@@ -27,9 +27,10 @@ pub record Known : Type 0 where
 abbrev pub nothing_known : Known
 nothing_known = record { latest = None; state = None }
 
--- an arrival's verdict, and what is known after it
+-- an arrival's verdict, the first part of its packet where that is written, and what is known after it
 pub record Judged : Type 0 where
   pub verdict : Verdict
+  pub change : Option Change
   pub after : Known
 
 -- ---- one arrival
@@ -50,7 +51,7 @@ verdict_of latest t answer = record { lost = lost_from (expected latest) t; t = 
 
 -- a repeat has the latest number, its data are not read, and nothing changes
 abbrev pub repeat_judged : Known → Judged
-repeat_judged known = record { verdict = record { lost = None; t = unwrap_or known.latest 0; kind = Repeat }; after = known }
+repeat_judged known = record { verdict = record { lost = None; t = unwrap_or known.latest 0; kind = Repeat }; change = None; after = known }
 
 abbrev pub state_with : State → ℕ → Outcome → State
 state_with state t (Spelled mask content) = Some (record { number = t; mask = mask; content = content })
@@ -66,10 +67,25 @@ state_read state t TooShort = state
 abbrev pub state_after : ℕ → State → ℕ → List Bool → State
 state_after f state t bits = state_read state t (parse_whole_packet f state t bits)
 
+abbrev pub change_with : Change → Outcome → Option Change
+change_with change (Spelled mask content) = Some change
+change_with change Opaque = None
+
+-- the first part of what was read of all bits, where they spell a packet
+abbrev pub change_read : Parsed Found → Option Change
+change_read (Read found rest) = change_with found.change found.outcome
+change_read (WrongBit rest) = None
+change_read TooShort = None
+
+-- the same of the bits of the packet with the number t
+abbrev pub change_after : ℕ → State → ℕ → List Bool → Option Change
+change_after f state t bits = change_read (parse_whole_packet f state t bits)
+
 -- an arrival with this number is read
 abbrev pub judge_as : ℕ → Known → List ℕ → ℕ → Judged
 judge_as f known body t = record {
   verdict = verdict_of known.latest t (answer_of f known.state t (bits_of body));
+  change = change_after f known.state t (bits_of body);
   after = record { latest = Some t; state = state_after f known.state t (bits_of body) };
 }
 

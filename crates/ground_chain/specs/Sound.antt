@@ -7,7 +7,7 @@ use Rattle.bit_vectors.specs.Vectors.{bits_of}
 use Rattle.packet_encode.specs.Forms.{Form}
 use Rattle.packet_decode.specs.declared.decoder.Reading.{Reading}
 use Rattle.packet_decode.specs.declared.decoder.Reading.TheVariants.{Written, Unsynced, Gap}
-use Rattle.packet_decode.specs.State.{State}
+use Rattle.packet_decode.specs.State.{State, Change, change_of}
 use Rattle.packet_decode.specs.Spelling.{Spells}
 use Rattle.packet_decode.specs.Answers.{IsSoundAnswer, IsExactAnswer}
 use Rattle.ground_chain.specs.declared.verdict.Kind.{Kind}
@@ -34,11 +34,27 @@ IsStateAfter f state t bits next (Ok Unsynced) = next ≡ state
 IsStateAfter f state t bits next (Ok (Gap level)) = next ≡ state
 IsStateAfter f state t bits next (Err fault) = next ≡ state
 
+-- this is the first part of the packet that the bits spell
+pub record IsFirstPart (f : ℕ) (state : State) (t : ℕ) (bits : List Bool) (change : Option Change) : Type 0 where
+  pub form : Form
+  pub mask : List Bool
+  pub content : List Bool
+  pub spells : Spells f state t bits form mask content
+  pub is : change ≡ Some (change_of form)
+
+-- the first part that is kept after an answer: that of a written packet, and none after all other answers
+abbrev pub IsChangeAfter : ℕ → State → ℕ → List Bool → Option Change → Result Reading BitFault → Type 0
+IsChangeAfter f state t bits change (Ok Written) = IsFirstPart f state t bits change
+IsChangeAfter f state t bits change (Ok Unsynced) = change ≡ None
+IsChangeAfter f state t bits change (Ok (Gap level)) = change ≡ None
+IsChangeAfter f state t bits change (Err fault) = change ≡ None
+
 -- an arrival with the number t has a verdict with a right answer
 pub record IsReadAs (IsRight : Rightness) (f : ℕ) (known : Known) (body : List ℕ) (judged : Judged) (t : ℕ) : Type 0 where
   pub answer : Result Reading BitFault
   pub right : IsRight f known.state t (bits_of body) answer
   pub verdict : judged.verdict ≡ verdict_of known.latest t answer
+  pub change : IsChangeAfter f known.state t (bits_of body) judged.change answer
   pub latest : judged.after.latest ≡ Some t
   pub state : IsStateAfter f known.state t (bits_of body) judged.after.state answer
 

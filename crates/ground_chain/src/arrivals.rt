@@ -3,7 +3,7 @@
 ghost use Rattle.std.specs.Prelude.{◌≡◌, ◌+◌, ◌^◌, ◌<◌, ◌≤◌, ◌↔◌, ◌∷◌, ◌++◌, [], List, None, IfSome, IfOk, length};
 ghost use Rattle.ground_chain.specs.Numbers.{expected, number_after};
 ghost use Rattle.ground_chain.specs.Run.{Arrival, kind_of, lost_from};
-ghost use Rattle.ground_chain.specs.Reception.{AreLost, HasDecoded, StandsFor, known_of, next_judged, nothing_arrived};
+ghost use Rattle.ground_chain.specs.Reception.{AreLost, HasDecoded, Shows, StandsFor, known_of, next_judged, nothing_arrived};
 
 use crate::unwrap::Unwrap;
 use crate::verdict::{Kind, Lost, Verdict};
@@ -62,6 +62,7 @@ impl Ground {
         ensures repeated { result.kind ≡ Kind.Repeat → self.new ≡ self.old }
         // Only a written packet changes the decoder.
         ensures written { result.kind ≡ Kind.Written → HasDecoded self.old.decoder self.new.decoder result.t bytes.now }
+        ensures shows { Shows self.new.decoder (next_judged self.old count bytes.now) }
         ensures unchanged { (result.kind ≡ Kind.Written → ⊥) → self.new.decoder ≡ self.old.decoder }
         ensures places { self.new.decoder.places ≡ self.old.decoder.places }
         ensures lost { IfSome result.lost AreLost }

@@ -1,15 +1,17 @@
 //! What the definitions of numbers and runs mean.
 
-ghost use Rattle.std.specs.Prelude.{◌≡◌, ◌<◌, ◌≤◌, ◌↔◌, ◌∷◌, [], ◌++◌, ◌+◌, ℕ, length, false, All, List, Some, None, map};
+ghost use Rattle.std.specs.Prelude.{◌≡◌, ◌<◌, ◌≤◌, ◌↔◌, ◌∷◌, [], ◌++◌, ◌+◌, ℕ, length, true, false, All, List, Some, None, map};
 ghost use Rattle.std.specs.List.{range_with_len};
 ghost use Rattle.packet_store.specs.SpacePackets.{period};
 ghost use Rattle.ground_chain.specs.Numbers.{HasCount, number_after, expected};
 ghost use Rattle.ground_chain.specs.Run.{Arrival, Judged, judge, known_after, repeat_judged, run};
-ghost use Rattle.ground_chain.specs.Report.{is_repeat, restored_of, run_bytes, run_report, run_rows};
+ghost use Rattle.ground_chain.specs.Listing.{IsToldAlike, listed_texts, listing_course, run_listing};
+ghost use Rattle.ground_chain.specs.Receiving.{store_course};
+ghost use Rattle.ground_chain.specs.Report.{header_row, is_repeat, is_unwritten, own_row, restored_of, run_bytes, run_report, run_rows};
 ghost use Rattle.ground_chain.specs.Sound.{IsExactRun, IsSoundRun, but_for_faults};
-ghost use Rattle.ground_chain.specs.Restoring.{restore_course, store_run};
+ghost use Rattle.ground_chain.specs.Restoring.{restore_course, restored_texts, store_run};
 ghost use Rattle.ground_chain.specs.Worked.{arrival, written_verdict};
-ghost use Rattle.desk_ports.specs.Courses.{AreFronts, owed};
+ghost use Rattle.desk_ports.specs.Courses.{AreFronts, behind, owed, to_output, to_report};
 ghost use Rattle.packet_store.specs.Walks.{walk};
 ghost use Rattle.ground_chain.specs.Told.{AreArrivals, run_numbers};
 
@@ -81,17 +83,32 @@ pub fn numbers_count_the_run()
         restored.written + restored.listed ≡ expected (known_after f arrivals).latest }
 {}
 
-/// What a whole store owes is the restored packets and the report of the run over its packets of the chosen APID.
+/// What a whole store owes is the restored packets and the report of the run over its packets of the chosen APID, and as
+/// a listing that of the same run.
 pub fn whole_stores_owe_their_run()
-    ensures { (f apid : ℕ) (store : List ℕ) → (walk (Some apid) store).ending ≡ None →
+    ensures restored { (f apid : ℕ) (store : List ℕ) → (walk (Some apid) store).ending ≡ None →
         owed (restore_course f apid store)
         ≡ record { output = run_bytes (store_run f apid store); report = run_report (store_run f apid store) } }
+    ensures listed { (f apid : ℕ) (store : List ℕ) → (walk (Some apid) store).ending ≡ None →
+        owed (listing_course f apid store) ≡ to_output (run_listing (store_run f apid store)) }
 {}
 
 /// What a front of a store owes before its end is a front of what the store owes before its end.
 pub fn fronts_owe_fronts()
-    ensures { (f apid : ℕ) (front rest : List ℕ) → All (λ b. b < 256) front →
+    ensures restored { (f apid : ℕ) (front rest : List ℕ) → All (λ b. b < 256) front →
         AreFronts (restore_course f apid front).before (restore_course f apid (front ++ rest)).before }
+    ensures listed { (f apid : ℕ) (front rest : List ℕ) → All (λ b. b < 256) front →
+        AreFronts (listing_course f apid front).before (listing_course f apid (front ++ rest)).before }
+{}
+
+/// Report and listing are accounts of one run: what a store owes as either is what is written of the same verdicts.
+/// Exactly the arrivals that are not written have a row, and their lines name the same cause and value.
+pub fn report_and_listing_agree()
+    ensures report { (f apid : ℕ) (store : List ℕ) →
+        restore_course f apid store ≡ behind (to_report header_row) (store_course restored_texts f apid store) }
+    ensures listing { (f apid : ℕ) (store : List ℕ) → listing_course f apid store ≡ store_course listed_texts f apid store }
+    ensures unwritten { (judged : Judged) → is_unwritten judged.verdict.kind ≡ true → IsToldAlike judged }
+    ensures others { (judged : Judged) → is_unwritten judged.verdict.kind ≡ false → own_row judged.verdict.t judged.verdict.kind ≡ [] }
 {}
 
 /// Worked runs with vectors of 8 places: the verdicts of arrivals, each with its count and its data.

@@ -1,14 +1,19 @@
 //! The receiving end: from the packets that arrived to the restored packets and a report of those that can't be known.
 #![tactic(auto)]
 
+mod account;
 mod arrivals;
 mod deliveries;
 mod fault;
 mod laws;
+mod lines;
+mod lister;
+mod listing;
+mod receiving;
 mod report;
+mod reporting;
 mod restored;
 mod restorer;
-mod restoring;
 mod unwrap;
 mod verdict;
 
@@ -21,9 +26,10 @@ pub use deliveries::{
 pub use fault::RestoreFault;
 pub use laws::{
     every_number_once, fronts_owe_fronts, numbers_are_the_next_ones, numbers_count_the_run,
-    numbers_rise, one_exact_run, repeats_change_nothing, runs_grow, sound_runs_agree,
-    whole_stores_owe_their_run, worked_runs,
+    numbers_rise, one_exact_run, repeats_change_nothing, report_and_listing_agree, runs_grow,
+    sound_runs_agree, whole_stores_owe_their_run, worked_runs,
 };
+pub use lister::Lister;
 pub use restored::Restored;
 pub use restorer::Restorer;
 pub use unwrap::Unwrap;

@@ -10,9 +10,10 @@ ghost use Rattle.ground_chain.specs.Report.{restored_of};
 ghost use Rattle.ground_chain.specs.Restoring.{restore_course, stop_by, store_run};
 
 use crate::fault::RestoreFault;
+use crate::receiving::Receiving;
 use crate::report::HEADER;
+use crate::reporting::Reporting;
 use crate::restored::Restored;
-use crate::restoring::Restoring;
 use bit_vectors::NoMemory;
 use desk_ports::{Desk, Inlet, Outlet, drive, write_all};
 use std::alloc::Global;
@@ -22,17 +23,18 @@ use std::marker::Model;
 /// main outlet, and the report. Contracts see the places of the vectors and the chosen APID.
 #[derive(Debug, Drop)]
 pub struct Restorer {
-    restoring: Restoring,
+    receiving: Receiving<Reporting>,
 }
 
 impl Model for Restorer {
-    ghost use Rattle.ground_chain.specs.Restoring.{RestorerState, restorer_state, IsRestorer};
+    ghost use Rattle.ground_chain.specs.Restoring.{HasContentRoom, RestorerState};
+    ghost use Rattle.ground_chain.specs.Receiving.{IsUnread, receiving_state};
 
     ghost Value = { RestorerState };
 
-    ghost view = { λ r. restorer_state r.restoring };
+    ghost view = { λ r. receiving_state r.receiving };
 
-    ghost invariant = { λ r. IsRestorer r.restoring };
+    ghost invariant = { λ r. IsUnread HasContentRoom r.receiving };
 }
 
 impl Restorer {
@@ -44,8 +46,9 @@ impl Restorer {
         requires chosen { apid ≤ 2046 }
         ensures { IfOk result (λ restorer. restorer ≡ record { places = f; apid = apid }) }
     {
-        let restoring = Restoring::open(alloc, f, apid)?;
-        Ok(Restorer { restoring })
+        let account = Reporting::open(alloc, f)?;
+        let receiving = Receiving::open(alloc, f, apid, account)?;
+        Ok(Restorer { receiving })
     }
 
     /// Restores the store, and tells the numbers of its run. It takes no memory.
@@ -69,8 +72,8 @@ impl Restorer {
             → ¬ Rose (D.counts desk.old).reads (D.counts desk.new).reads → ¬ Rose (D.counts desk.old).writes (D.counts desk.new).writes
             → IsOk result }
     {
-        let mut restoring = self.restoring;
+        let mut receiving = self.receiving;
         write_all(desk, Outlet::Report, HEADER.as_bytes())?;
-        drive(&mut restoring, desk)
+        drive(&mut receiving, desk)
     }
 }

@@ -41,5 +41,6 @@ fn with_memory_all_is_opened(rt: HostRuntime) -> Result<(), Fail> {
     let ground = Ground::open(rt.alloc(), 8)?;
     assert_eq!(rt; ground.decoder().last(), None);
     let _restorer = Restorer::open(rt.alloc(), 8, 100)?;
+    let _lister = Lister::open(rt.alloc(), 8, 100)?;
     Ok(())
 }

@@ -2,8 +2,8 @@ use Rattle.std.proofs.Common.{◌≡◌, ℕ, Option, Some, None, refl, sym, ap,
 use Rattle.ground_chain.specs.declared.verdict.Verdict.{Verdict}
 use Rattle.ground_chain.specs.Numbers.{number_after, latest_after, expected}
 use Rattle.ground_chain.specs.Run.{Judged, lost_from, kind_of}
-use Rattle.ground_chain.specs.Reception.{Reception, StandsFor, known_of, next_judged}
-use Rattle.ground_chain.proofs.Receptions.{judged_read, judged_repeat, stands_next}
+use Rattle.ground_chain.specs.Reception.{Reception, Shows, StandsFor, known_of, next_judged}
+use Rattle.ground_chain.proofs.Receptions.{judged_read, judged_repeat, shows_read, shows_repeat, stands_next}
 use Rattle.ground_chain.proofs.arrivals.Ground.arrive.Goals as goal
 
 pub returns-in_default-clause-stands : goal.returns-in_default-clause-stands
@@ -44,3 +44,16 @@ returns-clause-stands c = λ arrivals stands.
     let new : Reception = record { latest = c.next.new.self; decoder = c.read.new.self } in
     let places = c.read.ensures.places ∙ ap (λ (r : Reception). r.decoder.places) c.self.view_is in
     stands_next arrivals c.args.self.now new c.args.count c.args.bytes.now places (returns-clause-known c) stands
+
+pub returns-in_default-clause-shows : goal.returns-in_default-clause-shows
+returns-in_default-clause-shows c =
+    let old : Reception = record { latest = c.self.inside.numbers; decoder = c.self.inside.decoder } in
+    let none : number_after c.self.inside.numbers c.args.count ≡ None = search rules in
+    subst (λ (r : Reception). Shows c.self.inside.decoder (next_judged r c.args.count c.args.bytes.now)) c.self.view_is (shows_repeat old c.self.inside.decoder c.args.count c.args.bytes.now none)
+
+pub returns-clause-shows : goal.returns-clause-shows
+returns-clause-shows c =
+    let old : Reception = record { latest = c.self.inside.numbers; decoder = c.self.inside.decoder } in
+    let number : number_after c.self.inside.numbers c.args.count ≡ Some c.in-Some.t = sym c.next.ensures.number ∙ c.in-Some.is in
+    let shows = shows_read old c.read.new.self c.in-Some.t c.args.bytes.now c.self.invariant.places c.read.ensures.latest c.args.count number in
+    subst (λ (r : Reception). Shows c.read.new.self (next_judged r c.args.count c.args.bytes.now)) c.self.view_is shows

@@ -1,58 +1,69 @@
-use Rattle.std.proofs.Common.{◌≡◌, ℕ, List, Ok, Err, Result, IfOk, IfSome, IsOk, refl, subst}
+use Rattle.std.proofs.Common.{◌≡◌, ℕ, List, [], Ok, Err, Result, IfOk, IfSome, IsOk, refl, subst}
 use Rattle.std.proofs.lemmas.Result.{err_from_is_err_and}
 use Rattle.desk_ports.specs.declared.desk.Inlet.TheVariants as inlet
 use Rattle.desk_ports.specs.declared.desk.Outlet.TheVariants as outlet
 use Rattle.desk_ports.specs.Meanings.{Meanings, Adds, AddsFront, Counts, left}
 use Rattle.desk_ports.specs.Courses.{AfterRun, HasCause, IsCutShort, by_stop, to_report}
-use Rattle.desk_ports.specs.Turns.{Reaches}
+use Rattle.desk_ports.specs.Turns.{Reaches, Steps, Work}
 use Rattle.desk_ports.proofs.Runs.{Ran-notes}
 use Rattle.desk_ports.proofs.Steps.{AfterRun-behind, IsCutShort-wrote, Reaches-wrote, WroteFront-report, answer-behind}
 use Rattle.mask_update.specs.Histories.{History}
+use Rattle.packet_store.specs.declared.fault.WalkFault.{WalkFault}
 use Rattle.ground_chain.specs.declared.fault.RestoreFault.{RestoreFault}
 use Rattle.ground_chain.specs.declared.restored.Restored.{Restored}
-use Rattle.ground_chain.specs.declared.restoring.Restoring.{Restoring}
+use Rattle.ground_chain.specs.declared.receiving.Receiving.{Receiving}
+use Rattle.ground_chain.specs.declared.reporting.Reporting.{Reporting}
 use Rattle.ground_chain.specs.Deliveries.{IsDelivered, IsPlayed}
 use Rattle.ground_chain.specs.Report.{header_row, restored_of}
-use Rattle.ground_chain.specs.Restoring.{RestorerState, IsRestorer, rest_work, restore_course, restorer_state, stop_by, store_run}
-use Rattle.ground_chain.proofs.DeliveredRuns.{IsDelivered-done, IsOk-played}
-use Rattle.ground_chain.proofs.RestCourses.{Owes-unread, Steps-header, restore_work}
+use Rattle.ground_chain.specs.Restoring.{HasContentRoom, RestorerState, restore_course, restored_texts, stop_by, store_run}
+use Rattle.ground_chain.specs.Receiving.{HasReadNothing, IsUnread, receiving_state, rest_work}
+use Rattle.ground_chain.proofs.DeliveredRuns.{IsDelivered-done, IsOk-run}
+use Rattle.ground_chain.proofs.RestCourses.{Owes-unread, Steps-unread, restore_course-is, store_work}
 use Rattle.ground_chain.proofs.restorer.Restorer.restore.Goals as goal
+
+-- the work of a whole store
+abbrev restore_work : ℕ → ℕ → Work Restored WalkFault
+restore_work f apid = store_work (restore_course f apid) f apid
+
+unread : (f apid : ℕ) (s : Receiving Reporting) → HasReadNothing HasContentRoom f apid s → Steps (restore_work f apid) (rest_work restored_texts s) [] (to_report header_row)
+unread f apid s is = Steps-unread restored_texts HasContentRoom f apid s (restore_course f apid) (to_report header_row) is (restore_course-is f apid)
 
 pub returns-in_err-write_all-clause-ran : goal.returns-in_err-write_all-clause-ran
 returns-in_err-write_all-clause-ran g c =
     let a = g.D.Desk.meaning c.args.desk.now in
     let b = g.D.Desk.meaning c.write_all.new.desk in
-    let s = c.self.inside.restoring in
-    let k = restorer_state s in
+    let s = c.self.inside.receiving in
+    let k = receiving_state s in
     let front = WroteFront-report a b header_row (subst (AddsFront a b outlet.Report) c.as_bytes.ensures.value c.in_err-write_all.ensures.front) in
-    let cut = IsCutShort-wrote (restore_work k.places k.apid) (rest_work s) a b (to_report header_row) (Steps-header k.places k.apid s c.self.invariant) front in
+    let cut = IsCutShort-wrote (restore_work k.places k.apid) (rest_work restored_texts s) a b (to_report header_row) (unread k.places k.apid s c.self.invariant) front in
     let p = err_from_is_err_and c.from_residual.result c.from_residual.ensures.1 in
     rw (p.1, p.2) (subst (λ (r : RestorerState). IsCutShort (restore_course r.places r.apid) a b) c.self.view_is cut)
 
 -- the first line was written, and the store is owed
-header : (s : Restoring) (a b : Meanings) (bytes : List ℕ) → IsRestorer s → bytes ≡ header_row → Adds a b outlet.Report bytes → Reaches (restore_work (restorer_state s).places (restorer_state s).apid) (rest_work s) a b
-header s a b bytes unread is adds =
-    let k = restorer_state s in
-    Reaches-wrote (restore_work k.places k.apid) (rest_work s) a b (to_report header_row) (Steps-header k.places k.apid s unread) (Ran-notes a b header_row (subst (Adds a b outlet.Report) is adds))
+header : (s : Receiving Reporting) (a b : Meanings) (bytes : List ℕ) → IsUnread HasContentRoom s → bytes ≡ header_row → Adds a b outlet.Report bytes
+    → Reaches (restore_work (receiving_state s).places (receiving_state s).apid) (rest_work restored_texts s) a b
+header s a b bytes is_unread is adds =
+    let k = receiving_state s in
+    Reaches-wrote (restore_work k.places k.apid) (rest_work restored_texts s) a b (to_report header_row) (unread k.places k.apid s is_unread) (Ran-notes a b header_row (subst (Adds a b outlet.Report) is adds))
 
 pub returns-clause-ran : goal.returns-clause-ran
 returns-clause-ran g c =
     let a = g.D.Desk.meaning c.args.desk.now in
     let b = g.D.Desk.meaning c.write_all.new.desk in
     let d = g.D.Desk.meaning c.drive.new.desk in
-    let s = c.self.inside.restoring in
-    let k = restorer_state s in
-    let ran = c.drive.ensures.ran (rest_work s) (Owes-unread k.places k.apid s c.self.invariant) in
-    subst (λ (r : RestorerState). AfterRun (restore_course r.places r.apid) a d (by_stop stop_by c.drive.result)) c.self.view_is (AfterRun-behind (restore_work k.places k.apid) (rest_work s) a b d (by_stop stop_by c.drive.result) (header s a b c.as_bytes.result.now c.self.invariant c.as_bytes.ensures.value c.in_ok-write_all.ensures.added) ran)
+    let s = c.self.inside.receiving in
+    let k = receiving_state s in
+    let ran = c.drive.ensures.ran (rest_work restored_texts s) (Owes-unread restored_texts HasContentRoom k.places k.apid s c.self.invariant) in
+    subst (λ (r : RestorerState). AfterRun (restore_course r.places r.apid) a d (by_stop stop_by c.drive.result)) c.self.view_is (AfterRun-behind (restore_work k.places k.apid) (rest_work restored_texts s) a b d (by_stop stop_by c.drive.result) (header s a b c.as_bytes.result.now c.self.invariant c.as_bytes.ensures.value c.in_ok-write_all.ensures.added) ran)
 
 pub returns-clause-numbers : goal.returns-clause-numbers
 returns-clause-numbers g c =
     let a = g.D.Desk.meaning c.args.desk.now in
     let b = g.D.Desk.meaning c.write_all.new.desk in
-    let s = c.self.inside.restoring in
-    let k = restorer_state s in
-    let told = c.drive.ensures.answer (rest_work s) (Owes-unread k.places k.apid s c.self.invariant) in
-    subst (λ (r : RestorerState). IfSome (left a inlet.Main) (λ store. IfOk c.drive.result (λ restored. restored ≡ restored_of (store_run r.places r.apid store)))) c.self.view_is (answer-behind (restore_work k.places k.apid) (rest_work s) a b c.drive.result (header s a b c.as_bytes.result.now c.self.invariant c.as_bytes.ensures.value c.in_ok-write_all.ensures.added) told)
+    let s = c.self.inside.receiving in
+    let k = receiving_state s in
+    let told = c.drive.ensures.answer (rest_work restored_texts s) (Owes-unread restored_texts HasContentRoom k.places k.apid s c.self.invariant) in
+    subst (λ (r : RestorerState). IfSome (left a inlet.Main) (λ store. IfOk c.drive.result (λ restored. restored ≡ restored_of (store_run r.places r.apid store)))) c.self.view_is (answer-behind (restore_work k.places k.apid) (rest_work restored_texts s) a b c.drive.result (header s a b c.as_bytes.result.now c.self.invariant c.as_bytes.ensures.value c.in_ok-write_all.ensures.added) told)
 
 delivered : (f apid : ℕ) (h : History) (copies : ℕ → ℕ) (a b : Meanings) (result : Result Restored RestoreFault) → IsPlayed f apid h copies a → AfterRun (restore_course f apid) a b (by_stop stop_by result)
     → IfSome (left a inlet.Main) (λ store. IfOk result (λ restored. restored ≡ restored_of (store_run f apid store))) → IfOk result (λ restored. IsDelivered h copies restored a b)
@@ -63,10 +74,6 @@ pub returns-clause-headline : goal.returns-clause-headline
 returns-clause-headline g c = λ h copies played.
     delivered c.args.self.places c.args.self.apid h copies (g.D.Desk.meaning c.args.desk.now) (g.D.Desk.meaning c.drive.new.desk) c.drive.result played (returns-clause-ran g c) (returns-clause-numbers g c)
 
-IsOk-run : (result : Result Restored RestoreFault) → IsOk (by_stop stop_by result) → IsOk result
-IsOk-run (Ok restored) ok = refl
-IsOk-run (Err fault) ok = absurd cc
-
 pub returns-clause-complete : goal.returns-clause-complete
 returns-clause-complete g c = λ h copies played few reads writes.
     let a = g.D.Desk.meaning c.args.desk.now in
@@ -74,4 +81,4 @@ returns-clause-complete g c = λ h copies played few reads writes.
     let old = g.D.Desk.counts c.args.desk.now in
     let new = g.D.Desk.counts c.drive.new.desk in
     let cause = subst (λ (k : Counts). HasCause k new (by_stop stop_by c.drive.result)) c.in_ok-write_all.ensures.cause c.drive.ensures.cause in
-    IsOk-run c.drive.result (IsOk-played c.args.self.places c.args.self.apid h copies a d old new (by_stop stop_by c.drive.result) played few (returns-clause-ran g c) cause reads writes)
+    IsOk-run c.args.self.places c.args.self.apid (restore_course c.args.self.places c.args.self.apid) h copies a d old new c.drive.result (λ store. refl) played few (returns-clause-ran g c) cause reads writes

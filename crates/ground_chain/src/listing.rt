@@ -1,0 +1,114 @@
+//! What `show` writes of the arrivals: a line for each, with one before it for lost numbers.
+
+ghost use Rattle.std.specs.Prelude.{◌≡◌, ◌≤◌, ◌++◌, length, IfOk, OnOk, OnErr};
+ghost use Rattle.desk_ports.specs.Meanings.{IsReadyOut, Adds, AddsFront, HasWriteCause};
+ghost use Rattle.packet_decode.specs.Decoding.{latest_content, latest_mask};
+ghost use Rattle.ground_chain.specs.Listing.{vector_digits, vectors_text};
+
+use crate::account::Account;
+use crate::lines::{end_line, front_of};
+use crate::restored::Restored;
+use crate::verdict::Verdict;
+use bit_vectors::{Bits, NoMemory, byte_len};
+use desk_ports::{Desk, Failed, Outlet, write_all};
+use packet_decode::Decoder;
+use std::alloc::Global;
+
+/// Room for the bytes of a vector and for their hexadecimal digits.
+#[derive(Debug, Drop)]
+pub struct Listing {
+    bytes: Vec<u8>,
+    digits: Vec<u8>,
+}
+
+impl Account for Listing {
+    ghost use Rattle.ground_chain.specs.Listing.{HasVectorRoom, is_main, listed_texts};
+
+    ghost texts = { listed_texts };
+
+    ghost writes = { is_main };
+
+    ghost has_room = { HasVectorRoom };
+
+    fn write<D: Desk>(
+        &mut self,
+        desk: &mut D,
+        verdict: &Verdict,
+        decoder: &Decoder,
+    ) -> Result<(), Failed> {
+        write_all(
+            desk,
+            Outlet::Main,
+            front_of(verdict, decoder.level()).as_bytes(),
+        )?;
+        if verdict.kind.is_written() {
+            self.write_vectors(desk, decoder)?;
+        }
+        Ok(())
+    }
+
+    fn end<D: Desk>(&self, desk: &mut D, restored: &Restored) -> Result<(), Failed> {
+        write_all(desk, Outlet::Main, end_line(restored).as_bytes())
+    }
+}
+
+impl Listing {
+    ghost use Rattle.ground_chain.specs.Listing.{HasVectorRoom};
+
+    /// Takes the memory for vectors of `f` places.
+    pub fn open(alloc: Global, f: u32) -> Result<Listing, NoMemory>
+        requires some { 1 ≤ f }
+        requires most { f ≤ 49152 }
+        ensures { IfOk result (λ listing. HasVectorRoom listing f) }
+    {
+        let length = byte_len(f) as usize;
+        let bytes = vec![in alloc; 0; length]?;
+        let digits = vec![in alloc; 0; 2 * length]?;
+        Ok(Listing { bytes, digits })
+    }
+
+    /// Writes the vectors of the latest written packet, which end its line.
+    fn write_vectors<D: Desk>(&mut self, desk: &mut D, decoder: &Decoder) -> Result<(), Failed>
+        requires room { HasVectorRoom self.old decoder.now.places }
+        requires output { IsReadyOut (D.meaning desk.old) Outlet.Main }
+        ensures room { HasVectorRoom self.new decoder.now.places }
+        ensures added { OnOk result (Adds (D.meaning desk.old) (D.meaning desk.new) Outlet.Main (vectors_text decoder.now.recent
+            (latest_mask decoder.now.places decoder.now.state) (latest_content decoder.now.places decoder.now.state))) }
+        ensures front { OnErr result (AddsFront (D.meaning desk.old) (D.meaning desk.new) Outlet.Main (vectors_text decoder.now.recent
+            (latest_mask decoder.now.places decoder.now.state) (latest_content decoder.now.places decoder.now.state))) }
+        ensures cause { HasWriteCause (D.counts desk.old) (D.counts desk.new) result }
+    {
+        self.write_vector(desk, decoder.recent(), " ")?;
+        self.write_vector(desk, decoder.mask(), " ")?;
+        self.write_vector(desk, decoder.content(), "\n")
+    }
+
+    /// Writes the bytes of a vector in hexadecimal digits, and a text behind them.
+    fn write_vector<D: Desk>(
+        &mut self,
+        desk: &mut D,
+        vector: &Bits,
+        behind: &str,
+    ) -> Result<(), Failed>
+        requires room { HasVectorRoom self.old (length vector.now) }
+        requires output { IsReadyOut (D.meaning desk.old) Outlet.Main }
+        ensures room { HasVectorRoom self.new (length vector.now) }
+        ensures added { OnOk result (Adds (D.meaning desk.old) (D.meaning desk.new) Outlet.Main (vector_digits vector.now ++ behind.now)) }
+        ensures front { OnErr result (AddsFront (D.meaning desk.old) (D.meaning desk.new) Outlet.Main (vector_digits vector.now ++ behind.now)) }
+        ensures cause { HasWriteCause (D.counts desk.old) (D.counts desk.new) result }
+    {
+        self.spell(vector);
+        write_all(desk, Outlet::Main, &self.digits)?;
+        write_all(desk, Outlet::Main, behind.as_bytes())
+    }
+
+    /// Spells the bytes of a vector in hexadecimal digits.
+    fn spell(&mut self, vector: &Bits)
+        requires room { HasVectorRoom self.old (length vector.now) }
+        ensures digits { self.new.digits.items ≡ vector_digits vector.now }
+        ensures room { HasVectorRoom self.new (length vector.now) }
+    {
+        vector.store(&mut self.bytes);
+        let _ = hex::encode_to_slice(&self.bytes[..], &mut self.digits);
+    }
+}

@@ -1,0 +1,76 @@
+//! What `restore` writes of the arrivals: the content of each restored packet, and the rows of the report.
+
+ghost use Rattle.std.specs.Prelude.{◌≡◌, ◌≤◌, true, length, IfOk, OnOk, OnErr};
+ghost use Rattle.bit_vectors.specs.Vectors.{byte_count, vector_bytes};
+ghost use Rattle.desk_ports.specs.Meanings.{IsReadyOut, Adds, AddsFront, HasWriteCause};
+ghost use Rattle.packet_decode.specs.Decoding.{latest_content};
+
+use crate::account::Account;
+use crate::report::{end_row, rows_of};
+use crate::restored::Restored;
+use crate::verdict::Verdict;
+use bit_vectors::{NoMemory, byte_len};
+use desk_ports::{Desk, Failed, Outlet, write_all};
+use packet_decode::Decoder;
+use std::alloc::Global;
+
+/// A line for a content.
+#[derive(Debug, Drop)]
+pub struct Reporting {
+    line: Vec<u8>,
+}
+
+impl Reporting {
+    ghost use Rattle.ground_chain.specs.Restoring.{HasContentRoom};
+
+    /// Takes the memory for contents of `f` places.
+    pub fn open(alloc: Global, f: u32) -> Result<Reporting, NoMemory>
+        requires some { 1 ≤ f }
+        requires most { f ≤ 49152 }
+        ensures { IfOk result (λ reporting. HasContentRoom reporting f) }
+    {
+        let line = vec![in alloc; 0; byte_len(f) as usize]?;
+        Ok(Reporting { line })
+    }
+}
+
+impl Account for Reporting {
+    ghost use Rattle.ground_chain.specs.Restoring.{HasContentRoom, restored_texts};
+
+    ghost texts = { restored_texts };
+
+    ghost writes = { λ _. true };
+
+    ghost has_room = { HasContentRoom };
+
+    fn write<D: Desk>(
+        &mut self,
+        desk: &mut D,
+        verdict: &Verdict,
+        decoder: &Decoder,
+    ) -> Result<(), Failed> {
+        write_all(desk, Outlet::Report, rows_of(verdict).as_bytes())?;
+        if verdict.kind.is_written() {
+            write_content(desk, decoder, &mut self.line)?;
+        }
+        Ok(())
+    }
+
+    fn end<D: Desk>(&self, desk: &mut D, restored: &Restored) -> Result<(), Failed> {
+        write_all(desk, Outlet::Report, end_row(restored).as_bytes())
+    }
+}
+
+/// Writes the content of the latest written packet.
+fn write_content<D: Desk>(desk: &mut D, decoder: &Decoder, line: &mut [u8]) -> Result<(), Failed>
+    requires line { length line.old ≡ byte_count decoder.now.places }
+    requires output { IsReadyOut (D.meaning desk.old) Outlet.Main }
+    ensures added { OnOk result (Adds (D.meaning desk.old) (D.meaning desk.new) Outlet.Main
+        (vector_bytes (latest_content decoder.now.places decoder.now.state))) }
+    ensures front { OnErr result (AddsFront (D.meaning desk.old) (D.meaning desk.new) Outlet.Main
+        (vector_bytes (latest_content decoder.now.places decoder.now.state))) }
+    ensures cause { HasWriteCause (D.counts desk.old) (D.counts desk.new) result }
+{
+    decoder.content().store(line);
+    write_all(desk, Outlet::Main, line)
+}
