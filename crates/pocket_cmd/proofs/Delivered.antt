@@ -6,7 +6,7 @@ use Rattle.desk_ports.specs.declared.desk.Inlet.TheVariants as inlet
 use Rattle.desk_ports.specs.declared.desk.Outlet.TheVariants as outlet
 use Rattle.desk_ports.specs.Courses.{Course, owed}
 use Rattle.desk_ports.specs.Meanings.{Meanings, made}
-use Rattle.pocket_cmd.specs.declared.fault.DataFault.{DataFault}
+use Rattle.pocket_cmd.specs.Faults.{DataFault}
 use Rattle.pocket_cmd.specs.Command.{Command, Names, names_of}
 use Rattle.pocket_cmd.specs.Courses.{course_of}
 use Rattle.pocket_cmd.specs.Delivery.{HasWritten}

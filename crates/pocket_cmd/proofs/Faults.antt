@@ -1,12 +1,15 @@
--- A course whose fault is named otherwise.
-use Rattle.std.proofs.Common.{◌≡◌, ℕ, List, Option, Some, None, refl, ap, subst}
+-- A course whose fault is named otherwise, and the refusal for a fault of a chain.
+use Rattle.std.proofs.Common.{◌≡◌, ℕ, List, Option, Some, None, Ok, Err, refl, sym, ap, subst}
 use Rattle.std.specs.Option.{option_map}
-use Rattle.desk_ports.specs.declared.stop.Stop.{Stop}
-use Rattle.desk_ports.specs.declared.stop.Stop.TheVariants.{Data, ReadFault, WriteFault}
-use Rattle.desk_ports.specs.Meanings.{Meanings}
-use Rattle.desk_ports.specs.Courses.{Outputs, Course, by_ending, owed, Went, Ends, AreFronts, AfterStop}
+use Rattle.desk_ports.specs.Stop.{Stop}
+use Rattle.desk_ports.specs.Stop.{Data, ReadFault, WriteFault}
+use Rattle.desk_ports.specs.Meanings.{Meanings, Counts}
+use Rattle.desk_ports.specs.Courses.{Outputs, Course, by_ending, owed, Went, Ends, AreFronts, AfterRun, AfterStop, HasCause}
 use Rattle.pocket_cmd.specs.Courses.{with_fault}
-use Rattle.pocket_cmd.specs.Jobs.{stop_with}
+use Rattle.pocket_cmd.specs.declared.status.Refusal.{Refusal}
+use Rattle.pocket_cmd.specs.Faults.{DataFault, stop_with}
+use Rattle.pocket_cmd.specs.Faults as fault
+use Rattle.pocket_cmd.specs.Status.{HasRefusalCause, IsEnded, refusal_by}
 
 by_ending-named : {F G : Type 0} (name : F → G) (ending : Option F) (before after : Outputs) → by_ending ending before after ≡ by_ending (option_map name ending) before after
 by_ending-named name None before after = refl
@@ -39,3 +42,27 @@ AfterStop-with_fault name course_of old new WriteFault e = record {
   went = e.went;
   fronts = subst (AreFronts e.stand) (owed-with_fault name (course_of e.input)) e.fronts;
 }
+
+-- ---- the answer of a chain
+
+pub IsEnded-done : {F : Type 0} (name : F → DataFault) (course_of : List ℕ → Course F) (old new : Meanings) → Ends course_of old new None → IsEnded (AfterRun (λ input. with_fault name (course_of input)) old new) (Ok tt)
+IsEnded-done name course_of old new e = record { ended = Ok tt; over = Ends-with_fault name course_of old new None e; answered = refl }
+
+pub IsEnded-stop : {F : Type 0} (name : F → DataFault) (course_of : List ℕ → Course F) (old new : Meanings) (stop : Stop F) (refusal : Refusal) → AfterStop course_of old new stop → refusal ≡ refusal_by (stop_with name stop)
+    → IsEnded (AfterRun (λ input. with_fault name (course_of input)) old new) (Err refusal)
+IsEnded-stop name course_of old new stop refusal e is =
+    record { ended = Err (stop_with name stop); over = AfterStop-with_fault name course_of old new stop e; answered = ap Err is }
+
+-- its cause
+pub HasRefusalCause-stop : {F : Type 0} (name : F → DataFault) (old new : Counts) (stop : Stop F) (refusal : Refusal) → HasCause {T = Unit {0}} old new (Err stop) → refusal ≡ refusal_by (stop_with name stop) → HasRefusalCause old new refusal
+HasRefusalCause-stop {F = F} name old new stop refusal e is = subst (HasRefusalCause old new) (sym is) (by_stop stop e) where
+  by_fault : (f : DataFault) → new ≡ old → HasRefusalCause old new (refusal_by (Data f))
+  by_fault (fault.CutRecord t) e = e
+  by_fault (fault.SpareBit t) e = e
+  by_fault (fault.BadStore byte kind) e = e
+  by_fault fault.TooMany e = e
+
+  by_stop : (stop : Stop F) → HasCause {T = Unit {0}} old new (Err stop) → HasRefusalCause old new (refusal_by (stop_with name stop))
+  by_stop (Data f) e = by_fault (name f) e
+  by_stop ReadFault e = e
+  by_stop WriteFault e = e

@@ -1,23 +1,22 @@
 -- What restoring the played store of a history writes, and which commands are done.
-use Rattle.std.proofs.Common.{◌≡◌, ℕ, ◌^◌, ◌≤◌, arith, nat_lt, false, cond, List, [], length, Some, None, Result, refl, sym, ap, ◌∙◌, subst}
+use Rattle.std.proofs.Common.{◌≡◌, ℕ, ◌≤◌, arith, nat_lt, false, cond, List, [], length, Some, None, Result, refl, sym, ap, ◌∙◌, subst}
 use Rattle.std.proofs.lemmas.Bool.Decides.{nat_tests}
 use Rattle.std.specs.Option.{option_map}
 use Rattle.desk_ports.specs.Courses.{Outputs, owed}
 use Rattle.desk_ports.specs.Meanings.{Meanings}
 use Rattle.mask_update.specs.Histories.{History}
-use Rattle.packet_encode.specs.Deliveries.{arrivals}
-use Rattle.packet_store.specs.Walks.{Walk, walk}
+use Rattle.packet_store.specs.Walks.{walk}
 use Rattle.flight_chain.specs.Stores.{store_of}
 use Rattle.loss_player.specs.Played.{played_bytes}
 use Rattle.ground_chain.specs.Deliveries.{report_text, restored_bytes}
 use Rattle.ground_chain.specs.Restoring.{restore_course}
 use Rattle.ground_chain.proofs.DeliveredRuns.{owed-played}
-use Rattle.ground_chain.proofs.PlayedHistories.{walk-played}
 use Rattle.pocket_cmd.specs.declared.status.Status.TheVariants.{Done, Refused}
 use Rattle.pocket_cmd.specs.declared.status.Refusal.{Refusal}
 use Rattle.pocket_cmd.specs.declared.status.Refusal.TheVariants as refusal
 use Rattle.pocket_cmd.specs.Command.{Command, Compress, Play, Restore, RestoreValues, IsChosen, names_of}
-use Rattle.pocket_cmd.specs.Courses.{course_of, of_recording, of_store}
+use Rattle.pocket_cmd.specs.Courses.{course_of}
+use Rattle.pocket_cmd.specs.Faults.{of_recording, of_store}
 use Rattle.pocket_cmd.specs.Delivery.{HasWritten, IsPlayedStore, IsSideRight, IsWhole}
 use Rattle.pocket_cmd.specs.Outcome.{AfterCommand, Stands, answer_by, answer_to, by_row}
 use Rattle.pocket_cmd.specs.Status.{status_by, status_of}
@@ -57,8 +56,3 @@ Done-whole (Play p) text input (within, rows) whole =
     ∙ (ap (λ o. by_row o (status_of (course_of (Play p) text input).ending)) rows ∙ ap (λ o. status_of (option_map of_store o)) whole)
 Done-whole (Restore r) text input none whole =
     ap (λ text. answer_to (Restore r) text input) none ∙ ap (λ o. status_of (option_map of_store o)) whole
-
--- the played store of a history is whole, where it is not too long
-pub IsWhole-played : (r : RestoreValues) (h : History) (copies : ℕ → ℕ) (old : Meanings) → IsChosen r.apid → IsPlayedStore r h copies old → length (arrivals copies (length h.steps)) ≤ 2 ^ 32
-    → IsWhole (Restore r) (played_bytes copies r.apid (store_of h r.apid))
-IsWhole-played r h copies old chosen played few = ap (λ (w : Walk). w.ending) (walk-played h copies r.apid played.valid chosen few)

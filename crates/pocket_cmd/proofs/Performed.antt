@@ -3,21 +3,21 @@ use Rattle.std.proofs.Common.{◌≡◌, ℕ, List, ◌++◌, Option, Some, None
 use Rattle.std.specs.Option.{option_map}
 use Rattle.std.specs.Io.KnownBytes.{prepend_known}
 use Rattle.desk_ports.specs.declared.desk.Inlet.TheVariants as inlet
-use Rattle.desk_ports.specs.declared.stop.Stop.{Stop}
-use Rattle.desk_ports.specs.declared.stop.Stop.TheVariants.{Data, ReadFault, WriteFault}
+use Rattle.desk_ports.specs.Stop.{Stop}
+use Rattle.desk_ports.specs.Stop.{Data, ReadFault, WriteFault}
 use Rattle.desk_ports.specs.Meanings.{Meanings, Counts, Kept, Rose, kept_at, left}
-use Rattle.desk_ports.specs.Courses.{Course, HasCause}
+use Rattle.desk_ports.specs.Courses.{Course}
 use Rattle.desk_ports.proofs.Faults.{Rose-reads, Rose-writes}
-use Rattle.pocket_cmd.specs.declared.fault.DataFault.{DataFault}
-use Rattle.pocket_cmd.specs.declared.fault.DataFault.TheVariants as fault
+use Rattle.pocket_cmd.specs.Faults.{DataFault}
+use Rattle.pocket_cmd.specs.Faults as fault
 use Rattle.pocket_cmd.specs.declared.status.Status.{Status}
 use Rattle.pocket_cmd.specs.declared.status.Status.TheVariants.{Refused}
 use Rattle.pocket_cmd.specs.declared.status.Refusal.{Refusal}
 use Rattle.pocket_cmd.specs.Command.{Names, Command, names_of}
 use Rattle.pocket_cmd.specs.Courses.{course_of, bad_row_of}
 use Rattle.pocket_cmd.specs.Openings.{given_by, given, with_report, with_output, with_input}
-use Rattle.pocket_cmd.specs.Status.{refusal_of, refused_by, status_of, status_by}
-use Rattle.pocket_cmd.specs.Outcome.{RunStands, AfterNames, Stands, AfterCommand, AfterRefusal, IsAnsweredBy, by_row}
+use Rattle.pocket_cmd.specs.Status.{HasStatusCause, IsEnded, refusal_of, refused_by, status_of, status_by}
+use Rattle.pocket_cmd.specs.Outcome.{RunStands, AfterNames, AfterText, Stands, AfterCommand, AfterRefusal, IsAnsweredBy, by_row}
 
 pub same_some : {A : Type 0} {x y : A} → Some x ≡ Some y → x ≡ y
 same_some e = cc
@@ -45,7 +45,7 @@ input_is names course old new ending input e told =
 pub ending_is : (names : Names) (course : List ℕ → Course DataFault) (old new : Meanings) (ending : Option DataFault) (input : List ℕ) → RunStands names course old new ending → given old inlet.Main names.input ≡ Some input → (course input).ending ≡ ending
 ending_is names course old new ending input e told = ap (λ i. (course i).ending) (sym (input_is names course old new ending input e told)) ∙ e.after.ran.ends
 
-status-run : (names : Names) (course : List ℕ → Course DataFault) (old new : Meanings) (counts after : Counts) (r : Result (Unit {0}) (Stop DataFault)) (input : List ℕ) → AfterNames names course old new r → HasCause counts after r → given old inlet.Main names.input ≡ Some input
+status-run : (names : Names) (course : List ℕ → Course DataFault) (old new : Meanings) (counts after : Counts) (r : Result (Unit {0}) (Stop DataFault)) (input : List ℕ) → AfterNames names course old new r → HasStatusCause counts after (status_by (refused_by r)) → given old inlet.Main names.input ≡ Some input
     → ¬ Rose counts.reads after.reads → ¬ Rose counts.writes after.writes → status_by (refused_by r) ≡ status_of (course input).ending
 status-run names course old new counts after (Ok done) input e cause told reads writes = ap status_of (sym (ending_is names course old new None input e told))
 status-run names course old new counts after (Err (Data f)) input e cause told reads writes = ap status_of (sym (ending_is names course old new (Some f) input e told))
@@ -53,11 +53,23 @@ status-run names course old new counts after (Err ReadFault) input e cause told 
 status-run names course old new counts after (Err WriteFault) input e cause told reads writes = absurd (writes (Rose-writes counts after cause))
 
 -- where the side text is a table, the answer is that of the course
-pub IsAnsweredBy-run : (command : Command) (text : List ℕ) (old new : Meanings) (counts after : Counts) (r : Result (Unit {0}) (Stop DataFault)) → bad_row_of command text ≡ None → AfterNames (names_of command) (course_of command text) old new r → HasCause counts after r
-    → IsAnsweredBy command text old counts after (refused_by r)
-IsAnsweredBy-run command text old new counts after r rows e cause = λ input told memory reads writes.
-    status-run (names_of command) (course_of command text) old new counts after r input e cause told reads writes
-    ∙ ap (λ o. by_row o (status_of (course_of command text input).ending)) (sym rows)
+pub IsAnsweredBy-run : (command : Command) (text : List ℕ) (old new : Meanings) (counts after : Counts) (answer : Result (Unit {0}) Refusal) → bad_row_of command text ≡ None → IsEnded (AfterNames (names_of command) (course_of command text) old new) answer
+    → HasStatusCause counts after (status_by answer) → IsAnsweredBy command text old counts after answer
+IsAnsweredBy-run command text old new counts after answer rows e cause = subst (IsAnsweredBy command text old counts after) (sym e.answered) (λ input told memory reads writes.
+    status-run (names_of command) (course_of command text) old new counts after e.ended input e.over (subst (λ r. HasStatusCause counts after (status_by r)) e.answered cause) told reads writes
+    ∙ ap (λ o. by_row o (status_of (course_of command text input).ending)) (sym rows))
+
+-- and what stands is by that answer
+pub AfterText-run : (command : Command) (text : List ℕ) (old new : Meanings) (answer : Result (Unit {0}) Refusal) → IsEnded (AfterNames (names_of command) (course_of command text) old new) answer → AfterText command text old new answer
+AfterText-run command text old new answer e = subst (AfterText command text old new) (sym e.answered) (by_end e.ended e.over) where
+  by_end : (r : Result (Unit {0}) (Stop DataFault)) → AfterNames (names_of command) (course_of command text) old new r → AfterText command text old new (refused_by r)
+  by_end (Ok done) e = e
+  by_end (Err (Data (fault.CutRecord t))) e = e
+  by_end (Err (Data (fault.SpareBit t))) e = e
+  by_end (Err (Data (fault.BadStore byte kind))) e = e
+  by_end (Err (Data fault.TooMany)) e = e
+  by_end (Err ReadFault) e = e
+  by_end (Err WriteFault) e = e
 
 -- ---- the answer
 

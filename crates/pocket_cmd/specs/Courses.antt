@@ -4,26 +4,11 @@ use Rattle.std.specs.Option.{option_map}
 use Rattle.desk_ports.specs.Courses.{Course}
 use Rattle.side_tables.specs.Grammar.{flag_rows_of, copy_rows_of, bad_flag_row, bad_copy_row}
 use Rattle.side_tables.specs.Rows.{copies_of}
-use Rattle.packet_store.specs.declared.fault.WalkFault.{WalkFault}
-use Rattle.packet_store.specs.declared.fault.WalkFault.TheVariants as walk_fault
-use Rattle.flight_chain.specs.declared.fault.RecordFault.{RecordFault}
-use Rattle.flight_chain.specs.declared.fault.RecordFault.TheVariants as record_fault
 use Rattle.flight_chain.specs.Compressing.{Compression, compress_course}
 use Rattle.loss_player.specs.Playing.{play_course}
 use Rattle.ground_chain.specs.Restoring.{restore_course}
-use Rattle.pocket_cmd.specs.declared.fault.DataFault.{DataFault}
-use Rattle.pocket_cmd.specs.declared.fault.DataFault.TheVariants.{CutRecord, SpareBit, BadStore, TooMany}
+use Rattle.pocket_cmd.specs.Faults.{DataFault, of_recording, of_store}
 use Rattle.pocket_cmd.specs.Command.{Command, Compress, Play, Restore, CompressValues}
-
--- the fault of a recording, and of a store
-abbrev pub of_recording : RecordFault → DataFault
-of_recording (record_fault.CutRecord t) = CutRecord t
-of_recording (record_fault.SpareBit t) = SpareBit t
-of_recording record_fault.TooMany = TooMany
-
-abbrev pub of_store : WalkFault → DataFault
-of_store (walk_fault.Bad byte kind) = BadStore byte kind
-of_store walk_fault.TooMany = TooMany
 
 -- the same course, its fault named otherwise
 abbrev pub with_fault : {F G : Type 0} → (F → G) → Course F → Course G

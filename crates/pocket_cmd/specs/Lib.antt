@@ -1,6 +1,7 @@
 pub mod Words
 pub mod Masks
 pub mod Command
+pub mod Faults
 pub mod Courses
 pub mod Openings
 pub mod Jobs

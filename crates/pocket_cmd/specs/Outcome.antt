@@ -3,10 +3,10 @@ use Rattle.std.specs.Prelude.{◌≡◌, ◌≢◌, ℕ, ◌⊎◌, nat_lt, List
 use Rattle.desk_ports.specs.Courses.{Course, Ends, IsCutOff, IsCutShort}
 use Rattle.desk_ports.specs.Meanings.{Meanings, Counts, Rose}
 use Rattle.desk_ports.specs.declared.desk.Inlet.TheVariants as inlet
-use Rattle.desk_ports.specs.declared.stop.Stop.{Stop}
-use Rattle.desk_ports.specs.declared.stop.Stop.TheVariants.{Data, ReadFault, WriteFault}
-use Rattle.pocket_cmd.specs.declared.fault.DataFault.{DataFault}
-use Rattle.pocket_cmd.specs.declared.fault.DataFault.TheVariants as fault
+use Rattle.desk_ports.specs.Stop.{Stop}
+use Rattle.desk_ports.specs.Stop.{Data, ReadFault, WriteFault}
+use Rattle.pocket_cmd.specs.Faults.{DataFault}
+use Rattle.pocket_cmd.specs.Faults as fault
 use Rattle.pocket_cmd.specs.declared.status.Status.{Status}
 use Rattle.pocket_cmd.specs.declared.status.Status.TheVariants.{Refused}
 use Rattle.pocket_cmd.specs.declared.status.Refusal.{Refusal}

@@ -1,12 +1,12 @@
 -- How a command ends, and the exit number that each end has.
 use Rattle.std.specs.Prelude.{◌≡◌, ℕ, Option, Some, None, Result, Ok, Err}
 use Rattle.desk_ports.specs.Meanings.{Counts, FailsToRead, FailsToWrite}
-use Rattle.desk_ports.specs.declared.stop.Stop.{Stop}
-use Rattle.desk_ports.specs.declared.stop.Stop.TheVariants as stop
+use Rattle.desk_ports.specs.Stop.{Stop}
+use Rattle.desk_ports.specs.Stop as stop
 use Rattle.side_tables.specs.declared.fault.SideFault.{SideFault}
 use Rattle.side_tables.specs.declared.fault.SideFault.TheVariants as table
-use Rattle.pocket_cmd.specs.declared.fault.DataFault.{DataFault}
-use Rattle.pocket_cmd.specs.declared.fault.DataFault.TheVariants as fault
+use Rattle.pocket_cmd.specs.Faults.{DataFault}
+use Rattle.pocket_cmd.specs.Faults as fault
 use Rattle.pocket_cmd.specs.declared.side.TextFault.{TextFault}
 use Rattle.pocket_cmd.specs.declared.side.TextFault.TheVariants as unread
 use Rattle.pocket_cmd.specs.declared.status.Status.{Status}
@@ -30,6 +30,12 @@ refusal_by stop.WriteFault = WriteFault
 abbrev pub refused_by : Result (Unit {0}) (Stop DataFault) → Result (Unit {0}) Refusal
 refused_by (Ok done) = Ok done
 refused_by (Err stop) = Err (refusal_by stop)
+
+-- a run ended so that this holds, and this is its answer
+pub record IsEnded (Over : Result (Unit {0}) (Stop DataFault) → Type 0) (answer : Result (Unit {0}) Refusal) : Type 0 where
+  pub ended : Result (Unit {0}) (Stop DataFault)
+  pub over : Over ended
+  pub answered : answer ≡ refused_by ended
 
 -- the refusal where a side input was not read, and where its text is no table
 abbrev pub refusal_at : TextFault → Refusal

@@ -1,23 +1,21 @@
 //! A command whose memory is taken.
 ghost use Rattle.std.specs.Prelude.{◌≡◌, ◌≢◌, ◌≤◌, ℕ, Some, Err, length, IsTrue, is_some, IfOk, OnOk};
-ghost use Rattle.desk_ports.specs.Courses.{AfterRun, HasCause};
+ghost use Rattle.desk_ports.specs.Courses.{AfterRun};
 ghost use Rattle.desk_ports.specs.Meanings.{IsReadyIn, IsReadyOut};
 ghost use Rattle.side_tables.specs.Grammar.{bad_copy_row, bad_flag_row, copy_rows_of};
 ghost use Rattle.pocket_cmd.specs.Command.{names_of, view_command, view_compress};
-ghost use Rattle.flight_chain.specs.Compressing.{stop_by as flight_stop};
-ghost use Rattle.packet_store.specs.Faults.{stop_of};
-ghost use Rattle.pocket_cmd.specs.Courses.{course_of, bad_row_of, compression_by, of_recording, of_store};
-ghost use Rattle.pocket_cmd.specs.Jobs.{job_course, stop_with, writes_report};
+ghost use Rattle.pocket_cmd.specs.Courses.{course_of, bad_row_of, compression_by};
+ghost use Rattle.pocket_cmd.specs.Jobs.{job_course, writes_report};
+ghost use Rattle.pocket_cmd.specs.Status.{HasStatusCause, IsEnded, status_by};
 
 use crate::command::{Command, CompressValues, PlayValues, RestoreValues};
-use crate::fault::DataFault;
 use crate::mask::first_mask;
+use crate::status::Refusal;
 use bit_vectors::NoMemory;
-use desk_ports::{Desk, Inlet, Outlet, Stop};
-use flight_chain::{Flight, FlightFault};
-use ground_chain::{RestoreFault, Restorer};
-use loss_player::{PlayFault, Player};
-use packet_store::{StoreFault, WalkFault};
+use desk_ports::{Desk, Inlet, Outlet};
+use flight_chain::Flight;
+use ground_chain::Restorer;
+use loss_player::Player;
 use side_tables::{Schedule, Script, SideFault};
 use std::alloc::Global;
 
@@ -47,29 +45,28 @@ impl Job {
     }
 
     /// Runs over a desk at which the input and the outputs are opened. It takes no memory.
-    pub fn run<D: Desk>(self, desk: &mut D) -> Result<(), Stop<DataFault>>
+    pub fn run<D: Desk>(self, desk: &mut D) -> Result<(), Refusal>
         requires input { IsReadyIn (D.meaning desk.old) Inlet.Main }
         requires output { IsReadyOut (D.meaning desk.old) Outlet.Main }
         requires report { IsTrue (writes_report self) → IsReadyOut (D.meaning desk.old) Outlet.Report }
-        ensures ran { AfterRun (job_course self) (D.meaning desk.old) (D.meaning desk.new) result }
-        ensures cause { HasCause (D.counts desk.old) (D.counts desk.new) result }
+        ensures ran { IsEnded (AfterRun (job_course self) (D.meaning desk.old) (D.meaning desk.new))
+            result }
+        ensures cause { HasStatusCause (D.counts desk.old) (D.counts desk.new) (status_by result) }
         ensures ready_out { OnOk result (IsReadyOut (D.meaning desk.new) Outlet.Main) }
         ensures ready_report { IsReadyOut (D.meaning desk.old) Outlet.Report → OnOk result (IsReadyOut (D.meaning desk.new) Outlet.Report) }
     {
         match self {
             Job::Compress(flight) => match flight.compress(desk) {
                 Ok(_) => Ok(()),
-                Err(fault) => Err(by_recording(fault)),
+                Err(fault) => Err(fault.into()),
             },
             Job::Play(player) => match player.play(desk) {
                 Ok(_) => Ok(()),
-                Err(PlayFault::Store(fault)) => Err(by_store(fault)),
-                Err(PlayFault::WriteFault) => Err(Stop::WriteFault),
+                Err(fault) => Err(fault.into()),
             },
             Job::Restore(restorer) => match restorer.restore(desk) {
                 Ok(_) => Ok(()),
-                Err(RestoreFault::Store(fault)) => Err(by_store(fault)),
-                Err(RestoreFault::WriteFault) => Err(Stop::WriteFault),
+                Err(fault) => Err(fault.into()),
             },
         }
     }
@@ -106,29 +103,4 @@ fn restorer(alloc: Global, told: &RestoreValues<'_>) -> Result<Restorer, NoMemor
     ensures { IfOk result (λ restorer. restorer ≡ record { places = told.now.bits.value; apid = told.now.apid.value }) }
 {
     Restorer::open(alloc, told.bits.value, told.apid.value)
-}
-
-/// Why a recording ended a run.
-fn by_recording(fault: FlightFault) -> Stop<DataFault>
-    ensures { result ≡ stop_with of_recording (flight_stop fault) }
-{
-    match fault {
-        FlightFault::CutRecord { t } => Stop::Data(DataFault::CutRecord { t }),
-        FlightFault::SpareBit { t } => Stop::Data(DataFault::SpareBit { t }),
-        FlightFault::TooMany => Stop::Data(DataFault::TooMany),
-        FlightFault::ReadFault => Stop::ReadFault,
-        FlightFault::WriteFault => Stop::WriteFault,
-    }
-}
-
-/// Why a store ended a run.
-fn by_store(fault: StoreFault) -> Stop<DataFault>
-    ensures { result ≡ stop_with of_store (stop_of fault) }
-{
-    let stop: Stop<WalkFault> = fault.into();
-    match stop {
-        Stop::Data(fault) => Stop::Data(fault.into()),
-        Stop::ReadFault => Stop::ReadFault,
-        Stop::WriteFault => Stop::WriteFault,
-    }
 }

@@ -2,7 +2,6 @@
 #![tactic(auto)]
 
 mod command;
-mod fault;
 mod job;
 mod laws;
 mod mask;

@@ -1,7 +1,9 @@
 //! The numbers of the command line, each within its bounds.
-ghost use Rattle.std.specs.Prelude.{◌≡◌, ◌≤◌, IfSome};
+ghost use Rattle.std.specs.Prelude.{◌≡◌, ◌≤◌};
 ghost use Rattle.std.specs.Option.{option_map};
 ghost use Rattle.side_tables.specs.Numbers.{number_of};
+
+use side_tables::number;
 
 /// The bits of a packet, which are the places of a vector.
 #[derive(Clone, Copy, Debug, PartialEq, Eq)]
@@ -16,7 +18,7 @@ impl Places {
     pub fn read(text: &str) -> Option<Places>
         ensures { option_map (λ places. places.value) result ≡ number_of 1 49152 text.now }
     {
-        let value = number(text, 1, 49_152)?;
+        let value = number(text.as_bytes(), 1, 49_152)?;
         Some(Places { value })
     }
 }
@@ -33,7 +35,7 @@ impl Apid {
     pub fn read(text: &str) -> Option<Apid>
         ensures { option_map (λ apid. apid.value) result ≡ number_of 0 2046 text.now }
     {
-        let value = number(text, 0, 2046)? as u16;
+        let value = number(text.as_bytes(), 0, 2046)? as u16;
         Some(Apid { value })
     }
 }
@@ -50,17 +52,7 @@ impl Robustness {
     pub fn read(text: &str) -> Option<Robustness>
         ensures { option_map (λ robust. robust.value) result ≡ number_of 0 7 text.now }
     {
-        let value = number(text, 0, 7)? as u8;
+        let value = number(text.as_bytes(), 0, 7)? as u8;
         Some(Robustness { value })
     }
-}
-
-/// The number that a plain decimal from `low` to `high` says.
-#[tactic(auto, using(crate::proofs::Bounds::within_bounds))]
-fn number(text: &str, low: u32, high: u32) -> Option<u32>
-    ensures says { result ≡ number_of low high text.now }
-    ensures low { IfSome result (λ n. low ≤ n) }
-    ensures high { IfSome result (λ n. n ≤ high) }
-{
-    side_tables::number(text.as_bytes(), low, high)
 }

@@ -1,16 +1,16 @@
 //! A run over a desk: opening the names of a command, running its job, and finishing its outputs.
 ghost use Rattle.std.specs.Prelude.{◌≡◌, is_some, IsTrue, IfSome, IsSome, IfErr, OnOk, OnErr};
 ghost use Rattle.std.specs.Option.{option_map};
-ghost use Rattle.desk_ports.specs.Courses.{HasCause};
 ghost use Rattle.desk_ports.specs.Meanings.{IsReadyIn, IsReadyOut, HasWriteCause};
 ghost use Rattle.pocket_cmd.specs.Jobs.{job_course, writes_report};
 ghost use Rattle.pocket_cmd.specs.Openings.{view_names, AfterOpening, HasOpeningCause, AfterFinishing, with_report};
 ghost use Rattle.pocket_cmd.specs.Outcome.{AfterNames};
+ghost use Rattle.pocket_cmd.specs.Status.{HasStatusCause, IsEnded, status_by};
 ghost use Rattle.pocket_cmd.specs.declared.run.Unopened.TheVariants as unopened;
 
-use crate::fault::DataFault;
 use crate::job::Job;
-use desk_ports::{Desk, Failed, Inlet, Outlet, Stop};
+use crate::status::Refusal;
+use desk_ports::{Desk, Failed, Inlet, Outlet};
 
 /// The names that a command opens: those of its side input and of its report, where it has them, too.
 #[derive(Clone, Copy, Debug)]
@@ -29,26 +29,27 @@ enum Unopened {
 }
 
 /// Opens the names, runs the job, and finishes the outputs.
-pub fn run<D: Desk>(desk: &mut D, names: &Names<'_>, job: Job) -> Result<(), Stop<DataFault>>
+pub fn run<D: Desk>(desk: &mut D, names: &Names<'_>, job: Job) -> Result<(), Refusal>
     requires input { IsTrue ((D.meaning desk.old).grants_in names.now.input.now) }
     requires output { IsTrue ((D.meaning desk.old).grants_out names.now.output.now) }
     requires report { IfSome names.now.report (λ name. IsTrue ((D.meaning desk.old).grants_out name.now)) }
     requires writes { writes_report job ≡ is_some names.now.report }
-    ensures ran { AfterNames (view_names names.now) (job_course job) (D.meaning desk.old) (D.meaning desk.new) result }
-    ensures cause { HasCause (D.counts desk.old) (D.counts desk.new) result }
+    ensures ran { let names = view_names names.now in
+        IsEnded (AfterNames names (job_course job) (D.meaning desk.old) (D.meaning desk.new)) result }
+    ensures cause { HasStatusCause (D.counts desk.old) (D.counts desk.new) (status_by result) }
 {
     match open_all(desk, names) {
         Ok(()) => {}
-        Err(Unopened::Input) => return Err(Stop::ReadFault),
-        Err(Unopened::Output) => return Err(Stop::WriteFault),
+        Err(Unopened::Input) => return Err(Refusal::ReadFault),
+        Err(Unopened::Output) => return Err(Refusal::WriteFault),
     }
     match job.run(desk) {
         Ok(()) => {}
-        Err(stop) => return Err(stop),
+        Err(refusal) => return Err(refusal),
     }
     match finish_all(desk, names.report) {
         Ok(()) => Ok(()),
-        Err(_) => Err(Stop::WriteFault),
+        Err(_) => Err(Refusal::WriteFault),
     }
 }
 

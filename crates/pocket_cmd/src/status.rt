@@ -1,11 +1,17 @@
 //! How a command ends.
 ghost use Rattle.std.specs.Prelude.{◌≡◌};
-ghost use Rattle.pocket_cmd.specs.Status.{exit_number, refusal_at, refusal_by, refusal_in, refusal_of, status_by};
+ghost use Rattle.packet_store.specs.Faults.{stop_of};
+ghost use Rattle.flight_chain.specs.Compressing.{stop_by as flight_stop};
+ghost use Rattle.loss_player.specs.Playing.{stop_by as play_stop};
+ghost use Rattle.ground_chain.specs.Restoring.{stop_by as restore_stop};
+ghost use Rattle.pocket_cmd.specs.Faults.{of_recording, of_store, stop_with};
+ghost use Rattle.pocket_cmd.specs.Status.{exit_number, refusal_at, refusal_by, refusal_in, status_by};
 
-use crate::fault::DataFault;
 use crate::side::TextFault;
-use desk_ports::Stop;
-use packet_store::StoreKind;
+use flight_chain::FlightFault;
+use ground_chain::RestoreFault;
+use loss_player::PlayFault;
+use packet_store::{StoreFault, StoreKind};
 use side_tables::SideFault;
 use thiserror::Error;
 
@@ -68,27 +74,53 @@ impl From<SideFault> for Refusal {
     }
 }
 
-impl From<DataFault> for Refusal {
-    ghost from_gives = { λ f e. e ≡ refusal_of f };
+impl From<FlightFault> for Refusal {
+    ghost from_gives = { λ f e. e ≡ refusal_by (stop_with of_recording (flight_stop f)) };
 
-    fn from(fault: DataFault) -> Refusal {
+    fn from(fault: FlightFault) -> Refusal {
         match fault {
-            DataFault::CutRecord { t } => Refusal::CutRecord { t },
-            DataFault::SpareBit { t } => Refusal::SpareBit { t },
-            DataFault::BadStore { byte, kind } => Refusal::BadStore { byte, kind },
-            DataFault::TooMany => Refusal::TooMany,
+            FlightFault::CutRecord { t } => Refusal::CutRecord { t },
+            FlightFault::SpareBit { t } => Refusal::SpareBit { t },
+            FlightFault::TooMany => Refusal::TooMany,
+            FlightFault::ReadFault => Refusal::ReadFault,
+            FlightFault::WriteFault => Refusal::WriteFault,
         }
     }
 }
 
-impl From<Stop<DataFault>> for Refusal {
-    ghost from_gives = { λ s e. e ≡ refusal_by s };
+impl From<StoreFault> for Refusal {
+    ghost from_gives = { λ f e. e ≡ refusal_by (stop_with of_store (stop_of f)) };
 
-    fn from(stop: Stop<DataFault>) -> Refusal {
-        match stop {
-            Stop::Data(fault) => Refusal::from(fault),
-            Stop::ReadFault => Refusal::ReadFault,
-            Stop::WriteFault => Refusal::WriteFault,
+    fn from(fault: StoreFault) -> Refusal {
+        let bad = |byte, kind| Refusal::BadStore { byte, kind };
+        match fault {
+            StoreFault::Cut { byte } => bad(byte, StoreKind::Cut),
+            StoreFault::Version { byte } => bad(byte, StoreKind::Version),
+            StoreFault::Shape { byte } => bad(byte, StoreKind::Shape),
+            StoreFault::TooMany => Refusal::TooMany,
+            StoreFault::ReadFault => Refusal::ReadFault,
+        }
+    }
+}
+
+impl From<PlayFault> for Refusal {
+    ghost from_gives = { λ f e. e ≡ refusal_by (stop_with of_store (play_stop f)) };
+
+    fn from(fault: PlayFault) -> Refusal {
+        match fault {
+            PlayFault::Store(fault) => fault.into(),
+            PlayFault::WriteFault => Refusal::WriteFault,
+        }
+    }
+}
+
+impl From<RestoreFault> for Refusal {
+    ghost from_gives = { λ f e. e ≡ refusal_by (stop_with of_store (restore_stop f)) };
+
+    fn from(fault: RestoreFault) -> Refusal {
+        match fault {
+            RestoreFault::Store(fault) => fault.into(),
+            RestoreFault::WriteFault => Refusal::WriteFault,
         }
     }
 }

@@ -1,14 +1,13 @@
 //! The top call: from the words of the command line to the outputs of a desk.
-ghost use Rattle.std.specs.Prelude.{◌≡◌, ◌≢◌, ◌<◌, ◌≤◌, ◌^◌, ◌↔◌, ℕ, List, Option, length, map, Err, IsTrue};
+ghost use Rattle.std.specs.Prelude.{◌≡◌, ◌≢◌, ◌<◌, ◌^◌, ◌↔◌, ℕ, List, Option, length, map, Err, IsTrue};
 ghost use Rattle.std.specs.String.{string_bytes};
-ghost use Rattle.pocket_cmd.specs.declared.fault.DataFault.{DataFault as Fault};
+ghost use Rattle.pocket_cmd.specs.Faults.{DataFault as Fault};
 ghost use Rattle.pocket_cmd.specs.Command.{Command as Told, Restore, RestoreValues, HasCommand, IsCommandOf, command_of, names_of};
 ghost use Rattle.mask_update.specs.Histories.{History};
-ghost use Rattle.packet_encode.specs.Deliveries.{arrivals};
 ghost use Rattle.ground_chain.specs.Deliveries.{report_text, restored_bytes};
 ghost use Rattle.pocket_cmd.specs.Delivery.{HasWritten, IsPlayedStore, IsSideRight, IsWhole};
 ghost use Rattle.pocket_cmd.specs.Openings.{AreTold};
-ghost use Rattle.pocket_cmd.specs.Outcome.{Stands, IsTooLong, HasBadRow, IsUntouched, IsUnread, IsUnwritten, NoneRose, answer_to};
+ghost use Rattle.pocket_cmd.specs.Outcome.{AfterRefusal, NoneRose, Stands, answer_to};
 ghost use Rattle.pocket_cmd.specs.Status.{HasStatusCause, status_of};
 ghost use Rattle.pocket_cmd.specs.Words.{Gives, read_keys, written_keys};
 
@@ -46,19 +45,15 @@ pub fn pocket<D: Desk>(alloc: Global, words: &[String], desk: &mut D) -> Status
     ensures not_called { (word : ℕ) → result ≡ Status.Refused (Refusal.BadWords word)
         → D.meaning desk.new ≡ D.meaning desk.old }
 
-    // What is wrong with the side input. No other name is opened before it is read.
-    ensures side_too_long { result ≡ Status.Refused Refusal.SideTooLong
-        → HasCommand words.now (λ c. IsTooLong c (D.meaning desk.old) (D.meaning desk.new)) }
-    ensures bad_side { (row : ℕ) → result ≡ Status.Refused (Refusal.BadSide row)
-        → HasCommand words.now (λ c. HasBadRow c (D.meaning desk.old) (D.meaning desk.new) row) }
-
-    // All memory is taken before any other name is opened.
-    ensures no_memory { result ≡ Status.Refused Refusal.NoMemory
-        → HasCommand words.now (λ c. IsUntouched c (D.meaning desk.old) (D.meaning desk.new)) }
-
     // Done, and each fault of the data: the course of the input ends so, and what it owes stands.
     ensures stands { (ending : Option Fault) → result ≡ status_of ending
         → HasCommand words.now (λ c. Stands c (D.meaning desk.old) (D.meaning desk.new) ending) }
+
+    // What stands after each refusal. The side input is looked at, and all memory is taken, before any other name is
+    // opened.
+    ensures refused { (refusal : Refusal) (command : Told) → result ≡ Status.Refused refusal
+        → IsCommandOf words.now command
+        → AfterRefusal command (D.meaning desk.old) (D.meaning desk.new) refusal }
 
     // Where both inputs are told, memory was found and no count rose, the answer is that of the side text and of the input's
     // course.
@@ -85,21 +80,9 @@ pub fn pocket<D: Desk>(alloc: Global, words: &[String], desk: &mut D) -> Status
         → HasWritten (names_of (Restore r))
         (record { output = restored_bytes h copies; report = report_text h copies })
         (D.meaning desk.new) }
-    // And it is done at a desk that doesn't fail, where memory was found, if no more packets arrive than a store may have.
-    ensures headline_done { (r : RestoreValues) (h : History) (copies : ℕ → ℕ)
-        → IsCommandOf words.now (Restore r) → IsPlayedStore r h copies (D.meaning desk.old)
-        → length (arrivals copies (length h.steps)) ≤ 2 ^ 32
-        → result ≢ Status.Refused Refusal.NoMemory
-        → NoneRose (D.counts desk.old) (D.counts desk.new)
-        → result ≡ Status.Done }
 
-    // What stands after a fault of the desk.
-    ensures read_fault { result ≡ Status.Refused Refusal.ReadFault
-        → HasCommand words.now (λ c. IsUnread c (D.meaning desk.old) (D.meaning desk.new)) }
-    ensures write_fault { result ≡ Status.Refused Refusal.WriteFault
-        → HasCommand words.now (λ c. IsUnwritten c (D.meaning desk.old) (D.meaning desk.new)) }
-
-    // These two faults come only where the desk failed in this call; after all other answers no count has changed.
+    // A fault of the desk is answered only where the desk failed in this call; after all other answers no count has
+    // changed.
     ensures cause { HasStatusCause (D.counts desk.old) (D.counts desk.new) result }
 {
     match Command::of(words) {

@@ -1,16 +1,15 @@
 //! The work of a command.
-ghost use Rattle.std.specs.Prelude.{◌≡◌, ◌≤◌, length, IsTrue, IfSome};
+ghost use Rattle.std.specs.Prelude.{◌≤◌, length, IsTrue, IfSome};
 ghost use Rattle.pocket_cmd.specs.Command.{names_of, view_command};
 ghost use Rattle.pocket_cmd.specs.Outcome.{AfterCommand, AfterText, IsAnswered, IsAnsweredBy};
-ghost use Rattle.pocket_cmd.specs.Status.{HasStatusCause, refused_by, status_by};
+ghost use Rattle.pocket_cmd.specs.Status.{HasStatusCause, status_by};
 
 use crate::command::Command;
-use crate::fault::DataFault;
 use crate::job::Job;
 use crate::run::run;
 use crate::side::side_text;
 use crate::status::Refusal;
-use desk_ports::{Desk, Stop};
+use desk_ports::Desk;
 use std::alloc::Global;
 
 /// Reads the side input of a command, takes the memory of its run, and runs it.
@@ -45,17 +44,7 @@ fn perform_with<D: Desk>(
     ensures ends { IsAnsweredBy (view_command command.now) text.now (D.meaning desk.old) (D.counts desk.old) (D.counts desk.new) result }
 {
     match Job::of(alloc, command, text) {
-        Ok(job) => refused_by(run(desk, &command.names(), job)),
+        Ok(job) => run(desk, &command.names(), job),
         Err(fault) => Err(fault.into()),
-    }
-}
-
-/// The refusal for a run that ended before it was done.
-fn refused_by(ended: Result<(), Stop<DataFault>>) -> Result<(), Refusal>
-    ensures { result ≡ refused_by ended }
-{
-    match ended {
-        Ok(()) => Ok(()),
-        Err(stop) => Err(stop.into()),
     }
 }

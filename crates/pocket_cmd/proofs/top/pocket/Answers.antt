@@ -1,13 +1,12 @@
-use Rattle.std.proofs.Common.{[], map, refl, sym, ◌∙◌}
+use Rattle.std.proofs.Common.{map, sym, ◌∙◌, subst}
 use Rattle.std.specs.String.{string_bytes}
 use Rattle.pocket_cmd.specs.declared.status.Refusal.TheVariants as refusal
 use Rattle.pocket_cmd.specs.Command.{Restore, names_of, view_command}
+use Rattle.pocket_cmd.specs.Outcome.{AfterRefusal}
 use Rattle.pocket_cmd.proofs.Given.{IsCommand-command_of}
 use Rattle.pocket_cmd.proofs.Granted.{same_command, side_granted, input_granted, output_granted, report_granted, not_both, ends_for}
 use Rattle.pocket_cmd.proofs.Performed.{AfterRefusal-answer, Stands-answer}
-use Rattle.flight_chain.specs.Stores.{store_of}
-use Rattle.loss_player.specs.Played.{played_bytes}
-use Rattle.pocket_cmd.proofs.Headline.{Done-whole, HasWritten-restored, IsWhole-played}
+use Rattle.pocket_cmd.proofs.Headline.{Done-whole, HasWritten-restored}
 use Rattle.pocket_cmd.proofs.top.pocket.Goals as goal
 
 pub perform-requires-clause-side : goal.perform-requires-clause-side
@@ -34,20 +33,13 @@ perform-requires-clause-report g c =
     report_granted (map string_bytes c.args.words.now) (names_of command).report (g.D.Desk.meaning c.args.desk.now).grants_out c.requires.writes
     (IsCommand-command_of (map string_bytes c.args.words.now) command (sym c.in-Ok.ensures)).given.report
 
-pub returns-in-Ok-clause-side_too_long : goal.returns-in-Ok-clause-side_too_long
-returns-in-Ok-clause-side_too_long g c = λ e. (view_command c.in-Ok.command, sym c.in-Ok.ensures, AfterRefusal-answer (view_command c.in-Ok.command) (g.D.Desk.meaning c.args.desk.now) (g.D.Desk.meaning c.perform.new.desk) c.perform.result refusal.SideTooLong c.perform.ensures.after (sym c.into.ensures ∙ e))
+pub returns-in-Ok-clause-refused : goal.returns-in-Ok-clause-refused
+returns-in-Ok-clause-refused g c = λ refusal command is given.
+    subst (λ command. AfterRefusal command (g.D.Desk.meaning c.args.desk.now) (g.D.Desk.meaning c.perform.new.desk) refusal) (same_command (sym c.in-Ok.ensures) given)
+    (AfterRefusal-answer (view_command c.in-Ok.command) (g.D.Desk.meaning c.args.desk.now) (g.D.Desk.meaning c.perform.new.desk) c.perform.result refusal c.perform.ensures.after (sym c.into.ensures ∙ is))
 
-pub returns-in-Ok-clause-bad_side : goal.returns-in-Ok-clause-bad_side
-returns-in-Ok-clause-bad_side g c = λ row e. (view_command c.in-Ok.command, sym c.in-Ok.ensures, AfterRefusal-answer (view_command c.in-Ok.command) (g.D.Desk.meaning c.args.desk.now) (g.D.Desk.meaning c.perform.new.desk) c.perform.result (refusal.BadSide row) c.perform.ensures.after (sym c.into.ensures ∙ e))
-
-pub returns-in-Ok-clause-no_memory : goal.returns-in-Ok-clause-no_memory
-returns-in-Ok-clause-no_memory g c = λ e. (view_command c.in-Ok.command, sym c.in-Ok.ensures, AfterRefusal-answer (view_command c.in-Ok.command) (g.D.Desk.meaning c.args.desk.now) (g.D.Desk.meaning c.perform.new.desk) c.perform.result refusal.NoMemory c.perform.ensures.after (sym c.into.ensures ∙ e))
-
-pub returns-in-Ok-clause-read_fault : goal.returns-in-Ok-clause-read_fault
-returns-in-Ok-clause-read_fault g c = λ e. (view_command c.in-Ok.command, sym c.in-Ok.ensures, AfterRefusal-answer (view_command c.in-Ok.command) (g.D.Desk.meaning c.args.desk.now) (g.D.Desk.meaning c.perform.new.desk) c.perform.result refusal.ReadFault c.perform.ensures.after (sym c.into.ensures ∙ e))
-
-pub returns-in-Ok-clause-write_fault : goal.returns-in-Ok-clause-write_fault
-returns-in-Ok-clause-write_fault g c = λ e. (view_command c.in-Ok.command, sym c.in-Ok.ensures, AfterRefusal-answer (view_command c.in-Ok.command) (g.D.Desk.meaning c.args.desk.now) (g.D.Desk.meaning c.perform.new.desk) c.perform.result refusal.WriteFault c.perform.ensures.after (sym c.into.ensures ∙ e))
+pub returns-in-Err-clause-refused : goal.returns-in-Err-clause-refused
+returns-in-Err-clause-refused g c = λ refusal command is given. absurd (not_both given (sym c.in-Err.ensures))
 
 pub returns-in-Ok-clause-stands : goal.returns-in-Ok-clause-stands
 returns-in-Ok-clause-stands g c = λ ending e. (
@@ -78,9 +70,3 @@ pub returns-in-Ok-clause-headline : goal.returns-in-Ok-clause-headline
 returns-in-Ok-clause-headline g c = λ r h copies is played done.
     HasWritten-restored (view_command c.in-Ok.command) r h copies (g.D.Desk.meaning c.args.desk.now) (g.D.Desk.meaning c.perform.new.desk) c.perform.result
     (same_command (sym c.in-Ok.ensures) is) (IsCommand-command_of (map string_bytes c.args.words.now) (Restore r) is).right.1 played c.perform.ensures.after (sym c.into.ensures ∙ done)
-
-pub returns-in-Ok-clause-headline_done : goal.returns-in-Ok-clause-headline_done
-returns-in-Ok-clause-headline_done g c = λ r h copies is played few memory none.
-    let chosen = (IsCommand-command_of (map string_bytes c.args.words.now) (Restore r) is).right.1 in
-    returns-in-Ok-clause-complete g c (Restore r) [] (played_bytes copies r.apid (store_of h r.apid)) is (refl, played.told) refl
-    (IsWhole-played r h copies (g.D.Desk.meaning c.args.desk.now) chosen played few) memory none
