@@ -1,18 +1,19 @@
 -- The marks of the latest sixteen steps, and the changes that are marked.
 use Rattle.std.proofs.Common.{◌≡◌, ℕ, zero, suc, ◌+◌, ◌-◌, ◌*◌, ◌/◌, ◌%◌, ◌^◌, ◌<◌, ◌≤◌, Bool, true, false, cond, eqb, if◌then◌else◌, List, [], ◌∷◌, ◌++◌, length, drop, replicate, get_or, bit_or, count_ones, w16, refl, sym, ap, ◌∙◌, inl, inr, arith, add-one, subst}
 use Rattle.std.specs.Prelude.{Contains, IsTrue, not, ◌↔◌}
-use Rattle.std.specs.Bool.{OnFalse}
+use Rattle.std.specs.Bool.{OnFalse, OnTrue}
 use Rattle.std.specs.Int.{bit_at, trailing_zeros}
 use Rattle.std.specs.Int.Count.{trailing_of_zero}
 use Rattle.std.specs.List.{count_by, range_with_len}
 use Rattle.std.proofs.lemmas.Bool.{cases_eq}
+use Rattle.std.proofs.lemmas.Grind.{common_steps}
 use Rattle.std.proofs.lemmas.List.{length-drop}
 use Rattle.std.proofs.lemmas.Nat.{or_shifted, ones_cat, mod_low, mod-pow-add, mod_below, pow_pos, shr_high, shr_le}
-use Rattle.std.proofs.lemmas.Nat.Bits.{bit_at-zero, bit_at-lt, bit_at-trailing_zeros}
+use Rattle.std.proofs.lemmas.Nat.Bits.{bit_at_cat_high, bit_at-zero, bit_at-lt, bit_at-trailing_zeros}
 use Rattle.bit_vectors.specs.Vectors.{number_bits}
 use Rattle.bit_vectors.proofs.NumberBits.{length-number_bits, get_or-number_bits}
-use Rattle.bit_vectors.proofs.Numbers.{bit_at_shr, number_bits-cat, number_bits-mod}
-use Rattle.robust_window.specs.Window.{change_back, changes_of, mark_back, marks_of, new_mask_back, where_marked}
+use Rattle.bit_vectors.proofs.Numbers.{bit_at_mod, bit_at_shr, number_bits-cat, number_bits-mod}
+use Rattle.robust_window.specs.Window.{AreClear, change_back, changes_of, mark_back, marks_of, new_mask_back, where_marked}
 use Rattle.robust_window.proofs.Ranges.{count_push}
 use Rattle.robust_window.proofs.Standing.{earlier_pushed, latest_pushed}
 
@@ -108,6 +109,27 @@ ones_shifted n count le =
     ∙ ones_cat (16 - count) (n % 2 ^ count) 0 (pow_pos (16 - count))
     ∙ none
     ∙ ones_below n count le
+
+-- where a shift leaves nothing, none of the low marks is set
+pub clear-shifted : (n count : ℕ) → count ≤ 16 → n * 2 ^ (16 - count) % 65536 ≡ 0 → AreClear n count
+clear-shifted n count le none back lt =
+    let k = 16 - count in
+    let parts : 16 ≡ count + (16 - count) = omega arith in
+    let low : n % 2 ^ count * 2 ^ (16 - count) + 0 ≡ 0 = sym (ap (λ (j : ℕ). n * 2 ^ (16 - count) % 2 ^ j) parts ∙ low_shifted n count (16 - count)) ∙ none in
+    let at : back + (16 - count) - (16 - count) ≡ back = omega arith in
+    let bit : bit_at n back ≡ 0 =
+    sym (bit_at_mod n count back lt)
+    ∙ (ap (bit_at (n % 2 ^ count)) (sym at)
+    ∙ (sym (bit_at_cat_high (n % 2 ^ count) k 0 (back + k) (pow_pos k) (omega arith))
+    ∙ (ap (λ (m : ℕ). bit_at m (back + k)) low ∙ bit_at-zero (back + k)))) in
+    ap (λ (b : ℕ). eqb b 1) bit
+
+on_true : (b : Bool) (P : Type 0) → (b ≡ true → P) → OnTrue b P
+on_true true P given = given refl
+on_true false P given = tt
+
+pub on_zero : (n : ℕ) (P : Type 0) → (n ≡ 0 → P) → OnTrue (eqb n 0) P
+on_zero n P given = on_true (eqb n 0) P (λ same. given (grind (arith, common_steps)))
 
 -- ---- what is marked
 

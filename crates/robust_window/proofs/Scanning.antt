@@ -1,5 +1,5 @@
 -- The latest changes and flags, from the latest back.
-use Rattle.std.proofs.Common.{◌≡◌, ℕ, zero, suc, ◌+◌, Bool, true, false, List, [], ◌∷◌, length, map, replicate, get_or, refl, sym, ap, ◌∙◌, arith, add-one}
+use Rattle.std.proofs.Common.{◌≡◌, ℕ, zero, suc, ◌+◌, ◌<◌, Bool, true, false, List, [], ◌∷◌, length, map, replicate, get_or, refl, sym, ap, ◌∙◌, arith, add-one}
 use Rattle.std.specs.Prelude.{◌||◌}
 use Rattle.std.specs.List.{list_any, range_with_len}
 use Rattle.std.proofs.lemmas.List.{length-replicate}
@@ -54,3 +54,11 @@ gathered-quiet f changes count quiet =
     sym (or_zeros (gathered f changes count))
     ∙ ap (or_bits (gathered f changes count)) (ap (λ (n : ℕ). replicate n false) len ∙ sym quiet)
     ∙ gathered-more f changes count (ap length quiet ∙ length-replicate f false)
+
+-- changes of zeros give nothing
+pub gathered-zeros : (f : ℕ) (changes : List (List Bool)) (count : ℕ) → ((back : ℕ) → back < count → change_back changes back ≡ replicate f false) → replicate f false ≡ gathered f changes count
+gathered-zeros f changes zero quiet = gathered-none f changes
+gathered-zeros f changes (suc count) quiet =
+    gathered-zeros f changes count (λ back lt. quiet back (omega arith))
+    ∙ gathered-quiet f changes count (quiet count (omega arith))
+    ∙ ap (gathered f changes) (add-one count)

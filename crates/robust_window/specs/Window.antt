@@ -1,5 +1,5 @@
 -- What a window keeps, and for which changes it stands.
-use Rattle.std.specs.Prelude.{◌≡◌, ℕ, ◌-◌, ◌<◌, ◌≤◌, ◌==◌, Bool, true, false, if◌then◌else◌, List, [], ◌∷◌, length, replicate, All, Contains, slice_index_or}
+use Rattle.std.specs.Prelude.{◌≡◌, ℕ, ◌+◌, ◌-◌, ◌<◌, ◌≤◌, ◌==◌, Bool, true, false, if◌then◌else◌, List, [], ◌∷◌, length, replicate, All, Contains, slice_index_or}
 use Rattle.std.specs.Int.{bit_at}
 use Rattle.circular_buffer.specs.Buffer.{Buffer}
 use Rattle.bit_vectors.specs.Vectors.{IsVector, number_bits}
@@ -29,6 +29,10 @@ marks_of marks = number_bits 16 marks
 
 abbrev pub mark_back : ℕ → ℕ → Bool
 mark_back marks back = bit_at marks back == 1
+
+-- none of the latest marks is set
+abbrev pub AreClear : ℕ → ℕ → Type 0
+AreClear marks count = (back : ℕ) → back < count → mark_back marks back ≡ false
 
 -- the slots that are marked, and nothing in place of the others
 abbrev pub where_marked : {A : Type 0} → List Bool → List A → A → List A
@@ -71,6 +75,7 @@ pub record IsWindow (changes : Buffer (List Bool)) (marks : ℕ) (zeros recent :
   pub places : All (λ change. length change ≡ length recent) changes.items
   pub marked : (back : ℕ) → back < 16 → mark_back marks back ≡ true → Contains (change_back changes.items back) true
   pub zeros_are : zeros ≡ replicate (length recent) false
+  pub quiet : AreClear marks (robust + 1) → recent ≡ replicate (length recent) false
   pub level_most : level ≤ 15
   pub robust_most : robust ≤ 7
   pub taken_most : taken ≤ 4294967296

@@ -1,8 +1,9 @@
 //! Marks of the latest sixteen steps: the bits of a number, that of the latest step lowest.
 
 ghost use Rattle.std.specs.Prelude.{◌≡◌, ℕ, ◌+◌, ◌<◌, ◌≤◌, nat_le, false, true, [], ◌∷◌, ◌++◌, drop, max, count_by};
+ghost use Rattle.std.specs.Bool.{OnTrue};
 ghost use Rattle.std.specs.List.{range_with_len};
-ghost use Rattle.robust_window.specs.Window.{mark_back, marks_of, new_mask_back};
+ghost use Rattle.robust_window.specs.Window.{AreClear, mark_back, marks_of, new_mask_back};
 
 /// The marks with that of one step more, without the oldest.
 pub(crate) fn pushed(marks: u16, mark: bool) -> u16
@@ -17,6 +18,15 @@ pub(crate) fn is_set(marks: u16, back: u8) -> bool
     ensures { result ≡ mark_back marks back }
 {
     marks >> back & 1 == 1
+}
+
+/// Whether none of the latest `count` marks is set, at least 1 and at most 16.
+pub(crate) fn are_clear(marks: u16, count: u8) -> bool
+    requires some { 1 ≤ count }
+    requires most { count ≤ 16 }
+    ensures { OnTrue result (AreClear marks count) }
+{
+    marks << (16 - count) == 0
 }
 
 /// One less than how many steps back the latest mark is that is more than `robust` steps back, but `robust` or `most`

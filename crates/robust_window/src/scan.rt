@@ -4,7 +4,7 @@ ghost use Rattle.std.specs.Prelude.{◌≡◌, ◌≤◌, All, false, [], ◌∷
 ghost use Rattle.std.specs.List.{list_any, range_with_len};
 ghost use Rattle.circular_buffer.specs.Buffer.{buffer};
 ghost use Rattle.mask_update.specs.Masks.{vector_of};
-ghost use Rattle.robust_window.specs.Window.{change_back, changes_of};
+ghost use Rattle.robust_window.specs.Window.{AreClear, change_back, changes_of};
 
 use crate::marks;
 use bit_vectors::{Bits, NoMemory};
@@ -57,15 +57,27 @@ pub(crate) fn change_back(changes: &HeapCircularBuffer<Bits>, back: u8) -> &Bits
     }
 }
 
-/// Makes `recent` one at each place that one of the latest `count` changes has, at most 16.
-pub(crate) fn gather(changes: &HeapCircularBuffer<Bits>, marks: u16, count: u8, recent: &mut Bits)
+/// Makes `recent` one at each place that one of the latest `count` changes has, at least 1 and at most 16. Where none
+/// was marked before, and none is now, it is zero already.
+pub(crate) fn gather(
+    changes: &HeapCircularBuffer<Bits>,
+    before: u16,
+    marks: u16,
+    count: u8,
+    recent: &mut Bits,
+)
     requires full { length changes.now.items ≡ 16 }
     requires places { All (λ change. length change ≡ length recent.old) changes.now.items }
+    requires some { 1 ≤ count }
     requires most { count ≤ 16 }
+    requires quiet { AreClear before count → recent.old ≡ replicate (length recent.old) false }
     ensures { let latest = changes_of (length recent.old) marks changes.now.items in
         recent.new ≡ vector_of (length recent.old) (λ place.
         list_any (λ back. slice_index_or (change_back latest back) place false) (range_with_len 0 count)) }
 {
+    if marks::are_clear(before, count) && marks::are_clear(marks, count) {
+        return;
+    }
     recent.clear();
     for back in 0..count {
         if marks::is_set(marks, back) {

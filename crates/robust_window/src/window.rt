@@ -90,11 +90,13 @@ impl Window {
     {
         let most = self.taken.min(MOST_LEVEL) as u8;
         let changed = !change.is_zero();
+        let before = self.changed;
         scan::push_change(&mut self.changes, change, changed);
         self.changed = marks::pushed(self.changed, changed);
         self.new_masks = marks::pushed(self.new_masks, new_mask);
         scan::gather(
             &self.changes,
+            before,
             self.changed,
             self.robust + 1,
             &mut self.recent,

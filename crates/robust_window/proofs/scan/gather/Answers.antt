@@ -4,9 +4,18 @@ use Rattle.std.proofs.lemmas.List.Elements.{All-get_or}
 use Rattle.bit_vectors.specs.Vectors.{or_bits}
 use Rattle.robust_window.specs.Window.{change_back, changes_of, mark_back}
 use Rattle.robust_window.proofs.Marking.{changes_of-marked, changes_of-quiet}
-use Rattle.robust_window.proofs.Scanning.{gathered-more, gathered-none, gathered-quiet}
+use Rattle.robust_window.proofs.Scanning.{gathered-more, gathered-none, gathered-quiet, gathered-zeros}
 use Rattle.robust_window.proofs.scan.gather.Goals as goal
 use Rattle.robust_window.proofs.scan.gather.Goals.{then-is_set, else-is_set}
+
+-- nothing is marked, and nothing was
+pub returns-then-are_clear-2 : goal.returns-then-are_clear-2
+returns-then-are_clear-2 c =
+    let f = length c.args.recent.now in
+    let slots = c.args.changes.now.items in
+    c.requires.quiet c.if-are_clear.ensures
+    ∙ gathered-zeros f (changes_of f c.args.marks slots) c.args.count
+    (λ back lt. changes_of-quiet f c.args.marks slots back c.requires.full (omega (arith, lt, c.requires.most)) (c.if-are_clear-2.ensures back lt))
 
 pub loop-back-init : goal.loop-back-init
 loop-back-init c =

@@ -5,7 +5,7 @@ use Rattle.std.proofs.lemmas.List.Elements.{All-get_or}
 use Rattle.circular_buffer.specs.Buffer.{Buffer}
 use Rattle.robust_window.specs.Window.{WindowState, change_back, changes_of, mark_back}
 use Rattle.robust_window.proofs.Marking.{changes_of-marked, changes_of-pushed, changes_of-quiet, length-changes_of, length-marks, marked-pushed, marked_one, unmarked_zeros}
-use Rattle.robust_window.proofs.Scanning.{gathered, length-gathered}
+use Rattle.robust_window.proofs.Scanning.{gathered, gathered-zeros, length-gathered}
 use Rattle.robust_window.proofs.Standing.{All-pushed, StandsFor-next, length-pushed}
 use Rattle.robust_window.proofs.window.Window.step.Goals as goal
 
@@ -68,6 +68,12 @@ invariant_of-self c =
           (slot_len (not c.is_zero-changed.result) c.args.change.now kept (length c.gather.new.recent) (change_len c ∙ sym same) last));
       marked = marked_are c;
       zeros_are = c.self.invariant.zeros_are ∙ ap (λ (n : ℕ). replicate n false) (sym same);
+      quiet = λ clear.
+          let f = length c.self.inside.recent in
+          let marks = c.pushed-self-inside.result in
+          let count = c.self.inside.robust + 1 in
+          let zeros = gathered-zeros f (changes_of f marks c.push_change.new.changes.items) count (λ back lt. changes_of-quiet f marks c.push_change.new.changes.items back (slots_len c) (omega (arith, lt, c.self.invariant.robust_most)) (clear back lt)) in
+          c.gather.ensures ∙ (sym zeros ∙ ap (λ (n : ℕ). replicate n false) (sym same));
       level_most = omega (arith, c.self.invariant.robust_most, c.quiet_level-self-inside.ensures.most);
       robust_most = c.self.invariant.robust_most;
       taken_most = omega arith;
