@@ -4,13 +4,15 @@ use Rattle.desk_ports.specs.Courses.{Course}
 use Rattle.desk_ports.specs.Turns.{Work}
 use Rattle.packet_store.specs.declared.fault.WalkFault.{WalkFault}
 use Rattle.packet_store.specs.Walks.{walk}
-use Rattle.packet_store.specs.StoreReader.{opened, walk_on}
+use Rattle.packet_store.specs.SpacePackets.{Packet}
+use Rattle.packet_store.specs.StoreReader.{opened}
+use Rattle.packet_store.specs.StoreWorks.{StoreWork, work_on}
 use Rattle.ground_chain.specs.declared.restored.Restored.{Restored}
 use Rattle.ground_chain.specs.declared.receiving.Receiving.{Receiving}
 use Rattle.ground_chain.specs.Numbers.{expected}
 use Rattle.ground_chain.specs.Run.{Judged, run_from}
-use Rattle.ground_chain.specs.Report.{restored_of, added}
-use Rattle.ground_chain.specs.Reception.{known_of, nothing_arrived}
+use Rattle.ground_chain.specs.Report.{restored_of, restored_by, added}
+use Rattle.ground_chain.specs.Reception.{known_of, next_judged, nothing_arrived}
 use Rattle.ground_chain.specs.Accounts.{Texts, all_parts}
 use Rattle.ground_chain.specs.Restoring.{RestorerState, arrivals_of, store_run}
 
@@ -29,25 +31,28 @@ store_course texts f apid store = record {
 abbrev pub receiving_state : {A : Type 0} → Receiving A → RestorerState
 receiving_state s = record { places = s.arrivals.decoder.places; apid = unwrap_or s.reader.chosen 0 }
 
--- the run over what is left of the store
-abbrev pub rest_run : {A : Type 0} → Receiving A → List ℕ → List Judged
-rest_run s bytes = run_from s.arrivals.decoder.places (known_of s.arrivals) (arrivals_of s.reader.chosen (walk_on s.reader bytes).packets)
+-- the run over packets that are read next
+abbrev pub rest_run : {A : Type 0} → Receiving A → List Packet → List Judged
+rest_run s packets = run_from s.arrivals.decoder.places (known_of s.arrivals) (arrivals_of s.reader.chosen packets)
 
--- the numbers of all arrivals
-abbrev pub all_restored : {A : Type 0} → Receiving A → List ℕ → Restored
-all_restored s bytes = added s.restored (restored_of (rest_run s bytes))
-
--- what is owed for what is left of the store
-abbrev pub rest_course : {A : Type 0} → Texts → Receiving A → List ℕ → Course WalkFault
-rest_course texts s bytes = record {
-  before = all_parts texts (rest_run s bytes);
-  after = texts.last (all_restored s bytes);
-  ending = (walk_on s.reader bytes).ending;
+-- what is owed for packets that are read next
+abbrev pub left_to_receive : {A : Type 0} → Texts → Receiving A → StoreWork Restored
+left_to_receive texts s = record {
+  before = λ packets. all_parts texts (rest_run s packets);
+  answer = λ packets. added s.restored (restored_of (rest_run s packets));
+  last = texts.last;
 }
 
 -- the work of receiving what is left of the store
 abbrev pub rest_work : {A : Type 0} → Texts → Receiving A → Work Restored WalkFault
-rest_work texts s = record { course = rest_course texts s; answer = all_restored s }
+rest_work texts s = work_on (left_to_receive texts s) s.reader
+
+-- the packet that was read is judged, which has this count: what is kept and counted is what the run knows after it
+pub record Judges {A : Type 0} (old new : Receiving A) (count : ℕ) : Type 0 where
+  pub reader_is : new.reader ≡ old.reader
+  pub known : known_of new.arrivals ≡ (next_judged old.arrivals count old.reader.body).after
+  pub places : new.arrivals.decoder.places ≡ old.arrivals.decoder.places
+  pub restored : new.restored ≡ added old.restored (restored_by (next_judged old.arrivals count old.reader.body).verdict)
 
 -- the account has room for the vectors, and the numbers are within their limits
 pub record IsReceiving {A : Type 0} (has_room : A → ℕ → Type 0) (s : Receiving A) : Type 0 where

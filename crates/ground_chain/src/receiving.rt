@@ -4,8 +4,7 @@ ghost use Rattle.std.specs.Prelude.{◌≡◌, ◌+◌, ◌-◌, ◌*◌, ◌^�
 ghost use Rattle.desk_ports.specs.Meanings.{HasWriteCause};
 ghost use Rattle.desk_ports.specs.Turns.{AreReady, Wrote, WroteFront};
 ghost use Rattle.ground_chain.specs.Numbers.{expected};
-ghost use Rattle.ground_chain.specs.Report.{added, restored_by};
-ghost use Rattle.ground_chain.specs.Reception.{known_of, next_judged};
+ghost use Rattle.ground_chain.specs.Reception.{next_judged};
 
 use crate::account::Account;
 use crate::arrivals::Ground;
@@ -56,7 +55,7 @@ impl<A: Account> Run for Receiving<A> {
 }
 
 impl<A: Account> Receiving<A> {
-    ghost use Rattle.ground_chain.specs.Receiving.{IsReceiving, HasReadNothing};
+    ghost use Rattle.ground_chain.specs.Receiving.{IsReceiving, HasReadNothing, Judges};
 
     /// Nothing is read. Takes all memory of the run but the account's.
     pub fn open(alloc: Global, f: u32, apid: u16, account: A) -> Result<Receiving<A>, NoMemory>
@@ -87,12 +86,7 @@ impl<A: Account> Receiving<A> {
         requires latest { expected self.old.arrivals.latest + PERIOD
             ≤ 2 ^ 14 * self.old.reader.taken }
         requires ready { AreReady A.writes (D.meaning desk.old) }
-        ensures reader { self.new.reader ≡ self.old.reader }
-        ensures known { known_of self.new.arrivals
-            ≡ (next_judged self.old.arrivals count self.old.reader.body).after }
-        ensures places { self.new.arrivals.decoder.places ≡ self.old.arrivals.decoder.places }
-        ensures restored { self.new.restored ≡ added self.old.restored
-            (restored_by (next_judged self.old.arrivals count self.old.reader.body).verdict) }
+        ensures judges { Judges self.old self.new count }
         ensures wrote { OnOk result (Wrote (D.meaning desk.old) (D.meaning desk.new)
             (A.texts.parts (next_judged self.old.arrivals count self.old.reader.body))) }
         ensures front { OnErr result (WroteFront (D.meaning desk.old) (D.meaning desk.new)
