@@ -1,16 +1,14 @@
 -- The lines of one arrival, in the pieces in which they are written.
-use Rattle.std.proofs.Common.{◌≡◌, ℕ, Bool, true, false, List, ◌++◌, codes, Some, refl, sym, ap, ◌∙◌, subst, append_assoc}
+use Rattle.std.proofs.Common.{◌≡◌, ℕ, Bool, true, false, List, ◌++◌, codes, refl, sym, ap, ◌∙◌, subst, append_assoc}
 use Rattle.std.specs.Fmt.{decimal}
 use Rattle.bit_vectors.specs.declared.fault.BitFault.TheVariants.{Wrong, EndsEarly}
 use Rattle.desk_ports.specs.declared.desk.Outlet.{Outlet}
 use Rattle.desk_ports.specs.declared.desk.Outlet.TheVariants as outlet
 use Rattle.desk_ports.specs.Meanings.{Meanings, Adds, AddsFront}
 use Rattle.desk_ports.proofs.Transfers.{Adds-then}
-use Rattle.packet_decode.specs.State.{State}
 use Rattle.packet_decode.specs.Decoding.{Decoding, latest_content, latest_mask}
 use Rattle.ground_chain.specs.declared.verdict.Kind.{Kind}
 use Rattle.ground_chain.specs.declared.verdict.Kind.TheVariants.{Written, Repeat, Unsynced, Gap, Refused}
-use Rattle.ground_chain.specs.declared.verdict.Verdict.{Verdict}
 use Rattle.ground_chain.specs.Run.{Judged}
 use Rattle.ground_chain.specs.Report.{is_written_kind}
 use Rattle.ground_chain.specs.Reception.{Shows}

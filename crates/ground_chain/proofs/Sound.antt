@@ -5,7 +5,7 @@ use Rattle.bit_vectors.specs.Reading.{Parsed, Read, WrongBit, TooShort}
 use Rattle.bit_vectors.specs.Vectors.{bits_of}
 use Rattle.packet_decode.specs.declared.decoder.Reading.{Reading}
 use Rattle.packet_decode.specs.declared.decoder.Reading.TheVariants.{Written, Unsynced, Gap}
-use Rattle.packet_decode.specs.State.{State, IsState, Change, change_of}
+use Rattle.packet_decode.specs.State.{State, IsState, Change}
 use Rattle.packet_decode.specs.Answers.{IsSoundAnswer, IsExactAnswer}
 use Rattle.packet_decode.specs.PacketReading.{Outcome, Spelled, Opaque, Found, parse_whole_packet, parsed_answer, answer_of}
 use Rattle.packet_decode.proofs.ExactAnswers.{answer_of-exact}

@@ -1,6 +1,6 @@
 //! The lines of the listing but for vectors, each put together before it is written.
 
-ghost use Rattle.std.specs.Prelude.{◌≡◌, ◌+◌, ◌<◌, ◌≤◌, ◌++◌, [], Some, length};
+ghost use Rattle.std.specs.Prelude.{◌≡◌, ◌+◌, ◌≤◌, ◌++◌, [], Some, length};
 ghost use Rattle.ground_chain.specs.Listing.{end_line, front_line, lost_line, own_front, line_with};
 
 use crate::restored::Restored;

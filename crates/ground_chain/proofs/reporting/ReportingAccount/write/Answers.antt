@@ -6,7 +6,7 @@ use Rattle.desk_ports.proofs.Runs.{Ran-notes, Ran-ready_out}
 use Rattle.ground_chain.specs.declared.verdict.Verdict.{Verdict}
 use Rattle.ground_chain.specs.Report.{is_written_kind, verdict_rows}
 use Rattle.ground_chain.specs.Restoring.{restored_texts}
-use Rattle.ground_chain.proofs.Writings.{OnErr-always, kind_written, content_written, front_rows, front_content, no_content, wrote_all, wrote_rows}
+use Rattle.ground_chain.proofs.Writings.{OnErr-always, content_written, front_rows, front_content, no_content, wrote_all, wrote_rows}
 use Rattle.ground_chain.proofs.reporting.ReportingAccount.write.Goals as goal
 
 pub write_all-requires : goal.write_all-requires
