@@ -23,12 +23,14 @@ STORE = FIRST + SECOND + THIRD + FOURTH
 PLAYED = FIRST + SECOND + FOURTH
 HEADER = b"first,last,cause,value\n"
 REPORT = HEADER + b"2,2,lost,0\nend,3,3,0\n"
+LISTING = b"0 written 1 00 00 b0\n1 written 1 01 01 b1\n2-2 lost\n3 written 1 02 03 b3\nend 3 3 0\n"
 PLAY_REPORT = b"packets,delivered,dropped,repeats,first,widest\n4,3,1,0,0,2\n"
 READ, WRITE = b"pocket: reading failed\n", b"pocket: writing failed\n"
 
 COMPRESS = "compress in=x out=y bits=8 apid=100 robust=1"
 PLAY = "play in=x out=y report=z apid=100 script=s"
 RESTORE = "restore in=x out=y report=z bits=8 apid=100"
+SHOW = "show in=x out=y bits=8 apid=100"
 
 
 def wrong(word):
@@ -47,6 +49,8 @@ VERBS = [
          before={"x": bytes.fromhex("A5A6"), "s": b"3,3,1,fr\n"}, after={"y": bytes.fromhex("0064C000000481615C6A500064C001000186C0")}),
     case("play", PLAY, before={"x": STORE, "s": b"drop,2,2,1\n"}, after={"y": PLAYED, "z": PLAY_REPORT, "y.part": None, "z.part": None}),
     case("restore", RESTORE, before={"x": PLAYED}, after={"y": bytes.fromhex("B0B1B3"), "z": REPORT, "y.part": None, "z.part": None}),
+    case("show", SHOW, before={"x": PLAYED}, after={"x": PLAYED, "y": LISTING, "y.part": None}),
+    case("show from a pipe to a pipe", "show in=- out=- bits=8 apid=100", given=PLAYED, out=LISTING),
     case("keys in another order", "compress robust=1 apid=100 bits=8 out=y in=x", before={"x": RECORDING}, after={"y": STORE}),
     case("an empty recording", COMPRESS, before={"x": b""}, after={"y": b""}),
     case("compress from a pipe to a pipe", "compress in=- out=- bits=8 apid=100 robust=1", out=STORE, given=RECORDING),
@@ -86,6 +90,9 @@ REFUSALS = [
          before={"x": bytes.fromhex("1234")}, after={"y": None, "y.part": b""}),
     case("a store that is cut", RESTORE, 4, err=b"pocket: store packet at byte 10 is cut\n",
          before={"x": FIRST + bytes.fromhex("0064C0")}, after={"y": None, "z": None, "y.part": b"\xb0", "z.part": HEADER}),
+    case("the listing of a store that is cut", SHOW, 4, err=b"pocket: store packet at byte 10 is cut\n",
+         before={"x": FIRST + bytes.fromhex("0064C0")}, after={"y": None, "y.part": b"0 written 1 00 00 b0\n"}),
+    case("show with a report", SHOW + " report=z", 2, err=wrong(5), before={"x": PLAYED}, after={"y": None, "y.part": None}),
     case("another version", RESTORE, 4, err=b"pocket: store packet at byte 0 has another version\n", before={"x": bytes.fromhex("2064C000000000")}),
     case("another shape", PLAY, 4, err=b"pocket: store packet at byte 0 has another shape\n",
          before={"x": bytes.fromhex("00640000000082"), "s": b""}, after={"y": None, "z": None}),
@@ -228,7 +235,7 @@ def got(path):
 def helps(runner):
     """Whether `--help` names each verb with each of its keys."""
     verbs = {"compress": "in= out= bits= apid= robust= plan= mask=", "play": "in= out= report= apid= script=",
-             "restore": "in= out= report= bits= apid="}
+             "restore": "in= out= report= bits= apid=", "show": "in= out= bits= apid="}
     told = runner.start(["--help"], stdout=subprocess.PIPE, stderr=subprocess.PIPE)
     out, err = told.communicate()
     lines = {line.split()[1]: line for line in out.decode().splitlines() if line.startswith("pocket ")}

@@ -27,6 +27,8 @@ pocket play in=STORE out=PLAYED report=REPORT apid=APID script=SCRIPT
     drops and repeats the packets that a store has on an APID
 pocket restore in=STORE out=PACKETS report=REPORT bits=F apid=APID
     gives back the packets of F bits that a store has on an APID, and lists all others
+pocket show in=STORE out=LISTING bits=F apid=APID
+    lists what is found for each packet that a store has on an APID
 A name is a file's, or - for standard input or output. The keys come in any order.
 pocket --help
 pocket --version";

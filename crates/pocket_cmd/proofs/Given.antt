@@ -9,7 +9,7 @@ use Rattle.std.proofs.lemmas.List.{length-replicate}
 use Rattle.std.proofs.lemmas.List.Sums.{split_at_first, passes_at_first}
 use Rattle.std.proofs.lemmas.Slice.Eq.{bytes_eq-Decides}
 use Rattle.pocket_cmd.specs.Words.{Given, Assigns, verb_of, is_equals_sign, nothing_given, once, with_text, with_word, given_by, ◌>>=◌}
-use Rattle.pocket_cmd.specs.Command.{CompressValues, PlayValues, RestoreValues, Command, Compress, Play, Restore, names_of, AreRight, AreGiven, IsChosen, IsPlaces, IsRight, compress_values, play_values, restore_values, with_values, command_of, mask_given}
+use Rattle.pocket_cmd.specs.Command.{CompressValues, PlayValues, RestoreValues, ShowValues, Command, Compress, Play, Restore, Show, names_of, AreRight, AreGiven, IsChosen, IsPlaces, IsRight, compress_values, play_values, restore_values, show_values, with_values, command_of, mask_given}
 use Rattle.pocket_cmd.specs.Masks.{mask_of}
 use Rattle.pocket_cmd.specs.declared.words.Verb.{Verb}
 use Rattle.pocket_cmd.specs.declared.words.Verb.TheVariants as verb
@@ -198,6 +198,23 @@ restore_given words g missing r h e =
       };
     })
 
+show_given : (words : List (List ℕ)) (g : Given) (missing : ℕ) (s : ShowValues) → IsGiven words g → show_values g missing ≡ Ok s → IsCommand words (Show s)
+unfolding show_values
+show_given words g missing s h e =
+    let input = bind_ok _ _ s e in
+    let output = bind_ok _ _ s input.2 in
+    let bits = bind_ok _ _ s output.2 in
+    let apid = bind_ok _ _ s bits.2 in
+    subst (λ x. IsCommand words (Show x)) (same_ok apid.2) (record {
+      right = (needed IsPlaces g.bits missing bits.0 bits.1 h.5, needed IsChosen g.apid missing apid.0 apid.1 h.6);
+      given = record {
+        side = tt;
+        input = needed _ g.input missing input.0 input.1 h.0;
+        output = needed _ g.output missing output.0 output.1 h.3;
+        report = tt;
+      };
+    })
+
 -- the values of a command are within their bounds, and its names are those that words give
 pub IsCommand-command_of : (words : List (List ℕ)) (command : Command) → command_of words ≡ Ok command → IsCommand words command
 IsCommand-command_of [] command e = absurd cc
@@ -214,3 +231,4 @@ IsCommand-command_of (word ∷ words) command e =
       by_verb verb.Compress g h e = made (compress_values g (length words + 1)) Compress (λ c at. compress_given (word ∷ words) g (length words + 1) c h at) e
       by_verb verb.Play g h e = made (play_values g (length words + 1)) Play (λ p at. play_given (word ∷ words) g (length words + 1) p h at) e
       by_verb verb.Restore g h e = made (restore_values g (length words + 1)) Restore (λ r at. restore_given (word ∷ words) g (length words + 1) r h at) e
+      by_verb verb.Show g h e = made (show_values g (length words + 1)) Show (λ s at. show_given (word ∷ words) g (length words + 1) s h at) e

@@ -10,6 +10,7 @@ use Rattle.pocket_cmd.specs.declared.words.Verb.TheVariants as verb
 use Rattle.pocket_cmd.specs.declared.command.CompressValues.{CompressValues as HeldCompress}
 use Rattle.pocket_cmd.specs.declared.command.PlayValues.{PlayValues as HeldPlay}
 use Rattle.pocket_cmd.specs.declared.command.RestoreValues.{RestoreValues as HeldRestore}
+use Rattle.pocket_cmd.specs.declared.command.ShowValues.{ShowValues as HeldShow}
 use Rattle.pocket_cmd.specs.declared.command.Command.{Command as Held}
 use Rattle.pocket_cmd.specs.declared.command.Command.TheVariants as held
 
@@ -39,11 +40,19 @@ pub record RestoreValues : Type 0 where
   pub bits : ℕ
   pub apid : ℕ
 
+-- what `show` is told: its names, the bits of a packet and the chosen APID
+pub record ShowValues : Type 0 where
+  pub input : List ℕ
+  pub output : List ℕ
+  pub bits : ℕ
+  pub apid : ℕ
+
 -- a verb with its values
 pub data Command : Type 0 where
   Compress : CompressValues → Command
   Play : PlayValues → Command
   Restore : RestoreValues → Command
+  Show : ShowValues → Command
 
 -- the names that a command opens: those of its side input, its input, its output and its report
 pub record Names : Type 0 where
@@ -56,6 +65,7 @@ abbrev pub names_of : Command → Names
 names_of (Compress c) = record { side = c.plan; input = c.input; output = c.output; report = None }
 names_of (Play p) = record { side = Some p.script; input = p.input; output = p.output; report = Some p.report }
 names_of (Restore r) = record { side = None; input = r.input; output = r.output; report = Some r.report }
+names_of (Show s) = record { side = None; input = s.input; output = s.output; report = None }
 
 -- ---- what is right
 
@@ -78,6 +88,7 @@ abbrev pub IsRight : Command → Type 0
 IsRight (Compress c) = AreRight c
 IsRight (Play p) = IsChosen p.apid
 IsRight (Restore r) = IsPlaces r.bits × IsChosen r.apid
+IsRight (Show s) = IsPlaces s.bits × IsChosen s.apid
 
 -- each name is one that a word gives
 pub record AreGiven (words : List (List ℕ)) (names : Names) : Type 0 where
@@ -105,10 +116,14 @@ view_play p = record { input = p.input.now; output = p.output.now; report = p.re
 abbrev pub view_restore : HeldRestore → RestoreValues
 view_restore r = record { input = r.input.now; output = r.output.now; report = r.report.now; bits = r.bits.value; apid = r.apid.value }
 
+abbrev pub view_show : HeldShow → ShowValues
+view_show s = record { input = s.input.now; output = s.output.now; bits = s.bits.value; apid = s.apid.value }
+
 abbrev pub view_command : Held → Command
 view_command (held.Compress c) = Compress (view_compress c)
 view_command (held.Play p) = Play (view_play p)
 view_command (held.Restore r) = Restore (view_restore r)
+view_command (held.Show s) = Show (view_show s)
 
 abbrev pub view_result : Result Held ℕ → Result Command ℕ
 view_result (Ok command) = Ok (view_command command)
@@ -153,10 +168,20 @@ restore_values g missing = do
   apid ← ok_or g.apid missing
   Ok (record { input = input; output = output; report = report; bits = bits; apid = apid })
 
+-- what `show` is told
+unfoldable pub show_values : Given → ℕ → Result ShowValues ℕ
+show_values g missing = do
+  input ← ok_or g.input missing
+  output ← ok_or g.output missing
+  bits ← ok_or g.bits missing
+  apid ← ok_or g.apid missing
+  Ok (record { input = input; output = output; bits = bits; apid = apid })
+
 abbrev pub with_values : Verb → Given → ℕ → Result Command ℕ
 with_values verb.Compress g missing = compress_values g missing >>= λ c. Ok (Compress c)
 with_values verb.Play g missing = play_values g missing >>= λ p. Ok (Play p)
 with_values verb.Restore g missing = restore_values g missing >>= λ r. Ok (Restore r)
+with_values verb.Show g missing = show_values g missing >>= λ s. Ok (Show s)
 
 -- the verb with its values; or the place of the first faulty word; or the number of words, where one is missing; or the
 -- place of the word with the mask, where its text says none

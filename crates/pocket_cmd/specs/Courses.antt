@@ -6,9 +6,10 @@ use Rattle.side_tables.specs.Grammar.{flag_rows_of, copy_rows_of, bad_flag_row, 
 use Rattle.side_tables.specs.Rows.{copies_of}
 use Rattle.flight_chain.specs.Compressing.{Compression, compress_course}
 use Rattle.loss_player.specs.Playing.{play_course}
+use Rattle.ground_chain.specs.Listing.{listing_course}
 use Rattle.ground_chain.specs.Restoring.{restore_course}
 use Rattle.pocket_cmd.specs.Faults.{DataFault, of_recording, of_store}
-use Rattle.pocket_cmd.specs.Command.{Command, Compress, Play, Restore, CompressValues}
+use Rattle.pocket_cmd.specs.Command.{Command, Compress, Play, Restore, Show, CompressValues}
 
 -- the same course, its fault named otherwise
 abbrev pub with_fault : {F G : Type 0} → (F → G) → Course F → Course G
@@ -23,9 +24,11 @@ abbrev pub course_of : Command → List ℕ → List ℕ → Course DataFault
 course_of (Compress c) text input = with_fault of_recording (compress_course (compression_by c text) input)
 course_of (Play p) text input = with_fault of_store (play_course (copies_of (copy_rows_of text)) p.apid input)
 course_of (Restore r) text input = with_fault of_store (restore_course r.bits r.apid input)
+course_of (Show s) text input = with_fault of_store (listing_course s.bits s.apid input)
 
 -- the number of the first record of a side text that is no row
 abbrev pub bad_row_of : Command → List ℕ → Option ℕ
 bad_row_of (Compress c) text = bad_flag_row text
 bad_row_of (Play p) text = bad_copy_row text
 bad_row_of (Restore r) text = None
+bad_row_of (Show s) text = None

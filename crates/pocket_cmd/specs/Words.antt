@@ -8,7 +8,7 @@ use Rattle.std.specs.List.{list_any, before_first, after_first, position_or_len}
 use Rattle.std.specs.Str.{bytes_eq}
 use Rattle.side_tables.specs.Numbers.{number_of}
 use Rattle.pocket_cmd.specs.declared.words.Verb.{Verb}
-use Rattle.pocket_cmd.specs.declared.words.Verb.TheVariants.{Compress, Play, Restore}
+use Rattle.pocket_cmd.specs.declared.words.Verb.TheVariants.{Compress, Play, Restore, Show}
 use Rattle.pocket_cmd.specs.declared.words.Given.{Given as Held}
 
 -- the verb that a word names
@@ -17,13 +17,15 @@ verb_of word =
     if bytes_eq word (codes "compress") then Some Compress
     else (if bytes_eq word (codes "play") then Some Play
     else (if bytes_eq word (codes "restore") then Some Restore
-    else None))
+    else (if bytes_eq word (codes "show") then Some Show
+    else None)))
 
 -- the keys of each verb
 abbrev pub keys_of : Verb → List (List ℕ)
 keys_of Compress = codes "in" ∷ codes "out" ∷ codes "bits" ∷ codes "apid" ∷ codes "robust" ∷ codes "plan" ∷ codes "mask" ∷ []
 keys_of Play = codes "in" ∷ codes "out" ∷ codes "apid" ∷ codes "script" ∷ codes "report" ∷ []
 keys_of Restore = codes "in" ∷ codes "out" ∷ codes "report" ∷ codes "bits" ∷ codes "apid" ∷ []
+keys_of Show = codes "in" ∷ codes "out" ∷ codes "bits" ∷ codes "apid" ∷ []
 
 abbrev pub has_key : Verb → List ℕ → Bool
 has_key verb key = list_any (bytes_eq key) (keys_of verb)

@@ -2,7 +2,7 @@
 ghost use Rattle.std.specs.Prelude.{◌≡◌, ◌<◌, ◌^◌, length, map, Ok, Err, MatchResult};
 ghost use Rattle.std.specs.Option.{option_map};
 ghost use Rattle.std.specs.String.{string_bytes};
-ghost use Rattle.pocket_cmd.specs.Command.{compress_values, play_values, restore_values, mask_given, view_compress, view_play, view_restore, view_command, view_result, command_of, names_of};
+ghost use Rattle.pocket_cmd.specs.Command.{compress_values, play_values, restore_values, show_values, mask_given, view_compress, view_play, view_restore, view_show, view_command, view_result, command_of, names_of};
 ghost use Rattle.pocket_cmd.specs.Masks.{first_mask};
 ghost use Rattle.pocket_cmd.specs.Openings.{view_names};
 ghost use Rattle.pocket_cmd.specs.Words.{view_given, view_digits};
@@ -46,6 +46,15 @@ pub struct RestoreValues<'a> {
     pub apid: Apid,
 }
 
+/// What `show` is told: the names of the store and of the listing, the bits of a packet and the chosen APID.
+#[derive(Clone, Copy, Debug)]
+pub struct ShowValues<'a> {
+    pub input: &'a str,
+    pub output: &'a str,
+    pub bits: Places,
+    pub apid: Apid,
+}
+
 /// What is to be done.
 #[derive(Clone, Copy, Debug)]
 pub enum Command<'a> {
@@ -55,6 +64,8 @@ pub enum Command<'a> {
     Play(PlayValues<'a>),
     /// Give back the packets of a store.
     Restore(RestoreValues<'a>),
+    /// List what is found for each packet of a store.
+    Show(ShowValues<'a>),
 }
 
 impl<'a> Command<'a> {
@@ -74,6 +85,7 @@ impl<'a> Command<'a> {
             Verb::Compress => Ok(Command::Compress(compress_values(&given, missing)?)),
             Verb::Play => Ok(Command::Play(play_values(&given, missing)?)),
             Verb::Restore => Ok(Command::Restore(restore_values(&given, missing)?)),
+            Verb::Show => Ok(Command::Show(show_values(&given, missing)?)),
         }
     }
 
@@ -99,6 +111,12 @@ impl<'a> Command<'a> {
                 input: told.input,
                 output: told.output,
                 report: Some(told.report),
+            },
+            Command::Show(told) => Names {
+                side: None,
+                input: told.input,
+                output: told.output,
+                report: None,
             },
         }
     }
@@ -164,6 +182,21 @@ fn restore_values<'a>(given: &Given<'a>, missing: u32) -> Result<RestoreValues<'
         input: given.input.ok_or(missing)?,
         output: given.output.ok_or(missing)?,
         report: given.report.ok_or(missing)?,
+        bits: given.bits.ok_or(missing)?,
+        apid: given.apid.ok_or(missing)?,
+    })
+}
+
+/// What `show` is told by what the words give, or the number of all words where one is missing.
+#[tactic(auto, unfolding(crate::specs::Command::show_values))]
+fn show_values<'a>(given: &Given<'a>, missing: u32) -> Result<ShowValues<'a>, u32>
+    ensures { MatchResult result
+        (λ told. show_values (view_given given.now) missing ≡ Ok (view_show told))
+        (λ word. show_values (view_given given.now) missing ≡ Err word) }
+{
+    Ok(ShowValues {
+        input: given.input.ok_or(missing)?,
+        output: given.output.ok_or(missing)?,
         bits: given.bits.ok_or(missing)?,
         apid: given.apid.ok_or(missing)?,
     })

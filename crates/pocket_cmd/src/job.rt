@@ -8,13 +8,13 @@ ghost use Rattle.pocket_cmd.specs.Courses.{course_of, bad_row_of, compression_by
 ghost use Rattle.pocket_cmd.specs.Jobs.{job_course, writes_report};
 ghost use Rattle.pocket_cmd.specs.Status.{HasStatusCause, IsEnded, status_by};
 
-use crate::command::{Command, CompressValues, PlayValues, RestoreValues};
+use crate::command::{Command, CompressValues, PlayValues, RestoreValues, ShowValues};
 use crate::mask::first_mask;
 use crate::status::Refusal;
 use bit_vectors::NoMemory;
 use desk_ports::{Desk, Inlet, Outlet};
 use flight_chain::Flight;
-use ground_chain::Restorer;
+use ground_chain::{Lister, Restorer};
 use loss_player::Player;
 use side_tables::{Schedule, Script, SideFault};
 use std::alloc::Global;
@@ -25,6 +25,7 @@ pub enum Job {
     Compress(Flight),
     Play(Player),
     Restore(Restorer),
+    Show(Lister),
 }
 
 impl Job {
@@ -41,6 +42,7 @@ impl Job {
             Command::Compress(told) => Ok(Job::Compress(flight(alloc, told, text)?)),
             Command::Play(told) => Ok(Job::Play(player(alloc, told, text)?)),
             Command::Restore(told) => Ok(Job::Restore(restorer(alloc, told)?)),
+            Command::Show(told) => Ok(Job::Show(lister(alloc, told)?)),
         }
     }
 
@@ -65,6 +67,10 @@ impl Job {
                 Err(fault) => Err(fault.into()),
             },
             Job::Restore(restorer) => match restorer.restore(desk) {
+                Ok(_) => Ok(()),
+                Err(fault) => Err(fault.into()),
+            },
+            Job::Show(lister) => match lister.list(desk) {
                 Ok(_) => Ok(()),
                 Err(fault) => Err(fault.into()),
             },
@@ -103,4 +109,11 @@ fn restorer(alloc: Global, told: &RestoreValues<'_>) -> Result<Restorer, NoMemor
     ensures { IfOk result (λ restorer. restorer ≡ record { places = told.now.bits.value; apid = told.now.apid.value }) }
 {
     Restorer::open(alloc, told.bits.value, told.apid.value)
+}
+
+/// The lister of `show`.
+fn lister(alloc: Global, told: &ShowValues<'_>) -> Result<Lister, NoMemory>
+    ensures { IfOk result (λ lister. lister ≡ record { places = told.now.bits.value; apid = told.now.apid.value }) }
+{
+    Lister::open(alloc, told.bits.value, told.apid.value)
 }

@@ -1,9 +1,10 @@
-//! What no clause shows: worked examples over a desk in memory, of each command and of all three in a row; words, texts, and
+//! What no clause shows: worked examples over a desk in memory, of each command and of several in a row; words, texts, and
 //! a desk that fails.
 
 mod chain;
 mod desk;
 mod faults;
+mod listings;
 mod long_chains;
 mod played;
 mod recordings;

@@ -27,6 +27,7 @@ use std::alloc::Global;
 ///   two for each byte of a packet; zero without it).
 /// - `play` makes a store of the packets that arrive. It takes `script` and `report` too.
 /// - `restore` gives back the packets of a store. It takes `report` and `bits` too.
+/// - `show` lists what is found for each packet of a store. It takes `bits` too.
 ///
 /// What the side input, a schedule or a script, says is looked at before any other name is opened. Its text has at most
 /// 1,048,576 bytes.

@@ -15,6 +15,8 @@ pub enum Verb {
     Play,
     /// Gives back the packets that arrived, and lists all others.
     Restore,
+    /// Lists what is found for each packet.
+    Show,
 }
 
 impl Verb {
@@ -26,6 +28,7 @@ impl Verb {
             "compress" => Some(Verb::Compress),
             "play" => Some(Verb::Play),
             "restore" => Some(Verb::Restore),
+            "show" => Some(Verb::Show),
             _ => None,
         }
     }
@@ -41,6 +44,7 @@ impl Verb {
             ),
             Verb::Play => matches!(key, "in" | "out" | "apid" | "script" | "report"),
             Verb::Restore => matches!(key, "in" | "out" | "report" | "bits" | "apid"),
+            Verb::Show => matches!(key, "in" | "out" | "bits" | "apid"),
         }
     }
 }

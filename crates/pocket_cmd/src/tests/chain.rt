@@ -1,4 +1,4 @@
-//! The three commands one after the other at one desk.
+//! The commands one after the other at one desk.
 
 use super::desk::{HEADER, answer, hold, joined};
 use super::samples::PLAY_HEADER;
@@ -16,6 +16,9 @@ const RESTORE: &str = "restore in=played out=restored report=report apid=100 ";
 
 /// Restores the store as it is, without a loss.
 const GIVE_BACK: &str = "restore in=store out=given_back report=whole_report apid=100 ";
+
+/// Lists the store as it is.
+const SHOW: &str = "show in=store out=listing apid=100 ";
 
 /// A recording with what the three commands are told, and what they must keep.
 #[derive(Clone, Copy)]
@@ -96,6 +99,18 @@ pub fn assert_given_back(
 ) -> Result<(), Fail> {
     assert_done(rt, GIVE_BACK, chain.ground, desk)?;
     assert_kept(rt, chain, desk, "given_back", chain.recording);
+    Ok(())
+}
+
+/// The listing of the store is this text.
+pub fn assert_listed(
+    rt: &(impl Abort + AllocGlobal),
+    chain: &Chain<'_>,
+    desk: &mut MemDesk,
+    listing: &[u8],
+) -> Result<(), Fail> {
+    assert_done(rt, SHOW, chain.ground, desk)?;
+    assert_kept(rt, chain, desk, "listing", listing);
     Ok(())
 }
 

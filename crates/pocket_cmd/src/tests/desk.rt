@@ -13,6 +13,9 @@ pub const EIGHT_BITS: &str = "restore in=a out=b report=c bits=8 apid=100";
 /// The words that play a store by a script.
 pub const BY_SCRIPT: &str = "play in=a script=s out=b report=c apid=100";
 
+/// The words that list a store of packets of eight bits.
+pub const LIST: &str = "show in=a out=b bits=8 apid=100";
+
 /// The first line of a report.
 pub const HEADER: &str = "first,last,cause,value\n";
 

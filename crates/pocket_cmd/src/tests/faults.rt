@@ -1,10 +1,10 @@
 //! A desk in which some calls fail.
 
 use super::desk::{
-    BY_SCRIPT, Case, EIGHT_BITS, Ending, HEADER, assert_ending, bytes_of_all, done, front, refused,
-    with_both, with_input, words_alone,
+    BY_SCRIPT, Case, EIGHT_BITS, Ending, HEADER, LIST, assert_ending, bytes_of_all, done, front,
+    refused, with_both, with_input, words_alone,
 };
-use super::samples::{PLAY_REPORT, PLAYED, RECORDING, STORE};
+use super::samples::{LISTING, PLAY_REPORT, PLAYED, RECORDING, STORE};
 use crate::Refusal;
 use desk_ports::Call;
 use std::process::Abort;
@@ -142,7 +142,7 @@ fn calls_of_compress(rt: HostRuntime) -> Result<(), Fail> {
 #[test]
 fn names_that_are_not_held(rt: HostRuntime) -> Result<(), Fail> {
     let rows: [Row<'_>; 1] = [(&[(Call::OpenOut, 1)], refused(Refusal::ReadFault, &[], &[]))];
-    for words in [COMPRESS, BY_PLAN, BY_SCRIPT, EIGHT_BITS] {
+    for words in [COMPRESS, BY_PLAN, BY_SCRIPT, EIGHT_BITS, LIST] {
         assert_rows(&rt, words_alone(words), &rows)?;
     }
     assert_rows(&rt, with_input(BY_PLAN, RECORDING), &rows)?;
@@ -214,4 +214,42 @@ fn writes_of_play(rt: HostRuntime) -> Result<(), Fail> {
     }
     let whole = done(&played, PLAY_REPORT.as_bytes());
     assert_rows(&rt, case, &[(&[(Call::Write, 89)], whole)])
+}
+
+/// What `show` leaves that could write this many bytes.
+fn listed_until(written: usize) -> Ending<'static> {
+    refused(Refusal::WriteFault, front(LISTING.as_bytes(), written), &[])
+}
+
+/// What it leaves where a reading failed when this many bytes were written.
+fn listed_unread(written: usize) -> Ending<'static> {
+    refused(Refusal::ReadFault, front(LISTING.as_bytes(), written), &[])
+}
+
+#[test]
+fn calls_of_show(rt: HostRuntime) -> Result<(), Fail> {
+    let store = bytes_of_all(rt.alloc(), &PLAYED)?;
+    let whole = done(LISTING.as_bytes(), &[]);
+    // The first line has 21 bytes, the last ten. The packets end at the bytes 10, 20 and 29.
+    let rows: [Row<'_>; 14] = [
+        (&[(Call::OpenIn, 1), (Call::OpenOut, 1)], listed_unread(0)),
+        (&[(Call::OpenIn, 2)], whole),
+        (&[(Call::OpenOut, 1)], listed_until(0)),
+        (&[(Call::OpenOut, 2)], whole),
+        (&[(Call::Read, 1)], listed_unread(0)),
+        (&[(Call::Read, 11)], listed_unread(21)),
+        (&[(Call::Read, 30)], listed_unread(72)),
+        (&[(Call::Read, 31)], whole),
+        (&[(Call::Write, 1)], listed_until(0)),
+        (&[(Call::Write, 22)], listed_until(21)),
+        (&[(Call::Write, 82)], listed_until(81)),
+        (&[(Call::Write, 83)], whole),
+        (&[(Call::Finish, 1)], listed_until(82)),
+        (&[(Call::Finish, 2)], whole),
+    ];
+    let case = Case {
+        one_byte: true,
+        ..with_input(LIST, &store)
+    };
+    assert_rows(&rt, case, &rows)
 }

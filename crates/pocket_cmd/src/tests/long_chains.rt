@@ -1,6 +1,6 @@
-//! Long recordings and large packets through the three commands.
+//! Long recordings and large packets through the commands.
 
-use super::chain::{Chain, assert_chain, assert_given_back, assert_there_and_back};
+use super::chain::{Chain, assert_chain, assert_given_back, assert_listed, assert_there_and_back};
 use std::alloc::{AllocError, Global};
 use std::process::Abort;
 use std::test::Fail;
@@ -101,6 +101,32 @@ fn assert_largest(rt: &(impl Abort + AllocGlobal), chain: &Chain<'_>) -> Result<
     let mut desk = assert_chain(rt, chain, false)?;
     assert_given_back(rt, chain, &mut desk)?;
     assert_headers(rt, desk.get("store"));
+    assert_listed(rt, chain, &mut desk, &largest_listing(rt.alloc())?)
+}
+
+/// The listing of such a store: of both packets the changes, the mask and the content are alike.
+fn largest_listing(alloc: Global) -> Result<Vec<u8>, AllocError> {
+    let mut text = Vec::new(alloc);
+    push_line(&mut text, "0 written 0", "00")?;
+    push_line(&mut text, "1 written 1", "aa")?;
+    push_all(&mut text, b"end 2 2 0\n")?;
+    Ok(text)
+}
+
+fn push_line(text: &mut Vec<u8>, front: &str, digits: &str) -> Result<(), AllocError> {
+    push_all(text, front.as_bytes())?;
+    push_vector(text, digits)?;
+    push_vector(text, digits)?;
+    push_vector(text, digits)?;
+    push_all(text, b"\n")
+}
+
+/// A vector of the most places, each of whose bytes has these digits.
+fn push_vector(text: &mut Vec<u8>, digits: &str) -> Result<(), AllocError> {
+    push_all(text, b" ")?;
+    for _ in 0..MOST_BYTES {
+        push_all(text, digits.as_bytes())?;
+    }
     Ok(())
 }
 

@@ -23,3 +23,7 @@ pub const PLAY_REPORT: &str = "packets,delivered,dropped,repeats,first,widest\n4
 
 /// The first line of a play report.
 pub const PLAY_HEADER: &str = "packets,delivered,dropped,repeats,first,widest\n";
+
+/// The listing of the store without the third packet.
+pub const LISTING: &str =
+    "0 written 1 00 00 b0\n1 written 1 01 01 b1\n2-2 lost\n3 written 1 02 03 b3\nend 3 3 0\n";

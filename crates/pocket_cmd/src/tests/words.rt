@@ -7,7 +7,7 @@ use std::alloc::Global;
 use std::test::Fail;
 
 /// Lines of words, and the place of the first wrong word in each.
-static WRONG: [(&str, u32); 73] = [
+static WRONG: [(&str, u32); 83] = [
     ("", 0),
     ("shrink", 0),
     ("Restore in=a out=b report=c bits=8 apid=100", 0),
@@ -87,10 +87,20 @@ static WRONG: [(&str, u32); 73] = [
     ("play in=a script=s out=b report=b apid=1", 4),
     ("play in=- out=b script=- report=c apid=1", 3),
     ("play in=- out=- script=s report=- apid=1", 4),
+    ("show", 1),
+    ("show out=b bits=8 apid=1", 4),
+    ("show in=a bits=8 apid=1", 4),
+    ("show in=a out=b apid=1", 4),
+    ("show in=a out=b bits=8", 4),
+    ("show in=a out=a bits=8 apid=1", 2),
+    ("show in=a out=b bits=0 apid=1", 3),
+    ("show in=a out=b bits=8 apid=2047", 4),
+    ("show in=a out=b bits=8 apid=1 report=c", 5),
+    ("show in=a out=b bits=8 apid=1 script=s", 5),
 ];
 
 /// Lines that give a command, and the names of all that it opens for reading.
-static RIGHT: [(&str, &[&str]); 16] = [
+static RIGHT: [(&str, &[&str]); 18] = [
     ("restore in=a out=b report=c bits=8 apid=100", &["a"]),
     ("restore apid=0 bits=1 report=c out=b in=a", &["a"]),
     ("restore in=a out=b report=c bits=49152 apid=2046", &["a"]),
@@ -116,6 +126,8 @@ static RIGHT: [(&str, &[&str]); 16] = [
     ("play in=- out=- script=s report=c apid=1", &["-", "s"]),
     ("play in=a out=- script=- report=c apid=1", &["a", "-"]),
     ("play in=- out=b script=s report=- apid=2046", &["-", "s"]),
+    ("show in=a out=b bits=8 apid=100", &["a"]),
+    ("show apid=2046 bits=49152 out=- in=-", &["-"]),
 ];
 
 #[test]

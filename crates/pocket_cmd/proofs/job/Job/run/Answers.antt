@@ -1,6 +1,7 @@
 use Rattle.side_tables.specs.Rows.{copies_of}
 use Rattle.flight_chain.specs.Compressing.{compress_course, stop_by as flight_stop}
 use Rattle.loss_player.specs.Playing.{play_course, stop_by as play_stop}
+use Rattle.ground_chain.specs.Listing.{listing_course}
 use Rattle.ground_chain.specs.Restoring.{restore_course, stop_by as restore_stop}
 use Rattle.pocket_cmd.specs.Faults.{of_recording, of_store}
 use Rattle.pocket_cmd.proofs.Faults.{HasRefusalCause-stop, IsEnded-done, IsEnded-stop}
@@ -41,3 +42,15 @@ returns-in-Err-restore-clause-ran g c =
 pub returns-in-Err-restore-clause-cause : goal.returns-in-Err-restore-clause-cause
 returns-in-Err-restore-clause-cause g c =
     HasRefusalCause-stop of_store _ _ (restore_stop c.in-Err-restore.fault) c.into-in-Err-restore.result c.in-Err-restore.ensures.cause c.into-in-Err-restore.ensures
+
+pub returns-in-Ok-list-clause-ran : goal.returns-in-Ok-list-clause-ran
+returns-in-Ok-list-clause-ran g c =
+    rw c.in-Show.is (IsEnded-done of_store (listing_course c.in-Show.lister.places c.in-Show.lister.apid) _ _ c.in-Ok-list.ensures.ran)
+
+pub returns-in-Err-list-clause-ran : goal.returns-in-Err-list-clause-ran
+returns-in-Err-list-clause-ran g c =
+    rw c.in-Show.is (IsEnded-stop of_store (listing_course c.in-Show.lister.places c.in-Show.lister.apid) _ _ (restore_stop c.in-Err-list.fault) c.into-in-Err-list.result c.in-Err-list.ensures.ran c.into-in-Err-list.ensures)
+
+pub returns-in-Err-list-clause-cause : goal.returns-in-Err-list-clause-cause
+returns-in-Err-list-clause-cause g c =
+    HasRefusalCause-stop of_store _ _ (restore_stop c.in-Err-list.fault) c.into-in-Err-list.result c.in-Err-list.ensures.cause c.into-in-Err-list.ensures
