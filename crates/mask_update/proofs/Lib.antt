@@ -3,3 +3,4 @@ pub mod Moves
 pub mod NewMasks
 pub mod Standing
 pub mod StepByStep
+mod Unmoved

@@ -79,7 +79,8 @@ impl Masks {
         self.taken += 1;
     }
 
-    /// The standard's recurrences. The previous input is then its difference from `input`.
+    /// The standard's recurrences. An input equal to the previous one, without a new mask, leaves mask and build.
+    /// The previous input is then any.
     fn advance(&mut self, input: &Bits, new_mask: bool)
         requires places { length input.now ≡ length self.old.mask }
         requires some { 0 < self.old.taken }
@@ -91,6 +92,10 @@ impl Masks {
         ensures places { length self.new.mask ≡ length self.old.mask }
         ensures taken { self.new.taken ≡ self.old.taken }
     {
+        if !new_mask && self.previous.same(input) {
+            self.change.clear();
+            return;
+        }
         self.previous.xor_in(input);
         self.change.copy_from(&self.mask);
         if new_mask {

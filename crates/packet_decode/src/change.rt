@@ -1,7 +1,8 @@
 //! The first part of a packet: the recent changes of the mask, the effective robustness level, and the
 //! directions of the changes where they are sent (CCSDS 124.0-B-1).
 
-ghost use Rattle.std.specs.Prelude.{◌≡◌, ◌<◌, ◌≤◌, false, length, replicate, None, IfOk};
+ghost use Rattle.std.specs.Prelude.{◌≡◌, ◌<◌, ◌≤◌, false, Bool, List, length, replicate, None, IfOk};
+ghost use Rattle.std.specs.Bool.{OnFalse, OnTrue};
 ghost use Rattle.bit_vectors.specs.Eye.{bits_left};
 ghost use Rattle.bit_vectors.specs.Reading.{MovesOn, Gives};
 ghost use Rattle.packet_encode.specs.Forms.{wide_by};
@@ -82,6 +83,14 @@ impl FirstPart {
         self.level
     }
 
+    /// Whether it has no change, so that the mask stays.
+    pub fn is_quiet(&self) -> bool
+        ensures { OnTrue result ((mask : List Bool) → length mask ≡ length self.now.recent
+            → mask_after mask self.now ≡ mask) }
+    {
+        self.recent.is_zero()
+    }
+
     /// Makes `mask` the mask after it. `spare` has any bits then.
     pub fn deduce(&self, mask: &mut Bits, spare: &mut Bits)
         requires mask { length mask.old ≡ length self.now.recent }
@@ -90,9 +99,6 @@ impl FirstPart {
         ensures mask_places { length mask.new ≡ length mask.old }
         ensures spare_places { length spare.new ≡ length spare.old }
     {
-        if self.recent.is_zero() {
-            return;
-        }
         if self.level == 0 {
             mask.xor_in(&self.recent);
             return;
@@ -103,6 +109,13 @@ impl FirstPart {
         }
         mask.drop_in(&self.recent);
         mask.or_in(spare);
+    }
+
+    /// Whether all recent changes are extracted. Else only the places of the mask are.
+    pub fn is_wide(&self) -> bool
+        ensures { OnFalse result ((mask : List Bool) → wide_by self.now.directions self.now.recent mask ≡ mask) }
+    {
+        self.twice == Some(true)
     }
 
     /// Makes `places`, which are those of the mask, the extracted ones.

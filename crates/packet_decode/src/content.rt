@@ -51,10 +51,14 @@ pub fn take_part(
     let Some(known) = known else {
         return Ok(DataKind::Opaque);
     };
-    draft.places.copy_from(&draft.mask);
-    change.widen(&mut draft.places);
     draft.content.copy_from(known);
-    take_into(eye, &mut draft.content, &draft.places)?;
+    if change.is_wide() {
+        draft.places.copy_from(&draft.mask);
+        change.widen(&mut draft.places);
+        take_into(eye, &mut draft.content, &draft.places)?;
+    } else {
+        take_into(eye, &mut draft.content, &draft.mask)?;
+    }
     Ok(DataKind::Spelled)
 }
 

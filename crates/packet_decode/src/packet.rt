@@ -66,13 +66,15 @@ fn take_parts(
         result eye.new (parse_parts (length draft.old.content) (kept_state latest.now) t (bits_left eye.old)) }
 {
     next.take(eye)?;
-    if is_in_reach(latest.number, t, next.level()) {
-        deduced.copy_from(&latest.mask);
-        next.deduce(deduced, &mut draft.spare);
-        take_data(eye, next, Some(&*deduced), Some(&latest.content), draft)
-    } else {
-        take_data(eye, next, None, None, draft)
+    if !is_in_reach(latest.number, t, next.level()) {
+        return take_data(eye, next, None, None, draft);
     }
+    if next.is_quiet() {
+        return take_data(eye, next, Some(&latest.mask), Some(&latest.content), draft);
+    }
+    deduced.copy_from(&latest.mask);
+    next.deduce(deduced, &mut draft.spare);
+    take_data(eye, next, Some(&*deduced), Some(&latest.content), draft)
 }
 
 /// Whether the packet with the number `t` and this level is in reach of that with the number `last`.

@@ -1,5 +1,5 @@
 -- When a packet has directions, and the first part of its bits.
-use Rattle.std.proofs.Common.{◌≡◌, ℕ, ◌+◌, ◌*◌, ◌<◌, ◌≤◌, Bool, true, false, cond, List, [], ◌∷◌, ◌++◌, length, replicate, Option, Some, None, refl, sym, ap, ◌∙◌, arith, append_assoc}
+use Rattle.std.proofs.Common.{◌≡◌, ℕ, zero, suc, ◌+◌, ◌*◌, ◌<◌, ◌≤◌, Bool, true, false, cond, List, [], ◌∷◌, ◌++◌, length, replicate, reverse, Option, Some, None, refl, sym, ap, ◌∙◌, arith, append_assoc}
 use Rattle.std.specs.Prelude.{Contains, nat_lt, ◌&&◌}
 use Rattle.std.specs.List.{list_any}
 use Rattle.std.proofs.lemmas.Bool.{and_from, le-leb}
@@ -7,9 +7,11 @@ use Rattle.std.proofs.lemmas.List.{append-nil, length-append}
 use Rattle.std.proofs.lemmas.List.Folds.{list_any_at}
 use Rattle.bit_vectors.specs.Vectors.{number_bits, without_bits}
 use Rattle.bit_vectors.proofs.NumberBits.{length-number_bits}
+use Rattle.bit_vectors.proofs.Numbers.{number_bits-cat}
 use Rattle.robust_window.proofs.Levels.{list_any-zeros}
-use Rattle.run_code.specs.Runs.{run_bits}
-use Rattle.run_code.proofs.RunWords.{run_bits_most}
+use Rattle.run_code.specs.Places.{ones_from}
+use Rattle.run_code.specs.Runs.{run_bits, runs_from}
+use Rattle.run_code.proofs.RunWords.{run_bits_most, runs_from-nil}
 use Rattle.packet_encode.specs.Forms.{Form, change_bits, direction_bits}
 use Rattle.packet_encode.specs.Packets.{directions_of}
 
@@ -91,6 +93,24 @@ no_change form none = ap (λ b. b && nat_lt 0 form.level) none
 pub front_is : (old runs numbered taken recent : List Bool) (taken_level level : ℕ) → runs ≡ old ++ run_bits taken → numbered ≡ runs ++ number_bits 4 taken_level → taken ≡ recent → taken_level ≡ level → numbered ≡ (old ++ run_bits recent) ++ number_bits 4 level
 front_is old runs numbered taken recent taken_level level run number same same_level =
     number ∙ ap (λ bits. bits ++ number_bits 4 taken_level) (run ∙ ap (λ v. old ++ run_bits v) same) ∙ ap (λ n. (old ++ run_bits recent) ++ number_bits 4 n) same_level
+
+no_places : (place f : ℕ) → ones_from place (replicate f false) ≡ []
+unfolding ones_from
+no_places place zero = refl
+no_places place (suc f) = no_places (place + 1) f
+
+-- without a change, the run word is the end alone
+run_bits-zeros : (v : List Bool) → v ≡ replicate (length v) false → run_bits v ≡ number_bits 2 2
+unfolding run_bits number_bits
+run_bits-zeros v zeros =
+    ap (λ places. runs_from (length v) (reverse places)) (ap (ones_from 0) zeros ∙ no_places 0 (length v)) ∙ runs_from-nil (length v)
+
+-- and the first part one number
+pub quiet_is : (old numbered taken : List Bool) (number level : ℕ) → numbered ≡ old ++ number_bits 6 number → number ≡ 32 + level → level < 16 → taken ≡ replicate (length taken) false → numbered ≡ (old ++ run_bits taken) ++ number_bits 4 level
+quiet_is old numbered taken number level is sum below zeros =
+    is ∙ ap (λ n. old ++ number_bits 6 n) sum
+    ∙ ap (λ bits. old ++ bits) (number_bits-cat 2 4 2 level below ∙ ap (λ bits. bits ++ number_bits 4 level) (sym (run_bits-zeros taken zeros)))
+    ∙ sym (append_assoc old (run_bits taken) (number_bits 4 level))
 
 pub front_most : (old runs numbered taken : List Bool) (level : ℕ) → runs ≡ old ++ run_bits taken → numbered ≡ runs ++ number_bits 4 level → length numbered ≤ length old + (4 * length taken + 6)
 front_most old runs numbered taken level run number =

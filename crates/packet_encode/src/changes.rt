@@ -13,8 +13,12 @@ use run_code::{put_inverse_up, put_runs};
 /// The width in which an effective robustness level is written.
 const LEVEL_BITS: u32 = 4;
 
+/// The run word of a vector without a one, and then the level 0, in six bits.
+const NO_CHANGE: u32 = 0b10_0000;
+
 /// Appends the recent changes and the level of a window that has taken a step, and the directions, where there are
-/// changes and a level. Answers whether all recent changes are extracted. `spare` has any bits then.
+/// changes and a level. Without a change that is one number. Answers whether all recent changes are extracted. `spare`
+/// has any bits then.
 pub(crate) fn put_changes(pen: &mut BitPen, mask: &Bits, window: &Window, spare: &mut Bits) -> bool
     requires taken { 0 < window.now.taken }
     requires places { length window.now.recent ≡ length mask.now }
@@ -32,9 +36,13 @@ pub(crate) fn put_changes(pen: &mut BitPen, mask: &Bits, window: &Window, spare:
 {
     let recent = window.recent();
     let level = window.effective();
+    if recent.is_zero() {
+        pen.put_number(NO_CHANGE + u32::from(level), 2 + LEVEL_BITS);
+        return false;
+    }
     put_runs(pen, recent);
     pen.put_number(u32::from(level), LEVEL_BITS);
-    if level == 0 || recent.is_zero() {
+    if level == 0 {
         return false;
     }
     put_directions(pen, mask, recent, window.twice(), spare)

@@ -89,9 +89,11 @@ fn put_part(
     ensures room { pen.new.room ≡ pen.old.room }
     ensures spare { length spare.new ≡ length spare.old }
 {
-    spare.copy_from(mask);
     if wide {
+        spare.copy_from(mask);
         spare.or_in(recent);
+        put_extract(pen, content, spare);
+    } else {
+        put_extract(pen, content, mask);
     }
-    put_extract(pen, content, spare);
 }

@@ -1,42 +1,55 @@
-use Rattle.std.proofs.Common.{◌≡◌, ◌<◌, ◌++◌, length, ap, sym, ◌∙◌, arith}
+use Rattle.std.proofs.Common.{◌≡◌, ℕ, ◌+◌, ◌<◌, ◌++◌, length, ap, sym, ◌∙◌, arith}
+use Rattle.std.proofs.lemmas.List.{length-append}
 use Rattle.bit_vectors.specs.Vectors.{number_bits}
+use Rattle.bit_vectors.proofs.NumberBits.{length-number_bits}
 use Rattle.run_code.specs.Runs.{run_bits}
 use Rattle.packet_encode.specs.Forms.{direction_bits, wide_by}
 use Rattle.packet_encode.specs.Packets.{directions_of}
-use Rattle.packet_encode.proofs.Directions.{directions-level_zero, directions-none, front_is, front_most, has_one, has_one-some, has_one-without, has_one-zeros, long_bits, no_change, no_level, short_bits}
+use Rattle.packet_encode.proofs.Directions.{directions-level_zero, directions-none, front_is, front_most, has_one, has_one-some, has_one-without, has_one-zeros, long_bits, no_change, no_level, quiet_is, short_bits}
 use Rattle.packet_encode.proofs.changes.put_changes.Goals as goal
-use Rattle.packet_encode.proofs.changes.put_changes.Goals.{then-level-eq0-via-then-level-eq0, then-level-eq0-via-else-level-eq0+then-is_zero}
+
+pub returns-then-is_zero-clause-bits : goal.returns-then-is_zero-clause-bits
+returns-then-is_zero-clause-bits c = λ form recent level directions.
+    let recent_is : c.recent-recent.result.now ≡ form.recent = c.recent-recent.ensures.kept ∙ sym recent in
+    let level_is : c.effective-level.result ≡ form.level = c.effective-level.ensures.kept ∙ sym level in
+    let zeros = c.is_zero.ensures.zero.0 c.if-is_zero.true in
+    quiet_is c.args.pen.now.bits c.put_number.new.self.bits c.recent-recent.result.now _ form.level c.put_number.ensures.bits
+    (ap (λ n. 32 + n) (c.from.ensures ∙ level_is)) (omega (arith, level_is, c.effective-level.ensures.most)) zeros
+    ∙ ap (λ v. (c.args.pen.now.bits ++ run_bits v) ++ number_bits 4 form.level) recent_is
+    ∙ short_bits c.args.pen.now.bits form (no_change form (ap has_one (sym recent_is) ∙ has_one-zeros c.recent-recent.result.now zeros))
+
+pub returns-then-is_zero-clause-wide : goal.returns-then-is_zero-clause-wide
+returns-then-is_zero-clause-wide c =
+    ap (λ d. wide_by d c.args.window.now.recent c.args.mask.now)
+    (directions-none c.args.mask.now c.args.window.now.recent c.args.window.now.level c.args.window.now.twice
+    (has_one-without c.args.window.now.recent c.args.mask.now
+    (ap has_one (sym c.recent-recent.ensures.kept) ∙ has_one-zeros c.recent-recent.result.now (c.is_zero.ensures.zero.0 c.if-is_zero.true))))
+
+pub returns-then-is_zero-clause-most : goal.returns-then-is_zero-clause-most
+returns-then-is_zero-clause-most c =
+    let number : ℕ = 32 + c.from.result in
+    omega (arith, ap length c.put_number.ensures.bits, length-append c.args.pen.now.bits (number_bits 6 number), length-number_bits 6 number)
 
 pub returns-then-level-eq0-clause-bits : goal.returns-then-level-eq0-clause-bits
 returns-then-level-eq0-clause-bits c = λ form recent level directions.
     let recent_is : c.recent-recent.result.now ≡ form.recent = c.recent-recent.ensures.kept ∙ sym recent in
     let level_is : c.effective-level.result ≡ form.level = c.effective-level.ensures.kept ∙ sym level in
-    front_is c.args.pen.now.bits c.put_runs.new.pen.bits c.put_number.new.self.bits c.recent-recent.result.now form.recent c.from.result form.level
-    c.put_runs.ensures.bits c.put_number.ensures.bits recent_is (c.from.ensures ∙ level_is)
-    ∙ short_bits c.args.pen.now.bits form (elim c.then-level-eq0.branch [
-      | then-level-eq0-via-then-level-eq0 w ↦ no_level form (sym level_is ∙ w.if-level-eq0.true)
-      | then-level-eq0-via-else-level-eq0+then-is_zero w ↦
-          no_change form (ap has_one (sym recent_is) ∙ has_one-zeros c.recent-recent.result.now (w.is_zero.ensures.zero.0 w.if-is_zero.true))
-    ])
+    front_is c.args.pen.now.bits c.put_runs.new.pen.bits c.put_number-2.new.self.bits c.recent-recent.result.now form.recent c.from-2.result form.level
+    c.put_runs.ensures.bits c.put_number-2.ensures.bits recent_is (c.from-2.ensures ∙ level_is)
+    ∙ short_bits c.args.pen.now.bits form (no_level form (sym level_is ∙ c.if-level-eq0.true))
 
 pub returns-then-level-eq0-clause-wide : goal.returns-then-level-eq0-clause-wide
 returns-then-level-eq0-clause-wide c =
-    ap (λ d. wide_by d c.args.window.now.recent c.args.mask.now) (elim c.then-level-eq0.branch [
-      | then-level-eq0-via-then-level-eq0 w ↦
-          directions-level_zero c.args.mask.now c.args.window.now.recent c.args.window.now.level c.args.window.now.twice (sym c.effective-level.ensures.kept ∙ w.if-level-eq0.true)
-      | then-level-eq0-via-else-level-eq0+then-is_zero w ↦
-          directions-none c.args.mask.now c.args.window.now.recent c.args.window.now.level c.args.window.now.twice
-          (has_one-without c.args.window.now.recent c.args.mask.now
-          (ap has_one (sym c.recent-recent.ensures.kept) ∙ has_one-zeros c.recent-recent.result.now (w.is_zero.ensures.zero.0 w.if-is_zero.true)))
-    ])
+    ap (λ d. wide_by d c.args.window.now.recent c.args.mask.now)
+    (directions-level_zero c.args.mask.now c.args.window.now.recent c.args.window.now.level c.args.window.now.twice (sym c.effective-level.ensures.kept ∙ c.if-level-eq0.true))
 
 pub returns-then-level-eq0-clause-most : goal.returns-then-level-eq0-clause-most
 returns-then-level-eq0-clause-most c =
-    omega (arith, front_most c.args.pen.now.bits c.put_runs.new.pen.bits c.put_number.new.self.bits c.recent-recent.result.now c.from.result c.put_runs.ensures.bits c.put_number.ensures.bits, ap length c.recent-recent.ensures.kept)
+    omega (arith, front_most c.args.pen.now.bits c.put_runs.new.pen.bits c.put_number-2.new.self.bits c.recent-recent.result.now c.from-2.result c.put_runs.ensures.bits c.put_number-2.ensures.bits, ap length c.recent-recent.ensures.kept)
 
 pub put_directions-requires-clause-room : goal.put_directions-requires-clause-room
 put_directions-requires-clause-room c =
-    omega (arith, front_most c.args.pen.now.bits c.put_runs.new.pen.bits c.put_number.new.self.bits c.recent-recent.result.now c.from.result c.put_runs.ensures.bits c.put_number.ensures.bits, ap length c.recent-recent.ensures.kept)
+    omega (arith, front_most c.args.pen.now.bits c.put_runs.new.pen.bits c.put_number-2.new.self.bits c.recent-recent.result.now c.from-2.result c.put_runs.ensures.bits c.put_number-2.ensures.bits, ap length c.recent-recent.ensures.kept)
 
 pub returns-clause-bits : goal.returns-clause-bits
 returns-clause-bits c = λ form recent level directions.
@@ -45,8 +58,8 @@ returns-clause-bits c = λ form recent level directions.
     let above : 0 < form.level = omega (arith, c.if-level-eq0.false) in
     c.put_directions.ensures.bits form.level above
     ∙ ap (λ bits. bits ++ direction_bits c.recent-recent.result.now (directions_of c.args.mask.now c.recent-recent.result.now form.level c.twice.result))
-    (front_is c.args.pen.now.bits c.put_runs.new.pen.bits c.put_number.new.self.bits c.recent-recent.result.now form.recent c.from.result form.level
-    c.put_runs.ensures.bits c.put_number.ensures.bits recent_is (c.from.ensures ∙ level_is))
+    (front_is c.args.pen.now.bits c.put_runs.new.pen.bits c.put_number-2.new.self.bits c.recent-recent.result.now form.recent c.from-2.result form.level
+    c.put_runs.ensures.bits c.put_number-2.ensures.bits recent_is (c.from-2.ensures ∙ level_is))
     ∙ ap (λ v. ((c.args.pen.now.bits ++ run_bits form.recent) ++ number_bits 4 form.level) ++ direction_bits v (directions_of c.args.mask.now v form.level c.twice.result)) recent_is
     ∙ ap (λ b. ((c.args.pen.now.bits ++ run_bits form.recent) ++ number_bits 4 form.level) ++ direction_bits form.recent (directions_of c.args.mask.now form.recent form.level b)) c.twice.ensures.kept
     ∙ ap (λ d. ((c.args.pen.now.bits ++ run_bits form.recent) ++ number_bits 4 form.level) ++ direction_bits form.recent d) (sym directions)
@@ -54,4 +67,4 @@ returns-clause-bits c = λ form recent level directions.
 
 pub returns-clause-most : goal.returns-clause-most
 returns-clause-most c =
-    omega (arith, c.put_directions.ensures.most, front_most c.args.pen.now.bits c.put_runs.new.pen.bits c.put_number.new.self.bits c.recent-recent.result.now c.from.result c.put_runs.ensures.bits c.put_number.ensures.bits, ap length c.recent-recent.ensures.kept)
+    omega (arith, c.put_directions.ensures.most, front_most c.args.pen.now.bits c.put_runs.new.pen.bits c.put_number-2.new.self.bits c.recent-recent.result.now c.from-2.result c.put_runs.ensures.bits c.put_number-2.ensures.bits, ap length c.recent-recent.ensures.kept)
