@@ -17,7 +17,7 @@ use Rattle.ground_chain.specs.declared.verdict.Verdict.{Verdict}
 use Rattle.ground_chain.specs.Numbers.{number_after, expected}
 use Rattle.ground_chain.specs.Run.{Arrival, Known, Judged, nothing_known, change_after, change_read, state_read, lost_from, kind_of, judge_as, judged_by, judge, repeat_judged, known_after}
 use Rattle.ground_chain.specs.Sound.{IsChangeAfter, IsStateAfter, IsJudgedBy}
-use Rattle.ground_chain.specs.Reception.{HasWritten, Reception, IsReception, Shows, StandsFor, known_of, next_judged}
+use Rattle.ground_chain.specs.Reception.{ShowsPacket, Reception, IsReception, Shows, StandsFor, known_of, next_judged}
 use Rattle.ground_chain.proofs.Runs.{known_from-append}
 use Rattle.ground_chain.proofs.Sound.{judged_only, kept_answer}
 
@@ -66,7 +66,7 @@ judged_repeat r count body number = ap (judged_by r.decoder.places (known_of r) 
 -- ---- a written packet
 
 module _ (r : Reception) (new : Decoding) (t : ℕ) (body : List ℕ) (has : IsState r.decoder.places r.decoder.state) (latest : Latest r.decoder new t (bits_of body)) where
-  shows_by : (answer : Result Reading BitFault) → IsExactAnswer r.decoder.places r.decoder.state t (bits_of body) answer → kind_of answer ≡ kind.Written → HasWritten new (judge_as r.decoder.places (known_of r) body t)
+  shows_by : (answer : Result Reading BitFault) → IsExactAnswer r.decoder.places r.decoder.state t (bits_of body) answer → kind_of answer ≡ kind.Written → ShowsPacket new (judge_as r.decoder.places (known_of r) body t)
   shows_by (Ok Written) (form, mask, content, spells) written =
       let read = spells_read r.decoder.places r.decoder.state t has (bits_of body) form mask content spells in
       let is = latest form mask content spells in

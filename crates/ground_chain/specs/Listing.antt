@@ -1,11 +1,9 @@
 -- The listing of a store: a line for each arrival, with one before it for lost numbers, and a last line.
-use Rattle.std.specs.Prelude.{◌≡◌, ℕ, ◌*◌, ◌++◌, Bool, true, false, List, [], codes, Option, Some, None, unwrap_or, vec_len}
+use Rattle.std.specs.Prelude.{◌≡◌, ℕ, ◌*◌, ◌++◌, Bool, List, [], codes, Option, Some, None, unwrap_or, vec_len}
 use Rattle.std.specs.Fmt.{decimal}
 use Rattle.std.specs.List.{flat_map}
 use Rattle.bit_vectors.specs.declared.fault.BitFault.TheVariants.{Wrong, EndsEarly}
 use Rattle.bit_vectors.specs.Vectors.{byte_count, vector_bytes}
-use Rattle.desk_ports.specs.declared.desk.Outlet.{Outlet}
-use Rattle.desk_ports.specs.declared.desk.Outlet.TheVariants as outlet
 use Rattle.desk_ports.specs.Courses.{Course, to_output}
 use Rattle.hex.specs.Hex.{encode_lower}
 use Rattle.packet_decode.specs.State.{State, Change}
@@ -103,11 +101,6 @@ listing_course f apid store = record {
 -- what is written of the arrivals: their lines
 abbrev pub listed_texts : Texts
 listed_texts = record { parts = λ judged. to_output (judged_lines judged); last = λ restored. to_output (end_line restored) }
-
--- the outlet of the lines
-abbrev pub is_main : Outlet → Bool
-is_main outlet.Main = true
-is_main outlet.Report = false
 
 -- there is room for the bytes of a vector of f places, and for their digits
 pub record HasVectorRoom (listing : Listing) (f : ℕ) : Type 0 where

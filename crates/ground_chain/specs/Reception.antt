@@ -39,7 +39,7 @@ pub record HasDecoded (old new : Decoding) (t : ℕ) (body : List ℕ) : Type 0 
   pub is : new ≡ record { places = old.places; state = Some (record { number = t; mask = mask; content = content }); recent = form.recent; level = form.level }
 
 -- the decoder's latest packet is the written one of this arrival, and its first part is kept
-pub record HasWritten (decoder : Decoding) (judged : Judged) : Type 0 where
+pub record ShowsPacket (decoder : Decoding) (judged : Judged) : Type 0 where
   pub packet : WrittenPacket
   pub change : Change
   pub state : decoder.state ≡ Some packet
@@ -50,7 +50,7 @@ pub record HasWritten (decoder : Decoding) (judged : Judged) : Type 0 where
 
 -- where the arrival is written, the decoder's latest packet is that of it
 abbrev pub Shows : Decoding → Judged → Type 0
-Shows decoder judged = judged.verdict.kind ≡ Written → HasWritten decoder judged
+Shows decoder judged = judged.verdict.kind ≡ Written → ShowsPacket decoder judged
 
 -- lost numbers are at least one, and fewer than there are sequence counts
 pub record AreLost (lost : Lost) : Type 0 where

@@ -21,7 +21,8 @@ pub struct Listing {
 }
 
 impl Account for Listing {
-    ghost use Rattle.ground_chain.specs.Listing.{HasVectorRoom, is_main, listed_texts};
+    ghost use Rattle.flight_chain.specs.Compressing.{is_main};
+    ghost use Rattle.ground_chain.specs.Listing.{HasVectorRoom, listed_texts};
 
     ghost texts = { listed_texts };
 
