@@ -1,0 +1,4 @@
+pub mod Draws
+pub mod Trials
+pub mod RunDesk
+pub mod Stages

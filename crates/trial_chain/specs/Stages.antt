@@ -1,0 +1,42 @@
+-- The names under which a trial holds what it makes.
+use Rattle.std.specs.Prelude.{◌≡◌, ℕ, List, Some, codes}
+use Rattle.std.specs.FinMap as map
+use Rattle.desk_ports.specs.Courses.{Outputs}
+use Rattle.desk_ports.specs.Meanings.{Kept}
+use Rattle.flight_chain.specs.Stores.{store_of}
+use Rattle.loss_player.specs.Played.{played_bytes, played_of}
+use Rattle.loss_player.specs.Report.{play_report}
+use Rattle.ground_chain.specs.Deliveries.{report_text, restored_bytes}
+use Rattle.trial_chain.specs.Trials.{trial_apid, trial_copies, trial_history, trial_recording}
+
+abbrev pub recording_name : List ℕ
+recording_name = codes "recording"
+
+abbrev pub store_name : List ℕ
+store_name = codes "store"
+
+abbrev pub played_name : List ℕ
+played_name = codes "played"
+
+abbrev pub play_name : List ℕ
+play_name = codes "play"
+
+abbrev pub restored_name : List ℕ
+restored_name = codes "restored"
+
+abbrev pub report_name : List ℕ
+report_name = codes "report"
+
+-- both outputs of a run, held under these names
+abbrev pub with_outputs : Kept → List ℕ → List ℕ → Outputs → Kept
+with_outputs kept output report all = map.insert (map.insert kept output all.output) report all.report
+
+-- What a trial holds: the recording of its history, the store of that for its APID, the played store of its copies with its
+-- report, and what is restored of that with the report.
+pub record HoldsTrial (seed packets f robust : ℕ) (held : Kept) : Type 0 where
+  pub recording : map.get held recording_name ≡ Some (trial_recording seed packets f)
+  pub store : map.get held store_name ≡ Some (store_of (trial_history seed packets f robust) trial_apid)
+  pub played : map.get held played_name ≡ Some (played_bytes (trial_copies seed packets) trial_apid (store_of (trial_history seed packets f robust) trial_apid))
+  pub play : map.get held play_name ≡ Some (play_report (played_of (trial_copies seed packets) packets))
+  pub restored : map.get held restored_name ≡ Some (restored_bytes (trial_history seed packets f robust) (trial_copies seed packets))
+  pub report : map.get held report_name ≡ Some (report_text (trial_history seed packets f robust) (trial_copies seed packets))
