@@ -1,4 +1,5 @@
-use Rattle.std.proofs.Common.{◌≡◌, ℕ, List, [], Option, None, Some, unwrap_or, length, refl, sym, ap, ◌∙◌, subst, arith}
+use Rattle.std.proofs.Common.{◌≡◌, ℕ, List, [], Option, None, Some, unwrap_or, All, length, refl, sym, ap, ◌∙◌, subst, arith}
+use Rattle.side_tables.specs.Rows.{IsCopyRow}
 use Rattle.flight_chain.specs.Compressing.{compress_course}
 use Rattle.packet_store.specs.Walks.{walk}
 use Rattle.loss_player.specs.Played.{played_of, store_numbers}
@@ -24,6 +25,9 @@ compress-requires-clause-whole c =
     let start = held_start _ c.put.new.self c.new-held.result c.deref.result.now c.in_ok-generated.generated.recording.items recording c.held.view_is c.in_ok-put.ensures.ok c.new-held.ensures c.deref.ensures.value c.in_ok-generated.ensures.recording in
     let trial : IsTrial c.args.packets c.args.f c.args.robust = record { places = c.requires.places; most = c.requires.most; few = c.requires.few; level = c.requires.robust } in
     (λ i. (compress_course (c.in_ok-flight.ensures i) (kept-recording c.args.seed c.args.packets c.args.f _ start i)).ending) ∙ whole-recording c.args.seed c.args.packets c.args.f c.args.robust trial
+
+pub player-requires : goal.player-requires
+player-requires c = subst (All IsCopyRow) (sym c.deref-2.ensures.value) c.in_ok-generated.ensures.right
 
 pub play-requires-clause-held : goal.play-requires-clause-held
 play-requires-clause-held c = IsSome-here _ _ store_name _ c.in_ok-held.ensures.held
