@@ -1,5 +1,5 @@
 -- The history of a trial and its copies: what the laws of the three chains ask of them.
-use Rattle.std.proofs.Common.{◌≡◌, ℕ, zero, suc, ◌+◌, ◌*◌, ◌^◌, ◌%◌, ◌==◌, ◌<◌, ◌≤◌, ◌-◌, ◌/◌, nat_lt, Bool, true, false, ◌&&◌, ◌||◌, cond, List, [], ◌∷◌, ◌++◌, length, map, replicate, refl, sym, ap, ◌∙◌, subst, arith, inl, inr}
+use Rattle.std.proofs.Common.{◌≡◌, ℕ, zero, suc, ◌+◌, ◌*◌, ◌%◌, ◌==◌, ◌<◌, ◌≤◌, ◌-◌, ◌/◌, Bool, true, false, ◌&&◌, ◌||◌, cond, List, [], ◌∷◌, length, map, replicate, refl, ap, ◌∙◌, arith}
 use Rattle.std.specs.Prelude.{All}
 use Rattle.std.specs.List.{enumerate_from, flat_map, range_with_len}
 use Rattle.std.proofs.lemmas.Grind.{common_steps}
@@ -7,15 +7,14 @@ use Rattle.std.proofs.lemmas.List.{length-append, length-replicate, length-set}
 use Rattle.std.proofs.lemmas.List.Concat.{flat_map-cons}
 use Rattle.std.proofs.lemmas.List.FromFn.{length-map-range_with_len, get_or-map-range_with_len}
 use Rattle.bit_vectors.specs.declared.flags.Flags.{Flags}
-use Rattle.mask_update.specs.Histories.{History, IsValid, Step, flags_after, history_of, step_of}
+use Rattle.mask_update.specs.Histories.{IsValid, flags_after, history_of, step_of}
 use Rattle.mask_update.proofs.HistoriesOf.{IsValid-history_of, length-history_of}
 use Rattle.side_tables.specs.Rows.{flags_of}
 use Rattle.side_tables.specs.Spans.{names}
 use Rattle.packet_encode.specs.Deliveries.{arrivals}
-use Rattle.packet_store.specs.SpacePackets.{period}
 use Rattle.loss_player.specs.Gaps.{AreGapsShort}
-use Rattle.trial_chain.specs.Draws.{first_draw, second_draw}
-use Rattle.trial_chain.specs.Trials.{copies_by, input_behind, inverted_at, is_every, trial_copies, trial_flags, trial_history, trial_input, trial_inputs, trial_plan}
+use Rattle.trial_chain.specs.Draws.{first_draw}
+use Rattle.trial_chain.specs.Trials.{input_behind, inverted_at, is_every, trial_copies, trial_flags, trial_history, trial_input, trial_inputs, trial_plan}
 
 -- ---- inputs
 

@@ -1,10 +1,9 @@
 -- What the three runs of a trial owe.
-use Rattle.std.proofs.Common.{◌≡◌, ℕ, ◌^◌, ◌≤◌, Bool, false, List, [], length, replicate, Option, Some, None, refl, sym, ap, ◌∙◌, subst, append-nil, arith}
-use Rattle.desk_ports.specs.Courses.{Outputs, by_ending, no_outputs, owed, to_output, to_report}
+use Rattle.std.proofs.Common.{◌≡◌, ℕ, ◌≤◌, false, List, [], length, replicate, Some, None, ap, ◌∙◌, append-nil, arith}
+use Rattle.desk_ports.specs.Courses.{by_ending, no_outputs, owed, to_output, to_report}
 use Rattle.mask_update.specs.Histories.{History, IsValid}
-use Rattle.packet_encode.specs.Deliveries.{arrivals}
 use Rattle.packet_store.specs.Walks.{Walk, walk}
-use Rattle.flight_chain.specs.Recordings.{RecordingWalk, recording_of, recording_walk}
+use Rattle.flight_chain.specs.Recordings.{RecordingWalk, recording_walk}
 use Rattle.flight_chain.specs.Compressing.{Compression, compress_course, history_by}
 use Rattle.flight_chain.specs.Stores.{store_of}
 use Rattle.flight_chain.proofs.Recordings.{recording_walk_from-recording_of}

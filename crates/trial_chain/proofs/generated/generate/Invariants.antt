@@ -5,7 +5,6 @@ use Rattle.flight_chain.specs.Recordings.{recording_of}
 use Rattle.trial_chain.specs.Draws.{number_at}
 use Rattle.trial_chain.specs.Trials.{trial_copies, trial_input, trial_inputs}
 use Rattle.trial_chain.proofs.generated.generate.Given as goal
-use Rattle.trial_chain.proofs.Scripts
 
 abbrev pub invariant-packets : goal.invariant-packets
 invariant-packets l = record {

@@ -1,4 +1,4 @@
-use Rattle.std.proofs.Common.{◌≡◌, ℕ, List, [], Option, None, Some, unwrap_or, All, length, refl, sym, ap, ◌∙◌, subst, arith}
+use Rattle.std.proofs.Common.{◌≡◌, ℕ, List, [], Option, Some, unwrap_or, All, length, sym, ap, ◌∙◌, subst}
 use Rattle.side_tables.specs.Rows.{IsCopyRow}
 use Rattle.flight_chain.specs.Compressing.{compress_course}
 use Rattle.packet_store.specs.Walks.{walk}
@@ -7,7 +7,7 @@ use Rattle.loss_player.specs.Playing.{PlayerState}
 use Rattle.ground_chain.specs.Deliveries.{delivered_numbers}
 use Rattle.ground_chain.specs.Report.{restored_of}
 use Rattle.ground_chain.specs.Restoring.{RestorerState, store_run}
-use Rattle.trial_chain.specs.Stages.{played_name, recording_name, store_name}
+use Rattle.trial_chain.specs.Stages.{recording_name, store_name}
 use Rattle.trial_chain.specs.Trials.{trial_copies, trial_history, trial_recording}
 use Rattle.trial_chain.proofs.TrialRuns.{IsTrial, numbers-restored, numbers-store, whole-played, whole-recording, whole-store}
 use Rattle.trial_chain.proofs.TrialHeld.{HoldsTrial-held, IsSome-here, IsSome-played, held-compressed, held-played, held-restored, held_start, kept-played, kept-recording, kept-store, same-copies}

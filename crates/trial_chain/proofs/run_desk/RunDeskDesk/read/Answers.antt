@@ -1,8 +1,8 @@
-use Rattle.std.proofs.Common.{◌≡◌, ℕ, List, Bool, ap, sym, subst, ◌∙◌, OnOk, OnErr, IfOk, take}
-use Rattle.std.proofs.lemmas.Result.{on_ok_weaker, on_err_weaker, IfOk-weaker}
+use Rattle.std.proofs.Common.{ℕ, List, Bool, subst, IfOk, take}
+use Rattle.std.proofs.lemmas.Result.{IfOk-weaker}
 use Rattle.std.specs.Str.{bytes_eq}
 use Rattle.desk_ports.specs.MemState.{mem_meanings}
-use Rattle.desk_ports.specs.Meanings.{Meanings, Begins, Moves, Adds, Keeps}
+use Rattle.desk_ports.specs.Meanings.{Moves}
 use Rattle.trial_chain.specs.RunDesk.{RunState, run_meanings}
 use Rattle.trial_chain.proofs.RunDesks.{granting}
 use Rattle.trial_chain.proofs.RunDesks.{Moves-granting}
