@@ -19,6 +19,8 @@ use std::marker::Model;
 #[derive(Debug, Drop)]
 pub struct FirstPart {
     recent: Bits,
+    /// Whether there is no recent change, once that was asked.
+    quiet: bool,
     level: u8,
     /// The places that became predictable, where directions are sent.
     predictable: Bits,
@@ -27,7 +29,8 @@ pub struct FirstPart {
 }
 
 impl Model for FirstPart {
-    ghost use Rattle.std.specs.Prelude.{◌≡◌, ◌<◌, length};
+    ghost use Rattle.std.specs.Prelude.{◌≡◌, ◌<◌, false, length, replicate};
+    ghost use Rattle.std.specs.Bool.{OnTrue};
     ghost use Rattle.packet_decode.specs.State.{Change};
     ghost use Rattle.packet_decode.specs.Parts.{sent_directions};
 
@@ -35,7 +38,8 @@ impl Model for FirstPart {
 
     ghost view = { λ p. record { recent = p.recent; level = p.level; directions = sent_directions p.twice p.predictable } };
 
-    ghost invariant = { λ p. (length p.predictable ≡ length p.recent) × (p.level < 16) };
+    ghost invariant = { λ p. (length p.predictable ≡ length p.recent) × (p.level < 16)
+        × OnTrue p.quiet (p.recent ≡ replicate (length p.recent) false) };
 }
 
 impl FirstPart {
@@ -49,6 +53,7 @@ impl FirstPart {
         let predictable = Bits::zeros(alloc, f)?;
         Ok(FirstPart {
             recent,
+            quiet: true,
             level: 0,
             predictable,
             twice: None,
@@ -62,9 +67,17 @@ impl FirstPart {
         ensures moves { MovesOn eye.old eye.new }
         ensures reading { Gives (λ _. self.new) result eye.new (parse_change (length self.old.recent) (bits_left eye.old)) }
     {
+        self.quiet = false;
         take_runs(eye, &mut self.recent)?;
         self.level = eye.take_number(4)? as u8;
-        self.twice = take_directions(eye, &self.recent, self.level, &mut self.predictable)?;
+        self.quiet = self.recent.is_zero();
+        self.twice = take_directions(
+            eye,
+            &self.recent,
+            self.quiet,
+            self.level,
+            &mut self.predictable,
+        )?;
         Ok(())
     }
 
@@ -88,7 +101,7 @@ impl FirstPart {
         ensures { OnTrue result ((mask : List Bool) → length mask ≡ length self.now.recent
             → mask_after mask self.now ≡ mask) }
     {
-        self.recent.is_zero()
+        self.quiet
     }
 
     /// Makes `mask` the mask after it. `spare` has any bits then.

@@ -1,6 +1,7 @@
 //! The directions of the recent changes of the mask (CCSDS 124.0-B-1).
 
-ghost use Rattle.std.specs.Prelude.{◌≡◌, length, true, Contains};
+ghost use Rattle.std.specs.Prelude.{◌≡◌, length, false, true, replicate, Contains};
+ghost use Rattle.std.specs.Bool.{OnFalse, OnTrue};
 ghost use Rattle.bit_vectors.specs.Eye.{bits_left};
 ghost use Rattle.bit_vectors.specs.Reading.{MovesOn, Gives};
 ghost use Rattle.packet_decode.specs.PacketReading.{parse_directions, parse_named};
@@ -9,23 +10,26 @@ ghost use Rattle.packet_decode.specs.Parts.{sent_directions};
 use bit_vectors::{BitEye, BitFault, Bits};
 use run_code::take_inverse_up;
 
-/// Takes the directions of the recent changes, where they are sent, which they can be where there are changes
-/// and a level above 0. `predictable` is then the places that became predictable, and the answer whether all
-/// recent changes are extracted.
+/// Takes the directions of the recent changes, where they are sent, which they can be where there are changes, of
+/// which `quiet` says that there is none, and a level above 0. `predictable` is then the places that became
+/// predictable, and the answer whether all recent changes are extracted.
 #[tactic(auto, unfolding(crate::specs::PacketReading::parse_directions))]
 pub fn take_directions(
     eye: &mut BitEye,
     recent: &Bits,
+    quiet: bool,
     level: u8,
     predictable: &mut Bits,
 ) -> Result<Option<bool>, BitFault>
-    requires { length recent.now ≡ length predictable.old }
+    requires places { length recent.now ≡ length predictable.old }
+    requires quiet { OnTrue quiet (recent.now ≡ replicate (length recent.now) false) }
+    requires some { OnFalse quiet (Contains recent.now true) }
     ensures places { length predictable.new ≡ length predictable.old }
     ensures moves { MovesOn eye.old eye.new }
     ensures reading { Gives (λ twice. sent_directions twice predictable.new) result eye.new
         (parse_directions recent.now level (bits_left eye.old)) }
 {
-    if recent.is_zero() || level == 0 {
+    if quiet || level == 0 {
         return Ok(None);
     }
     if !eye.take_bit()? {
