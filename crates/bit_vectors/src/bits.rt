@@ -213,7 +213,8 @@ impl Bits {
         requires index { index < word_count (length self.old) }
         requires spare { HasNoSpareBit (length self.old) index value }
         ensures word { IsWord self.new index value }
-        ensures others { (k : ℕ) → k / 64 ≢ index → slice_index_or self.new k false ≡ slice_index_or self.old k false }
+        ensures others { (k : ℕ) → k / 64 ≢ index
+            → slice_index_or self.new k false ≡ slice_index_or self.old k false }
         ensures len { length self.new ≡ length self.old }
     {
         self.words[index as usize] = value;

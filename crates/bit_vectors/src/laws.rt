@@ -18,7 +18,8 @@ pub fn numbers_and_bits()
 pub fn bytes_and_vectors()
     ensures eight { (bytes : List ℕ) → length (bits_of bytes) ≡ 8 * length bytes }
     ensures place { (bytes : List ℕ) (i : ℕ) → i < 8 * length bytes
-        → slice_index_or (bits_of bytes) i false ≡ (bit_at (slice_index bytes (i / 8)) (7 - i % 8) == 1) }
+        → slice_index_or (bits_of bytes) i false
+        ≡ (bit_at (slice_index bytes (i / 8)) (7 - i % 8) == 1) }
     ensures told { (a b : List ℕ) → AreBytes a → AreBytes b → bits_of a ≡ bits_of b → a ≡ b }
     ensures whole { (v : List Bool) → length (padded v) % 8 ≡ 0 }
     ensures short { (v : List Bool) → length (padded v) < length v + 8 }

@@ -25,7 +25,8 @@ impl<'a> BitEye<'a> {
     pub fn take_allowed(&mut self, zero: bool, one: bool) -> Result<bool, BitFault>
         ensures moves { MovesOn self.old self.new }
         ensures right { IfOk result (λ bit. IsTrue (allowed zero one bit)) }
-        ensures reading { Gives (λ bit. bit) result self.new (bit_where (allowed zero one) (bits_left self.old)) }
+        ensures reading { Gives (λ bit. bit) result self.new
+            (bit_where (allowed zero one) (bits_left self.old)) }
     {
         let Some(bit) = self.take() else {
             return Err(BitFault::EndsEarly { bit: self.size() });
@@ -42,7 +43,8 @@ impl<'a> BitEye<'a> {
     pub fn take_word(&mut self, width: u32) -> Result<u64, BitFault>
         requires { width ≤ 64 }
         ensures moves { MovesOn self.old self.new }
-        ensures number { IfOk result (λ n. bits_left self.old ≡ number_bits width n ++ bits_left self.new) }
+        ensures number { IfOk result
+            (λ n. bits_left self.old ≡ number_bits width n ++ bits_left self.new) }
         ensures fits { IfOk result (λ n. n < 2 ^ width) }
         ensures early { IsErr result ↔ (length (bits_left self.old) < width) }
         ensures fault { IfErr result (λ fault. fault ≡ BitFault.EndsEarly (length self.old.bits)) }
@@ -64,7 +66,8 @@ impl<'a> BitEye<'a> {
     pub fn take_number(&mut self, width: u32) -> Result<u32, BitFault>
         requires { width ≤ 32 }
         ensures moves { MovesOn self.old self.new }
-        ensures number { IfOk result (λ n. bits_left self.old ≡ number_bits width n ++ bits_left self.new) }
+        ensures number { IfOk result
+            (λ n. bits_left self.old ≡ number_bits width n ++ bits_left self.new) }
         ensures fits { IfOk result (λ n. n < 2 ^ width) }
         ensures early { IsErr result ↔ (length (bits_left self.old) < width) }
         ensures fault { IfErr result (λ fault. fault ≡ BitFault.EndsEarly (length self.old.bits)) }
@@ -80,10 +83,15 @@ impl<'a> BitEye<'a> {
     pub fn match_number(&mut self, value: u32, width: u32) -> Result<(), BitFault>
         requires { width ≤ 32 }
         ensures moves { MovesOn self.old self.new }
-        ensures word { OnOk result (bits_left self.old ≡ number_bits width value ++ bits_left self.new) }
-        ensures only { (rest : List Bool) → bits_left self.old ≡ number_bits width value ++ rest → IsOk result }
-        ensures fault { IfErr result (λ fault. IsFirstFault (λ word. word ≡ number_bits width value) self.old self.new fault) }
-        ensures reading { Gives (λ _. tt) result self.new (parse_word (number_bits width value) (bits_left self.old)) }
+        ensures word { OnOk result
+            (bits_left self.old ≡ number_bits width value ++ bits_left self.new) }
+        ensures only { (rest : List Bool) → bits_left self.old ≡ number_bits width value ++ rest
+            → IsOk result }
+        ensures fault { IfErr result
+            (λ fault. IsFirstFault
+            (λ word. word ≡ number_bits width value) self.old self.new fault) }
+        ensures reading { Gives (λ _. tt) result self.new
+            (parse_word (number_bits width value) (bits_left self.old)) }
     {
         self.match_ahead(value, width)
     }
@@ -108,7 +116,8 @@ impl<'a> BitEye<'a> {
         ensures early { IsErr result ↔ (length (bits_left self.old) < length into.old) }
         ensures fault { IfErr result (λ fault. fault ≡ BitFault.EndsEarly (length self.old.bits)) }
         ensures at_end { OnErr result (self.new.place ≡ length self.old.bits) }
-        ensures reading { Gives (λ _. into.new) result self.new (parse_front (length into.old) (bits_left self.old)) }
+        ensures reading { Gives (λ _. into.new) result self.new
+            (parse_front (length into.old) (bits_left self.old)) }
     {
         let left = self.left();
         if left < into.len() {
@@ -146,7 +155,8 @@ impl<'a> BitEye<'a> {
     fn match_ahead(&mut self, value: u32, width: u32) -> Result<(), BitFault>
         requires { width ≤ 32 }
         ensures moves { MovesOn self.old self.new }
-        ensures reading { Gives (λ _. tt) result self.new (parse_word (number_bits width value) (bits_left self.old)) }
+        ensures reading { Gives (λ _. tt) result self.new
+            (parse_word (number_bits width value) (bits_left self.old)) }
     {
         if self.comes_next(value, width) {
             self.pass(width);
@@ -159,7 +169,8 @@ impl<'a> BitEye<'a> {
     fn match_bits(&mut self, value: u32, width: u32) -> Result<(), BitFault>
         requires { width ≤ 32 }
         ensures moves { MovesOn self.old self.new }
-        ensures reading { Gives (λ _. tt) result self.new (parse_word (number_bits width value) (bits_left self.old)) }
+        ensures reading { Gives (λ _. tt) result self.new
+            (parse_word (number_bits width value) (bits_left self.old)) }
     {
         for weight in (0..width).rev() {
             let bit = (value >> weight) & 1 == 1;

@@ -23,7 +23,8 @@ pub fn load_words(bytes: &[u8], words: &mut [u64])
 pub fn store_words(words: &[u64], bytes: &mut [u8])
     requires most { length bytes.old ≤ 8 * length words.now }
     requires least { 8 * length words.now < length bytes.old + 8 }
-    ensures { (k : ℕ) → k < 8 * length bytes.old → slice_index_or (bits_of bytes.new) k false ≡ bit_of words.now k }
+    ensures { (k : ℕ) → k < 8 * length bytes.old
+        → slice_index_or (bits_of bytes.new) k false ≡ bit_of words.now k }
 {
     for (index, word) in words.iter().enumerate() {
         let end = bytes.len().min(8 * index + 8);

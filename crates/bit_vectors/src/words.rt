@@ -68,7 +68,8 @@ pub fn or_words(words: &mut [u64], others: &[u64])
 /// Takes from each word the bits of the other.
 pub fn drop_words(words: &mut [u64], others: &[u64])
     requires { length words.old ≡ length others.now }
-    ensures bits { (k : ℕ) → bit_of words.new k ≡ (bit_of words.old k && not (bit_of others.now k)) }
+    ensures bits { (k : ℕ)
+        → bit_of words.new k ≡ (bit_of words.old k && not (bit_of others.now k)) }
     ensures numbers { (i : ℕ) → slice_index words.new i < 2 ^ 64 }
 {
     for (index, word) in words.iter_mut().enumerate() {

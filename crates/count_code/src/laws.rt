@@ -16,5 +16,6 @@ pub fn no_word_begins_another()
 /// zeros, and the first of them is the one that ends the zeros.
 pub fn long_words()
     ensures { (a : ℕ) → 34 ≤ a → (z : ℕ) × (2 ^ (z + 5) ≤ a - 2) × (a - 2 < 2 ^ (z + 6))
-        × (count_bits a ≡ (true ∷ true ∷ true ∷ []) ++ replicate z false ++ true ∷ number_bits (z + 5) (a - 2)) }
+        × (count_bits a ≡ (true ∷ true ∷ true ∷ []) ++ replicate z false ++ true
+        ∷ number_bits (z + 5) (a - 2)) }
 {}

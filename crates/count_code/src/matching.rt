@@ -16,8 +16,10 @@ pub fn match_count(eye: &mut BitEye, a: u32) -> Result<(), BitFault>
     ensures moves { MovesOn eye.old eye.new }
     ensures word { OnOk result (bits_left eye.old ≡ count_bits a ++ bits_left eye.new) }
     ensures only { (rest : List Bool) → bits_left eye.old ≡ count_bits a ++ rest → IsOk result }
-    ensures fault { IfErr result (λ fault. IsFirstFault (λ word. word ≡ count_bits a) eye.old eye.new fault) }
-    ensures reading { Gives (λ _. tt) result eye.new (parse_word (count_bits a) (bits_left eye.old)) }
+    ensures fault { IfErr result
+        (λ fault. IsFirstFault (λ word. word ≡ count_bits a) eye.old eye.new fault) }
+    ensures reading { Gives (λ _. tt) result eye.new
+        (parse_word (count_bits a) (bits_left eye.old)) }
 {
     let word = count_word(a);
     eye.match_number(word.value, word.width)

@@ -16,11 +16,13 @@ use bit_vectors::{BitEye, BitFault};
 pub fn take_count(eye: &mut BitEye, limit: u32) -> Result<Count, BitFault>
     requires { limit ≤ 49152 }
     ensures moves { MovesOn eye.old eye.new }
-    ensures word { IfOk result (λ count. IsWithin limit count × (bits_left eye.old ≡ word_of count ++ bits_left eye.new)) }
+    ensures word { IfOk result
+        (λ count. IsWithin limit count × (bits_left eye.old ≡ word_of count ++ bits_left eye.new)) }
     ensures only { (count : Count) (rest : List Bool) → IsWithin limit count
         → bits_left eye.old ≡ word_of count ++ rest → result ≡ Ok count }
     ensures fault { IfErr result (λ fault. IsFirstFault (IsCode limit) eye.old eye.new fault) }
-    ensures reading { Gives (λ count. count) result eye.new (parse_count limit (bits_left eye.old)) }
+    ensures reading { Gives (λ count. count) result eye.new
+        (parse_count limit (bits_left eye.old)) }
 {
     read_count(eye, limit)
 }
@@ -29,7 +31,8 @@ pub fn take_count(eye: &mut BitEye, limit: u32) -> Result<Count, BitFault>
 fn read_count(eye: &mut BitEye, limit: u32) -> Result<Count, BitFault>
     requires { limit ≤ 49152 }
     ensures moves { MovesOn eye.old eye.new }
-    ensures reading { Gives (λ count. count) result eye.new (parse_count limit (bits_left eye.old)) }
+    ensures reading { Gives (λ count. count) result eye.new
+        (parse_count limit (bits_left eye.old)) }
 {
     if eye.comes_next(0b10, 2) {
         eye.pass(2);
@@ -66,7 +69,8 @@ fn guessed_count(ahead: u64) -> u32
 fn read_bits(eye: &mut BitEye, limit: u32) -> Result<Count, BitFault>
     requires { limit ≤ 49152 }
     ensures moves { MovesOn eye.old eye.new }
-    ensures reading { Gives (λ count. count) result eye.new (parse_count limit (bits_left eye.old)) }
+    ensures reading { Gives (λ count. count) result eye.new
+        (parse_count limit (bits_left eye.old)) }
 {
     if eye.take_allowed(1 <= limit, true)? {
         after_one(eye, limit)
@@ -80,7 +84,8 @@ fn read_bits(eye: &mut BitEye, limit: u32) -> Result<Count, BitFault>
 fn after_one(eye: &mut BitEye, limit: u32) -> Result<Count, BitFault>
     requires { limit ≤ 49152 }
     ensures moves { MovesOn eye.old eye.new }
-    ensures reading { Gives (λ count. count) result eye.new (parse_after_one limit (bits_left eye.old)) }
+    ensures reading { Gives (λ count. count) result eye.new
+        (parse_after_one limit (bits_left eye.old)) }
 {
     if eye.take_allowed(true, 2 <= limit)? {
         let number = above_one(eye, limit)?;
@@ -112,7 +117,8 @@ fn take_bounded(eye: &mut BitEye, most: u32, so_far: u32, width: u32) -> Result<
     requires so_far { so_far * 2 ^ width ≤ most }
     requires width { width ≤ 15 }
     ensures moves { MovesOn eye.old eye.new }
-    ensures reading { Gives (λ n. n) result eye.new (parse_bounded most so_far width (bits_left eye.old)) }
+    ensures reading { Gives (λ n. n) result eye.new
+        (parse_bounded most so_far width (bits_left eye.old)) }
     ensures most { IfOk result (λ n. n ≤ most) }
 {
     let mut number = so_far;

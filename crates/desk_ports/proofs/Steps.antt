@@ -118,8 +118,9 @@ Ran-taken : (a b c : Meanings) (taken : List ℕ) (outputs : Outputs) → Moves 
 Ran-taken a b c taken outputs moves wrote = subst (λ (l : List ℕ). Ran a c l outputs.output outputs.report) (append-nil taken) (Ran-then a b c taken [] [] outputs.output [] outputs.report (Ran-moves a b taken moves) wrote)
 
 -- bytes were taken, and all that they owe was written
-pub Advances-taken : {A F : Type 0} (work next : Work A F) (owes : Work A F → Type 0) (a b c : Meanings) (taken : List ℕ) (outputs : Outputs) → owes next → Steps work next taken outputs → Moves a b inlet.Main taken → Wrote b c outputs → Advances work owes a c
-Advances-taken work next owes a b c taken outputs owed steps moves wrote = record { next = next; owed = owed; reaches = record { taken = taken; outputs = outputs; ran = Ran-taken a b c taken outputs moves wrote; steps = steps } }
+pub Advances-taken : {A F : Type 0} {work here next : Work A F} {owes : Work A F → Type 0} {a b c : Meanings} {taken : List ℕ} {outputs : Outputs} → work ≡ here → Steps here next taken outputs → Moves a b inlet.Main taken → Wrote b c outputs → owes next → Advances work owes a c
+Advances-taken {A = A} {F = F} {next = next} {owes = owes} {a = a} {b = b} {c = c} {taken = taken} {outputs = outputs} is steps moves wrote owed =
+    subst (λ (w : Work A F). Advances w owes a c) (sym is) (record { next = next; owed = owed; reaches = record { taken = taken; outputs = outputs; ran = Ran-taken a b c taken outputs moves wrote; steps = steps } })
 
 IsCutShort-front : {A F : Type 0} (work next : Work A F) (a b : Meanings) (taken : List ℕ) (stand outputs : Outputs) → Steps work next taken outputs → AreFronts stand outputs → Ran a b taken stand.output stand.report → IsCutShort work.course a b
 IsCutShort-front work next a b taken stand outputs steps fronts ran =
@@ -132,8 +133,9 @@ IsCutShort-front work next a b taken stand outputs steps fronts ran =
     }
 
 -- and where a writing failed, a front of it
-pub IsCutShort-taken : {A F : Type 0} (work next : Work A F) (a b c : Meanings) (taken : List ℕ) (outputs : Outputs) → Steps work next taken outputs → Moves a b inlet.Main taken → WroteFront b c outputs → IsCutShort work.course a c
-IsCutShort-taken work next a b c taken outputs steps moves front = IsCutShort-front work next a c taken front.stand outputs steps front.fronts (Ran-taken a b c taken front.stand moves front.wrote)
+pub IsCutShort-taken : {A F : Type 0} {work here next : Work A F} {a b c : Meanings} {taken : List ℕ} {outputs : Outputs} → work ≡ here → Steps here next taken outputs → Moves a b inlet.Main taken → WroteFront b c outputs → IsCutShort work.course a c
+IsCutShort-taken {A = A} {F = F} {here = here} {next = next} {a = a} {b = b} {c = c} {taken = taken} {outputs = outputs} is steps moves front =
+    subst (λ (w : Work A F). IsCutShort w.course a c) (sym is) (IsCutShort-front here next a c taken front.stand outputs steps front.fronts (Ran-taken a b c taken front.stand moves front.wrote))
 
 -- what is owed before anything is read was written
 pub Reaches-wrote : {A F : Type 0} (work next : Work A F) (a b : Meanings) (outputs : Outputs) → Steps work next [] outputs → Wrote a b outputs → Reaches work next a b
@@ -154,25 +156,26 @@ told_end f x None at_end is = tt
 told_end f x (Some bytes) at_end is = sym (ap f at_end ∙ is)
 
 -- the input is at its end, and the last part was written
-pub Finishes-end : {A F : Type 0} (work : Work A F) (a b c : Meanings) (last : Outputs) (answer : A) → IsLast work last answer → Moves a b inlet.Main [] → IsAtEnd (left a inlet.Main) → Wrote b c last → Finishes work a c answer
+pub Finishes-end : {A F : Type 0} {work here : Work A F} {a b c : Meanings} {last : Outputs} {answer : A} → work ≡ here → IsLast here last answer → Moves a b inlet.Main [] → IsAtEnd (left a inlet.Main) → Wrote b c last → Finishes work a c answer
 unfolding Went-end
-Finishes-end {F = F} work a b c last answer is moves at_end wrote =
+Finishes-end {A = A} {F = F} {here = here} {a = a} {b = b} {c = c} {last = last} {answer = answer} is ends moves at_end wrote =
     let went = Went-end a b c last moves at_end wrote in
-    record {
+    subst (λ (w : Work A F). Finishes w a c answer) (sym is) (record {
       ends = record {
         input = [];
-        went = subst (Went a c []) (sym (ap owed is.course)) went;
-        ends = ap (λ (k : Course F). k.ending) is.course;
+        went = subst (Went a c []) (sym (ap owed ends.course)) went;
+        ends = ap (λ (k : Course F). k.ending) ends.course;
         read_out = λ whole. went.told;
       };
-      answered = told_end work.answer answer (left a inlet.Main) at_end is.answer;
-    }
+      answered = told_end here.answer answer (left a inlet.Main) at_end ends.answer;
+    })
 
 -- and where a writing failed, a front of it
-pub IsCutShort-end : {A F : Type 0} (work : Work A F) (a b c : Meanings) (last : Outputs) (answer : A) → IsLast work last answer → Moves a b inlet.Main [] → IsAtEnd (left a inlet.Main) → WroteFront b c last → IsCutShort work.course a c
-IsCutShort-end work a b c last answer is moves at_end front = record {
-  input = [];
-  stand = front.stand;
-  went = Went-end a b c front.stand moves at_end front.wrote;
-  fronts = subst (AreFronts front.stand) (sym (ap owed is.course)) front.fronts;
-}
+pub IsCutShort-end : {A F : Type 0} {work here : Work A F} {a b c : Meanings} {last : Outputs} {answer : A} → work ≡ here → IsLast here last answer → Moves a b inlet.Main [] → IsAtEnd (left a inlet.Main) → WroteFront b c last → IsCutShort work.course a c
+IsCutShort-end {A = A} {F = F} {a = a} {b = b} {c = c} {last = last} is ends moves at_end front =
+    subst (λ (w : Work A F). IsCutShort w.course a c) (sym is) (record {
+      input = [];
+      stand = front.stand;
+      went = Went-end a b c front.stand moves at_end front.wrote;
+      fronts = subst (AreFronts front.stand) (sym (ap owed ends.course)) front.fronts;
+    })

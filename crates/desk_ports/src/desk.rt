@@ -44,7 +44,8 @@ pub trait Desk {
     /// Opens an output by its name. Nothing has been written to it then.
     fn open_out(&mut self, outlet: Outlet, name: &str) -> Result<(), Failed>
         requires { IsTrue ((meaning self.old).grants_out name.now) }
-        ensures opened { OnOk result (Begins (meaning self.old) (meaning self.new) outlet name.now) }
+        ensures opened { OnOk result
+            (Begins (meaning self.old) (meaning self.new) outlet name.now) }
         ensures unchanged { OnErr result (meaning self.new ≡ meaning self.old) }
         ensures cause { HasWriteCause (counts self.old) (counts self.new) result };
 
@@ -53,7 +54,8 @@ pub trait Desk {
         requires open { IsReadyIn (meaning self.old) inlet }
         requires room { 0 < length buf.old }
         ensures within { IfOk result (λ n. n ≤ length buf.old) }
-        ensures moved { IfOk result (λ n. Moves (meaning self.old) (meaning self.new) inlet (take n buf.new)) }
+        ensures moved { IfOk result
+            (λ n. Moves (meaning self.old) (meaning self.new) inlet (take n buf.new)) }
         ensures at_end { IfOk result (λ n. n ≡ 0 → IsAtEnd (left (meaning self.new) inlet)) }
         ensures unchanged { OnErr result (meaning self.new ≡ meaning self.old) }
         ensures cause { HasReadCause (counts self.old) (counts self.new) result };
@@ -64,7 +66,8 @@ pub trait Desk {
         requires some { 0 < length bytes.now }
         ensures within { IfOk result (λ n. n ≤ length bytes.now) }
         ensures progress { IfOk result (λ n. 0 < n) }
-        ensures added { IfOk result (λ n. Adds (meaning self.old) (meaning self.new) outlet (take n bytes.now)) }
+        ensures added { IfOk result
+            (λ n. Adds (meaning self.old) (meaning self.new) outlet (take n bytes.now)) }
         ensures unchanged { OnErr result (meaning self.new ≡ meaning self.old) }
         ensures cause { HasWriteCause (counts self.old) (counts self.new) result };
 

@@ -188,7 +188,8 @@ impl<'a> FileDesk<'a> {
     /// A desk at which nothing was opened. It grants every name.
     pub fn new(rt: &'a HostRuntime) -> FileDesk<'a>
         ensures untold { ⟦<FileDesk<'a> as Desk>⟧.meaning result ≡ nothing_told }
-        ensures no_faults { ⟦<FileDesk<'a> as Desk>⟧.counts result ≡ record { reads = 0; writes = 0 } }
+        ensures no_faults { ⟦<FileDesk<'a> as Desk>⟧.counts result
+            ≡ record { reads = 0; writes = 0 } }
     {
         FileDesk {
             rt,
@@ -205,8 +206,10 @@ impl<'a> FileDesk<'a> {
     /// Hands everything to the system that was gathered for both outlets. A run that was refused leaves its outputs
     /// unfinished; after this call they have what it wrote.
     pub fn hand_over(&mut self) -> Result<(), Failed>
-        ensures meaning { ⟦<FileDesk<'a> as Desk>⟧.meaning self.new ≡ ⟦<FileDesk<'a> as Desk>⟧.meaning self.old }
-        ensures cause { HasWriteCause (⟦<FileDesk<'a> as Desk>⟧.counts self.old) (⟦<FileDesk<'a> as Desk>⟧.counts self.new) result }
+        ensures meaning { ⟦<FileDesk<'a> as Desk>⟧.meaning self.new
+            ≡ ⟦<FileDesk<'a> as Desk>⟧.meaning self.old }
+        ensures cause { HasWriteCause (⟦<FileDesk<'a> as Desk>⟧.counts self.old)
+            (⟦<FileDesk<'a> as Desk>⟧.counts self.new) result }
         ensures main { OnOk result (gathered_at self.new Outlet.Main ≡ []) }
         ensures report { OnOk result (gathered_at self.new Outlet.Report ≡ []) }
     {
@@ -234,7 +237,11 @@ impl<'a> FileDesk<'a> {
         ensures given { IfOk answer (λ given. result ≡ Ok given) }
         ensures steady { OnOk answer (self.new ≡ self.old) }
         ensures failed { OnErr answer (IsErr result) }
-        ensures counted { OnErr answer (self.new ≡ record self.old { read_faults = min (self.old.read_faults + 1) (2 ^ 64 - 1) }) }
+        ensures counted { OnErr answer
+            (self.new ≡ record self.old {
+              read_faults = min (self.old.read_faults + 1)
+                  (2 ^ 64 - 1);
+            }) }
         ensures rises { self.old.read_faults ≤ self.new.read_faults }
     {
         match answer {
@@ -247,7 +254,8 @@ impl<'a> FileDesk<'a> {
     }
 
     fn write_fault(&mut self) -> Failed
-        ensures counted { self.new ≡ record self.old { write_faults = min (self.old.write_faults + 1) (2 ^ 64 - 1) } }
+        ensures counted { self.new
+            ≡ record self.old { write_faults = min (self.old.write_faults + 1) (2 ^ 64 - 1) } }
         ensures rises { self.old.write_faults ≤ self.new.write_faults }
     {
         self.write_faults = self.write_faults.saturating_add(1);
@@ -259,7 +267,11 @@ impl<'a> FileDesk<'a> {
         ensures given { IfOk answer (λ given. result ≡ Ok given) }
         ensures steady { OnOk answer (self.new ≡ self.old) }
         ensures failed { OnErr answer (IsErr result) }
-        ensures counted { OnErr answer (self.new ≡ record self.old { write_faults = min (self.old.write_faults + 1) (2 ^ 64 - 1) }) }
+        ensures counted { OnErr answer
+            (self.new ≡ record self.old {
+              write_faults = min (self.old.write_faults + 1)
+                  (2 ^ 64 - 1);
+            }) }
         ensures rises { self.old.write_faults ≤ self.new.write_faults }
     {
         match answer {
@@ -276,7 +288,8 @@ impl<'a> Desk for FileDesk<'a> {
 
     fn open_in(&mut self, inlet: Inlet, name: &str) -> Result<(), Failed>
         requires { IsTrue ((file_meanings self.old).grants_in name.now) }
-        ensures opened { OnOk result (Opens (file_meanings self.old) (file_meanings self.new) inlet name.now) }
+        ensures opened { OnOk result
+            (Opens (file_meanings self.old) (file_meanings self.new) inlet name.now) }
         ensures unchanged { OnErr result (file_meanings self.new ≡ file_meanings self.old) }
         ensures cause { HasReadCause (file_counts self.old) (file_counts self.new) result }
 
@@ -298,7 +311,8 @@ impl<'a> Desk for FileDesk<'a> {
 
     fn open_out(&mut self, outlet: Outlet, name: &str) -> Result<(), Failed>
         requires { IsTrue ((file_meanings self.old).grants_out name.now) }
-        ensures opened { OnOk result (Begins (file_meanings self.old) (file_meanings self.new) outlet name.now) }
+        ensures opened { OnOk result
+            (Begins (file_meanings self.old) (file_meanings self.new) outlet name.now) }
         ensures unchanged { OnErr result (file_meanings self.new ≡ file_meanings self.old) }
         ensures cause { HasWriteCause (file_counts self.old) (file_counts self.new) result }
 
@@ -322,7 +336,8 @@ impl<'a> Desk for FileDesk<'a> {
         requires open { IsReadyIn (file_meanings self.old) inlet }
         requires room { 0 < length buf.old }
         ensures within { IfOk result (λ n. n ≤ length buf.old) }
-        ensures moved { IfOk result (λ n. Moves (file_meanings self.old) (file_meanings self.new) inlet (take n buf.new)) }
+        ensures moved { IfOk result
+            (λ n. Moves (file_meanings self.old) (file_meanings self.new) inlet (take n buf.new)) }
         ensures at_end { IfOk result (λ n. n ≡ 0 → IsAtEnd (left (file_meanings self.new) inlet)) }
         ensures unchanged { OnErr result (file_meanings self.new ≡ file_meanings self.old) }
         ensures cause { HasReadCause (file_counts self.old) (file_counts self.new) result }
@@ -345,7 +360,9 @@ impl<'a> Desk for FileDesk<'a> {
         requires some { 0 < length bytes.now }
         ensures within { IfOk result (λ n. n ≤ length bytes.now) }
         ensures progress { IfOk result (λ n. 0 < n) }
-        ensures added { IfOk result (λ n. Adds (file_meanings self.old) (file_meanings self.new) outlet (take n bytes.now)) }
+        ensures added { IfOk result
+            (λ n. Adds (file_meanings self.old) (file_meanings self.new) outlet
+            (take n bytes.now)) }
         ensures unchanged { OnErr result (file_meanings self.new ≡ file_meanings self.old) }
         ensures cause { HasWriteCause (file_counts self.old) (file_counts self.new) result }
 
@@ -364,7 +381,8 @@ impl<'a> Desk for FileDesk<'a> {
 
     fn finish(&mut self, outlet: Outlet) -> Result<(), Failed>
         requires { IsReadyOut (file_meanings self.old) outlet }
-        ensures kept { OnOk result (Keeps (file_meanings self.old) (file_meanings self.new) outlet) }
+        ensures kept { OnOk result
+            (Keeps (file_meanings self.old) (file_meanings self.new) outlet) }
         ensures unchanged { OnErr result (file_meanings self.new ≡ file_meanings self.old) }
         ensures cause { HasWriteCause (file_counts self.old) (file_counts self.new) result }
 

@@ -11,16 +11,20 @@ ghost use Rattle.desk_ports.specs.QuietState.{QuietState, quiet_meanings, quiet_
 
 /// Two reads are one read of both pieces, and two writes one write.
 pub fn pieces_join()
-    ensures read { (a b c : Meanings) (inlet : Inlet) (xs ys : List ℕ) → Moves a b inlet xs → Moves b c inlet ys
+    ensures read { (a b c : Meanings) (inlet : Inlet) (xs ys : List ℕ) → Moves a b inlet xs
+        → Moves b c inlet ys
         → Moves a c inlet (xs ++ ys) }
-    ensures written { (a b c : Meanings) (outlet : Outlet) (xs ys : List ℕ) → Adds a b outlet xs → Adds b c outlet ys
+    ensures written { (a b c : Meanings) (outlet : Outlet) (xs ys : List ℕ) → Adds a b outlet xs
+        → Adds b c outlet ys
         → Adds a c outlet (xs ++ ys) }
 {}
 
 /// What was written to an output that was finished is what an input has left that is opened by its name.
 pub fn finished_is_held()
-    ensures { (a b c : Meanings) (outlet : Outlet) (inlet : Inlet) (name bytes : List ℕ) → IsSome a.held
-        → (outgoing a outlet).name ≡ Some name → made a outlet ≡ Some bytes → Keeps a b outlet → Opens b c inlet name
+    ensures { (a b c : Meanings) (outlet : Outlet) (inlet : Inlet) (name bytes : List ℕ)
+        → IsSome a.held
+        → (outgoing a outlet).name ≡ Some name → made a outlet ≡ Some bytes → Keeps a b outlet
+        → Opens b c inlet name
         → IfSome (left c inlet) (λ rest. rest ≡ bytes) }
 {}
 
@@ -30,22 +34,28 @@ pub fn runs_follow_their_course<F>()
     ensures { (course_of : List ℕ → Course F) (a b : Meanings) (ending : Option F) (input : List ℕ)
         → left a Inlet.Main ≡ Some input → Ends course_of a b ending
         → (made b Outlet.Main ≡ append_known (made a Outlet.Main) (owed (course_of input)).output)
-        × (made b Outlet.Report ≡ append_known (made a Outlet.Report) (owed (course_of input)).report)
+        × (made b Outlet.Report
+        ≡ append_known (made a Outlet.Report) (owed (course_of input)).report)
         × ((course_of input).ending ≡ ending) }
 {}
 
 /// Each fault of a desk is counted once, where neither count stands at its last value. So nothing is done after it: where a
 /// call failed and another one behind it, the counts are not those of one fault.
 pub fn faults_count_once()
-    ensures one { (old new : Counts) → AreBelowLast old → Fails old new → faults new ≡ faults old + 1 }
+    ensures one { (old new : Counts) → AreBelowLast old → Fails old new
+        → faults new ≡ faults old + 1 }
     ensures last { (a b c : Counts) → AreBelowLast b → Fails a b → Fails b c → ¬ Fails a c }
 {}
 
 /// At a quiet desk neither count ever rises, so no call fails there; and the bytes still to come at an inlet are told.
 pub fn quiet_desks_never_fail<T>()
-    ensures reads { (old new : QuietState) → Rose (quiet_counts old).reads (quiet_counts new).reads → ⊥ }
-    ensures writes { (old new : QuietState) → Rose (quiet_counts old).writes (quiet_counts new).writes → ⊥ }
-    ensures read { (old new : QuietState) (answer : Result T Failed) → HasReadCause (quiet_counts old) (quiet_counts new) answer → IsOk answer }
-    ensures written { (old new : QuietState) (answer : Result T Failed) → HasWriteCause (quiet_counts old) (quiet_counts new) answer → IsOk answer }
+    ensures reads { (old new : QuietState) → Rose (quiet_counts old).reads (quiet_counts new).reads
+        → ⊥ }
+    ensures writes { (old new : QuietState)
+        → Rose (quiet_counts old).writes (quiet_counts new).writes → ⊥ }
+    ensures read { (old new : QuietState) (answer : Result T Failed)
+        → HasReadCause (quiet_counts old) (quiet_counts new) answer → IsOk answer }
+    ensures written { (old new : QuietState) (answer : Result T Failed)
+        → HasWriteCause (quiet_counts old) (quiet_counts new) answer → IsOk answer }
     ensures told { (desk : QuietState) (inlet : Inlet) → IsSome (left (quiet_meanings desk) inlet) }
 {}

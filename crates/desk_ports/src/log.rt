@@ -55,7 +55,8 @@ pub fn keep(
 /// The place of the newest entry with this name.
 pub fn newest(log: &[LogEntry], name: &[u8]) -> Option<usize>
     ensures { MatchOption result (map.get (kept_of log.now) name.now ≡ None)
-        (λ at. (at < length log.now) × (map.get (kept_of log.now) name.now ≡ Some (bytes_at log.now at))) }
+        (λ at. (at < length log.now)
+        × (map.get (kept_of log.now) name.now ≡ Some (bytes_at log.now at))) }
 {
     let mut found = None;
     for (at, entry) in log.iter().enumerate() {

@@ -141,7 +141,8 @@ impl MemDesk {
 
     /// Keeps the bytes under the name. An inlet that was opened before stays as it is.
     pub fn put(&mut self, name: &str, bytes: &[u8]) -> Result<(), NoMemory>
-        ensures ok { OnOk result (self.new ≡ record self.old { held = map.insert self.old.held name.now bytes.now }) }
+        ensures ok { OnOk result
+            (self.new ≡ record self.old { held = map.insert self.old.held name.now bytes.now }) }
         ensures err { OnErr result (self.new ≡ self.old) }
     {
         Ok(keep(&mut self.log, self.alloc, name.as_bytes(), bytes)?)
@@ -177,7 +178,8 @@ impl MemDesk {
 
     /// Lets the call of this kind with this number fail. Numbers run from 1 since the desk was made.
     pub fn fail(&mut self, call: Call, nth: u32) -> Result<(), NoMemory>
-        ensures ok { OnOk result (self.new ≡ record self.old { plan = also_failing self.old.plan call nth }) }
+        ensures ok { OnOk result
+            (self.new ≡ record self.old { plan = also_failing self.old.plan call nth }) }
         ensures err { OnErr result (self.new ≡ self.old) }
     {
         Ok(self.plan.fail(call, nth)?)
@@ -212,12 +214,14 @@ impl Desk for MemDesk {
 
     fn open_in(&mut self, inlet: Inlet, name: &str) -> Result<(), Failed>
         requires { IsTrue ((mem_meanings self.old).grants_in name.now) }
-        ensures opened { OnOk result (Opens (mem_meanings self.old) (mem_meanings self.new) inlet name.now) }
+        ensures opened { OnOk result
+            (Opens (mem_meanings self.old) (mem_meanings self.new) inlet name.now) }
         ensures unchanged { OnErr result (mem_meanings self.new ≡ mem_meanings self.old) }
         ensures cause { HasReadCause (mem_counts self.old) (mem_counts self.new) result }
 
         // It fails exactly where `fail` named it, and where the name was never put or finished.
-        ensures fails { IsErr result ↔ (IsNamed self.old Call.OpenIn ⊎ (map.get self.old.held name.now ≡ None)) }
+        ensures fails { IsErr result
+            ↔ (IsNamed self.old Call.OpenIn ⊎ (map.get self.old.held name.now ≡ None)) }
         ensures still { OnOk result (self.new.faults ≡ self.old.faults) }
         ensures fault { OnErr result (self.new.faults ≡ read_fault self.old.faults) }
         ensures called { IsCalled self.old self.new Call.OpenIn }
@@ -234,13 +238,16 @@ impl Desk for MemDesk {
 
     fn open_out(&mut self, outlet: Outlet, name: &str) -> Result<(), Failed>
         requires { IsTrue ((mem_meanings self.old).grants_out name.now) }
-        ensures opened { OnOk result (Begins (mem_meanings self.old) (mem_meanings self.new) outlet name.now) }
+        ensures opened { OnOk result
+            (Begins (mem_meanings self.old) (mem_meanings self.new) outlet name.now) }
         ensures unchanged { OnErr result (mem_meanings self.new ≡ mem_meanings self.old) }
         ensures cause { HasWriteCause (mem_counts self.old) (mem_counts self.new) result }
 
         // It fails where `fail` named it, and otherwise only where a growth was refused.
-        ensures named { IsNamed self.old Call.OpenOut → IsErr result × (self.new.faults ≡ write_fault self.old.faults) }
-        ensures refused { OnErr result (IsNamed self.old Call.OpenOut ⊎ (self.new.faults ≡ refusal self.old.faults)) }
+        ensures named { IsNamed self.old Call.OpenOut
+            → IsErr result × (self.new.faults ≡ write_fault self.old.faults) }
+        ensures refused { OnErr result
+            (IsNamed self.old Call.OpenOut ⊎ (self.new.faults ≡ refusal self.old.faults)) }
         ensures still { OnOk result (self.new.faults ≡ self.old.faults) }
         ensures called { IsCalled self.old self.new Call.OpenOut }
     {
@@ -262,7 +269,8 @@ impl Desk for MemDesk {
         requires open { IsReadyIn (mem_meanings self.old) inlet }
         requires room { 0 < length buf.old }
         ensures within { IfOk result (λ n. n ≤ length buf.old) }
-        ensures moved { IfOk result (λ n. Moves (mem_meanings self.old) (mem_meanings self.new) inlet (take n buf.new)) }
+        ensures moved { IfOk result
+            (λ n. Moves (mem_meanings self.old) (mem_meanings self.new) inlet (take n buf.new)) }
         ensures at_end { IfOk result (λ n. n ≡ 0 → IsAtEnd (left (mem_meanings self.new) inlet)) }
         ensures unchanged { OnErr result (mem_meanings self.new ≡ mem_meanings self.old) }
         ensures cause { HasReadCause (mem_counts self.old) (mem_counts self.new) result }
@@ -294,15 +302,18 @@ impl Desk for MemDesk {
         requires some { 0 < length bytes.now }
         ensures within { IfOk result (λ n. n ≤ length bytes.now) }
         ensures progress { IfOk result (λ n. 0 < n) }
-        ensures added { IfOk result (λ n. Adds (mem_meanings self.old) (mem_meanings self.new) outlet (take n bytes.now)) }
+        ensures added { IfOk result
+            (λ n. Adds (mem_meanings self.old) (mem_meanings self.new) outlet (take n bytes.now)) }
         ensures unchanged { OnErr result (mem_meanings self.new ≡ mem_meanings self.old) }
         ensures cause { HasWriteCause (mem_counts self.old) (mem_counts self.new) result }
 
         // It takes all the bytes, in the size of a piece.
         // It fails where `fail` named it, and otherwise only where a growth was refused.
         ensures count { IfOk result (λ n. n ≡ capped self.old.pieces (length bytes.now)) }
-        ensures named { IsNamed self.old Call.Write → IsErr result × (self.new.faults ≡ write_fault self.old.faults) }
-        ensures refused { OnErr result (IsNamed self.old Call.Write ⊎ (self.new.faults ≡ refusal self.old.faults)) }
+        ensures named { IsNamed self.old Call.Write
+            → IsErr result × (self.new.faults ≡ write_fault self.old.faults) }
+        ensures refused { OnErr result
+            (IsNamed self.old Call.Write ⊎ (self.new.faults ≡ refusal self.old.faults)) }
         ensures still { OnOk result (self.new.faults ≡ self.old.faults) }
         ensures called { IsCalled self.old self.new Call.Write }
     {
@@ -327,8 +338,10 @@ impl Desk for MemDesk {
         ensures cause { HasWriteCause (mem_counts self.old) (mem_counts self.new) result }
 
         // It fails where `fail` named it, and otherwise only where a growth was refused.
-        ensures named { IsNamed self.old Call.Finish → IsErr result × (self.new.faults ≡ write_fault self.old.faults) }
-        ensures refused { OnErr result (IsNamed self.old Call.Finish ⊎ (self.new.faults ≡ refusal self.old.faults)) }
+        ensures named { IsNamed self.old Call.Finish
+            → IsErr result × (self.new.faults ≡ write_fault self.old.faults) }
+        ensures refused { OnErr result
+            (IsNamed self.old Call.Finish ⊎ (self.new.faults ≡ refusal self.old.faults)) }
         ensures still { OnOk result (self.new.faults ≡ self.old.faults) }
         ensures called { IsCalled self.old self.new Call.Finish }
     {

@@ -108,10 +108,13 @@ impl<'a> QuietDesk<'a> {
         main_name: &'a str,
         main: &'a [u8],
     ) -> QuietDesk<'a>
-        ensures closed { result ≡ quiet_desk (both_kept side_name.now side.now main_name.now main.now) }
+        ensures closed { result
+            ≡ quiet_desk (both_kept side_name.now side.now main_name.now main.now) }
         ensures main { quiet_held result main_name.now ≡ Some main.now }
-        ensures side { side_name.now ≢ main_name.now → quiet_held result side_name.now ≡ Some side.now }
-        ensures others { (name : List ℕ) → name ≢ side_name.now → name ≢ main_name.now → quiet_held result name ≡ Some [] }
+        ensures side { side_name.now ≢ main_name.now
+            → quiet_held result side_name.now ≡ Some side.now }
+        ensures others { (name : List ℕ) → name ≢ side_name.now → name ≢ main_name.now
+            → quiet_held result name ≡ Some [] }
         ensures no_faults { quiet_counts result ≡ record { reads = 0; writes = 0 } }
     {
         let unread = Source {

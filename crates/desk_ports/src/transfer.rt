@@ -11,9 +11,13 @@ use crate::desk::{Desk, Failed, Inlet, Outlet};
 pub fn fill<D: Desk>(desk: &mut D, inlet: Inlet, buf: &mut [u8]) -> Result<usize, Failed>
     requires { IsReadyIn (D.meaning desk.old) inlet }
     ensures within { IfOk result (λ n. n ≤ length buf.old) }
-    ensures moved { IfOk result (λ n. Moves (D.meaning desk.old) (D.meaning desk.new) inlet (take n buf.new)) }
-    ensures at_end { IfOk result (λ n. n < length buf.old → IsAtEnd (left (D.meaning desk.new) inlet)) }
-    ensures lost { OnErr result ((bytes : List ℕ) × (length bytes < length buf.old) × Moves (D.meaning desk.old) (D.meaning desk.new) inlet bytes) }
+    ensures moved { IfOk result
+        (λ n. Moves (D.meaning desk.old) (D.meaning desk.new) inlet (take n buf.new)) }
+    ensures at_end { IfOk result
+        (λ n. n < length buf.old → IsAtEnd (left (D.meaning desk.new) inlet)) }
+    ensures lost { OnErr result
+        ((bytes : List ℕ) × (length bytes < length buf.old)
+        × Moves (D.meaning desk.old) (D.meaning desk.new) inlet bytes) }
     ensures cause { HasReadCause (D.counts desk.old) (D.counts desk.new) result }
 {
     let mut filled = 0;
@@ -31,7 +35,8 @@ pub fn fill<D: Desk>(desk: &mut D, inlet: Inlet, buf: &mut [u8]) -> Result<usize
 pub fn write_all<D: Desk>(desk: &mut D, outlet: Outlet, bytes: &[u8]) -> Result<(), Failed>
     requires { IsReadyOut (D.meaning desk.old) outlet }
     ensures added { OnOk result (Adds (D.meaning desk.old) (D.meaning desk.new) outlet bytes.now) }
-    ensures front { OnErr result (AddsFront (D.meaning desk.old) (D.meaning desk.new) outlet bytes.now) }
+    ensures front { OnErr result
+        (AddsFront (D.meaning desk.old) (D.meaning desk.new) outlet bytes.now) }
     ensures cause { HasWriteCause (D.counts desk.old) (D.counts desk.new) result }
 {
     let mut sent = 0;

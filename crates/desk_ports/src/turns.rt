@@ -43,7 +43,8 @@ pub trait Run {
         requires owed { IsOwed (owes self.old) }
         requires ready { AreReady writes (D.meaning desk.old) }
         ensures turned { (work : Work Self.Answer Self.Data) → owes self.old work
-            → AfterTurn work (owes self.new) (D.meaning desk.old) (D.meaning desk.new) (by_stop stop_of result) }
+            → AfterTurn work (owes self.new) (D.meaning desk.old) (D.meaning desk.new)
+            (by_stop stop_of result) }
         ensures cause { HasCause (D.counts desk.old) (D.counts desk.new) (by_stop stop_of result) }
         ensures fewer { result ≡ Ok Turn.More → remaining self.new < remaining self.old };
 }
@@ -54,11 +55,13 @@ pub fn drive<R: Run, D: Desk>(run: &mut R, desk: &mut D) -> Result<R::Answer, R:
     requires ready { AreReady R.writes (D.meaning desk.old) }
     // What stands after each answer is what the input owes, all of it or up to where a fault ends the run.
     ensures ran { (work : Work R.Answer R.Data) → R.owes run.old work
-        → AfterRun work.course (D.meaning desk.old) (D.meaning desk.new) (by_stop R.stop_of result) }
+        → AfterRun work.course (D.meaning desk.old) (D.meaning desk.new)
+        (by_stop R.stop_of result) }
     ensures cause { HasCause (D.counts desk.old) (D.counts desk.new) (by_stop R.stop_of result) }
     // Where the desk tells the input, the answer is that of its bytes.
     ensures answer { (work : Work R.Answer R.Data) → R.owes run.old work
-        → IfSome (left (D.meaning desk.old) Inlet.Main) (λ input. IfOk result (λ answer. answer ≡ work.answer input)) }
+        → IfSome (left (D.meaning desk.old) Inlet.Main)
+        (λ input. IfOk result (λ answer. answer ≡ work.answer input)) }
 {
     'turns: loop {
         match run.turn(desk) {

@@ -48,7 +48,8 @@ impl Written {
     }
 
     pub fn add(&mut self, bytes: &[u8]) -> Result<(), AllocError>
-        ensures ok { OnOk result (self.new ≡ record self.old { made = self.old.made ++ bytes.now }) }
+        ensures ok { OnOk result
+            (self.new ≡ record self.old { made = self.old.made ++ bytes.now }) }
         ensures err { OnErr result (self.new ≡ self.old) }
     {
         self.made.extend_from_slice(bytes)
@@ -56,7 +57,8 @@ impl Written {
 
     /// Keeps what was written under the name.
     pub fn keep_in(&self, log: &mut Vec<LogEntry>, alloc: Global) -> Result<(), AllocError>
-        ensures ok { OnOk result (log.new.items ≡ log.old.items ++ (self.now.name, self.now.made) ∷ []) }
+        ensures ok { OnOk result
+            (log.new.items ≡ log.old.items ++ (self.now.name, self.now.made) ∷ []) }
         ensures err { OnErr result (log.new.items ≡ log.old.items) }
     {
         keep(log, alloc, &self.name, &self.made)

@@ -74,7 +74,14 @@ impl Compressing {
         requires robust { robust ≤ 7 }
         requires chosen { apid ≤ 2046 }
         ensures right { IfOk result IsCompressing }
-        ensures none { IfOk result (HasTaken (record { places = f; robust = robust; apid = apid; mask = mask.now; rows = plan }) []) }
+        ensures none { IfOk result
+            (HasTaken (record {
+              places = f;
+              robust = robust;
+              apid = apid;
+              mask = mask.now;
+              rows = plan;
+            }) []) }
     {
         Ok(Compressing {
             encoder: Encoder::open(alloc, f, robust, mask)?,
@@ -92,15 +99,18 @@ impl Compressing {
         requires output { IsReadyOut (D.meaning desk.old) Outlet.Main }
         requires most { self.old.encoder.masks.taken < 4294967296 }
         ensures stands { (h : History) → StandsFor h self.old.encoder
-            → StandsFor (with_next_input h self.old.encoder.robust self.old.input (flags_of self.old.plan t)) self.new.encoder }
+            → StandsFor (with_next_input h self.old.encoder.robust self.old.input
+            (flags_of self.old.plan t)) self.new.encoder }
         ensures added { (h : History) → StandsFor h self.old.encoder
             → OnOk result (Adds (D.meaning desk.old) (D.meaning desk.new) Outlet.Main
             (space_packet self.old.writer.apid (t % PERIOD)
-            (data_at (with_next_input h self.old.encoder.robust self.old.input (flags_of self.old.plan t)) (length h.steps)))) }
+            (data_at (with_next_input h self.old.encoder.robust self.old.input
+            (flags_of self.old.plan t)) (length h.steps)))) }
         ensures front { (h : History) → StandsFor h self.old.encoder
             → OnErr result (AddsFront (D.meaning desk.old) (D.meaning desk.new) Outlet.Main
             (space_packet self.old.writer.apid (t % PERIOD)
-            (data_at (with_next_input h self.old.encoder.robust self.old.input (flags_of self.old.plan t)) (length h.steps)))) }
+            (data_at (with_next_input h self.old.encoder.robust self.old.input
+            (flags_of self.old.plan t)) (length h.steps)))) }
         ensures cause { HasWriteCause (D.counts desk.old) (D.counts desk.new) result }
         ensures right { IsCompressing self.new }
         ensures places { length self.new.encoder.masks.mask ≡ length self.old.encoder.masks.mask }

@@ -49,7 +49,9 @@ impl Flight {
         requires places { length mask.now ≡ f }
         requires robust { robust ≤ 7 }
         requires chosen { apid ≤ 2046 }
-        ensures { IfOk result (λ flight. flight ≡ record { places = f; robust = robust; apid = apid; mask = mask.now; rows = plan }) }
+        ensures { IfOk result
+            (λ flight. flight ≡ record
+            { places = f; robust = robust; apid = apid; mask = mask.now; rows = plan }) }
     {
         let compressing = Compressing::open(alloc, f, robust, apid, mask, plan)?;
         Ok(Flight { compressing })
@@ -60,11 +62,13 @@ impl Flight {
         requires input { IsReadyIn (D.meaning desk.old) Inlet.Main }
         requires output { IsReadyOut (D.meaning desk.old) Outlet.Main }
         // What stands after each answer is what the recording owes, all of it or up to where its walk or the desk ends it.
-        ensures ran { AfterRun (compress_course self) (D.meaning desk.old) (D.meaning desk.new) (by_stop stop_by result) }
+        ensures ran { AfterRun (compress_course self) (D.meaning desk.old) (D.meaning desk.new)
+            (by_stop stop_by result) }
         ensures cause { HasCause (D.counts desk.old) (D.counts desk.new) (by_stop stop_by result) }
         // Where the desk tells the recording, the number is that of its packets.
         ensures packets { IfSome (left (D.meaning desk.old) Inlet.Main) (λ recording.
-            IfOk result (λ packets. packets ≡ length (recording_walk self.places recording).inputs)) }
+            IfOk result (λ packets. packets
+            ≡ length (recording_walk self.places recording).inputs)) }
     {
         let mut compressing = self.compressing;
         drive(&mut compressing, desk)

@@ -53,10 +53,12 @@ pub fn read_input<D: Desk>(
     requires some { 1 ≤ length input.old }
     requires line { length line.old ≡ byte_count (length input.old) }
     ensures number { IfGiven result (λ n. n ≡ t) }
-    ensures taken { IfGiven result (λ _. Takes (length input.old) t (D.meaning desk.old) (D.meaning desk.new) input.new) }
+    ensures taken { IfGiven result
+        (λ _. Takes (length input.old) t (D.meaning desk.old) (D.meaning desk.new) input.new) }
     ensures none { OnEnd result (Moves (D.meaning desk.old) (D.meaning desk.new) Inlet.Main []) }
     ensures at_end { OnEnd result (IsAtEnd (left (D.meaning desk.old) Inlet.Main)) }
-    ensures unread { IfErr result (AfterUnread (length input.old) t (D.meaning desk.old) (D.meaning desk.new)) }
+    ensures unread { IfErr result
+        (AfterUnread (length input.old) t (D.meaning desk.old) (D.meaning desk.new)) }
     ensures cause { HasUnreadCause (D.counts desk.old) (D.counts desk.new) result }
     ensures places { length input.new ≡ length input.old }
 {

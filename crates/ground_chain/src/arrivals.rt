@@ -61,7 +61,8 @@ impl Ground {
         ensures repeat { (result.kind ≡ Kind.Repeat) ↔ (number_after self.old.latest count ≡ None) }
         ensures repeated { result.kind ≡ Kind.Repeat → self.new ≡ self.old }
         // Only a written packet changes the decoder.
-        ensures written { result.kind ≡ Kind.Written → HasDecoded self.old.decoder self.new.decoder result.t bytes.now }
+        ensures written { result.kind ≡ Kind.Written
+            → HasDecoded self.old.decoder self.new.decoder result.t bytes.now }
         ensures shows { Shows self.new.decoder (next_judged self.old count bytes.now) }
         ensures unchanged { (result.kind ≡ Kind.Written → ⊥) → self.new.decoder ≡ self.old.decoder }
         ensures places { self.new.decoder.places ≡ self.old.decoder.places }

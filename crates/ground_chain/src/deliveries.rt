@@ -28,10 +28,13 @@ pub fn played_histories_arrive()
         → (walk (Some apid) (played_bytes copies apid (store_of h apid))).ending ≡ None }
     ensures arrive { (h : History) (copies : ℕ → ℕ) (apid : ℕ) → IsValid h → apid ≤ 2046
         → length (arrivals copies (length h.steps)) ≤ 2 ^ 32
-        → arrivals_of (Some apid) (walk (Some apid) (played_bytes copies apid (store_of h apid))).packets ≡ history_arrivals h copies }
+        → arrivals_of (Some apid)
+        (walk (Some apid) (played_bytes copies apid (store_of h apid))).packets
+        ≡ history_arrivals h copies }
     ensures too_many { (h : History) (copies : ℕ → ℕ) (apid : ℕ) → IsValid h → apid ≤ 2046
         → 2 ^ 32 < length (arrivals copies (length h.steps))
-        → (walk (Some apid) (played_bytes copies apid (store_of h apid))).ending ≡ Some WalkFault.TooMany }
+        → (walk (Some apid) (played_bytes copies apid (store_of h apid))).ending
+        ≡ Some WalkFault.TooMany }
 {}
 
 /// The ground knows where it is in a history, and what it has written of it. After each arrival the latest number is that
@@ -40,13 +43,18 @@ pub fn histories_are_known()
     ensures { (h : History) (copies : ℕ → ℕ) → IsValid h → AreGapsShort copies (length h.steps) →
         (front rest : List ℕ) → front ++ rest ≡ arrivals copies (length h.steps) →
         known_after h.places (map (arrival_at h) front)
-        ≡ record { latest = last_or None front; state = true_state h (latest_written h copies (count_up_to (last_or None front))) } }
+        ≡ record {
+          latest = last_or None front;
+          state = true_state h
+              (latest_written h copies (count_up_to (last_or None front)));
+        } }
 {}
 
 /// No packet of a history is refused.
 pub fn no_packet_is_refused()
     ensures { (h : History) (copies : ℕ → ℕ) → IsValid h → AreGapsShort copies (length h.steps) →
-        All (λ j. (fault : BitFault) → j.verdict.kind ≡ Kind.Refused fault → ⊥) (run h.places (history_arrivals h copies)) }
+        All (λ j. (fault : BitFault) → j.verdict.kind ≡ Kind.Refused fault → ⊥)
+        (run h.places (history_arrivals h copies)) }
 {}
 
 /// The restored packets are the inputs of the packets of the history that are written, and of no other.
@@ -58,44 +66,58 @@ pub fn written_packets_are_restored()
 /// The report has a row for each packet up to the last arrival that is not written, where neighbouring lost ones stand
 /// as one row, and its last row has the numbers of the history and its copies.
 pub fn unwritten_packets_are_reported()
-    ensures rows { (h : History) (copies : ℕ → ℕ) → IsValid h → AreGapsShort copies (length h.steps) →
-        run_rows (run h.places (history_arrivals h copies)) ≡ flat_map row_text (listed_rows h copies) }
-    ensures numbers { (h : History) (copies : ℕ → ℕ) → IsValid h → AreGapsShort copies (length h.steps) →
+    ensures rows { (h : History) (copies : ℕ → ℕ) → IsValid h → AreGapsShort copies (length h.steps)
+        →
+        run_rows (run h.places (history_arrivals h copies))
+        ≡ flat_map row_text (listed_rows h copies) }
+    ensures numbers { (h : History) (copies : ℕ → ℕ) → IsValid h
+        → AreGapsShort copies (length h.steps) →
         restored_of (run h.places (history_arrivals h copies)) ≡ delivered_numbers h copies }
-    ensures report { (h : History) (copies : ℕ → ℕ) → IsValid h → AreGapsShort copies (length h.steps) →
+    ensures report { (h : History) (copies : ℕ → ℕ) → IsValid h
+        → AreGapsShort copies (length h.steps) →
         run_report (run h.places (history_arrivals h copies)) ≡ report_text h copies }
 {}
 
 /// The rows tell of each listed packet once, rising, and by its own cause. Lost packets alone share a row, and all that
 /// are neighbours do.
 pub fn rows_tell_of_listed_packets()
-    ensures numbers { (h : History) (copies : ℕ → ℕ) → flat_map row_numbers (listed_rows h copies) ≡ listed_numbers h copies }
-    ensures causes { (h : History) (copies : ℕ → ℕ) → All (TellsOf h copies) (listed_rows h copies) }
-    ensures together { (h : History) (copies : ℕ → ℕ) (before after : List ListedRow) (row next : ListedRow) →
-        before ++ row ∷ next ∷ after ≡ listed_rows h copies → row.cause ≡ Lost → next.cause ≡ Lost → next.first ≡ row.last + 1 → ⊥ }
+    ensures numbers { (h : History) (copies : ℕ → ℕ)
+        → flat_map row_numbers (listed_rows h copies) ≡ listed_numbers h copies }
+    ensures causes { (h : History) (copies : ℕ → ℕ)
+        → All (TellsOf h copies) (listed_rows h copies) }
+    ensures together { (h : History) (copies : ℕ → ℕ) (before after : List ListedRow)
+        (row next : ListedRow) →
+        before ++ row ∷ next ∷ after ≡ listed_rows h copies → row.cause ≡ Lost → next.cause ≡ Lost
+        → next.first ≡ row.last + 1 → ⊥ }
 {}
 
 /// What the played store of a valid history owes, where it is whole: the inputs of the packets that are written, and the
 /// report of all others up to the last arrival.
 pub fn played_histories_are_restored()
-    ensures outputs { (h : History) (copies : ℕ → ℕ) (apid : ℕ) → IsValid h → apid ≤ 2046 → AreGapsShort copies (length h.steps)
+    ensures outputs { (h : History) (copies : ℕ → ℕ) (apid : ℕ) → IsValid h → apid ≤ 2046
+        → AreGapsShort copies (length h.steps)
         → (walk (Some apid) (played_bytes copies apid (store_of h apid))).ending ≡ None
         → owed (restore_course h.places apid (played_bytes copies apid (store_of h apid)))
         ≡ record { output = restored_bytes h copies; report = report_text h copies } }
-    ensures numbers { (h : History) (copies : ℕ → ℕ) (apid : ℕ) → IsValid h → apid ≤ 2046 → AreGapsShort copies (length h.steps)
+    ensures numbers { (h : History) (copies : ℕ → ℕ) (apid : ℕ) → IsValid h → apid ≤ 2046
+        → AreGapsShort copies (length h.steps)
         → (walk (Some apid) (played_bytes copies apid (store_of h apid))).ending ≡ None
-        → restored_of (store_run h.places apid (played_bytes copies apid (store_of h apid))) ≡ delivered_numbers h copies }
+        → restored_of (store_run h.places apid (played_bytes copies apid (store_of h apid)))
+        ≡ delivered_numbers h copies }
 {}
 
 /// What is restored of a worked history of four packets, of which some are lost.
 pub fn worked_deliveries()
     // The third is lost, and the level of the fourth reaches over it.
     ensures restored { restored_bytes four_packets (lost_between 2 2) ≡ 0xB0 ∷ 0xB1 ∷ 0xB3 ∷ [] }
-    ensures lost { report_text four_packets (lost_between 2 2) ≡ header_row ++ codes "2,2,lost,0\nend,3,3,0\n" }
+    ensures lost { report_text four_packets (lost_between 2 2)
+        ≡ header_row ++ codes "2,2,lost,0\nend,3,3,0\n" }
     // The second is lost too: the level of the fourth doesn't reach over both.
     ensures first { restored_bytes four_packets (lost_between 1 2) ≡ 0xB0 ∷ [] }
-    ensures gap { report_text four_packets (lost_between 1 2) ≡ header_row ++ codes "1,2,lost,0\n3,3,gap,1\nend,2,1,0\n" }
+    ensures gap { report_text four_packets (lost_between 1 2)
+        ≡ header_row ++ codes "1,2,lost,0\n3,3,gap,1\nend,2,1,0\n" }
     // The first two are lost, and nothing is known when the third arrives.
     ensures none { restored_bytes four_packets (lost_between 0 1) ≡ [] }
-    ensures unsynced { report_text four_packets (lost_between 0 1) ≡ header_row ++ codes "0,1,lost,0\n2,2,unsynced,0\n3,3,unsynced,0\nend,2,0,0\n" }
+    ensures unsynced { report_text four_packets (lost_between 0 1)
+        ≡ header_row ++ codes "0,1,lost,0\n2,2,unsynced,0\n3,3,unsynced,0\nend,2,0,0\n" }
 {}

@@ -21,32 +21,41 @@ use bit_vectors::BitFault;
 /// The first arrival has its count as its number. Any later one is a repeat exactly where it has the
 /// count of the latest number, and has otherwise the least greater number with its count.
 pub fn numbers_are_the_next_ones()
-    ensures first { (count : ℕ) → count < period → (number_after None count ≡ Some count) × HasCount count count }
-    ensures repeat { (n count : ℕ) → count < period → (number_after (Some n) count ≡ None) ↔ HasCount n count }
-    ensures above { (n count t : ℕ) → count < period → number_after (Some n) count ≡ Some t → (n < t) × (t < n + period) }
-    ensures count { (n count t : ℕ) → count < period → number_after (Some n) count ≡ Some t → HasCount t count }
-    ensures least { (n count t other : ℕ) → count < period → number_after (Some n) count ≡ Some t → n < other
+    ensures first { (count : ℕ) → count < period
+        → (number_after None count ≡ Some count) × HasCount count count }
+    ensures repeat { (n count : ℕ) → count < period
+        → (number_after (Some n) count ≡ None) ↔ HasCount n count }
+    ensures above { (n count t : ℕ) → count < period → number_after (Some n) count ≡ Some t
+        → (n < t) × (t < n + period) }
+    ensures count { (n count t : ℕ) → count < period → number_after (Some n) count ≡ Some t
+        → HasCount t count }
+    ensures least { (n count t other : ℕ) → count < period → number_after (Some n) count ≡ Some t
+        → n < other
         → HasCount other count → t ≤ other }
 {}
 
 /// A run over one arrival more is the run and one verdict more.
 pub fn runs_grow()
     ensures verdicts { (f : ℕ) (arrivals : List Arrival) (arrival : Arrival) →
-        run f (arrivals ++ arrival ∷ []) ≡ run f arrivals ++ judge f (known_after f arrivals) arrival ∷ [] }
+        run f (arrivals ++ arrival ∷ [])
+        ≡ run f arrivals ++ judge f (known_after f arrivals) arrival ∷ [] }
     ensures known { (f : ℕ) (arrivals : List Arrival) (arrival : Arrival) →
-        known_after f (arrivals ++ arrival ∷ []) ≡ (judge f (known_after f arrivals) arrival).after }
+        known_after f (arrivals ++ arrival ∷ [])
+        ≡ (judge f (known_after f arrivals) arrival).after }
 {}
 
 /// The run is exact, and no other run over these arrivals is.
 pub fn one_exact_run()
     ensures exact { (f : ℕ) (arrivals : List Arrival) → IsExactRun f arrivals (run f arrivals) }
-    ensures only { (f : ℕ) (arrivals : List Arrival) (judged : List Judged) → IsExactRun f arrivals judged → judged ≡ run f arrivals }
+    ensures only { (f : ℕ) (arrivals : List Arrival) (judged : List Judged)
+        → IsExactRun f arrivals judged → judged ≡ run f arrivals }
 {}
 
 /// All sound runs over one list of arrivals are the same but for the faults of refused packets: they have the same
 /// numbers, lost ranges, written packets and states.
 pub fn sound_runs_agree()
-    ensures { (f : ℕ) (arrivals : List Arrival) (judged : List Judged) → IsSoundRun f arrivals judged →
+    ensures { (f : ℕ) (arrivals : List Arrival) (judged : List Judged)
+        → IsSoundRun f arrivals judged →
         map but_for_faults judged ≡ map but_for_faults (run f arrivals) }
 {}
 
@@ -59,7 +68,8 @@ pub fn every_number_once()
 
 /// The numbers of a run rise: an arrival that is no repeat has a greater number than all arrivals before it.
 pub fn numbers_rise()
-    ensures { (f : ℕ) (arrivals : List Arrival) (arrival : Arrival) → AreArrivals (arrivals ++ arrival ∷ []) →
+    ensures { (f : ℕ) (arrivals : List Arrival) (arrival : Arrival)
+        → AreArrivals (arrivals ++ arrival ∷ []) →
         let next = (judge f (known_after f arrivals) arrival).verdict in
         is_repeat next.kind ≡ false → All (λ earlier. earlier.verdict.t < next.t) (run f arrivals) }
 {}
@@ -78,8 +88,10 @@ pub fn repeats_change_nothing()
 /// The numbers of a run: its arrivals are all that arrived, and the written packets and those that are not written
 /// are together as many as there are numbers up to the last arrival.
 pub fn numbers_count_the_run()
-    ensures packets { (f : ℕ) (arrivals : List Arrival) → (restored_of (run f arrivals)).packets ≡ length arrivals }
-    ensures listed { (f : ℕ) (arrivals : List Arrival) → AreArrivals arrivals → let restored = restored_of (run f arrivals) in
+    ensures packets { (f : ℕ) (arrivals : List Arrival)
+        → (restored_of (run f arrivals)).packets ≡ length arrivals }
+    ensures listed { (f : ℕ) (arrivals : List Arrival) → AreArrivals arrivals
+        → let restored = restored_of (run f arrivals) in
         restored.written + restored.listed ≡ expected (known_after f arrivals).latest }
 {}
 
@@ -88,7 +100,11 @@ pub fn numbers_count_the_run()
 pub fn whole_stores_owe_their_run()
     ensures restored { (f apid : ℕ) (store : List ℕ) → (walk (Some apid) store).ending ≡ None →
         owed (restore_course f apid store)
-        ≡ record { output = run_bytes (store_run f apid store); report = run_report (store_run f apid store) } }
+        ≡ record {
+          output = run_bytes (store_run f apid store);
+          report = run_report
+              (store_run f apid store);
+        } }
     ensures listed { (f apid : ℕ) (store : List ℕ) → (walk (Some apid) store).ending ≡ None →
         owed (listing_course f apid store) ≡ to_output (run_listing (store_run f apid store)) }
 {}
@@ -96,7 +112,8 @@ pub fn whole_stores_owe_their_run()
 /// What a front of a store owes before its end is a front of what the store owes before its end.
 pub fn fronts_owe_fronts()
     ensures restored { (f apid : ℕ) (front rest : List ℕ) → All (λ b. b < 256) front →
-        AreFronts (restore_course f apid front).before (restore_course f apid (front ++ rest)).before }
+        AreFronts (restore_course f apid front).before
+        (restore_course f apid (front ++ rest)).before }
     ensures listed { (f apid : ℕ) (front rest : List ℕ) → All (λ b. b < 256) front →
         AreFronts (listing_course f apid front).before
         (listing_course f apid (front ++ rest)).before }
@@ -118,15 +135,27 @@ pub fn report_and_listing_agree()
 /// Worked runs with vectors of 8 places: the verdicts of arrivals, each with its count and its data.
 pub fn worked_runs()
     // Packets 1, 2 and 3 are sent, and 2 did not arrive. Level 2 reaches over it.
-    ensures lost { map (λ j. j.verdict) (run 8 (arrival 0 (0x85 ∷ 0xB8 ∷ 0xD6 ∷ 0x00 ∷ []) ∷ arrival 2 (0x82 ∷ []) ∷ arrival 3 (0x8A ∷ []) ∷ []))
-        ≡ written_verdict 0 ∷ record { lost = Some (record { first = 1; last = 1 }); t = 2; kind = Kind.Gap 0 } ∷ written_verdict 3 ∷ [] }
+    ensures lost { map (λ j. j.verdict)
+        (run 8 (arrival 0 (0x85 ∷ 0xB8 ∷ 0xD6 ∷ 0x00 ∷ []) ∷ arrival 2 (0x82 ∷ [])
+        ∷ arrival 3 (0x8A ∷ []) ∷ []))
+        ≡ written_verdict 0 ∷ record {
+          lost = Some
+              (record { first = 1; last = 1 });
+          t = 2;
+          kind = Kind.Gap 0;
+        } ∷ written_verdict 3 ∷ [] }
     // A packet that comes twice.
-    ensures repeat { map (λ j. j.verdict) (run 8 (arrival 0 (0x85 ∷ 0xB8 ∷ 0xD6 ∷ 0x00 ∷ []) ∷ arrival 0 (0x85 ∷ 0xB8 ∷ 0xD6 ∷ 0x00 ∷ []) ∷ []))
+    ensures repeat { map (λ j. j.verdict)
+        (run 8 (arrival 0 (0x85 ∷ 0xB8 ∷ 0xD6 ∷ 0x00 ∷ [])
+        ∷ arrival 0 (0x85 ∷ 0xB8 ∷ 0xD6 ∷ 0x00 ∷ []) ∷ []))
         ≡ written_verdict 0 ∷ record { lost = None; t = 0; kind = Kind.Repeat } ∷ [] }
     // The first arrival comes late, and nothing is known.
     ensures unsynced { map (λ j. j.verdict) (run 8 (arrival 5 (0x82 ∷ []) ∷ []))
-        ≡ record { lost = Some (record { first = 0; last = 4 }); t = 5; kind = Kind.Unsynced } ∷ [] }
+        ≡ record { lost = Some (record { first = 0; last = 4 }); t = 5; kind = Kind.Unsynced }
+        ∷ [] }
     // Directions without a place.
-    ensures wrong { map (λ j. j.verdict) (run 8 (arrival 0 (0x85 ∷ 0xB8 ∷ 0xD6 ∷ 0x00 ∷ []) ∷ arrival 1 (0x43 ∷ 0x00 ∷ []) ∷ []))
-        ≡ written_verdict 0 ∷ record { lost = None; t = 1; kind = Kind.Refused (BitFault.Wrong 8) } ∷ [] }
+    ensures wrong { map (λ j. j.verdict)
+        (run 8 (arrival 0 (0x85 ∷ 0xB8 ∷ 0xD6 ∷ 0x00 ∷ []) ∷ arrival 1 (0x43 ∷ 0x00 ∷ []) ∷ []))
+        ≡ written_verdict 0 ∷ record { lost = None; t = 1; kind = Kind.Refused (BitFault.Wrong 8) }
+        ∷ [] }
 {}

@@ -61,7 +61,8 @@ impl Lister {
             (D.meaning desk.old) (D.meaning desk.new) (by_stop stop_by result) }
         ensures cause { HasCause (D.counts desk.old) (D.counts desk.new) (by_stop stop_by result) }
         // Where the desk tells the store, the numbers are those of the run over it.
-        ensures numbers { IfSome (left (D.meaning desk.old) Inlet.Main) (λ store. IfOk result (λ restored.
+        ensures numbers { IfSome (left (D.meaning desk.old) Inlet.Main)
+            (λ store. IfOk result (λ restored.
             restored ≡ restored_of (store_run self.places self.apid store))) }
         // Over a desk that doesn't fail the run of the played store of a valid history is done, with gaps that are shorter than
         // the period of the sequence counts, if it has no more packets than a store may have.

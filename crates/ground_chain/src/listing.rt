@@ -74,7 +74,8 @@ impl Listing {
         ensures room { HasVectorRoom self.new decoder.now.places }
         ensures added { OnOk result (Adds (D.meaning desk.old) (D.meaning desk.new) Outlet.Main
             (latest_vectors decoder.now)) }
-        ensures front { OnErr result (AddsFront (D.meaning desk.old) (D.meaning desk.new) Outlet.Main
+        ensures front { OnErr result
+            (AddsFront (D.meaning desk.old) (D.meaning desk.new) Outlet.Main
             (latest_vectors decoder.now)) }
         ensures cause { HasWriteCause (D.counts desk.old) (D.counts desk.new) result }
     {
@@ -95,7 +96,8 @@ impl Listing {
         ensures room { HasVectorRoom self.new (length vector.now) }
         ensures added { OnOk result (Adds (D.meaning desk.old) (D.meaning desk.new) Outlet.Main
             (vector_digits vector.now ++ behind.now)) }
-        ensures front { OnErr result (AddsFront (D.meaning desk.old) (D.meaning desk.new) Outlet.Main
+        ensures front { OnErr result
+            (AddsFront (D.meaning desk.old) (D.meaning desk.new) Outlet.Main
             (vector_digits vector.now ++ behind.now)) }
         ensures cause { HasWriteCause (D.counts desk.old) (D.counts desk.new) result }
     {

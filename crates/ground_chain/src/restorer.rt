@@ -57,19 +57,25 @@ impl Restorer {
         requires output { IsReadyOut (D.meaning desk.old) Outlet.Main }
         requires report { IsReadyOut (D.meaning desk.old) Outlet.Report }
         // What stands after each answer is what the store owes, all of it or up to where its walk or the desk ends it.
-        ensures ran { AfterRun (restore_course self.places self.apid) (D.meaning desk.old) (D.meaning desk.new) (by_stop stop_by result) }
+        ensures ran { AfterRun (restore_course self.places self.apid) (D.meaning desk.old)
+            (D.meaning desk.new) (by_stop stop_by result) }
         ensures cause { HasCause (D.counts desk.old) (D.counts desk.new) (by_stop stop_by result) }
         // Where the desk tells the store, the numbers are those of the run over it.
         ensures numbers { IfSome (left (D.meaning desk.old) Inlet.Main) (λ store.
-            IfOk result (λ restored. restored ≡ restored_of (store_run self.places self.apid store))) }
+            IfOk result (λ restored. restored
+            ≡ restored_of (store_run self.places self.apid store))) }
         // Whatever was lost or repeated, with gaps that are shorter than the period of the sequence counts: each packet up to
         // the last arrival is written exactly as it was, or listed.
-        ensures headline { (h : History) (copies : ℕ → ℕ) → IsPlayed self.places self.apid h copies (D.meaning desk.old)
-            → IfOk result (λ restored. IsDelivered h copies restored (D.meaning desk.old) (D.meaning desk.new)) }
+        ensures headline { (h : History) (copies : ℕ → ℕ)
+            → IsPlayed self.places self.apid h copies (D.meaning desk.old)
+            → IfOk result (λ restored. IsDelivered h copies restored (D.meaning desk.old)
+            (D.meaning desk.new)) }
         // Over a desk that doesn't fail the run of such a store is done, if it has no more packets than a store may have.
-        ensures complete { (h : History) (copies : ℕ → ℕ) → IsPlayed self.places self.apid h copies (D.meaning desk.old)
+        ensures complete { (h : History) (copies : ℕ → ℕ)
+            → IsPlayed self.places self.apid h copies (D.meaning desk.old)
             → length (arrivals copies (length h.steps)) ≤ 2 ^ 32
-            → ¬ Rose (D.counts desk.old).reads (D.counts desk.new).reads → ¬ Rose (D.counts desk.old).writes (D.counts desk.new).writes
+            → ¬ Rose (D.counts desk.old).reads (D.counts desk.new).reads
+            → ¬ Rose (D.counts desk.old).writes (D.counts desk.new).writes
             → IsOk result }
     {
         let mut receiving = self.receiving;

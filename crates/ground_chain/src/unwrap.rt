@@ -36,7 +36,8 @@ impl Unwrap {
         requires room { IfSome self.old (λ latest. latest < 2 ^ 61) }
         ensures number { result ≡ number_after self.old count }
         ensures latest { self.new ≡ latest_after self.old result }
-        ensures near { IfSome result (λ t. (expected self.old ≤ t) × (t < expected self.old + PERIOD)) }
+        ensures near { IfSome result
+            (λ t. (expected self.old ≤ t) × (t < expected self.old + PERIOD)) }
     {
         let count = u64::from(count);
         let number = match self.latest {

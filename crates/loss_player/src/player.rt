@@ -50,7 +50,8 @@ impl Player {
         requires output { IsReadyOut (D.meaning desk.old) Outlet.Main }
         requires report { IsReadyOut (D.meaning desk.old) Outlet.Report }
         // What stands after each answer is what the store owes, all of it or up to where its walk or the desk ends it.
-        ensures ran { AfterRun (play_course (copies_of self.rows) self.apid) (D.meaning desk.old) (D.meaning desk.new) (by_stop stop_by result) }
+        ensures ran { AfterRun (play_course (copies_of self.rows) self.apid) (D.meaning desk.old)
+            (D.meaning desk.new) (by_stop stop_by result) }
         ensures cause { HasCause (D.counts desk.old) (D.counts desk.new) (by_stop stop_by result) }
         // Where the desk tells the store, the numbers are those of its packets and their copies.
         ensures numbers { IfSome (left (D.meaning desk.old) Inlet.Main) (λ store.

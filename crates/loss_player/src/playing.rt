@@ -75,7 +75,8 @@ impl Playing {
         ensures counted { IsCounted self.new }
         ensures added { OnOk result (Adds (D.meaning desk.old) (D.meaning desk.new) Outlet.Main
             (next_copies self.old chosen self.old.reader.packet)) }
-        ensures front { OnErr result (AddsFront (D.meaning desk.old) (D.meaning desk.new) Outlet.Main
+        ensures front { OnErr result
+            (AddsFront (D.meaning desk.old) (D.meaning desk.new) Outlet.Main
             (next_copies self.old chosen self.old.reader.packet)) }
         ensures cause { HasWriteCause (D.counts desk.old) (D.counts desk.new) result }
     {
@@ -103,7 +104,8 @@ fn write_copies<D: Desk>(desk: &mut D, packet: &[u8], times: u8) -> Result<(), F
     ensures added { OnOk result
         (Adds (D.meaning desk.old) (D.meaning desk.new) Outlet.Main (repeated times packet.now)) }
     ensures front { OnErr result
-        (AddsFront (D.meaning desk.old) (D.meaning desk.new) Outlet.Main (repeated times packet.now)) }
+        (AddsFront (D.meaning desk.old) (D.meaning desk.new) Outlet.Main
+        (repeated times packet.now)) }
     ensures cause { HasWriteCause (D.counts desk.old) (D.counts desk.new) result }
 {
     for _ in 0..times {

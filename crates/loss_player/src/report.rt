@@ -13,8 +13,11 @@ const HEADER: &str = "packets,delivered,dropped,repeats,first,widest\n";
 /// Writes the report of a played store.
 pub fn write_report<D: Desk>(desk: &mut D, played: &Played) -> Result<(), Failed>
     requires { IsReadyOut (D.meaning desk.old) Outlet.Report }
-    ensures added { OnOk result (Adds (D.meaning desk.old) (D.meaning desk.new) Outlet.Report (play_report played.now)) }
-    ensures front { OnErr result (AddsFront (D.meaning desk.old) (D.meaning desk.new) Outlet.Report (play_report played.now)) }
+    ensures added { OnOk result
+        (Adds (D.meaning desk.old) (D.meaning desk.new) Outlet.Report (play_report played.now)) }
+    ensures front { OnErr result
+        (AddsFront (D.meaning desk.old) (D.meaning desk.new) Outlet.Report
+        (play_report played.now)) }
     ensures cause { HasWriteCause (D.counts desk.old) (D.counts desk.new) result }
 {
     write_all(desk, Outlet::Report, HEADER.as_bytes())?;

@@ -39,7 +39,8 @@ pub fn places_of_masks()
         IsOne (build_at h t) place ↔ MovedBetween h (latest_new_mask h t) t place }
     ensures change { (h : History) (t place : ℕ) → place < h.places →
         IsOne (change_at h (t + 1)) place
-        ↔ (slice_index_or (mask_at h t) place false ≢ slice_index_or (mask_at h (t + 1)) place false) }
+        ↔ (slice_index_or (mask_at h t) place false ≢ slice_index_or
+        (mask_at h (t + 1)) place false) }
 {}
 
 /// Which steps the latest and the second latest new-mask steps are.
@@ -62,27 +63,34 @@ pub fn new_mask_steps()
 /// The history of inputs takes the given flags above the required robustness and the forced ones up to it, and is
 /// valid.
 pub fn histories_of_inputs()
-    ensures steps { (inputs : List (List Bool)) (flags : ℕ → Flags) (robust : ℕ → ℕ) (f : ℕ) (first_mask : List Bool) →
+    ensures steps { (inputs : List (List Bool)) (flags : ℕ → Flags) (robust : ℕ → ℕ) (f : ℕ)
+        (first_mask : List Bool) →
         length (history_of inputs flags robust f first_mask).steps ≡ length inputs }
-    ensures input { (inputs : List (List Bool)) (flags : ℕ → Flags) (robust : ℕ → ℕ) (f : ℕ) (first_mask : List Bool)
+    ensures input { (inputs : List (List Bool)) (flags : ℕ → Flags) (robust : ℕ → ℕ) (f : ℕ)
+        (first_mask : List Bool)
         (t : ℕ) → t < length inputs →
         input_at (history_of inputs flags robust f first_mask) t ≡ slice_index_or inputs t [] }
-    ensures robust { (inputs : List (List Bool)) (flags : ℕ → Flags) (robust : ℕ → ℕ) (f : ℕ) (first_mask : List Bool)
+    ensures robust { (inputs : List (List Bool)) (flags : ℕ → Flags) (robust : ℕ → ℕ) (f : ℕ)
+        (first_mask : List Bool)
         (t : ℕ) → t < length inputs →
         robust_at (history_of inputs flags robust f first_mask) t ≡ robust t }
-    ensures flags { (inputs : List (List Bool)) (flags : ℕ → Flags) (robust : ℕ → ℕ) (f : ℕ) (first_mask : List Bool)
+    ensures flags { (inputs : List (List Bool)) (flags : ℕ → Flags) (robust : ℕ → ℕ) (f : ℕ)
+        (first_mask : List Bool)
         (t : ℕ) → t < length inputs → robust t < t →
         flags_at (history_of inputs flags robust f first_mask) t ≡ flags t }
-    ensures forced { (inputs : List (List Bool)) (flags : ℕ → Flags) (robust : ℕ → ℕ) (f : ℕ) (first_mask : List Bool)
+    ensures forced { (inputs : List (List Bool)) (flags : ℕ → Flags) (robust : ℕ → ℕ) (f : ℕ)
+        (first_mask : List Bool)
         (t : ℕ) → t < length inputs → t ≤ robust t →
         flags_at (history_of inputs flags robust f first_mask) t ≡ forced_flags }
-    ensures valid { (inputs : List (List Bool)) (flags : ℕ → Flags) (robust : ℕ → ℕ) (f : ℕ) (first_mask : List Bool) →
+    ensures valid { (inputs : List (List Bool)) (flags : ℕ → Flags) (robust : ℕ → ℕ) (f : ℕ)
+        (first_mask : List Bool) →
         IsVector first_mask → length first_mask ≡ f → length inputs ≤ 4294967296 →
         All (λ input. length input ≡ f) inputs → ((t : ℕ) → robust t ≤ 7) →
         IsValid (history_of inputs flags robust f first_mask) }
     ensures one_more { (inputs : List (List Bool)) (flags : ℕ → Flags) (robust : ℕ → ℕ) (f : ℕ)
         (first_mask input : List Bool) → history_of (inputs ++ input ∷ []) flags robust f first_mask
-        ≡ with_step (history_of inputs flags robust f first_mask) (step_of flags robust (length inputs, input)) }
+        ≡ with_step (history_of inputs flags robust f first_mask)
+        (step_of flags robust (length inputs, input)) }
 {}
 
 /// The masks of a worked history: a place that moved at step 1 leaves the mask at the second new mask.

@@ -66,9 +66,11 @@ impl Masks {
         requires first { self.old.taken ≡ 0 → new_mask ≡ false }
         // Whatever history it stood for, it now stands for that history with this input and this flag.
         ensures stands { (h : History) (step : Step) → StandsFor h self.old
-            → step.input ≡ input.now → step.flags.p ≡ new_mask → StandsFor (with_step h step) self.new }
+            → step.input ≡ input.now → step.flags.p ≡ new_mask
+            → StandsFor (with_step h step) self.new }
         // The first input changes nothing.
-        ensures first { self.old.taken ≡ 0 → self.new.change ≡ replicate (length self.new.mask) false }
+        ensures first { self.old.taken ≡ 0
+            → self.new.change ≡ replicate (length self.new.mask) false }
         ensures places { length self.new.mask ≡ length self.old.mask }
         ensures taken { self.new.taken ≡ self.old.taken + 1 }
     {
@@ -110,7 +112,8 @@ impl Masks {
 
     /// The mask vector: the places that are not predictable. Before the first input it is the first mask.
     pub fn mask(&self) -> &Bits
-        ensures mask { (h : History) → StandsFor h self.now → result.now ≡ mask_at h (latest_step h) }
+        ensures mask { (h : History) → StandsFor h self.now
+            → result.now ≡ mask_at h (latest_step h) }
         ensures kept { result.now ≡ self.now.mask }
         ensures vector { IsVector result.now }
     {
@@ -119,7 +122,8 @@ impl Masks {
 
     /// The build vector, which is zero before the first input.
     pub fn build(&self) -> &Bits
-        ensures build { (h : History) → StandsFor h self.now → result.now ≡ build_at h (latest_step h) }
+        ensures build { (h : History) → StandsFor h self.now
+            → result.now ≡ build_at h (latest_step h) }
         ensures kept { result.now ≡ self.now.build }
         ensures places { length result.now ≡ length self.now.mask }
     {
@@ -128,7 +132,8 @@ impl Masks {
 
     /// The change of the mask at the latest input, which is zero up to the first.
     pub fn change(&self) -> &Bits
-        ensures change { (h : History) → StandsFor h self.now → result.now ≡ change_at h (latest_step h) }
+        ensures change { (h : History) → StandsFor h self.now
+            → result.now ≡ change_at h (latest_step h) }
         ensures kept { result.now ≡ self.now.change }
         ensures places { length result.now ≡ length self.now.mask }
     {

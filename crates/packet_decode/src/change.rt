@@ -47,7 +47,8 @@ impl FirstPart {
     pub fn zeros(alloc: Global, f: u32) -> Result<FirstPart, NoMemory>
         requires some { 1 ≤ f }
         requires most { f ≤ 49152 }
-        ensures { IfOk result (λ part. part ≡ record { recent = replicate f false; level = 0; directions = None }) }
+        ensures { IfOk result
+            (λ part. part ≡ record { recent = replicate f false; level = 0; directions = None }) }
     {
         let recent = Bits::zeros(alloc, f)?;
         let predictable = Bits::zeros(alloc, f)?;
@@ -65,7 +66,8 @@ impl FirstPart {
     pub fn take(&mut self, eye: &mut BitEye) -> Result<(), BitFault>
         ensures places { length self.new.recent ≡ length self.old.recent }
         ensures moves { MovesOn eye.old eye.new }
-        ensures reading { Gives (λ _. self.new) result eye.new (parse_change (length self.old.recent) (bits_left eye.old)) }
+        ensures reading { Gives (λ _. self.new) result eye.new
+            (parse_change (length self.old.recent) (bits_left eye.old)) }
     {
         self.quiet = false;
         take_runs(eye, &mut self.recent)?;
@@ -126,7 +128,8 @@ impl FirstPart {
 
     /// Whether all recent changes are extracted. Else only the places of the mask are.
     pub fn is_wide(&self) -> bool
-        ensures { OnFalse result ((mask : List Bool) → wide_by self.now.directions self.now.recent mask ≡ mask) }
+        ensures { OnFalse result
+            ((mask : List Bool) → wide_by self.now.directions self.now.recent mask ≡ mask) }
     {
         self.twice == Some(true)
     }

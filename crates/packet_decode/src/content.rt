@@ -24,8 +24,10 @@ pub fn take_content(
     requires { IsReady change.now None (lent known) draft.old }
     ensures draft { IsDraft (length draft.old.content) draft.new }
     ensures moves { MovesOn eye.old eye.new }
-    ensures reading { Tells (λ kind. outcome_of kind draft.new.mask draft.new.content) result eye.new
-        (parse_content (length draft.old.content) change.now draft.old.mask (lent known.entry) (bits_left eye.old)) }
+    ensures reading { Tells
+        (λ kind. outcome_of kind draft.new.mask draft.new.content) result eye.new
+        (parse_content (length draft.old.content) change.now draft.old.mask (lent known.entry)
+        (bits_left eye.old)) }
 {
     if eye.take_bit()? {
         take_whole(eye, change, known, draft)
@@ -45,7 +47,8 @@ pub fn take_part(
     requires { IsReady change.now None (lent known) draft.old }
     ensures draft { IsDraft (length draft.old.content) draft.new }
     ensures moves { MovesOn eye.old eye.new }
-    ensures reading { Tells (λ kind. outcome_of kind draft.new.mask draft.new.content) result eye.new
+    ensures reading { Tells
+        (λ kind. outcome_of kind draft.new.mask draft.new.content) result eye.new
         (parse_part_with change.now draft.old.mask (lent known.entry) (bits_left eye.old)) }
 {
     let Some(known) = known else {
@@ -73,8 +76,10 @@ pub fn take_whole(
     requires { IsReady change.now None (lent known) draft.old }
     ensures draft { IsDraft (length draft.old.content) draft.new }
     ensures moves { MovesOn eye.old eye.new }
-    ensures reading { Tells (λ kind. outcome_of kind draft.new.mask draft.new.content) result eye.new
-        (parse_whole_with (length draft.old.content) change.now draft.old.mask (lent known.entry) (bits_left eye.old)) }
+    ensures reading { Tells
+        (λ kind. outcome_of kind draft.new.mask draft.new.content) result eye.new
+        (parse_whole_with (length draft.old.content) change.now draft.old.mask (lent known.entry)
+        (bits_left eye.old)) }
 {
     match_count(eye, draft.content.len())?;
     let Some(known) = known else {
@@ -108,7 +113,8 @@ fn take_kept(
     ensures content_places { length content.new ≡ length content.old }
     ensures spare_places { length spare.new ≡ length spare.old }
     ensures moves { MovesOn eye.old eye.new }
-    ensures reading { Tells (λ _. content.new) result eye.new (parse_kept places.now known.now (bits_left eye.old)) }
+    ensures reading { Tells (λ _. content.new) result eye.new
+        (parse_kept places.now known.now (bits_left eye.old)) }
 {
     let start = eye.at();
     let left = eye.size() - start;

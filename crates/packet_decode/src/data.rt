@@ -25,8 +25,10 @@ pub fn take_data(
     requires { IsReady change.now (lent deduced) (lent known) draft.old }
     ensures draft { IsDraft (length draft.old.content) draft.new }
     ensures moves { MovesOn eye.old eye.new }
-    ensures reading { Tells (λ kind. outcome_of kind draft.new.mask draft.new.content) result eye.new
-        (parse_data (length draft.old.content) change.now (lent deduced.entry) (lent known.entry) (bits_left eye.old)) }
+    ensures reading { Tells
+        (λ kind. outcome_of kind draft.new.mask draft.new.content) result eye.new
+        (parse_data (length draft.old.content) change.now (lent deduced.entry) (lent known.entry)
+        (bits_left eye.old)) }
 {
     if eye.take_bit()? {
         take_unsent(eye, change, deduced, known, draft)
@@ -50,7 +52,8 @@ fn take_unsent(
     requires { IsReady change.now (lent deduced) (lent known) draft.old }
     ensures draft { IsDraft (length draft.old.content) draft.new }
     ensures moves { MovesOn eye.old eye.new }
-    ensures reading { Tells (λ kind. outcome_of kind draft.new.mask draft.new.content) result eye.new
+    ensures reading { Tells
+        (λ kind. outcome_of kind draft.new.mask draft.new.content) result eye.new
         (parse_unsent change.now (lent deduced.entry) (lent known.entry) (bits_left eye.old)) }
 {
     let Some(mask) = deduced else {
@@ -72,8 +75,10 @@ fn take_maskless(
     requires { IsReady change.now (lent deduced) (lent known) draft.old }
     ensures draft { IsDraft (length draft.old.content) draft.new }
     ensures moves { MovesOn eye.old eye.new }
-    ensures reading { Tells (λ kind. outcome_of kind draft.new.mask draft.new.content) result eye.new
-        (parse_maskless (length draft.old.content) change.now (lent deduced.entry) (lent known.entry) (bits_left eye.old)) }
+    ensures reading { Tells
+        (λ kind. outcome_of kind draft.new.mask draft.new.content) result eye.new
+        (parse_maskless (length draft.old.content) change.now (lent deduced.entry)
+        (lent known.entry) (bits_left eye.old)) }
 {
     let Some(mask) = deduced else {
         return Ok(DataKind::Opaque);

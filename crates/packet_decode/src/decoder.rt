@@ -58,7 +58,8 @@ impl Decoder {
     pub fn open(alloc: Global, f: u32) -> Result<Decoder, NoMemory>
         requires some { 1 ≤ f }
         requires most { f ≤ 49152 }
-        ensures { IfOk result (λ d. d ≡ record { places = f; state = None; recent = replicate f false; level = 0 }) }
+        ensures { IfOk result
+            (λ d. d ≡ record { places = f; state = None; recent = replicate f false; level = 0 }) }
     {
         let latest = Latest::none(alloc, f)?;
         let shown = FirstPart::zeros(alloc, f)?;
@@ -165,7 +166,8 @@ impl Decoder {
 
 /// The answer to an opaque front of this level.
 fn missed(last: Option<u64>, level: u8) -> Reading
-    ensures { (mask content : List Bool) → result ≡ outcome_answer (state_by last mask content) level Opaque }
+    ensures { (mask content : List Bool)
+        → result ≡ outcome_answer (state_by last mask content) level Opaque }
 {
     match last {
         None => Reading::Unsynced,

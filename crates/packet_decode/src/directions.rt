@@ -47,7 +47,8 @@ fn take_named(eye: &mut BitEye, recent: &Bits, predictable: &mut Bits) -> Result
     requires some { Contains recent.now true }
     ensures places { length predictable.new ≡ length predictable.old }
     ensures moves { MovesOn eye.old eye.new }
-    ensures reading { Gives (λ twice. record { predictable = predictable.new; twice = twice }) result eye.new
+    ensures reading { Gives
+        (λ twice. record { predictable = predictable.new; twice = twice }) result eye.new
         (parse_named recent.now (bits_left eye.old)) }
 {
     take_inverse_up(eye, recent, predictable)?;

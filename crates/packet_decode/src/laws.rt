@@ -26,7 +26,8 @@ pub fn reading_is_exact()
 
 /// No other answer is exact.
 pub fn one_exact_answer()
-    ensures { (f t : ℕ) (state : State) (bits : List Bool) (answer : Result Reading BitFault) → IsState f state →
+    ensures { (f t : ℕ) (state : State) (bits : List Bool) (answer : Result Reading BitFault)
+        → IsState f state →
         IsExactAnswer f state t bits answer → answer ≡ answer_of f state t bits }
 {}
 
@@ -39,28 +40,34 @@ pub fn exact_answers_are_sound()
 /// Sound answers differ in faults alone: where one of them says that bits are written, unsynced or after a gap, each
 /// other one says the same.
 pub fn sound_answers_agree()
-    ensures { (f t : ℕ) (state : State) (bits : List Bool) (reading : Reading) (answer : Result Reading BitFault) →
-        IsState f state → IsSoundAnswer f state t bits (Ok reading) → IsSoundAnswer f state t bits answer → answer ≡ Ok reading }
+    ensures { (f t : ℕ) (state : State) (bits : List Bool) (reading : Reading)
+        (answer : Result Reading BitFault) →
+        IsState f state → IsSoundAnswer f state t bits (Ok reading)
+        → IsSoundAnswer f state t bits answer → answer ≡ Ok reading }
 {}
 
 /// At most one of these holds: that the bits spell a packet, that they have an opaque front with nothing known, and
 /// that they have one, of one level, with something known.
 pub fn one_reading()
-    ensures { (f t : ℕ) (state : State) (bits : List Bool) (reading other : Reading) → IsState f state →
+    ensures { (f t : ℕ) (state : State) (bits : List Bool) (reading other : Reading)
+        → IsState f state →
         Says f state t bits reading → Says f state t bits other → reading ≡ other }
 {}
 
 /// The bits and the state determine the form, the mask and the content.
 pub fn one_packet()
-    ensures { (f t : ℕ) (state : State) (bits mask content other_mask other_content : List Bool) (form other : Form) →
+    ensures { (f t : ℕ) (state : State) (bits mask content other_mask other_content : List Bool)
+        (form other : Form) →
         IsState f state →
-        Spells f state t bits form mask content → Spells f state t bits other other_mask other_content →
+        Spells f state t bits form mask content
+        → Spells f state t bits other other_mask other_content →
         (form ≡ other) × (mask ≡ other_mask) × (content ≡ other_content) }
 {}
 
 /// Where bits spell a packet, the first bit after them is wrong, whatever it is and whatever follows.
 pub fn no_further_bit()
-    ensures { (f t : ℕ) (state : State) (bits more : List Bool) (bit : Bool) → IsState f state → SpellsPacket f state t bits →
+    ensures { (f t : ℕ) (state : State) (bits more : List Bool) (bit : Bool) → IsState f state
+        → SpellsPacket f state t bits →
         answer_of f state t (bits ++ bit ∷ more) ≡ Err (BitFault.Wrong (length bits)) }
 {}
 
@@ -88,16 +95,21 @@ pub fn law_of_the_window()
 /// effective robustness level reaches the latest one: the bits of the packet then spell it, with the mask and the input
 /// of the step. Every other packet has an opaque front.
 pub fn packets_of_histories_are_read()
-    ensures state { (h : History) (latest : Option ℕ) → IsValid h → IfSome latest (λ s. s < length h.steps) →
+    ensures state { (h : History) (latest : Option ℕ) → IsValid h
+        → IfSome latest (λ s. s < length h.steps) →
         IsState h.places (true_state h latest) }
-    ensures spelled { (h : History) (latest : Option ℕ) (t : ℕ) → IsValid h → IfSome latest (λ s. s < t) → t < length h.steps →
+    ensures spelled { (h : History) (latest : Option ℕ) (t : ℕ) → IsValid h
+        → IfSome latest (λ s. s < t) → t < length h.steps →
         IsUnderstood h latest t →
-        Spells h.places (true_state h latest) t (packet_at h t) (form_at h t) (mask_at h t) (input_at h t) }
-    ensures opaque { (h : History) (latest : Option ℕ) (t : ℕ) → IsValid h → IfSome latest (λ s. s < t) → t < length h.steps →
+        Spells h.places (true_state h latest) t (packet_at h t) (form_at h t) (mask_at h t)
+        (input_at h t) }
+    ensures opaque { (h : History) (latest : Option ℕ) (t : ℕ) → IsValid h
+        → IfSome latest (λ s. s < t) → t < length h.steps →
         (IsUnderstood h latest t → ⊥) →
         HasOpaqueFront h.places (true_state h latest) t (packet_at h t) (level_at h t) }
     // So it writes what it understands, and misses the others.
-    ensures written { (h : History) (latest : Option ℕ) (t : ℕ) → IsValid h → IfSome latest (λ s. s < t) → t < length h.steps →
+    ensures written { (h : History) (latest : Option ℕ) (t : ℕ) → IsValid h
+        → IfSome latest (λ s. s < t) → t < length h.steps →
         IsUnderstood h latest t →
         answer_of h.places (true_state h latest) t (packet_at h t) ≡ Ok Reading.Written }
     ensures unsynced { (h : History) (t : ℕ) → IsValid h → t < length h.steps →
@@ -105,37 +117,73 @@ pub fn packets_of_histories_are_read()
         answer_of h.places (true_state h None) t (packet_at h t) ≡ Ok Reading.Unsynced }
     ensures gap { (h : History) (latest t : ℕ) → IsValid h → latest < t → t < length h.steps →
         (IsUnderstood h (Some latest) t → ⊥) →
-        answer_of h.places (true_state h (Some latest)) t (packet_at h t) ≡ Ok (Reading.Gap (level_at h t)) }
+        answer_of h.places (true_state h (Some latest)) t (packet_at h t)
+        ≡ Ok (Reading.Gap (level_at h t)) }
 {}
 
 /// Worked packets of 8 places.
 pub fn worked_packets()
     // In reach of a packet with the mask 01, one bit of the content spells the rest too.
-    ensures follows { Spells 8 (Some (record { number = 1; mask = bits_of (0x01 ∷ []); content = bits_of (0xB1 ∷ []) })) 2 (bits_of (0x44 ∷ 0xC0 ∷ []))
-        (record { recent = bits_of (0x01 ∷ []); level = 2; directions = None; sent = None; content = Part (true ∷ []) })
+    ensures follows { Spells 8
+        (Some (record { number = 1; mask = bits_of (0x01 ∷ []); content = bits_of (0xB1 ∷ []) })) 2
+        (bits_of (0x44 ∷ 0xC0 ∷ []))
+        (record {
+          recent = bits_of
+              (0x01 ∷ []);
+          level = 2;
+          directions = None;
+          sent = None;
+          content = Part (true ∷ []);
+        })
         (bits_of (0x01 ∷ [])) (bits_of (0xB1 ∷ [])) }
     // With nothing known they can't be understood.
     ensures opaque { HasOpaqueFront 8 None 2 (bits_of (0x44 ∷ 0xC0 ∷ [])) 2 }
     ensures unsynced { answer_of 8 None 2 (bits_of (0x44 ∷ 0xC0 ∷ [])) ≡ Ok Reading.Unsynced }
     // Level 0, the mask 0F, the content A5.
-    ensures alone { answer_of 8 None 0 (bits_of (0x81 ∷ 0x61 ∷ 0x5C ∷ 0x6A ∷ 0x50 ∷ [])) ≡ Ok Reading.Written }
+    ensures alone { answer_of 8 None 0 (bits_of (0x81 ∷ 0x61 ∷ 0x5C ∷ 0x6A ∷ 0x50 ∷ []))
+        ≡ Ok Reading.Written }
     // The number of places is 9 and not 8.
-    ensures places { answer_of 8 None 0 (bits_of (0x85 ∷ 0xB8 ∷ 0xF6 ∷ 0x00 ∷ [])) ≡ Err (BitFault.Wrong 18) }
+    ensures places { answer_of 8 None 0 (bits_of (0x85 ∷ 0xB8 ∷ 0xF6 ∷ 0x00 ∷ []))
+        ≡ Err (BitFault.Wrong 18) }
     // Two packets before this one are missing, which level 0 doesn't reach over and level 2 does.
-    ensures gap { answer_of 8 (Some (record { number = 0; mask = bits_of (0x00 ∷ []); content = bits_of (0xB0 ∷ []) })) 3 (bits_of (0x82 ∷ [])) ≡ Ok (Reading.Gap 0) }
-    ensures no_gap { answer_of 8 (Some (record { number = 0; mask = bits_of (0x00 ∷ []); content = bits_of (0xB0 ∷ []) })) 3 (bits_of (0x8A ∷ [])) ≡ Ok Reading.Written }
+    ensures gap { answer_of 8
+        (Some (record { number = 0; mask = bits_of (0x00 ∷ []); content = bits_of (0xB0 ∷ []) })) 3
+        (bits_of (0x82 ∷ [])) ≡ Ok (Reading.Gap 0) }
+    ensures no_gap { answer_of 8
+        (Some (record { number = 0; mask = bits_of (0x00 ∷ []); content = bits_of (0xB0 ∷ []) })) 3
+        (bits_of (0x8A ∷ [])) ≡ Ok Reading.Written }
     // Place 7 became predictable, and is extracted again.
-    ensures predictable { answer_of 8 (Some (record { number = 4; mask = bits_of (0x01 ∷ []); content = bits_of (0x01 ∷ []) })) 5 (bits_of (0x47 ∷ 0xF0 ∷ [])) ≡ Ok Reading.Written }
+    ensures predictable { answer_of 8
+        (Some (record { number = 4; mask = bits_of (0x01 ∷ []); content = bits_of (0x01 ∷ []) })) 5
+        (bits_of (0x47 ∷ 0xF0 ∷ [])) ≡ Ok Reading.Written }
     // A one in its padding, a byte after it, the end before its directions, no byte.
-    ensures padding { answer_of 8 (Some (record { number = 4; mask = bits_of (0x01 ∷ []); content = bits_of (0x01 ∷ []) })) 5 (bits_of (0x47 ∷ 0xF8 ∷ [])) ≡ Err (BitFault.Wrong 12) }
-    ensures further { answer_of 8 (Some (record { number = 4; mask = bits_of (0x01 ∷ []); content = bits_of (0x01 ∷ []) })) 5 (bits_of (0x47 ∷ 0xF0 ∷ 0x00 ∷ [])) ≡ Err (BitFault.Wrong 16) }
-    ensures early { answer_of 8 (Some (record { number = 4; mask = bits_of (0x01 ∷ []); content = bits_of (0x01 ∷ []) })) 5 (bits_of (0x47 ∷ [])) ≡ Err (BitFault.EndsEarly 8) }
-    ensures empty { answer_of 8 (Some (record { number = 4; mask = bits_of (0x01 ∷ []); content = bits_of (0x01 ∷ []) })) 5 (bits_of []) ≡ Err (BitFault.EndsEarly 0) }
+    ensures padding { answer_of 8
+        (Some (record { number = 4; mask = bits_of (0x01 ∷ []); content = bits_of (0x01 ∷ []) })) 5
+        (bits_of (0x47 ∷ 0xF8 ∷ [])) ≡ Err (BitFault.Wrong 12) }
+    ensures further { answer_of 8
+        (Some (record { number = 4; mask = bits_of (0x01 ∷ []); content = bits_of (0x01 ∷ []) })) 5
+        (bits_of (0x47 ∷ 0xF0 ∷ 0x00 ∷ [])) ≡ Err (BitFault.Wrong 16) }
+    ensures early { answer_of 8
+        (Some (record { number = 4; mask = bits_of (0x01 ∷ []); content = bits_of (0x01 ∷ []) })) 5
+        (bits_of (0x47 ∷ [])) ≡ Err (BitFault.EndsEarly 8) }
+    ensures empty { answer_of 8
+        (Some (record { number = 4; mask = bits_of (0x01 ∷ []); content = bits_of (0x01 ∷ []) })) 5
+        (bits_of []) ≡ Err (BitFault.EndsEarly 0) }
     // Directions without a place, and neither a mask nor a content after the bit that promises one of them.
-    ensures no_direction { answer_of 8 (Some (record { number = 0; mask = bits_of (0x00 ∷ []); content = bits_of (0xB0 ∷ []) })) 1 (bits_of (0x43 ∷ 0x00 ∷ [])) ≡ Err (BitFault.Wrong 8) }
-    ensures neither { answer_of 8 (Some (record { number = 0; mask = bits_of (0x00 ∷ []); content = bits_of (0xB0 ∷ []) })) 1 (bits_of (0x84 ∷ 0x00 ∷ [])) ≡ Err (BitFault.Wrong 8) }
+    ensures no_direction { answer_of 8
+        (Some (record { number = 0; mask = bits_of (0x00 ∷ []); content = bits_of (0xB0 ∷ []) })) 1
+        (bits_of (0x43 ∷ 0x00 ∷ [])) ≡ Err (BitFault.Wrong 8) }
+    ensures neither { answer_of 8
+        (Some (record { number = 0; mask = bits_of (0x00 ∷ []); content = bits_of (0xB0 ∷ []) })) 1
+        (bits_of (0x84 ∷ 0x00 ∷ [])) ≡ Err (BitFault.Wrong 8) }
     // Mask and content are sent as they must be, the mask is another one, and the content differs at place 0.
-    ensures sent { answer_of 8 (Some (record { number = 0; mask = bits_of (0x00 ∷ []); content = bits_of (0xB0 ∷ []) })) 1 (bits_of (0x42 ∷ 0x4B ∷ 0x8D ∷ 0x62 ∷ [])) ≡ Ok Reading.Written }
-    ensures other_mask { answer_of 8 (Some (record { number = 0; mask = bits_of (0x00 ∷ []); content = bits_of (0xB0 ∷ []) })) 1 (bits_of (0x42 ∷ 0x5B ∷ 0x8D ∷ 0x62 ∷ [])) ≡ Err (BitFault.Wrong 11) }
-    ensures other_content { answer_of 8 (Some (record { number = 0; mask = bits_of (0x00 ∷ []); content = bits_of (0xB0 ∷ []) })) 1 (bits_of (0x42 ∷ 0x4B ∷ 0x8C ∷ 0x62 ∷ [])) ≡ Err (BitFault.Wrong 23) }
+    ensures sent { answer_of 8
+        (Some (record { number = 0; mask = bits_of (0x00 ∷ []); content = bits_of (0xB0 ∷ []) })) 1
+        (bits_of (0x42 ∷ 0x4B ∷ 0x8D ∷ 0x62 ∷ [])) ≡ Ok Reading.Written }
+    ensures other_mask { answer_of 8
+        (Some (record { number = 0; mask = bits_of (0x00 ∷ []); content = bits_of (0xB0 ∷ []) })) 1
+        (bits_of (0x42 ∷ 0x5B ∷ 0x8D ∷ 0x62 ∷ [])) ≡ Err (BitFault.Wrong 11) }
+    ensures other_content { answer_of 8
+        (Some (record { number = 0; mask = bits_of (0x00 ∷ []); content = bits_of (0xB0 ∷ []) })) 1
+        (bits_of (0x42 ∷ 0x4B ∷ 0x8C ∷ 0x62 ∷ [])) ≡ Err (BitFault.Wrong 23) }
 {}

@@ -23,7 +23,8 @@ pub fn take_mask(
     ensures spare_places { length spare.new ≡ length spare.old }
     ensures moves { MovesOn eye.old eye.new }
     ensures reading { Gives (λ _. mask.new) result eye.new
-        (parse_mask (length mask.old) (option_map (λ known. known.now) deduced.entry) (bits_left eye.old)) }
+        (parse_mask (length mask.old) (option_map (λ known. known.now) deduced.entry)
+        (bits_left eye.old)) }
 {
     match deduced {
         Some(known) => match_mask(eye, known, mask, spare),
@@ -60,7 +61,8 @@ fn read_mask(eye: &mut BitEye, mask: &mut Bits, spare: &mut Bits) -> Result<(), 
     ensures mask_places { length mask.new ≡ length mask.old }
     ensures spare_places { length spare.new ≡ length spare.old }
     ensures moves { MovesOn eye.old eye.new }
-    ensures reading { Gives (λ _. mask.new) result eye.new (parse_mask (length mask.old) None (bits_left eye.old)) }
+    ensures reading { Gives (λ _. mask.new) result eye.new
+        (parse_mask (length mask.old) None (bits_left eye.old)) }
 {
     take_runs(eye, spare)?;
     from_edges(spare, mask);

@@ -34,8 +34,14 @@ pub fn take_whole_packet(
     ensures deduced { length deduced.new ≡ length deduced.old }
     ensures draft { IsDraft (length draft.old.content) draft.new }
     ensures moves { MovesOn eye.old eye.new }
-    ensures reading { Tells (λ kind. record { change = next.new; outcome = outcome_of kind draft.new.mask draft.new.content })
-        result eye.new (parse_whole_packet (length draft.old.content) (kept_state latest.now) t (bits_left eye.old)) }
+    ensures reading { Tells
+        (λ kind. record {
+          change = next.new;
+          outcome = outcome_of kind draft.new.mask
+              draft.new.content;
+        })
+        result eye.new (parse_whole_packet (length draft.old.content) (kept_state latest.now) t
+        (bits_left eye.old)) }
 {
     let kind = take_parts(eye, t, latest, next, deduced, draft)?;
     take_padding(eye, kind)?;
@@ -62,8 +68,14 @@ fn take_parts(
     ensures deduced { length deduced.new ≡ length deduced.old }
     ensures draft { IsDraft (length draft.old.content) draft.new }
     ensures moves { MovesOn eye.old eye.new }
-    ensures reading { Tells (λ kind. record { change = next.new; outcome = outcome_of kind draft.new.mask draft.new.content })
-        result eye.new (parse_parts (length draft.old.content) (kept_state latest.now) t (bits_left eye.old)) }
+    ensures reading { Tells
+        (λ kind. record {
+          change = next.new;
+          outcome = outcome_of kind draft.new.mask
+              draft.new.content;
+        })
+        result eye.new (parse_parts (length draft.old.content) (kept_state latest.now) t
+        (bits_left eye.old)) }
 {
     next.take(eye)?;
     if !is_in_reach(latest.number, t, next.level()) {

@@ -16,7 +16,8 @@ pub fn take_padding(eye: &mut BitEye, kind: DataKind) -> Result<(), BitFault>
     ensures within { eye.old.place ≤ length eye.old.bits }
     ensures moves { MovesOn eye.old eye.new }
     ensures reading { (mask content : List Bool) →
-        Gives (λ _. tt) result eye.new (parse_padding (outcome_of kind mask content) eye.old.place (bits_left eye.old)) }
+        Gives (λ _. tt) result eye.new
+        (parse_padding (outcome_of kind mask content) eye.old.place (bits_left eye.old)) }
 {
     let place = eye.at();
     match kind {
@@ -30,7 +31,8 @@ pub fn take_padding(eye: &mut BitEye, kind: DataKind) -> Result<(), BitFault>
 pub fn take_end(eye: &mut BitEye, kind: DataKind) -> Result<(), BitFault>
     ensures moves { MovesOn eye.old eye.new }
     ensures reading { (mask content : List Bool) →
-        Gives (λ _. tt) result eye.new (parse_end (outcome_of kind mask content) (bits_left eye.old)) }
+        Gives (λ _. tt) result eye.new
+        (parse_end (outcome_of kind mask content) (bits_left eye.old)) }
 {
     if kind == DataKind::Spelled && eye.take().is_some() {
         return Err(BitFault::Wrong { bit: eye.at() - 1 });

@@ -61,7 +61,8 @@ fn put_directions(
     requires spare { length spare.old ≡ length mask.now }
     requires room { length pen.old.bits + (length mask.now + 2) ≤ pen.old.room }
     ensures bits { (level : ℕ) → 0 < level → pen.new.bits
-        ≡ pen.old.bits ++ direction_bits recent.now (directions_of mask.now recent.now level twice) }
+        ≡ pen.old.bits ++ direction_bits recent.now
+        (directions_of mask.now recent.now level twice) }
     ensures wide { (level : ℕ) → 0 < level →
         wide_by (directions_of mask.now recent.now level twice) recent.now mask.now
         ≡ (if result then or_bits mask.now recent.now else mask.now) }

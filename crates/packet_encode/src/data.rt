@@ -28,7 +28,8 @@ pub(crate) fn put_data(
     requires spare { length spare.old ≡ length input.now }
     requires room { length pen.old.bits + (5 * length input.now + 34) ≤ pen.old.room }
     ensures bits { let places = if wide then or_bits mask.now recent.now else mask.now in
-        pen.new.bits ≡ pen.old.bits ++ data_bits (sent_of flags.f mask.now) (sent_content flags.r input.now places) }
+        pen.new.bits ≡ pen.old.bits
+        ++ data_bits (sent_of flags.f mask.now) (sent_content flags.r input.now places) }
     ensures room { pen.new.room ≡ pen.old.room }
     ensures spare { length spare.new ≡ length spare.old }
 {
@@ -85,7 +86,8 @@ fn put_part(
     requires spare { length spare.old ≡ length content.now }
     requires room { length pen.old.bits + length content.now ≤ pen.old.room }
     ensures bits { pen.new.bits
-        ≡ pen.old.bits ++ extract content.now (if wide then or_bits mask.now recent.now else mask.now) }
+        ≡ pen.old.bits ++ extract content.now
+        (if wide then or_bits mask.now recent.now else mask.now) }
     ensures room { pen.new.room ≡ pen.old.room }
     ensures spare { length spare.new ≡ length spare.old }
 {

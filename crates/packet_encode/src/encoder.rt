@@ -85,9 +85,11 @@ impl Encoder {
             → StandsFor (with_next_input h self.old.robust input.now flags) self.new }
         // The pen has exactly the bits of the form of its last step, which are, in whole bytes, the packet.
         ensures bits { (h : History) → StandsFor h self.old
-            → pen.new.bits ≡ form_bits (form_at (with_next_input h self.old.robust input.now flags) (length h.steps)) }
+            → pen.new.bits ≡ form_bits
+            (form_at (with_next_input h self.old.robust input.now flags) (length h.steps)) }
         ensures packet { (h : History) → StandsFor h self.old
-            → padded pen.new.bits ≡ packet_at (with_next_input h self.old.robust input.now flags) (length h.steps) }
+            → padded pen.new.bits
+            ≡ packet_at (with_next_input h self.old.robust input.now flags) (length h.steps) }
         ensures some { 0 < length pen.new.bits }
         ensures most { length pen.new.bits ≤ 10 * length input.now + 43 }
         ensures room { pen.new.room ≡ pen.old.room }

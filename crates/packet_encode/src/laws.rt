@@ -11,8 +11,10 @@ ghost use Rattle.robust_window.specs.Worked.{worked};
 
 /// The packet of each step of a valid history has a form, which fits the mask.
 pub fn forms_of_histories()
-    ensures is_form { (h : History) (t : ℕ) → IsValid h → t < length h.steps → IsForm h.places (form_at h t) }
-    ensures fits { (h : History) (t : ℕ) → IsValid h → t < length h.steps → Fits (form_at h t) (mask_at h t) }
+    ensures is_form { (h : History) (t : ℕ) → IsValid h → t < length h.steps
+        → IsForm h.places (form_at h t) }
+    ensures fits { (h : History) (t : ℕ) → IsValid h → t < length h.steps
+        → Fits (form_at h t) (mask_at h t) }
 {}
 
 /// The bits of each packet of a valid history are at most 10 for each place and 43 more, and so at most 65,536 bytes.
@@ -43,7 +45,8 @@ pub fn packets_of_the_past()
 /// are unwritten since the latest written one than its effective robustness level; and the latest written one is the
 /// greatest number before it that is written.
 pub fn written_packets()
-    ensures is { (h : History) (copies : ℕ → ℕ) (t : ℕ) → (is_written h copies t ≡ true) ↔ WrittenAt h copies t }
+    ensures is { (h : History) (copies : ℕ → ℕ) (t : ℕ)
+        → (is_written h copies t ≡ true) ↔ WrittenAt h copies t }
     ensures latest { (h : History) (copies : ℕ → ℕ) (t latest : ℕ) →
         (latest_written h copies t ≡ Some latest) ↔ IsLatestWritten h copies t latest }
     ensures none { (h : History) (copies : ℕ → ℕ) (t : ℕ) →
@@ -55,10 +58,13 @@ pub fn written_packets()
 pub fn listed_packets()
     ensures written { (h : History) (copies : ℕ → ℕ) (t : ℕ) →
         Contains (written_numbers h copies) t ↔ ((t < length h.steps) × WrittenAt h copies t) }
-    ensures listed { (h : History) (copies : ℕ → ℕ) (t : ℕ) → Contains (listed_numbers h copies) t ↔ Listed h copies t }
-    ensures heard { (h : History) (copies : ℕ → ℕ) (t : ℕ) → t < length h.steps → WrittenAt h copies t →
+    ensures listed { (h : History) (copies : ℕ → ℕ) (t : ℕ)
+        → Contains (listed_numbers h copies) t ↔ Listed h copies t }
+    ensures heard { (h : History) (copies : ℕ → ℕ) (t : ℕ) → t < length h.steps
+        → WrittenAt h copies t →
         t < count_to_last copies (length h.steps) }
-    ensures each { (h : History) (copies : ℕ → ℕ) (t : ℕ) → t < count_to_last copies (length h.steps) →
+    ensures each { (h : History) (copies : ℕ → ℕ) (t : ℕ)
+        → t < count_to_last copies (length h.steps) →
         WrittenAt h copies t ⊎ Listed h copies t }
 {}
 

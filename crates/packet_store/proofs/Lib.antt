@@ -1,5 +1,4 @@
 pub mod Packets
 pub mod Walks
 pub mod Reading
-pub mod StoreCourses
 pub mod StoreTurns

@@ -1,31 +1,39 @@
 -- How a turn over a store is made, for every work that is made from the walk over it.
-use Rattle.std.proofs.Common.{◌≡◌, List, [], ◌∷◌, refl, sym, ap, ◌∙◌, subst}
+use Rattle.std.proofs.Common.{◌≡◌, List, [], ◌∷◌, Some, sym, ap, ◌∙◌, subst}
 use Rattle.std.specs.Io.KnownBytes.{IsAtEnd}
 use Rattle.desk_ports.specs.declared.desk.Inlet.TheVariants as inlet
 use Rattle.desk_ports.specs.Meanings.{Meanings, Moves, left}
-use Rattle.desk_ports.specs.Courses.{Outputs, no_outputs, put, AfterStop, IsCutShort}
+use Rattle.desk_ports.specs.Courses.{Outputs, no_outputs, put, AfterStop, Ends, IsCutShort}
 use Rattle.desk_ports.specs.Turns.{Work, Steps, Advances, Finishes, IsLast, Wrote, WroteFront}
+use Rattle.desk_ports.proofs.Courses.{Ends-fault, IsCutOff-moves}
 use Rattle.desk_ports.proofs.Steps.{Advances-taken, Finishes-end, IsCutShort-taken, IsCutShort-end}
 use Rattle.packet_store.specs.declared.header.Header.{Header}
 use Rattle.packet_store.specs.declared.reader.Taken.{Taken}
 use Rattle.packet_store.specs.declared.fault.WalkFault.{WalkFault}
 use Rattle.packet_store.specs.declared.fault.StoreFault.{StoreFault}
+use Rattle.packet_store.specs.declared.fault.StoreFault.TheVariants.{Cut, Version, Shape, ReadFault, TooMany}
 use Rattle.packet_store.specs.SpacePackets.{Packet}
 use Rattle.packet_store.specs.Walks.{Walk}
 use Rattle.packet_store.specs.Faults.{stop_of}
-use Rattle.packet_store.specs.StoreReader.{ReaderState, walk_on, Takes, AfterFault}
+use Rattle.packet_store.specs.StoreReader.{ReaderState, walk_on, Takes, Stops, AfterFault}
 use Rattle.packet_store.specs.StoreWorks.{StoreWork, course_on, work_on}
 use Rattle.packet_store.proofs.Walks.{walk_from-none}
-use Rattle.packet_store.proofs.StoreCourses.{FollowsWalk, AfterStop-fault}
 
 -- ---- the store is not read on
 
-follows : {A : Type 0} (k : StoreWork A) (s : ReaderState) → k.before [] ≡ no_outputs → FollowsWalk (course_on k s) s
-follows k s nothing = record { nothing = λ bytes none. ap k.before none ∙ nothing; ends = λ bytes. refl }
+Ends-on : {A : Type 0} (k : StoreWork A) (s : ReaderState) (a b : Meanings) (reason : WalkFault) → k.before [] ≡ no_outputs → Stops s a b reason → Ends (course_on k s) a b (Some reason)
+Ends-on k s a b reason nothing stops = Ends-fault (course_on k s) a b stops.taken stops.rest reason stops.moved stops.told (ap (λ (w : Walk). k.before w.packets) stops.ends ∙ nothing) (ap (λ (w : Walk). w.ending) stops.ends)
+
+AfterStop-at : {A : Type 0} (k : StoreWork A) (s : ReaderState) (a b : Meanings) (reason : StoreFault) → k.before [] ≡ no_outputs → AfterFault s a b reason → AfterStop (course_on k s) a b (stop_of reason)
+AfterStop-at k s a b (Cut byte) nothing stops = Ends-on k s a b _ nothing stops
+AfterStop-at k s a b (Version byte) nothing stops = Ends-on k s a b _ nothing stops
+AfterStop-at k s a b (Shape byte) nothing stops = Ends-on k s a b _ nothing stops
+AfterStop-at k s a b TooMany nothing stops = Ends-on k s a b _ nothing stops
+AfterStop-at k s a b ReadFault nothing loses = IsCutOff-moves (course_on k s) a b loses.lost loses.moved (ap k.before loses.none ∙ nothing)
 
 -- a fault of the store, or of the desk, ends the run
 pub AfterStop-on : {A : Type 0} (k : StoreWork A) (work : Work A WalkFault) (s : ReaderState) (a b : Meanings) (reason : StoreFault) → work ≡ work_on k s → k.before [] ≡ no_outputs → AfterFault s a b reason → AfterStop work.course a b (stop_of reason)
-AfterStop-on {A = A} k work s a b reason is nothing after = subst (λ (w : Work A WalkFault). AfterStop w.course a b (stop_of reason)) (sym is) (AfterStop-fault (course_on k s) s a b reason (follows k s nothing) after)
+AfterStop-on {A = A} k work s a b reason is nothing after = subst (λ (w : Work A WalkFault). AfterStop w.course a b (stop_of reason)) (sym is) (AfterStop-at k s a b reason nothing after)
 
 -- ---- a packet of it was read
 
@@ -60,13 +68,11 @@ Steps-on k next s t a b outputs reads = record {
 -- all that it owes was written
 pub Advances-on : {A : Type 0} {k next : StoreWork A} {work : Work A WalkFault} {owes : Work A WalkFault → Type 0} {s t : ReaderState} {a b d : Meanings} {outputs : Outputs}
     → work ≡ work_on k s → ReadsPacket k next s t a b outputs → Wrote b d outputs → owes (work_on next t) → Advances work owes a d
-Advances-on {A = A} {k = k} {next = next} {owes = owes} {s = s} {t = t} {a = a} {b = b} {d = d} {outputs = outputs} is reads wrote owed =
-    subst (λ (w : Work A WalkFault). Advances w owes a d) (sym is) (Advances-taken (work_on k s) (work_on next t) owes a b d t.packet outputs owed (Steps-on k next s t a b outputs reads) reads.takes.moved wrote)
+Advances-on is reads wrote owed = Advances-taken is (Steps-on _ _ _ _ _ _ _ reads) reads.takes.moved wrote owed
 
 -- and where a writing failed, a front of it
 pub IsCutShort-on : {A : Type 0} {k next : StoreWork A} {work : Work A WalkFault} {s t : ReaderState} {a b d : Meanings} {outputs : Outputs} → work ≡ work_on k s → ReadsPacket k next s t a b outputs → WroteFront b d outputs → IsCutShort work.course a d
-IsCutShort-on {A = A} {k = k} {next = next} {s = s} {t = t} {a = a} {b = b} {d = d} {outputs = outputs} is reads front =
-    subst (λ (w : Work A WalkFault). IsCutShort w.course a d) (sym is) (IsCutShort-taken (work_on k s) (work_on next t) a b d t.packet outputs (Steps-on k next s t a b outputs reads) reads.takes.moved front)
+IsCutShort-on is reads front = IsCutShort-taken is (Steps-on _ _ _ _ _ _ _ reads) reads.takes.moved front
 
 -- ---- nothing of it is left
 
@@ -84,10 +90,8 @@ IsLast-on k s answer done =
 
 -- the input is at its end, and the last part was written
 pub Finishes-on : {A : Type 0} {k : StoreWork A} {work : Work A WalkFault} (s : ReaderState) {a b d : Meanings} {answer : A} → work ≡ work_on k s → IsDone k answer → Moves a b inlet.Main [] → IsAtEnd (left a inlet.Main) → Wrote b d (k.last answer) → Finishes work a d answer
-Finishes-on {A = A} {k = k} s {a = a} {b = b} {d = d} {answer = answer} is done moved at_end wrote =
-    subst (λ (w : Work A WalkFault). Finishes w a d answer) (sym is) (Finishes-end (work_on k s) a b d (k.last answer) answer (IsLast-on k s answer done) moved at_end wrote)
+Finishes-on s is done moved at_end wrote = Finishes-end is (IsLast-on _ s _ done) moved at_end wrote
 
 -- and where a writing failed, a front of it
 pub IsCutShort-end-on : {A : Type 0} {k : StoreWork A} {work : Work A WalkFault} (s : ReaderState) {a b d : Meanings} {answer : A} → work ≡ work_on k s → IsDone k answer → Moves a b inlet.Main [] → IsAtEnd (left a inlet.Main) → WroteFront b d (k.last answer) → IsCutShort work.course a d
-IsCutShort-end-on {A = A} {k = k} s {a = a} {b = b} {d = d} {answer = answer} is done moved at_end front =
-    subst (λ (w : Work A WalkFault). IsCutShort w.course a d) (sym is) (IsCutShort-end (work_on k s) a b d (k.last answer) answer (IsLast-on k s answer done) moved at_end front)
+IsCutShort-end-on s is done moved at_end front = IsCutShort-end is (IsLast-on _ s _ done) moved at_end front

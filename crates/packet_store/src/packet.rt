@@ -23,10 +23,12 @@ fn read_start<D: Desk>(
     requires room { length start.old ≡ 6 }
     ensures fields { IfGiven result IsHeader }
     ensures spelled { IfGiven result (λ h. start.new ≡ header_of h) }
-    ensures moved { IfGiven result (λ h. Moves (D.meaning desk.old) (D.meaning desk.new) Inlet.Main start.new) }
+    ensures moved { IfGiven result
+        (λ h. Moves (D.meaning desk.old) (D.meaning desk.new) Inlet.Main start.new) }
     ensures none { OnEnd result (Moves (D.meaning desk.old) (D.meaning desk.new) Inlet.Main []) }
     ensures at_end { OnEnd result (IsAtEnd (left (D.meaning desk.new) Inlet.Main)) }
-    ensures unread { (chosen : Option ℕ) → IfErr result (AfterUnread chosen offset (D.meaning desk.old) (D.meaning desk.new)) }
+    ensures unread { (chosen : Option ℕ)
+        → IfErr result (AfterUnread chosen offset (D.meaning desk.old) (D.meaning desk.new)) }
     ensures cause { HasStoreCause (D.counts desk.old) (D.counts desk.new) result }
 {
     let moved = fill(desk, Inlet::Main, start)?;
@@ -43,7 +45,8 @@ fn read_start<D: Desk>(
 /// Whether `body` could be filled. Otherwise the input ended before.
 fn read_body<D: Desk>(desk: &mut D, body: &mut [u8]) -> Result<bool, Failed>
     requires open { IsReadyIn (D.meaning desk.old) Inlet.Main }
-    ensures moved { result ≡ Ok true → Moves (D.meaning desk.old) (D.meaning desk.new) Inlet.Main body.new }
+    ensures moved { result ≡ Ok true
+        → Moves (D.meaning desk.old) (D.meaning desk.new) Inlet.Main body.new }
     ensures short { result ≡ Ok false → (bytes : List ℕ) × (length bytes < length body.old)
         × Moves (D.meaning desk.old) (D.meaning desk.new) Inlet.Main bytes }
     ensures at_end { result ≡ Ok false → IsAtEnd (left (D.meaning desk.new) Inlet.Main) }
@@ -64,11 +67,15 @@ pub fn read_packet<D: Desk>(
     requires open { IsReadyIn (D.meaning desk.old) Inlet.Main }
     requires room { length room.old ≡ 65542 }
     ensures good { IfGiven result (λ h. IsGood chosen (in_room h room.new)) }
-    ensures given { IfGiven result (λ h. take (h.length + 7) room.new ≡ packet_bytes (in_room h room.new)) }
-    ensures moved { IfGiven result (λ h. Moves (D.meaning desk.old) (D.meaning desk.new) Inlet.Main (take (h.length + 7) room.new)) }
+    ensures given { IfGiven result
+        (λ h. take (h.length + 7) room.new ≡ packet_bytes (in_room h room.new)) }
+    ensures moved { IfGiven result
+        (λ h. Moves (D.meaning desk.old) (D.meaning desk.new) Inlet.Main
+        (take (h.length + 7) room.new)) }
     ensures none { OnEnd result (Moves (D.meaning desk.old) (D.meaning desk.new) Inlet.Main []) }
     ensures at_end { OnEnd result (IsAtEnd (left (D.meaning desk.new) Inlet.Main)) }
-    ensures unread { IfErr result (AfterUnread chosen offset (D.meaning desk.old) (D.meaning desk.new)) }
+    ensures unread { IfErr result
+        (AfterUnread chosen offset (D.meaning desk.old) (D.meaning desk.new)) }
     ensures cause { HasStoreCause (D.counts desk.old) (D.counts desk.new) result }
 {
     let Some(header) = read_start(desk, offset, &mut room[..HEADER_BYTES])? else {
@@ -90,10 +97,13 @@ pub fn read_packet<D: Desk>(
 pub fn is_at_end<D: Desk>(desk: &mut D, room: &mut [u8]) -> Result<bool, Failed>
     requires open { IsReadyIn (D.meaning desk.old) Inlet.Main }
     requires room { length room.old ≡ 1 }
-    ensures none { result ≡ Ok true → Moves (D.meaning desk.old) (D.meaning desk.new) Inlet.Main [] }
+    ensures none { result ≡ Ok true
+        → Moves (D.meaning desk.old) (D.meaning desk.new) Inlet.Main [] }
     ensures at_end { result ≡ Ok true → IsAtEnd (left (D.meaning desk.new) Inlet.Main) }
-    ensures more { result ≡ Ok false → Moves (D.meaning desk.old) (D.meaning desk.new) Inlet.Main room.new }
-    ensures unchanged { OnErr result (Moves (D.meaning desk.old) (D.meaning desk.new) Inlet.Main []) }
+    ensures more { result ≡ Ok false
+        → Moves (D.meaning desk.old) (D.meaning desk.new) Inlet.Main room.new }
+    ensures unchanged { OnErr result
+        (Moves (D.meaning desk.old) (D.meaning desk.new) Inlet.Main []) }
     ensures cause { HasReadCause (D.counts desk.old) (D.counts desk.new) result }
 {
     Ok(fill(desk, Inlet::Main, room)? == 0)

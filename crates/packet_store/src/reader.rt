@@ -82,14 +82,17 @@ impl StoreReader {
         requires open { IsReadyIn (D.meaning desk.old) Inlet.Main }
 
         // Some: the next packet of the walk was taken.
-        ensures some { IfGiven result (Takes self.old self.new (D.meaning desk.old) (D.meaning desk.new)) }
+        ensures some { IfGiven result
+            (Takes self.old self.new (D.meaning desk.old) (D.meaning desk.new)) }
 
         // None: nothing was left.
-        ensures none { OnEnd result (Moves (D.meaning desk.old) (D.meaning desk.new) Inlet.Main []) }
+        ensures none { OnEnd result
+            (Moves (D.meaning desk.old) (D.meaning desk.new) Inlet.Main []) }
         ensures at_end { OnEnd result (IsAtEnd (left (D.meaning desk.old) Inlet.Main)) }
 
         // A fault of the store is how its walk ends. ReadFault comes where the desk failed to read in this call.
-        ensures fault { IfErr result (AfterFault self.old (D.meaning desk.old) (D.meaning desk.new)) }
+        ensures fault { IfErr result
+            (AfterFault self.old (D.meaning desk.old) (D.meaning desk.new)) }
         ensures cause { HasStoreCause (D.counts desk.old) (D.counts desk.new) result }
 
         ensures stopped { OnStop result (self.new ≡ stopped self.old) }

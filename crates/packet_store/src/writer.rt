@@ -47,8 +47,12 @@ impl StoreWriter {
         requires count_bits { count < period }
         requires some { 1 ≤ length body.now }
         requires most { length body.now ≤ 65536 }
-        ensures added { OnOk result (Adds (D.meaning desk.old) (D.meaning desk.new) Outlet.Main (space_packet self.old.apid count body.now)) }
-        ensures front { OnErr result (AddsFront (D.meaning desk.old) (D.meaning desk.new) Outlet.Main (space_packet self.old.apid count body.now)) }
+        ensures added { OnOk result
+            (Adds (D.meaning desk.old) (D.meaning desk.new) Outlet.Main
+            (space_packet self.old.apid count body.now)) }
+        ensures front { OnErr result
+            (AddsFront (D.meaning desk.old) (D.meaning desk.new) Outlet.Main
+            (space_packet self.old.apid count body.now)) }
         ensures cause { HasWriteCause (D.counts desk.old) (D.counts desk.new) result }
         ensures same { self.new ≡ self.old }
     {

@@ -112,7 +112,8 @@ fn answer(rt: &HostRuntime, words: &[String]) -> ExitCode
         → command_of (seen words.now) ≡ Err word → exit_status result ≡ 2 }
     // It ends with 0 only where the words are right or ask something of the program.
     ensures done { exit_status result ≡ 0
-        → IsSome (asked_by (map string_bytes words.now)) ⊎ HasCommand (take 1000 words.now) (λ _. Unit {0}) }
+        → IsSome (asked_by (map string_bytes words.now))
+        ⊎ HasCommand (take 1000 words.now) (λ _. Unit {0}) }
 {
     match Asked::by(words) {
         Some(asked) => printed(rt, asked.text()),

@@ -145,7 +145,8 @@ fn compress_values<'a>(given: &Given<'a>, missing: u32) -> Result<CompressValues
 /// The digits, where they say a vector of so many places; or else the place of their word.
 fn digits(bits: Places, mask: Option<(u32, &str)>) -> Result<Option<&str>, u32>
     ensures { MatchResult result
-        (λ digits. mask_given bits.value (view_digits mask.entry) ≡ Ok (first_mask bits.value (option_map (λ text. text.now) digits)))
+        (λ digits. mask_given bits.value (view_digits mask.entry)
+        ≡ Ok (first_mask bits.value (option_map (λ text. text.now) digits)))
         (λ word. mask_given bits.value (view_digits mask.entry) ≡ Err word) }
 {
     match mask {

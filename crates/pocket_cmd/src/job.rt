@@ -32,10 +32,13 @@ impl Job {
     /// The job of a command whose side input has this text.
     pub fn of(alloc: Global, command: &Command<'_>, text: &[u8]) -> Result<Job, SideFault>
         requires { length text.now ≤ 1048576 }
-        ensures course { IfOk result (λ job. job_course job ≡ course_of (view_command command.now) text.now) }
-        ensures report { IfOk result (λ job. writes_report job ≡ is_some (names_of (view_command command.now)).report) }
+        ensures course { IfOk result
+            (λ job. job_course job ≡ course_of (view_command command.now) text.now) }
+        ensures report { IfOk result
+            (λ job. writes_report job ≡ is_some (names_of (view_command command.now)).report) }
         ensures rows { OnOk result (bad_row_of (view_command command.now) text.now ≡ None) }
-        ensures row { (row : ℕ) → result ≡ Err (SideFault.Row row) → bad_row_of (view_command command.now) text.now ≡ Some row }
+        ensures row { (row : ℕ) → result ≡ Err (SideFault.Row row)
+            → bad_row_of (view_command command.now) text.now ≡ Some row }
         ensures within { result ≢ Err SideFault.TooLong }
     {
         match command {
@@ -50,12 +53,14 @@ impl Job {
     pub fn run<D: Desk>(self, desk: &mut D) -> Result<(), Refusal>
         requires input { IsReadyIn (D.meaning desk.old) Inlet.Main }
         requires output { IsReadyOut (D.meaning desk.old) Outlet.Main }
-        requires report { IsTrue (writes_report self) → IsReadyOut (D.meaning desk.old) Outlet.Report }
+        requires report { IsTrue (writes_report self)
+            → IsReadyOut (D.meaning desk.old) Outlet.Report }
         ensures ran { IsEnded (AfterRun (job_course self) (D.meaning desk.old) (D.meaning desk.new))
             result }
         ensures cause { HasStatusCause (D.counts desk.old) (D.counts desk.new) (status_by result) }
         ensures ready_out { OnOk result (IsReadyOut (D.meaning desk.new) Outlet.Main) }
-        ensures ready_report { IsReadyOut (D.meaning desk.old) Outlet.Report → OnOk result (IsReadyOut (D.meaning desk.new) Outlet.Report) }
+        ensures ready_report { IsReadyOut (D.meaning desk.old) Outlet.Report
+            → OnOk result (IsReadyOut (D.meaning desk.new) Outlet.Report) }
     {
         match self {
             Job::Compress(flight) => match flight.compress(desk) {
@@ -81,7 +86,8 @@ impl Job {
 /// The flight of `compress`, whose schedule has this text.
 fn flight(alloc: Global, told: &CompressValues<'_>, text: &[u8]) -> Result<Flight, SideFault>
     requires { length text.now ≤ 1048576 }
-    ensures flight { IfOk result (λ flight. flight ≡ compression_by (view_compress told.now) text.now) }
+    ensures flight { IfOk result
+        (λ flight. flight ≡ compression_by (view_compress told.now) text.now) }
     ensures rows { OnOk result (bad_flag_row text.now ≡ None) }
     ensures row { (row : ℕ) → result ≡ Err (SideFault.Row row) → bad_flag_row text.now ≡ Some row }
     ensures within { result ≢ Err SideFault.TooLong }
@@ -95,7 +101,8 @@ fn flight(alloc: Global, told: &CompressValues<'_>, text: &[u8]) -> Result<Fligh
 /// The player of `play`, whose script has this text.
 fn player(alloc: Global, told: &PlayValues<'_>, text: &[u8]) -> Result<Player, SideFault>
     requires { length text.now ≤ 1048576 }
-    ensures player { IfOk result (λ player. player ≡ record { apid = told.now.apid.value; rows = copy_rows_of text.now }) }
+    ensures player { IfOk result
+        (λ player. player ≡ record { apid = told.now.apid.value; rows = copy_rows_of text.now }) }
     ensures rows { OnOk result (bad_copy_row text.now ≡ None) }
     ensures row { (row : ℕ) → result ≡ Err (SideFault.Row row) → bad_copy_row text.now ≡ Some row }
     ensures within { result ≢ Err SideFault.TooLong }
@@ -106,14 +113,17 @@ fn player(alloc: Global, told: &PlayValues<'_>, text: &[u8]) -> Result<Player, S
 
 /// The restorer of `restore`.
 fn restorer(alloc: Global, told: &RestoreValues<'_>) -> Result<Restorer, NoMemory>
-    ensures { IfOk result (λ restorer. restorer ≡ record { places = told.now.bits.value; apid = told.now.apid.value }) }
+    ensures { IfOk result
+        (λ restorer. restorer
+        ≡ record { places = told.now.bits.value; apid = told.now.apid.value }) }
 {
     Restorer::open(alloc, told.bits.value, told.apid.value)
 }
 
 /// The lister of `show`.
 fn lister(alloc: Global, told: &ShowValues<'_>) -> Result<Lister, NoMemory>
-    ensures { IfOk result (λ lister. lister ≡ record { places = told.now.bits.value; apid = told.now.apid.value }) }
+    ensures { IfOk result
+        (λ lister. lister ≡ record { places = told.now.bits.value; apid = told.now.apid.value }) }
 {
     Lister::open(alloc, told.bits.value, told.apid.value)
 }

@@ -21,14 +21,18 @@ use desk_ports::Inlet;
 
 /// A command's values are within their bounds, and each of its names is one that a word gives.
 pub fn commands_are_given()
-    ensures right { (words : List (List ℕ)) (command : Command) → command_of words ≡ Ok command → IsRight command }
-    ensures given { (words : List (List ℕ)) (command : Command) → command_of words ≡ Ok command → AreGiven words (names_of command) }
+    ensures right { (words : List (List ℕ)) (command : Command) → command_of words ≡ Ok command
+        → IsRight command }
+    ensures given { (words : List (List ℕ)) (command : Command) → command_of words ≡ Ok command
+        → AreGiven words (names_of command) }
 {}
 
 /// Where the desk tells both inputs, a command that is done has written all that it owes for them.
 pub fn done_commands_wrote_all()
-    ensures { (command : Command) (old new : Meanings) (text input : List ℕ) → Stands command old new None
-        → side_given old (names_of command).side ≡ Some text → given old Inlet.Main (names_of command).input ≡ Some input
+    ensures { (command : Command) (old new : Meanings) (text input : List ℕ)
+        → Stands command old new None
+        → side_given old (names_of command).side ≡ Some text
+        → given old Inlet.Main (names_of command).input ≡ Some input
         → HasWritten (names_of command) (owed (course_of command text input)) new }
 {}
 
@@ -36,28 +40,35 @@ pub fn done_commands_wrote_all()
 /// what `play` owes for such a store is its played store, with a report of the gaps; and what `restore` owes for that is what
 /// the headline says.
 pub fn commands_compose()
-    ensures compress { (c : CompressValues) (plan recording : List ℕ) → IsRight (Compress c) → All (λ b. b < 256) recording
+    ensures compress { (c : CompressValues) (plan recording : List ℕ) → IsRight (Compress c)
+        → All (λ b. b < 256) recording
         → IsWhole (Compress c) recording
         → IsValid (recorded_history c plan recording)
-        × (owed (course_of (Compress c) plan recording) ≡ to_output (store_of (recorded_history c plan recording) c.apid)) }
+        × (owed (course_of (Compress c) plan recording)
+        ≡ to_output (store_of (recorded_history c plan recording) c.apid)) }
     ensures play { (p : PlayValues) (script : List ℕ) (h : History) → IsRight (Play p) → IsValid h
         → IsWhole (Play p) (store_of h p.apid)
         × (owed (course_of (Play p) script (store_of h p.apid)) ≡ record {
           output = played_bytes (copies_of (copy_rows_of script)) p.apid (store_of h p.apid);
           report = play_report (played_of (copies_of (copy_rows_of script)) (length h.steps));
         }) }
-    ensures restore { (r : RestoreValues) (h : History) (copies : ℕ → ℕ) → IsRight (Restore r) → IsValid h → h.places ≡ r.bits
+    ensures restore { (r : RestoreValues) (h : History) (copies : ℕ → ℕ) → IsRight (Restore r)
+        → IsValid h → h.places ≡ r.bits
         → AreGapsShort copies (length h.steps) → length (arrivals copies (length h.steps)) ≤ 2 ^ 32
         → IsWhole (Restore r) (played_bytes copies r.apid (store_of h r.apid))
         × (owed (course_of (Restore r) [] (played_bytes copies r.apid (store_of h r.apid)))
         ≡ record { output = restored_bytes h copies; report = report_text h copies }) }
     // All three, one after the other, for one APID and one number of bits.
-    ensures chain { (c : CompressValues) (p : PlayValues) (r : RestoreValues) (plan script recording : List ℕ)
-        → IsRight (Compress c) → IsRight (Play p) → IsRight (Restore r) → p.apid ≡ c.apid → r.apid ≡ c.apid → r.bits ≡ c.bits
+    ensures chain { (c : CompressValues) (p : PlayValues) (r : RestoreValues)
+        (plan script recording : List ℕ)
+        → IsRight (Compress c) → IsRight (Play p) → IsRight (Restore r) → p.apid ≡ c.apid
+        → r.apid ≡ c.apid → r.bits ≡ c.bits
         → All (λ b. b < 256) recording → IsWhole (Compress c) recording
-        → let h = recorded_history c plan recording in let copies = copies_of (copy_rows_of script) in
+        → let h = recorded_history c plan recording in let copies = copies_of (copy_rows_of script)
+        in
         AreGapsShort copies (length h.steps) → length (arrivals copies (length h.steps)) ≤ 2 ^ 32
         → let store = (owed (course_of (Compress c) plan recording)).output in
         let played = (owed (course_of (Play p) script store)).output in
-        owed (course_of (Restore r) [] played) ≡ record { output = restored_bytes h copies; report = report_text h copies } }
+        owed (course_of (Restore r) [] played)
+        ≡ record { output = restored_bytes h copies; report = report_text h copies } }
 {}

@@ -20,7 +20,8 @@ pub fn is_mask(bits: Places, text: &str) -> bool
 
 /// The vector of so many places that a text says, zero where there is no text or it says none.
 pub fn first_mask(alloc: Global, bits: Places, text: Option<&str>) -> Result<Bits, NoMemory>
-    ensures mask { IfOk result (λ mask. mask ≡ first_mask bits.value (option_map (λ text. text.now) text.entry)) }
+    ensures mask { IfOk result
+        (λ mask. mask ≡ first_mask bits.value (option_map (λ text. text.now) text.entry)) }
     ensures places { IfOk result (λ mask. length mask ≡ bits.value) }
 {
     let mut mask = Bits::zeros(alloc, bits.value)?;
@@ -35,8 +36,10 @@ pub fn first_mask(alloc: Global, bits: Places, text: Option<&str>) -> Result<Bit
 
 /// The bytes of the vector of so many places that a text says, and zeros behind them.
 fn mask_bytes(bits: Places, text: &str) -> Option<[u8; MOST_BYTES]>
-    ensures bytes { option_map (take (byte_count bits.value)) result ≡ mask_bytes bits.value text.now }
-    ensures spare { IfSome result (λ bytes. has_spare_bit bits.value (take (byte_count bits.value) bytes) ≡ false) }
+    ensures bytes { option_map (take (byte_count bits.value)) result
+        ≡ mask_bytes bits.value text.now }
+    ensures spare { IfSome result
+        (λ bytes. has_spare_bit bits.value (take (byte_count bits.value) bytes) ≡ false) }
 {
     let mut bytes = [0; MOST_BYTES];
     let front = &mut bytes[..byte_len(bits.value) as usize];

@@ -32,10 +32,12 @@ enum Unopened {
 pub fn run<D: Desk>(desk: &mut D, names: &Names<'_>, job: Job) -> Result<(), Refusal>
     requires input { IsTrue ((D.meaning desk.old).grants_in names.now.input.now) }
     requires output { IsTrue ((D.meaning desk.old).grants_out names.now.output.now) }
-    requires report { IfSome names.now.report (λ name. IsTrue ((D.meaning desk.old).grants_out name.now)) }
+    requires report { IfSome names.now.report
+        (λ name. IsTrue ((D.meaning desk.old).grants_out name.now)) }
     requires writes { writes_report job ≡ is_some names.now.report }
     ensures ran { let names = view_names names.now in
-        IsEnded (AfterNames names (job_course job) (D.meaning desk.old) (D.meaning desk.new)) result }
+        IsEnded (AfterNames names (job_course job) (D.meaning desk.old)
+        (D.meaning desk.new)) result }
     ensures cause { HasStatusCause (D.counts desk.old) (D.counts desk.new) (status_by result) }
 {
     match open_all(desk, names) {
@@ -57,12 +59,15 @@ pub fn run<D: Desk>(desk: &mut D, names: &Names<'_>, job: Job) -> Result<(), Ref
 fn open_all<D: Desk>(desk: &mut D, names: &Names<'_>) -> Result<(), Unopened>
     requires input { IsTrue ((D.meaning desk.old).grants_in names.now.input.now) }
     requires output { IsTrue ((D.meaning desk.old).grants_out names.now.output.now) }
-    requires report { IfSome names.now.report (λ name. IsTrue ((D.meaning desk.old).grants_out name.now)) }
-    ensures opened { AfterOpening (view_names names.now) (D.meaning desk.old) (D.meaning desk.new) result }
+    requires report { IfSome names.now.report
+        (λ name. IsTrue ((D.meaning desk.old).grants_out name.now)) }
+    ensures opened { AfterOpening (view_names names.now) (D.meaning desk.old)
+        (D.meaning desk.new) result }
     ensures cause { HasOpeningCause (D.counts desk.old) (D.counts desk.new) result }
     ensures ready_in { OnOk result (IsReadyIn (D.meaning desk.new) Inlet.Main) }
     ensures ready_out { OnOk result (IsReadyOut (D.meaning desk.new) Outlet.Main) }
-    ensures ready_report { OnOk result (IsSome names.now.report → IsReadyOut (D.meaning desk.new) Outlet.Report) }
+    ensures ready_report { OnOk result
+        (IsSome names.now.report → IsReadyOut (D.meaning desk.new) Outlet.Report) }
 {
     let Ok(()) = desk.open_in(Inlet::Main, names.input) else {
         return Err(Unopened::Input);
@@ -76,11 +81,16 @@ fn open_all<D: Desk>(desk: &mut D, names: &Names<'_>) -> Result<(), Unopened>
 /// Opens the report, where there is one.
 fn open_report<D: Desk>(desk: &mut D, name: Option<&str>) -> Result<(), Unopened>
     requires { IfSome name (λ name. IsTrue ((D.meaning desk.old).grants_out name.now)) }
-    ensures opened { OnOk result (D.meaning desk.new ≡ with_report (D.meaning desk.old) (option_map (λ name. name.now) name.entry)) }
+    ensures opened { OnOk result
+        (D.meaning desk.new ≡ with_report (D.meaning desk.old)
+        (option_map (λ name. name.now) name.entry)) }
     ensures only { IfErr result (λ fault. fault ≡ unopened.Output) }
-    ensures ready { OnOk result (IsSome name.entry → IsReadyOut (D.meaning desk.new) Outlet.Report) }
-    ensures ready_in { IsReadyIn (D.meaning desk.old) Inlet.Main → IsReadyIn (D.meaning desk.new) Inlet.Main }
-    ensures ready_out { IsReadyOut (D.meaning desk.old) Outlet.Main → IsReadyOut (D.meaning desk.new) Outlet.Main }
+    ensures ready { OnOk result
+        (IsSome name.entry → IsReadyOut (D.meaning desk.new) Outlet.Report) }
+    ensures ready_in { IsReadyIn (D.meaning desk.old) Inlet.Main
+        → IsReadyIn (D.meaning desk.new) Inlet.Main }
+    ensures ready_out { IsReadyOut (D.meaning desk.old) Outlet.Main
+        → IsReadyOut (D.meaning desk.new) Outlet.Main }
     ensures report { OnErr result (IsSome name.entry) }
     ensures unchanged { OnErr result (D.meaning desk.new ≡ D.meaning desk.old) }
     ensures cause { HasWriteCause (D.counts desk.old) (D.counts desk.new) result }
@@ -98,7 +108,8 @@ fn open_report<D: Desk>(desk: &mut D, name: Option<&str>) -> Result<(), Unopened
 fn finish_all<D: Desk>(desk: &mut D, report: Option<&str>) -> Result<(), Failed>
     requires output { IsReadyOut (D.meaning desk.old) Outlet.Main }
     requires report { IsSome report → IsReadyOut (D.meaning desk.old) Outlet.Report }
-    ensures finished { AfterFinishing (option_map (λ name. name.now) report.entry) (D.meaning desk.old) (D.meaning desk.new) result }
+    ensures finished { AfterFinishing (option_map (λ name. name.now) report.entry)
+        (D.meaning desk.old) (D.meaning desk.new) result }
     ensures cause { HasWriteCause (D.counts desk.old) (D.counts desk.new) result }
 {
     desk.finish(Outlet::Main)?;

@@ -63,11 +63,14 @@ pub fn side_text<D: Desk>(
 /// The text of the side input of this name.
 fn text_of<D: Desk>(alloc: Global, desk: &mut D, name: &str) -> Result<Vec<u8>, TextFault>
     requires { IsTrue ((D.meaning desk.old).grants_in name.now) }
-    ensures text { IfOk result (λ text. IsSideText (D.meaning desk.old) (Some name.now) text.items) }
-    ensures read { OnOk result (D.meaning desk.new ≡ with_side (D.meaning desk.old) (Some name.now)) }
+    ensures text { IfOk result
+        (λ text. IsSideText (D.meaning desk.old) (Some name.now) text.items) }
+    ensures read { OnOk result
+        (D.meaning desk.new ≡ with_side (D.meaning desk.old) (Some name.now)) }
     ensures within { IfOk result (λ text. length text.items ≤ 1048576) }
     ensures long { result ≡ Err unread.TooLong → IsSideLong (D.meaning desk.old) (Some name.now) }
-    ensures keeps { OnErr result (KeepsAll (Some name.now) (D.meaning desk.old) (D.meaning desk.new)) }
+    ensures keeps { OnErr result
+        (KeepsAll (Some name.now) (D.meaning desk.old) (D.meaning desk.new)) }
     ensures cause { HasSideCause (D.counts desk.old) (D.counts desk.new) result }
 {
     let mut text = room(alloc)?;
@@ -93,7 +96,9 @@ fn read_side<D: Desk>(desk: &mut D, name: &str, room: &mut [u8]) -> Result<usize
     ensures front { IfOk result (λ n. HasSideBytes (D.meaning desk.old) name.now n) }
     ensures text { IfOk result (λ n. n < length room.old
         → IsSideText (D.meaning desk.old) (Some name.now) (take n room.new)) }
-    ensures read { IfOk result (λ n. n < length room.old → D.meaning desk.new ≡ with_side (D.meaning desk.old) (Some name.now)) }
+    ensures read { IfOk result
+        (λ n. n < length room.old
+        → D.meaning desk.new ≡ with_side (D.meaning desk.old) (Some name.now)) }
     ensures keeps { KeepsAll (Some name.now) (D.meaning desk.old) (D.meaning desk.new) }
     ensures cause { HasReadCause (D.counts desk.old) (D.counts desk.new) result }
 {

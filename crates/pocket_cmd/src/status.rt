@@ -92,11 +92,19 @@ impl From<StoreFault> for Refusal {
     ghost from_gives = { λ f e. e ≡ refusal_by (stop_with of_store (stop_of f)) };
 
     fn from(fault: StoreFault) -> Refusal {
-        let bad = |byte, kind| Refusal::BadStore { byte, kind };
         match fault {
-            StoreFault::Cut { byte } => bad(byte, StoreKind::Cut),
-            StoreFault::Version { byte } => bad(byte, StoreKind::Version),
-            StoreFault::Shape { byte } => bad(byte, StoreKind::Shape),
+            StoreFault::Cut { byte } => Refusal::BadStore {
+                byte,
+                kind: StoreKind::Cut,
+            },
+            StoreFault::Version { byte } => Refusal::BadStore {
+                byte,
+                kind: StoreKind::Version,
+            },
+            StoreFault::Shape { byte } => Refusal::BadStore {
+                byte,
+                kind: StoreKind::Shape,
+            },
             StoreFault::TooMany => Refusal::TooMany,
             StoreFault::ReadFault => Refusal::ReadFault,
         }

@@ -82,7 +82,8 @@ impl<'a> Given<'a> {
     pub fn by(verb: Verb, words: &'a [String]) -> Result<Given<'a>, u32>
         requires { length words.now + 1 < 2 ^ 32 }
         ensures { MatchResult result
-            (λ given. given_by verb nothing_given 1 (map string_bytes words.now) ≡ Ok (view_given given))
+            (λ given. given_by verb nothing_given 1 (map string_bytes words.now)
+            ≡ Ok (view_given given))
             (λ place. given_by verb nothing_given 1 (map string_bytes words.now) ≡ Err place) }
     {
         let mut given = Given::NOTHING;
@@ -98,7 +99,8 @@ impl<'a> Given<'a> {
     fn take(&mut self, verb: Verb, place: u32, word: &'a str) -> Option<()>
         ensures { MatchOption result
             (with_word verb (view_given self.old) place word.now ≡ None)
-            (λ _. with_word verb (view_given self.old) place word.now ≡ Some (view_given self.new)) }
+            (λ _. with_word verb (view_given self.old) place word.now
+            ≡ Some (view_given self.new)) }
     {
         let (key, text) = word.split_once('=')?;
         if !verb.has(key) {
@@ -112,7 +114,8 @@ impl<'a> Given<'a> {
     fn give(&mut self, place: u32, key: &str, text: &'a str) -> Option<()>
         ensures { MatchOption result
             (with_text (view_given self.old) place key.now text.now ≡ None)
-            (λ _. with_text (view_given self.old) place key.now text.now ≡ Some (view_given self.new)) }
+            (λ _. with_text (view_given self.old) place key.now text.now
+            ≡ Some (view_given self.new)) }
     {
         let (to_read, to_write) = (self.name_in(text), self.name_out(text));
         match key {

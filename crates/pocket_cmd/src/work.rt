@@ -14,13 +14,19 @@ use std::alloc::Global;
 
 /// Reads the side input of a command, takes the memory of its run, and runs it.
 pub fn perform<D: Desk>(alloc: Global, command: &Command<'_>, desk: &mut D) -> Result<(), Refusal>
-    requires side { IfSome (names_of (view_command command.now)).side (λ name. IsTrue ((D.meaning desk.old).grants_in name)) }
-    requires input { IsTrue ((D.meaning desk.old).grants_in (names_of (view_command command.now)).input) }
-    requires output { IsTrue ((D.meaning desk.old).grants_out (names_of (view_command command.now)).output) }
-    requires report { IfSome (names_of (view_command command.now)).report (λ name. IsTrue ((D.meaning desk.old).grants_out name)) }
-    ensures after { AfterCommand (view_command command.now) (D.meaning desk.old) (D.meaning desk.new) result }
+    requires side { IfSome (names_of (view_command command.now)).side
+        (λ name. IsTrue ((D.meaning desk.old).grants_in name)) }
+    requires input { IsTrue
+        ((D.meaning desk.old).grants_in (names_of (view_command command.now)).input) }
+    requires output { IsTrue
+        ((D.meaning desk.old).grants_out (names_of (view_command command.now)).output) }
+    requires report { IfSome (names_of (view_command command.now)).report
+        (λ name. IsTrue ((D.meaning desk.old).grants_out name)) }
+    ensures after { AfterCommand (view_command command.now) (D.meaning desk.old)
+        (D.meaning desk.new) result }
     ensures cause { HasStatusCause (D.counts desk.old) (D.counts desk.new) (status_by result) }
-    ensures ends { IsAnswered (view_command command.now) (D.meaning desk.old) (D.counts desk.old) (D.counts desk.new) result }
+    ensures ends { IsAnswered (view_command command.now) (D.meaning desk.old) (D.counts desk.old)
+        (D.counts desk.new) result }
 {
     match side_text(alloc, desk, command.names().side) {
         Ok(text) => perform_with(alloc, command, &text, desk),
@@ -36,12 +42,17 @@ fn perform_with<D: Desk>(
     desk: &mut D,
 ) -> Result<(), Refusal>
     requires within { length text.now ≤ 1048576 }
-    requires input { IsTrue ((D.meaning desk.old).grants_in (names_of (view_command command.now)).input) }
-    requires output { IsTrue ((D.meaning desk.old).grants_out (names_of (view_command command.now)).output) }
-    requires report { IfSome (names_of (view_command command.now)).report (λ name. IsTrue ((D.meaning desk.old).grants_out name)) }
-    ensures after { AfterText (view_command command.now) text.now (D.meaning desk.old) (D.meaning desk.new) result }
+    requires input { IsTrue
+        ((D.meaning desk.old).grants_in (names_of (view_command command.now)).input) }
+    requires output { IsTrue
+        ((D.meaning desk.old).grants_out (names_of (view_command command.now)).output) }
+    requires report { IfSome (names_of (view_command command.now)).report
+        (λ name. IsTrue ((D.meaning desk.old).grants_out name)) }
+    ensures after { AfterText (view_command command.now) text.now (D.meaning desk.old)
+        (D.meaning desk.new) result }
     ensures cause { HasStatusCause (D.counts desk.old) (D.counts desk.new) (status_by result) }
-    ensures ends { IsAnsweredBy (view_command command.now) text.now (D.meaning desk.old) (D.counts desk.old) (D.counts desk.new) result }
+    ensures ends { IsAnsweredBy (view_command command.now) text.now (D.meaning desk.old)
+        (D.counts desk.old) (D.counts desk.new) result }
 {
     match Job::of(alloc, command, text) {
         Ok(job) => run(desk, &command.names(), job),

@@ -16,18 +16,22 @@ pub fn recent_changes()
     ensures recent { (h : History) (t place : ℕ) → t < length h.steps → place < h.places →
         IsOne (recent_at h t) place
         ↔ ((s : ℕ) × (t - robust_at h t ≤ s) × (s ≤ t) × IsOne (change_at h s) place) }
-    ensures places { (h : History) (t : ℕ) → t < length h.steps → length (recent_at h t) ≡ h.places }
+    ensures places { (h : History) (t : ℕ) → t < length h.steps
+        → length (recent_at h t) ≡ h.places }
 {}
 
 /// The effective robustness level of a step is the greatest level that it can have: the required robustness, and one
 /// more for each step just before those of the recent changes that leaves the mask, up to 15.
 pub fn effective_level()
     ensures level { (h : History) (t : ℕ) → t < length h.steps → IsLevel h t (level_at h t) }
-    ensures greatest { (h : History) (t level : ℕ) → t < length h.steps → IsLevel h t level → level ≤ level_at h t }
+    ensures greatest { (h : History) (t level : ℕ) → t < length h.steps → IsLevel h t level
+        → level ≤ level_at h t }
     // Where it is not the most that it can be, the step before changes the mask.
-    ensures stops { (h : History) (t : ℕ) → t < length h.steps → level_at h t < most_level (robust_at h t) t →
+    ensures stops { (h : History) (t : ℕ) → t < length h.steps
+        → level_at h t < most_level (robust_at h t) t →
         Contains (change_at h (t - (level_at h t + 1))) true }
-    ensures start { (h : History) (t : ℕ) → t < length h.steps → t ≤ robust_at h t → level_at h t ≡ robust_at h t }
+    ensures start { (h : History) (t : ℕ) → t < length h.steps → t ≤ robust_at h t
+        → level_at h t ≡ robust_at h t }
     ensures most { (h : History) (t : ℕ) → IsValid h → t < length h.steps → level_at h t ≤ 15 }
 {}
 

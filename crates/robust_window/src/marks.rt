@@ -48,7 +48,8 @@ pub(crate) fn quiet_level(marks: u16, robust: u8, most: u8) -> u8
 pub(crate) fn has_two(marks: u16, count: u8) -> bool
     requires some { 1 ≤ count }
     requires most { count ≤ 16 }
-    ensures { result ≡ nat_le 2 (count_by (new_mask_back (marks_of marks)) (range_with_len 0 count)) }
+    ensures { result ≡ nat_le 2
+        (count_by (new_mask_back (marks_of marks)) (range_with_len 0 count)) }
 {
     (marks << (16 - count)).count_ones() >= 2
 }

@@ -34,7 +34,8 @@ pub(crate) fn push_change(changes: &mut HeapCircularBuffer<Bits>, change: &Bits,
     requires capacity { changes.old.capacity ≡ 16 }
     requires places { All (λ kept. length kept ≡ length change.now) changes.old.items }
     ensures { changes.new
-        ≡ buffer (drop 1 changes.old.items ++ (if marked then change.now else change_back changes.old.items 15) ∷ []) 16 }
+        ≡ buffer (drop 1 changes.old.items
+        ++ (if marked then change.now else change_back changes.old.items 15) ∷ []) 16 }
 {
     let Some(mut oldest) = changes.pop_front() else {
         unreachable!()
@@ -73,7 +74,8 @@ pub(crate) fn gather(
     requires quiet { AreClear before count → recent.old ≡ replicate (length recent.old) false }
     ensures { let latest = changes_of (length recent.old) marks changes.now.items in
         recent.new ≡ vector_of (length recent.old) (λ place.
-        list_any (λ back. slice_index_or (change_back latest back) place false) (range_with_len 0 count)) }
+        list_any (λ back. slice_index_or (change_back latest back) place false)
+        (range_with_len 0 count)) }
 {
     if marks::are_clear(before, count) && marks::are_clear(marks, count) {
         return;

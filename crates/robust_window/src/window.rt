@@ -78,7 +78,8 @@ impl Window {
     pub fn step(&mut self, change: &Bits, new_mask: bool)
         requires places { length change.now ≡ length self.old.recent }
         requires most { self.old.taken < 4294967296 }
-        requires first_change { self.old.taken ≡ 0 → change.now ≡ replicate (length change.now) false }
+        requires first_change { self.old.taken ≡ 0
+            → change.now ≡ replicate (length change.now) false }
         requires first_new_mask { self.old.taken ≡ 0 → new_mask ≡ false }
         // Whatever changes it stood for, it now stands for these and one more.
         ensures stands { (steps : List MaskStep) (step : MaskStep) → StandsFor steps self.old

@@ -34,7 +34,8 @@ pub fn take_into(eye: &mut BitEye, a: &mut Bits, b: &Bits) -> Result<(), BitFaul
     ensures early { IsErr result ↔ (length (bits_left eye.old) < count_by (λ bit. bit) b.now) }
     ensures fault { IfErr result (λ fault. fault ≡ BitFault.EndsEarly (length eye.old.bits)) }
     ensures at_end { OnErr result (eye.new.place ≡ length eye.old.bits) }
-    ensures reading { Gives (λ _. a.new) result eye.new (parse_filled (places_down b.now) a.old (bits_left eye.old)) }
+    ensures reading { Gives (λ _. a.new) result eye.new
+        (parse_filled (places_down b.now) a.old (bits_left eye.old)) }
 {
     let left = eye.left();
     if left < b.ones() {

@@ -42,8 +42,11 @@ pub fn take_inverse_up(eye: &mut BitEye, x: &Bits, into: &mut Bits) -> Result<()
         ↔ (take ones (bits_left eye.old) ≡ replicate ones false) }
     ensures early { (result ≡ Err (BitFault.EndsEarly (length eye.old.bits)))
         ↔ (length (bits_left eye.old) < count_by (λ bit. bit) x.now) }
-    ensures fault { IfErr result (λ fault. IsFirstFault (λ word. (y : List Bool) × IsInverseWord x.now y word) eye.old eye.new fault) }
-    ensures reading { Gives (λ _. into.new) result eye.new (parse_inverse x.now (bits_left eye.old)) }
+    ensures fault { IfErr result
+        (λ fault. IsFirstFault
+        (λ word. (y : List Bool) × IsInverseWord x.now y word) eye.old eye.new fault) }
+    ensures reading { Gives (λ _. into.new) result eye.new
+        (parse_inverse x.now (bits_left eye.old)) }
 {
     read_inverse(eye, x, into)
 }
@@ -54,7 +57,8 @@ fn read_inverse(eye: &mut BitEye, x: &Bits, into: &mut Bits) -> Result<(), BitFa
     requires some { Contains x.now true }
     ensures places { length into.new ≡ length into.old }
     ensures moves { MovesOn eye.old eye.new }
-    ensures reading { Gives (λ _. into.new) result eye.new (parse_inverse x.now (bits_left eye.old)) }
+    ensures reading { Gives (λ _. into.new) result eye.new
+        (parse_inverse x.now (bits_left eye.old)) }
 {
     take_up(eye, x, into)?;
     if into.is_zero() {

@@ -19,7 +19,8 @@ pub fn places_of_ones()
 /// neither word is the front of the other, and whatever follows, the word tells the vector.
 pub fn run_words()
     ensures most { (v : List Bool) → length (run_bits v) ≤ 4 * length v + 2 }
-    ensures apart { (a b rest : List Bool) → length a ≡ length b → a ≢ b → run_bits a ++ rest ≢ run_bits b }
+    ensures apart { (a b rest : List Bool) → length a ≡ length b → a ≢ b
+        → run_bits a ++ rest ≢ run_bits b }
     ensures told { (a b rest others : List Bool) → length a ≡ length b
         → run_bits a ++ rest ≡ run_bits b ++ others → (a ≡ b) × (rest ≡ others) }
 {}
@@ -41,6 +42,7 @@ pub fn masks_and_edges()
         → slice_index_or (edges mask) place false
         ≡ (if slice_index_or mask place false then not (slice_index_or mask (place + 1) false)
         else slice_index_or mask (place + 1) false) }
-    ensures some { (v : List Bool) → (mask : List Bool) × (length mask ≡ length v) × (edges mask ≡ v) }
+    ensures some { (v : List Bool)
+        → (mask : List Bool) × (length mask ≡ length v) × (edges mask ≡ v) }
     ensures one { (a b : List Bool) → edges a ≡ edges b → a ≡ b }
 {}

@@ -15,8 +15,10 @@ pub fn match_runs(eye: &mut BitEye, v: &Bits) -> Result<(), BitFault>
     ensures moves { MovesOn eye.old eye.new }
     ensures word { OnOk result (bits_left eye.old ≡ run_bits v.now ++ bits_left eye.new) }
     ensures only { (rest : List Bool) → bits_left eye.old ≡ run_bits v.now ++ rest → IsOk result }
-    ensures fault { IfErr result (λ fault. IsFirstFault (λ word. word ≡ run_bits v.now) eye.old eye.new fault) }
-    ensures reading { Gives (λ _. tt) result eye.new (parse_word (run_bits v.now) (bits_left eye.old)) }
+    ensures fault { IfErr result
+        (λ fault. IsFirstFault (λ word. word ≡ run_bits v.now) eye.old eye.new fault) }
+    ensures reading { Gives (λ _. tt) result eye.new
+        (parse_word (run_bits v.now) (bits_left eye.old)) }
 {
     match_words(eye, v)
 }
@@ -24,7 +26,8 @@ pub fn match_runs(eye: &mut BitEye, v: &Bits) -> Result<(), BitFault>
 /// Takes the word of each one of `v`, from the highest place down, and the end.
 fn match_words(eye: &mut BitEye, v: &Bits) -> Result<(), BitFault>
     ensures moves { MovesOn eye.old eye.new }
-    ensures reading { Gives (λ _. tt) result eye.new (parse_word (run_bits v.now) (bits_left eye.old)) }
+    ensures reading { Gives (λ _. tt) result eye.new
+        (parse_word (run_bits v.now) (bits_left eye.old)) }
 {
     let mut below = v.len();
     for place in ones_down(v) {

@@ -33,10 +33,13 @@ pub fn take_runs(eye: &mut BitEye, into: &mut Bits) -> Result<(), BitFault>
     ensures places { length into.new ≡ length into.old }
     ensures moves { MovesOn eye.old eye.new }
     ensures word { OnOk result (bits_left eye.old ≡ run_bits into.new ++ bits_left eye.new) }
-    ensures only { (v rest : List Bool) → length v ≡ length into.old → bits_left eye.old ≡ run_bits v ++ rest
+    ensures only { (v rest : List Bool) → length v ≡ length into.old
+        → bits_left eye.old ≡ run_bits v ++ rest
         → IsOk result × (into.new ≡ v) }
-    ensures fault { IfErr result (λ fault. IsFirstFault (IsRunWord (length into.old)) eye.old eye.new fault) }
-    ensures reading { Gives (λ _. into.new) result eye.new (parse_vector (length into.old) (bits_left eye.old)) }
+    ensures fault { IfErr result
+        (λ fault. IsFirstFault (IsRunWord (length into.old)) eye.old eye.new fault) }
+    ensures reading { Gives (λ _. into.new) result eye.new
+        (parse_vector (length into.old) (bits_left eye.old)) }
 {
     read_runs(eye, into)
 }
@@ -45,7 +48,8 @@ pub fn take_runs(eye: &mut BitEye, into: &mut Bits) -> Result<(), BitFault>
 fn read_runs(eye: &mut BitEye, into: &mut Bits) -> Result<(), BitFault>
     ensures places { length into.new ≡ length into.old }
     ensures moves { MovesOn eye.old eye.new }
-    ensures reading { Gives (λ _. into.new) result eye.new (parse_vector (length into.old) (bits_left eye.old)) }
+    ensures reading { Gives (λ _. into.new) result eye.new
+        (parse_vector (length into.old) (bits_left eye.old)) }
 {
     into.clear();
     let mut below = into.len();

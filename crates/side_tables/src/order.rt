@@ -100,7 +100,8 @@ fn entries_of<R: TableRow>(alloc: Global, rows: &[R]) -> Result<Vec<OrderEntry>,
 
 /// Puts the entries in the order of their first numbers.
 fn sort(entries: &mut [OrderEntry])
-    ensures same { (spans : List Span) → AreEntriesOf spans entries.old → AreEntriesOf spans entries.new }
+    ensures same { (spans : List Span) → AreEntriesOf spans entries.old
+        → AreEntriesOf spans entries.new }
     ensures rising { IsNonDecreasingBy (λ (entry : OrderEntry). entry.span.first) entries.new }
 {
     entries.sort_unstable_by_key(|entry| entry.span.first);

@@ -38,7 +38,8 @@ impl<R: TableRow> Table<R> {
         ensures within { OnOk result (length text.now ≤ 1048576) }
         ensures right { OnOk result (bad_row R.row_of text.now ≡ None) }
         ensures too_long { (result ≡ Err SideFault.TooLong) ↔ (1048576 < length text.now) }
-        ensures row { (row : ℕ) → result ≡ Err (SideFault.Row row) → bad_row R.row_of text.now ≡ Some row }
+        ensures row { (row : ℕ) → result ≡ Err (SideFault.Row row)
+            → bad_row R.row_of text.now ≡ Some row }
     {
         let rows = read_rows(alloc, text)?;
         Ok(Table::of_rows(alloc, rows)?)

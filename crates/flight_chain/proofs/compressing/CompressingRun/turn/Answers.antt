@@ -2,10 +2,10 @@ use Rattle.std.proofs.Common.{List, Bool, [], ◌∷◌, ◌++◌, refl, sym, �
 use Rattle.std.proofs.lemmas.Result.{err_from_is_err_and}
 use Rattle.desk_ports.specs.declared.desk.Outlet.TheVariants as outlet
 use Rattle.desk_ports.specs.Meanings.{Adds, AddsFront}
-use Rattle.desk_ports.specs.Courses.{AfterStop, IsCutShort, no_outputs, to_output}
-use Rattle.desk_ports.specs.Turns.{Work, Advances, Finishes}
-use Rattle.desk_ports.proofs.Runs.{Ran-none, Ran-moves, Ran-adds, Ran-ready_out}
-use Rattle.desk_ports.proofs.Steps.{Advances-taken, Finishes-end, IsCutShort-taken, WroteFront-output}
+use Rattle.desk_ports.specs.Courses.{AfterStop}
+use Rattle.desk_ports.specs.Turns.{Work}
+use Rattle.desk_ports.proofs.Runs.{Ran-none, Ran-adds}
+use Rattle.desk_ports.proofs.Steps.{Advances-taken, AreReady-moved, Finishes-end, IsCutShort-taken, WroteFront-output}
 use Rattle.flight_chain.specs.Reading.{fault_by}
 use Rattle.flight_chain.specs.Compressing.{history_by, Owes, next_packet, rest_work, stop_by}
 use Rattle.flight_chain.proofs.CompressCourses.{AfterStop-next, HasTaken-number, HasTaken-next, IsLast-compressed, IsNext-read, Steps-taken}
@@ -24,36 +24,27 @@ returns-in_err-t-clause-turned g c = λ work owes.
 -- the recording is at its end
 pub returns-in_default-clause-turned : goal.returns-in_default-clause-turned
 returns-in_default-clause-turned g c = λ work owes.
-    let a = g.D.Desk.meaning c.args.desk.now in
-    let b = g.D.Desk.meaning c.read_input.new.desk in
     let told = rw c.in_default.is at c.in_ok-t.ensures in
     let number = c.taken-number.ensures.kept ∙ HasTaken-number owes.k owes.inputs c.args.self.now owes.taken in
-    let last = IsLast-compressed owes.k owes.inputs c.taken-number.result number in
-    subst (λ (w : Work _ _). Finishes w a b c.taken-number.result) (sym owes.work_is) (Finishes-end (rest_work owes.k owes.inputs) a b b no_outputs c.taken-number.result last told.none told.at_end (Ran-none b))
+    Finishes-end owes.work_is (IsLast-compressed owes.k owes.inputs c.taken-number.result number) told.none told.at_end (Ran-none (g.D.Desk.meaning c.read_input.new.desk))
 
 -- a packet was read
 pub put-requires-clause-output : goal.put-requires-clause-output
 put-requires-clause-output g c =
-    let a = g.D.Desk.meaning c.args.desk.now in
-    let b = g.D.Desk.meaning c.read_input.new.desk in
     let told = rw c.in-Some.is at c.in_ok-t.ensures in
-    Ran-ready_out a b outlet.Main told.taken.taken [] [] (Ran-moves a b told.taken.taken told.taken.moved) (c.requires.ready.outputs outlet.Main refl)
+    (AreReady-moved told.taken.moved c.requires.ready).outputs outlet.Main refl
 
 pub returns-in_err-put-clause-turned : goal.returns-in_err-put-clause-turned
 returns-in_err-put-clause-turned g c = λ work owes.
     let a = g.D.Desk.meaning c.args.desk.now in
     let b = g.D.Desk.meaning c.read_input.new.desk in
     let d = g.D.Desk.meaning c.put.new.desk in
-    let s = c.args.self.now in
     let input = c.read_input.new.input in
     let told = rw c.in-Some.is at c.in_ok-t.ensures in
-    let next = IsNext-read owes.k owes.inputs s _ c.taken-number.result c.in-Some.t a b input owes.taken owes.right.places c.taken-number.ensures.kept told.number told.taken in
-    let packet = next_packet owes.k owes.inputs input in
-    let front = WroteFront-output b d packet (subst (AddsFront b d outlet.Main) next.packet (c.in_err-put.ensures.front (history_by owes.k owes.inputs) owes.taken.stands)) in
-    let steps = Steps-taken owes.k owes.inputs input a b next.takes in
-    let cut = IsCutShort-taken (rest_work owes.k owes.inputs) (rest_work owes.k (owes.inputs ++ input ∷ [])) a b d next.takes.taken (to_output packet) steps next.takes.moved front in
+    let next = IsNext-read owes.k owes.inputs c.args.self.now _ c.taken-number.result c.in-Some.t a b input owes.taken owes.right.places c.taken-number.ensures.kept told.number told.taken in
+    let front = subst (AddsFront b d outlet.Main) next.packet (c.in_err-put.ensures.front (history_by owes.k owes.inputs) owes.taken.stands) in
     let p = err_from_is_err_and c.from_residual-in_err-put.result c.from_residual-in_err-put.ensures.1 in
-    rw (p.1, p.2) (subst (λ (w : Work _ _). IsCutShort w.course a d) (sym owes.work_is) cut)
+    rw (p.1, p.2) (IsCutShort-taken owes.work_is (Steps-taken owes.k owes.inputs input a b next.takes) next.takes.moved (WroteFront-output b d (next_packet owes.k owes.inputs input) front))
 
 pub returns-clause-turned : goal.returns-clause-turned
 returns-clause-turned g c = λ work owes.
@@ -61,16 +52,13 @@ returns-clause-turned g c = λ work owes.
     let b = g.D.Desk.meaning c.read_input.new.desk in
     let d = g.D.Desk.meaning c.put.new.desk in
     let s = c.args.self.now in
-    let new = c.put.new.self in
     let put = c.in_ok-put.ensures in
     let input = c.read_input.new.input in
     let told = rw c.in-Some.is at c.in_ok-t.ensures in
     let next = IsNext-read owes.k owes.inputs s _ c.taken-number.result c.in-Some.t a b input owes.taken owes.right.places c.taken-number.ensures.kept told.number told.taken in
-    let packet = next_packet owes.k owes.inputs input in
     let added = subst (Adds b d outlet.Main) next.packet (put.added (history_by owes.k owes.inputs) owes.taken.stands) in
     let stands = put.stands (history_by owes.k owes.inputs) owes.taken.stands in
     let inputs : List (List Bool) = owes.inputs ++ input ∷ [] in
-    let taken = HasTaken-next owes.k owes.inputs s owes.taken c.in-Some.t next.number input new stands put.places put.robust put.apid put.rows in
-    let owed : Owes new (rest_work owes.k inputs) = record { k = owes.k; inputs = inputs; taken = taken; work_is = refl; right = put.right } in
-    let steps = Steps-taken owes.k owes.inputs input a b next.takes in
-    subst (λ (w : Work _ _). Advances w (Owes new) a d) (sym owes.work_is) (Advances-taken (rest_work owes.k owes.inputs) (rest_work owes.k inputs) (Owes new) a b d next.takes.taken (to_output packet) owed steps next.takes.moved (Ran-adds b d packet added))
+    let taken = HasTaken-next owes.k owes.inputs s owes.taken c.in-Some.t next.number input c.put.new.self stands put.places put.robust put.apid put.rows in
+    let owed : Owes c.put.new.self (rest_work owes.k inputs) = record { k = owes.k; inputs = inputs; taken = taken; work_is = refl; right = put.right } in
+    Advances-taken owes.work_is (Steps-taken owes.k owes.inputs input a b next.takes) next.takes.moved (Ran-adds b d (next_packet owes.k owes.inputs input) added) owed
