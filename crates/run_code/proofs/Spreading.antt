@@ -3,14 +3,15 @@ use Rattle.std.proofs.Common.{◌≡◌, ◌≢◌, ℕ, zero, suc, ◌+◌, ◌
 use Rattle.std.specs.Int.{bit_at, bit_not, trailing_zeros}
 use Rattle.std.specs.Int.RustNames.{count_ones}
 use Rattle.std.proofs.lemmas.Bool.{cases_lt, cases_eq}
-use Rattle.std.proofs.lemmas.List.{take_at, take-append-le, take-append-drop, map-append}
+use Rattle.std.proofs.lemmas.List.{take_at, take-append-le, take-append-drop, map-append, append-nil, length-append}
 use Rattle.std.proofs.lemmas.Nat.{one_shl, ones-le}
 use Rattle.std.proofs.lemmas.Nat.Bits.{bit_at_and, bit_at_or, bit_at_not, bit_at_above, bit_at-lt, bit_at-zero, bit_at-pow_same, bit_at-pow_other, bit_at-trailing_zeros}
 use Rattle.bit_vectors.specs.Vectors.{number_bits}
 use Rattle.bit_vectors.proofs.NumberBits.{length-number_bits, number_bits-more}
 use Rattle.bit_vectors.proofs.Numbers.{number_bits-cat, number_bits-mod, number_bits-split}
 use Rattle.bit_vectors.proofs.FrontWord.{shl_word, shown_front}
-use Rattle.run_code.proofs.Gathering.{word_extract, word_extract-lowest, word_extract-none, length-word_extract, ones-lowest, without_below, places_of_word, bit_is}
+use Rattle.run_code.proofs.Gathering.{ones_below-past, word_extract, word_extract-lowest, word_extract-none, length-word_extract, ones-lowest, without_below, places_of_word, bit_is}
+use Rattle.run_code.specs.Places.{places_down}
 use Rattle.run_code.proofs.Ones.{ones_below}
 use Rattle.run_code.proofs.EdgeWords.{zero_of}
 use Rattle.run_code.specs.Extraction.{bits_at}
@@ -166,6 +167,28 @@ span_front a x v y from (suc m) same_a same_v =
 span_word : (a b : List Bool) (index bits at : ℕ) → IsWord a index bits → IsWord b index at → bits_at a (ones_span (64 * index) 64 b) ≡ word_extract bits at
 span_word a b index bits at is_a is_b =
     rw (places_of_word at) (span_front a (number_bits 64 bits) b (number_bits 64 at) (64 * index) 64 (λ k lt. bit_is bits k lt ∙ is_a k lt) (λ k lt. bit_is at k lt ∙ is_b k lt))
+
+-- the ones before a place and those from it on are all
+pub places_parts : (v : List Bool) (from all : ℕ) → from ≤ all → length v ≤ all → length (places_down v) ≡ length (ones_span from (all - from) v) + length (ones_below from v)
+places_parts v from all within past =
+    let parts : from + (all - from) ≡ all = omega arith in
+    let here : 0 + from ≡ from = omega arith in
+    let whole : places_down v ≡ ones_span from (all - from) v ++ ones_below from v =
+    sym (span_all all v ∙ ones_below-past v all past) ∙ ap (λ (n : ℕ). ones_span 0 n v) (sym parts) ∙ span_cat 0 from (all - from) v ∙ rw (here, span_all from v) refl in
+    ap length whole ∙ length-append (ones_span from (all - from) v) (ones_below from v)
+
+span_empty : (v : List Bool) (from m : ℕ) → ((k : ℕ) → k < m → get_or v (from + k) false ≡ false) → ones_span from m v ≡ []
+unfolding ones_span
+span_empty v from zero none = refl
+span_empty v from (suc m) none = rw (none m (omega arith)) (span_empty v from m (λ k lt. none k (omega arith)))
+
+-- a word of zeros has no place
+pub span_skip : (b : List Bool) (index all : ℕ) → 0 < index → 64 * index ≤ all → IsWord b (index - 1) 0 → ones_span (64 * (index - 1)) (all - 64 * (index - 1)) b ≡ ones_span (64 * index) (all - 64 * index) b
+span_skip b index all some within is_b =
+    let parts : all - 64 * (index - 1) ≡ 64 + (all - 64 * index) = omega arith in
+    let next : 64 * (index - 1) + 64 ≡ 64 * index = omega arith in
+    let empty : ones_span (64 * (index - 1)) 64 b ≡ [] = span_empty b (64 * (index - 1)) 64 (λ k lt. sym (is_b k lt) ∙ ap (λ (n : ℕ). eqb n 1) (bit_at-zero (63 - k))) in
+    rw (parts, span_cat (64 * (index - 1)) 64 (all - 64 * index) b, next, empty) (append-nil (ones_span (64 * index) (all - 64 * index) b))
 
 word_front : (width n : ℕ) → width ≤ 64 → take width (number_bits 64 n) ≡ number_bits width (n / 2 ^ (64 - width))
 word_front width n le =

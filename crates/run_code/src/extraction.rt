@@ -37,16 +37,20 @@ pub fn take_into(eye: &mut BitEye, a: &mut Bits, b: &Bits) -> Result<(), BitFaul
     ensures reading { Gives (λ _. a.new) result eye.new
         (parse_filled (places_down b.now) a.old (bits_left eye.old)) }
 {
-    let left = eye.left();
-    if left < b.ones() {
-        eye.pass(left);
-        return Err(BitFault::EndsEarly { bit: eye.size() });
-    }
     for index in (0..b.word_count()).rev() {
         let at = b.word(index);
+        if at == 0 {
+            continue;
+        }
+        let count = at.count_ones();
+        let left = eye.left();
+        if left < count {
+            eye.pass(left);
+            return Err(BitFault::EndsEarly { bit: eye.size() });
+        }
         let word = spread(a.word(index), at, eye.ahead());
         a.set_word(index, word);
-        eye.pass(at.count_ones());
+        eye.pass(count);
     }
     Ok(())
 }

@@ -1,56 +1,81 @@
-use Rattle.std.proofs.Common.{◌≡◌, ◌-◌, ◌*◌, ◌≤◌, ◌++◌, ℕ, Bool, List, false, length, get_or, refl, ap, ◌∙◌, arith, inl, inr}
-use Rattle.std.specs.Int.RustNames.{count_ones}
-use Rattle.std.proofs.lemmas.List.{length-drop}
+use Rattle.std.proofs.Common.{◌≡◌, ◌+◌, ◌-◌, ◌*◌, ◌<◌, ◌≤◌, ◌++◌, ℕ, Bool, List, false, length, get_or, refl, sym, ap, ◌∙◌, arith, inl, inr}
+use Rattle.std.specs.Prelude.{count_by}
+use Rattle.std.proofs.lemmas.Bool.{true≢false}
+use Rattle.std.proofs.lemmas.List.{length-append}
 use Rattle.bit_vectors.specs.Eye.{bits_left}
 use Rattle.bit_vectors.specs.Words.{word_count}
 use Rattle.bit_vectors.proofs.EyeReading.{MovesOn-refl, MovesOn-then}
 use Rattle.run_code.specs.Places.{places_down}
 use Rattle.run_code.specs.Extraction.{bits_at, extract, SameOutside, parse_filled}
+use Rattle.run_code.proofs.InverseBits.{length-bits_at}
 use Rattle.run_code.proofs.Ones.{ones_below, places_down_apart, places_down_has, length-places_down, one_or_zero}
 use Rattle.run_code.proofs.Filling.{OnlyAt, IsExact-filled_at, parse_filled-few}
 use Rattle.run_code.proofs.Gathering.{ones_step, ones_below-past}
-use Rattle.run_code.proofs.Spreading.{ones_span, span_none, span_all, spread_more, spread_others}
+use Rattle.run_code.proofs.Spreading.{ones_span, span_none, span_all, span_skip, places_parts, spread_more, spread_others}
 use Rattle.run_code.proofs.extraction.take_into.Goals as goal
-use Rattle.run_code.proofs.extraction.take_into.Goals.{After-pass-in-loop-index}
-
-pub returns-then-left-ones-clause-reading : goal.returns-then-left-ones-clause-reading
-returns-then-left-ones-clause-reading c = (
-  parse_filled-few (places_down c.args.b.now) c.args.a.now (bits_left c.args.eye.now) (omega (arith, length-places_down c.args.b.now, c.ones.ensures, c.left-left.ensures.left)),
-  c.size.ensures.size,
-  omega (arith, c.left-left.ensures.rest, c.pass.ensures.place, ap length c.pass.ensures.bits),
-)
+use Rattle.run_code.proofs.extraction.take_into.Goals.{After-word-at, Then-left-count}
 
 pub loop-index-init : goal.loop-index-init
 loop-index-init c =
-    let all : ones_below (64 * c.word_count-index.result) c.args.b.now ≡ places_down c.args.b.now = ones_below-past c.args.b.now (64 * c.word_count-index.result) (omega (arith, c.word_count-index.ensures.count)) in
     let none : 64 * word_count (length c.args.b.now) - 64 * c.word_count-index.result ≡ 0 = omega (arith, c.word_count-index.ensures.count) in
     record {
       moves = MovesOn-refl c.args.eye.now;
       places = refl;
       others = λ k zero. refl;
-      enough = rw all (omega (arith, length-places_down c.args.b.now, c.ones.ensures, c.left-left.ensures.left));
       taken = rw (none, span_none (64 * c.word_count-index.result) c.args.b.now) refl;
     }
 
-pub pass-requires-in-loop-index : goal.pass-requires-in-loop-index
-pass-requires-in-loop-index c =
-    omega (arith, c.loop-index.invariant.enough, ones_step c.loop-index.a c.args.b.now c.loop-index.index c.word.result c.word-at.result (omega arith) c.word-at.type_inv c.word.ensures c.word-at.ensures)
+-- the bits that were left at first are those that were taken and those that are left
+so_far : (a b old left : List Bool) (from all : ℕ) → from ≤ all → length b ≤ all → old ≡ bits_at a (ones_span from (all - from) b) ++ left → length old + length (ones_below from b) ≡ count_by (λ bit. bit) b + length left
+so_far a b old left from all within past taken =
+    omega (arith, ap length taken, length-append (bits_at a (ones_span from (all - from) b)) left, length-bits_at a (ones_span from (all - from) b), places_parts b from all within past, length-places_down b)
 
 -- the words that are left are some of all
-within : (c : After-pass-in-loop-index) → 64 * c.loop-index.index ≤ 64 * word_count (length c.args.b.now)
+within : (c : After-word-at) → 64 * c.loop-index.index ≤ 64 * word_count (length c.args.b.now)
 within c = omega (arith, c.word_count-index.ensures.count)
+
+pub loop-index-preserved-then-at-eq0 : goal.loop-index-preserved-then-at-eq0
+loop-index-preserved-then-at-eq0 c =
+    let i = c.loop-index.invariant in
+    let skip = span_skip c.args.b.now c.loop-index.index (64 * word_count (length c.args.b.now)) (omega arith) (within (goal.at.loop-index-preserved-then-at-eq0 c).After-word-at) (rw c.if-at-eq0.true at c.word-at.ensures) in
+    record {
+      moves = i.moves;
+      places = i.places;
+      others = i.others;
+      taken = rw skip i.taken;
+    }
+
+-- the bits are too few for the ones of a word
+few : (c : Then-left-count) → length (bits_left c.args.eye.now) < count_by (λ bit. bit) c.args.b.now
+few c =
+    let within : 64 * c.loop-index.index ≤ 64 * word_count (length c.args.b.now) = omega (arith, c.word_count-index.ensures.count) in
+    omega (
+      arith,
+      c.if-left-count.true,
+      c.left-left.ensures.left,
+      so_far c.loop-index.a c.args.b.now (bits_left c.args.eye.now) (bits_left c.loop-index.eye) (64 * c.loop-index.index) (64 * word_count (length c.args.b.now)) within (omega arith) c.loop-index.invariant.taken,
+      ones_step c.args.b.now c.args.b.now c.loop-index.index c.word-at.result c.word-at.result (omega arith) c.word-at.type_inv c.word-at.ensures c.word-at.ensures,
+    )
+
+pub returns-then-left-count-clause-early : goal.returns-then-left-count-clause-early
+returns-then-left-count-clause-early c = (λ _. few (goal.at.returns-then-left-count-clause-early c).Then-left-count, λ _. refl)
+
+pub returns-then-left-count-clause-reading : goal.returns-then-left-count-clause-reading
+returns-then-left-count-clause-reading c = (
+  parse_filled-few (places_down c.args.b.now) c.args.a.now (bits_left c.args.eye.now) (omega (arith, length-places_down c.args.b.now, few (goal.at.returns-then-left-count-clause-reading c).Then-left-count)),
+  c.size.ensures.size,
+  omega (arith, c.left-left.ensures.rest, c.pass.ensures.place, ap length c.pass.ensures.bits),
+)
 
 pub loop-index-preserved : goal.loop-index-preserved
 loop-index-preserved c =
     let i = c.loop-index.invariant in
-    let count = ones_step c.loop-index.a c.args.b.now c.loop-index.index c.word.result c.word-at.result (omega arith) c.word-at.type_inv c.word.ensures c.word-at.ensures in
     record {
       moves = MovesOn-then c.args.eye.now c.loop-index.eye c.pass-in-loop-index.new.self i.moves (record { bits = c.pass-in-loop-index.ensures.bits; forward = omega (arith, c.pass-in-loop-index.ensures.place) });
       places = c.set_word.ensures.len ∙ i.places;
       others = λ k zero. spread_others c.loop-index.a c.set_word.new.self c.args.b.now (c.loop-index.index - 1) c.word.result c.word-at.result c.spread-word.result c.word.ensures c.word-at.ensures c.set_word.ensures.word c.set_word.ensures.others c.spread-word.ensures.others k zero ∙ i.others k zero;
-      enough = rw c.pass-in-loop-index.ensures.left (omega (arith, i.enough, count, length-drop (count_ones c.word-at.result) (bits_left c.loop-index.eye)));
       taken = rw c.pass-in-loop-index.ensures.left
-          (spread_more (bits_left c.args.eye.now) (bits_left c.loop-index.eye) c.loop-index.a c.set_word.new.self c.args.b.now c.loop-index.index (64 * word_count (length c.args.b.now)) c.word-at.result c.spread-word.result c.ahead.result (omega arith) (within (goal.at.loop-index-preserved c).After-pass-in-loop-index) c.word-at.type_inv c.word-at.ensures c.set_word.ensures.word c.set_word.ensures.others c.spread-word.ensures.bits c.ahead.ensures (omega (arith, i.enough, count)) i.taken);
+          (spread_more (bits_left c.args.eye.now) (bits_left c.loop-index.eye) c.loop-index.a c.set_word.new.self c.args.b.now c.loop-index.index (64 * word_count (length c.args.b.now)) c.word-at.result c.spread-word.result c.ahead.result (omega arith) (within (goal.at.loop-index-preserved c).After-word-at) c.word-at.type_inv c.word-at.ensures c.set_word.ensures.word c.set_word.ensures.others c.spread-word.ensures.bits c.ahead.ensures (omega (arith, c.left-left.ensures.left)) i.taken);
     }
 
 -- all is taken
@@ -63,6 +88,20 @@ all_taken a b old left index none taken =
 
 pub returns-clause-taken : goal.returns-clause-taken
 returns-clause-taken c = all_taken c.loop-index.a c.args.b.now (bits_left c.args.eye.now) (bits_left c.loop-index.eye) c.loop-index.index (omega arith) c.loop-index.invariant.taken
+
+pub returns-clause-early : goal.returns-clause-early
+returns-clause-early c = (
+  λ wrong. absurd (true≢false (sym wrong)),
+  λ lt. absurd
+      (omega (
+        arith,
+        lt,
+        ap length (all_taken c.loop-index.a c.args.b.now (bits_left c.args.eye.now) (bits_left c.loop-index.eye) c.loop-index.index (omega arith) c.loop-index.invariant.taken),
+        length-append (extract c.loop-index.a c.args.b.now) (bits_left c.loop-index.eye),
+        length-bits_at c.loop-index.a (places_down c.args.b.now),
+        length-places_down c.args.b.now,
+      )),
+)
 
 -- only bits at the ones differ
 only : (a new b : List Bool) → length new ≡ length a → SameOutside b a new → OnlyAt (places_down b) a new
