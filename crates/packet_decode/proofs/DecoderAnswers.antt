@@ -1,5 +1,8 @@
 -- What reading bytes answers by the parts of a decoder, and what the decoder is after a packet.
-use Rattle.std.proofs.Common.{◌≡◌, ℕ, ◌↔◌, List, [], Bool, length, drop, Option, Some, None, Result, Ok, Err, refl, sym, ap, ◌∙◌, subst}
+use Rattle.std.proofs.Common.{◌≡◌, ◌≢◌, ℕ, ◌-◌, ◌↔◌, List, [], Bool, true, false, cond, length, replicate, drop, Option, Some, None, Result, Ok, Err, IfSome, IsSome, IsTrue, refl, sym, ap, ◌∙◌, subst}
+use Rattle.std.specs.Prelude.{nat_le}
+use Rattle.std.specs.Bool.{OnTrue, OnFalse}
+use Rattle.std.proofs.lemmas.Bool.{true≢false}
 use Rattle.bit_vectors.specs.declared.fault.BitFault.{BitFault}
 use Rattle.bit_vectors.specs.Vectors.{bits_of}
 use Rattle.bit_vectors.specs.Eye.{EyeState, bits_left}
@@ -9,11 +12,13 @@ use Rattle.packet_encode.specs.Forms.{Form}
 use Rattle.packet_decode.specs.declared.decoder.Reading.{Reading}
 use Rattle.packet_decode.specs.declared.decoder.Reading.TheVariants.{Written}
 use Rattle.packet_decode.specs.declared.draft.Latest.{Latest}
-use Rattle.packet_decode.specs.State.{State, IsState, Change, change_of}
+use Rattle.packet_decode.specs.declared.draft.DataKind.{DataKind}
+use Rattle.packet_decode.specs.declared.draft.DataKind.TheVariants.{Deduced as DeducedKind, Sent as SentKind, Opaque as OpaqueKind}
+use Rattle.packet_decode.specs.State.{State, IsState, Change, change_of, mask_after}
 use Rattle.packet_decode.specs.Spelling.{Spells}
 use Rattle.packet_decode.specs.Answers.{Says, IsExactAnswer}
-use Rattle.packet_decode.specs.PacketReading.{Spelled, Opaque, Found, Tells, parse_whole_packet, outcome_answer, answer_of}
-use Rattle.packet_decode.specs.Parts.{state_by, kept_state, IsLatest}
+use Rattle.packet_decode.specs.PacketReading.{Spelled, Opaque, Found, Tells, deduced_by, parse_whole_packet, outcome_answer, answer_of}
+use Rattle.packet_decode.specs.Parts.{state_by, kept_state, outcome_of, IsLatest}
 use Rattle.packet_decode.specs.Decoding.{Decoding}
 use Rattle.packet_decode.proofs.ExactAnswers.{answer_of-exact}
 use Rattle.packet_decode.proofs.OneAnswer.{spells_read, says_answer}
@@ -87,3 +92,29 @@ module _ (d : Decoding) (latest : Latest) (shown : Change) (view : decoding_of l
         let masks : new_mask ≡ mask = cc in
         let contents : new_content ≡ content = cc in
         rw (change_is, masks, contents, s.content_places) refl
+
+-- ---- the mask of a packet that is spelled
+
+-- where nothing changed, the mask that is deduced is the latest one
+stays_by : (within : Bool) (old mask : List Bool) → mask ≡ old → IfSome (cond within (Some mask) None) (λ m. old ≡ m)
+stays_by true old mask stays = sym stays
+stays_by false old mask stays = tt
+
+stays_deduced : (number : Option ℕ) (mask content : List Bool) (t : ℕ) (next : Change) → mask_after mask next ≡ mask → IfSome (deduced_by (state_by number mask content) t next) (λ m. mask ≡ m)
+stays_deduced None mask content t next stays = tt
+stays_deduced (Some last) mask content t next stays = stays_by (nat_le (t - 1 - last) next.level) mask (mask_after mask next) stays
+
+-- the mask that is made the latest one is the deduced one
+pub deduced_is : (quiet : Bool) (latest : Latest) (t : ℕ) (next : Change) (deduced new : List Bool) → length latest.mask ≡ length next.recent → OnTrue quiet (new ≡ latest.mask) → OnFalse quiet (new ≡ deduced)
+    → (IsTrue quiet ↔ (next.recent ≡ replicate (length next.recent) false)) → OnTrue quiet ((mask : List Bool) → length mask ≡ length next.recent → mask_after mask next ≡ mask)
+    → (next.recent ≢ replicate (length next.recent) false → IfSome (deduced_by (kept_state latest) t next) (λ m. deduced ≡ m)) → IfSome (deduced_by (kept_state latest) t next) (λ m. new ≡ m)
+deduced_is true latest t next deduced new places kept made zero stays changed = rw kept (stays_deduced latest.number latest.mask latest.content t next (stays latest.mask places))
+deduced_is false latest t next deduced new places kept made zero stays changed = rw made (changed (λ none. absurd (true≢false (sym (zero.1 none)))))
+
+-- what was read of a packet that is spelled
+pub spelled_as : (kind : DataKind) (deduced : Option (List Bool)) (sent content mask : List Bool) → (kind ≡ OpaqueKind → ⊥) → (kind ≡ DeducedKind → IsSome deduced) → (kind ≡ SentKind → mask ≡ sent) → (kind ≡ DeducedKind → IfSome deduced (λ m. mask ≡ m))
+    → outcome_of kind deduced sent content ≡ Spelled mask content
+spelled_as DeducedKind None sent content mask some has by_sent by_deduced = absurd (true≢false (sym (has refl)))
+spelled_as DeducedKind (Some m) sent content mask some has by_sent by_deduced = ap (λ (x : List Bool). Spelled x content) (sym (by_deduced refl))
+spelled_as SentKind deduced sent content mask some has by_sent by_deduced = ap (λ (x : List Bool). Spelled x content) (sym (by_sent refl))
+spelled_as OpaqueKind deduced sent content mask some has by_sent by_deduced = absurd (some refl)

@@ -1,10 +1,11 @@
 //! The first part of a packet: the recent changes of the mask, the effective robustness level, and the
 //! directions of the changes where they are sent (CCSDS 124.0-B-1).
 
-ghost use Rattle.std.specs.Prelude.{◌≡◌, ◌<◌, ◌≤◌, false, Bool, List, length, replicate, None, IfOk};
+ghost use Rattle.std.specs.Prelude.{◌≡◌, ◌<◌, ◌≤◌, ◌↔◌, false, true, Bool, List, length, replicate, None, IfOk, Contains, IsTrue};
 ghost use Rattle.std.specs.Bool.{OnFalse, OnTrue};
 ghost use Rattle.bit_vectors.specs.Eye.{bits_left};
 ghost use Rattle.bit_vectors.specs.Reading.{MovesOn, Gives};
+ghost use Rattle.run_code.specs.Runs.{parse_vector};
 ghost use Rattle.packet_encode.specs.Forms.{wide_by};
 ghost use Rattle.packet_decode.specs.State.{mask_after};
 ghost use Rattle.packet_decode.specs.PacketReading.{parse_change};
@@ -15,11 +16,14 @@ use run_code::take_runs;
 use std::alloc::Global;
 use std::marker::Model;
 
+/// The run word of a vector without a one, in two bits.
+const NO_RUN: u32 = 0b10;
+
 /// The first part of a packet.
 #[derive(Debug, Drop)]
 pub struct FirstPart {
     recent: Bits,
-    /// Whether there is no recent change, once that was asked.
+    /// There is no recent change.
     quiet: bool,
     level: u8,
     /// The places that became predictable, where directions are sent.
@@ -29,8 +33,8 @@ pub struct FirstPart {
 }
 
 impl Model for FirstPart {
-    ghost use Rattle.std.specs.Prelude.{◌≡◌, ◌<◌, false, length, replicate};
-    ghost use Rattle.std.specs.Bool.{OnTrue};
+    ghost use Rattle.std.specs.Prelude.{◌≡◌, ◌<◌, ◌↔◌, false, true, length, replicate, Contains, IsTrue};
+    ghost use Rattle.std.specs.Bool.{OnFalse};
     ghost use Rattle.packet_decode.specs.State.{Change};
     ghost use Rattle.packet_decode.specs.Parts.{sent_directions};
 
@@ -39,7 +43,8 @@ impl Model for FirstPart {
     ghost view = { λ p. record { recent = p.recent; level = p.level; directions = sent_directions p.twice p.predictable } };
 
     ghost invariant = { λ p. (length p.predictable ≡ length p.recent) × (p.level < 16)
-        × OnTrue p.quiet (p.recent ≡ replicate (length p.recent) false) };
+        × (IsTrue p.quiet ↔ (p.recent ≡ replicate (length p.recent) false))
+        × OnFalse p.quiet (Contains p.recent true) };
 }
 
 impl FirstPart {
@@ -69,10 +74,8 @@ impl FirstPart {
         ensures reading { Gives (λ _. self.new) result eye.new
             (parse_change (length self.old.recent) (bits_left eye.old)) }
     {
-        self.quiet = false;
-        take_runs(eye, &mut self.recent)?;
+        take_recent(eye, &mut self.recent, &mut self.quiet)?;
         self.level = eye.take_number(4)? as u8;
-        self.quiet = self.recent.is_zero();
         self.twice = take_directions(
             eye,
             &self.recent,
@@ -100,7 +103,9 @@ impl FirstPart {
 
     /// Whether it has no change, so that the mask stays.
     pub fn is_quiet(&self) -> bool
-        ensures { OnTrue result ((mask : List Bool) → length mask ≡ length self.now.recent
+        ensures zero { IsTrue result
+            ↔ (self.now.recent ≡ replicate (length self.now.recent) false) }
+        ensures stays { OnTrue result ((mask : List Bool) → length mask ≡ length self.now.recent
             → mask_after mask self.now ≡ mask) }
     {
         self.quiet
@@ -144,4 +149,24 @@ impl FirstPart {
             places.or_in(&self.recent);
         }
     }
+}
+
+/// Takes recent changes, and tells in `quiet`, which says so of those before, whether there is none. If there was
+/// none and there is none again, no place is looked at.
+fn take_recent(eye: &mut BitEye, recent: &mut Bits, quiet: &mut bool) -> Result<(), BitFault>
+    requires { OnTrue quiet.old (recent.old ≡ replicate (length recent.old) false) }
+    ensures none { IsTrue quiet.new ↔ (recent.new ≡ replicate (length recent.new) false) }
+    ensures some { OnFalse quiet.new (Contains recent.new true) }
+    ensures places { length recent.new ≡ length recent.old }
+    ensures moves { MovesOn eye.old eye.new }
+    ensures reading { Gives (λ _. recent.new) result eye.new
+        (parse_vector (length recent.old) (bits_left eye.old)) }
+{
+    if *quiet && eye.comes_next(NO_RUN, 2) {
+        eye.pass(2);
+        return Ok(());
+    }
+    let taken = take_runs(eye, recent);
+    *quiet = recent.is_zero();
+    taken
 }

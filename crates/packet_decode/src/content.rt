@@ -1,68 +1,71 @@
 //! The content of a packet: all of it, or its extracted bits (CCSDS 124.0-B-1).
 
-ghost use Rattle.std.specs.Prelude.{◌≡◌, length, None};
+ghost use Rattle.std.specs.Prelude.{◌≡◌, true, length, Some};
 ghost use Rattle.bit_vectors.specs.Eye.{bits_left};
 ghost use Rattle.bit_vectors.specs.Reading.{MovesOn};
 ghost use Rattle.packet_decode.specs.PacketReading.{Tells, parse_kept, parse_whole_with, parse_part_with, parse_content};
-ghost use Rattle.packet_decode.specs.Parts.{IsDraft, IsReady, lent, outcome_of};
+ghost use Rattle.packet_decode.specs.Parts.{IsDraft, IsReady, lent, content_outcome};
 
 use crate::change::FirstPart;
-use crate::draft::{DataKind, Draft};
+use crate::draft::Draft;
 use bit_vectors::{BitEye, BitFault, Bits};
 use count_code::match_count;
 use run_code::take_into;
 
-/// Takes whether the content is whole, and the content, under the mask of the draft. Where nothing is known,
-/// extracted bits are too little to be understood.
+/// Takes whether the content is whole, and the content into the draft, under a mask. Answers whether it is known then:
+/// where no content is known, extracted bits are too little.
 #[tactic(auto, unfolding(crate::specs::PacketReading::parse_content))]
 pub fn take_content(
     eye: &mut BitEye,
     change: &FirstPart,
+    mask: &Bits,
     known: Option<&Bits>,
     draft: &mut Draft,
-) -> Result<DataKind, BitFault>
-    requires { IsReady change.now None (lent known) draft.old }
+) -> Result<bool, BitFault>
+    requires ready { IsReady change.now (Some mask.now) (lent known) draft.old }
     ensures draft { IsDraft (length draft.old.content) draft.new }
     ensures moves { MovesOn eye.old eye.new }
     ensures reading { Tells
-        (λ kind. outcome_of kind draft.new.mask draft.new.content) result eye.new
-        (parse_content (length draft.old.content) change.now draft.old.mask (lent known.entry)
+        (λ known. content_outcome known mask.now draft.new.content) result eye.new
+        (parse_content (length draft.old.content) change.now mask.now (lent known.entry)
         (bits_left eye.old)) }
 {
     if eye.take_bit()? {
-        take_whole(eye, change, known, draft)
+        take_whole(eye, change, mask, known, draft)?;
+        Ok(true)
     } else {
-        take_part(eye, change, known, draft)
+        take_part(eye, change, mask, known, draft)
     }
 }
 
-/// Takes the extracted bits, where a content is known.
+/// Takes the extracted bits, where a content is known, and answers whether it is.
 #[tactic(auto, unfolding(crate::specs::PacketReading::parse_part_with))]
 pub fn take_part(
     eye: &mut BitEye,
     change: &FirstPart,
+    mask: &Bits,
     known: Option<&Bits>,
     draft: &mut Draft,
-) -> Result<DataKind, BitFault>
-    requires { IsReady change.now None (lent known) draft.old }
+) -> Result<bool, BitFault>
+    requires ready { IsReady change.now (Some mask.now) (lent known) draft.old }
     ensures draft { IsDraft (length draft.old.content) draft.new }
     ensures moves { MovesOn eye.old eye.new }
     ensures reading { Tells
-        (λ kind. outcome_of kind draft.new.mask draft.new.content) result eye.new
-        (parse_part_with change.now draft.old.mask (lent known.entry) (bits_left eye.old)) }
+        (λ known. content_outcome known mask.now draft.new.content) result eye.new
+        (parse_part_with change.now mask.now (lent known.entry) (bits_left eye.old)) }
 {
     let Some(known) = known else {
-        return Ok(DataKind::Opaque);
+        return Ok(false);
     };
     draft.content.copy_from(known);
     if change.is_wide() {
-        draft.places.copy_from(&draft.mask);
+        draft.places.copy_from(mask);
         change.widen(&mut draft.places);
         take_into(eye, &mut draft.content, &draft.places)?;
     } else {
-        take_into(eye, &mut draft.content, &draft.mask)?;
+        take_into(eye, &mut draft.content, mask)?;
     }
-    Ok(DataKind::Spelled)
+    Ok(true)
 }
 
 /// Takes the whole content. Where one is known, it is that outside the extracted places.
@@ -70,23 +73,23 @@ pub fn take_part(
 pub fn take_whole(
     eye: &mut BitEye,
     change: &FirstPart,
+    mask: &Bits,
     known: Option<&Bits>,
     draft: &mut Draft,
-) -> Result<DataKind, BitFault>
-    requires { IsReady change.now None (lent known) draft.old }
+) -> Result<(), BitFault>
+    requires ready { IsReady change.now (Some mask.now) (lent known) draft.old }
     ensures draft { IsDraft (length draft.old.content) draft.new }
     ensures moves { MovesOn eye.old eye.new }
     ensures reading { Tells
-        (λ kind. outcome_of kind draft.new.mask draft.new.content) result eye.new
-        (parse_whole_with (length draft.old.content) change.now draft.old.mask (lent known.entry)
+        (λ _. content_outcome true mask.now draft.new.content) result eye.new
+        (parse_whole_with (length draft.old.content) change.now mask.now (lent known.entry)
         (bits_left eye.old)) }
 {
     match_count(eye, draft.content.len())?;
     let Some(known) = known else {
-        eye.take_bits(&mut draft.content)?;
-        return Ok(DataKind::Spelled);
+        return eye.take_bits(&mut draft.content);
     };
-    draft.places.copy_from(&draft.mask);
+    draft.places.copy_from(mask);
     change.widen(&mut draft.places);
     take_kept(
         eye,
@@ -94,8 +97,7 @@ pub fn take_whole(
         &draft.places,
         &mut draft.content,
         &mut draft.spare,
-    )?;
-    Ok(DataKind::Spelled)
+    )
 }
 
 /// Takes a content that is the known one outside these places. The first bit that differs is wrong. It is

@@ -1,40 +1,44 @@
 //! The parts of a packet after the first one, by a deduced mask and a known content, where there are such
 //! (CCSDS 124.0-B-1).
 
-ghost use Rattle.std.specs.Prelude.{◌≡◌, length, None};
+ghost use Rattle.std.specs.Prelude.{◌≡◌, Bool, List, length, IfOk, IsSome};
 ghost use Rattle.bit_vectors.specs.Eye.{bits_left};
 ghost use Rattle.bit_vectors.specs.Reading.{MovesOn};
-ghost use Rattle.packet_decode.specs.PacketReading.{Tells, parse_unsent, parse_maskless, parse_data};
+ghost use Rattle.packet_decode.specs.PacketReading.{Tells, parse_unsent, parse_maskless, parse_masked, parse_data};
 ghost use Rattle.packet_decode.specs.Parts.{IsDraft, IsReady, lent, outcome_of};
 
 use crate::change::FirstPart;
 use crate::content::{take_content, take_part, take_whole};
 use crate::draft::{DataKind, Draft};
-use crate::mask::take_mask;
+use crate::mask::{match_mask, read_mask};
 use bit_vectors::{BitEye, BitFault, Bits};
 
-/// Takes the parts after the first one into the draft.
-#[tactic(auto, unfolding(crate::specs::PacketReading::parse_data, crate::specs::PacketReading::parse_sent, crate::specs::PacketReading::parse_masked))]
+/// Takes the parts after the first one: a mask that is sent and can't be deduced into `sent`, and the content into
+/// the draft.
+#[tactic(auto, unfolding(crate::specs::PacketReading::parse_data, crate::specs::PacketReading::parse_sent))]
 pub fn take_data(
     eye: &mut BitEye,
     change: &FirstPart,
     deduced: Option<&Bits>,
     known: Option<&Bits>,
+    sent: &mut Bits,
     draft: &mut Draft,
 ) -> Result<DataKind, BitFault>
-    requires { IsReady change.now (lent deduced) (lent known) draft.old }
+    requires ready { IsReady change.now (lent deduced) (lent known) draft.old }
+    requires sent { length sent.old ≡ length draft.old.content }
+    ensures deduced { IfOk result (λ kind. kind ≡ DataKind.Deduced → IsSome (lent deduced.entry)) }
     ensures draft { IsDraft (length draft.old.content) draft.new }
+    ensures sent { length sent.new ≡ length sent.old }
     ensures moves { MovesOn eye.old eye.new }
     ensures reading { Tells
-        (λ kind. outcome_of kind draft.new.mask draft.new.content) result eye.new
+        (λ kind. outcome_of kind (lent deduced.entry) sent.new draft.new.content) result eye.new
         (parse_data (length draft.old.content) change.now (lent deduced.entry) (lent known.entry)
         (bits_left eye.old)) }
 {
     if eye.take_bit()? {
         take_unsent(eye, change, deduced, known, draft)
     } else if eye.take_bit()? {
-        take_mask(eye, deduced, &mut draft.mask, &mut draft.spare)?;
-        take_content(eye, change, known, draft)
+        take_masked(eye, change, deduced, known, sent, draft)
     } else {
         take_maskless(eye, change, deduced, known, draft)
     }
@@ -50,17 +54,21 @@ fn take_unsent(
     draft: &mut Draft,
 ) -> Result<DataKind, BitFault>
     requires { IsReady change.now (lent deduced) (lent known) draft.old }
+    ensures deduced { IfOk result (λ kind. kind ≡ DataKind.Deduced → IsSome (lent deduced.entry)) }
     ensures draft { IsDraft (length draft.old.content) draft.new }
     ensures moves { MovesOn eye.old eye.new }
-    ensures reading { Tells
-        (λ kind. outcome_of kind draft.new.mask draft.new.content) result eye.new
+    ensures reading { (sent : List Bool) → Tells
+        (λ kind. outcome_of kind (lent deduced.entry) sent draft.new.content) result eye.new
         (parse_unsent change.now (lent deduced.entry) (lent known.entry) (bits_left eye.old)) }
 {
     let Some(mask) = deduced else {
         return Ok(DataKind::Opaque);
     };
-    draft.mask.copy_from(mask);
-    take_part(eye, change, known, draft)
+    if take_part(eye, change, mask, known, draft)? {
+        Ok(DataKind::Deduced)
+    } else {
+        Ok(DataKind::Opaque)
+    }
 }
 
 /// Takes what follows where the content must be whole, since no mask is sent.
@@ -73,10 +81,11 @@ fn take_maskless(
     draft: &mut Draft,
 ) -> Result<DataKind, BitFault>
     requires { IsReady change.now (lent deduced) (lent known) draft.old }
+    ensures deduced { IfOk result (λ kind. kind ≡ DataKind.Deduced → IsSome (lent deduced.entry)) }
     ensures draft { IsDraft (length draft.old.content) draft.new }
     ensures moves { MovesOn eye.old eye.new }
-    ensures reading { Tells
-        (λ kind. outcome_of kind draft.new.mask draft.new.content) result eye.new
+    ensures reading { (sent : List Bool) → Tells
+        (λ kind. outcome_of kind (lent deduced.entry) sent draft.new.content) result eye.new
         (parse_maskless (length draft.old.content) change.now (lent deduced.entry)
         (lent known.entry) (bits_left eye.old)) }
 {
@@ -84,6 +93,50 @@ fn take_maskless(
         return Ok(DataKind::Opaque);
     };
     eye.take_allowed(false, true)?;
-    draft.mask.copy_from(mask);
-    take_whole(eye, change, known, draft)
+    take_whole(eye, change, mask, known, draft)?;
+    Ok(DataKind::Deduced)
+}
+
+/// Takes what follows where a mask is sent, which is the deduced one if there is one.
+#[tactic(auto, unfolding(crate::specs::PacketReading::parse_masked))]
+fn take_masked(
+    eye: &mut BitEye,
+    change: &FirstPart,
+    deduced: Option<&Bits>,
+    known: Option<&Bits>,
+    sent: &mut Bits,
+    draft: &mut Draft,
+) -> Result<DataKind, BitFault>
+    requires ready { IsReady change.now (lent deduced) (lent known) draft.old }
+    requires sent { length sent.old ≡ length draft.old.content }
+    ensures deduced { IfOk result (λ kind. kind ≡ DataKind.Deduced → IsSome (lent deduced.entry)) }
+    ensures draft { IsDraft (length draft.old.content) draft.new }
+    ensures sent { length sent.new ≡ length sent.old }
+    ensures moves { MovesOn eye.old eye.new }
+    ensures reading { Tells
+        (λ kind. outcome_of kind (lent deduced.entry) sent.new draft.new.content) result eye.new
+        (parse_masked (length draft.old.content) change.now (lent deduced.entry)
+        (lent known.entry) (bits_left eye.old)) }
+{
+    let (kind, is_known) = match deduced {
+        Some(mask) => {
+            match_mask(eye, mask, &mut draft.spare)?;
+            (
+                DataKind::Deduced,
+                take_content(eye, change, mask, known, draft)?,
+            )
+        }
+        None => {
+            read_mask(eye, sent, &mut draft.spare)?;
+            (
+                DataKind::Sent,
+                take_content(eye, change, sent, known, draft)?,
+            )
+        }
+    };
+    if is_known {
+        Ok(kind)
+    } else {
+        Ok(DataKind::Opaque)
+    }
 }

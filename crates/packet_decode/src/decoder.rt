@@ -1,6 +1,7 @@
 //! The decoder: the latest written packet, and the reading of the next.
 
 ghost use Rattle.std.specs.Prelude.{◌≡◌, ◌^◌, ◌<◌, ◌≤◌, ◌↔◌, Bool, false, List, length, replicate, Some, None, Ok, IfSome, IfNone, IfOk};
+ghost use Rattle.std.specs.Bool.{OnTrue, OnFalse};
 ghost use Rattle.bit_vectors.specs.Vectors.{IsVector, bits_of};
 ghost use Rattle.packet_encode.specs.Forms.{Form};
 ghost use Rattle.packet_decode.specs.State.{IsState};
@@ -38,6 +39,7 @@ pub struct Decoder {
     shown: FirstPart,
     next: FirstPart,
     deduced: Bits,
+    sent: Bits,
     draft: Draft,
 }
 
@@ -50,7 +52,7 @@ impl Model for Decoder {
 
     ghost view = { λ d. record { places = length d.latest.content; state = kept_state d.latest; recent = d.shown.recent; level = d.shown.level } };
 
-    ghost invariant = { λ d. IsDecoder d.latest d.shown d.next d.deduced d.draft };
+    ghost invariant = { λ d. IsDecoder d.latest d.shown d.next d.deduced d.sent d.draft };
 }
 
 impl Decoder {
@@ -65,12 +67,14 @@ impl Decoder {
         let shown = FirstPart::zeros(alloc, f)?;
         let next = FirstPart::zeros(alloc, f)?;
         let deduced = Bits::zeros(alloc, f)?;
+        let sent = Bits::zeros(alloc, f)?;
         let draft = Draft::zeros(alloc, f)?;
         Ok(Decoder {
             latest,
             shown,
             next,
             deduced,
+            sent,
             draft,
         })
     }
@@ -106,18 +110,23 @@ impl Decoder {
             &self.latest,
             &mut self.next,
             &mut self.deduced,
+            &mut self.sent,
             &mut self.draft,
         )?;
-        match kind {
-            DataKind::Opaque => Ok(missed(self.latest.number, self.next.level())),
-            DataKind::Spelled => {
-                swap(&mut self.shown, &mut self.next);
-                swap(&mut self.latest.mask, &mut self.draft.mask);
-                swap(&mut self.latest.content, &mut self.draft.content);
-                self.latest.number = Some(t);
-                Ok(Reading::Written)
-            }
+        if kind.is_opaque() {
+            return Ok(missed(self.latest.number, self.next.level()));
         }
+        replace_mask(
+            &mut self.latest.mask,
+            kind,
+            self.next.is_quiet(),
+            &mut self.deduced,
+            &mut self.sent,
+        );
+        swap(&mut self.shown, &mut self.next);
+        swap(&mut self.latest.content, &mut self.draft.content);
+        self.latest.number = Some(t);
+        Ok(Reading::Written)
     }
 
     /// The number of the latest written packet, and nothing before the first.
@@ -161,6 +170,31 @@ impl Decoder {
         ensures first { IfNone self.now.state (result ≡ 0) }
     {
         self.shown.level()
+    }
+}
+
+/// Makes the mask of a packet that is spelled the latest one: the sent one, or the deduced one, which is the latest one
+/// itself if nothing changed.
+fn replace_mask(
+    latest: &mut Bits,
+    kind: DataKind,
+    is_quiet: bool,
+    deduced: &mut Bits,
+    sent: &mut Bits,
+)
+    requires deduced { length deduced.old ≡ length latest.old }
+    requires sent { length sent.old ≡ length latest.old }
+    ensures sent { kind ≡ DataKind.Sent → latest.new ≡ sent.old }
+    ensures stays { kind ≡ DataKind.Deduced → OnTrue is_quiet (latest.new ≡ latest.old) }
+    ensures changed { kind ≡ DataKind.Deduced → OnFalse is_quiet (latest.new ≡ deduced.old) }
+    ensures latest_places { length latest.new ≡ length latest.old }
+    ensures deduced_places { length deduced.new ≡ length deduced.old }
+    ensures sent_places { length sent.new ≡ length sent.old }
+{
+    match kind {
+        DataKind::Sent => swap(latest, sent),
+        DataKind::Deduced if !is_quiet => swap(latest, deduced),
+        DataKind::Deduced | DataKind::Opaque => {}
     }
 }
 

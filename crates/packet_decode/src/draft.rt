@@ -1,6 +1,6 @@
 //! The latest written packet, and the vectors that reading the next one fills.
 
-ghost use Rattle.std.specs.Prelude.{◌≡◌, ◌≤◌, false, replicate, None, IfOk};
+ghost use Rattle.std.specs.Prelude.{◌≡◌, ◌≤◌, ◌↔◌, false, replicate, None, IfOk, IsTrue};
 ghost use Rattle.packet_decode.specs.Parts.{IsDraft};
 
 use bit_vectors::{Bits, NoMemory};
@@ -18,8 +18,10 @@ pub struct Latest {
 /// What the parts after the first one are.
 #[derive(Clone, Copy, Debug, PartialEq, Eq)]
 pub enum DataKind {
-    /// They have a mask and a content.
-    Spelled,
+    /// They have a content, under the deduced mask.
+    Deduced,
+    /// They have a mask, of which none was deduced, and a content.
+    Sent,
     /// They have too little to be understood.
     Opaque,
 }
@@ -27,7 +29,6 @@ pub enum DataKind {
 /// The vectors that are filled as the parts after the first one are read.
 #[derive(Debug, Drop)]
 pub struct Draft {
-    pub mask: Bits,
     pub content: Bits,
     /// The places of the content that are extracted.
     pub places: Bits,
@@ -54,6 +55,15 @@ impl Latest {
     }
 }
 
+impl DataKind {
+    /// Whether they have too little to be understood.
+    pub fn is_opaque(self) -> bool
+        ensures { IsTrue result ↔ (self ≡ DataKind.Opaque) }
+    {
+        matches!(self, DataKind::Opaque)
+    }
+}
+
 impl Draft {
     /// Vectors of `f` places.
     pub fn zeros(alloc: Global, f: u32) -> Result<Draft, NoMemory>
@@ -61,12 +71,10 @@ impl Draft {
         requires most { f ≤ 49152 }
         ensures { IfOk result (λ draft. IsDraft f draft) }
     {
-        let mask = Bits::zeros(alloc, f)?;
         let content = Bits::zeros(alloc, f)?;
         let places = Bits::zeros(alloc, f)?;
         let spare = Bits::zeros(alloc, f)?;
         Ok(Draft {
-            mask,
             content,
             places,
             spare,

@@ -1,9 +1,9 @@
 //! A whole packet: its parts, its padding and its end.
 
-ghost use Rattle.std.specs.Prelude.{◌≡◌, ◌<◌, length, IfSome};
+ghost use Rattle.std.specs.Prelude.{◌≡◌, ◌≢◌, ◌<◌, false, length, replicate, IfOk, IfSome, IsSome, OnOk};
 ghost use Rattle.bit_vectors.specs.Eye.{bits_left};
 ghost use Rattle.bit_vectors.specs.Reading.{MovesOn};
-ghost use Rattle.packet_decode.specs.PacketReading.{Tells, parse_parts, parse_whole_packet};
+ghost use Rattle.packet_decode.specs.PacketReading.{Tells, deduced_by, parse_parts, parse_whole_packet};
 ghost use Rattle.packet_decode.specs.Parts.{IsLatest, IsDraft, outcome_of, kept_state};
 ghost use Rattle.packet_encode.specs.Deliveries.{reaches};
 
@@ -13,8 +13,8 @@ use crate::draft::{DataKind, Draft, Latest};
 use crate::padding::{take_end, take_padding};
 use bit_vectors::{BitEye, BitFault, Bits};
 
-/// Takes the packet with the number `t` and the end, or an opaque front: its first part into `next`, and its
-/// mask and its content into the draft, where it has them. The eye stands at the first bit.
+/// Takes the packet with the number `t` and the end, or an opaque front: its first part into `next`, its content into
+/// the draft, and its mask into `deduced`, if there is a change, or into `sent`. The eye stands at the first bit.
 #[tactic(auto, unfolding(crate::specs::PacketReading::parse_whole_packet, crate::specs::PacketReading::parse_packet))]
 pub fn take_whole_packet(
     eye: &mut BitEye,
@@ -22,6 +22,7 @@ pub fn take_whole_packet(
     latest: &Latest,
     next: &mut FirstPart,
     deduced: &mut Bits,
+    sent: &mut Bits,
     draft: &mut Draft,
 ) -> Result<DataKind, BitFault>
     requires start { eye.old.place ≡ 0 }
@@ -29,21 +30,27 @@ pub fn take_whole_packet(
     requires latest { IsLatest (length draft.old.content) latest.now }
     requires next { length next.old.recent ≡ length draft.old.content }
     requires deduced { length deduced.old ≡ length draft.old.content }
+    requires sent { length sent.old ≡ length draft.old.content }
     requires draft { IsDraft (length draft.old.content) draft.old }
     ensures next { length next.new.recent ≡ length next.old.recent }
     ensures deduced { length deduced.new ≡ length deduced.old }
+    ensures sent { length sent.new ≡ length sent.old }
     ensures draft { IsDraft (length draft.old.content) draft.new }
+    ensures deduced_by { IfOk result (λ kind. kind ≡ DataKind.Deduced
+        → IsSome (deduced_by (kept_state latest.now) t next.new)) }
+    ensures changed { OnOk result (next.new.recent ≢ replicate (length next.new.recent) false
+        → IfSome (deduced_by (kept_state latest.now) t next.new) (λ mask. deduced.new ≡ mask)) }
     ensures moves { MovesOn eye.old eye.new }
     ensures reading { Tells
         (λ kind. record {
           change = next.new;
-          outcome = outcome_of kind draft.new.mask
+          outcome = outcome_of kind (deduced_by (kept_state latest.now) t next.new) sent.new
               draft.new.content;
         })
         result eye.new (parse_whole_packet (length draft.old.content) (kept_state latest.now) t
         (bits_left eye.old)) }
 {
-    let kind = take_parts(eye, t, latest, next, deduced, draft)?;
+    let kind = take_parts(eye, t, latest, next, deduced, sent, draft)?;
     take_padding(eye, kind)?;
     take_end(eye, kind)?;
     Ok(kind)
@@ -57,21 +64,28 @@ fn take_parts(
     latest: &Latest,
     next: &mut FirstPart,
     deduced: &mut Bits,
+    sent: &mut Bits,
     draft: &mut Draft,
 ) -> Result<DataKind, BitFault>
     requires later { IfSome latest.now.number (λ last. last < t) }
     requires latest { IsLatest (length draft.old.content) latest.now }
     requires next { length next.old.recent ≡ length draft.old.content }
     requires deduced { length deduced.old ≡ length draft.old.content }
+    requires sent { length sent.old ≡ length draft.old.content }
     requires draft { IsDraft (length draft.old.content) draft.old }
     ensures next { length next.new.recent ≡ length next.old.recent }
     ensures deduced { length deduced.new ≡ length deduced.old }
+    ensures sent { length sent.new ≡ length sent.old }
     ensures draft { IsDraft (length draft.old.content) draft.new }
+    ensures deduced_by { IfOk result (λ kind. kind ≡ DataKind.Deduced
+        → IsSome (deduced_by (kept_state latest.now) t next.new)) }
+    ensures changed { OnOk result (next.new.recent ≢ replicate (length next.new.recent) false
+        → IfSome (deduced_by (kept_state latest.now) t next.new) (λ mask. deduced.new ≡ mask)) }
     ensures moves { MovesOn eye.old eye.new }
     ensures reading { Tells
         (λ kind. record {
           change = next.new;
-          outcome = outcome_of kind draft.new.mask
+          outcome = outcome_of kind (deduced_by (kept_state latest.now) t next.new) sent.new
               draft.new.content;
         })
         result eye.new (parse_parts (length draft.old.content) (kept_state latest.now) t
@@ -79,14 +93,28 @@ fn take_parts(
 {
     next.take(eye)?;
     if !is_in_reach(latest.number, t, next.level()) {
-        return take_data(eye, next, None, None, draft);
+        return take_data(eye, next, None, None, sent, draft);
     }
     if next.is_quiet() {
-        return take_data(eye, next, Some(&latest.mask), Some(&latest.content), draft);
+        return take_data(
+            eye,
+            next,
+            Some(&latest.mask),
+            Some(&latest.content),
+            sent,
+            draft,
+        );
     }
     deduced.copy_from(&latest.mask);
     next.deduce(deduced, &mut draft.spare);
-    take_data(eye, next, Some(&*deduced), Some(&latest.content), draft)
+    take_data(
+        eye,
+        next,
+        Some(&*deduced),
+        Some(&latest.content),
+        sent,
+        draft,
+    )
 }
 
 /// Whether the packet with the number `t` and this level is in reach of that with the number `last`.

@@ -1,7 +1,7 @@
 //! What follows a packet that is spelled: the zeros that fill its last byte, and nothing else. What follows an
 //! opaque front is not looked at.
 
-ghost use Rattle.std.specs.Prelude.{◌≤◌, Bool, List, length};
+ghost use Rattle.std.specs.Prelude.{◌≤◌, Bool, List, Option, length};
 ghost use Rattle.bit_vectors.specs.Eye.{bits_left};
 ghost use Rattle.bit_vectors.specs.Reading.{MovesOn, Gives};
 ghost use Rattle.packet_decode.specs.PacketReading.{parse_padding, parse_end};
@@ -15,13 +15,13 @@ use bit_vectors::{BitEye, BitFault};
 pub fn take_padding(eye: &mut BitEye, kind: DataKind) -> Result<(), BitFault>
     ensures within { eye.old.place ≤ length eye.old.bits }
     ensures moves { MovesOn eye.old eye.new }
-    ensures reading { (mask content : List Bool) →
+    ensures reading { (deduced : Option (List Bool)) (sent content : List Bool) →
         Gives (λ _. tt) result eye.new
-        (parse_padding (outcome_of kind mask content) eye.old.place (bits_left eye.old)) }
+        (parse_padding (outcome_of kind deduced sent content) eye.old.place (bits_left eye.old)) }
 {
     let place = eye.at();
     match kind {
-        DataKind::Spelled => eye.match_number(0, (8 - place % 8) % 8),
+        DataKind::Deduced | DataKind::Sent => eye.match_number(0, (8 - place % 8) % 8),
         DataKind::Opaque => Ok(()),
     }
 }
@@ -30,11 +30,11 @@ pub fn take_padding(eye: &mut BitEye, kind: DataKind) -> Result<(), BitFault>
 #[tactic(auto, unfolding(crate::specs::PacketReading::parse_end))]
 pub fn take_end(eye: &mut BitEye, kind: DataKind) -> Result<(), BitFault>
     ensures moves { MovesOn eye.old eye.new }
-    ensures reading { (mask content : List Bool) →
+    ensures reading { (deduced : Option (List Bool)) (sent content : List Bool) →
         Gives (λ _. tt) result eye.new
-        (parse_end (outcome_of kind mask content) (bits_left eye.old)) }
+        (parse_end (outcome_of kind deduced sent content) (bits_left eye.old)) }
 {
-    if kind == DataKind::Spelled && eye.take().is_some() {
+    if kind != DataKind::Opaque && eye.take().is_some() {
         return Err(BitFault::Wrong { bit: eye.at() - 1 });
     }
     Ok(())

@@ -9,9 +9,8 @@ use Rattle.bit_vectors.specs.Vectors.{number_bits, without_bits}
 use Rattle.bit_vectors.proofs.NumberBits.{length-number_bits}
 use Rattle.bit_vectors.proofs.Numbers.{number_bits-cat}
 use Rattle.robust_window.proofs.Levels.{list_any-zeros}
-use Rattle.run_code.specs.Places.{ones_from}
-use Rattle.run_code.specs.Runs.{run_bits, runs_from}
-use Rattle.run_code.proofs.RunWords.{run_bits_most, runs_from-nil}
+use Rattle.run_code.specs.Runs.{run_bits}
+use Rattle.run_code.proofs.RunWords.{run_bits_most, run_bits-zeros}
 use Rattle.packet_encode.specs.Forms.{Form, change_bits, direction_bits}
 use Rattle.packet_encode.specs.Packets.{directions_of}
 
@@ -94,18 +93,7 @@ pub front_is : (old runs numbered taken recent : List Bool) (taken_level level :
 front_is old runs numbered taken recent taken_level level run number same same_level =
     number ∙ ap (λ bits. bits ++ number_bits 4 taken_level) (run ∙ ap (λ v. old ++ run_bits v) same) ∙ ap (λ n. (old ++ run_bits recent) ++ number_bits 4 n) same_level
 
-no_places : (place f : ℕ) → ones_from place (replicate f false) ≡ []
-unfolding ones_from
-no_places place zero = refl
-no_places place (suc f) = no_places (place + 1) f
-
--- without a change, the run word is the end alone
-run_bits-zeros : (v : List Bool) → v ≡ replicate (length v) false → run_bits v ≡ number_bits 2 2
-unfolding run_bits number_bits
-run_bits-zeros v zeros =
-    ap (λ places. runs_from (length v) (reverse places)) (ap (ones_from 0) zeros ∙ no_places 0 (length v)) ∙ runs_from-nil (length v)
-
--- and the first part one number
+-- without a change, the first part is one number
 pub quiet_is : (old numbered taken : List Bool) (number level : ℕ) → numbered ≡ old ++ number_bits 6 number → number ≡ 32 + level → level < 16 → taken ≡ replicate (length taken) false → numbered ≡ (old ++ run_bits taken) ++ number_bits 4 level
 quiet_is old numbered taken number level is sum below zeros =
     is ∙ ap (λ n. old ++ number_bits 6 n) sum

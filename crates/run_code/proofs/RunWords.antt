@@ -1,11 +1,12 @@
 -- The run words of vectors.
-use Rattle.std.proofs.Common.{◌≡◌, ℕ, zero, suc, ◌+◌, ◌-◌, ◌*◌, ◌^◌, ◌<◌, ◌≤◌, Bool, true, false, cond, List, [], ◌∷◌, ◌++◌, length, get_or, refl, ap, arith, inl, inr, add-one}
+use Rattle.std.proofs.Common.{◌≡◌, ℕ, zero, suc, ◌+◌, ◌-◌, ◌*◌, ◌^◌, ◌<◌, ◌≤◌, Bool, true, false, cond, List, [], ◌∷◌, ◌++◌, length, get_or, replicate, reverse, refl, ap, ◌∙◌, arith, inl, inr, add-one}
 use Rattle.std.proofs.lemmas.Bool.{cases_lt, cases_eq}
 use Rattle.std.proofs.lemmas.List.{length-append}
+use Rattle.bit_vectors.specs.Vectors.{number_bits}
 use Rattle.count_code.specs.Code.{count_bits, end_bits}
 use Rattle.count_code.proofs.Digits.{power_more, digits_of}
 use Rattle.count_code.proofs.CountWords.{count_bits-one, length-count_bits-short, length-count_bits-long}
-use Rattle.run_code.specs.Places.{places_down}
+use Rattle.run_code.specs.Places.{ones_from, places_down}
 use Rattle.run_code.specs.Runs.{runs_from, run_bits}
 use Rattle.run_code.proofs.Ones.{ones_below, places_down_is}
 
@@ -20,6 +21,19 @@ runs_from-cons place next places = refl
 pub runs_from-nil : (place : ℕ) → runs_from place [] ≡ end_bits
 unfolding runs_from
 runs_from-nil place = refl
+
+-- ---- without a one
+
+no_places : (place f : ℕ) → ones_from place (replicate f false) ≡ []
+unfolding ones_from
+no_places place zero = refl
+no_places place (suc f) = no_places (place + 1) f
+
+-- the run word is the end alone
+pub run_bits-zeros : (v : List Bool) → v ≡ replicate (length v) false → run_bits v ≡ number_bits 2 2
+unfolding run_bits number_bits
+run_bits-zeros v zeros =
+    ap (λ places. runs_from (length v) (reverse places)) (ap (ones_from 0) zeros ∙ no_places 0 (length v)) ∙ runs_from-nil (length v)
 
 -- ---- how long
 
