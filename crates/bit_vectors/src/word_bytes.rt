@@ -26,9 +26,13 @@ pub fn store_words(words: &[u64], bytes: &mut [u8])
     ensures { (k : ℕ) → k < 8 * length bytes.old
         → slice_index_or (bits_of bytes.new) k false ≡ bit_of words.now k }
 {
-    for (index, word) in words.iter().enumerate() {
-        let end = bytes.len().min(8 * index + 8);
-        bytes[8 * index..end].copy_from_slice(&word.to_be_bytes()[..end - 8 * index]);
+    let whole = bytes.len() / 8;
+    for index in 0..whole {
+        bytes[8 * index..8 * index + 8].copy_from_slice(&words[index].to_be_bytes());
+    }
+    let rest = bytes.len() % 8;
+    if rest > 0 {
+        bytes[8 * whole..8 * whole + rest].copy_from_slice(&words[whole].to_be_bytes()[..rest]);
     }
 }
 

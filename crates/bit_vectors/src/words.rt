@@ -93,7 +93,11 @@ pub fn ones_in(words: &[u64]) -> u32
 pub fn are_zero(words: &[u64]) -> bool
     ensures { IsTrue result ↔ EachIndex words.now (λ i. slice_index words.now i ≡ 0) }
 {
-    words.iter().all(|word| *word == 0)
+    let mut any = 0;
+    for word in words {
+        any |= word;
+    }
+    any == 0
 }
 
 /// The number of the last one among the bits before `below`.

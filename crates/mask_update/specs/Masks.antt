@@ -1,6 +1,7 @@
 -- Mask, build and change vectors (CCSDS 124.0-B-1), each as a question about the whole history.
 use Rattle.std.specs.Prelude.{◌≡◌, ◌≢◌, ℕ, zero, suc, ◌+◌, ◌-◌, ◌<◌, ◌≤◌, ◌==◌, Bool, false, not, ◌&&◌, ◌||◌, if◌then◌else◌, List, map, reverse, find, unwrap_or, length, replicate, slice_index_or}
 use Rattle.std.specs.List.{range_with_len, list_any}
+use Rattle.std.specs.Bool.{OnTrue}
 use Rattle.bit_vectors.specs.Vectors.{IsVector, xor_bits, or_bits}
 use Rattle.mask_update.specs.Histories.{History, input_at, flags_at, latest_step}
 
@@ -91,10 +92,11 @@ pub record StandsFor (h : History) (value : Running) : Type 0 where
 
 -- The running vectors have one length, that of a vector, and the number of inputs its bound. Before the first input there
 -- is no change.
-pub record AreRunning (previous build mask change : List Bool) (taken : ℕ) : Type 0 where
+pub record AreRunning (previous build mask change : List Bool) (still : Bool) (taken : ℕ) : Type 0 where
   pub vector : IsVector mask
   pub previous_len : length previous ≡ length mask
   pub build_len : length build ≡ length mask
   pub change_len : length change ≡ length mask
+  pub no_change : OnTrue still (change ≡ replicate (length mask) false)
   pub most : taken ≤ 4294967296
   pub start : taken ≡ 0 → change ≡ replicate (length mask) false

@@ -18,6 +18,8 @@ pub struct Masks {
     build: Bits,
     mask: Bits,
     change: Bits,
+    /// The change has no one. It may also have none if this is false.
+    still: bool,
     taken: u64,
 }
 
@@ -34,7 +36,7 @@ impl Model for Masks {
       taken = m.taken;
     } };
 
-    ghost invariant = { λ m. AreRunning m.previous m.build m.mask m.change m.taken };
+    ghost invariant = { λ m. AreRunning m.previous m.build m.mask m.change m.still m.taken };
 }
 
 impl Masks {
@@ -54,6 +56,7 @@ impl Masks {
             build: Bits::zeros(alloc, places)?,
             mask: first_mask,
             change: Bits::zeros(alloc, places)?,
+            still: true,
             taken: 0,
         })
     }
@@ -76,13 +79,13 @@ impl Masks {
     {
         if self.taken > 0 {
             self.advance(input, new_mask);
+        } else {
+            self.previous.copy_from(input);
         }
-        self.previous.copy_from(input);
         self.taken += 1;
     }
 
     /// The standard's recurrences. An input equal to the previous one, without a new mask, leaves mask and build.
-    /// The previous input is then any.
     fn advance(&mut self, input: &Bits, new_mask: bool)
         requires places { length input.now ≡ length self.old.mask }
         requires some { 0 < self.old.taken }
@@ -91,13 +94,15 @@ impl Masks {
         ensures mask { let moved = xor_bits self.old.previous input.now in
             self.new.mask ≡ next_mask new_mask moved self.old.build self.old.mask }
         ensures change { self.new.change ≡ xor_bits self.old.mask self.new.mask }
+        ensures previous { self.new.previous ≡ input.now }
         ensures places { length self.new.mask ≡ length self.old.mask }
         ensures taken { self.new.taken ≡ self.old.taken }
     {
         if !new_mask && self.previous.same(input) {
-            self.change.clear();
+            self.stay();
             return;
         }
+        self.still = false;
         self.previous.xor_in(input);
         self.change.copy_from(&self.mask);
         if new_mask {
@@ -108,6 +113,17 @@ impl Masks {
         }
         self.mask.or_in(&self.previous);
         self.change.xor_in(&self.mask);
+        self.previous.copy_from(input);
+    }
+
+    /// Nothing changed.
+    fn stay(&mut self)
+        ensures { self.new ≡ record self.old { change = replicate (length self.old.mask) false } }
+    {
+        if !self.still {
+            self.change.clear();
+            self.still = true;
+        }
     }
 
     /// The mask vector: the places that are not predictable. Before the first input it is the first mask.

@@ -15,7 +15,7 @@ returns-clause-stands c = λ h s stands input new_mask.
           StandsFor-next h s c.args.self.now _ stands (omega arith)
           (ap (λ (v : Running). length v.previous) (sym c.self.view_is) ∙ c.self.invariant.previous_len ∙ ap (λ (v : Running). length v.mask) c.self.view_is)
           (ap length input ∙ c.requires.places)
-          (c.copy_from.ensures ∙ sym input)
+          (ap (λ (v : Running). v.previous) same ∙ w.advance.ensures.previous ∙ sym input)
           (ap (λ (v : Running). v.build) same ∙ w.advance.ensures.build
           ∙ ap (λ b. next_build b (xor_bits c.args.self.now.previous c.args.input.now) c.args.self.now.build) (sym new_mask)
           ∙ ap (λ v. next_build s.flags.p v c.args.self.now.build) moved)
@@ -28,9 +28,9 @@ returns-clause-stands c = λ h s stands input new_mask.
           let same = c.self-2.view_is ∙ w.self-is in
           let taken_is = ap (λ (v : Running). v.taken) same in
           StandsFor-first h s c.args.self.now _ stands (omega arith)
-          (c.copy_from.ensures ∙ sym input)
-          (ap (λ (v : Running). v.build) same)
-          (ap (λ (v : Running). v.mask) same)
-          (ap (λ (v : Running). v.change) same)
+          (ap (λ (v : Running). v.previous) same ∙ w.copy_from.ensures ∙ sym input)
+          (ap (λ (v : Running). v.build) same ∙ ap (λ (v : Running). v.build) c.self.view_is)
+          (ap (λ (v : Running). v.mask) same ∙ ap (λ (v : Running). v.mask) c.self.view_is)
+          (ap (λ (v : Running). v.change) same ∙ ap (λ (v : Running). v.change) c.self.view_is)
           (omega arith)
     ]
