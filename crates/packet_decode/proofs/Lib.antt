@@ -6,6 +6,7 @@ pub mod ExactData
 pub mod ExactPacket
 pub mod SpelledWords
 pub mod ExactAnswers
+pub mod ViableData
 pub mod OneAnswer
 pub mod PaddingBits
 pub mod Telling

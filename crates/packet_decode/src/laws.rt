@@ -1,6 +1,6 @@
 //! What the definitions mean.
 
-ghost use Rattle.std.specs.Prelude.{◌≡◌, ℕ, ◌<◌, Bool, true, List, [], ◌∷◌, ◌++◌, length, Option, Some, None, IfSome, Result, Ok, Err};
+ghost use Rattle.std.specs.Prelude.{◌≡◌, ℕ, ◌*◌, ◌<◌, ◌≤◌, Bool, true, List, [], ◌∷◌, ◌++◌, length, Option, Some, None, IfSome, Result, Ok, Err};
 ghost use Rattle.bit_vectors.specs.Vectors.{bits_of};
 ghost use Rattle.run_code.specs.Extraction.{SameOutside};
 ghost use Rattle.mask_update.specs.Histories.{History, IsValid, input_at};
@@ -11,7 +11,7 @@ ghost use Rattle.packet_encode.specs.Packets.{form_at, packet_at};
 ghost use Rattle.packet_decode.specs.State.{InReach, State, IsState, deduced_mask};
 ghost use Rattle.packet_decode.specs.Histories.{IsUnderstood, true_state, written_at};
 ghost use Rattle.packet_decode.specs.Spelling.{Spells, HasOpaqueFront};
-ghost use Rattle.packet_decode.specs.Answers.{SpellsPacket, Says, IsSoundAnswer, IsExactAnswer};
+ghost use Rattle.packet_decode.specs.Answers.{SpellsPacket, Viable, Says, IsSoundAnswer, IsExactAnswer, BeginReadable};
 ghost use Rattle.packet_decode.specs.PacketReading.{answer_of};
 
 use crate::decoder::Reading;
@@ -44,6 +44,16 @@ pub fn sound_answers_agree()
         (answer : Result Reading BitFault) →
         IsState f state → IsSoundAnswer f state t bits (Ok reading)
         → IsSoundAnswer f state t bits answer → answer ≡ Ok reading }
+{}
+
+/// The bits that are viable are those with which data of at most 65,536 bytes can begin that are written or listed. So the
+/// bits before a wrong one begin such data, and with it they begin none.
+pub fn viable_bits_begin_data()
+    ensures data { (f t : ℕ) (state : State) (bits : List Bool) → 1 ≤ f → f ≤ 49152
+        → IsState f state → length bits ≤ 8 * 65536 →
+        Viable f state t bits → BeginReadable f state t bits }
+    ensures viable { (f t : ℕ) (state : State) (bits : List Bool) → IsState f state →
+        BeginReadable f state t bits → Viable f state t bits }
 {}
 
 /// At most one of these holds: that the bits spell a packet, that they have an opaque front with nothing known, and
