@@ -5,6 +5,7 @@ pub mod KeptContent
 pub mod ExactData
 pub mod ExactPacket
 pub mod SpelledWords
+mod PartCompletions
 pub mod ExactAnswers
 pub mod ViableData
 pub mod OneAnswer
