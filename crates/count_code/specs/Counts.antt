@@ -1,5 +1,5 @@
 -- Words within a limit, and reading them.
-use Rattle.std.specs.Prelude.{◌≡◌, ℕ, zero, suc, ◌+◌, ◌-◌, ◌*◌, ◌^◌, ◌≤◌, nat_le, Bool, true, false, if◌then◌else◌, List}
+use Rattle.std.specs.Prelude.{◌≡◌, ℕ, zero, suc, ◌+◌, ◌-◌, ◌*◌, ◌^◌, ◌≤◌, nat_le, Bool, true, false, if◌then◌else◌, List, ◌++◌}
 use Rattle.bit_vectors.specs.Reading.{Parsed, Read, ◌>>=◌, bit_where, allowed}
 use Rattle.count_code.specs.declared.count.Count.{Count}
 use Rattle.count_code.specs.declared.count.Count.TheVariants.{Value, End}
@@ -25,6 +25,19 @@ IsCodeOf limit count word = IsWithin limit count × (word ≡ word_of count)
 -- the words within the limit
 abbrev pub IsCode : ℕ → List Bool → Type 0
 IsCode limit word = (count : Count) × IsCodeOf limit count word
+
+-- ---- completions
+
+-- the word of the count begins with these bits
+abbrev pub IsBegunBy : List Bool → Count → Type 0
+IsBegunBy front count = (rest : List Bool) × (word_of count ≡ front ++ rest)
+
+-- the least count from 1 up whose word begins with these bits is within the limit
+pub record IsLeastWithin (limit : ℕ) (front : List Bool) : Type 0 where
+  pub least : ℕ
+  pub within : IsWithin limit (Value least)
+  pub begun : IsBegunBy front (Value least)
+  pub lower : (a : ℕ) → 1 ≤ a → IsBegunBy front (Value a) → least ≤ a
 
 -- ---- reading
 

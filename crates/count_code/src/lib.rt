@@ -9,7 +9,7 @@ mod word;
 mod writing;
 
 pub use count::Count;
-pub use laws::{long_words, no_word_begins_another};
+pub use laws::{counts_are_completed, long_words, no_word_begins_another};
 pub use matching::match_count;
 pub use reading::take_count;
 pub use writing::{count_len, put_count, put_end};

@@ -11,6 +11,8 @@ mod HistoryRows
 mod ListedRows
 mod Counted
 mod Receptions
+mod FirstWrong
+mod TakenOut
 mod Writings
 mod LinePieces
 mod RestCourses

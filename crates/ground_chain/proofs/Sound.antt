@@ -129,7 +129,7 @@ module _ (f : ℕ) (known : Known) (has : IsState f known.state) where
   IsState-judged body None = has
   IsState-judged body (Some t) = IsState-follows f known.state t has (bits_of body) (state_after f known.state t (bits_of body)) (answer_of f known.state t (bits_of body)) (follows_answer f known.state t has (bits_of body))
 
-  judged_exact : (body : List ℕ) (number : Option ℕ) → IsJudgedBy IsExactAnswer f known body (judged_by f known body number) number
+  pub judged_exact : (body : List ℕ) (number : Option ℕ) → IsJudgedBy IsExactAnswer f known body (judged_by f known body number) number
   judged_exact body None = refl
   judged_exact body (Some t) = record {
     answer = answer_of f known.state t (bits_of body);

@@ -9,4 +9,5 @@ pub mod Accounts
 pub mod Restoring
 pub mod Receiving
 pub mod Listing
+pub mod Refusals
 pub mod Worked

@@ -1,14 +1,23 @@
 -- Words for worked runs and histories.
-use Rattle.std.specs.Prelude.{ℕ, false, List, [], ◌∷◌, nat_lt, if◌then◌else◌, None}
+use Rattle.std.specs.Prelude.{ℕ, false, List, [], ◌∷◌, nat_lt, if◌then◌else◌, None, Some}
 use Rattle.bit_vectors.specs.declared.flags.Flags.{Flags}
 use Rattle.bit_vectors.specs.Vectors.{bits_of}
 use Rattle.mask_update.specs.Histories.{History, history_of}
+use Rattle.packet_decode.specs.State.{State}
 use Rattle.ground_chain.specs.declared.verdict.Kind.TheVariants.{Written}
 use Rattle.ground_chain.specs.declared.verdict.Verdict.{Verdict}
 use Rattle.ground_chain.specs.Run.{Arrival}
 
 abbrev pub arrival : ℕ → List ℕ → Arrival
 arrival count body = record { count = count; body = body }
+
+-- the first packet of 8 places, with the mask 00 and the content B0
+abbrev pub first_packet : List Arrival
+first_packet = arrival 0 (0x85 ∷ 0xB8 ∷ 0xD6 ∷ 0x00 ∷ []) ∷ []
+
+-- the packet with the number t and this content, where no place is masked
+abbrev pub unmasked : ℕ → ℕ → State
+unmasked t content = Some (record { number = t; mask = bits_of (0x00 ∷ []); content = bits_of (content ∷ []) })
 
 -- a packet is written that follows the one before
 abbrev pub written_verdict : ℕ → Verdict

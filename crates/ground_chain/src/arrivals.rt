@@ -3,6 +3,7 @@
 ghost use Rattle.std.specs.Prelude.{◌≡◌, ◌+◌, ◌^◌, ◌<◌, ◌≤◌, ◌↔◌, ◌∷◌, ◌++◌, [], List, None, IfSome, IfOk, length};
 ghost use Rattle.ground_chain.specs.Numbers.{expected, number_after};
 ghost use Rattle.ground_chain.specs.Run.{Arrival, kind_of, lost_from};
+ghost use Rattle.ground_chain.specs.Refusals.{IsExactVerdict};
 ghost use Rattle.ground_chain.specs.Reception.{AreLost, HasDecoded, Shows, StandsFor, known_of, next_judged, nothing_arrived};
 
 use crate::unwrap::Unwrap;
@@ -57,6 +58,9 @@ impl Ground {
         ensures known { known_of self.new ≡ (next_judged self.old count bytes.now).after }
         ensures stands { (arrivals : List Arrival) → StandsFor arrivals self.old →
             StandsFor (arrivals ++ record { count = count; body = bytes.now } ∷ []) self.new }
+        // What is no repeat gets the exact answer to its data: a refusal names the first wrong bit.
+        ensures exact { IfSome (number_after self.old.latest count)
+            (IsExactVerdict self.old bytes.now result) }
         // Repeat comes exactly for the count of the latest number.
         ensures repeat { (result.kind ≡ Kind.Repeat) ↔ (number_after self.old.latest count ≡ None) }
         ensures repeated { result.kind ≡ Kind.Repeat → self.new ≡ self.old }

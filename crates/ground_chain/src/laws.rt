@@ -4,7 +4,7 @@ ghost use Rattle.std.specs.Prelude.{◌≡◌, ◌<◌, ◌≤◌, ◌↔◌, �
 ghost use Rattle.std.specs.List.{range_with_len};
 ghost use Rattle.packet_store.specs.SpacePackets.{period};
 ghost use Rattle.ground_chain.specs.Numbers.{HasCount, number_after, expected};
-ghost use Rattle.ground_chain.specs.Run.{Arrival, Judged, judge, known_after, repeat_judged, run};
+ghost use Rattle.ground_chain.specs.Run.{Arrival, Judged, judge, known_after, repeat_judged, run, run_from};
 ghost use Rattle.ground_chain.specs.Listing.{IsToldAlike, listed_texts, listing_course, run_listing};
 ghost use Rattle.ground_chain.specs.Receiving.{store_course};
 ghost use Rattle.ground_chain.specs.Report.{header_row, is_repeat, is_unwritten, own_row, restored_of, run_bytes, run_report, run_rows};
@@ -34,8 +34,13 @@ pub fn numbers_are_the_next_ones()
         → HasCount other count → t ≤ other }
 {}
 
-/// A run over one arrival more is the run and one verdict more.
+/// A run over one arrival more is the run and one verdict more. So in any run the verdict on an arrival is the next one
+/// after the arrivals before it.
 pub fn runs_grow()
+    ensures place { (f : ℕ) (before after : List Arrival) (arrival : Arrival) →
+        run f (before ++ arrival ∷ after)
+        ≡ run f before ++ judge f (known_after f before) arrival
+        ∷ run_from f (judge f (known_after f before) arrival).after after }
     ensures verdicts { (f : ℕ) (arrivals : List Arrival) (arrival : Arrival) →
         run f (arrivals ++ arrival ∷ [])
         ≡ run f arrivals ++ judge f (known_after f arrivals) arrival ∷ [] }

@@ -17,7 +17,8 @@ use Rattle.run_code.proofs.InverseBits.{IsExact-inverse_at}
 use Rattle.packet_encode.specs.Forms.{Directions, Part, Form, AreDirections, direction_bits, change_bits}
 use Rattle.packet_decode.specs.State.{Change, change_of}
 use Rattle.packet_decode.specs.PacketReading.{parse_named, parse_directions, parse_change}
-use Rattle.packet_decode.proofs.Readers.{HasWord, IsImage, IsExact-map, IsBitThen, IsExact-bit, any_may}
+use Rattle.packet_decode.specs.PartWords.{IsBitThen}
+use Rattle.packet_decode.proofs.Readers.{HasWord, IsImage, IsExact-map, IsExact-bit, any_may}
 
 -- a form with these recent changes and this level
 abbrev pub bare : List Bool → ℕ → Form

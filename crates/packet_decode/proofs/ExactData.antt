@@ -20,16 +20,12 @@ use Rattle.run_code.proofs.Ones.{one_or_zero, places_down_apart, in_places_down,
 use Rattle.packet_encode.specs.Forms.{Directions, wide_by}
 use Rattle.packet_decode.specs.State.{Change}
 use Rattle.packet_decode.specs.PacketReading.{Outcome, Spelled, Opaque, parse_kept, from_edges, parse_mask, parse_whole, parse_whole_with, parse_part_with, parse_content, parse_unsent, parse_maskless, parse_masked, parse_sent, parse_data}
+use Rattle.packet_decode.specs.PartWords.{AllPlaces, places_of, AgreesWith, IsBitThen, NoWord, IsMaskWord, IsWhole, IsPart, IsContent, IsNothing, IsUnsent, IsMaskless, IsMasked, IsSent, IsData}
 use Rattle.packet_decode.proofs.EdgeMasks.{edges-from_edges, length-from_edges, length_edges, from_edges-edges}
-use Rattle.packet_decode.proofs.Readers.{HasWord, IsImage, IsExact-map, IsBitThen, IsExact-bit, NoWord, IsExact-one, IsAfter, IsExact-after}
+use Rattle.packet_decode.proofs.Readers.{HasWord, IsImage, IsExact-map, IsExact-bit, IsExact-one, IsAfter, IsExact-after}
 use Rattle.packet_decode.proofs.KeptContent.{IsKept, IsExact-kept_at}
 
 -- ---- the mask
-
--- a sent mask of f places and its word; where one is deduced, it is that one
-abbrev pub IsMaskWord : ℕ → Option (List Bool) → List Bool → List Bool → Type 0
-IsMaskWord f None mask word = (length mask ≡ f) × (word ≡ run_bits (edges mask))
-IsMaskWord f (Some deduced) mask word = (mask ≡ deduced) × (word ≡ run_bits (edges mask))
 
 mask_joined : (f : ℕ) (mask word : List Bool) → IsImage from_edges (IsRunWordOf f) mask word → IsMaskWord f None mask word
 mask_joined f mask word (runs, is, same) =
@@ -50,16 +46,8 @@ IsExact-mask_at f (Some deduced) =
 
 -- ---- the whole content
 
--- a vector of f places that is the known one outside these
-abbrev pub AgreesWith : ℕ → List Bool → Option (List Bool) → List Bool → Type 0
-AgreesWith f places known content = (length content ≡ f) × IfSome known (λ was. SameOutside places was content)
-
 abbrev IsContentWord : ℕ → List Bool → Option (List Bool) → List Bool → List Bool → Type 0
 IsContentWord f places known content word = AgreesWith f places known content × (word ≡ count_bits f ++ content)
-
--- the vectors that are given have f places
-abbrev pub AllPlaces : ℕ → Option (List Bool) → Type 0
-AllPlaces f known = IfSome known (λ was. length was ≡ f)
 
 IsExact-whole_at : (f : ℕ) (places : List Bool) (known : Option (List Bool)) → length places ≡ f → AllPlaces f known → IsExact (IsContentWord f places known) (parse_whole f places known)
 unfolding parse_whole
@@ -78,14 +66,6 @@ IsExact-whole_at f places (Some known) len all =
 agreeing : (f : ℕ) (places : List Bool) (known : Option (List Bool)) → AllPlaces f known → HasWord (IsContentWord f places known)
 agreeing f places None all = (replicate f false, count_bits f ++ replicate f false, ((length-replicate f false, tt), refl))
 agreeing f places (Some known) all = (known, count_bits f ++ known, ((all, λ place bound. refl), refl))
-
--- the places that are extracted
-abbrev pub places_of : Change → List Bool → List Bool
-places_of change mask = wide_by change.directions change.recent mask
-
-abbrev pub IsWhole : ℕ → Change → List Bool → Option (List Bool) → Outcome → List Bool → Type 0
-IsWhole f change mask known (Spelled m content) word = (m ≡ mask) × AgreesWith f (places_of change mask) known content × (word ≡ count_bits f ++ content)
-IsWhole f change mask known Opaque word = ⊥
 
 whole_joined : (f : ℕ) (change : Change) (mask : List Bool) (known : Option (List Bool)) (o : Outcome) (word : List Bool) → IsImage (Spelled mask) (IsContentWord f (places_of change mask) known) o word → IsWhole f change mask known o word
 whole_joined f change mask known o word (content, is, same) = subst (λ (x : Outcome). IsWhole f change mask known x word) (sym same) (refl, is.0, is.1)
@@ -115,12 +95,6 @@ some_whole : (f : ℕ) (change : Change) (mask : List Bool) (known : Option (Lis
 some_whole f change mask known all = let a = agreeing f (places_of change mask) known all in (Spelled mask a.0, a.1, (refl, a.2.0, a.2.1))
 
 -- ---- the extracted bits
-
-abbrev pub IsPart : Change → List Bool → Option (List Bool) → Outcome → List Bool → Type 0
-IsPart change mask None (Spelled m content) word = ⊥
-IsPart change mask None Opaque word = word ≡ []
-IsPart change mask (Some known) (Spelled m content) word = (m ≡ mask) × AgreesWith (length known) (places_of change mask) (Some known) content × (word ≡ extract content (places_of change mask))
-IsPart change mask (Some known) Opaque word = ⊥
 
 part_joined : (change : Change) (mask known : List Bool) (o : Outcome) (word : List Bool) → IsImage (Spelled mask) (IsFilling (places_down (places_of change mask)) known) o word → IsPart change mask (Some known) o word
 part_joined change mask known o word (content, is, same) =
@@ -169,34 +143,10 @@ some_part change mask (Some known) = (Spelled mask known, extract known (places_
 
 -- ---- either
 
-abbrev pub IsContent : ℕ → Change → List Bool → Option (List Bool) → Outcome → List Bool → Type 0
-IsContent f change mask known = IsBitThen (IsWhole f change mask known) (IsPart change mask known)
-
 all_of_places : (f n : ℕ) (known : Option (List Bool)) → f ≡ n → AllPlaces f known → AllPlaces n known
 all_of_places f n known same all = subst (λ (k : ℕ). AllPlaces k known) same all
 
 -- ---- all parts after the first
-
--- too little to understand them
-abbrev pub IsNothing : Outcome → List Bool → Type 0
-IsNothing o word = (o ≡ Opaque) × (word ≡ [])
-
-abbrev pub IsUnsent : Change → Option (List Bool) → Option (List Bool) → Outcome → List Bool → Type 0
-IsUnsent change None known = IsNothing
-IsUnsent change (Some mask) known = IsPart change mask known
-
-abbrev pub IsMaskless : ℕ → Change → Option (List Bool) → Option (List Bool) → Outcome → List Bool → Type 0
-IsMaskless f change None known = IsNothing
-IsMaskless f change (Some mask) known = IsBitThen (IsWhole f change mask known) NoWord
-
-abbrev pub IsMasked : ℕ → Change → Option (List Bool) → Option (List Bool) → Outcome → List Bool → Type 0
-IsMasked f change deduced known = IsWordThen (IsMaskWord f deduced) (λ mask. IsContent f change mask known)
-
-abbrev pub IsSent : ℕ → Change → Option (List Bool) → Option (List Bool) → Outcome → List Bool → Type 0
-IsSent f change deduced known = IsBitThen (IsMasked f change deduced known) (IsMaskless f change deduced known)
-
-abbrev pub IsData : ℕ → Change → Option (List Bool) → Option (List Bool) → Outcome → List Bool → Type 0
-IsData f change deduced known = IsBitThen (IsUnsent change deduced known) (IsSent f change deduced known)
 
 -- there is a mask, and after each a content
 mask_of_places : (f : ℕ) (deduced : Option (List Bool)) → AllPlaces f deduced → (mask word : List Bool) → IsMaskWord f deduced mask word → length mask ≡ f
@@ -234,7 +184,7 @@ module _ (f : ℕ) (change : Change) (known : Option (List Bool)) (recent : leng
   part_exact : (mask : List Bool) → length mask ≡ f → IsExact (IsPart change mask known) (parse_part_with change mask known)
   part_exact mask len = IsExact-part_with change mask known (all_of_places f (length (places_of change mask)) known (sym (length-places_of f change mask recent len)) content_places)
 
-  content_exact : (mask : List Bool) → length mask ≡ f → IsExact (IsContent f change mask known) (parse_content f change mask known)
+  pub content_exact : (mask : List Bool) → length mask ≡ f → IsExact (IsContent f change mask known) (parse_content f change mask known)
   unfolding parse_content
   content_exact mask len =
       IsExact-bit (IsWhole f change mask known) (IsPart change mask known) (parse_whole_with f change mask known) (parse_part_with change mask known)

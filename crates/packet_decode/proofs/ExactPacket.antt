@@ -11,7 +11,8 @@ use Rattle.packet_decode.specs.State.{State, IsState, Change, unpredictable, mas
 use Rattle.packet_decode.specs.PacketReading.{Outcome, Spelled, Opaque, Found, deduced_by, known_by, parse_change, parse_data, parse_parts, parse_padding, parse_packet}
 use Rattle.packet_decode.proofs.Readers.{IsImage, IsExact-map, IsExact-by, IsCounted, counted, IsExact-counted, counted_then}
 use Rattle.packet_decode.proofs.ExactChange.{bare, IsChange, IsChangeWord, IsExact-change_at}
-use Rattle.packet_decode.proofs.ExactData.{AllPlaces, IsData, some_data, IsExact-data_at}
+use Rattle.packet_decode.specs.PartWords.{AllPlaces, IsData}
+use Rattle.packet_decode.proofs.ExactData.{some_data, IsExact-data_at}
 
 -- ---- what the state gives has f places
 

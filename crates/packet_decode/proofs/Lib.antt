@@ -5,7 +5,9 @@ pub mod KeptContent
 pub mod ExactData
 pub mod ExactPacket
 pub mod SpelledWords
+mod PartCompletions
 pub mod ExactAnswers
+pub mod ViableData
 pub mod OneAnswer
 pub mod PaddingBits
 pub mod Telling

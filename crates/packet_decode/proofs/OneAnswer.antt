@@ -18,7 +18,7 @@ use Rattle.packet_decode.specs.Spelling.{IsSentOf, Spells, HasOpaqueFront}
 use Rattle.packet_decode.specs.Answers.{SpellsPacket, Viable, IsHopeless, IsIncomplete, Says, IsSoundAnswer, IsExactAnswer}
 use Rattle.packet_decode.specs.PacketReading.{Spelled, Opaque, Found, parse_end, parse_packet, parse_whole_packet, outcome_answer, parsed_answer, answer_of}
 use Rattle.packet_decode.proofs.ExactChange.{change_word, change_bits_are}
-use Rattle.packet_decode.proofs.ExactData.{places_of}
+use Rattle.packet_decode.specs.PartWords.{places_of}
 use Rattle.packet_decode.proofs.ExactPacket.{IsExact-packet_at}
 use Rattle.packet_decode.proofs.SpelledWords.{spelled_sent, spells_packet, opaque_packet}
 use Rattle.packet_decode.proofs.ExactAnswers.{Means, means_viable, take_viable, fewer_viable, answer_of-exact}

@@ -4,6 +4,7 @@ use Rattle.std.proofs.lemmas.List.{length-append, append-nil}
 use Rattle.bit_vectors.specs.Reading.{any_bit, Parsed, Read, WrongBit, TooShort, ◌>>=◌, bit_where, allowed, parse_word, IsExact}
 use Rattle.bit_vectors.proofs.ExactReading.{IsBitWhere, IsWordThen, IsExact-give, IsExact-bit_where, IsExact-same, IsExact-then}
 use Rattle.bit_vectors.proofs.SameWord.{IsExact-same_at}
+use Rattle.packet_decode.specs.PartWords.{IsBitThen, NoWord}
 
 -- there is a word of some value
 abbrev pub HasWord : {A : Type 0} → (A → List Bool → Type 0) → Type 0
@@ -26,12 +27,6 @@ IsExact-map h W f exact =
 pub any_may : (bit : Bool) → allowed true true bit ≡ true
 any_may true = refl
 any_may false = refl
-
--- a one and a word of the first kind, or a zero and a word of the second
-abbrev pub IsBitThen : {A : Type 0} → (A → List Bool → Type 0) → (A → List Bool → Type 0) → A → List Bool → Type 0
-IsBitThen U V u [] = ⊥
-IsBitThen U V u (true ∷ word) = U u word
-IsBitThen U V u (false ∷ word) = V u word
 
 abbrev by_bit : {A : Type 0} → (A → List Bool → Type 0) → (A → List Bool → Type 0) → Bool → A → List Bool → Type 0
 by_bit U V true = U
@@ -65,9 +60,6 @@ IsExact-bit U V f g first second some other =
     (λ bit word w. bit_word U V some other bit))
 
 -- a one, and then a word
-abbrev pub NoWord : {A : Type 0} → A → List Bool → Type 0
-NoWord u word = ⊥
-
 one_joined : {A : Type 0} (U : A → List Bool → Type 0) (u : A) (word : List Bool) (bit : Bool) (front back : List Bool) → allowed false true bit ≡ true → front ≡ bit ∷ [] → U u back → word ≡ front ++ back → IsBitThen U NoWord u word
 one_joined U u word true front back ok f b w = rw (w, f) b
 one_joined U u word false front back ok f b w = absurd cc

@@ -15,18 +15,18 @@ use Rattle.packet_decode.specs.State.{WrittenPacket, State, HasVectors, IsState,
 use Rattle.packet_decode.specs.Spelling.{IsSentOf, Follows, Spells, opaque_end, HasOpaqueFront}
 use Rattle.packet_decode.specs.PacketReading.{Outcome, Spelled, Opaque, Found, deduced_by, known_by}
 use Rattle.packet_decode.proofs.ExactChange.{bare, AreDirections-by, IsChange, change_word, change_bits_are}
-use Rattle.packet_decode.proofs.ExactData.{IsContent, IsData, places_of}
+use Rattle.packet_decode.specs.PartWords.{IsContent, IsData, places_of}
 use Rattle.packet_decode.proofs.ExactPacket.{length-mask_after, IsParts, IsPacket}
 
 -- ---- the parts after the first, in reach
 
 -- what is sent agrees with a deduced mask and a known content
-record IsSentBy (f : ℕ) (change : Change) (deduced known mask content : List Bool) (sent : Option (List Bool)) (c : Content) : Type 0 where
-  mask_is : mask ≡ deduced
-  mask_sent : IfSome sent (λ m. m ≡ mask)
-  places : length content ≡ f
-  kept : SameOutside (places_of change mask) known content
-  content_sent : IsSentOf (places_of change mask) content c
+pub record IsSentBy (f : ℕ) (change : Change) (deduced known mask content : List Bool) (sent : Option (List Bool)) (c : Content) : Type 0 where
+  pub mask_is : mask ≡ deduced
+  pub mask_sent : IfSome sent (λ m. m ≡ mask)
+  pub places : length content ≡ f
+  pub kept : SameOutside (places_of change mask) known content
+  pub content_sent : IsSentOf (places_of change mask) content c
 
 -- some mask and content are sent by these bits
 record AreSent (f : ℕ) (change : Change) (deduced known mask content word : List Bool) : Type 0 where
@@ -82,7 +82,7 @@ module _ (f : ℕ) (change : Change) (deduced known : List Bool) (known_places :
       }
   sent_of (false ∷ false ∷ false ∷ word) h = absurd h
 
-  data_of : (sent : Option (List Bool)) (c : Content) → IsSentBy f change deduced known mask content sent c → IsData f change (Some deduced) (Some known) (Spelled mask content) (data_bits sent c)
+  pub data_of : (sent : Option (List Bool)) (c : Content) → IsSentBy f change deduced known mask content sent c → IsData f change (Some deduced) (Some known) (Spelled mask content) (data_bits sent c)
   data_of None (Part bits) h =
       (h.mask_is, (h.places ∙ sym known_places, rw h.mask_is at h.kept), rw h.mask_is at h.content_sent)
   data_of None (Whole whole) h =
@@ -129,7 +129,7 @@ module _ (f : ℕ) (change : Change) where
   alone_of mask content (false ∷ true ∷ word) (m, front, back, runs, then, parts) = rw parts (whole_after_mask mask content m front back runs.0 runs.1 then)
   alone_of mask content (false ∷ false ∷ word) h = let no = h.0 in absurd cc
 
-  data_alone : (mask content : List Bool) → length mask ≡ f → length content ≡ f → IsData f change None None (Spelled mask content) (data_bits (Some mask) (Whole content))
+  pub data_alone : (mask content : List Bool) → length mask ≡ f → length content ≡ f → IsData f change None None (Spelled mask content) (data_bits (Some mask) (Whole content))
   data_alone mask content mask_places content_places =
       (mask, run_bits (edges mask), true ∷ (count_bits (length content) ++ content), (mask_places, refl), (refl, (content_places, tt), rw content_places refl), refl)
 
@@ -154,7 +154,7 @@ module _ (f : ℕ) (change : Change) where
   opaque_of (false ∷ false ∷ word) h =
       record { sent = None; c = Whole (replicate f false); mask_places = tt; content_places = length-replicate f false; end = rw h.1 refl }
 
-  data_opaque : (sent : Option (List Bool)) (c : Content) (end : List Bool) → IfSome sent (λ m. length m ≡ f) → opaque_end sent c ≡ Some end → IsData f change None None Opaque end
+  pub data_opaque : (sent : Option (List Bool)) (c : Content) (end : List Bool) → IfSome sent (λ m. length m ≡ f) → opaque_end sent c ≡ Some end → IsData f change None None Opaque end
   data_opaque None (Part bits) end places is = rw (← same_Some _ _ is) (refl, refl)
   data_opaque None (Whole whole) end places is = rw (← same_Some _ _ is) (refl, refl)
   data_opaque (Some m) (Part bits) end places is = rw (← same_Some _ _ is) (m, run_bits (edges m), false ∷ [], (places, refl), refl, refl)
@@ -194,7 +194,7 @@ directions_of : (change : Change) (sent : Option (List Bool)) (c : Content) (o :
 directions_of change sent c None are = tt
 directions_of change sent c (Some directions) are = AreDirections-by (bare change.recent change.level) (form_of change sent c) directions refl refl are
 
-is_form : (f : ℕ) (change : Change) (sent : Option (List Bool)) (c : Content) → IsChange f change → IfSome sent (λ m. length m ≡ f) → HasPlaces f c → IsForm f (form_of change sent c)
+pub is_form : (f : ℕ) (change : Change) (sent : Option (List Bool)) (c : Content) → IsChange f change → IfSome sent (λ m. length m ≡ f) → HasPlaces f c → IsForm f (form_of change sent c)
 is_form f change sent c is mask_places content_places =
     record { recent = is.recent; level = is.level; directions = directions_of change sent c change.directions is.directions; sent = mask_places; content = content_places }
 
@@ -202,7 +202,7 @@ directions_from : (form : Form) (o : Option Directions) → IfSome o (AreDirecti
 directions_from form None are = tt
 directions_from form (Some directions) are = AreDirections-by form (bare form.recent form.level) directions refl refl are
 
-is_change : (f : ℕ) (form : Form) → IsForm f form → IsChange f (change_of form)
+pub is_change : (f : ℕ) (form : Form) → IsForm f form → IsChange f (change_of form)
 is_change f form is = record { recent = is.recent; level = is.level; directions = directions_from form form.directions is.directions }
 
 form_bits_are : (change : Change) (sent : Option (List Bool)) (c : Content) → form_bits (form_of change sent c) ≡ change_word change ++ data_bits sent c

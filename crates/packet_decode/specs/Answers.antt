@@ -1,7 +1,8 @@
 -- The answers to the bits of a packet: what each of them says, exactly or only soundly.
-use Rattle.std.specs.Prelude.{◌≡◌, ℕ, ◌+◌, ◌<◌, ◌⊎◌, List, ◌++◌, Bool, length, take, IsSome, IsNone, Result, Ok, Err}
+use Rattle.std.specs.Prelude.{◌≡◌, ℕ, ◌+◌, ◌<◌, ◌≤◌, ◌⊎◌, List, ◌++◌, Bool, length, take, IsSome, IsNone, Result, Ok, Err}
 use Rattle.bit_vectors.specs.declared.fault.BitFault.{BitFault}
 use Rattle.bit_vectors.specs.declared.fault.BitFault.TheVariants.{Wrong, EndsEarly}
+use Rattle.bit_vectors.specs.Vectors.{AreBytes, bits_of}
 use Rattle.packet_encode.specs.Forms.{Form}
 use Rattle.packet_decode.specs.declared.decoder.Reading.{Reading}
 use Rattle.packet_decode.specs.declared.decoder.Reading.TheVariants.{Written, Unsynced, Gap}
@@ -50,3 +51,15 @@ abbrev pub IsExactAnswer : ℕ → State → ℕ → List Bool → Result Readin
 IsExactAnswer f state t bits (Ok reading) = Says f state t bits reading
 IsExactAnswer f state t bits (Err (Wrong bit)) = IsHopeless f state t bits bit × Viable f state t (take bit bits)
 IsExactAnswer f state t bits (Err (EndsEarly bit)) = IsIncomplete f state t bits bit × Viable f state t bits
+
+-- ---- viable bits, as data
+
+-- the bits are the first of some data, of at most 65,536 bytes, that are written or listed
+pub record BeginReadable (f : ℕ) (state : State) (t : ℕ) (bits : List Bool) : Type 0 where
+  pub body : List ℕ
+  pub bytes : AreBytes body
+  pub size : length body ≤ 65536
+  pub rest : List Bool
+  pub begins : bits_of body ≡ bits ++ rest
+  pub reading : Reading
+  pub says : Says f state t (bits_of body) reading

@@ -1,18 +1,20 @@
 //! What the definitions mean.
 
-ghost use Rattle.std.specs.Prelude.{◌≡◌, ℕ, ◌<◌, Bool, true, List, [], ◌∷◌, ◌++◌, length, Option, Some, None, IfSome, Result, Ok, Err};
+ghost use Rattle.std.specs.Prelude.{◌≡◌, ℕ, ◌*◌, ◌<◌, ◌≤◌, Bool, true, List, [], ◌∷◌, ◌++◌, length, Option, Some, None, IfSome, Result, Ok, Err};
+ghost use Rattle.bit_vectors.specs.Reading.{IsExact};
 ghost use Rattle.bit_vectors.specs.Vectors.{bits_of};
 ghost use Rattle.run_code.specs.Extraction.{SameOutside};
 ghost use Rattle.mask_update.specs.Histories.{History, IsValid, input_at};
 ghost use Rattle.mask_update.specs.Masks.{mask_at};
 ghost use Rattle.robust_window.specs.Histories.{level_at};
-ghost use Rattle.packet_encode.specs.Forms.{Form, Part, wide};
+ghost use Rattle.packet_encode.specs.Forms.{Content, Form, Part, Whole, data_bits, wide};
 ghost use Rattle.packet_encode.specs.Packets.{form_at, packet_at};
-ghost use Rattle.packet_decode.specs.State.{InReach, State, IsState, deduced_mask};
+ghost use Rattle.packet_decode.specs.State.{Change, InReach, State, IsState, deduced_mask};
 ghost use Rattle.packet_decode.specs.Histories.{IsUnderstood, true_state, written_at};
-ghost use Rattle.packet_decode.specs.Spelling.{Spells, HasOpaqueFront};
-ghost use Rattle.packet_decode.specs.Answers.{SpellsPacket, Says, IsSoundAnswer, IsExactAnswer};
-ghost use Rattle.packet_decode.specs.PacketReading.{answer_of};
+ghost use Rattle.packet_decode.specs.Spelling.{IsSentOf, Spells, HasOpaqueFront, opaque_end};
+ghost use Rattle.packet_decode.specs.PartWords.{AgreesWith, AllPlaces, IsContent, IsData, IsFirstWord, IsMaskWord, places_of};
+ghost use Rattle.packet_decode.specs.Answers.{SpellsPacket, Viable, Says, IsSoundAnswer, IsExactAnswer, BeginReadable};
+ghost use Rattle.packet_decode.specs.PacketReading.{Opaque, Spelled, answer_of, parse_change, parse_content, parse_data, parse_mask};
 
 use crate::decoder::Reading;
 use bit_vectors::BitFault;
@@ -44,6 +46,45 @@ pub fn sound_answers_agree()
         (answer : Result Reading BitFault) →
         IsState f state → IsSoundAnswer f state t bits (Ok reading)
         → IsSoundAnswer f state t bits answer → answer ≡ Ok reading }
+{}
+
+/// Each part of a packet is read exactly by what the parts before it leave: a first part, a deduced mask or none, a known
+/// content or none, and no state. So some word begins with the bits before a first wrong one, and with bits that end
+/// early. Out of reach any mask and whole content will do, and a front that is opaque is its own word.
+pub fn parts_are_completed()
+    ensures first { (f : ℕ) → IsExact (IsFirstWord f) (parse_change f) }
+    ensures mask { (f : ℕ) (deduced : Option (List Bool)) →
+        IsExact (IsMaskWord f deduced) (parse_mask f deduced) }
+    ensures content { (f : ℕ) (change : Change) (mask : List Bool) (known : Option (List Bool)) →
+        length change.recent ≡ f → length mask ≡ f → AllPlaces f known →
+        IsExact (IsContent f change mask known) (parse_content f change mask known) }
+    ensures others { (f : ℕ) (change : Change) (deduced known : Option (List Bool)) →
+        length change.recent ≡ f → AllPlaces f deduced → AllPlaces f known →
+        IsExact (IsData f change deduced known) (parse_data f change deduced known) }
+    // In reach: the deduced mask, and a content that is the known one outside the extracted places.
+    ensures reached { (f : ℕ) (change : Change) (mask known content : List Bool)
+        (sent : Option (List Bool)) (c : Content) →
+        length known ≡ f → IfSome sent (λ m. m ≡ mask) →
+        AgreesWith f (places_of change mask) (Some known) content →
+        IsSentOf (places_of change mask) content c →
+        IsData f change (Some mask) (Some known) (Spelled mask content) (data_bits sent c) }
+    ensures alone { (f : ℕ) (change : Change) (mask content : List Bool) →
+        length mask ≡ f → length content ≡ f →
+        IsData f change None None (Spelled mask content) (data_bits (Some mask) (Whole content)) }
+    ensures opaque { (f : ℕ) (change : Change) (sent : Option (List Bool)) (c : Content)
+        (end : List Bool) →
+        IfSome sent (λ m. length m ≡ f) → opaque_end sent c ≡ Some end →
+        IsData f change None None Opaque end }
+{}
+
+/// The bits that are viable are those with which data of at most 65,536 bytes can begin that are written or listed. So the
+/// bits before a wrong one begin such data, and with it they begin none.
+pub fn viable_bits_begin_data()
+    ensures data { (f t : ℕ) (state : State) (bits : List Bool) → 1 ≤ f → f ≤ 49152
+        → IsState f state → length bits ≤ 8 * 65536 →
+        Viable f state t bits → BeginReadable f state t bits }
+    ensures viable { (f t : ℕ) (state : State) (bits : List Bool) → IsState f state →
+        BeginReadable f state t bits → Viable f state t bits }
 {}
 
 /// At most one of these holds: that the bits spell a packet, that they have an opaque front with nothing known, and

@@ -117,7 +117,7 @@ filled_any (place ∷ places) v (bit ∷ word) len = filled_any places (set v pl
 pub filling_exact : (x : List Bool) → IsExact (IsFilling (places_up x) (zeros_like x)) (parse_filled (places_up x) (zeros_like x))
 filling_exact x = IsExact-filled_at (places_up x) (zeros_like x) (rw (length-replicate (length x) false) (places_up_apart x))
 
-a_word : (x front : List Bool) → length front + 1 ≡ length (places_up x) → (y : List Bool) × IsInverseWord x y (front ++ true ∷ [])
+pub a_word : (x front : List Bool) → length front + 1 ≡ length (places_up x) → (y : List Bool) × IsInverseWord x y (front ++ true ∷ [])
 a_word x front len =
     let word = front ++ true ∷ [] in
     let u = filled_any (places_up x) (zeros_like x) word (omega (arith, length-append front (true ∷ []))) in

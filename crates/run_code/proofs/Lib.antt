@@ -10,3 +10,4 @@ pub mod Gathering
 pub mod Spreading
 mod Upward
 mod OnesLeft
+mod ShortEndings

@@ -16,6 +16,23 @@ runs_from place (next ∷ places) = count_bits (place - next) ++ runs_from next 
 unfoldable pub run_bits : List Bool → List Bool
 run_bits v = runs_from (length v) (places_down v)
 
+-- the same without the end
+unfoldable pub counts_from : ℕ → List ℕ → List Bool
+counts_from place [] = []
+counts_from place (next ∷ places) = count_bits (place - next) ++ counts_from next places
+
+-- the last of these places, which stand below this one, and this one if there are none
+unfoldable pub lowest_from : ℕ → List ℕ → ℕ
+lowest_from place [] = place
+lowest_from place (next ∷ places) = lowest_from next places
+
+-- the run word of a vector without its end, and the place below which all is zero after it
+abbrev pub counts_of : List Bool → List Bool
+counts_of v = counts_from (length v) (places_down v)
+
+abbrev pub lowest_of : List Bool → ℕ
+lowest_of v = lowest_from (length v) (places_down v)
+
 -- the run word of a vector with so many places
 abbrev pub IsRunWordOf : ℕ → List Bool → List Bool → Type 0
 IsRunWordOf f v word = (length v ≡ f) × (word ≡ run_bits v)

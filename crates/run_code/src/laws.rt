@@ -1,11 +1,13 @@
 //! What the definitions of places, run words, extraction and edges mean.
 
-ghost use Rattle.std.specs.Prelude.{◌≡◌, ◌≢◌, ℕ, ◌+◌, ◌*◌, ◌<◌, ◌≤◌, ◌↔◌, ◌++◌, Bool, false, not, if◌then◌else◌, List, length, count_by, slice_index_or, Contains};
+ghost use Rattle.std.specs.Prelude.{◌≡◌, ◌≢◌, ℕ, ◌+◌, ◌-◌, ◌*◌, ◌<◌, ◌≤◌, ◌↔◌, ◌++◌, Bool, true, false, not, if◌then◌else◌, List, [], ◌∷◌, length, count_by, replicate, slice_index_or, slice_set, Contains};
 ghost use Rattle.std.specs.List.Sorted.{IsStrictlyIncreasing};
+ghost use Rattle.bit_vectors.specs.Reading.{IsExact};
 ghost use Rattle.bit_vectors.specs.Vectors.{IsOne, without_bits};
+ghost use Rattle.count_code.specs.Code.{count_bits, end_bits};
 ghost use Rattle.run_code.specs.Places.{places_up};
-ghost use Rattle.run_code.specs.Runs.{run_bits};
-ghost use Rattle.run_code.specs.Extraction.{extract, bits_up, inverse_up, SameOutside};
+ghost use Rattle.run_code.specs.Runs.{IsRunWordOf, counts_of, lowest_of, parse_vector, run_bits};
+ghost use Rattle.run_code.specs.Extraction.{IsInverseWord, SameOutside, bits_up, extract, inverse_up, parse_inverse};
 ghost use Rattle.run_code.specs.Edges.{edges};
 
 /// The places of a vector's ones are those at which it is 1, in order, and as many as it has ones.
@@ -23,6 +25,26 @@ pub fn run_words()
         → run_bits a ++ rest ≢ run_bits b }
     ensures told { (a b rest others : List Bool) → length a ≡ length b
         → run_bits a ++ rest ≡ run_bits b ++ others → (a ≡ b) × (rest ≡ others) }
+{}
+
+/// Reading run words is exact: before the first wrong bit, and where the bits end early, the run word of some vector begins
+/// with the bits read. The shortest ending is that of the counts read so far, at once (`ended`), or after one more count
+/// within the limit, which is the place of the lowest one so far (`further`).
+pub fn run_words_are_completed()
+    ensures exact { (f : ℕ) → IsExact (IsRunWordOf f) (parse_vector f) }
+    ensures ended { (v : List Bool) → run_bits v ≡ counts_of v ++ end_bits }
+    ensures further { (v : List Bool) (a : ℕ) → 1 ≤ a → a ≤ lowest_of v →
+        run_bits (slice_set v (lowest_of v - a) true)
+        ≡ counts_of v ++ (count_bits a ++ end_bits) }
+{}
+
+/// Reading directions is exact: with fewer bits than there are ones, they can still be completed, by zeros and a one in
+/// the last place.
+pub fn directions_are_completed()
+    ensures exact { (x : List Bool) → Contains x true → IsExact (IsInverseWord x) (parse_inverse x) }
+    ensures last { (x front : List Bool) → length front < count_by (λ bit. bit) x →
+        (y : List Bool) × IsInverseWord x y
+        (front ++ (replicate (count_by (λ bit. bit) x - length front - 1) false ++ true ∷ [])) }
 {}
 
 /// As many bits are extracted as there are ones, and with the bits at the zeros they tell the vector. The

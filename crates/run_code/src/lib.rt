@@ -13,7 +13,10 @@ mod words;
 pub use edge::{edges, from_edges};
 pub use extraction::{put_extract, take_into};
 pub use inverse::{put_inverse_up, take_inverse_up};
-pub use laws::{extracted_bits, masks_and_edges, places_of_ones, run_words};
+pub use laws::{
+    directions_are_completed, extracted_bits, masks_and_edges, places_of_ones, run_words,
+    run_words_are_completed,
+};
 pub use matching::match_runs;
 pub use runs::{put_runs, take_runs};
 

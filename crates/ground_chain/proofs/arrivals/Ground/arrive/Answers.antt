@@ -1,7 +1,9 @@
+use Rattle.std.specs.Prelude.{IfSome}
 use Rattle.std.proofs.Common.{◌≡◌, ℕ, Option, Some, None, refl, sym, ap, ◌∙◌, subst, rules}
 use Rattle.ground_chain.specs.declared.verdict.Verdict.{Verdict}
 use Rattle.ground_chain.specs.Numbers.{number_after, latest_after, expected}
-use Rattle.ground_chain.specs.Run.{Judged, lost_from, kind_of}
+use Rattle.ground_chain.specs.Run.{Judged, lost_from, kind_of, verdict_of}
+use Rattle.ground_chain.specs.Refusals.{IsExactVerdict}
 use Rattle.ground_chain.specs.Reception.{Reception, Shows, StandsFor, known_of, next_judged}
 use Rattle.ground_chain.proofs.Receptions.{judged_read, judged_repeat, shows_read, shows_repeat, stands_next}
 use Rattle.ground_chain.proofs.arrivals.Ground.arrive.Goals as goal
@@ -44,6 +46,24 @@ returns-clause-stands c = λ arrivals stands.
     let new : Reception = record { latest = c.next.new.self; decoder = c.read.new.self } in
     let places = c.read.ensures.places ∙ ap (λ (r : Reception). r.decoder.places) c.self.view_is in
     stands_next arrivals c.args.self.now new c.args.count c.args.bytes.now places (returns-clause-known c) stands
+
+pub returns-in_default-clause-exact : goal.returns-in_default-clause-exact
+returns-in_default-clause-exact c =
+    let none : number_after c.self.inside.numbers c.args.count ≡ None = search rules in
+    let now : number_after c.args.self.now.latest c.args.count ≡ None = ap (λ (r : Reception). number_after r.latest c.args.count) (sym c.self.view_is) ∙ none in
+    rw now tt
+
+pub returns-clause-exact : goal.returns-clause-exact
+returns-clause-exact c =
+    let old : Reception = record { latest = c.self.inside.numbers; decoder = c.self.inside.decoder } in
+    let number : number_after c.self.inside.numbers c.args.count ≡ Some c.in-Some.t = sym c.next.ensures.number ∙ c.in-Some.is in
+    let lost = c.lost_from-lost.ensures.is ∙ ap (λ (n : ℕ). lost_from n c.in-Some.t) c.expected-expected.ensures in
+    let verdict : Verdict = record { lost = c.lost_from-lost.result; t = c.in-Some.t; kind = c.kind_of-kind.result } in
+    let is : verdict ≡ verdict_of c.self.inside.numbers c.in-Some.t c.read.result =
+    λ i. record { lost = lost i; t = c.in-Some.t; kind = c.kind_of-kind.ensures i } in
+    let exact : IsExactVerdict old c.args.bytes.now verdict c.in-Some.t = record { answer = c.read.result; exact = c.read.ensures.exact; is = is } in
+    subst (λ (r : Reception). IfSome (number_after r.latest c.args.count) (IsExactVerdict r c.args.bytes.now verdict)) c.self.view_is
+    (subst (λ (n : Option ℕ). IfSome n (IsExactVerdict old c.args.bytes.now verdict)) (sym number) exact)
 
 pub returns-in_default-clause-shows : goal.returns-in_default-clause-shows
 returns-in_default-clause-shows c =

@@ -1,0 +1,8 @@
+use Rattle.ground_chain.proofs.FirstWrong.{wrong_first, early_all}
+use Rattle.ground_chain.proofs.refusals.wrong_bits_are_the_first.Goals as goal
+
+pub returns-clause-wrong : goal.returns-clause-wrong
+returns-clause-wrong c = λ f bit before arrival some most size few row. wrong_first f some most before arrival size bit few row
+
+pub returns-clause-early : goal.returns-clause-early
+returns-clause-early c = λ f bit before arrival some most size few row. early_all f some most before arrival size bit few row
