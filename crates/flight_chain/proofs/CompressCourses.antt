@@ -18,7 +18,7 @@ use Rattle.flight_chain.specs.declared.reading.Unread.TheVariants as unread
 use Rattle.flight_chain.specs.Recordings.{RecordingWalk, recording_walk_from, behind_input}
 use Rattle.flight_chain.specs.Reading.{Takes, Stops, AfterUnread, fault_by}
 use Rattle.flight_chain.specs.Stores.{data_at}
-use Rattle.flight_chain.specs.Compressing.{Compression, history_by, HasTaken, all_inputs, next_packet, further_packets, rest_course, rest_work, stop_by}
+use Rattle.flight_chain.specs.Compressing.{Compression, history_by, HasTaken, all_inputs, next_packet, further_packets, required_robustness, rest_course, rest_work, stop_by, with_packet}
 use Rattle.flight_chain.proofs.RecordingWalks.{recording_walk_from-none}
 
 -- the course that a walk over what is left gives
@@ -76,18 +76,18 @@ AfterStop-unread k inputs a b unread.ReadFault loses =
 
 -- the history of one input more
 history_by-push : (k : Compression) (inputs : List (List Bool)) (input : List Bool) (t : ℕ) → t ≡ length inputs
-    → with_next_input (history_by k inputs) k.robust input (flags_of k.rows t) ≡ history_by k (inputs ++ input ∷ [])
+    → with_next_input (history_by k inputs) (required_robustness k.rows.robust k.robust t) input (flags_of k.rows.flags t) ≡ history_by k (inputs ++ input ∷ [])
 history_by-push k inputs input t is =
-    let flags = flags_of k.rows in
-    let robust : ℕ → ℕ = λ _. k.robust in
+    let flags = flags_of k.rows.flags in
+    let robust = required_robustness k.rows.robust k.robust in
     let steps = length-history_of inputs flags robust k.places k.mask in
-    ap (λ (n : ℕ). with_step (history_by k inputs) (step_of (λ _. flags n) robust (length (history_by k inputs).steps, input))) is
-    ∙ (ap (λ (n : ℕ). with_step (history_by k inputs) (step_of (λ _. flags (length inputs)) robust (n, input))) steps
+    ap (λ (n : ℕ). with_step (history_by k inputs) (step_of (λ _. flags n) (λ _. robust n) (length (history_by k inputs).steps, input))) is
+    ∙ (ap (λ (n : ℕ). with_step (history_by k inputs) (step_of (λ _. flags (length inputs)) (λ _. robust (length inputs)) (n, input))) steps
     ∙ sym (history_of-push inputs flags robust k.places k.mask input))
 
 -- so many inputs are taken
 pub HasTaken-number : (k : Compression) (inputs : List (List Bool)) (s : Compressing) → HasTaken k inputs s → s.encoder.masks.taken ≡ length inputs
-HasTaken-number k inputs s taken = taken.stands.masks.taken ∙ length-history_of inputs (flags_of k.rows) (λ _. k.robust) k.places k.mask
+HasTaken-number k inputs s taken = taken.stands.masks.taken ∙ length-history_of inputs (flags_of k.rows.flags) (required_robustness k.rows.robust k.robust) k.places k.mask
 
 -- a packet that was not read ends the run
 pub AfterStop-next : (k : Compression) (inputs : List (List Bool)) (s : Compressing) (f t : ℕ) (a b : Meanings) (u : Unread) → HasTaken k inputs s → length s.encoder.masks.mask ≡ f → t ≡ s.encoder.masks.taken
@@ -99,22 +99,22 @@ AfterStop-next k inputs s f t a b u taken places number after =
 
 module _ (k : Compression) (inputs : List (List Bool)) (s : Compressing) (taken : HasTaken k inputs s) (t : ℕ) (number : t ≡ length inputs) (input : List Bool) where
   -- the history with the next input
-  next_history : with_next_input (history_by k inputs) s.encoder.robust input (flags_of s.plan t) ≡ history_by k (inputs ++ input ∷ [])
+  next_history : with_packet (history_by k inputs) s input t ≡ history_by k (inputs ++ input ∷ [])
   next_history =
       let robust = taken.robust in
       let rows = taken.rows in
-      (λ i. with_next_input (history_by k inputs) (robust i) input (flags_of (rows i) t)) ∙ history_by-push k inputs input t number
+      (λ i. with_next_input (history_by k inputs) (required_robustness (rows i).robust (robust i) t) input (flags_of (rows i).flags t)) ∙ history_by-push k inputs input t number
 
   -- the Space Packet of the next input
-  pub next_packet-is : space_packet s.writer.apid (t % period) (data_at (with_next_input (history_by k inputs) s.encoder.robust input (flags_of s.plan t)) (length (history_by k inputs).steps)) ≡ next_packet k inputs input
+  pub next_packet-is : space_packet s.writer.apid (t % period) (data_at (with_packet (history_by k inputs) s input t) (length (history_by k inputs).steps)) ≡ next_packet k inputs input
   next_packet-is =
       let apid = taken.apid in
-      let steps = length-history_of inputs (flags_of k.rows) (λ _. k.robust) k.places k.mask in
+      let steps = length-history_of inputs (flags_of k.rows.flags) (required_robustness k.rows.robust k.robust) k.places k.mask in
       λ i. space_packet (apid i) (number i % period) (data_at (next_history i) (steps i))
 
   -- and it is taken
-  pub HasTaken-next : (new : Compressing) → StandsFor (with_next_input (history_by k inputs) s.encoder.robust input (flags_of s.plan t)) new.encoder
-      → length new.encoder.masks.mask ≡ length s.encoder.masks.mask → new.encoder.robust ≡ s.encoder.robust → new.writer.apid ≡ s.writer.apid → new.plan ≡ s.plan → HasTaken k (inputs ++ input ∷ []) new
+  pub HasTaken-next : (new : Compressing) → StandsFor (with_packet (history_by k inputs) s input t) new.encoder
+      → length new.encoder.masks.mask ≡ length s.encoder.masks.mask → new.robust ≡ s.robust → new.writer.apid ≡ s.writer.apid → new.plan ≡ s.plan → HasTaken k (inputs ++ input ∷ []) new
   HasTaken-next new stands places robust apid rows = record {
     stands = subst (λ (h : History). StandsFor h new.encoder) next_history stands;
     places = places ∙ taken.places;
@@ -128,7 +128,7 @@ pub record IsNext (k : Compression) (inputs : List (List Bool)) (s : Compressing
   pub taken : HasTaken k inputs s
   pub takes : Takes k.places (length inputs) a b input
   pub number : t ≡ length inputs
-  pub packet : space_packet s.writer.apid (t % period) (data_at (with_next_input (history_by k inputs) s.encoder.robust input (flags_of s.plan t)) (length (history_by k inputs).steps)) ≡ next_packet k inputs input
+  pub packet : space_packet s.writer.apid (t % period) (data_at (with_packet (history_by k inputs) s input t) (length (history_by k inputs).steps)) ≡ next_packet k inputs input
 
 pub IsNext-read : (k : Compression) (inputs : List (List Bool)) (s : Compressing) (f t' t : ℕ) (a b : Meanings) (input : List Bool) → HasTaken k inputs s → length s.encoder.masks.mask ≡ f → t' ≡ s.encoder.masks.taken → t ≡ t'
     → Takes f t' a b input → IsNext k inputs s t a b input

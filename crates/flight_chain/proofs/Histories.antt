@@ -1,20 +1,22 @@
 -- The store of a history, packet by packet.
 use Rattle.std.proofs.Common.{◌≡◌, ℕ, zero, suc, ◌+◌, ◌%◌, ◌<◌, Bool, List, [], ◌∷◌, ◌++◌, length, map, refl, sym, ap, ◌∙◌, append_assoc, append-nil, length-append, arith}
-use Rattle.std.specs.List.{range_with_len}
+use Rattle.std.specs.Prelude.{Option, None, unwrap_or}
+use Rattle.std.specs.List.{enumerate_from, range_with_len}
 use Rattle.std.proofs.lemmas.List.{flat_map_more}
 use Rattle.std.proofs.lemmas.List.FromFn.{map-range_with_len_more}
+use Rattle.bit_vectors.specs.declared.flags.Flags.{Flags}
 use Rattle.bit_vectors.specs.Vectors.{padded, vector_bytes}
 use Rattle.bit_vectors.proofs.ByteBits.{bits_of_injective, AreBytes-vector_bytes, bits_of-vector_bytes}
-use Rattle.mask_update.specs.Histories.{History, Step, step_of, with_step}
+use Rattle.mask_update.specs.Histories.{History, Step, flags_after, history_of, step_of, with_step}
 use Rattle.mask_update.proofs.HistoriesOf.{length-history_of, history_of-push}
 use Rattle.packet_encode.specs.Forms.{form_bits}
 use Rattle.packet_encode.specs.Packets.{form_at}
 use Rattle.packet_encode.proofs.Earlier.{packet_at-before}
 use Rattle.packet_store.specs.SpacePackets.{period, space_packet, store_bytes}
-use Rattle.side_tables.specs.Rows.{flags_of}
+use Rattle.side_tables.specs.Rows.{flags_of, robust_of}
 use Rattle.flight_chain.specs.Stores.{data_at, numbered_data, store_of}
 use Rattle.flight_chain.specs.Recordings.{recording_walk}
-use Rattle.flight_chain.specs.Compressing.{Compression, history_by, next_packet, further_packets, compress_course, rest_course}
+use Rattle.flight_chain.specs.Compressing.{Compression, history_by, next_packet, further_packets, compress_course, required_robustness, rest_course}
 use Rattle.desk_ports.specs.Courses.{to_output}
 
 -- bits that are the same in whole bytes have the same bytes
@@ -49,8 +51,8 @@ store_of-push h step apid =
 pub store_of-further : (k : Compression) (inputs more : List (List Bool)) → store_of (history_by k (inputs ++ more)) k.apid ≡ store_of (history_by k inputs) k.apid ++ further_packets k inputs more
 store_of-further k inputs [] = ap (λ (l : List (List Bool)). store_of (history_by k l) k.apid) (append-nil inputs) ∙ sym (append-nil (store_of (history_by k inputs) k.apid))
 store_of-further k inputs (input ∷ more) =
-    let flags = flags_of k.rows in
-    let robust : ℕ → ℕ = λ _. k.robust in
+    let flags = flags_of k.rows.flags in
+    let robust = required_robustness k.rows.robust k.robust in
     let push = history_of-push inputs flags robust k.places k.mask input in
     let one : store_of (history_by k (inputs ++ input ∷ [])) k.apid ≡ store_of (history_by k inputs) k.apid ++ next_packet k inputs input =
     ap (λ (h : History). store_of h k.apid) push
@@ -65,3 +67,20 @@ store_of-further k inputs (input ∷ more) =
 -- a whole recording is owed from its first packet on
 pub rest_course-first : (k : Compression) (recording : List ℕ) → rest_course k [] recording ≡ compress_course k recording
 rest_course-first k recording = ap (λ (output : List ℕ). record (rest_course k [] recording) { before = to_output output }) (sym (store_of-further k [] (recording_walk k.places recording).inputs))
+
+-- ---- schedules that give no required robustness
+
+same_steps : (inputs : List (List Bool)) (from : ℕ) (flags : ℕ → Flags) (a b : ℕ → ℕ) → ((t : ℕ) → t < from + length inputs → a t ≡ b t) → map (step_of flags a) (enumerate_from from inputs) ≡ map (step_of flags b) (enumerate_from from inputs)
+same_steps [] from flags a b same = refl
+same_steps (input ∷ inputs) from flags a b same =
+    let first = same from (omega arith) in
+    let rest = same_steps inputs (from + 1) flags a b (λ t lt. same t (omega arith)) in
+    λ i. record { input = input; flags = flags_after (first i) from (flags from); robust = first i } ∷ rest i
+
+-- the history has the robustness of the command
+pub history_by-command : (k : Compression) (inputs : List (List Bool)) → ((t : ℕ) → t < length inputs → robust_of k.rows.robust t ≡ None)
+    → history_by k inputs ≡ history_of inputs (flags_of k.rows.flags) (λ _. k.robust) k.places k.mask
+history_by-command k inputs none =
+    let flags = flags_of k.rows.flags in
+    let steps = same_steps inputs 0 flags (required_robustness k.rows.robust k.robust) (λ _. k.robust) (λ t lt. ap (λ (o : Option ℕ). unwrap_or o k.robust) (none t (omega arith))) in
+    λ i. record { places = k.places; first_mask = k.mask; steps = steps i }

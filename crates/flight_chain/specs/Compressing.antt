@@ -1,5 +1,5 @@
 -- What compressing a recording owes: the store of its history.
-use Rattle.std.specs.Prelude.{◌≡◌, ℕ, ◌+◌, ◌*◌, ◌%◌, Bool, true, false, List, [], ◌∷◌, ◌++◌, length, vec_len}
+use Rattle.std.specs.Prelude.{◌≡◌, ℕ, ◌+◌, ◌*◌, ◌%◌, ◌≤◌, Bool, true, false, List, [], ◌∷◌, ◌++◌, length, vec_len, unwrap_or}
 use Rattle.bit_vectors.specs.Vectors.{IsVector, byte_count}
 use Rattle.desk_ports.specs.declared.desk.Outlet.{Outlet}
 use Rattle.desk_ports.specs.declared.desk.Outlet.TheVariants as outlet
@@ -8,9 +8,10 @@ use Rattle.desk_ports.specs.Stop as stop
 use Rattle.desk_ports.specs.Courses.{Course, no_outputs, to_output}
 use Rattle.desk_ports.specs.Turns.{Work}
 use Rattle.mask_update.specs.Histories.{History, history_of}
-use Rattle.side_tables.specs.declared.rows.FlagRow.{FlagRow}
-use Rattle.side_tables.specs.Rows.{flags_of}
+use Rattle.side_tables.specs.declared.rows.RobustRow.{RobustRow}
+use Rattle.side_tables.specs.Rows.{ScheduleRows, flags_of, robust_of}
 use Rattle.packet_encode.specs.Encoder.{StandsFor}
+use Rattle.packet_encode.specs.Packets.{with_next_input}
 use Rattle.packet_store.specs.SpacePackets.{period, space_packet}
 use Rattle.flight_chain.specs.declared.compressing.Compressing.{Compressing}
 use Rattle.flight_chain.specs.declared.fault.RecordFault.{RecordFault}
@@ -20,18 +21,22 @@ use Rattle.flight_chain.specs.declared.fault.FlightFault.TheVariants.{CutRecord,
 use Rattle.flight_chain.specs.Recordings.{recording_walk, recording_walk_from}
 use Rattle.flight_chain.specs.Stores.{data_at, store_of}
 
--- a flight that has read nothing: the places of its vectors, the required robustness, the APID, the first mask, and the
--- rows of the schedule
+-- a flight that has read nothing: the places of its vectors, the required robustness of packets to which the schedule gives
+-- none, the APID, the first mask, and the rows of the schedule
 pub record Compression : Type 0 where
   pub places : ℕ
   pub robust : ℕ
   pub apid : ℕ
   pub mask : List Bool
-  pub rows : List FlagRow
+  pub rows : ScheduleRows
+
+-- the required robustness of a packet: what the rows of the schedule give it, and this one where they give none
+abbrev pub required_robustness : List RobustRow → ℕ → ℕ → ℕ
+required_robustness rows robust t = unwrap_or (robust_of rows t) robust
 
 -- the history of these inputs
 abbrev pub history_by : Compression → List (List Bool) → History
-history_by k inputs = history_of inputs (flags_of k.rows) (λ _. k.robust) k.places k.mask
+history_by k inputs = history_of inputs (flags_of k.rows.flags) (required_robustness k.rows.robust k.robust) k.places k.mask
 
 -- What compressing a recording owes: the store of the history of its inputs, and where it is not whole the fault that ends
 -- its walk.
@@ -56,17 +61,21 @@ stop_by WriteFault = stop.WriteFault
 abbrev pub compression_of : Compressing → Compression
 compression_of s = record {
   places = length s.encoder.masks.mask;
-  robust = s.encoder.robust;
+  robust = s.robust;
   apid = s.writer.apid;
   mask = s.encoder.masks.mask;
   rows = s.plan;
 }
 
+-- the history with the packet t, of this input, by the schedule of a flight
+abbrev pub with_packet : History → Compressing → List Bool → ℕ → History
+with_packet h s input t = with_next_input h (required_robustness s.plan.robust s.robust t) input (flags_of s.plan.flags t)
+
 -- these inputs are taken
 pub record HasTaken (k : Compression) (inputs : List (List Bool)) (s : Compressing) : Type 0 where
   pub stands : StandsFor (history_by k inputs) s.encoder
   pub places : length s.encoder.masks.mask ≡ k.places
-  pub robust : s.encoder.robust ≡ k.robust
+  pub robust : s.robust ≡ k.robust
   pub apid : s.writer.apid ≡ k.apid
   pub rows : s.plan ≡ k.rows
 
@@ -98,6 +107,7 @@ rest_work k inputs = record { course = rest_course k inputs; answer = λ bytes. 
 -- the line has room for a packet of the recording, and the pen for one of the store
 pub record IsCompressing (s : Compressing) : Type 0 where
   pub vector : IsVector s.input
+  pub robust : s.robust ≤ 7
   pub places : length s.encoder.masks.mask ≡ length s.input
   pub line : vec_len s.line ≡ byte_count (length s.input)
   pub pen : s.pen.room ≡ 10 * length s.input + 43

@@ -3,10 +3,9 @@
 ghost use Rattle.std.specs.Prelude.{◌≡◌, ◌+◌, ◌-◌, ◌%◌, ◌^◌, ◌<◌, ◌≤◌, [], length, IfOk, OnOk, OnErr};
 ghost use Rattle.desk_ports.specs.Meanings.{IsReadyOut, HasWriteCause, Adds, AddsFront};
 ghost use Rattle.mask_update.specs.Histories.{History};
-ghost use Rattle.side_tables.specs.Rows.{flags_of};
 ghost use Rattle.packet_encode.specs.Encoder.{StandsFor};
-ghost use Rattle.packet_encode.specs.Packets.{with_next_input};
 ghost use Rattle.packet_store.specs.SpacePackets.{space_packet};
+ghost use Rattle.flight_chain.specs.Compressing.{required_robustness, with_packet};
 ghost use Rattle.flight_chain.specs.Stores.{data_at};
 
 use crate::fault::{FlightFault, RecordFault};
@@ -18,11 +17,13 @@ use packet_store::{PERIOD, StoreWriter};
 use side_tables::Schedule;
 use std::alloc::Global;
 
-/// An encoder with its schedule and the writer of its store; a line and a vector for an input, and a pen for its packet.
+/// An encoder with its schedule, the required robustness of packets to which that gives none, and the writer of its
+/// store; a line and a vector for an input, and a pen for its packet.
 #[derive(Debug, Drop)]
 pub struct Compressing {
     encoder: Encoder,
     plan: Schedule,
+    robust: u8,
     writer: StoreWriter,
     line: Vec<u8>,
     input: Bits,
@@ -84,8 +85,9 @@ impl Compressing {
             }) []) }
     {
         Ok(Compressing {
-            encoder: Encoder::open(alloc, f, robust, mask)?,
+            encoder: Encoder::open(alloc, f, mask)?,
             plan,
+            robust,
             writer: StoreWriter::open(alloc, apid)?,
             line: vec![in alloc; 0; byte_len(f) as usize]?,
             input: Bits::zeros(alloc, f)?,
@@ -99,31 +101,38 @@ impl Compressing {
         requires output { IsReadyOut (D.meaning desk.old) Outlet.Main }
         requires most { self.old.encoder.masks.taken < 4294967296 }
         ensures stands { (h : History) → StandsFor h self.old.encoder
-            → StandsFor (with_next_input h self.old.encoder.robust self.old.input
-            (flags_of self.old.plan t)) self.new.encoder }
+            → StandsFor (with_packet h self.old self.old.input t) self.new.encoder }
         ensures added { (h : History) → StandsFor h self.old.encoder
             → OnOk result (Adds (D.meaning desk.old) (D.meaning desk.new) Outlet.Main
             (space_packet self.old.writer.apid (t % PERIOD)
-            (data_at (with_next_input h self.old.encoder.robust self.old.input
-            (flags_of self.old.plan t)) (length h.steps)))) }
+            (data_at (with_packet h self.old self.old.input t) (length h.steps)))) }
         ensures front { (h : History) → StandsFor h self.old.encoder
             → OnErr result (AddsFront (D.meaning desk.old) (D.meaning desk.new) Outlet.Main
             (space_packet self.old.writer.apid (t % PERIOD)
-            (data_at (with_next_input h self.old.encoder.robust self.old.input
-            (flags_of self.old.plan t)) (length h.steps)))) }
+            (data_at (with_packet h self.old self.old.input t) (length h.steps)))) }
         ensures cause { HasWriteCause (D.counts desk.old) (D.counts desk.new) result }
         ensures right { IsCompressing self.new }
         ensures places { length self.new.encoder.masks.mask ≡ length self.old.encoder.masks.mask }
-        ensures robust { self.new.encoder.robust ≡ self.old.encoder.robust }
+        ensures robust { self.new.robust ≡ self.old.robust }
         ensures taken { self.new.encoder.masks.taken ≡ self.old.encoder.masks.taken + 1 }
         ensures apid { self.new.writer.apid ≡ self.old.writer.apid }
         ensures rows { self.new.plan ≡ self.old.plan }
         ensures input { self.new.input ≡ self.old.input }
     {
         self.pen.clear();
+        let robust = self.required(t);
         self.encoder
-            .encode(&self.input, self.plan.flags(t), &mut self.pen);
+            .encode(&self.input, self.plan.flags(t), robust, &mut self.pen);
         let count = (u64::from(t) % PERIOD) as u16;
         self.writer.put(desk, count, self.pen.bytes())
+    }
+
+    /// The required robustness of the packet `t`, at most 7: what the schedule gives it, and else that of the command.
+    fn required(&self, t: u32) -> u8
+        requires { self.now.robust ≤ 7 }
+        ensures robust { result ≡ required_robustness self.now.plan.robust self.now.robust t }
+        ensures most { result ≤ 7 }
+    {
+        self.plan.robust(t).unwrap_or(self.robust)
     }
 }

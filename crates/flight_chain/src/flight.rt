@@ -15,8 +15,8 @@ use std::alloc::Global;
 use std::marker::Model;
 
 /// Compresses a recording: reads it from the main inlet of a desk, and writes the store of its packets to the main
-/// outlet. Contracts see the places of the vectors, the required robustness, the APID, the first mask and the rows of
-/// the schedule.
+/// outlet. Contracts see the places of the vectors, the required robustness of packets to which the schedule gives none,
+/// the APID, the first mask and the rows of the schedule.
 #[derive(Debug, Drop)]
 pub struct Flight {
     compressing: Compressing,
@@ -33,9 +33,9 @@ impl Model for Flight {
 }
 
 impl Flight {
-    /// A flight whose vectors have `f` places, with a required robustness of at most 7, for packets of an APID which is
-    /// no idle one. It starts with this mask and gives each packet the flags of the schedule. It takes all memory of the
-    /// run.
+    /// A flight whose vectors have `f` places, for packets of an APID which is no idle one. It starts with this mask and
+    /// gives each packet the flags and the required robustness of the schedule, and where that gives none this one, at
+    /// most 7. It takes all memory of the run.
     pub fn open(
         alloc: Global,
         f: u32,

@@ -4,7 +4,8 @@ ghost use Rattle.std.specs.Prelude.{◌≡◌, ◌%◌, ◌≤◌, ◌<◌, ◌�
 ghost use Rattle.std.specs.List.{range_with_len};
 ghost use Rattle.bit_vectors.specs.Vectors.{bits_of};
 ghost use Rattle.desk_ports.specs.Courses.{AreFronts, owed, to_output};
-ghost use Rattle.mask_update.specs.Histories.{History, IsValid, Step, with_step};
+ghost use Rattle.mask_update.specs.Histories.{History, IsValid, Step, history_of, with_step};
+ghost use Rattle.side_tables.specs.Rows.{flags_of, robust_of};
 ghost use Rattle.packet_store.specs.SpacePackets.{period, plain_packet, space_packet};
 ghost use Rattle.packet_store.specs.Walks.{walk};
 ghost use Rattle.flight_chain.specs.Recordings.{ending_at, recording_of, recording_walk, walked, behind_input, stopped_at};
@@ -68,6 +69,19 @@ pub fn whole_recordings_owe_their_store()
         length inputs ≤ 4294967296 →
         owed (compress_course k (recording_of inputs))
         ≡ to_output (store_of (history_by k inputs) k.apid) }
+{}
+
+/// Where no row of the schedule gives a packet a required robustness, that of the command holds for all: the history and
+/// the store are those of a schedule without such rows.
+pub fn schedules_without_robustness()
+    ensures history { (k : Compression) (inputs : List (List Bool))
+        → ((t : ℕ) → t < length inputs → robust_of k.rows.robust t ≡ None) →
+        history_by k inputs
+        ≡ history_of inputs (flags_of k.rows.flags) (λ _. k.robust) k.places k.mask }
+    ensures store { (k : Compression) (inputs : List (List Bool))
+        → ((t : ℕ) → t < length inputs → robust_of k.rows.robust t ≡ None) →
+        store_of (history_by k inputs) k.apid
+        ≡ store_of (history_of inputs (flags_of k.rows.flags) (λ _. k.robust) k.places k.mask) k.apid }
 {}
 
 /// What a front of a recording owes is a front of what the recording owes before its end.

@@ -1,5 +1,5 @@
 -- What an encoder keeps, and for which history it stands.
-use Rattle.std.specs.Prelude.{◌≡◌, ℕ, ◌≤◌, Bool, List, length}
+use Rattle.std.specs.Prelude.{◌≡◌, Bool, List, length}
 use Rattle.mask_update.specs.Histories.{History}
 use Rattle.mask_update.specs.Masks.{Running}
 use Rattle.mask_update.specs.Masks.{StandsFor as MasksStandFor}
@@ -7,11 +7,10 @@ use Rattle.robust_window.specs.Histories.{mask_steps}
 use Rattle.robust_window.specs.Window.{WindowState}
 use Rattle.robust_window.specs.Window.{StandsFor as WindowStandsFor}
 
--- the running vectors, the window over their changes, and the required robustness of the next packet
+-- the running vectors, and the window over their changes
 pub record EncoderState : Type 0 where
   pub masks : Running
   pub window : WindowState
-  pub robust : ℕ
 
 -- masks and window are those of the history
 pub record StandsFor (h : History) (value : EncoderState) : Type 0 where
@@ -19,9 +18,7 @@ pub record StandsFor (h : History) (value : EncoderState) : Type 0 where
   pub window : WindowStandsFor (mask_steps h) value.window
 
 -- masks and window have taken as many steps, of vectors of one length
-pub record IsEncoder (masks : Running) (window : WindowState) (robust : ℕ) (spare : List Bool) : Type 0 where
+pub record IsEncoder (masks : Running) (window : WindowState) (spare : List Bool) : Type 0 where
   pub places : length window.recent ≡ length masks.mask
   pub taken : window.taken ≡ masks.taken
-  pub robust_is : window.robust ≡ robust
-  pub robust_most : robust ≤ 7
   pub spare_places : length spare ≡ length masks.mask

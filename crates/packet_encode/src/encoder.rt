@@ -33,12 +33,11 @@ pub fn room(f: u32) -> u32
 }
 
 /// Makes the packet of each input (CCSDS 124.0-B-1). It keeps the running vectors and the latest changes, and not the
-/// history. Contracts see them and the required robustness, and say for which histories they stand.
+/// history. Contracts see them, and say for which histories they stand.
 #[derive(Debug, Drop)]
 pub struct Encoder {
     masks: Masks,
     window: Window,
-    robust: u8,
     spare: Bits,
 }
 
@@ -47,70 +46,68 @@ impl Model for Encoder {
 
     ghost Value = { EncoderState };
 
-    ghost view = { λ e. record { masks = e.masks; window = e.window; robust = e.robust } };
+    ghost view = { λ e. record { masks = e.masks; window = e.window } };
 
-    ghost invariant = { λ e. IsEncoder e.masks e.window e.robust e.spare };
+    ghost invariant = { λ e. IsEncoder e.masks e.window e.spare };
 }
 
 impl Encoder {
-    /// Starts with this mask of `f` places, a required robustness of at most 7, and no input taken. Takes the memory
-    /// for every vector that `encode` fills.
-    pub fn open(alloc: Global, f: u32, robust: u8, mask: &Bits) -> Result<Encoder, NoMemory>
+    /// Starts with this mask of `f` places and no input taken. Takes the memory for every vector that `encode` fills.
+    pub fn open(alloc: Global, f: u32, mask: &Bits) -> Result<Encoder, NoMemory>
         requires some { 1 ≤ f }
         requires most { f ≤ 49152 }
         requires places { length mask.now ≡ f }
-        requires robust { robust ≤ 7 }
         ensures stands { IfOk result (λ encoder. StandsFor (no_steps mask.now) encoder) }
         ensures places { IfOk result (λ encoder. length encoder.masks.mask ≡ f) }
-        ensures robust { IfOk result (λ encoder. encoder.robust ≡ robust) }
         ensures taken { IfOk result (λ encoder. encoder.masks.taken ≡ 0) }
     {
         Ok(Encoder {
             masks: Masks::open(alloc, mask)?,
-            window: Window::open(alloc, f, robust)?,
-            robust,
+            window: Window::open(alloc, f)?,
             spare: Bits::zeros(alloc, f)?,
         })
     }
 
-    /// Takes the next input and its flags, and leaves the packet's bits in `pen`, which is empty and has room for them.
-    /// Up to the required robustness a packet is forced to carry mask and whole content and to take no new mask.
-    pub fn encode(&mut self, input: &Bits, flags: Flags, pen: &mut BitPen)
+    /// Takes the next input, its flags and its required robustness, at most 7, and leaves the packet's bits in `pen`,
+    /// which is empty and has room for them. A packet whose number is at most its required robustness is forced to carry
+    /// mask and whole content and to take no new mask.
+    pub fn encode(&mut self, input: &Bits, flags: Flags, robust: u8, pen: &mut BitPen)
         requires places { length input.now ≡ length self.old.masks.mask }
         requires most { self.old.masks.taken < 4294967296 }
+        requires robust { robust ≤ 7 }
         requires empty { pen.old.bits ≡ [] }
         requires room { 10 * length input.now + 43 ≤ pen.old.room }
-        // Whatever history it stood for, it now stands for that history with this input and these flags, after forcing.
+        // Whatever history it stood for, it now stands for that history with this input, these flags, after forcing, and
+        // this required robustness.
         ensures stands { (h : History) → StandsFor h self.old
-            → StandsFor (with_next_input h self.old.robust input.now flags) self.new }
+            → StandsFor (with_next_input h robust input.now flags) self.new }
         // The pen has exactly the bits of the form of its last step, which are, in whole bytes, the packet.
         ensures bits { (h : History) → StandsFor h self.old
             → pen.new.bits ≡ form_bits
-            (form_at (with_next_input h self.old.robust input.now flags) (length h.steps)) }
+            (form_at (with_next_input h robust input.now flags) (length h.steps)) }
         ensures packet { (h : History) → StandsFor h self.old
             → padded pen.new.bits
-            ≡ packet_at (with_next_input h self.old.robust input.now flags) (length h.steps) }
+            ≡ packet_at (with_next_input h robust input.now flags) (length h.steps) }
         ensures some { 0 < length pen.new.bits }
         ensures most { length pen.new.bits ≤ 10 * length input.now + 43 }
         ensures room { pen.new.room ≡ pen.old.room }
         ensures places { length self.new.masks.mask ≡ length self.old.masks.mask }
-        ensures robust { self.new.robust ≡ self.old.robust }
         ensures taken { self.new.masks.taken ≡ self.old.masks.taken + 1 }
     {
-        let flags = self.forced(flags);
+        let flags = self.forced(flags, robust);
         self.masks.step(input, flags.p);
-        self.window.step(self.masks.change(), flags.p);
+        self.window.step(self.masks.change(), flags.p, robust);
         let mask = self.masks.mask();
         let wide = put_changes(pen, mask, &self.window, &mut self.spare);
         let recent = self.window.recent();
         put_data(pen, input, flags, mask, recent, wide, &mut self.spare);
     }
 
-    /// The flags of the next packet, which is forced up to the required robustness.
-    fn forced(&self, flags: Flags) -> Flags
-        ensures { result ≡ flags_after self.now.robust self.now.masks.taken flags }
+    /// The flags of the next packet, which is forced where its number is at most its required robustness.
+    fn forced(&self, flags: Flags, robust: u8) -> Flags
+        ensures { result ≡ flags_after robust self.now.masks.taken flags }
     {
-        if self.masks.taken() <= u64::from(self.robust) {
+        if self.masks.taken() <= u64::from(robust) {
             FORCED
         } else {
             flags

@@ -31,7 +31,9 @@ struct Sender {
     encoder: Encoder,
     input: Bits,
     pen: BitPen,
+    robust: u8,
     is_ready: bool,
+    ghost robust: { robust ≤ 7 },
     ghost places: { length input ≡ length encoder.masks.mask },
     ghost room: { 10 * length input + 43 ≤ pen.room },
 }
@@ -43,9 +45,10 @@ impl Sender {
         let is_ready = first_mask.len() == byte_len(places) as usize
             && input.load(first_mask).is_ok();
         Ok(Sender {
-            encoder: Encoder::open(alloc, places, robust.min(7), &input)?,
+            encoder: Encoder::open(alloc, places, &input)?,
             input,
             pen: BitPen::with_room(alloc, room(places))?,
+            robust: robust.min(7),
             is_ready,
         })
     }
@@ -60,7 +63,8 @@ impl Sender {
             return false;
         }
         self.pen.clear();
-        self.encoder.encode(&self.input, flags, &mut self.pen);
+        self.encoder
+            .encode(&self.input, flags, self.robust, &mut self.pen);
         self.pen.bytes() == data
     }
 }
@@ -142,15 +146,15 @@ fn worked_packets(rt: HostRuntime) -> Result<(), Fail> {
 #[test]
 fn longest_vectors(rt: HostRuntime) -> Result<(), Fail> {
     let mut input = Bits::zeros(rt.alloc(), 49_152)?;
-    let mut encoder = Encoder::open(rt.alloc(), 49_152, 0, &input)?;
+    let mut encoder = Encoder::open(rt.alloc(), 49_152, &input)?;
     let mut pen = BitPen::with_room(rt.alloc(), room(49_152))?;
-    encoder.encode(&input, NONE, &mut pen);
+    encoder.encode(&input, NONE, 0, &mut pen);
     assert_eq!(rt; pen.len(), 49_192);
     assert_eq!(rt; pen.bytes().len(), 6_149);
     let bytes = vec![in rt.alloc(); 0xAA; 6_144]?;
     assert!(rt; input.load(&bytes).is_ok());
     pen.clear();
-    encoder.encode(&input, WHOLE, &mut pen);
+    encoder.encode(&input, WHOLE, 0, &mut pen);
     assert_eq!(rt; pen.len(), 294_959);
     assert_eq!(rt; pen.bytes().len(), 36_870);
     Ok(())

@@ -5,15 +5,14 @@ use Rattle.circular_buffer.specs.Buffer.{Buffer}
 use Rattle.bit_vectors.specs.Vectors.{IsVector, number_bits}
 use Rattle.robust_window.specs.Changes.{MaskStep, IsQuiet, latest_change, mask_step, takes_new_mask, recent_of, level_of, twice_of}
 
--- The latest sixteen changes and new-mask flags, the oldest first; the values at the latest step; the required
--- robustness of the next; and how many steps were taken.
+-- The latest sixteen changes and new-mask flags, the oldest first; the values at the latest step; and how many steps were
+-- taken.
 pub record WindowState : Type 0 where
   pub changes : List (List Bool)
   pub new_masks : List Bool
   pub recent : List Bool
   pub level : ℕ
   pub twice : Bool
-  pub robust : ℕ
   pub taken : ℕ
 
 -- the change and the flag so many steps back, which is below sixteen
@@ -67,15 +66,15 @@ pub record StandsFor (steps : List MaskStep) (value : WindowState) : Type 0 wher
   pub taken : value.taken ≡ length steps
 
 -- The parts of a window agree: sixteen slots for changes, vectors of one length, and numbers within their bounds. What is
--- marked is a change with a one.
-pub record IsWindow (changes : Buffer (List Bool)) (marks : ℕ) (zeros recent : List Bool) (level robust taken : ℕ) : Type 0 where
+-- marked is a change with a one. Recent changes are those of eight steps at most, so where none of these is marked there
+-- are none.
+pub record IsWindow (changes : Buffer (List Bool)) (marks : ℕ) (zeros recent : List Bool) (level taken : ℕ) : Type 0 where
   pub vector : IsVector recent
   pub full : changes.capacity ≡ 16
   pub slots : length changes.items ≡ 16
   pub places : All (λ change. length change ≡ length recent) changes.items
   pub marked : (back : ℕ) → back < 16 → mark_back marks back ≡ true → Contains (change_back changes.items back) true
   pub zeros_are : zeros ≡ replicate (length recent) false
-  pub quiet : AreClear marks (robust + 1) → recent ≡ replicate (length recent) false
+  pub quiet : AreClear marks 8 → recent ≡ replicate (length recent) false
   pub level_most : level ≤ 15
-  pub robust_most : robust ≤ 7
   pub taken_most : taken ≤ 4294967296

@@ -14,6 +14,9 @@ use std::alloc::Global;
 /// How many of the latest changes are kept.
 const KEPT: usize = 16;
 
+/// The most steps whose changes are recent: the latest one, and seven before it.
+const MOST_RECENT: u8 = 8;
+
 /// Sixteen changes of `f` zeros.
 pub(crate) fn zero_changes(alloc: Global, f: u32) -> Result<HeapCircularBuffer<Bits>, NoMemory>
     requires some { 1 ≤ f }
@@ -58,8 +61,8 @@ pub(crate) fn change_back(changes: &HeapCircularBuffer<Bits>, back: u8) -> &Bits
     }
 }
 
-/// Makes `recent` one at each place that one of the latest `count` changes has, at least 1 and at most 16. Where none
-/// was marked before, and none is now, it is zero already.
+/// Makes `recent` one at each place that one of the latest `count` changes has, at least 1 and at most 16. Where none of
+/// those that may have been recent was marked before, and none is now, it is zero already.
 pub(crate) fn gather(
     changes: &HeapCircularBuffer<Bits>,
     before: u16,
@@ -71,13 +74,13 @@ pub(crate) fn gather(
     requires places { All (λ change. length change ≡ length recent.old) changes.now.items }
     requires some { 1 ≤ count }
     requires most { count ≤ 16 }
-    requires quiet { AreClear before count → recent.old ≡ replicate (length recent.old) false }
+    requires quiet { AreClear before 8 → recent.old ≡ replicate (length recent.old) false }
     ensures { let latest = changes_of (length recent.old) marks changes.now.items in
         recent.new ≡ vector_of (length recent.old) (λ place.
         list_any (λ back. slice_index_or (change_back latest back) place false)
         (range_with_len 0 count)) }
 {
-    if marks::are_clear(before, count) && marks::are_clear(marks, count) {
+    if marks::are_clear(before, MOST_RECENT) && marks::are_clear(marks, count) {
         return;
     }
     recent.clear();

@@ -1,4 +1,4 @@
-//! The window over a worked history.
+//! The window over worked histories.
 
 use crate::Window;
 use bit_vectors::Bits;
@@ -9,13 +9,13 @@ fn worked_history(rt: HostRuntime) -> Result<(), Fail> {
     let none = Bits::zeros(rt.alloc(), 8)?;
     let mut last = Bits::zeros(rt.alloc(), 8)?;
     last.set(7, true);
-    let mut window = Window::open(rt.alloc(), 8, 1)?;
-    window.step(&none, false);
-    window.step(&last, false);
-    window.step(&none, false);
-    window.step(&none, true);
-    window.step(&none, false);
-    window.step(&last, true);
+    let mut window = Window::open(rt.alloc(), 8)?;
+    window.step(&none, false, 1);
+    window.step(&last, false, 1);
+    window.step(&none, false, 1);
+    window.step(&none, true, 1);
+    window.step(&none, false, 1);
+    window.step(&last, true, 1);
     assert!(rt; window.recent().same(&last));
     assert_eq!(rt; window.effective(), 3);
     assert!(rt; window.twice());
@@ -23,5 +23,12 @@ fn worked_history(rt: HostRuntime) -> Result<(), Fail> {
     assert!(rt; window.past(1).same(&none));
     assert!(rt; window.past(4).same(&last));
     assert!(rt; window.past(5).same(&none));
+    // The same changes are recent where more is required, also where they were not before.
+    window.step(&none, false, 0);
+    assert!(rt; window.recent().same(&none));
+    assert_eq!(rt; window.effective(), 0);
+    window.step(&none, false, 2);
+    assert!(rt; window.recent().same(&last));
+    assert_eq!(rt; window.effective(), 5);
     Ok(())
 }

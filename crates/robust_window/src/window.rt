@@ -25,7 +25,6 @@ pub struct Window {
     recent: Bits,
     level: u8,
     twice: bool,
-    robust: u8,
     taken: u64,
 }
 
@@ -41,23 +40,19 @@ impl Model for Window {
       recent = w.recent;
       level = w.level;
       twice = w.twice;
-      robust = w.robust;
       taken = w.taken;
     } };
 
-    ghost invariant = { λ w. IsWindow w.changes w.changed w.zeros w.recent w.level w.robust w.taken };
+    ghost invariant = { λ w. IsWindow w.changes w.changed w.zeros w.recent w.level w.taken };
 }
 
 impl Window {
-    /// Starts with no step taken, for vectors of `f` places and a required robustness of at most 7. Takes the
-    /// memory for every vector that `step` fills.
-    pub fn open(alloc: Global, f: u32, robust: u8) -> Result<Window, NoMemory>
+    /// Starts with no step taken, for vectors of `f` places. Takes the memory for every vector that `step` fills.
+    pub fn open(alloc: Global, f: u32) -> Result<Window, NoMemory>
         requires some { 1 ≤ f }
         requires most { f ≤ 49152 }
-        requires robust { robust ≤ 7 }
         ensures stands { IfOk result (λ window. StandsFor [] window) }
         ensures places { IfOk result (λ window. length window.recent ≡ f) }
-        ensures robust { IfOk result (λ window. window.robust ≡ robust) }
         ensures taken { IfOk result (λ window. window.taken ≡ 0) }
     {
         Ok(Window {
@@ -68,25 +63,24 @@ impl Window {
             recent: Bits::zeros(alloc, f)?,
             level: 0,
             twice: false,
-            robust,
             taken: 0,
         })
     }
 
-    /// Takes the change of the mask at the next step, and whether it takes a new mask. The first step leaves the
-    /// mask and takes no new one.
-    pub fn step(&mut self, change: &Bits, new_mask: bool)
+    /// Takes the change of the mask at the next step, whether it takes a new mask, and the required robustness of its
+    /// packet, at most 7. The first step leaves the mask and takes no new one.
+    pub fn step(&mut self, change: &Bits, new_mask: bool, robust: u8)
         requires places { length change.now ≡ length self.old.recent }
         requires most { self.old.taken < 4294967296 }
         requires first_change { self.old.taken ≡ 0
             → change.now ≡ replicate (length change.now) false }
         requires first_new_mask { self.old.taken ≡ 0 → new_mask ≡ false }
+        requires robust { robust ≤ 7 }
         // Whatever changes it stood for, it now stands for these and one more.
         ensures stands { (steps : List MaskStep) (step : MaskStep) → StandsFor steps self.old
-            → step.change ≡ change.now → step.new_mask ≡ new_mask → step.robust ≡ self.old.robust
+            → step.change ≡ change.now → step.new_mask ≡ new_mask → step.robust ≡ robust
             → StandsFor (steps ++ step ∷ []) self.new }
         ensures places { length self.new.recent ≡ length self.old.recent }
-        ensures robust { self.new.robust ≡ self.old.robust }
         ensures taken { self.new.taken ≡ self.old.taken + 1 }
     {
         let most = self.taken.min(MOST_LEVEL) as u8;
@@ -99,16 +93,16 @@ impl Window {
             &self.changes,
             before,
             self.changed,
-            self.robust + 1,
+            robust + 1,
             &mut self.recent,
         );
-        self.level = marks::quiet_level(self.changed, self.robust, most);
+        self.level = marks::quiet_level(self.changed, robust, most);
         self.twice = marks::has_two(self.new_masks, self.level + 1);
         self.taken += 1;
     }
 
     /// The recent changes: the places that the mask changed at the latest step or at one of those before it, as
-    /// many as the required robustness says. At least one step was taken.
+    /// many as its required robustness says. At least one step was taken.
     pub fn recent(&self) -> &Bits
         requires { 0 < self.now.taken }
         ensures recent { (steps : List MaskStep) → StandsFor steps self.now

@@ -3,3 +3,5 @@ pub mod Places
 pub mod Records
 pub mod RowTexts
 pub mod Numbers
+pub mod RowKinds
+pub mod RowBounds

@@ -1,13 +1,18 @@
 -- Which records are rows.
 use Rattle.std.specs.Prelude.{ℕ, ◌+◌, ◌==◌, nat_le, Bool, ◌&&◌, ◌||◌, if◌then◌else◌, List, length, count_by, codes, Option, None, Some}
 use Rattle.std.specs.List.{list_all}
+use Rattle.std.specs.Option.{option_map}
 use Rattle.std.specs.Str.{bytes_eq}
 use Rattle.csv.specs.Records.{field_at}
 use Rattle.bit_vectors.specs.declared.flags.Flags.{Flags}
 use Rattle.side_tables.specs.declared.rows.FlagRow.{FlagRow}
+use Rattle.side_tables.specs.declared.rows.RobustRow.{RobustRow}
+use Rattle.side_tables.specs.declared.rows.ScheduleRow.{ScheduleRow}
+use Rattle.side_tables.specs.declared.rows.ScheduleRow.TheVariants.{Flags as OfFlags, Robust as OfRobust}
 use Rattle.side_tables.specs.declared.rows.CopyRow.{CopyRow}
 use Rattle.side_tables.specs.declared.span.Span.{Span}
 use Rattle.side_tables.specs.Numbers.{number_of}
+use Rattle.side_tables.specs.Rows.{ScheduleRows, by_kind}
 use Rattle.side_tables.specs.Texts.{rows_of, bad_row}
 
 infixl 10 ◌>>=◌
@@ -47,7 +52,7 @@ are_letters letters =
 abbrev pub flags_named : List ℕ → Option Flags
 flags_named letters = if are_letters letters then Some (record { p = has letters 112; f = has letters 102; r = has letters 114 }) else None
 
--- a row of a schedule: first, last, step and flags
+-- first, last, step and flags: a row of flags
 abbrev pub flag_row_of : List (List ℕ) → Option FlagRow
 flag_row_of fields =
     if length fields == 4 then (do
@@ -55,6 +60,20 @@ flag_row_of fields =
       flags ← field_at fields 3 >>= flags_named
       Some (record { first = span.first; last = span.last; step = span.step; flags = flags }))
     else None
+
+-- `robust`, first, last, step, value: a row of required robustness, 0 to 7
+abbrev pub robust_row_of : List (List ℕ) → Option RobustRow
+robust_row_of fields =
+    if length fields == 5 then (do
+      span ← span_from fields 1
+      value ← field_at fields 4 >>= number_of 0 7
+      Some (record { first = span.first; last = span.last; step = span.step; value = value }))
+    else None
+
+-- a row of a schedule
+abbrev pub schedule_row_of : List (List ℕ) → Option ScheduleRow
+schedule_row_of fields =
+    field_at fields 0 >>= λ word. if bytes_eq word (codes "robust") then option_map OfRobust (robust_row_of fields) else option_map OfFlags (flag_row_of fields)
 
 abbrev pub copy_row : Span → ℕ → CopyRow
 copy_row span copies = record { first = span.first; last = span.last; step = span.step; copies = copies }
@@ -77,14 +96,14 @@ abbrev pub copy_row_of : List (List ℕ) → Option CopyRow
 copy_row_of fields = field_at fields 0 >>= λ word. if bytes_eq word (codes "drop") then drop_row_of fields else if bytes_eq word (codes "repeat") then repeat_row_of fields else None
 
 -- the rows of a schedule's and of a script's text, and the number of the first record that is none
-abbrev pub flag_rows_of : List ℕ → List FlagRow
-flag_rows_of text = rows_of flag_row_of text
+abbrev pub schedule_rows_of : List ℕ → ScheduleRows
+schedule_rows_of text = by_kind (rows_of schedule_row_of text)
 
 abbrev pub copy_rows_of : List ℕ → List CopyRow
 copy_rows_of text = rows_of copy_row_of text
 
-abbrev pub bad_flag_row : List ℕ → Option ℕ
-bad_flag_row text = bad_row flag_row_of text
+abbrev pub bad_schedule_row : List ℕ → Option ℕ
+bad_schedule_row text = bad_row schedule_row_of text
 
 abbrev pub bad_copy_row : List ℕ → Option ℕ
 bad_copy_row text = bad_row copy_row_of text

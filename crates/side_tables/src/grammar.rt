@@ -3,38 +3,65 @@
 ghost use Rattle.std.specs.Prelude.{◌≡◌, ◌<◌, ◌≤◌, IfSome};
 ghost use Rattle.std.specs.List.{list_all};
 ghost use Rattle.csv.specs.Records.{fields_of};
-ghost use Rattle.side_tables.specs.Rows.{IsFlagRow, IsCopyRow, flag_span, copy_span};
+ghost use Rattle.side_tables.specs.Rows.{IsFlagRow, IsRobustRow, IsScheduleRow, IsCopyRow, flag_span, robust_span, copy_span};
 ghost use Rattle.side_tables.specs.Spans.{IsSpan};
-ghost use Rattle.side_tables.specs.Grammar.{number_at, span_from, flags_named, are_letters, is_letter, count_of, flag_row_of, drop_row_of, repeat_row_of, copy_row_of};
+ghost use Rattle.side_tables.specs.Grammar.{number_at, span_from, flags_named, are_letters, is_letter, count_of, flag_row_of, robust_row_of, schedule_row_of, drop_row_of, repeat_row_of, copy_row_of};
 
 use crate::decimal::number;
-use crate::rows::{CopyRow, FlagRow, TableRow};
+use crate::rows::{CopyRow, FlagRow, RobustRow, ScheduleRow, TableRow, TextRow};
 use crate::span::Span;
 use bit_vectors::Flags;
 use csv::ByteRecord;
 
-impl TableRow for FlagRow {
-    ghost row_of = { flag_row_of };
+impl TextRow for ScheduleRow {
+    ghost row_of = { schedule_row_of };
 
+    ghost is_right = { IsScheduleRow };
+
+    fn from_record(fields: &ByteRecord) -> Option<ScheduleRow> {
+        match fields.get(0)? {
+            b"robust" => Some(ScheduleRow::Robust(robust_row(fields)?)),
+            _ => Some(ScheduleRow::Flags(flag_row(fields)?)),
+        }
+    }
+}
+
+impl TextRow for CopyRow {
+    ghost row_of = { copy_row_of };
+
+    ghost is_right = { IsCopyRow };
+
+    fn from_record(fields: &ByteRecord) -> Option<CopyRow> {
+        match fields.get(0)? {
+            b"drop" => drop_row(fields),
+            b"repeat" => repeat_row(fields),
+            _ => None,
+        }
+    }
+}
+
+impl TableRow for FlagRow {
     ghost span_of = { flag_span };
 
     ghost is_right = { IsFlagRow };
 
     ghost names_packets = { λ row right. right };
 
-    fn from_record(fields: &ByteRecord) -> Option<FlagRow> {
-        if fields.len() != 4 {
-            return None;
+    fn span(&self) -> Span {
+        Span {
+            first: self.first,
+            last: self.last,
+            step: self.step,
         }
-        let span = span_from(fields, 0)?;
-        let flags = flags_named(fields.get(3)?)?;
-        Some(FlagRow {
-            first: span.first,
-            last: span.last,
-            step: span.step,
-            flags,
-        })
     }
+}
+
+impl TableRow for RobustRow {
+    ghost span_of = { robust_span };
+
+    ghost is_right = { IsRobustRow };
+
+    ghost names_packets = { λ row right. right.span };
 
     fn span(&self) -> Span {
         Span {
@@ -46,21 +73,11 @@ impl TableRow for FlagRow {
 }
 
 impl TableRow for CopyRow {
-    ghost row_of = { copy_row_of };
-
     ghost span_of = { copy_span };
 
     ghost is_right = { IsCopyRow };
 
     ghost names_packets = { λ row right. right.span };
-
-    fn from_record(fields: &ByteRecord) -> Option<CopyRow> {
-        match fields.get(0)? {
-            b"drop" => drop_row(fields),
-            b"repeat" => repeat_row(fields),
-            _ => None,
-        }
-    }
 
     fn span(&self) -> Span {
         Span {
@@ -69,6 +86,42 @@ impl TableRow for CopyRow {
             step: self.step,
         }
     }
+}
+
+/// The flags of packets.
+fn flag_row(fields: &ByteRecord) -> Option<FlagRow>
+    ensures row { result ≡ flag_row_of (fields_of fields.now) }
+    ensures right { IfSome result IsFlagRow }
+{
+    if fields.len() != 4 {
+        return None;
+    }
+    let span = span_from(fields, 0)?;
+    let flags = flags_named(fields.get(3)?)?;
+    Some(FlagRow {
+        first: span.first,
+        last: span.last,
+        step: span.step,
+        flags,
+    })
+}
+
+/// The required robustness of packets.
+fn robust_row(fields: &ByteRecord) -> Option<RobustRow>
+    ensures row { result ≡ robust_row_of (fields_of fields.now) }
+    ensures right { IfSome result IsRobustRow }
+{
+    if fields.len() != 5 {
+        return None;
+    }
+    let span = span_from(fields, 1)?;
+    let value = number(fields.get(4)?, 0, 7)?;
+    Some(RobustRow {
+        first: span.first,
+        last: span.last,
+        step: span.step,
+        value: value as u8,
+    })
 }
 
 /// The packets that are dropped.

@@ -1,9 +1,10 @@
-//! Schedules and scripts: tables that give flags and copies to packets by their number.
+//! Schedules and scripts: tables that give flags, required robustness and copies to packets by their number.
 #![tactic(auto)]
 
 mod decimal;
 mod fault;
 mod grammar;
+mod laws;
 mod order;
 mod rows;
 mod schedule;
@@ -14,6 +15,7 @@ mod text;
 
 pub use decimal::number;
 pub use fault::SideFault;
+pub use laws::robustness_of_texts;
 pub use rows::{CopyRow, FlagRow, TableRow};
 pub use schedule::Schedule;
 pub use script::Script;

@@ -18,6 +18,22 @@ pub struct FlagRow {
     pub flags: Flags,
 }
 
+/// A row of a schedule: the required robustness, 0 to 7, of each `step`-th packet from `first` to `last`.
+#[derive(Clone, Copy, Debug, PartialEq, Eq)]
+pub struct RobustRow {
+    pub first: u32,
+    pub last: u32,
+    pub step: u32,
+    pub value: u8,
+}
+
+/// A row of a schedule, of either kind.
+#[derive(Clone, Copy, Debug, PartialEq, Eq)]
+pub enum ScheduleRow {
+    Flags(FlagRow),
+    Robust(RobustRow),
+}
+
 /// A row of a script: how many copies of each `step`-th packet from `first` to `last` arrive.
 #[derive(Clone, Copy, Debug, PartialEq, Eq)]
 pub struct CopyRow {
@@ -27,14 +43,11 @@ pub struct CopyRow {
     pub copies: u8,
 }
 
-/// A row of a table: what it says holds of each packet that it names.
+/// A row of a text: a record of comma-separated values.
 ///
-/// `row_of` is the row that a record's fields are, `span_of` the numbers of the packets that a row names, and `is_right`
-/// what holds of each row of a table.
-pub trait TableRow: Copy {
+/// `row_of` is the row that a record's fields are, and `is_right` what holds of each row of a text.
+pub trait TextRow: Copy {
     ghost row_of: { List (List ℕ) → Option Self };
-
-    ghost span_of: { Self → Numbers };
 
     ghost is_right: { Self → Type 0 };
 
@@ -42,6 +55,15 @@ pub trait TableRow: Copy {
     fn from_record(fields: &ByteRecord) -> Option<Self>
         ensures row { result ≡ row_of (fields_of fields.now) }
         ensures right { IfSome result is_right };
+}
+
+/// A row of a table: what it says holds of each packet that it names.
+///
+/// `span_of` is the numbers of the packets that a row names, and `is_right` what holds of each row of a table.
+pub trait TableRow: Copy {
+    ghost span_of: { Self → Numbers };
+
+    ghost is_right: { Self → Type 0 };
 
     /// The numbers of the packets that the row names.
     fn span(&self) -> Span

@@ -1,33 +1,104 @@
-//! Schedules: which flags packets have.
+//! Schedules: which flags and which required robustness packets have.
 
-ghost use Rattle.std.specs.Prelude.{◌≡◌, ◌||◌};
-ghost use Rattle.side_tables.specs.Rows.{flags_of};
+ghost use Rattle.std.specs.Prelude.{◌≡◌, ℕ, ◌<◌, ◌≤◌, ◌||◌, ◌↔◌, [], length, All, Err, Some, None, IfOk, IfSome, OnOk};
+ghost use Rattle.side_tables.specs.Grammar.{bad_schedule_row, schedule_rows_of};
+ghost use Rattle.side_tables.specs.Rows.{IsFlagRow, IsScheduleRow, by_kind, flags_of, robust_of};
 
-use crate::rows::FlagRow;
+use crate::fault::SideFault;
+use crate::rows::{FlagRow, RobustRow, ScheduleRow};
 use crate::table::Table;
-use bit_vectors::Flags;
+use crate::text::read_rows;
+use bit_vectors::{Flags, NoMemory};
+use std::alloc::Global;
+use std::marker::Model;
 
-/// A table of flags by packet number.
+/// Tables of flags and of required robustness by packet number. Contracts see the rows of each, the first one first.
 ///
-/// A row of its text is first number, last number, step and flags: plain decimals of 32 bits, the first at most the
-/// last and the step 1 or more, and one to three letters of `p`, `f` and `r`, none twice.
-pub type Schedule = Table<FlagRow>;
+/// A row of its text is first number, last number, step and flags, or `robust` with first number, last number, step and
+/// the required robustness: plain decimals of 32 bits, the first at most the last and the step 1 or more; one to three
+/// letters of `p`, `f` and `r`, none twice; and a robustness of 0 to 7.
+#[derive(Debug, Drop)]
+pub struct Schedule {
+    flags: Table<FlagRow>,
+    robust: Table<RobustRow>,
+}
 
-impl Table<FlagRow> {
-    /// The flags of all rows that name the packet, joined.
+impl Model for Schedule {
+    ghost use Rattle.side_tables.specs.Rows.{ScheduleRows};
+
+    ghost Value = { ScheduleRows };
+
+    ghost view = { λ s. record { flags = s.flags; robust = s.robust } };
+}
+
+impl Schedule {
+    /// The schedule that a text says, at most 1,048,576 bytes: each record of comma-separated values is a row.
+    pub fn read(alloc: Global, text: &[u8]) -> Result<Schedule, SideFault>
+        ensures rows { IfOk result (λ schedule. schedule ≡ schedule_rows_of text.now) }
+        ensures within { OnOk result (length text.now ≤ 1048576) }
+        ensures right { OnOk result (bad_schedule_row text.now ≡ None) }
+        ensures too_long { (result ≡ Err SideFault.TooLong) ↔ (1048576 < length text.now) }
+        ensures row { (row : ℕ) → result ≡ Err (SideFault.Row row)
+            → bad_schedule_row text.now ≡ Some row }
+    {
+        let rows = read_rows(alloc, text)?;
+        Ok(Schedule::of_rows(alloc, &rows)?)
+    }
+
+    /// The schedule with these rows of flags, which requires no robustness.
+    pub fn with_rows(alloc: Global, rows: &[FlagRow]) -> Result<Schedule, NoMemory>
+        requires { All IsFlagRow rows.now }
+        ensures { IfOk result (λ schedule. schedule ≡ record { flags = rows.now; robust = [] }) }
+    {
+        Ok(Schedule {
+            flags: Table::with_rows(alloc, rows)?,
+            robust: Table::with_rows(alloc, &[])?,
+        })
+    }
+
+    /// The schedule with these rows.
+    fn of_rows(alloc: Global, rows: &[ScheduleRow]) -> Result<Schedule, NoMemory>
+        requires { All IsScheduleRow rows.now }
+        ensures { IfOk result (λ schedule. schedule ≡ by_kind rows.now) }
+    {
+        let mut flags = Vec::new(alloc);
+        let mut robust = Vec::new(alloc);
+        for row in rows {
+            match row {
+                ScheduleRow::Flags(row) => flags.push(*row)?,
+                ScheduleRow::Robust(row) => robust.push(*row)?,
+            }
+        }
+        Ok(Schedule {
+            flags: Table::of_rows(alloc, flags)?,
+            robust: Table::of_rows(alloc, robust)?,
+        })
+    }
+
+    /// The flags of all rows of flags that name the packet, joined.
     pub fn flags(&self, t: u32) -> Flags
-        ensures { result ≡ flags_of self.now t }
+        ensures { result ≡ flags_of self.now.flags t }
     {
         let mut flags = Flags {
             p: false,
             f: false,
             r: false,
         };
-        let rows = self.rows();
-        for place in self.naming(t) {
+        let rows = self.flags.rows();
+        for place in self.flags.naming(t) {
             flags = joined(flags, rows[place].flags);
         }
         flags
+    }
+
+    /// The required robustness of the packet, at most 7: what the last `robust` row that names it says, and none where
+    /// no such row does.
+    pub fn robust(&self, t: u32) -> Option<u8>
+        ensures robust { result ≡ robust_of self.now.robust t }
+        ensures most { IfSome result (λ robust. robust ≤ 7) }
+    {
+        let row = self.robust.latest(t)?;
+        Some(row.value)
     }
 }
 

@@ -1,10 +1,14 @@
 //! Scripts: how many copies of packets arrive.
 
-ghost use Rattle.std.specs.Prelude.{◌≡◌, ◌≤◌};
+ghost use Rattle.std.specs.Prelude.{◌≡◌, ℕ, ◌<◌, ◌≤◌, ◌↔◌, length, Err, Some, None, IfOk, OnOk};
+ghost use Rattle.side_tables.specs.Grammar.{bad_copy_row, copy_rows_of};
 ghost use Rattle.side_tables.specs.Rows.{copies_of};
 
+use crate::fault::SideFault;
 use crate::rows::CopyRow;
 use crate::table::Table;
+use crate::text::read_rows;
+use std::alloc::Global;
 
 /// A table of copies by packet number.
 ///
@@ -13,6 +17,19 @@ use crate::table::Table;
 pub type Script = Table<CopyRow>;
 
 impl Table<CopyRow> {
+    /// The script that a text says, at most 1,048,576 bytes: each record of comma-separated values is a row.
+    pub fn read(alloc: Global, text: &[u8]) -> Result<Script, SideFault>
+        ensures rows { IfOk result (λ script. script ≡ copy_rows_of text.now) }
+        ensures within { OnOk result (length text.now ≤ 1048576) }
+        ensures right { OnOk result (bad_copy_row text.now ≡ None) }
+        ensures too_long { (result ≡ Err SideFault.TooLong) ↔ (1048576 < length text.now) }
+        ensures row { (row : ℕ) → result ≡ Err (SideFault.Row row)
+            → bad_copy_row text.now ≡ Some row }
+    {
+        let rows = read_rows(alloc, text)?;
+        Ok(Table::of_rows(alloc, rows)?)
+    }
+
     /// How many copies of the packet arrive, at most 9: what the last row that names it says, and one where none does.
     pub fn times(&self, t: u32) -> u8
         ensures copies { result ≡ copies_of self.now t }

@@ -1,14 +1,11 @@
 //! Tables: rows that name packets by their numbers, and those of them that name one packet.
 
-ghost use Rattle.std.specs.Prelude.{◌≡◌, ℕ, ◌<◌, ◌≤◌, ◌↔◌, length, All, Err, Some, None, IfOk, IfSome, OnOk};
+ghost use Rattle.std.specs.Prelude.{◌≡◌, All, IfOk, IfSome};
 ghost use Rattle.side_tables.specs.Rows.{last_row};
 ghost use Rattle.side_tables.specs.Tables.{ArePlacesNaming};
-ghost use Rattle.side_tables.specs.Texts.{rows_of, bad_row};
 
-use crate::fault::SideFault;
 use crate::order::{OrderEntry, PlacesAt, order_of, places_at};
 use crate::rows::TableRow;
-use crate::text::read_rows;
 use bit_vectors::NoMemory;
 use std::alloc::Global;
 use std::marker::Model;
@@ -32,19 +29,6 @@ impl<R: TableRow> Model for Table<R> {
 }
 
 impl<R: TableRow> Table<R> {
-    /// The table that a text says, at most 1,048,576 bytes: each record of comma-separated values is a row.
-    pub fn read(alloc: Global, text: &[u8]) -> Result<Table<R>, SideFault>
-        ensures rows { IfOk result (λ table. table ≡ rows_of R.row_of text.now) }
-        ensures within { OnOk result (length text.now ≤ 1048576) }
-        ensures right { OnOk result (bad_row R.row_of text.now ≡ None) }
-        ensures too_long { (result ≡ Err SideFault.TooLong) ↔ (1048576 < length text.now) }
-        ensures row { (row : ℕ) → result ≡ Err (SideFault.Row row)
-            → bad_row R.row_of text.now ≡ Some row }
-    {
-        let rows = read_rows(alloc, text)?;
-        Ok(Table::of_rows(alloc, rows)?)
-    }
-
     /// The table with these rows.
     pub fn with_rows(alloc: Global, rows: &[R]) -> Result<Table<R>, NoMemory>
         requires { All R.is_right rows.now }
@@ -55,7 +39,7 @@ impl<R: TableRow> Table<R> {
     }
 
     /// The table that owns these rows.
-    fn of_rows(alloc: Global, rows: Vec<R>) -> Result<Table<R>, NoMemory>
+    pub(crate) fn of_rows(alloc: Global, rows: Vec<R>) -> Result<Table<R>, NoMemory>
         requires { All R.is_right rows.items }
         ensures { IfOk result (λ table. table ≡ rows.items) }
     {

@@ -20,6 +20,11 @@ fn flags(alloc: Global, text: &[u8], t: u32) -> Result<&'static str, SideFault> 
     })
 }
 
+/// The required robustness that a text gives to a packet.
+fn robust(alloc: Global, text: &[u8], t: u32) -> Result<Option<u8>, SideFault> {
+    Ok(Schedule::read(alloc, text)?.robust(t))
+}
+
 /// How many copies of a packet a text gives.
 fn times(alloc: Global, text: &[u8], t: u32) -> Result<u8, SideFault> {
     Ok(Script::read(alloc, text)?.times(t))
@@ -59,6 +64,40 @@ fn schedules(rt: HostRuntime) -> Result<(), Fail> {
     };
     let schedule = Schedule::with_rows(rt.alloc(), &[row])?;
     assert_eq!(rt; schedule.flags(5), flags);
+    assert_eq!(rt; schedule.robust(5), None);
+    Ok(())
+}
+
+#[test]
+fn schedules_of_robustness(rt: HostRuntime) -> Result<(), Fail> {
+    let rows: [(&str, u32, Result<Option<u8>, SideFault>); 12] = [
+        ("robust,2,3,1,2", 1, Ok(None)),
+        ("robust,2,3,1,2", 2, Ok(Some(2))),
+        ("robust,0,9,3,7\nrobust,6,6,1,0", 3, Ok(Some(7))),
+        ("robust,0,9,3,7\nrobust,6,6,1,0", 6, Ok(Some(0))),
+        ("robust,6,6,1,0\nrobust,0,9,3,7", 6, Ok(Some(7))),
+        ("robust,0,9,1,3\n0,9,1,p", 4, Ok(Some(3))),
+        ("0,9,1,p", 4, Ok(None)),
+        ("robust,0,9,1,8", 0, Err(SideFault::Row { row: 1 })),
+        ("0,9,1,p\nrobust,0,9,1", 0, Err(SideFault::Row { row: 2 })),
+        (
+            "robust,0,9,1,1\nRobust,0,9,1,1",
+            0,
+            Err(SideFault::Row { row: 2 }),
+        ),
+        (
+            "robust,0,9,1,1\n0,9,1,p,1",
+            0,
+            Err(SideFault::Row { row: 2 }),
+        ),
+        ("robust,9,8,1,1", 0, Err(SideFault::Row { row: 1 })),
+    ];
+    for (text, t, wanted) in rows {
+        assert_eq!(rt; robust(rt.alloc(), text.as_bytes(), t), wanted);
+    }
+    let overlapping = "0,9,1,f\nrobust,5,9,1,6\n5,5,1,rp";
+    assert_eq!(rt; flags(rt.alloc(), overlapping.as_bytes(), 5), Ok("pfr"));
+    assert_eq!(rt; robust(rt.alloc(), overlapping.as_bytes(), 5), Ok(Some(6)));
     Ok(())
 }
 

@@ -1,11 +1,11 @@
-//! Tables from texts: each record of comma-separated values is a row.
+//! Rows from texts: each record of comma-separated values is one.
 
 ghost use Rattle.std.specs.Prelude.{◌≡◌, ◌<◌, All, IfOk, IfErr};
 ghost use Rattle.csv.specs.Reading.{error_kind};
 ghost use Rattle.side_tables.specs.Texts.{AreRowsOf, CanCome, IsFaultOf};
 
 use crate::fault::SideFault;
-use crate::rows::TableRow;
+use crate::rows::TextRow;
 use csv::ReaderBuilder;
 use std::alloc::Global;
 
@@ -13,7 +13,7 @@ use std::alloc::Global;
 pub const MOST_BYTES: usize = 1_048_576;
 
 /// The rows of a text, or why it is not one of rows.
-pub fn read_rows<R: TableRow>(alloc: Global, text: &[u8]) -> Result<Vec<R>, SideFault>
+pub fn read_rows<R: TextRow>(alloc: Global, text: &[u8]) -> Result<Vec<R>, SideFault>
     ensures rows { IfOk result (λ rows. AreRowsOf R.row_of text.now rows.items) }
     ensures right { IfOk result (λ rows. All R.is_right rows.items) }
     ensures fault { IfErr result (IsFaultOf R.row_of text.now) }

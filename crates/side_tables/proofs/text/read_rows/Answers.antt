@@ -29,8 +29,8 @@ records-init g c =
       [],
       fr.source,
       (sym fr.state, refl),
-      AreGood-none g.R.TableRow.row_of,
-      All-nil g.R.TableRow.is_right,
+      AreGood-none g.R.TextRow.row_of,
+      All-nil g.R.TextRow.is_right,
     )
 
 -- there are fewer rows than bytes
@@ -40,7 +40,7 @@ fewer g c =
     let s = rw (c.in-Some.is, c.in-Ok.is) at ((c.next.ensures.steps inv.3 inv.1).0 inv.2) in
     let none = sym c.from_record.ensures.row ∙ c.in_default.is in
     let count : c.len.result ≡ length c.records.rows.items = search rules in
-    rw count (bad_row-read g.R.TableRow.row_of c.args.text c.records.record-iterator.rdr c.next.new.self.rdr inv.6 inv.7 c.records.rows.items (fields_of c.in-Ok.record) inv.4 inv.8 inv.9 inv.10 none s.0).1
+    rw count (bad_row-read g.R.TextRow.row_of c.args.text c.records.record-iterator.rdr c.next.new.self.rdr inv.6 inv.7 c.records.rows.items (fields_of c.in-Ok.record) inv.4 inv.8 inv.9 inv.10 none s.0).1
 
 pub refused-requires : goal.refused-requires
 refused-requires g c =
@@ -66,7 +66,7 @@ returns-in_default-clause-fault g c =
     let s = rw (c.in-Some.is, c.in-Ok.is) at ((c.next.ensures.steps inv.3 inv.1).0 inv.2) in
     let none = sym c.from_record.ensures.row ∙ c.in_default.is in
     let count : c.len.result ≡ length c.records.rows.items = search rules in
-    (inv.5, rw count (bad_row-read g.R.TableRow.row_of c.args.text c.records.record-iterator.rdr c.next.new.self.rdr inv.6 inv.7 c.records.rows.items (fields_of c.in-Ok.record) inv.4 inv.8 inv.9 inv.10 none s.0).0)
+    (inv.5, rw count (bad_row-read g.R.TextRow.row_of c.args.text c.records.record-iterator.rdr c.next.new.self.rdr inv.6 inv.7 c.records.rows.items (fields_of c.in-Ok.record) inv.4 inv.8 inv.9 inv.10 none s.0).0)
 
 pub records-preserved : goal.records-preserved
 records-preserved g c =
@@ -77,11 +77,11 @@ records-preserved g c =
     let items = rw good at c.push.ensures.items in
     let is = sym c.from_record.ensures.row ∙ c.in-Some-from_record.is in
     let right = rw c.in-Some-from_record.is at c.from_record.ensures.right in
-    ((rw (c.in-Some.is, c.in-Ok.is) at (c.next.ensures.steps inv.3 inv.1).3) ∙ inv.0, s.0.3 ∙ inv.1, inl s.1, s.2, s.0.2 ∙ inv.4, inv.5, m.0, inv.7 ++ fields_of c.in-Ok.record ∷ [], m.1, m.2, rw items (AreGood-more g.R.TableRow.row_of inv.7 c.records.rows.items (fields_of c.in-Ok.record) c.in-Some-from_record.row inv.10 is), rw items (All-push g.R.TableRow.is_right c.records.rows.items c.in-Some-from_record.row inv.11 right))
+    ((rw (c.in-Some.is, c.in-Ok.is) at (c.next.ensures.steps inv.3 inv.1).3) ∙ inv.0, s.0.3 ∙ inv.1, inl s.1, s.2, s.0.2 ∙ inv.4, inv.5, m.0, inv.7 ++ fields_of c.in-Ok.record ∷ [], m.1, m.2, rw items (AreGood-more g.R.TextRow.row_of inv.7 c.records.rows.items (fields_of c.in-Ok.record) c.in-Some-from_record.row inv.10 is), rw items (All-push g.R.TextRow.is_right c.records.rows.items c.in-Some-from_record.row inv.11 right))
 
 pub returns-clause-rows : goal.returns-clause-rows
 returns-clause-rows g c =
     let inv = c.records.invariant in
     let s = rw c.in-None.is at ((c.next.ensures.steps inv.3 inv.1).0 inv.2) in
     let none = rows-end (λ (s : Bor (List ℕ)). Some s.now) c.records.record-iterator.rdr c.next.new.self.rdr [] default_config inv.6 inv.4 inv.8 s in
-    AreRowsOf-end g.R.TableRow.row_of c.args.text.now inv.7 c.records.rows.items c.records.record-iterator.rdr.state inv.6 inv.5 inv.10 inv.9 none
+    AreRowsOf-end g.R.TextRow.row_of c.args.text.now inv.7 c.records.rows.items c.records.record-iterator.rdr.state inv.6 inv.5 inv.10 inv.9 none

@@ -3,21 +3,22 @@ use Rattle.bit_vectors.specs.Vectors.{vector_bytes}
 use Rattle.desk_ports.specs.declared.desk.Outlet.TheVariants as outlet
 use Rattle.desk_ports.specs.Meanings.{Adds, AddsFront}
 use Rattle.mask_update.specs.Histories.{History}
-use Rattle.side_tables.specs.Rows.{flags_of}
 use Rattle.packet_encode.specs.Encoder.{StandsFor}
 use Rattle.packet_encode.specs.Packets.{with_next_input}
 use Rattle.packet_store.specs.SpacePackets.{period, space_packet}
+use Rattle.flight_chain.specs.Compressing.{with_packet}
 use Rattle.flight_chain.specs.Stores.{data_at}
 use Rattle.flight_chain.proofs.compressing.Compressing.put.Goals as goal
 
 -- the bytes that the pen has are those of the packet
 packet_is : (g : _) (c : goal.After-put g) (h : History) → StandsFor h c.args.self.now.encoder
     → space_packet c.args.self.now.writer.apid (c.from.result % period) c.bytes.result.now
-    ≡ space_packet c.args.self.now.writer.apid (c.args.t % period) (data_at (with_next_input h c.args.self.now.encoder.robust c.args.self.now.input (flags_of c.args.self.now.plan c.args.t)) (length h.steps))
+    ≡ space_packet c.args.self.now.writer.apid (c.args.t % period) (data_at (with_packet h c.args.self.now c.args.self.now.input c.args.t) (length h.steps))
 packet_is g c h stands =
     let s = c.args.self.now in
     let flags = c.flags.ensures in
-    let bytes = c.bytes.ensures.bytes ∙ (ap vector_bytes (c.encode.ensures.bits h stands) ∙ λ i. data_at (with_next_input h s.encoder.robust s.input (flags i)) (length h.steps)) in
+    let robust = c.required-robust.ensures.robust in
+    let bytes = c.bytes.ensures.bytes ∙ (ap vector_bytes (c.encode.ensures.bits h stands) ∙ λ i. data_at (with_next_input h (robust i) s.input (flags i)) (length h.steps)) in
     λ i. space_packet s.writer.apid (c.from.ensures i % period) (bytes i)
 
 pub returns-clause-added : goal.returns-clause-added

@@ -16,13 +16,13 @@ use Rattle.packet_encode.proofs.OfHistories.{form_of-most, form_of-same, written
 use Rattle.packet_encode.proofs.encoder.Encoder.encode.Goals as goal
 
 abbrev step : goal.After-put_data → History → Step
-step c h = step_of (λ _. c.args.flags) (λ _. c.args.self.now.robust) (length h.steps, c.args.input.now)
+step c h = step_of (λ _. c.args.flags) (λ _. c.args.robust) (length h.steps, c.args.input.now)
 
 abbrev after : goal.After-put_data → History → History
-after c h = with_next_input h c.args.self.now.robust c.args.input.now c.args.flags
+after c h = with_next_input h c.args.robust c.args.input.now c.args.flags
 
-flags_are : (c : goal.After-put_data) (h : History) → StandsFor h c.args.self.now → flags_after c.args.self.now.robust (length h.steps) c.args.flags ≡ c.forced-flags.result
-flags_are c h stands = ap (λ n. flags_after c.args.self.now.robust n c.args.flags) (sym stands.masks.taken) ∙ sym c.forced-flags.ensures
+flags_are : (c : goal.After-put_data) (h : History) → StandsFor h c.args.self.now → flags_after c.args.robust (length h.steps) c.args.flags ≡ c.forced-flags.result
+flags_are c h stands = ap (λ n. flags_after c.args.robust n c.args.flags) (sym stands.masks.taken) ∙ sym c.forced-flags.ensures
 
 masks_stand : (c : goal.After-put_data) (h : History) → StandsFor h c.args.self.now → MasksStandFor (after c h) c.step.new.self
 masks_stand c h stands =
@@ -41,7 +41,7 @@ window_stands c h stands =
     (subst (λ (e : EncoderState). WindowStandsFor (mask_steps h) e.window) (sym c.self.view_is) stands.window)
     (sym (c.change.ensures.change (after c h) (masks_stand c h stands) ∙ ap (change_at (after c h)) (latest c h)))
     (ap (λ (s : Step). s.flags.p) (last c h) ∙ ap (λ (f : Flags). f.p) (flags_are c h stands))
-    (ap (λ (s : Step). s.robust) (last c h) ∙ ap (λ (e : EncoderState). e.robust) (sym c.self.view_is) ∙ sym c.self.invariant.robust_is))
+    (ap (λ (s : Step). s.robust) (last c h)))
 
 -- the bits that were written are those of a form
 written : (c : goal.After-put_data) → c.put_data.new.pen.bits ≡ form_bits (form_of c.step.new.self.mask c.step-2.new.self.recent c.step-2.new.self.level c.step-2.new.self.twice c.args.input.now c.forced-flags.result)

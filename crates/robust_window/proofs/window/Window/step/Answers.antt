@@ -12,7 +12,7 @@ use Rattle.robust_window.proofs.window.Window.step.Goals as goal
 recent_len : (c : goal.After-self-5-1) → length c.gather.new.recent ≡ length c.self.inside.recent
 recent_len c =
     let f = length c.self.inside.recent in
-    ap length c.gather.ensures ∙ length-gathered f (changes_of f c.pushed-self-inside.result c.push_change.new.changes.items) (c.self.inside.robust + 1)
+    ap length c.gather.ensures ∙ length-gathered f (changes_of f c.pushed-self-inside.result c.push_change.new.changes.items) (c.args.robust + 1)
 
 change_len : (c : goal.After-self-5-1) → length c.args.change.now ≡ length c.self.inside.recent
 change_len c = c.requires.places ∙ ap (λ (k : WindowState). length k.recent) (sym c.self.view_is)
@@ -71,29 +71,28 @@ invariant_of-self c =
       quiet = λ clear.
           let f = length c.self.inside.recent in
           let marks = c.pushed-self-inside.result in
-          let count = c.self.inside.robust + 1 in
-          let zeros = gathered-zeros f (changes_of f marks c.push_change.new.changes.items) count (λ back lt. changes_of-quiet f marks c.push_change.new.changes.items back (slots_len c) (omega (arith, lt, c.self.invariant.robust_most)) (clear back lt)) in
+          let count = c.args.robust + 1 in
+          let zeros = gathered-zeros f (changes_of f marks c.push_change.new.changes.items) count (λ back lt. changes_of-quiet f marks c.push_change.new.changes.items back (slots_len c) (omega (arith, lt, c.requires.robust)) (clear back (omega (arith, lt, c.requires.robust)))) in
           c.gather.ensures ∙ (sym zeros ∙ ap (λ (n : ℕ). replicate n false) (sym same));
-      level_most = omega (arith, c.self.invariant.robust_most, c.quiet_level-self-inside.ensures.most);
-      robust_most = c.self.invariant.robust_most;
+      level_most = omega (arith, c.requires.robust, c.quiet_level-self-inside.ensures.most);
       taken_most = omega arith;
     }
 
 pub returns-clause-stands : goal.returns-clause-stands
 returns-clause-stands c = λ steps step stands change new_mask robust.
     let was = sym c.self.view_is in
-    let robust_is : step.robust ≡ c.self.inside.robust = robust ∙ ap (λ (k : WindowState). k.robust) was in
+    let robust_is : step.robust ≡ c.args.robust = robust in
     let taken_is : c.args.self.now.taken ≡ c.self.inside.taken = ap (λ (k : WindowState). k.taken) was in
     let f = length c.self.inside.recent in
     let places = length c.gather.new.recent in
     let marks = c.pushed-self-inside.result in
     let slots = c.push_change.new.changes.items in
     let level = c.quiet_level-self-inside.result in
-    let most : level ≤ 15 = omega (arith, c.self.invariant.robust_most, c.quiet_level-self-inside.ensures.most) in
+    let most : level ≤ 15 = omega (arith, c.requires.robust, c.quiet_level-self-inside.ensures.most) in
     StandsFor-next steps step c.args.self.now _ stands (record {
       full = ap (λ (k : WindowState). length k.changes) was ∙ length-changes_of f c.self.inside.changed c.self.inside.changes.items c.self.invariant.slots;
       flags_full = ap (λ (k : WindowState). length k.new_masks) was ∙ length-marks c.self.inside.new_masks;
-      robust_most = omega (arith, c.self.invariant.robust_most);
+      robust_most = omega (arith, c.requires.robust, robust_is);
       places = ap length change ∙ c.requires.places;
       start = λ none. change ∙ c.requires.first_change none ∙ ap (λ (v : List Bool). replicate (length v) false) (sym change);
       changes =
@@ -104,8 +103,8 @@ returns-clause-stands c = λ steps step stands change new_mask robust.
       new_masks = c.pushed-self-inside-2.ensures ∙ ap (λ (k : WindowState). drop 1 k.new_masks ++ c.args.new_mask ∷ []) c.self.view_is ∙ ap (λ b. drop 1 c.args.self.now.new_masks ++ b ∷ []) (sym new_mask);
       recent =
           c.gather.ensures
-          ∙ ap (λ (n : ℕ). gathered f (changes_of n marks slots) (c.self.inside.robust + 1)) (sym (recent_len c))
-          ∙ ap (λ (k : WindowState). gathered (length k.recent) (changes_of places marks slots) (c.self.inside.robust + 1)) c.self.view_is
+          ∙ ap (λ (n : ℕ). gathered f (changes_of n marks slots) (c.args.robust + 1)) (sym (recent_len c))
+          ∙ ap (λ (k : WindowState). gathered (length k.recent) (changes_of places marks slots) (c.args.robust + 1)) c.self.view_is
           ∙ ap (λ r. gathered (length c.args.self.now.recent) (changes_of places marks slots) (r + 1)) (sym robust_is);
       recent_len = recent_len c ∙ ap (λ (k : WindowState). length k.recent) c.self.view_is;
       level_least = omega (arith, c.quiet_level-self-inside.ensures.least);
@@ -114,7 +113,7 @@ returns-clause-stands c = λ steps step stands change new_mask robust.
           let zeros = changes_of-quiet places marks slots back (slots_len c) (omega arith) (c.quiet_level-self-inside.ensures.quiet back (omega arith) within) in
           zeros ∙ ap (λ (n : ℕ). replicate n false) (sym (ap length zeros ∙ length-replicate places false));
       stops = λ less.
-          let next : level + 1 < 16 = omega (arith, less, c.self.invariant.robust_most, robust_is) in
+          let next : level + 1 < 16 = omega (arith, less, c.requires.robust, robust_is) in
           let set = c.quiet_level-self-inside.ensures.stops (omega arith) in
           subst (λ (v : List Bool). Contains v true) (sym (changes_of-marked places marks slots (level + 1) (slots_len c) next set)) (marked_are c (level + 1) next set);
       twice = c.has_two-self-inside.ensures;

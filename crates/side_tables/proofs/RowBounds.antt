@@ -1,0 +1,116 @@
+-- The required robustness that the rows of a text give is at most 7.
+use Rattle.std.proofs.Common.{◌≡◌, ℕ, ◌≤◌, ◌&&◌, leb-true, Bool, true, false, cond, List, [], ◌∷◌, length, All, IfSome, Option, Some, None, find, reverse, nat_le, refl}
+use Rattle.std.specs.List.{cons_option, filter_map}
+use Rattle.std.specs.Option.{option_map}
+use Rattle.std.specs.Prelude.{◌==◌, codes}
+use Rattle.std.specs.Str.{bytes_eq}
+use Rattle.std.specs.Str.Parse.{digits_value}
+use Rattle.std.proofs.lemmas.List.{reverse-append}
+use Rattle.std.proofs.lemmas.List.Elements.{All-append, All-nil, All-cons, All-head, All-tail}
+use Rattle.csv.specs.Records.{field_at}
+use Rattle.side_tables.specs.declared.rows.FlagRow.{FlagRow}
+use Rattle.side_tables.specs.declared.rows.RobustRow.{RobustRow}
+use Rattle.side_tables.specs.declared.rows.ScheduleRow.{ScheduleRow}
+use Rattle.side_tables.specs.declared.rows.ScheduleRow.TheVariants as row
+use Rattle.side_tables.specs.declared.span.Span.{Span}
+use Rattle.side_tables.specs.Numbers.{is_plain_decimal, number_of}
+use Rattle.side_tables.specs.Grammar.{◌>>=◌, flag_row_of, robust_row_of, schedule_row_of, span_from}
+use Rattle.side_tables.specs.Rows.{robust_of, robust_row, robust_span}
+use Rattle.side_tables.specs.Spans.{names}
+use Rattle.side_tables.proofs.Orders.{both}
+
+-- ---- options
+
+bind_within : {A B : Type 0} (P : B → Type 0) (f : A → Option B) (o : Option A) → ((x : A) → o ≡ Some x → IfSome (f x) P) → IfSome (o >>= f) P
+bind_within P f None each = tt
+bind_within P f (Some x) each = each x refl
+
+test_within : {A : Type 0} (P : A → Type 0) (b : Bool) (o : Option A) → (b ≡ true → IfSome o P) → IfSome (cond b o None) P
+test_within P true o right = right refl
+test_within P false o right = tt
+
+-- ---- one row
+
+number_most : (low high : ℕ) (text : List ℕ) → IfSome (number_of low high text) (λ n. n ≤ high)
+number_most low high text =
+    test_within (λ n. n ≤ high) (is_plain_decimal text && nat_le low (digits_value 10 text) && nat_le (digits_value 10 text) high) (Some (digits_value 10 text))
+    (λ right. leb-true _ _ (both _ _ right).1)
+
+abbrev HasMost : RobustRow → Type 0
+HasMost row = row.value ≤ 7
+
+abbrev row_by : Span → ℕ → Option RobustRow
+row_by span value = Some (record { first = span.first; last = span.last; step = span.step; value = value })
+
+value_most : (span : Span) (o : Option ℕ) → IfSome o (λ n. n ≤ 7) → IfSome (o >>= row_by span) HasMost
+value_most span None most = tt
+value_most span (Some value) most = most
+
+field_most : (o : Option (List ℕ)) → IfSome (o >>= number_of 0 7) (λ n. n ≤ 7)
+field_most None = tt
+field_most (Some text) = number_most 0 7 text
+
+robust_row_of-most : (fields : List (List ℕ)) → IfSome (robust_row_of fields) HasMost
+robust_row_of-most fields =
+    test_within HasMost (length fields == 5) (span_from fields 1 >>= λ span. (field_at fields 4 >>= number_of 0 7) >>= row_by span)
+    (λ five. bind_within HasMost (λ span. (field_at fields 4 >>= number_of 0 7) >>= row_by span) (span_from fields 1) (λ span is. value_most span (field_at fields 4 >>= number_of 0 7) (field_most (field_at fields 4))))
+
+-- ---- the rows of records
+
+-- what a row says, where it is one of required robustness
+abbrev IsMost : ScheduleRow → Type 0
+IsMost (row.Flags flags) = Unit {0}
+IsMost (row.Robust robust) = HasMost robust
+
+robust_most : (o : Option RobustRow) → IfSome o HasMost → IfSome (option_map row.Robust o) IsMost
+robust_most None most = tt
+robust_most (Some robust) most = most
+
+flags_most : (o : Option FlagRow) → IfSome (option_map row.Flags o) IsMost
+flags_most None = tt
+flags_most (Some flags) = tt
+
+kind_most : (robust : Bool) (a b : Option ScheduleRow) → IfSome a IsMost → IfSome b IsMost → IfSome (cond robust a b) IsMost
+kind_most true a b most other = most
+kind_most false a b other most = most
+
+schedule_row_of-most : (fields : List (List ℕ)) → IfSome (schedule_row_of fields) IsMost
+schedule_row_of-most fields =
+    bind_within IsMost (λ word. cond (bytes_eq word (codes "robust")) (option_map row.Robust (robust_row_of fields)) (option_map row.Flags (flag_row_of fields))) (field_at fields 0)
+    (λ word is. kind_most (bytes_eq word (codes "robust")) (option_map row.Robust (robust_row_of fields)) (option_map row.Flags (flag_row_of fields))
+    (robust_most (robust_row_of fields) (robust_row_of-most fields)) (flags_most (flag_row_of fields)))
+
+-- a row before others
+rows_most : (o : Option ScheduleRow) (rows : List ScheduleRow) → IfSome o IsMost → All HasMost (filter_map robust_row rows) → All HasMost (filter_map robust_row (cons_option o rows))
+rows_most None rows most all = all
+rows_most (Some (row.Flags flags)) rows most all = all
+rows_most (Some (row.Robust robust)) rows most all = All-cons HasMost robust (filter_map robust_row rows) most all
+
+rows_of-most : (records : List (List (List ℕ))) → All HasMost (filter_map robust_row (filter_map schedule_row_of records))
+rows_of-most [] = All-nil HasMost
+rows_of-most (fields ∷ records) = rows_most (schedule_row_of fields) (filter_map schedule_row_of records) (schedule_row_of-most fields) (rows_of-most records)
+
+-- ---- the last row that names a number
+
+reversed : (rows : List RobustRow) → All HasMost rows → All HasMost (reverse rows)
+reversed [] all = All-nil HasMost
+reversed (row ∷ rows) all =
+    rw (reverse-append (row ∷ []) rows)
+    (All-append HasMost (reverse rows) (row ∷ []) (reversed rows (All-tail HasMost row rows all)) (All-cons HasMost row [] (All-head HasMost row rows all) (All-nil HasMost)))
+
+first_most : (passes : Bool) (row : RobustRow) (rest : Option RobustRow) → HasMost row → IfSome rest HasMost → IfSome (cond passes (Some row) rest) HasMost
+first_most true row rest most other = most
+first_most false row rest most other = other
+
+found : (passes : RobustRow → Bool) (rows : List RobustRow) → All HasMost rows → IfSome (find passes rows) HasMost
+found passes [] all = tt
+found passes (row ∷ rows) all = first_most (passes row) row (find passes rows) (All-head HasMost row rows all) (found passes rows (All-tail HasMost row rows all))
+
+said : (o : Option RobustRow) → IfSome o HasMost → IfSome (option_map (λ (row : RobustRow). row.value) o) (λ robust. robust ≤ 7)
+said None most = tt
+said (Some row) most = most
+
+pub robust_of-most : (records : List (List (List ℕ))) (t : ℕ) → IfSome (robust_of (filter_map robust_row (filter_map schedule_row_of records)) t) (λ robust. robust ≤ 7)
+robust_of-most records t =
+    let rows = filter_map robust_row (filter_map schedule_row_of records) in
+    said (find (λ row. names (robust_span row) t) (reverse rows)) (found (λ row. names (robust_span row) t) (reverse rows) (reversed rows (rows_of-most records)))

@@ -1,0 +1,11 @@
+//! What the definitions of rows mean.
+
+ghost use Rattle.std.specs.Prelude.{◌≤◌, ℕ, List, IfSome};
+ghost use Rattle.side_tables.specs.Grammar.{schedule_rows_of};
+ghost use Rattle.side_tables.specs.Rows.{robust_of};
+
+/// The rows of a text give no packet a required robustness above 7, also those of a text that has bad rows.
+pub fn robustness_of_texts()
+    ensures { (text : List ℕ) (t : ℕ) → IfSome (robust_of (schedule_rows_of text).robust t)
+        (λ robust. robust ≤ 7) }
+{}
