@@ -67,12 +67,12 @@ Steps-on k next s t a b outputs reads = record {
 
 -- all that it owes was written
 pub Advances-on : {A : Type 0} {k next : StoreWork A} {work : Work A WalkFault} {owes : Work A WalkFault → Type 0} {s t : ReaderState} {a b d : Meanings} {outputs : Outputs}
-    → work ≡ work_on k s → ReadsPacket k next s t a b outputs → Wrote b d outputs → owes (work_on next t) → Advances work owes a d
-Advances-on is reads wrote owed = Advances-taken is (Steps-on _ _ _ _ _ _ _ reads) reads.takes.moved wrote owed
+    → ReadsPacket k next s t a b outputs → work ≡ work_on k s → Wrote b d outputs → owes (work_on next t) → Advances work owes a d
+Advances-on reads is wrote owed = Advances-taken is (Steps-on _ _ _ _ _ _ _ reads) reads.takes.moved wrote owed
 
 -- and where a writing failed, a front of it
-pub IsCutShort-on : {A : Type 0} {k next : StoreWork A} {work : Work A WalkFault} {s t : ReaderState} {a b d : Meanings} {outputs : Outputs} → work ≡ work_on k s → ReadsPacket k next s t a b outputs → WroteFront b d outputs → IsCutShort work.course a d
-IsCutShort-on is reads front = IsCutShort-taken is (Steps-on _ _ _ _ _ _ _ reads) reads.takes.moved front
+pub IsCutShort-on : {A : Type 0} {k next : StoreWork A} {work : Work A WalkFault} {s t : ReaderState} {a b d : Meanings} {outputs : Outputs} → ReadsPacket k next s t a b outputs → work ≡ work_on k s → WroteFront b d outputs → IsCutShort work.course a d
+IsCutShort-on reads is front = IsCutShort-taken is (Steps-on _ _ _ _ _ _ _ reads) reads.takes.moved front
 
 -- ---- nothing of it is left
 
@@ -89,9 +89,9 @@ IsLast-on k s answer done none =
     record { course = λ i. record { before = nothing i; after = k.last (numbers i); ending = (walk i).ending }; answer = numbers }
 
 -- the input is at its end, and the last part was written
-pub Finishes-on : {A : Type 0} {k : StoreWork A} {work : Work A WalkFault} (s : ReaderState) {a b d : Meanings} {answer : A} → work ≡ work_on k s → IsDone k answer → s.ahead ≡ [] → Moves a b inlet.Main [] → IsAtEnd (left a inlet.Main) → Wrote b d (k.last answer) → Finishes work a d answer
-Finishes-on s is done none moved at_end wrote = Finishes-end is (IsLast-on _ s _ done none) moved at_end wrote
+pub Finishes-on : {A : Type 0} {k : StoreWork A} {work : Work A WalkFault} (s : ReaderState) {a b d : Meanings} {answer : A} → IsDone k answer → work ≡ work_on k s → s.ahead ≡ [] → Moves a b inlet.Main [] → IsAtEnd (left a inlet.Main) → Wrote b d (k.last answer) → Finishes work a d answer
+Finishes-on s done is none moved at_end wrote = Finishes-end is (IsLast-on _ s _ done none) moved at_end wrote
 
 -- and where a writing failed, a front of it
-pub IsCutShort-end-on : {A : Type 0} {k : StoreWork A} {work : Work A WalkFault} (s : ReaderState) {a b d : Meanings} {answer : A} → work ≡ work_on k s → IsDone k answer → s.ahead ≡ [] → Moves a b inlet.Main [] → IsAtEnd (left a inlet.Main) → WroteFront b d (k.last answer) → IsCutShort work.course a d
-IsCutShort-end-on s is done none moved at_end front = IsCutShort-end is (IsLast-on _ s _ done none) moved at_end front
+pub IsCutShort-end-on : {A : Type 0} {k : StoreWork A} {work : Work A WalkFault} (s : ReaderState) {a b d : Meanings} {answer : A} → IsDone k answer → work ≡ work_on k s → s.ahead ≡ [] → Moves a b inlet.Main [] → IsAtEnd (left a inlet.Main) → WroteFront b d (k.last answer) → IsCutShort work.course a d
+IsCutShort-end-on s done is none moved at_end front = IsCutShort-end is (IsLast-on _ s _ done none) moved at_end front
