@@ -1,5 +1,6 @@
 pub mod Faults
 pub mod Transfers
+pub mod ReadAheads
 pub mod Runs
 pub mod Courses
 pub mod Steps

@@ -42,6 +42,14 @@ pub append_known-then : (a : Option (List ℕ)) (xs ys : List ℕ) → append_kn
 append_known-then None xs ys = refl
 append_known-then (Some zs) xs ys = ap Some (append_assoc zs xs ys)
 
+with_left-left : (m : Meanings) (i : Inlet) → m ≡ with_left m i (left m i)
+with_left-left m inlet.Side = refl
+with_left-left m inlet.Main = refl
+
+-- nothing was moved
+pub Moves-none : (m : Meanings) (i : Inlet) → Moves m m i []
+Moves-none m i = record { moved = prepend_known-none (left m i); others = with_left-left m i }
+
 -- bytes and then more bytes were moved
 pub Moves-then : (a b c : Meanings) (i : Inlet) (xs ys : List ℕ) → Moves a b i xs → Moves b c i ys → Moves a c i (xs ++ ys)
 Moves-then a b c i xs ys p q = record {

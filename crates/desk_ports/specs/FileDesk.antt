@@ -1,7 +1,7 @@
--- What a desk over real files tells: of each inlet and outlet whether it was opened, and no content. And what it has read
--- ahead and gathered.
+-- What a desk over real files tells: of each inlet and outlet whether it was opened, and no content. And what it has
+-- gathered.
 use Rattle.std.specs.Prelude.{Bool, true, false, ℕ, List, [], is_some}
-use Rattle.std.specs.Io.Buffered.{reader_buffer, writer_buffer}
+use Rattle.std.specs.Io.Buffered.{writer_buffer}
 use Rattle.desk_ports.specs.declared.desk.Inlet.{Inlet}
 use Rattle.desk_ports.specs.declared.desk.Inlet.TheVariants as inlet
 use Rattle.desk_ports.specs.declared.desk.Outlet.{Outlet}
@@ -28,17 +28,6 @@ file_meanings desk = untold (is_opened_source desk.side) (is_opened_source desk.
 
 abbrev pub file_counts : FileDesk → Counts
 file_counts desk = record { reads = desk.read_faults; writes = desk.write_faults }
-
--- the bytes that were read from a source and not yet asked for
-abbrev pub read_ahead : Source → List ℕ
-read_ahead source.Nothing = []
-read_ahead (source.StandardInput stdin) = reader_buffer stdin
-read_ahead (source.File file) = reader_buffer file
-
--- those of an inlet
-abbrev pub read_ahead_at : FileDesk → Inlet → List ℕ
-read_ahead_at desk inlet.Side = read_ahead desk.side
-read_ahead_at desk inlet.Main = read_ahead desk.input
 
 -- the bytes that were written to a sink and not yet handed to the system
 abbrev pub gathered : Sink → List ℕ

@@ -1,4 +1,5 @@
 pub mod Meanings
+pub mod ReadAhead
 pub mod Runs
 pub mod Stop
 pub mod Courses

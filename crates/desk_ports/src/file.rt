@@ -3,40 +3,34 @@
 ghost use Rattle.std.specs.Prelude.{◌≡◌, ◌≤◌, ◌<◌, ◌+◌, ◌-◌, ◌^◌, false, [], min, length, take, IsTrue, IsErr, IfOk, OnOk, OnErr};
 ghost use Rattle.std.specs.Io.KnownBytes.{IsAtEnd};
 ghost use Rattle.desk_ports.specs.Meanings.{nothing_told, Adds, Begins, HasReadCause, HasWriteCause, IsReadyIn, IsReadyOut, Keeps, Moves, Opens, left};
-ghost use Rattle.desk_ports.specs.FileDesk.{file_counts, file_meanings, gathered, gathered_at, is_opened_sink, other_sink, other_source, read_ahead_at, waits_at};
+ghost use Rattle.desk_ports.specs.FileDesk.{file_counts, file_meanings, gathered, gathered_at, is_opened_sink, other_sink, other_source, waits_at};
 
 use crate::desk::{Desk, Failed, Inlet, Outlet};
 use crate::part::{Node, Part};
 use crate::progress::Progress;
 use std::fs::File;
-use std::io::{BufReader, BufWriter, IsTerminal, Read, Stdin, Stdout, Write};
+use std::io::{BufWriter, IsTerminal, Read, Stdin, Stdout, Write};
 use std::{fs, io};
 
-/// How many bytes of an inlet are read at once.
-const READ_AHEAD: usize = 131_072;
-
-// Where the bytes of an inlet come from. They are read many at once.
+// Where the bytes of an inlet come from.
 #[derive(Drop)]
 enum Source {
     Nothing,
-    StandardInput(BufReader<Stdin>),
-    File(BufReader<File>),
+    StandardInput(Stdin),
+    File(File),
 }
 
 impl Source {
-    ghost use Rattle.desk_ports.specs.FileDesk.{is_opened_source, read_ahead};
+    ghost use Rattle.desk_ports.specs.FileDesk.{is_opened_source};
 
     // The name `-` is standard input.
     fn open(rt: &HostRuntime, name: &str) -> io::Result<Source>
-        ensures opened { IfOk result (λ source. IsTrue (is_opened_source source)) }
-        ensures none { IfOk result (λ source. read_ahead source ≡ []) }
+        ensures { IfOk result (λ source. IsTrue (is_opened_source source)) }
     {
         if name == "-" {
-            let stdin = BufReader::with_capacity(rt.alloc(), READ_AHEAD, rt.stdin())?;
-            return Ok(Source::StandardInput(stdin));
+            return Ok(Source::StandardInput(rt.stdin()));
         }
-        let file = BufReader::with_capacity(rt.alloc(), READ_AHEAD, fs::open(rt, name)?)?;
-        Ok(Source::File(file))
+        Ok(Source::File(fs::open(rt, name)?))
     }
 
     // Which file of the system it is.
@@ -45,7 +39,7 @@ impl Source {
             Source::Nothing => Ok(None),
             Source::StandardInput(_) => Ok(Node::named(rt, "/dev/stdin")),
             Source::File(file) => {
-                let metadata = file.get_ref().metadata()?;
+                let metadata = file.metadata()?;
                 Ok(Some(Node::of(&metadata)))
             }
         }
@@ -56,7 +50,7 @@ impl Source {
         match self {
             Source::Nothing | Source::StandardInput(_) => None,
             Source::File(file) => {
-                let metadata = file.get_ref().metadata().ok()?;
+                let metadata = file.metadata().ok()?;
                 metadata.is_file().then_some(metadata.len())
             }
         }
@@ -165,9 +159,8 @@ impl Sink {
 /// The desk over real files. The name `-` is standard input for an inlet and standard output for an outlet.
 ///
 /// It tells no content, since no clause can say what a file holds. Each error of the system is a fault,
-/// and so is a write that takes nothing. Of each inlet up to 131,072 bytes are read ahead. What is written is gathered,
-/// up to 131,072 bytes for each outlet, and handed to the system when there is no more room, at `finish` and by
-/// `hand_over`.
+/// and so is a write that takes nothing. Each reading is one call of the system. What is written is gathered, up to
+/// 131,072 bytes for each outlet, and handed to the system when there is no more room, at `finish` and by `hand_over`.
 ///
 /// An output appears under its name when it is whole: it is written to a part beside the name, `NAME.part`, which takes the
 /// name at `finish`. Before that the name has what it had. A name that is there and is no regular file, as a device or a
@@ -293,8 +286,7 @@ impl<'a> Desk for FileDesk<'a> {
         ensures unchanged { OnErr result (file_meanings self.new ≡ file_meanings self.old) }
         ensures cause { HasReadCause (file_counts self.old) (file_counts self.new) result }
 
-        // Nothing is read ahead of the inlet, and the other one is as before.
-        ensures none { OnOk result (read_ahead_at self.new inlet ≡ []) }
+        // The other inlet is as before.
         ensures other { other_source self.new inlet ≡ other_source self.old inlet }
     {
         let source = Source::open(self.rt, name);
@@ -342,7 +334,7 @@ impl<'a> Desk for FileDesk<'a> {
         ensures unchanged { OnErr result (file_meanings self.new ≡ file_meanings self.old) }
         ensures cause { HasReadCause (file_counts self.old) (file_counts self.new) result }
 
-        // The other inlet is as before, with what was read ahead of it.
+        // The other inlet is as before.
         ensures other { other_source self.new inlet ≡ other_source self.old inlet }
     {
         let moved = match inlet {

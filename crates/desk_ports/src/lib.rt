@@ -1,6 +1,7 @@
 //! The one way to the outside: inputs to read, outputs to write, and the desks that bring them.
 #![tactic(auto)]
 
+mod ahead;
 mod calls;
 mod desk;
 mod file;
@@ -15,6 +16,7 @@ mod transfer;
 mod turns;
 mod written;
 
+pub use ahead::{MOST_AHEAD, ReadAhead};
 pub use calls::Call;
 pub use desk::{Desk, Failed, Inlet, Outlet};
 pub use file::FileDesk;

@@ -6,6 +6,7 @@ use Rattle.std.proofs.lemmas.Grind.{common_steps}
 use Rattle.packet_store.specs.declared.header.Header.{Header}
 use Rattle.packet_store.specs.SpacePackets.{IsHeader, IsPacket, Packet, bit, header_of, header_at, packet_bytes, plain_header, plain_packet, is_misshapen}
 use Rattle.packet_store.specs.Walks.{IsGood, Good, by_checks, front_after, front}
+use Rattle.packet_store.specs.Reading.{front_packet}
 
 is_one : (n : ℕ) → n ≡ 1 → (n == 1) ≡ true
 is_one n e = ap (λ m. m == 1) e
@@ -56,7 +57,7 @@ front-good chosen p rest good =
     let checked : front_after chosen p.header behind ≡ Good p rest = λ i. by_checks (version i) (good.shape i) (long i) (Good (record { header = p.header; body = taken i }) (left i)) in
     ap (λ h. front_after chosen h behind) (header_at-header_of p.header good.fields) ∙ checked
 
-by_checks-Good : (v s l : Bool) (q p : Packet) (left rest : List ℕ) → by_checks v s l (Good q left) ≡ Good p rest → (v ≡ true) × (s ≡ false) × (l ≡ true) × (q ≡ p) × (left ≡ rest)
+pub by_checks-Good : (v s l : Bool) (q p : Packet) (left rest : List ℕ) → by_checks v s l (Good q left) ≡ Good p rest → (v ≡ true) × (s ≡ false) × (l ≡ true) × (q ≡ p) × (left ≡ rest)
 by_checks-Good false s l q p left rest e = absurd cc
 by_checks-Good true true l q p left rest e = absurd cc
 by_checks-Good true false false q p left rest e = absurd cc
@@ -65,7 +66,7 @@ by_checks-Good true false true q p left rest e = (refl, refl, refl, cc, cc)
 from_zero : (n : ℕ) → (n == 0) ≡ true → n ≡ 0
 from_zero n e = grind (arith, common_steps)
 
-from_long : (m n : ℕ) → nat_le m n ≡ true → m ≤ n
+pub from_long : (m n : ℕ) → nat_le m n ≡ true → m ≤ n
 from_long m n e = grind (arith, common_steps)
 
 -- six bytes are those of the header that they spell
@@ -127,14 +128,12 @@ IsGood-plain chosen apid count body packet = record {
   bytes = packet.bytes;
 }
 
--- the data of a packet that stands at the front of a room fit
-pub IsGood-of_room : (chosen : Option ℕ) (h : Header) (room : List ℕ) → IsHeader h → h.version ≡ 0 → is_misshapen chosen h ≡ false → length room ≡ 65542 → ((k : ℕ) → Fits w8 (get_or room k 0)) → IsGood chosen (record { header = h; body = drop 6 (take (h.length + 7) room) })
-IsGood-of_room chosen h room fields version shape full fit =
-    let bytes : All (λ b. b < 256) room = λ k d within. rw (get_or_default room k d 0 within) (omega (arith, fit k)) in
-    record {
-      fields = fields;
-      version = version;
-      shape = shape;
-      whole = simp (length-drop, length-take) (omega (arith, fields.length_bits));
-      bytes = All-drop (λ b. b < 256) 6 (take (h.length + 7) room) (All-take (λ b. b < 256) (h.length + 7) room bytes);
-    }
+-- a packet that stands whole at the front of some bytes
+pub IsGood-at : (chosen : Option ℕ) (h : Header) (bytes : List ℕ) → IsHeader h → h.version ≡ 0 → is_misshapen chosen h ≡ false → h.length + 7 ≤ length bytes → All (λ b. b < 256) bytes → IsGood chosen (front_packet h bytes)
+IsGood-at chosen h bytes fields version shape long all = record {
+  fields = fields;
+  version = version;
+  shape = shape;
+  whole = simp (length-drop, length-take) (omega arith);
+  bytes = All-drop (λ b. b < 256) 6 (take (h.length + 7) bytes) (All-take (λ b. b < 256) (h.length + 7) bytes all);
+}

@@ -1,25 +1,30 @@
--- A packet that is not read: what stands at the front of the input then, and how the walk ends there.
-use Rattle.std.proofs.Common.{◌≡◌, ◌≢◌, refl, [], ◌∷◌, Bool, true, false, not, ◌&&◌, ◌==◌, nat_le, if◌then◌else◌, ℕ, ◌+◌, ◌^◌, ◌<◌, ◌≤◌, List, ◌++◌, length, take, drop, Option, IfSome, sym, ap, subst, ◌∙◌, append-nil, length-append, arith}
+-- A packet that is read, or is not: what stands at the front of what is ahead then, and how the walk goes on there.
+use Rattle.std.proofs.Common.{◌≡◌, ◌≢◌, refl, [], ◌∷◌, Bool, true, false, ◌==◌, nat_le, ℕ, ◌+◌, ◌^◌, ◌<◌, ◌≤◌, List, ◌++◌, length, take, drop, Option, IfSome, sym, ap, subst, ◌∙◌, append_assoc, append-nil, length-append, length-drop, arith, inl, inr}
+use Rattle.std.proofs.lemmas.Bool.{cases_lt}
+use Rattle.std.proofs.lemmas.List.{take-append-drop, take-append-le, take-take}
 use Rattle.std.proofs.lemmas.Grind.{common_steps}
 use Rattle.std.specs.Io.KnownBytes.{IsAtEnd}
 use Rattle.desk_ports.specs.declared.desk.Inlet.TheVariants as inlet
 use Rattle.desk_ports.specs.Meanings.{Meanings, Moves, left}
-use Rattle.desk_ports.proofs.Transfers.{Moves-then}
+use Rattle.desk_ports.specs.ReadAhead.{ReadsOn}
+use Rattle.desk_ports.proofs.Transfers.{prepend_known-none}
 use Rattle.desk_ports.proofs.Courses.{rest_of, IfSome-rest_of, IfSome-IsAtEnd}
 use Rattle.packet_store.specs.declared.header.Header.{Header}
 use Rattle.packet_store.specs.declared.fault.StoreKind.{StoreKind}
 use Rattle.packet_store.specs.declared.fault.StoreKind.TheVariants as kind
 use Rattle.packet_store.specs.declared.fault.WalkFault.TheVariants as fault
+use Rattle.packet_store.specs.declared.fault.StoreFault.{StoreFault}
+use Rattle.packet_store.specs.declared.fault.StoreFault.TheVariants.{Cut, Version, Shape, ReadFault, TooMany}
 use Rattle.packet_store.specs.declared.reader.Taken.{Taken}
 use Rattle.packet_store.specs.SpacePackets.{IsHeader, header_of, packet_bytes, is_chosen, is_misshapen}
-use Rattle.packet_store.specs.Walks.{IsGood, Front, Good, Bad, by_checks, front_after, front, Walk, behind_packet, walk_from}
-use Rattle.packet_store.specs.StoreReader.{ReaderState, state_of, span_by, span_of, AreWithin, Takes, Stops, IsOnlyCut, Loses}
-use Rattle.packet_store.specs.Reading.{in_room}
-use Rattle.packet_store.proofs.Packets.{header_at-header_of}
-use Rattle.packet_store.proofs.Walks.{not_full, IsEarly, walk_from-none, walk_from-good, walk_from-bad, walk_from-too_many, walk_from-early}
+use Rattle.packet_store.specs.Walks.{IsGood, Front, End, Good, Bad, by_checks, front_after, front, Walk, behind_packet, stopped_at, walk_from}
+use Rattle.packet_store.specs.StoreReader.{ReaderState, state_of, walk_on, Takes, Stops, IsOnlyCut, Waits, AfterFault}
+use Rattle.packet_store.specs.Reading.{front_packet, BeginsWithPacket, IsEarly, IsBad, AfterUnread}
+use Rattle.packet_store.proofs.Packets.{header_at-header_of, by_checks-Good, from_long}
+use Rattle.packet_store.proofs.Walks.{walk_from-none, walk_from-good, walk_from-bad, walk_from-too_many, walk_from-early}
 
 -- fewer bytes than a header has
-front-short : (chosen : Option ℕ) (bytes : List ℕ) → 0 < length bytes → length bytes < 6 → front chosen bytes ≡ Bad kind.Cut
+pub front-short : (chosen : Option ℕ) (bytes : List ℕ) → 0 < length bytes → length bytes < 6 → front chosen bytes ≡ Bad kind.Cut
 front-short chosen [] some few = absurd (omega arith)
 front-short chosen (a ∷ []) some few = refl
 front-short chosen (a ∷ b ∷ []) some few = refl
@@ -28,37 +33,13 @@ front-short chosen (a ∷ b ∷ c ∷ d ∷ []) some few = refl
 front-short chosen (a ∷ b ∷ c ∷ d ∷ e ∷ []) some few = refl
 front-short chosen (a ∷ b ∷ c ∷ d ∷ e ∷ f ∷ bytes) some few = absurd (omega arith)
 
-IsEarly-short : (chosen : Option ℕ) (bytes : List ℕ) → length bytes < 6 → IsEarly (front chosen bytes)
+pub IsEarly-short : (chosen : Option ℕ) (bytes : List ℕ) → length bytes < 6 → IsEarly (front chosen bytes)
 IsEarly-short chosen [] few = tt
 IsEarly-short chosen (a ∷ bytes) few = subst IsEarly (sym (front-short chosen (a ∷ bytes) (omega arith) few)) tt
-
-span_of-short : (chosen : Option ℕ) (bytes : List ℕ) → length bytes < 6 → span_of chosen bytes ≡ 6
-span_of-short chosen [] few = refl
-span_of-short chosen (a ∷ []) few = refl
-span_of-short chosen (a ∷ b ∷ []) few = refl
-span_of-short chosen (a ∷ b ∷ c ∷ []) few = refl
-span_of-short chosen (a ∷ b ∷ c ∷ d ∷ []) few = refl
-span_of-short chosen (a ∷ b ∷ c ∷ d ∷ e ∷ []) few = refl
-span_of-short chosen (a ∷ b ∷ c ∷ d ∷ e ∷ f ∷ bytes) few = absurd (omega arith)
 
 -- a header and the bytes behind it
 front-header : (chosen : Option ℕ) (h : Header) (bytes : List ℕ) → IsHeader h → front chosen (header_of h ++ bytes) ≡ front_after chosen h bytes
 front-header chosen h bytes fields = ap (λ h. front_after chosen h bytes) (header_at-header_of h fields)
-
-span_of-header : (chosen : Option ℕ) (h : Header) (bytes : List ℕ) → IsHeader h → span_of chosen (header_of h ++ bytes) ≡ span_by chosen h
-span_of-header chosen h bytes fields = ap (span_by chosen) (header_at-header_of h fields)
-
--- the header is always within
-span_by-header : (chosen : Option ℕ) (h : Header) → 6 ≤ span_by chosen h
-span_by-header chosen h = least (h.version == 0 && not (is_misshapen chosen h)) where
-  least : (right : Bool) → 6 ≤ (if right then h.length + 7 else 6)
-  least true = omega arith
-  least false = omega arith
-
-span_by-right : (chosen : Option ℕ) (h : Header) → h.version ≡ 0 → is_misshapen chosen h ≡ false → span_by chosen h ≡ h.length + 7
-span_by-right chosen h version shape =
-    let zero : (h.version == 0) ≡ true = ap (λ n. n == 0) version in
-    λ i. if zero i && not (shape i) then h.length + 7 else 6
 
 not_zero : (n : ℕ) → n ≢ 0 → (n == 0) ≡ false
 not_zero n some = grind (arith, common_steps)
@@ -82,124 +63,164 @@ front-cut chosen h bytes fields version shape few =
     let zero : (h.version == 0) ≡ true = ap (λ n. n == 0) version in
     front-header chosen h bytes fields ∙ (λ i. by_checks (zero i) (shape i) (not_long (h.length + 1) (length bytes) few i) (found h bytes))
 
-AreWithin-span : (s : ReaderState) (bytes : List ℕ) → s.taken < 2 ^ 32 → length bytes ≤ span_of s.chosen bytes → AreWithin s bytes
-AreWithin-span s bytes few within = subst (λ b. length bytes ≤ (if b then 1 else span_of s.chosen bytes)) (sym (not_full s.taken few)) within
+-- ---- the header that bytes begin with
 
--- no good packet stands at the front
-Stops-bad : (s : ReaderState) (a b : Meanings) (taken rest : List ℕ) (why : StoreKind) → s.taken < 2 ^ 32 → Moves a b inlet.Main taken → IfSome (left b inlet.Main) (λ bytes. bytes ≡ rest)
-    → front s.chosen (taken ++ rest) ≡ Bad why → length taken ≤ span_of s.chosen taken → Stops s a b (fault.Bad s.offset why)
-Stops-bad s a b taken rest why few moved told is within = record {
-  taken = taken;
-  rest = rest;
-  moved = moved;
-  told = told;
-  ends = walk_from-bad s.chosen s.taken s.offset (taken ++ rest) why is few;
-  within = AreWithin-span s taken few within;
-}
-
--- less than a packet was taken, and nothing is left
-Stops-cut : (s : ReaderState) (a b : Meanings) (taken : List ℕ) → s.taken < 2 ^ 32 → Moves a b inlet.Main taken → IsAtEnd (left b inlet.Main) → front s.chosen taken ≡ Bad kind.Cut → length taken ≤ span_of s.chosen taken → Stops s a b (fault.Bad s.offset kind.Cut)
-Stops-cut s a b taken few moved at_end is within = Stops-bad s a b taken [] kind.Cut few moved (IfSome-IsAtEnd (left b inlet.Main) at_end) (ap (front s.chosen) (append-nil taken) ∙ is) within
-
--- less than a packet was taken before a reading failed
-Loses-early : (s : ReaderState) (a b : Meanings) (lost : List ℕ) → s.taken < 2 ^ 32 → Moves a b inlet.Main lost → IsEarly (front s.chosen lost) → length lost ≤ span_of s.chosen lost → Loses s a b
-Loses-early s a b lost few moved early within =
-    let parts = walk_from-early s.chosen s.taken s.offset lost few early in
-    record { lost = lost; moved = moved; none = parts.0; early = parts.1; within = AreWithin-span s lost few within }
-
--- the input ended inside a header
-pub Stops-start : (s : ReaderState) (a b : Meanings) (bytes : List ℕ) → s.taken < 2 ^ 32 → 0 < length bytes → length bytes < 6 → Moves a b inlet.Main bytes → IsAtEnd (left b inlet.Main) → Stops s a b (fault.Bad s.offset kind.Cut)
-Stops-start s a b bytes few some short moved at_end = Stops-cut s a b bytes few moved at_end (front-short s.chosen bytes some short) (omega (arith, short, span_of-short s.chosen bytes short))
-
--- a reading failed inside a header
-pub Loses-start : (s : ReaderState) (a b : Meanings) (bytes : List ℕ) → s.taken < 2 ^ 32 → length bytes < 6 → Moves a b inlet.Main bytes → Loses s a b
-Loses-start s a b bytes few short moved = Loses-early s a b bytes few moved (IsEarly-short s.chosen bytes short) (omega (arith, short, span_of-short s.chosen bytes short))
-
--- a header was read
-pub record HasStart (a b : Meanings) (h : Header) (start : List ℕ) : Type 0 where
+-- these bytes begin with this header
+pub record HasHeader (h : Header) (bytes : List ℕ) : Type 0 where
   pub fields : IsHeader h
-  pub spelled : start ≡ header_of h
-  pub moved : Moves a b inlet.Main start
+  pub spelled : take 6 bytes ≡ header_of h
 
-Stops-header : (s : ReaderState) (a b : Meanings) (h : Header) (start : List ℕ) (why : StoreKind) → s.taken < 2 ^ 32 → HasStart a b h start → ((rest : List ℕ) → front s.chosen (header_of h ++ rest) ≡ Bad why) → Stops s a b (fault.Bad s.offset why)
-Stops-header s a b h start why few has is =
-    let rest = rest_of (left b inlet.Main) in
-    Stops-bad s a b (header_of h) rest why few (subst (Moves a b inlet.Main) has.spelled has.moved) (IfSome-rest_of (left b inlet.Main)) (is rest) (omega (arith, span_of-header s.chosen h [] has.fields, span_by-header s.chosen h))
+behind_header : (h : Header) (bytes rest : List ℕ) → HasHeader h bytes → bytes ++ rest ≡ header_of h ++ (drop 6 bytes ++ rest)
+behind_header h bytes rest has = ap (λ l. l ++ rest) (sym (take-append-drop 6 bytes)) ∙ (append_assoc (take 6 bytes) (drop 6 bytes) rest ∙ ap (λ l. l ++ (drop 6 bytes ++ rest)) has.spelled)
+
+whole_header : (h : Header) (bytes : List ℕ) → HasHeader h bytes → bytes ≡ header_of h ++ drop 6 bytes
+whole_header h bytes has = sym (take-append-drop 6 bytes) ∙ ap (λ l. l ++ drop 6 bytes) has.spelled
+
+-- more bytes behind them change nothing
+pub HasHeader-more : {h : Header} {bytes after : List ℕ} {a b : Meanings} → 6 ≤ length bytes → HasHeader h bytes → ReadsOn bytes after a b → HasHeader h after
+HasHeader-more {bytes = bytes} long has read = record { fields = has.fields; spelled = ap (take 6) read.joined ∙ (take-append-le 6 bytes read.bytes long ∙ has.spelled) }
 
 -- it is of another version
-pub Stops-version : (s : ReaderState) (a b : Meanings) (h : Header) (start : List ℕ) → s.taken < 2 ^ 32 → HasStart a b h start → h.version ≢ 0 → Stops s a b (fault.Bad s.offset kind.Version)
-Stops-version s a b h start few has other = Stops-header s a b h start kind.Version few has (λ rest. front-version s.chosen h rest has.fields other)
+pub IsBad-version : (chosen : Option ℕ) (h : Header) (bytes : List ℕ) → HasHeader h bytes → h.version ≢ 0 → IsBad chosen bytes kind.Version
+IsBad-version chosen h bytes has other rest = ap (front chosen) (behind_header h bytes rest has) ∙ front-version chosen h (drop 6 bytes ++ rest) has.fields other
 
 -- it is of the chosen APID and of another shape
-pub Stops-shape : (s : ReaderState) (a b : Meanings) (h : Header) (start : List ℕ) → s.taken < 2 ^ 32 → HasStart a b h start → h.version ≡ 0 → is_misshapen s.chosen h ≡ true → Stops s a b (fault.Bad s.offset kind.Shape)
-Stops-shape s a b h start few has version other = Stops-header s a b h start kind.Shape few has (λ rest. front-shape s.chosen h rest has.fields version other)
+pub IsBad-shape : (chosen : Option ℕ) (h : Header) (bytes : List ℕ) → HasHeader h bytes → h.version ≡ 0 → is_misshapen chosen h ≡ true → IsBad chosen bytes kind.Shape
+IsBad-shape chosen h bytes has version other rest = ap (front chosen) (behind_header h bytes rest has) ∙ front-shape chosen h (drop 6 bytes ++ rest) has.fields version other
 
--- The header is right, and fewer bytes were taken behind it than its data.
-pub record HasPart (s : ReaderState) (a b c : Meanings) (h : Header) (start part : List ℕ) : Type 0 where
-  pub start_is : HasStart a b h start
-  pub version : h.version ≡ 0
-  pub shape : is_misshapen s.chosen h ≡ false
-  pub few : length part < h.length + 1
-  pub moved : Moves b c inlet.Main part
+-- fewer bytes stand behind it than its data
+pub front-part : (chosen : Option ℕ) (h : Header) (bytes : List ℕ) → HasHeader h bytes → h.version ≡ 0 → is_misshapen chosen h ≡ false → length bytes < h.length + 7 → front chosen bytes ≡ Bad kind.Cut
+front-part chosen h bytes has version shape short = ap (front chosen) (whole_header h bytes has) ∙ front-cut chosen h (drop 6 bytes) has.fields version shape (omega (arith, short, length-drop 6 bytes))
 
-Moves-part : (s : ReaderState) (a b c : Meanings) (h : Header) (start part : List ℕ) → HasPart s a b c h start part → Moves a c inlet.Main (header_of h ++ part)
-Moves-part s a b c h start part has = Moves-then a b c inlet.Main (header_of h) part (subst (Moves a b inlet.Main) has.start_is.spelled has.start_is.moved) has.moved
+pub IsEarly-part : (chosen : Option ℕ) (h : Header) (bytes : List ℕ) → HasHeader h bytes → h.version ≡ 0 → is_misshapen chosen h ≡ false → length bytes < h.length + 7 → IsEarly (front chosen bytes)
+IsEarly-part chosen h bytes has version shape short = subst IsEarly (sym (front-part chosen h bytes has version shape short)) tt
 
-within_part : (s : ReaderState) (a b c : Meanings) (h : Header) (start part : List ℕ) → HasPart s a b c h start part → length (header_of h ++ part) ≤ span_of s.chosen (header_of h ++ part)
-within_part s a b c h start part has = omega (arith, span_of-header s.chosen h part has.start_is.fields, span_by-right s.chosen h has.version has.shape, has.few, length-append (header_of h) part)
+-- ---- where a packet is whole
 
-front-part : (s : ReaderState) (a b c : Meanings) (h : Header) (start part : List ℕ) → HasPart s a b c h start part → front s.chosen (header_of h ++ part) ≡ Bad kind.Cut
-front-part s a b c h start part has = front-cut s.chosen h part has.start_is.fields has.version has.shape has.few
+no_packet : (found : Front) (P : Type 0) → IsEarly found → (p : _) (rest : List ℕ) → found ≡ Good p rest → P
+no_packet End P early p rest is = absurd (let e : ◌≡◌ {A = Front} End (Good p rest) = is in cc)
+no_packet (Good q left) P early p rest is = absurd early
+no_packet (Bad why) P early p rest is = absurd (let e : ◌≡◌ {A = Front} (Bad why) (Good p rest) = is in cc)
 
--- the input ended behind a header
-pub Stops-body : (s : ReaderState) (a b c : Meanings) (h : Header) (start part : List ℕ) → s.taken < 2 ^ 32 → HasPart s a b c h start part → IsAtEnd (left c inlet.Main) → Stops s a c (fault.Bad s.offset kind.Cut)
-Stops-body s a b c h start part few has at_end = Stops-cut s a c (header_of h ++ part) few (Moves-part s a b c h start part has) at_end (front-part s a b c h start part has) (within_part s a b c h start part has)
+-- so is its header
+pub long_header : (chosen : Option ℕ) (bytes : List ℕ) → BeginsWithPacket chosen bytes → 6 ≤ length bytes
+long_header chosen bytes begins = elim (cases_lt (length bytes) 6) [
+  | inl short ↦ no_packet (front chosen bytes) (6 ≤ length bytes) (IsEarly-short chosen bytes short) begins.packet begins.rest begins.is
+  | inr long ↦ long
+]
 
--- a reading failed behind a header
-pub Loses-body : (s : ReaderState) (a b c : Meanings) (h : Header) (start part : List ℕ) → s.taken < 2 ^ 32 → HasPart s a b c h start part → Loses s a c
-Loses-body s a b c h start part few has = Loses-early s a c (header_of h ++ part) few (Moves-part s a b c h start part has) (subst IsEarly (sym (front-part s a b c h start part has)) tt) (within_part s a b c h start part has)
+-- and all that this says
+pub long_packet : (chosen : Option ℕ) (h : Header) (bytes : List ℕ) → HasHeader h bytes → BeginsWithPacket chosen bytes → h.length + 7 ≤ length bytes
+long_packet chosen h bytes has begins =
+    let here = sym (ap (front chosen) (whole_header h bytes has) ∙ front-header chosen h (drop 6 bytes) has.fields) ∙ begins.is in
+    let long = from_long (h.length + 1) (length (drop 6 bytes)) (by_checks-Good (h.version == 0) (is_misshapen chosen h) (nat_le (h.length + 1) (length (drop 6 bytes))) _ begins.packet _ begins.rest here).2 in
+    omega (arith, long, length-drop 6 bytes)
 
--- nothing was lost
-pub Loses-none : (s : ReaderState) (a b : Meanings) → Moves a b inlet.Main [] → Loses s a b
-Loses-none s a b moved = record { lost = []; moved = moved; none = ap (λ (w : Walk). w.packets) (walk_from-none s.chosen s.taken s.offset); early = subst (λ (w : Walk). IsOnlyCut w.ending) (sym (walk_from-none s.chosen s.taken s.offset)) tt; within = least (s.taken == 2 ^ 32) } where
-  least : (full : Bool) → 0 ≤ (if full then 1 else 6)
-  least true = omega arith
-  least false = omega arith
+-- so what depends on nothing but that so many bytes are ahead stays as it is
+pub untouched : {X : Type 0} {x y z : X} {h : Header} {before after : List ℕ} {a b : Meanings} (chosen : Option ℕ) → BeginsWithPacket chosen before → ReadsOn before after a b → HasHeader h after → (6 ≤ length before → y ≡ x) → (h.length + 7 ≤ length after → z ≡ y) → z ≡ x
+untouched {h = h} {before = before} chosen begins read has first then =
+    let long = long_header chosen before begins in
+    let here : HasHeader h before = record { fields = has.fields; spelled = sym (take-append-le 6 before read.bytes long) ∙ (ap (take 6) (sym read.joined) ∙ has.spelled) } in
+    let whole = long_packet chosen h before here begins in
+    then (omega (arith, whole, ap length read.joined, length-append before read.bytes)) ∙ first long
 
--- a byte behind the last packet that may be given
-pub Stops-too_many : (s : ReaderState) (a b : Meanings) (bytes : List ℕ) → s.taken ≡ 2 ^ 32 → length bytes ≡ 1 → Moves a b inlet.Main bytes → Stops s a b fault.TooMany
-Stops-too_many s a b [] full one moved = absurd (omega arith)
-Stops-too_many s a b (x ∷ y ∷ bytes) full one moved = absurd (omega arith)
-Stops-too_many s a b (x ∷ []) full one moved =
+-- ---- no packet is read
+
+-- what is ahead and left is as before
+same_input : (s : ReaderState) (ahead : List ℕ) (a b : Meanings) (read : ReadsOn s.ahead ahead a b) (rest : List ℕ) → s.ahead ++ (read.bytes ++ rest) ≡ ahead ++ rest
+same_input s ahead a b read rest = sym (append_assoc s.ahead read.bytes rest) ∙ ap (λ l. l ++ rest) (sym read.joined)
+
+Stops-bad : (s : ReaderState) (ahead : List ℕ) (a b : Meanings) (rest : List ℕ) (byte : ℕ) (why : StoreKind) → s.taken < 2 ^ 32 → ReadsOn s.ahead ahead a b → IfSome (left b inlet.Main) (λ bytes. bytes ≡ rest)
+    → byte ≡ s.offset → front s.chosen (ahead ++ rest) ≡ Bad why → Stops s ahead a b (fault.Bad byte why)
+Stops-bad s ahead a b rest byte why few read told place is = record {
+  taken = read.bytes;
+  rest = rest;
+  moved = read.moved;
+  kept = read.joined;
+  told = told;
+  ends = ap (walk_from s.chosen s.taken s.offset) (same_input s ahead a b read rest) ∙ (walk_from-bad s.chosen s.taken s.offset (ahead ++ rest) why is few ∙ ap (λ n. stopped_at (fault.Bad n why) (ahead ++ rest)) (sym place));
+}
+
+Waits-early : (s : ReaderState) (ahead : List ℕ) (a b : Meanings) → ReadsOn s.ahead ahead a b → ((walk_from s.chosen s.taken s.offset ahead).packets ≡ []) × IsOnlyCut (walk_from s.chosen s.taken s.offset ahead).ending → Waits s ahead a b
+Waits-early s ahead a b read early =
+    let here = subst (λ bytes. ((walk_from s.chosen s.taken s.offset bytes).packets ≡ []) × IsOnlyCut (walk_from s.chosen s.taken s.offset bytes).ending) read.joined early in
+    record { taken = read.bytes; moved = read.moved; kept = read.joined; none = here.0; early = here.1 }
+
+-- no good packet stands there
+pub AfterFault-unread : (s : ReaderState) (ahead : List ℕ) (a b : Meanings) (reason : StoreFault) → s.taken < 2 ^ 32 → ReadsOn s.ahead ahead a b → AfterUnread s.chosen s.offset ahead b reason → AfterFault s ahead a b reason
+AfterFault-unread s ahead a b (Cut byte) few read (place, cut, at_end) = Stops-bad s ahead a b [] byte kind.Cut few read (IfSome-IsAtEnd (left b inlet.Main) at_end) place (ap (front s.chosen) (append-nil ahead) ∙ cut)
+AfterFault-unread s ahead a b (Version byte) few read (place, bad) = Stops-bad s ahead a b (rest_of (left b inlet.Main)) byte kind.Version few read (IfSome-rest_of (left b inlet.Main)) place (bad (rest_of (left b inlet.Main)))
+AfterFault-unread s ahead a b (Shape byte) few read (place, bad) = Stops-bad s ahead a b (rest_of (left b inlet.Main)) byte kind.Shape few read (IfSome-rest_of (left b inlet.Main)) place (bad (rest_of (left b inlet.Main)))
+AfterFault-unread s ahead a b TooMany few read none = absurd none
+AfterFault-unread s ahead a b ReadFault few read early = Waits-early s ahead a b read (walk_from-early s.chosen s.taken s.offset ahead few early)
+
+-- a reading failed where nothing is ahead
+pub Waits-none : (s : ReaderState) (ahead : List ℕ) (a b : Meanings) → ReadsOn s.ahead ahead a b → length ahead < 1 → Waits s ahead a b
+Waits-none s [] a b read none = Waits-early s [] a b read (subst (λ (w : Walk). (w.packets ≡ []) × IsOnlyCut w.ending) (sym (walk_from-none s.chosen s.taken s.offset)) (refl, tt))
+Waits-none s (x ∷ ahead) a b read none = absurd (omega arith)
+
+-- a byte is ahead behind the last packet that may be given
+pub Stops-too_many : (s : ReaderState) (ahead : List ℕ) (a b : Meanings) → s.taken ≡ 2 ^ 32 → ReadsOn s.ahead ahead a b → 1 ≤ length ahead → Stops s ahead a b fault.TooMany
+Stops-too_many s [] a b full read some = absurd (omega arith)
+Stops-too_many s (x ∷ ahead) a b full read some =
     let rest = rest_of (left b inlet.Main) in
-    let one_byte : 1 ≤ 1 = omega arith in
     record {
-      taken = x ∷ [];
+      taken = read.bytes;
       rest = rest;
-      moved = moved;
+      moved = read.moved;
+      kept = read.joined;
       told = IfSome-rest_of (left b inlet.Main);
-      ends = walk_from-too_many s.chosen s.taken s.offset x rest full;
-      within = subst (λ n. 1 ≤ (if n == 2 ^ 32 then 1 else 6)) (sym full) one_byte;
+      ends = ap (walk_from s.chosen s.taken s.offset) (same_input s (x ∷ ahead) a b read rest) ∙ walk_from-too_many s.chosen s.taken s.offset x (ahead ++ rest) full;
     }
 
--- a packet was read
-pub Takes-read : (s : ReaderState) (h : Header) (held : ℕ) (room : List ℕ) (given : Taken) (a b : Meanings) → s.live ≡ true → s.taken < 2 ^ 32 → h.length + 7 ≡ held
-    → IsGood s.chosen (in_room h room) → take (h.length + 7) room ≡ packet_bytes (in_room h room) → Moves a b inlet.Main (take (h.length + 7) room)
-    → given.chosen ≡ is_chosen s.chosen h → given.count ≡ h.count → Takes s (state_of s.chosen (s.taken + 1) (s.offset + held) true held room) a b given
-Takes-read s h held room given a b live few size good spelled moved chosen count =
-    let bytes = take (h.length + 7) room in
-    let p = in_room h room in
-    let long : h.length + 7 ≡ length (packet_bytes p) = omega (arith, good.whole, length-append (header_of h) p.body) in
-    let place : s.offset + length (packet_bytes p) ≡ s.offset + (h.length + 7) = ap (λ n. s.offset + n) (sym long) in
-    let all : Takes s (state_of s.chosen (s.taken + 1) (s.offset + (h.length + 7)) true (h.length + 7) room) a b given = record {
+-- ---- nothing is left
+
+-- nothing was ahead, nothing was read, and the desk was at its end before
+pub record IsOver (before : List ℕ) (a b : Meanings) : Type 0 where
+  pub none : before ≡ []
+  pub moved : Moves a b inlet.Main []
+  pub at_end : IsAtEnd (left a inlet.Main)
+
+no_bytes : (xs ys : List ℕ) → [] ≡ xs ++ ys → (xs ≡ []) × (ys ≡ [])
+no_bytes [] ys is = (refl, sym is)
+no_bytes (x ∷ xs) ys is = absurd cc
+
+pub IsOver-read : (before after : List ℕ) (a b : Meanings) → ReadsOn before after a b → after ≡ [] → IsAtEnd (left b inlet.Main) → IsOver before a b
+IsOver-read before after a b read empty at_end =
+    let parts = no_bytes before read.bytes (sym empty ∙ read.joined) in
+    let moved = subst (Moves a b inlet.Main) parts.1 read.moved in
+    record { none = parts.0; moved = moved; at_end = subst IsAtEnd (prepend_known-none (left b inlet.Main) ∙ sym moved.moved) at_end }
+
+-- ---- a packet is read
+
+packet_bytes-front : (h : Header) (bytes : List ℕ) → take 6 bytes ≡ header_of h → take (h.length + 7) bytes ≡ packet_bytes (front_packet h bytes)
+packet_bytes-front h bytes spelled =
+    let held = take (h.length + 7) bytes in
+    sym (take-append-drop 6 held) ∙ ap (λ l. l ++ drop 6 held) (take-take 6 (h.length + 7) bytes (omega arith) ∙ spelled)
+
+pub Takes-read : (s : ReaderState) (h : Header) (held : ℕ) (input : List ℕ) (given : Taken) (a b : Meanings) → s.live ≡ true → s.taken < 2 ^ 32 → h.length + 7 ≡ held
+    → IsGood s.chosen (front_packet h input) → take 6 input ≡ header_of h → ReadsOn s.ahead input a b
+    → given.chosen ≡ is_chosen s.chosen h → given.count ≡ h.count → Takes s (state_of s.chosen (s.taken + 1) (s.offset + held) true held input) a b given
+Takes-read s h held input given a b live few size good header read chosen count =
+    let n = h.length + 7 in
+    let p = front_packet h input in
+    let spelled = packet_bytes-front h input header in
+    let long : n ≡ length (packet_bytes p) = omega (arith, good.whole, length-append (header_of h) p.body) in
+    let place : s.offset + length (packet_bytes p) ≡ s.offset + n = ap (λ k. s.offset + k) (sym long) in
+    let split = sym (take-append-drop n input) in
+    let all : Takes s (state_of s.chosen (s.taken + 1) (s.offset + n) true n input) a b given = record {
       header = h;
       good = good;
       packet = spelled;
-      moved = moved;
+      taken = read.bytes;
+      moved = read.moved;
+      joined = sym read.joined ∙ split;
       is_chosen = chosen;
       count = count;
       few = few;
-      others = λ i. record s { taken = s.taken + 1; offset = s.offset + (long ∙ ap length (sym spelled)) i; live = sym live i; packet = bytes; body = p.body };
-      goes_on = λ rest. ap (λ l. walk_from s.chosen s.taken s.offset (l ++ rest)) spelled ∙ walk_from-good s.chosen s.taken s.offset p rest good few ∙ ap (λ n. behind_packet p (walk_from s.chosen (s.taken + 1) n rest)) place;
+      others = λ i. record s { taken = s.taken + 1; offset = s.offset + (long ∙ ap length (sym spelled)) i; live = sym live i; packet = take n input; body = p.body; ahead = drop n input };
+      goes_on = λ rest.
+          ap (walk_from s.chosen s.taken s.offset) (same_input s input a b read rest ∙ (ap (λ l. l ++ rest) split ∙ (append_assoc (take n input) (drop n input) rest ∙ ap (λ l. l ++ (drop n input ++ rest)) spelled)))
+          ∙ (walk_from-good s.chosen s.taken s.offset p (drop n input ++ rest) good few ∙ ap (λ k. behind_packet p (walk_from s.chosen (s.taken + 1) k (drop n input ++ rest))) place);
     } in
-    subst (λ n. Takes s (state_of s.chosen (s.taken + 1) (s.offset + n) true n room) a b given) size all
+    subst (λ k. Takes s (state_of s.chosen (s.taken + 1) (s.offset + k) true k input) a b given) size all

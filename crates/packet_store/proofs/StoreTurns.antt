@@ -1,5 +1,5 @@
 -- How a turn over a store is made, for every work that is made from the walk over it.
-use Rattle.std.proofs.Common.{◌≡◌, List, [], ◌∷◌, Some, sym, ap, ◌∙◌, subst}
+use Rattle.std.proofs.Common.{◌≡◌, ℕ, List, [], ◌∷◌, ◌++◌, Some, sym, ap, ◌∙◌, subst}
 use Rattle.std.specs.Io.KnownBytes.{IsAtEnd}
 use Rattle.desk_ports.specs.declared.desk.Inlet.TheVariants as inlet
 use Rattle.desk_ports.specs.Meanings.{Meanings, Moves, left}
@@ -13,7 +13,7 @@ use Rattle.packet_store.specs.declared.fault.WalkFault.{WalkFault}
 use Rattle.packet_store.specs.declared.fault.StoreFault.{StoreFault}
 use Rattle.packet_store.specs.declared.fault.StoreFault.TheVariants.{Cut, Version, Shape, ReadFault, TooMany}
 use Rattle.packet_store.specs.SpacePackets.{Packet}
-use Rattle.packet_store.specs.Walks.{Walk}
+use Rattle.packet_store.specs.Walks.{Walk, walk_from}
 use Rattle.packet_store.specs.Faults.{stop_of}
 use Rattle.packet_store.specs.StoreReader.{ReaderState, walk_on, Takes, Stops, AfterFault}
 use Rattle.packet_store.specs.StoreWorks.{StoreWork, course_on, work_on}
@@ -21,19 +21,19 @@ use Rattle.packet_store.proofs.Walks.{walk_from-none}
 
 -- ---- the store is not read on
 
-Ends-on : {A : Type 0} (k : StoreWork A) (s : ReaderState) (a b : Meanings) (reason : WalkFault) → k.before [] ≡ no_outputs → Stops s a b reason → Ends (course_on k s) a b (Some reason)
-Ends-on k s a b reason nothing stops = Ends-fault (course_on k s) a b stops.taken stops.rest reason stops.moved stops.told (ap (λ (w : Walk). k.before w.packets) stops.ends ∙ nothing) (ap (λ (w : Walk). w.ending) stops.ends)
+Ends-on : {A : Type 0} (k : StoreWork A) (s : ReaderState) (ahead : List ℕ) (a b : Meanings) (reason : WalkFault) → k.before [] ≡ no_outputs → Stops s ahead a b reason → Ends (course_on k s) a b (Some reason)
+Ends-on k s ahead a b reason nothing stops = Ends-fault (course_on k s) a b stops.taken stops.rest reason stops.moved stops.told (ap (λ (w : Walk). k.before w.packets) stops.ends ∙ nothing) (ap (λ (w : Walk). w.ending) stops.ends)
 
-AfterStop-at : {A : Type 0} (k : StoreWork A) (s : ReaderState) (a b : Meanings) (reason : StoreFault) → k.before [] ≡ no_outputs → AfterFault s a b reason → AfterStop (course_on k s) a b (stop_of reason)
-AfterStop-at k s a b (Cut byte) nothing stops = Ends-on k s a b _ nothing stops
-AfterStop-at k s a b (Version byte) nothing stops = Ends-on k s a b _ nothing stops
-AfterStop-at k s a b (Shape byte) nothing stops = Ends-on k s a b _ nothing stops
-AfterStop-at k s a b TooMany nothing stops = Ends-on k s a b _ nothing stops
-AfterStop-at k s a b ReadFault nothing loses = IsCutOff-moves (course_on k s) a b loses.lost loses.moved (ap k.before loses.none ∙ nothing)
+AfterStop-at : {A : Type 0} (k : StoreWork A) (s : ReaderState) (ahead : List ℕ) (a b : Meanings) (reason : StoreFault) → k.before [] ≡ no_outputs → AfterFault s ahead a b reason → AfterStop (course_on k s) a b (stop_of reason)
+AfterStop-at k s ahead a b (Cut byte) nothing stops = Ends-on k s ahead a b _ nothing stops
+AfterStop-at k s ahead a b (Version byte) nothing stops = Ends-on k s ahead a b _ nothing stops
+AfterStop-at k s ahead a b (Shape byte) nothing stops = Ends-on k s ahead a b _ nothing stops
+AfterStop-at k s ahead a b TooMany nothing stops = Ends-on k s ahead a b _ nothing stops
+AfterStop-at k s ahead a b ReadFault nothing waits = IsCutOff-moves (course_on k s) a b waits.taken waits.moved (ap k.before waits.none ∙ nothing)
 
 -- a fault of the store, or of the desk, ends the run
-pub AfterStop-on : {A : Type 0} (k : StoreWork A) (work : Work A WalkFault) (s : ReaderState) (a b : Meanings) (reason : StoreFault) → work ≡ work_on k s → k.before [] ≡ no_outputs → AfterFault s a b reason → AfterStop work.course a b (stop_of reason)
-AfterStop-on {A = A} k work s a b reason is nothing after = subst (λ (w : Work A WalkFault). AfterStop w.course a b (stop_of reason)) (sym is) (AfterStop-at k s a b reason nothing after)
+pub AfterStop-on : {A : Type 0} (k : StoreWork A) (work : Work A WalkFault) (s : ReaderState) (ahead : List ℕ) (a b : Meanings) (reason : StoreFault) → work ≡ work_on k s → k.before [] ≡ no_outputs → AfterFault s ahead a b reason → AfterStop work.course a b (stop_of reason)
+AfterStop-on {A = A} k work s ahead a b reason is nothing after = subst (λ (w : Work A WalkFault). AfterStop w.course a b (stop_of reason)) (sym is) (AfterStop-at k s ahead a b reason nothing after)
 
 -- ---- a packet of it was read
 
@@ -53,7 +53,7 @@ pub record ReadsPacket {A : Type 0} (k next : StoreWork A) (s t : ReaderState) (
   pub takes : Takes s t a b given
   pub goes_on : GoesOn k next (packet_of takes.header t) outputs
 
-Steps-on : {A : Type 0} (k next : StoreWork A) (s t : ReaderState) (a b : Meanings) (outputs : Outputs) → ReadsPacket k next s t a b outputs → Steps (work_on k s) (work_on next t) t.packet outputs
+Steps-on : {A : Type 0} (k next : StoreWork A) (s t : ReaderState) (a b : Meanings) (outputs : Outputs) (reads : ReadsPacket k next s t a b outputs) → Steps (work_on k s) (work_on next t) reads.takes.taken outputs
 Steps-on k next s t a b outputs reads = record {
   course = λ rest.
       let ps = (walk_on t rest).packets in
@@ -67,12 +67,12 @@ Steps-on k next s t a b outputs reads = record {
 
 -- all that it owes was written
 pub Advances-on : {A : Type 0} {k next : StoreWork A} {work : Work A WalkFault} {owes : Work A WalkFault → Type 0} {s t : ReaderState} {a b d : Meanings} {outputs : Outputs}
-    → work ≡ work_on k s → ReadsPacket k next s t a b outputs → Wrote b d outputs → owes (work_on next t) → Advances work owes a d
-Advances-on is reads wrote owed = Advances-taken is (Steps-on _ _ _ _ _ _ _ reads) reads.takes.moved wrote owed
+    → ReadsPacket k next s t a b outputs → work ≡ work_on k s → Wrote b d outputs → owes (work_on next t) → Advances work owes a d
+Advances-on reads is wrote owed = Advances-taken is (Steps-on _ _ _ _ _ _ _ reads) reads.takes.moved wrote owed
 
 -- and where a writing failed, a front of it
-pub IsCutShort-on : {A : Type 0} {k next : StoreWork A} {work : Work A WalkFault} {s t : ReaderState} {a b d : Meanings} {outputs : Outputs} → work ≡ work_on k s → ReadsPacket k next s t a b outputs → WroteFront b d outputs → IsCutShort work.course a d
-IsCutShort-on is reads front = IsCutShort-taken is (Steps-on _ _ _ _ _ _ _ reads) reads.takes.moved front
+pub IsCutShort-on : {A : Type 0} {k next : StoreWork A} {work : Work A WalkFault} {s t : ReaderState} {a b d : Meanings} {outputs : Outputs} → ReadsPacket k next s t a b outputs → work ≡ work_on k s → WroteFront b d outputs → IsCutShort work.course a d
+IsCutShort-on reads is front = IsCutShort-taken is (Steps-on _ _ _ _ _ _ _ reads) reads.takes.moved front
 
 -- ---- nothing of it is left
 
@@ -81,17 +81,17 @@ pub record IsDone {A : Type 0} (k : StoreWork A) (answer : A) : Type 0 where
   pub nothing : k.before [] ≡ no_outputs
   pub answer_is : k.answer [] ≡ answer
 
-IsLast-on : {A : Type 0} (k : StoreWork A) (s : ReaderState) (answer : A) → IsDone k answer → IsLast (work_on k s) (k.last answer) answer
-IsLast-on k s answer done =
-    let walk = walk_from-none s.chosen s.taken s.offset in
+IsLast-on : {A : Type 0} (k : StoreWork A) (s : ReaderState) (answer : A) → IsDone k answer → s.ahead ≡ [] → IsLast (work_on k s) (k.last answer) answer
+IsLast-on k s answer done none =
+    let walk = ap (λ l. walk_from s.chosen s.taken s.offset (l ++ [])) none ∙ walk_from-none s.chosen s.taken s.offset in
     let nothing = ap (λ (w : Walk). k.before w.packets) walk ∙ done.nothing in
     let numbers = ap (λ (w : Walk). k.answer w.packets) walk ∙ done.answer_is in
     record { course = λ i. record { before = nothing i; after = k.last (numbers i); ending = (walk i).ending }; answer = numbers }
 
 -- the input is at its end, and the last part was written
-pub Finishes-on : {A : Type 0} {k : StoreWork A} {work : Work A WalkFault} (s : ReaderState) {a b d : Meanings} {answer : A} → work ≡ work_on k s → IsDone k answer → Moves a b inlet.Main [] → IsAtEnd (left a inlet.Main) → Wrote b d (k.last answer) → Finishes work a d answer
-Finishes-on s is done moved at_end wrote = Finishes-end is (IsLast-on _ s _ done) moved at_end wrote
+pub Finishes-on : {A : Type 0} {k : StoreWork A} {work : Work A WalkFault} (s : ReaderState) {a b d : Meanings} {answer : A} → IsDone k answer → work ≡ work_on k s → s.ahead ≡ [] → Moves a b inlet.Main [] → IsAtEnd (left a inlet.Main) → Wrote b d (k.last answer) → Finishes work a d answer
+Finishes-on s done is none moved at_end wrote = Finishes-end is (IsLast-on _ s _ done none) moved at_end wrote
 
 -- and where a writing failed, a front of it
-pub IsCutShort-end-on : {A : Type 0} {k : StoreWork A} {work : Work A WalkFault} (s : ReaderState) {a b d : Meanings} {answer : A} → work ≡ work_on k s → IsDone k answer → Moves a b inlet.Main [] → IsAtEnd (left a inlet.Main) → WroteFront b d (k.last answer) → IsCutShort work.course a d
-IsCutShort-end-on s is done moved at_end front = IsCutShort-end is (IsLast-on _ s _ done) moved at_end front
+pub IsCutShort-end-on : {A : Type 0} {k : StoreWork A} {work : Work A WalkFault} (s : ReaderState) {a b d : Meanings} {answer : A} → IsDone k answer → work ≡ work_on k s → s.ahead ≡ [] → Moves a b inlet.Main [] → IsAtEnd (left a inlet.Main) → WroteFront b d (k.last answer) → IsCutShort work.course a d
+IsCutShort-end-on s done is none moved at_end front = IsCutShort-end is (IsLast-on _ s _ done none) moved at_end front

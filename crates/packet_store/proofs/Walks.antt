@@ -10,6 +10,7 @@ use Rattle.packet_store.specs.declared.fault.WalkFault.TheVariants as fault
 use Rattle.packet_store.specs.SpacePackets.{IsPacket, Packet, packet_bytes, plain_packet, store_bytes}
 use Rattle.packet_store.specs.Walks.{IsGood, Front, End, Good, Bad, front, Walk, walked, stopped_at, behind_packet, at_limit, by_front, walk_step, walk_by, walk_from, packets_bytes, by_checks, bad_at, ending_at}
 use Rattle.packet_store.specs.StoreReader.{IsOnlyCut}
+use Rattle.packet_store.specs.Reading.{IsEarly}
 use Rattle.packet_store.proofs.Packets.{front-good, front-Good, front-shorter, IsGood-plain}
 
 either_way : (b : Bool) (w : Walk) → (if b then w else w) ≡ w
@@ -111,14 +112,6 @@ walk_from-no_packet : (chosen : Option ℕ) (taken offset : ℕ) (bytes : List �
 walk_from-no_packet chosen taken offset bytes none =
     let on : Packet → List ℕ → Walk = λ q left. walk_from chosen (taken + 1) (offset + length (packet_bytes q)) left in
     ap (λ (w : Walk). w.packets) (walk_from-step chosen taken offset bytes) ∙ no_packets (taken == 2 ^ 32) on offset bytes (front chosen bytes) none
-
--- no packet stands there, and nothing is wrong but that bytes are missing
-abbrev pub IsEarly : Front → Type 0
-IsEarly End = Unit {0}
-IsEarly (Good p rest) = ⊥
-IsEarly (Bad kind.Cut) = Unit {0}
-IsEarly (Bad kind.Version) = ⊥
-IsEarly (Bad kind.Shape) = ⊥
 
 early_end : (on : Packet → List ℕ → Walk) (offset : ℕ) (bytes : List ℕ) (found : Front) → IsEarly found → ((by_front on offset bytes found).packets ≡ []) × IsOnlyCut (by_front on offset bytes found).ending
 early_end on offset bytes End early = (refl, tt)

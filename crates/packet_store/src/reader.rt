@@ -5,13 +5,14 @@ ghost use Rattle.std.specs.Io.KnownBytes.{IsAtEnd};
 ghost use Rattle.desk_ports.specs.Meanings.{Moves, IsReadyIn, left};
 ghost use Rattle.packet_store.specs.Answers.{IfGiven, OnEnd, OnStop};
 ghost use Rattle.packet_store.specs.Faults.{HasStoreCause};
+ghost use Rattle.packet_store.specs.Reading.{BeginsWithPacket};
 ghost use Rattle.packet_store.specs.StoreReader.{Takes, AfterFault, opened, stopped};
 
 use crate::fault::StoreFault;
 use crate::header::HEADER_BYTES;
-use crate::packet::{is_at_end, read_packet};
+use crate::packet::hold_packet;
 use bit_vectors::NoMemory;
-use desk_ports::{Desk, Inlet};
+use desk_ports::{Desk, Inlet, ReadAhead};
 use std::alloc::Global;
 use std::marker::Model;
 
@@ -34,6 +35,9 @@ pub struct Taken {
 ///
 /// A packet of the chosen APID is an unsegmented telemetry packet of version 0 (CCSDS 133.0-B-2) with
 /// no secondary header. Packets of other APIDs may be of any type and shape; they have version 0 too.
+///
+/// Up to 131,072 bytes are read ahead of the packets that it gave. The rest of the store is these bytes, and then what
+/// the desk has left.
 #[derive(Debug, Drop)]
 pub struct StoreReader {
     chosen: Option<u16>,
@@ -41,34 +45,33 @@ pub struct StoreReader {
     offset: u64,
     live: bool,
     held: usize,
-    room: Vec<u8>,
+    input: ReadAhead,
 }
 
 impl Model for StoreReader {
-    ghost use Rattle.std.specs.Prelude.{vec_len};
+    ghost use Rattle.std.specs.Prelude.{length};
     ghost use Rattle.packet_store.specs.StoreReader.{ReaderState, state_of, IsReader};
 
     ghost Value = { ReaderState };
 
-    ghost view = { λ r. state_of r.chosen r.taken r.offset r.live r.held r.room.items };
+    ghost view = { λ r. state_of r.chosen r.taken r.offset r.live r.held r.input };
 
-    ghost invariant = { λ r. IsReader r.taken r.offset r.held (vec_len r.room) };
+    ghost invariant = { λ r. IsReader r.taken r.offset r.held (length r.input) };
 }
 
 impl StoreReader {
-    /// A reader of a store for a chosen APID, which is no idle one. It takes the room for every packet.
+    /// A reader of a store for a chosen APID, which is no idle one. Takes all memory of the reader.
     pub fn open(alloc: Global, apid: u16) -> Result<StoreReader, NoMemory>
         requires { apid ≤ 2046 }
         ensures { IfOk result (λ reader. reader ≡ opened (Some apid)) }
     {
-        let room = vec![in alloc; 0; PACKET_BYTES]?;
         Ok(StoreReader {
             chosen: Some(apid),
             taken: 0,
             offset: 0,
             live: true,
             held: 0,
-            room,
+            input: ReadAhead::open(alloc)?,
         })
     }
 
@@ -76,7 +79,7 @@ impl StoreReader {
     ///
     /// The packets are those of the walk over the store, in order, those of other APIDs too, and a fault
     /// of the store is how that walk ends. After None or a fault the reader is no longer live. It takes
-    /// no memory.
+    /// no memory. A failed reading loses no byte.
     pub fn next<D: Desk>(&mut self, desk: &mut D) -> Result<Option<Taken>, StoreFault>
         requires live { IsTrue self.old.live }
         requires open { IsReadyIn (D.meaning desk.old) Inlet.Main }
@@ -85,27 +88,32 @@ impl StoreReader {
         ensures some { IfGiven result
             (Takes self.old self.new (D.meaning desk.old) (D.meaning desk.new)) }
 
-        // None: nothing was left.
+        // None: nothing was left, neither ahead nor at the desk.
+        ensures ahead { OnEnd result (self.old.ahead ≡ []) }
         ensures none { OnEnd result
             (Moves (D.meaning desk.old) (D.meaning desk.new) Inlet.Main []) }
         ensures at_end { OnEnd result (IsAtEnd (left (D.meaning desk.old) Inlet.Main)) }
 
         // A fault of the store is how its walk ends. ReadFault comes where the desk failed to read in this call.
         ensures fault { IfErr result
-            (AfterFault self.old (D.meaning desk.old) (D.meaning desk.new)) }
+            (AfterFault self.old self.new.ahead (D.meaning desk.old) (D.meaning desk.new)) }
         ensures cause { HasStoreCause (D.counts desk.old) (D.counts desk.new) result }
 
-        ensures stopped { OnStop result (self.new ≡ stopped self.old) }
+        // Where a whole packet is ahead, the desk stays as it is.
+        ensures whole { BeginsWithPacket self.old.chosen self.old.ahead → desk.new ≡ desk.old }
+
+        ensures stopped { OnStop result (self.new ≡ stopped self.old self.new.ahead) }
     {
         self.live = false;
+        self.input.pass(self.held);
         self.held = 0;
         if self.taken == MOST_PACKETS {
-            if is_at_end(desk, &mut self.room[..1])? {
-                return Ok(None);
+            if self.input.hold(desk, 1)? {
+                return Err(StoreFault::TooMany);
             }
-            return Err(StoreFault::TooMany);
+            return Ok(None);
         }
-        let Some(header) = read_packet(desk, self.chosen, self.offset, &mut self.room)? else {
+        let Some(header) = hold_packet(&mut self.input, desk, self.chosen, self.offset)? else {
             return Ok(None);
         };
         self.live = true;
@@ -130,7 +138,7 @@ impl StoreReader {
         requires { 0 < length self.now.body }
         ensures { result.now ≡ self.now.packet }
     {
-        &self.room[..self.held]
+        &self.input.bytes()[..self.held]
     }
 
     /// The data of the latest packet, where the latest call of `next` gave one.
@@ -138,6 +146,6 @@ impl StoreReader {
         requires { 0 < length self.now.body }
         ensures { result.now ≡ self.now.body }
     {
-        &self.room[HEADER_BYTES..self.held]
+        &self.input.bytes()[HEADER_BYTES..self.held]
     }
 }

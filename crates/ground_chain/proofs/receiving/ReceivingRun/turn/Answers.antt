@@ -13,7 +13,7 @@ returns-in_err-taken-clause-turned g c = λ work owes.
     let s = c.args.self.now in
     let meaning = g.D.Desk.meaning in
     let p = err_from_is_err_and c.from_residual.result c.from_residual.ensures.1 in
-    rw (p.1, p.2) (AfterStop-on (left_to_receive g.A.Account.texts s) work s.reader (meaning c.args.desk.now) (meaning c.next.new.desk) c.in_err-taken.field-0.0 owes.work_is refl c.in_err-taken.ensures.fault)
+    rw (p.1, p.2) (AfterStop-on (left_to_receive g.A.Account.texts s) work s.reader c.next.new.self.ahead (meaning c.args.desk.now) (meaning c.next.new.desk) c.in_err-taken.field-0.0 owes.work_is refl c.in_err-taken.ensures.fault)
 
 -- the store is at its end
 pub end-requires : goal.end-requires
@@ -26,13 +26,13 @@ returns-in_err-end-clause-turned g c = λ work owes.
     let s = c.args.self.now in
     let told = rw c.in_default.is at c.in_ok-taken.ensures in
     let p = err_from_is_err_and c.from_residual-in_err-end.result c.from_residual-in_err-end.ensures.1 in
-    rw (p.1, p.2) (IsCutShort-end-on s.reader owes.work_is (IsDone-received g.A.Account.texts s) told.none told.at_end c.in_err-end.ensures.front)
+    rw (p.1, p.2) (IsCutShort-end-on s.reader (IsDone-received g.A.Account.texts s) owes.work_is told.ahead told.none told.at_end c.in_err-end.ensures.front)
 
 pub returns-in_default-clause-turned : goal.returns-in_default-clause-turned
 returns-in_default-clause-turned g c = λ work owes.
     let s = c.args.self.now in
     let told = rw c.in_default.is at c.in_ok-taken.ensures in
-    Finishes-on s.reader owes.work_is (IsDone-received g.A.Account.texts s) told.none told.at_end c.in_ok-end.ensures.wrote
+    Finishes-on s.reader (IsDone-received g.A.Account.texts s) owes.work_is told.ahead told.none told.at_end c.in_ok-end.ensures.wrote
 
 -- a packet was read
 pub arrive-requires-clause-ready : goal.arrive-requires-clause-ready
@@ -46,7 +46,7 @@ returns-in_err-arrive-clause-turned g c = λ work owes.
     let told = rw c.in-Some.is at c.in_ok-taken.ensures in
     let reads = Reads-judged g.A.Account.texts c.args.self.now c.arrive.new.self c.next.new.self (meaning c.args.desk.now) (meaning c.next.new.desk) c.in-Some.taken told.some c.if-taken.true c.arrive.ensures.judges in
     let p = err_from_is_err_and c.from_residual-in_err-arrive.result c.from_residual-in_err-arrive.ensures.1 in
-    rw (p.1, p.2) (IsCutShort-on owes.work_is reads c.in_err-arrive.ensures.front)
+    rw (p.1, p.2) (IsCutShort-on reads owes.work_is c.in_err-arrive.ensures.front)
 
 pub returns-in_ok-arrive-clause-turned : goal.returns-in_ok-arrive-clause-turned
 returns-in_ok-arrive-clause-turned g c = λ work owes.
@@ -58,7 +58,7 @@ returns-in_ok-arrive-clause-turned g c = λ work owes.
     let b = g.D.Desk.meaning c.next.new.desk in
     let told = rw c.in-Some.is at c.in_ok-taken.ensures in
     let reads = Reads-judged texts s t reader a b c.in-Some.taken told.some c.if-taken.true c.arrive.ensures.judges in
-    Advances-on owes.work_is reads c.in_ok-arrive.ensures.wrote (Owes-next texts g.A.Account.has_room s t reader a b c.in-Some.taken work owes told.some c.arrive.ensures.judges.reader_is c.arrive.ensures.right)
+    Advances-on reads owes.work_is c.in_ok-arrive.ensures.wrote (Owes-next texts g.A.Account.has_room s t reader a b c.in-Some.taken work owes told.some c.arrive.ensures.judges.reader_is c.arrive.ensures.right)
 
 pub returns-else-taken-clause-turned : goal.returns-else-taken-clause-turned
 returns-else-taken-clause-turned g c = λ work owes.
@@ -71,4 +71,4 @@ returns-else-taken-clause-turned g c = λ work owes.
     let told = rw c.in-Some.is at c.in_ok-taken.ensures in
     let reads = Reads-passed texts s reader a b c.in-Some.taken told.some c.if-taken.false in
     let right = IsReceiving-passed has_room s reader a b c.in-Some.taken owes.right told.some in
-    Advances-on owes.work_is reads (Ran-none b) (Owes-next texts has_room s (record s { reader = reader }) reader a b c.in-Some.taken work owes told.some refl right)
+    Advances-on reads owes.work_is (Ran-none b) (Owes-next texts has_room s (record s { reader = reader }) reader a b c.in-Some.taken work owes told.some refl right)

@@ -15,7 +15,7 @@ returns-in_err-taken-clause-turned g c = λ work owes.
     let s = c.args.self.now in
     let meaning = g.D.Desk.meaning in
     let p = err_from_is_err_and c.from_residual.result c.from_residual.ensures.1 in
-    rw (p.1, p.2) (AfterStop-on (left_to_play s) work s.reader (meaning c.args.desk.now) (meaning c.next.new.desk) c.in_err-taken.field-0.0 owes.work_is refl c.in_err-taken.ensures.fault)
+    rw (p.1, p.2) (AfterStop-on (left_to_play s) work s.reader c.next.new.self.ahead (meaning c.args.desk.now) (meaning c.next.new.desk) c.in_err-taken.field-0.0 owes.work_is refl c.in_err-taken.ensures.fault)
 
 -- the store is at its end
 pub write_report-requires : goal.write_report-requires
@@ -28,13 +28,13 @@ returns-in_err-write_report-clause-turned g c = λ work owes.
     let told = rw c.in_default.is at c.in_ok-taken.ensures in
     let p = err_from_is_err_and c.from_residual-in_err-write_report.result c.from_residual-in_err-write_report.ensures.1 in
     let front = WroteFront-report (g.D.Desk.meaning c.next.new.desk) (g.D.Desk.meaning c.write_report.new.desk) (play_report c.args.self.now.tally.played) c.in_err-write_report.ensures.front in
-    rw (p.1, p.2) (IsCutShort-end-on c.args.self.now.reader owes.work_is (IsDone-played c.args.self.now work owes) told.none told.at_end front)
+    rw (p.1, p.2) (IsCutShort-end-on c.args.self.now.reader (IsDone-played c.args.self.now work owes) owes.work_is told.ahead told.none told.at_end front)
 
 pub returns-in_default-clause-turned : goal.returns-in_default-clause-turned
 returns-in_default-clause-turned g c = λ work owes.
     let told = rw c.in_default.is at c.in_ok-taken.ensures in
     let wrote = Ran-notes (g.D.Desk.meaning c.next.new.desk) (g.D.Desk.meaning c.write_report.new.desk) (play_report c.args.self.now.tally.played) c.in_ok-write_report.ensures.added in
-    Finishes-on c.args.self.now.reader owes.work_is (IsDone-played c.args.self.now work owes) told.none told.at_end wrote
+    Finishes-on c.args.self.now.reader (IsDone-played c.args.self.now work owes) owes.work_is told.ahead told.none told.at_end wrote
 
 -- a packet was read
 pub deliver-requires-clause-output : goal.deliver-requires-clause-output
@@ -52,7 +52,7 @@ returns-in_err-deliver-clause-turned g c = λ work owes.
     let reads = Reads-played s c.deliver.new.self reader (meaning c.args.desk.now) (meaning c.next.new.desk) taken told.some c.deliver.ensures.counts in
     let front = WroteFront-output (meaning c.next.new.desk) (meaning c.deliver.new.desk) (next_copies s taken.chosen reader.packet) c.in_err-deliver.ensures.front in
     let p = err_from_is_err_and c.from_residual-in_err-deliver.result c.from_residual-in_err-deliver.ensures.1 in
-    rw (p.1, p.2) (IsCutShort-on owes.work_is reads front)
+    rw (p.1, p.2) (IsCutShort-on reads owes.work_is front)
 
 pub returns-clause-turned : goal.returns-clause-turned
 returns-clause-turned g c = λ work owes.
@@ -63,4 +63,4 @@ returns-clause-turned g c = λ work owes.
     let told = rw c.in-Some.is at c.in_ok-taken.ensures in
     let reads = Reads-played s c.deliver.new.self reader (meaning c.args.desk.now) (meaning c.next.new.desk) taken told.some c.deliver.ensures.counts in
     let added = Ran-adds (meaning c.next.new.desk) (meaning c.deliver.new.desk) (next_copies s taken.chosen reader.packet) c.in_ok-deliver.ensures.added in
-    Advances-on owes.work_is reads added (Owes-played s c.deliver.new.self reader (meaning c.args.desk.now) (meaning c.next.new.desk) taken work owes told.some c.deliver.ensures.counts c.deliver.ensures.counted)
+    Advances-on reads owes.work_is added (Owes-played s c.deliver.new.self reader (meaning c.args.desk.now) (meaning c.next.new.desk) taken work owes told.some c.deliver.ensures.counts c.deliver.ensures.counted)

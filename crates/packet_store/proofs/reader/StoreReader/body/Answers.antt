@@ -18,4 +18,4 @@ slice_bounds-result-start c =
     search rules
 
 pub returns : goal.returns
-returns c = rw (← c.self.view_is, c.deref.ensures.value) (between_is c.self.inside.room.items 6 c.self.inside.held)
+returns c = rw (← c.self.view_is, c.bytes.ensures.ahead) (between_is c.self.inside.input 6 c.self.inside.held)
