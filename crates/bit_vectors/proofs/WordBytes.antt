@@ -7,7 +7,7 @@ use Rattle.std.proofs.lemmas.Bool.{cases_lt, cases_eq}
 use Rattle.std.proofs.Math.Dec.{eqb-suc-zero}
 use Rattle.std.proofs.Math.Nat.{pow-le-pow_right}
 use Rattle.std.proofs.lemmas.Nat.{pow_pos, mod_below, one_shl}
-use Rattle.std.proofs.lemmas.List.{length-take, length-take-le, length-drop, take_rest, get_or-set_same, get_or-set_other, length-append, get_or-drop, get_or-take, get_or_past, get_or_append_left, get_or-append_right}
+use Rattle.std.proofs.lemmas.List.{length-take, length-take-le, length-drop, get_or-set_same, get_or-set_other, length-append, get_or-drop, get_or-take, get_or_past, get_or_append_left, get_or-append_right}
 use Rattle.std.proofs.lemmas.Nat.Bits.{bit_at-zero, bit_at_above, bit_at-trailing_zeros}
 use Rattle.bit_vectors.specs.Vectors.{bits_of, byte_count}
 use Rattle.bit_vectors.specs.Eye.{Shows}
@@ -40,12 +40,17 @@ loaded_bits bytes words most filled k =
       | inr le ↦ bit_of-past words k le ∙ sym (get_or_past (bits_of bytes) k false (omega (arith, length-bits_of bytes)))
     ]
 
+-- the first eight bytes show the same word
+pub shown_eight : (bytes : List ℕ) (word : ℕ) → Shows (bits_of (take 8 bytes)) word → Shows (bits_of bytes) word
+shown_eight bytes word front k lt =
+    front k lt ∙ get_or-bits_of_all (take 8 bytes) k ∙ rw (get_or-take 8 bytes (k / 8) 0 (omega arith)) (sym (get_or-bits_of_all bytes k))
+
 -- one word more
-pub loaded_more : (bytes words : List ℕ) (index w : ℕ) → index < length words → w < 2 ^ 64 → Shows (bits_of (take (length bytes - 8 * index) (drop (8 * index) bytes))) w → ((i : ℕ) → i < index → IsWord (bits_of bytes) i (get_or words i 0) × (get_or words i 0 < 2 ^ 64))
+pub loaded_more : (bytes words : List ℕ) (index w : ℕ) → index < length words → w < 2 ^ 64 → Shows (bits_of (drop (8 * index) bytes)) w → ((i : ℕ) → i < index → IsWord (bits_of bytes) i (get_or words i 0) × (get_or words i 0 < 2 ^ 64))
     → (i : ℕ) → i < index + 1 → IsWord (bits_of bytes) i (get_or (set words index w) i 0) × (get_or (set words index w) i 0 < 2 ^ 64)
 loaded_more bytes words index w lt below front filled i i_lt =
     elim (cases_eq i index) [
-      | inl here ↦ rw (here, get_or-set_same words index w 0 lt) (IsWord-front bytes index w (rw (take_rest bytes (8 * index)) at front), below)
+      | inl here ↦ rw (here, get_or-set_same words index w 0 lt) (IsWord-front bytes index w front, below)
       | inr other ↦ rw (get_or-set_other words index i w 0 other) (filled i (omega arith))
     ]
 

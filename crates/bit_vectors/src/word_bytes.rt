@@ -14,8 +14,12 @@ pub fn load_words(bytes: &[u8], words: &mut [u64])
     ensures bits { (k : ℕ) → bit_of words.new k ≡ slice_index_or (bits_of bytes.now) k false }
     ensures numbers { (i : ℕ) → slice_index words.new i < 2 ^ 64 }
 {
-    for (index, word) in words.iter_mut().enumerate() {
-        *word = front_word(&bytes[8 * index..]);
+    let whole = bytes.len() / 8;
+    for index in 0..whole {
+        words[index] = front_word(&bytes[8 * index..8 * index + 8]);
+    }
+    if whole < words.len() {
+        words[whole] = front_word(&bytes[8 * whole..]);
     }
 }
 
