@@ -30,47 +30,53 @@ length-push inputs input = omega (arith, length-append inputs (input ∷ []))
 
 -- ---- a packet that was taken
 
-module _ (k : Compression) (inputs : List (List Bool)) (input : List Bool) (a b : Meanings) (takes : Takes k.places (length inputs) a b input) where
-  walk_taken : (rest : List ℕ) → recording_walk_from k.places (length inputs) (takes.taken ++ rest) ≡ behind_input input (recording_walk_from k.places (length (inputs ++ input ∷ [])) rest)
-  walk_taken rest = takes.goes_on rest ∙ ap (λ (t : ℕ). behind_input input (recording_walk_from k.places t rest)) (sym (length-push inputs input))
+module _ (k : Compression) (inputs : List (List Bool)) (input : List Bool) (before after : List ℕ) (a b : Meanings) (takes : Takes k.places (length inputs) before after a b input) where
+  walk_taken : (rest : List ℕ) → recording_walk_from k.places (length inputs) (before ++ (takes.taken ++ rest)) ≡ behind_input input (recording_walk_from k.places (length (inputs ++ input ∷ [])) (after ++ rest))
+  walk_taken rest = takes.goes_on rest ∙ ap (λ (t : ℕ). behind_input input (recording_walk_from k.places t (after ++ rest))) (sym (length-push inputs input))
 
-  pub taken_course : (rest : List ℕ) → rest_course k inputs (takes.taken ++ rest) ≡ behind (to_output (next_packet k inputs input)) (rest_course k (inputs ++ input ∷ []) rest)
+  pub taken_course : (rest : List ℕ) → rest_course k inputs (before ++ (takes.taken ++ rest)) ≡ behind (to_output (next_packet k inputs input)) (rest_course k (inputs ++ input ∷ []) (after ++ rest))
   taken_course rest = ap (course_by k inputs) (walk_taken rest)
 
-  all_taken : (rest : List ℕ) → all_inputs k inputs (takes.taken ++ rest) ≡ all_inputs k (inputs ++ input ∷ []) rest
+  all_taken : (rest : List ℕ) → all_inputs k inputs (before ++ (takes.taken ++ rest)) ≡ all_inputs k (inputs ++ input ∷ []) (after ++ rest)
   all_taken rest =
       ap (λ (w : RecordingWalk). inputs ++ w.inputs) (walk_taken rest)
-      ∙ sym (append_assoc inputs (input ∷ []) (recording_walk_from k.places (length (inputs ++ input ∷ [])) rest).inputs)
+      ∙ sym (append_assoc inputs (input ∷ []) (recording_walk_from k.places (length (inputs ++ input ∷ [])) (after ++ rest)).inputs)
 
 -- its Space Packet is owed, and behind it the rest of the recording
-pub Steps-taken : (k : Compression) (inputs : List (List Bool)) (input : List Bool) (a b : Meanings) (takes : Takes k.places (length inputs) a b input)
-    → Steps (rest_work k inputs) (rest_work k (inputs ++ input ∷ [])) takes.taken (to_output (next_packet k inputs input))
-Steps-taken k inputs input a b takes = record {
-  course = λ rest. taken_course k inputs input a b takes rest;
-  answer = λ rest. ap length (all_taken k inputs input a b takes rest);
+pub Steps-taken : (k : Compression) (inputs : List (List Bool)) (input : List Bool) (before after : List ℕ) (a b : Meanings) (takes : Takes k.places (length inputs) before after a b input)
+    → Steps (rest_work k inputs before) (rest_work k (inputs ++ input ∷ []) after) takes.taken (to_output (next_packet k inputs input))
+Steps-taken k inputs input before after a b takes = record {
+  course = λ rest. taken_course k inputs input before after a b takes rest;
+  answer = λ rest. ap length (all_taken k inputs input before after a b takes rest);
 }
 
 -- nothing is left, and nothing more is owed
-pub IsLast-compressed : (k : Compression) (inputs : List (List Bool)) (n : ℕ) → n ≡ length inputs → IsLast (rest_work k inputs) no_outputs n
-IsLast-compressed k inputs n number = record {
-  course = ap (course_by k inputs) (recording_walk_from-none k.places (length inputs));
-  answer = ap length (ap (λ (w : RecordingWalk). inputs ++ w.inputs) (recording_walk_from-none k.places (length inputs)) ∙ append-nil inputs) ∙ sym number;
-}
+pub IsLast-compressed : (k : Compression) (inputs : List (List Bool)) (ahead : List ℕ) (n : ℕ) → ahead ≡ [] → n ≡ length inputs → IsLast (rest_work k inputs ahead) no_outputs n
+IsLast-compressed k inputs ahead n none number =
+    let walk = ap (λ l. recording_walk_from k.places (length inputs) (l ++ [])) none ∙ recording_walk_from-none k.places (length inputs) in
+    record {
+      course = ap (course_by k inputs) walk;
+      answer = ap length (ap (λ (w : RecordingWalk). inputs ++ w.inputs) walk ∙ append-nil inputs) ∙ sym number;
+    }
 
 -- ---- a packet that was not taken
 
-Ends-stops : (k : Compression) (inputs : List (List Bool)) (a b : Meanings) (fault : RecordFault) → Stops k.places (length inputs) a b fault → Ends (rest_course k inputs) a b (Some fault)
-Ends-stops k inputs a b fault stops =
+-- the course of what is ahead and then these bytes
+abbrev course_behind : Compression → List (List Bool) → List ℕ → List ℕ → Course RecordFault
+course_behind k inputs before bytes = rest_course k inputs (before ++ bytes)
+
+Ends-stops : (k : Compression) (inputs : List (List Bool)) (before : List ℕ) (a b : Meanings) (fault : RecordFault) → Stops k.places (length inputs) before a b fault → Ends (course_behind k inputs before) a b (Some fault)
+Ends-stops k inputs before a b fault stops =
     let course = ap (course_by k inputs) stops.ends in
-    Ends-fault (rest_course k inputs) a b stops.taken stops.rest fault stops.moved stops.told (ap (λ (l : Course RecordFault). l.before) course) (ap (λ (l : Course RecordFault). l.ending) course)
+    Ends-fault (course_behind k inputs before) a b stops.taken stops.rest fault stops.moved stops.told (ap (λ (l : Course RecordFault). l.before) course) (ap (λ (l : Course RecordFault). l.ending) course)
 
 -- a fault of the recording, or of the desk, ends the run
-AfterStop-unread : (k : Compression) (inputs : List (List Bool)) (a b : Meanings) (u : Unread) → AfterUnread k.places (length inputs) a b u → AfterStop (rest_course k inputs) a b (stop_by (fault_by u))
-AfterStop-unread k inputs a b (unread.Data (CutRecord t)) stops = Ends-stops k inputs a b (CutRecord t) stops
-AfterStop-unread k inputs a b (unread.Data (SpareBit t)) stops = Ends-stops k inputs a b (SpareBit t) stops
-AfterStop-unread k inputs a b (unread.Data TooMany) stops = Ends-stops k inputs a b TooMany stops
-AfterStop-unread k inputs a b unread.ReadFault loses =
-    IsCutOff-moves (rest_course k inputs) a b loses.lost loses.moved (ap (λ (l : List (List Bool)). to_output (further_packets k inputs l)) loses.none)
+AfterStop-unread : (k : Compression) (inputs : List (List Bool)) (before : List ℕ) (a b : Meanings) (u : Unread) → AfterUnread k.places (length inputs) before a b u → AfterStop (course_behind k inputs before) a b (stop_by (fault_by u))
+AfterStop-unread k inputs before a b (unread.Data (CutRecord t)) stops = Ends-stops k inputs before a b (CutRecord t) stops
+AfterStop-unread k inputs before a b (unread.Data (SpareBit t)) stops = Ends-stops k inputs before a b (SpareBit t) stops
+AfterStop-unread k inputs before a b (unread.Data TooMany) stops = Ends-stops k inputs before a b TooMany stops
+AfterStop-unread k inputs before a b unread.ReadFault waits =
+    IsCutOff-moves (course_behind k inputs before) a b waits.taken waits.moved (ap (λ (l : List (List Bool)). to_output (further_packets k inputs l)) waits.none)
 
 -- ---- the histories
 
@@ -90,12 +96,12 @@ pub HasTaken-number : (k : Compression) (inputs : List (List Bool)) (s : Compres
 HasTaken-number k inputs s taken = taken.stands.masks.taken ∙ length-history_of inputs (flags_of k.rows.flags) (required_robustness k.rows.robust k.robust) k.places k.mask
 
 -- a packet that was not read ends the run
-pub AfterStop-next : (k : Compression) (inputs : List (List Bool)) (s : Compressing) (f t : ℕ) (a b : Meanings) (u : Unread) → HasTaken k inputs s → length s.encoder.masks.mask ≡ f → t ≡ s.encoder.masks.taken
-    → AfterUnread f t a b u → AfterStop (rest_course k inputs) a b (stop_by (fault_by u))
-AfterStop-next k inputs s f t a b u taken places number after =
+pub AfterStop-next : (k : Compression) (inputs : List (List Bool)) (s : Compressing) (f t : ℕ) (before : List ℕ) (a b : Meanings) (u : Unread) → HasTaken k inputs s → length s.encoder.masks.mask ≡ f → t ≡ s.encoder.masks.taken
+    → AfterUnread f t before a b u → AfterStop (rest_work k inputs before).course a b (stop_by (fault_by u))
+AfterStop-next k inputs s f t before a b u taken places number after =
     let f_is = sym places ∙ taken.places in
     let t_is = number ∙ HasTaken-number k inputs s taken in
-    AfterStop-unread k inputs a b u (subst (λ (n : ℕ). AfterUnread k.places n a b u) t_is (subst (λ (n : ℕ). AfterUnread n t a b u) f_is after))
+    AfterStop-unread k inputs before a b u (subst (λ (n : ℕ). AfterUnread k.places n before a b u) t_is (subst (λ (n : ℕ). AfterUnread n t before a b u) f_is after))
 
 module _ (k : Compression) (inputs : List (List Bool)) (s : Compressing) (taken : HasTaken k inputs s) (t : ℕ) (number : t ≡ length inputs) (input : List Bool) where
   -- the history with the next input
@@ -124,20 +130,20 @@ module _ (k : Compression) (inputs : List (List Bool)) (s : Compressing) (taken 
   }
 
 -- the next packet was read: its number is t, the encoder stands for the inputs before it, and what is then written is owed
-pub record IsNext (k : Compression) (inputs : List (List Bool)) (s : Compressing) (t : ℕ) (a b : Meanings) (input : List Bool) : Type 0 where
+pub record IsNext (k : Compression) (inputs : List (List Bool)) (s : Compressing) (t : ℕ) (before after : List ℕ) (a b : Meanings) (input : List Bool) : Type 0 where
   pub taken : HasTaken k inputs s
-  pub takes : Takes k.places (length inputs) a b input
+  pub takes : Takes k.places (length inputs) before after a b input
   pub number : t ≡ length inputs
   pub packet : space_packet s.writer.apid (t % period) (data_at (with_packet (history_by k inputs) s input t) (length (history_by k inputs).steps)) ≡ next_packet k inputs input
 
-pub IsNext-read : (k : Compression) (inputs : List (List Bool)) (s : Compressing) (f t' t : ℕ) (a b : Meanings) (input : List Bool) → HasTaken k inputs s → length s.encoder.masks.mask ≡ f → t' ≡ s.encoder.masks.taken → t ≡ t'
-    → Takes f t' a b input → IsNext k inputs s t a b input
-IsNext-read k inputs s f t' t a b input taken places kept number takes =
+pub IsNext-read : (k : Compression) (inputs : List (List Bool)) (s : Compressing) (f t' t : ℕ) (before after : List ℕ) (a b : Meanings) (input : List Bool) → HasTaken k inputs s → length s.encoder.masks.mask ≡ f → t' ≡ s.encoder.masks.taken → t ≡ t'
+    → Takes f t' before after a b input → IsNext k inputs s t before after a b input
+IsNext-read k inputs s f t' t before after a b input taken places kept number takes =
     let f_is = sym places ∙ taken.places in
     let t_is = kept ∙ HasTaken-number k inputs s taken in
     record {
       taken = taken;
-      takes = subst (λ (n : ℕ). Takes k.places n a b input) t_is (subst (λ (n : ℕ). Takes n t' a b input) f_is takes);
+      takes = subst (λ (n : ℕ). Takes k.places n before after a b input) t_is (subst (λ (n : ℕ). Takes n t' before after a b input) f_is takes);
       number = number ∙ t_is;
       packet = next_packet-is k inputs s taken t (number ∙ t_is) input;
     }

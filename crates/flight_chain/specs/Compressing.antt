@@ -1,6 +1,6 @@
 -- What compressing a recording owes: the store of its history.
-use Rattle.std.specs.Prelude.{◌≡◌, ℕ, ◌+◌, ◌*◌, ◌%◌, ◌≤◌, Bool, true, false, List, [], ◌∷◌, ◌++◌, length, vec_len, unwrap_or}
-use Rattle.bit_vectors.specs.Vectors.{IsVector, byte_count}
+use Rattle.std.specs.Prelude.{◌≡◌, ℕ, ◌+◌, ◌*◌, ◌%◌, ◌≤◌, Bool, true, false, List, [], ◌∷◌, ◌++◌, length, unwrap_or}
+use Rattle.bit_vectors.specs.Vectors.{IsVector}
 use Rattle.desk_ports.specs.declared.desk.Outlet.{Outlet}
 use Rattle.desk_ports.specs.declared.desk.Outlet.TheVariants as outlet
 use Rattle.desk_ports.specs.Stop.{Stop}
@@ -100,16 +100,15 @@ rest_course k inputs bytes = record {
   ending = (recording_walk_from k.places (length inputs) bytes).ending;
 }
 
--- the work of compressing what is left of the recording, whose answer is the number of all inputs
-abbrev pub rest_work : Compression → List (List Bool) → Work ℕ RecordFault
-rest_work k inputs = record { course = rest_course k inputs; answer = λ bytes. length (all_inputs k inputs bytes) }
+-- the work of compressing what is ahead and what is left of the recording, whose answer is the number of all inputs
+abbrev pub rest_work : Compression → List (List Bool) → List ℕ → Work ℕ RecordFault
+rest_work k inputs ahead = record { course = λ bytes. rest_course k inputs (ahead ++ bytes); answer = λ bytes. length (all_inputs k inputs (ahead ++ bytes)) }
 
--- the line has room for a packet of the recording, and the pen for one of the store
+-- the pen has room for a packet of the store
 pub record IsCompressing (s : Compressing) : Type 0 where
   pub vector : IsVector s.input
   pub robust : s.robust ≤ 7
   pub places : length s.encoder.masks.mask ≡ length s.input
-  pub line : vec_len s.line ≡ byte_count (length s.input)
   pub pen : s.pen.room ≡ 10 * length s.input + 43
 
 -- this work is owed: that of the rest of the recording, where some inputs are taken
@@ -117,12 +116,13 @@ pub record Owes (s : Compressing) (work : Work ℕ RecordFault) : Type 0 where
   pub k : Compression
   pub inputs : List (List Bool)
   pub taken : HasTaken k inputs s
-  pub work_is : work ≡ rest_work k inputs
+  pub work_is : work ≡ rest_work k inputs s.ahead
   pub right : IsCompressing s
 
--- nothing is taken
+-- nothing is taken, and nothing is ahead
 pub record HasTakenNothing (s : Compressing) : Type 0 where
   pub none : HasTaken (compression_of s) [] s
+  pub ahead : s.ahead ≡ []
   pub right : IsCompressing s
 
 -- the main output

@@ -10,32 +10,33 @@ use Rattle.flight_chain.specs.declared.reading.Unread.{Unread}
 use Rattle.flight_chain.specs.declared.reading.Unread.TheVariants as unread
 use Rattle.flight_chain.specs.Recordings.{recording_walk_from, behind_input, stopped_at}
 
--- The packet t with this input was taken, and nothing else. The walk goes on behind it.
-pub record Takes (f t : ℕ) (old new : Meanings) (input : List Bool) : Type 0 where
+-- Some bytes were read behind those that were ahead, and nothing else happened. The packet t with this input was taken, and
+-- the walk goes on behind it.
+pub record Takes (f t : ℕ) (before after : List ℕ) (old new : Meanings) (input : List Bool) : Type 0 where
   pub taken : List ℕ
   pub moved : Moves old new inlet.Main taken
   pub places : length input ≡ f
   pub few : t < 2 ^ 32
-  pub goes_on : (rest : List ℕ) → recording_walk_from f t (taken ++ rest) ≡ behind_input input (recording_walk_from f (t + 1) rest)
+  pub goes_on : (rest : List ℕ) → recording_walk_from f t (before ++ (taken ++ rest)) ≡ behind_input input (recording_walk_from f (t + 1) (after ++ rest))
 
--- The walk ends with this fault before the packet t.
-pub record Stops (f t : ℕ) (old new : Meanings) (fault : RecordFault) : Type 0 where
+-- The walk ends with this fault before the packet t, where these bytes were ahead.
+pub record Stops (f t : ℕ) (before : List ℕ) (old new : Meanings) (fault : RecordFault) : Type 0 where
   pub taken : List ℕ
   pub rest : List ℕ
   pub moved : Moves old new inlet.Main taken
   pub told : IfSome (left new inlet.Main) (λ bytes. bytes ≡ rest)
-  pub ends : recording_walk_from f t (taken ++ rest) ≡ stopped_at fault (taken ++ rest)
+  pub ends : recording_walk_from f t (before ++ (taken ++ rest)) ≡ stopped_at fault (before ++ (taken ++ rest))
 
--- A reading failed: less than a packet is lost.
-pub record Loses (f t : ℕ) (old new : Meanings) : Type 0 where
-  pub lost : List ℕ
-  pub moved : Moves old new inlet.Main lost
-  pub none : (recording_walk_from f t lost).inputs ≡ []
+-- A reading failed: less than a packet is ahead.
+pub record Waits (f t : ℕ) (before : List ℕ) (old new : Meanings) : Type 0 where
+  pub taken : List ℕ
+  pub moved : Moves old new inlet.Main taken
+  pub none : (recording_walk_from f t (before ++ taken)).inputs ≡ []
 
--- after a packet that was not read
-abbrev pub AfterUnread : ℕ → ℕ → Meanings → Meanings → Unread → Type 0
-AfterUnread f t old new (unread.Data fault) = Stops f t old new fault
-AfterUnread f t old new unread.ReadFault = Loses f t old new
+-- after a packet that was not read, where these bytes were ahead
+abbrev pub AfterUnread : ℕ → ℕ → List ℕ → Meanings → Meanings → Unread → Type 0
+AfterUnread f t before old new (unread.Data fault) = Stops f t before old new fault
+AfterUnread f t before old new unread.ReadFault = Waits f t before old new
 
 -- ReadFault comes only where a reading failed, and otherwise both counts are as before
 abbrev pub HasUnreadCause : {T : Type 0} → Counts → Counts → Result T Unread → Type 0

@@ -10,22 +10,22 @@ ghost use Rattle.flight_chain.specs.Stores.{data_at};
 
 use crate::fault::{FlightFault, RecordFault};
 use crate::reading::read_input;
-use bit_vectors::{BitPen, Bits, NoMemory, byte_len};
-use desk_ports::{Desk, Failed, Outlet, Run, Turn};
+use bit_vectors::{BitPen, Bits, NoMemory};
+use desk_ports::{Desk, Failed, Outlet, ReadAhead, Run, Turn};
 use packet_encode::{Encoder, room};
 use packet_store::{PERIOD, StoreWriter};
 use side_tables::Schedule;
 use std::alloc::Global;
 
 /// An encoder with its schedule, the required robustness of packets to which that gives none, and the writer of its
-/// store; a line and a vector for an input, and a pen for its packet.
+/// store; what is read of the recording, a vector for an input, and a pen for its packet.
 #[derive(Debug, Drop)]
 pub struct Compressing {
     encoder: Encoder,
     plan: Schedule,
     robust: u8,
     writer: StoreWriter,
-    line: Vec<u8>,
+    ahead: ReadAhead,
     input: Bits,
     pen: BitPen,
 }
@@ -49,7 +49,7 @@ impl Run for Compressing {
 
     fn turn<D: Desk>(&mut self, desk: &mut D) -> Result<Turn<u64>, FlightFault> {
         let number = self.encoder.taken();
-        let Some(t) = read_input(desk, number, &mut self.line, &mut self.input)? else {
+        let Some(t) = read_input(&mut self.ahead, desk, number, &mut self.input)? else {
             return Ok(Turn::Done(number));
         };
         self.put(desk, t)?;
@@ -83,13 +83,14 @@ impl Compressing {
               mask = mask.now;
               rows = plan;
             }) []) }
+        ensures ahead { IfOk result (λ compressing. compressing.ahead ≡ []) }
     {
         Ok(Compressing {
             encoder: Encoder::open(alloc, f, mask)?,
             plan,
             robust,
             writer: StoreWriter::open(alloc, apid)?,
-            line: vec![in alloc; 0; byte_len(f) as usize]?,
+            ahead: ReadAhead::open(alloc)?,
             input: Bits::zeros(alloc, f)?,
             pen: BitPen::with_room(alloc, room(f))?,
         })
@@ -118,6 +119,7 @@ impl Compressing {
         ensures apid { self.new.writer.apid ≡ self.old.writer.apid }
         ensures rows { self.new.plan ≡ self.old.plan }
         ensures input { self.new.input ≡ self.old.input }
+        ensures ahead { self.new.ahead ≡ self.old.ahead }
     {
         self.pen.clear();
         let robust = self.required(t);

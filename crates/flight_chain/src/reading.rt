@@ -2,15 +2,15 @@
 
 ghost use Rattle.std.specs.Prelude.{◌≡◌, ◌^◌, ◌≤◌, [], length, IfErr};
 ghost use Rattle.std.specs.Io.KnownBytes.{IsAtEnd};
-ghost use Rattle.bit_vectors.specs.Vectors.{byte_count};
+ghost use Rattle.bit_vectors.specs.Vectors.{IsVector, byte_count};
 ghost use Rattle.desk_ports.specs.Meanings.{Moves, IsReadyIn, left};
 ghost use Rattle.packet_store.specs.Answers.{IfGiven, OnEnd};
 ghost use Rattle.flight_chain.specs.Reading.{Takes, AfterUnread, HasUnreadCause, fault_by};
 ghost use Rattle.flight_chain.specs.declared.reading.Unread.TheVariants as unread;
 
 use crate::fault::{FlightFault, RecordFault};
-use bit_vectors::Bits;
-use desk_ports::{Desk, Failed, Inlet, fill};
+use bit_vectors::{Bits, byte_len};
+use desk_ports::{Desk, Failed, Inlet, ReadAhead};
 
 /// Why a packet is not read.
 #[derive(Clone, Copy)]
@@ -40,40 +40,44 @@ impl From<Unread> for FlightFault {
     }
 }
 
-/// Reads the packet `t` of a recording into `line`, which has its length, and its vector into `input`, and tells its
-/// number. None: the recording is at its end.
+/// Takes the packet `t` of a recording, reads its vector into `input`, and tells its number. None: the recording is at
+/// its end.
 pub fn read_input<D: Desk>(
+    ahead: &mut ReadAhead,
     desk: &mut D,
     t: u64,
-    line: &mut [u8],
     input: &mut Bits,
 ) -> Result<Option<u32>, Unread>
     requires open { IsReadyIn (D.meaning desk.old) Inlet.Main }
     requires number { t ≤ 2 ^ 32 }
-    requires some { 1 ≤ length input.old }
-    requires line { length line.old ≡ byte_count (length input.old) }
+    requires vector { IsVector input.old }
     ensures number { IfGiven result (λ n. n ≡ t) }
-    ensures taken { IfGiven result
-        (λ _. Takes (length input.old) t (D.meaning desk.old) (D.meaning desk.new) input.new) }
+    ensures taken { IfGiven result (λ _. Takes (length input.old) t ahead.old ahead.new
+        (D.meaning desk.old) (D.meaning desk.new) input.new) }
+    ensures ahead { OnEnd result (ahead.old ≡ []) }
     ensures none { OnEnd result (Moves (D.meaning desk.old) (D.meaning desk.new) Inlet.Main []) }
     ensures at_end { OnEnd result (IsAtEnd (left (D.meaning desk.old) Inlet.Main)) }
-    ensures unread { IfErr result
-        (AfterUnread (length input.old) t (D.meaning desk.old) (D.meaning desk.new)) }
+    ensures unread { IfErr result (AfterUnread (length input.old) t ahead.old
+        (D.meaning desk.old) (D.meaning desk.new)) }
+    // Where the packet is ahead as a whole, the desk stays as it is.
+    ensures whole { byte_count (length input.old) ≤ length ahead.old → desk.new ≡ desk.old }
     ensures cause { HasUnreadCause (D.counts desk.old) (D.counts desk.new) result }
     ensures places { length input.new ≡ length input.old }
 {
-    let moved = fill(desk, Inlet::Main, line)?;
-    if moved == 0 {
+    let size = byte_len(input.len()) as usize;
+    let whole = ahead.hold(desk, size)?;
+    if ahead.bytes().is_empty() {
         return Ok(None);
     }
     let Ok(t) = u32::try_from(t) else {
         return Err(Unread::Data(RecordFault::TooMany));
     };
-    if moved < line.len() {
+    if !whole {
         return Err(Unread::Data(RecordFault::CutRecord { t }));
     }
-    let Ok(()) = input.load(line) else {
+    let Ok(()) = input.load(&ahead.bytes()[..size]) else {
         return Err(Unread::Data(RecordFault::SpareBit { t }));
     };
+    ahead.pass(size);
     Ok(Some(t))
 }

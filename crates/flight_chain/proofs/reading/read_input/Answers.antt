@@ -1,72 +1,77 @@
-use Rattle.std.proofs.Common.{◌≡◌, ◌^◌, ◌<◌, ◌≤◌, length, take, refl, sym, subst, arith}
-use Rattle.std.proofs.lemmas.List.{length-take-le, take_all}
+use Rattle.std.proofs.Common.{◌≡◌, ◌^◌, ◌<◌, ◌≤◌, Ok, length, drop, refl, sym, ap, ◌∙◌, subst, arith, rules}
+use Rattle.std.proofs.lemmas.Bool.{false≢true}
 use Rattle.std.proofs.lemmas.Result.{err_from_is_err_and}
 use Rattle.bit_vectors.specs.Vectors.{byte_count}
-use Rattle.desk_ports.specs.Meanings.{Moves}
-use Rattle.desk_ports.specs.declared.desk.Inlet.TheVariants as inlet
-use Rattle.std.proofs.lemmas.Bool.{false≢true}
+use Rattle.desk_ports.specs.ReadAhead.{ReadsOn}
 use Rattle.flight_chain.specs.declared.fault.RecordFault.TheVariants.{CutRecord, SpareBit}
-use Rattle.flight_chain.specs.Reading.{Stops}
-use Rattle.flight_chain.proofs.Readings.{Takes-whole, Stops-too_many, Stops-cut, Stops-spare, Loses-short}
+use Rattle.flight_chain.specs.Reading.{Takes, Stops}
+use Rattle.flight_chain.proofs.Readings.{Takes-whole, Stops-too_many, Stops-cut, Stops-spare, Waits-short}
 use Rattle.flight_chain.proofs.reading.read_input.Goals as goal
 
-pub returns-in_err-moved-clause-unread : goal.returns-in_err-moved-clause-unread
-returns-in_err-moved-clause-unread g c =
+pub returns-in_err-whole-clause-unread : goal.returns-in_err-whole-clause-unread
+returns-in_err-whole-clause-unread g c =
     let a = g.D.Desk.meaning c.args.desk.now in
-    let b = g.D.Desk.meaning c.fill.new.desk in
-    let lost = c.in_err-moved.ensures.lost in
-    let short : length lost.0 < byte_count (length c.args.input.now) = omega (arith, lost.1, c.requires.line) in
+    let b = g.D.Desk.meaning c.hold.new.desk in
+    let f = length c.args.input.now in
+    let told = c.in_err-whole.ensures in
+    let size : c.byte_len-size.result ≡ byte_count f = c.byte_len-size.ensures ∙ ap byte_count c.len.ensures.len in
+    let short : length c.hold.new.self < byte_count f = omega (arith, told.cut, size) in
     let p = err_from_is_err_and c.from_residual.result c.from_residual.ensures.1 in
-    rw (p.1, p.2) (Loses-short (length c.args.input.now) c.args.t a b lost.0 c.requires.some c.requires.number short lost.2)
+    rw (p.1, p.2) (Waits-short f c.args.t c.args.ahead.now c.hold.new.self a b c.requires.vector.0 c.requires.number short told.read)
 
 pub returns-in_default-clause-unread : goal.returns-in_default-clause-unread
 returns-in_default-clause-unread g c =
     let a = g.D.Desk.meaning c.args.desk.now in
-    let b = g.D.Desk.meaning c.fill.new.desk in
-    let n = c.in_ok-moved.moved in
-    let line = c.fill.new.buf in
-    let within : n ≤ length line = omega (arith, c.in_ok-moved.ensures.within, c.fill.auto.buf) in
+    let b = g.D.Desk.meaning c.hold.new.desk in
     let full : c.args.t ≡ 2 ^ 32 = omega (arith, c.requires.number, c.in_default.ensures) in
-    let nonempty : 0 < length (take n line) = omega (arith, length-take-le n line within, c.if-moved-eq0.false) in
-    Stops-too_many (length c.args.input.now) c.args.t a b (take n line) c.requires.some full nonempty c.in_ok-moved.ensures.moved
+    let nonempty : 0 < length c.hold.new.self = search rules in
+    Stops-too_many (length c.args.input.now) c.args.t c.args.ahead.now c.hold.new.self a b c.requires.vector.0 full nonempty c.in_ok-whole.ensures.read
 
-pub returns-then-moved-line-clause-unread : goal.returns-then-moved-line-clause-unread
-returns-then-moved-line-clause-unread g c =
+pub returns-then-not-whole-clause-unread : goal.returns-then-not-whole-clause-unread
+returns-then-not-whole-clause-unread g c =
     let a = g.D.Desk.meaning c.args.desk.now in
-    let b = g.D.Desk.meaning c.fill.new.desk in
-    let n = c.in_ok-moved.moved in
-    let line = c.fill.new.buf in
+    let b = g.D.Desk.meaning c.hold.new.desk in
     let f = length c.args.input.now in
-    let within : n ≤ length line = omega (arith, c.in_ok-moved.ensures.within, c.fill.auto.buf) in
-    let same : length line ≡ byte_count f = omega (arith, c.fill.auto.buf, c.requires.line) in
-    let size = length-take-le n line within in
-    let nonempty : 0 < length (take n line) = omega (arith, size, c.if-moved-eq0.false) in
-    let short : length (take n line) < byte_count f = omega (arith, size, same, c.if-moved-line.true) in
-    let t_is = c.in-Ok.ensures.1 in
+    let before = c.args.ahead.now in
+    let told = c.in_ok-whole.ensures in
+    let not_whole = ap Ok c.if-not-whole.true in
+    let size : c.byte_len-size.result ≡ byte_count f = c.byte_len-size.ensures ∙ ap byte_count c.len.ensures.len in
+    let fewer = told.short not_whole in
+    let short : length c.hold.new.self < byte_count f = omega (arith, fewer, size) in
+    let nonempty : 0 < length c.hold.new.self = search rules in
     let few : c.args.t < 2 ^ 32 = omega (arith, c.in-Ok.ensures.0) in
-    let at_end = c.in_ok-moved.ensures.at_end (omega (arith, c.if-moved-line.true, c.fill.auto.buf)) in
-    subst (λ t. Stops f c.args.t a b (CutRecord t)) (sym t_is) (Stops-cut f c.args.t a b (take n line) c.requires.some few nonempty short c.in_ok-moved.ensures.moved at_end)
+    subst (λ t. Stops f c.args.t before a b (CutRecord t)) (sym c.in-Ok.ensures.1) (Stops-cut f c.args.t before c.hold.new.self a b c.requires.vector.0 few nonempty short told.read (told.at_end not_whole))
 
 pub returns-in_default-load-clause-unread : goal.returns-in_default-load-clause-unread
 returns-in_default-load-clause-unread g c =
     let a = g.D.Desk.meaning c.args.desk.now in
-    let b = g.D.Desk.meaning c.fill.new.desk in
-    let n = c.in_ok-moved.moved in
-    let line = c.fill.new.buf in
+    let b = g.D.Desk.meaning c.hold.new.desk in
     let f = length c.args.input.now in
-    let same : length line ≡ byte_count f = omega (arith, c.fill.auto.buf, c.requires.line) in
+    let n = c.byte_len-size.result in
+    let before = c.args.ahead.now in
+    let held = c.bytes-2.result.now in
+    let told = c.in_ok-whole.ensures in
+    let size : n ≡ byte_count f = c.byte_len-size.ensures ∙ ap byte_count c.len.ensures.len in
+    let enough = told.held (ap Ok c.if-not-whole.false) in
+    let long : n ≤ length held = omega (arith, enough, ap length c.bytes-2.ensures.ahead) in
     let few : c.args.t < 2 ^ 32 = omega (arith, c.in-Ok.ensures.0) in
-    let moves = subst (Moves a b inlet.Main) (take_all n line c.if-moved-line.false) c.in_ok-moved.ensures.moved in
-    subst (λ t. Stops f c.args.t a b (SpareBit t)) (sym c.in-Ok.ensures.1) (Stops-spare f c.args.t a b line c.requires.some few same (c.in_default-load.ensures.spare.0 refl) moves)
+    let read = subst (λ l. ReadsOn before l a b) (sym c.bytes-2.ensures.ahead) told.read in
+    subst (λ t. Stops f c.args.t before a b (SpareBit t)) (sym c.in-Ok.ensures.1) (Stops-spare f c.args.t n before held a b c.requires.vector.0 few size long (c.in_default-load.ensures.spare.0 refl) read)
 
 pub returns-clause-taken : goal.returns-clause-taken
 returns-clause-taken g c =
     let a = g.D.Desk.meaning c.args.desk.now in
-    let b = g.D.Desk.meaning c.fill.new.desk in
-    let n = c.in_ok-moved.moved in
-    let line = c.fill.new.buf in
+    let b = g.D.Desk.meaning c.hold.new.desk in
     let f = length c.args.input.now in
-    let same : length line ≡ byte_count f = omega (arith, c.fill.auto.buf, c.requires.line) in
+    let n = c.byte_len-size.result in
+    let before = c.args.ahead.now in
+    let held = c.bytes-2.result.now in
+    let told = c.in_ok-whole.ensures in
+    let size : n ≡ byte_count f = c.byte_len-size.ensures ∙ ap byte_count c.len.ensures.len in
+    let enough = told.held (ap Ok c.if-not-whole.false) in
+    let long : n ≤ length held = omega (arith, enough, ap length c.bytes-2.ensures.ahead) in
     let few : c.args.t < 2 ^ 32 = omega (arith, c.in-Ok.ensures.0) in
-    let moves = subst (Moves a b inlet.Main) (take_all n line c.if-moved-line.false) c.in_ok-moved.ensures.moved in
-    Takes-whole f c.args.t a b line c.load.new.self c.requires.some few same (λ one. false≢true (c.in-Ok-load.ensures.spare.1 one)) c.in-Ok-load.ensures.loaded c.in-Ok-load.ensures.len moves
+    let read = subst (λ l. ReadsOn before l a b) (sym c.bytes-2.ensures.ahead) told.read in
+    let loaded = c.in-Ok-load.ensures in
+    let left = ap (drop n) c.bytes-2.ensures.ahead ∙ sym c.pass.ensures in
+    subst (λ after. Takes f c.args.t before after a b c.load.new.self) left (Takes-whole f c.args.t n before held a b c.load.new.self c.requires.vector.0 few size long (λ one. false≢true (loaded.spare.1 one)) loaded.loaded loaded.len read)
