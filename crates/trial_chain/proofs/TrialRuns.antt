@@ -27,7 +27,7 @@ pub record IsTrial (packets f robust : ℕ) : Type 0 where
 
 -- the flight of a trial
 abbrev pub trial_flight : ℕ → ℕ → Compression
-trial_flight f robust = record { places = f; robust = robust; apid = 100; mask = replicate f false; rows = trial_plan }
+trial_flight f robust = record { places = f; robust = robust; apid = 100; mask = replicate f false; rows = record { flags = trial_plan; robust = [] } }
 
 walk-trial : (seed packets f robust : ℕ) → IsTrial packets f robust → recording_walk f (trial_recording seed packets f) ≡ record { inputs = trial_inputs seed packets f; rest = []; ending = None }
 walk-trial seed packets f robust trial =

@@ -1,6 +1,6 @@
 //! A trial: a generated history, through the three chains over a desk in memory.
 
-ghost use Rattle.std.specs.Prelude.{◌≡◌, ◌≤◌, false, replicate, All, IfOk, OnOk, OnErr};
+ghost use Rattle.std.specs.Prelude.{◌≡◌, ◌≤◌, false, [], replicate, All, IfOk, OnOk, OnErr};
 ghost use Rattle.desk_ports.specs.MemState.{empty_desk};
 ghost use Rattle.side_tables.specs.Rows.{IsCopyRow};
 ghost use Rattle.trial_chain.specs.Stages.{HoldsTrial};
@@ -84,7 +84,13 @@ fn flight(alloc: Global, f: u32, robust: u8) -> Result<Flight, NoMemory>
     requires most { f ≤ 4096 }
     requires robust { robust ≤ 7 }
     ensures { IfOk result (λ flight. flight
-        ≡ record { places = f; robust = robust; apid = 100; mask = replicate f false; rows = trial_plan }) }
+        ≡ record {
+          places = f;
+          robust = robust;
+          apid = 100;
+          mask = replicate f false;
+          rows = record { flags = trial_plan; robust = [] };
+        }) }
 {
     let none = Flags {
         p: false,
