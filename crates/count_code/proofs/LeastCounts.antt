@@ -1,11 +1,10 @@
 -- The least count completes the bits that any count does.
-use Rattle.std.proofs.Common.{◌≡◌, ℕ, zero, suc, ◌<◌, ◌≤◌, Bool, true, false, List, [], ◌∷◌, ◌++◌, length, refl, sym, ap, ◌∙◌, subst, append_assoc, append-nil, arith, inl, inr, ◌⊎◌}
-use Rattle.std.proofs.lemmas.List.{length-append}
+use Rattle.std.proofs.Common.{◌≡◌, ℕ, zero, suc, ◌≤◌, Bool, List, [], ◌∷◌, ◌++◌, refl, sym, ap, ◌∙◌, subst, append_assoc, append-nil, arith, inl, inr, ◌⊎◌}
 use Rattle.std.proofs.lemmas.Bool.{cases_lt}
 use Rattle.bit_vectors.specs.Reading.{Parsed, Read, WrongBit, TooShort, CanBegin}
 use Rattle.count_code.specs.declared.count.Count.{Count}
 use Rattle.count_code.specs.declared.count.Count.TheVariants.{Value, End}
-use Rattle.count_code.specs.Counts.{word_of, IsWithin, IsCodeOf, IsCode, IsBegunBy, IsLeastWithin, parse_count}
+use Rattle.count_code.specs.Counts.{IsCodeOf, IsCode, IsBegunBy, IsLeastWithin, parse_count}
 use Rattle.count_code.proofs.ExactCounts.{IsExact-count_at}
 
 -- ---- whether bits can begin a word within a limit

@@ -1,11 +1,11 @@
 -- The shortest ending of a run word: the end at once, or after one more count.
 use Rattle.std.proofs.Common.{◌≡◌, ◌≢◌, ℕ, zero, suc, ◌+◌, ◌-◌, ◌<◌, ◌≤◌, Bool, true, false, cond, List, [], ◌∷◌, ◌++◌, length, get_or, set, replicate, refl, sym, ap, ◌∙◌, append_assoc, arith, inl, inr}
 use Rattle.std.specs.Prelude.{count_by}
-use Rattle.std.proofs.lemmas.Bool.{cases_eq, cases_lt}
+use Rattle.std.proofs.lemmas.Bool.{cases_eq}
 use Rattle.std.proofs.lemmas.List.{length-set, length-append, length-replicate, get_or-set_same, get_or-set_other}
 use Rattle.bit_vectors.specs.Vectors.{NoneIsOne}
 use Rattle.count_code.specs.Code.{count_bits, end_bits}
-use Rattle.run_code.specs.Places.{places_down, places_up}
+use Rattle.run_code.specs.Places.{places_down}
 use Rattle.run_code.specs.Runs.{runs_from, counts_from, lowest_from, counts_of, lowest_of, run_bits}
 use Rattle.run_code.specs.Extraction.{IsInverseWord}
 use Rattle.run_code.proofs.Ones.{ones_below, one_or_zero, places_down_is, ones_below-none, length-ones_from}
