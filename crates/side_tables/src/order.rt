@@ -125,11 +125,17 @@ fn set_reaches(entries: &mut [OrderEntry]) -> u32
     reach
 }
 
+/// How many entries are looked at one after the other.
+const FEW: usize = 8;
+
 /// The first entry of an order, from a place on, that names the number.
 fn next_at(order: &[OrderEntry], start: usize, t: u32) -> Option<usize>
     requires { AreOrdered order.now }
     ensures { IsNextAt order.now start t result }
 {
+    if order.len() <= FEW {
+        return next_of_few(order, start, t);
+    }
     let middle = order.len() / 2;
     if start >= order.len() || t < order[0].span.first || order[middle].reach < t {
         return None;
@@ -143,4 +149,17 @@ fn next_at(order: &[OrderEntry], start: usize, t: u32) -> Option<usize>
     let from = middle + 1;
     let k = next_at(&order[from..], start.saturating_sub(from), t)?;
     Some(from + k)
+}
+
+/// The first of a few entries, from a place on, that names the number.
+fn next_of_few(order: &[OrderEntry], start: usize, t: u32) -> Option<usize>
+    requires { AreOrdered order.now }
+    ensures { IsNextAt order.now start t result }
+{
+    for k in start..order.len() {
+        if order[k].span.names(t) {
+            return Some(k);
+        }
+    }
+    None
 }
