@@ -1,5 +1,5 @@
 -- Where the report names a first wrong bit or an early end, the answer does; and what the answer then says of the data.
-use Rattle.std.proofs.Common.{◌≡◌, ℕ, ◌+◌, ◌-◌, ◌*◌, ◌^◌, ◌<◌, ◌≤◌, Bool, true, false, codes, List, [], ◌∷◌, ◌++◌, length, take, Option, Some, None, Result, Ok, Err, refl, sym, ap, ◌∙◌, subst, append_assoc, arith}
+use Rattle.std.proofs.Common.{◌≡◌, ℕ, ◌+◌, ◌^◌, ◌<◌, ◌≤◌, Bool, true, codes, List, [], ◌∷◌, ◌++◌, length, take, Option, Some, None, Result, Ok, Err, refl, sym, ap, ◌∙◌, subst, append_assoc, arith}
 use Rattle.std.specs.Fmt.{decimal}
 use Rattle.std.proofs.lemmas.Fmt.{decimal_injective}
 use Rattle.std.proofs.lemmas.List.{append_cancel_left, append_cancel_right, length-take-le}
@@ -197,8 +197,7 @@ module _ (f : ℕ) (some : 1 ≤ f) (most : f ≤ 49152) (before : List Arrival)
       let r = is_read f (known_after f before) known_has arrival.body (number_after (known_after f before).latest arrival.count) (Wrong bit) kind in
       let inside = r.exact.0.inside in
       let bits = bits_of arrival.body in
-      let length_is : length (take bit (bits_of arrival.body)) ≡ bit = length-take-le bit (bits_of arrival.body) (omega (arith, inside)) in
-      (
+      let length_is : length (take bit (bits_of arrival.body)) ≡ bit = length-take-le bit (bits_of arrival.body) (omega (arith, inside)) in (
         begun f some most before arrival.count r.t r.number_is (take bit (bits_of arrival.body)) (omega (arith, length_is, inside, length-bits_of arrival.body)) r.exact.1,
         λ d. r.exact.0.hopeless (viable_of f some most before arrival.count r.t r.number_is (take (bit + 1) (bits_of arrival.body)) d),
       )

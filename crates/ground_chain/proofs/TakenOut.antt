@@ -1,5 +1,5 @@
 -- A packet that is not written acts as a lost one: the run without it and its repeats writes the same.
-use Rattle.std.proofs.Common.{◌≡◌, ℕ, ◌+◌, ◌<◌, ◌≤◌, Bool, true, false, cond, List, [], ◌∷◌, ◌++◌, Option, Some, None, Ok, Err, refl, sym, ap, ◌∙◌, subst, arith}
+use Rattle.std.proofs.Common.{◌≡◌, ℕ, ◌+◌, ◌<◌, Bool, true, false, cond, List, [], ◌∷◌, ◌++◌, Option, Some, None, Ok, refl, sym, ap, ◌∙◌, arith}
 use Rattle.std.specs.Prelude.{All}
 use Rattle.std.specs.List.{flat_map}
 use Rattle.std.proofs.lemmas.Grind.{flat_map-append}
@@ -7,7 +7,6 @@ use Rattle.std.proofs.lemmas.List.Concat.{flat_map-cons}
 use Rattle.std.proofs.lemmas.List.Elements.{All-head, All-tail}
 use Rattle.bit_vectors.specs.Vectors.{bits_of}
 use Rattle.bit_vectors.specs.Reading.{Parsed, Read, WrongBit, TooShort}
-use Rattle.packet_decode.specs.declared.decoder.Reading.TheVariants as answer
 use Rattle.packet_decode.specs.State.{State}
 use Rattle.packet_decode.specs.PacketReading.{Outcome, Spelled, Opaque, Found, outcome_answer, parse_whole_packet, parsed_answer}
 use Rattle.packet_store.specs.SpacePackets.{period}
@@ -95,11 +94,10 @@ module _ {A : Type 0} (g : State → List A) where
       let here : number_after known.latest r.count ≡ None = ap (λ (n : Option ℕ). number_after n r.count) latest ∙ All-head (λ (r : Arrival). number_after (Some t) r.count ≡ None) r repeats all in
       let same : judge f known r ≡ judged_by f known r.body None = ap (judged_by f known r.body) here in
       let after : (judge f known r).after ≡ known = ap (λ (j : Judged). j.after) same in
-      let rest = repeated f t known repeats latest (All-tail (λ (r : Arrival). number_after (Some t) r.count ≡ None) r repeats all) in
-      (
+      let rest = repeated f t known repeats latest (All-tail (λ (r : Arrival). number_after (Some t) r.count ≡ None) r repeats all) in (
         flat_map-cons told (judge f known r) (run_from f (judge f known r).after repeats)
-        ∙ ap (λ (l : List A). l ++ flat_map told (run_from f (judge f known r).after repeats)) (ap told same)
-        ∙ ap (λ (k : Known). flat_map told (run_from f k repeats)) after ∙ rest.0,
+            ∙ ap (λ (l : List A). l ++ flat_map told (run_from f (judge f known r).after repeats)) (ap told same)
+            ∙ ap (λ (k : Known). flat_map told (run_from f k repeats)) after ∙ rest.0,
         ap (λ (k : Known). known_from f k repeats) after ∙ rest.1,
       )
 
@@ -120,11 +118,10 @@ module _ {A : Type 0} (g : State → List A) where
       let first_is : judge f (record { latest = Some t; state = known.state }) next ≡ judge_as f (record { latest = Some t; state = known.state }) next.body number = ap (judged_by f (record { latest = Some t; state = known.state }) next.body) there in
       let second_is : judge f known next ≡ judge_as f known next.body number = ap (judged_by f known next.body) here in
       let after : (judge f (record { latest = Some t; state = known.state }) next).after ≡ (judge f known next).after = ap (λ (j : Judged). j.after) first_is ∙ sym (ap (λ (j : Judged). j.after) second_is) in
-      let told_same : told (judge f (record { latest = Some t; state = known.state }) next) ≡ told (judge f known next) = ap told first_is ∙ sym (ap told second_is) in
-      (
+      let told_same : told (judge f (record { latest = Some t; state = known.state }) next) ≡ told (judge f known next) = ap told first_is ∙ sym (ap told second_is) in (
         flat_map-cons told (judge f (record { latest = Some t; state = known.state }) next) (run_from f (judge f (record { latest = Some t; state = known.state }) next).after more)
-        ∙ (λ i. told_same i ++ flat_map told (run_from f (after i) more))
-        ∙ sym (flat_map-cons told (judge f known next) (run_from f (judge f known next).after more)),
+            ∙ (λ i. told_same i ++ flat_map told (run_from f (after i) more))
+            ∙ sym (flat_map-cons told (judge f known next) (run_from f (judge f known next).after more)),
         ap (λ (k : Known). (known_from f k more).state) after,
       )
 
@@ -138,18 +135,17 @@ module _ {A : Type 0} (g : State → List A) where
       let l = left f known arrival.body (number_after known.latest arrival.count) unwritten in
       let latest : (judge f known arrival).after.latest ≡ Some (judge f known arrival).verdict.t = ap (λ (k : Known). k.latest) l.after in
       let r = repeated f (judge f known arrival).verdict.t (judge f known arrival).after repeats latest all in
-      let rest = follows f (judge f known arrival).verdict.t known after same in
-      (
+      let rest = follows f (judge f known arrival).verdict.t known after same in (
         flat_map-cons told (judge f known arrival) (run_from f (judge f known arrival).after (repeats ++ after))
-        ∙ ap (λ (l : List A). l ++ flat_map told (run_from f (judge f known arrival).after (repeats ++ after))) (none_told (judge f known arrival) (not_written (judge f known arrival).verdict.kind unwritten))
-        ∙ ap (λ (l : List Judged). flat_map told l) (run_from-append f (judge f known arrival).after repeats after)
-        ∙ flat_map-append told (run_from f (judge f known arrival).after repeats) (run_from f (known_from f (judge f known arrival).after repeats) after)
-        ∙ ap (λ (l : List A). l ++ flat_map told (run_from f (known_from f (judge f known arrival).after repeats) after)) r.0
-        ∙ ap (λ (k : Known). flat_map told (run_from f k after)) (r.1 ∙ l.after)
-        ∙ rest.0,
+            ∙ ap (λ (l : List A). l ++ flat_map told (run_from f (judge f known arrival).after (repeats ++ after))) (none_told (judge f known arrival) (not_written (judge f known arrival).verdict.kind unwritten))
+            ∙ ap (λ (l : List Judged). flat_map told l) (run_from-append f (judge f known arrival).after repeats after)
+            ∙ flat_map-append told (run_from f (judge f known arrival).after repeats) (run_from f (known_from f (judge f known arrival).after repeats) after)
+            ∙ ap (λ (l : List A). l ++ flat_map told (run_from f (known_from f (judge f known arrival).after repeats) after)) r.0
+            ∙ ap (λ (k : Known). flat_map told (run_from f k after)) (r.1 ∙ l.after)
+            ∙ rest.0,
         ap (λ (k : Known). k.state) (known_from-append f (judge f known arrival).after repeats after)
-        ∙ ap (λ (k : Known). (known_from f k after).state) (r.1 ∙ l.after)
-        ∙ rest.1,
+            ∙ ap (λ (k : Known). (known_from f k after).state) (r.1 ∙ l.after)
+            ∙ rest.1,
       )
 
   -- ---- by the definition
@@ -182,14 +178,13 @@ module _ {A : Type 0} (g : State → List A) where
       let none = (number_after-repeat (judge f (known_after f before) arrival).verdict.t arrival.count few).1 (own_count (known_after f before).latest arrival.count (judge f (known_after f before) arrival).verdict.t few l.is) in
       let later = all_right repeats after (later_arrivals arrival (repeats ++ after) these) in
       let same = near_same (known_after f before).latest arrival.count (judge f (known_after f before) arrival).verdict.t after few later l.is can.near in
-      let out = taken_out f (known_after f before) arrival repeats after can.unwritten (are_repeats (judge f (known_after f before) arrival).verdict.t arrival.count repeats none can.repeated) same in
-      (
+      let out = taken_out f (known_after f before) arrival repeats after can.unwritten (are_repeats (judge f (known_after f before) arrival).verdict.t arrival.count repeats none can.repeated) same in (
         ap (λ (l : List Judged). flat_map told l) (run_from-append f nothing_known before (arrival ∷ (repeats ++ after)))
-        ∙ flat_map-append told (run f before) (run_from f (known_after f before) (arrival ∷ (repeats ++ after)))
-        ∙ ap (λ (l : List A). flat_map told (run f before) ++ l) out.0
-        ∙ sym (flat_map-append told (run f before) (run_from f (known_after f before) after))
-        ∙ sym (ap (λ (l : List Judged). flat_map told l) (run_from-append f nothing_known before after)),
+            ∙ flat_map-append told (run f before) (run_from f (known_after f before) (arrival ∷ (repeats ++ after)))
+            ∙ ap (λ (l : List A). flat_map told (run f before) ++ l) out.0
+            ∙ sym (flat_map-append told (run f before) (run_from f (known_after f before) after))
+            ∙ sym (ap (λ (l : List Judged). flat_map told l) (run_from-append f nothing_known before after)),
         ap (λ (k : Known). k.state) (known_from-append f nothing_known before (arrival ∷ (repeats ++ after)))
-        ∙ out.1
-        ∙ sym (ap (λ (k : Known). k.state) (known_from-append f nothing_known before after)),
+            ∙ out.1
+            ∙ sym (ap (λ (k : Known). k.state) (known_from-append f nothing_known before after)),
       )

@@ -31,7 +31,9 @@ pub use laws::{
     sound_runs_agree, whole_stores_owe_their_run, worked_runs,
 };
 pub use lister::Lister;
-pub use refusals::{commands_follow_the_exact_run, refused_means_lost, worked_refusals, wrong_bits_are_the_first};
+pub use refusals::{
+    commands_follow_the_exact_run, refused_means_lost, worked_refusals, wrong_bits_are_the_first,
+};
 pub use restored::Restored;
 pub use restorer::Restorer;
 pub use unwrap::Unwrap;

@@ -1,18 +1,18 @@
 -- Reading the parts after the first is exact, by a deduced mask or none and a known content or none.
 use Rattle.std.proofs.Common.{◌≡◌, ℕ, Bool, true, false, cond, List, [], ◌∷◌, ◌++◌, length, get_or, replicate, Option, Some, None, refl, sym, ap, ◌∙◌, subst, inl, inr}
-use Rattle.std.specs.Prelude.{IfSome, ◌||◌}
+use Rattle.std.specs.Prelude.{◌||◌}
 use Rattle.std.proofs.lemmas.Bool.{true≢false}
 use Rattle.std.proofs.lemmas.List.{length-replicate}
 use Rattle.std.proofs.lemmas.Simd.{length-zip2}
 use Rattle.bit_vectors.specs.Vectors.{or_bits}
 use Rattle.bit_vectors.specs.Reading.{parse_front, parse_word, IsExact}
-use Rattle.bit_vectors.proofs.ExactReading.{IsWordThen, IsExact-give, IsExact-same, IsExact-then}
+use Rattle.bit_vectors.proofs.ExactReading.{IsExact-give, IsExact-same, IsExact-then}
 use Rattle.bit_vectors.proofs.SameWord.{IsExact-same_at}
 use Rattle.bit_vectors.proofs.FrontReading.{IsFront, IsExact-front_at}
 use Rattle.count_code.specs.Code.{count_bits}
 use Rattle.run_code.specs.Places.{places_down}
 use Rattle.run_code.specs.Edges.{edges}
-use Rattle.run_code.specs.Extraction.{extract, SameOutside, parse_filled}
+use Rattle.run_code.specs.Extraction.{extract, parse_filled}
 use Rattle.run_code.specs.Runs.{run_bits, IsRunWordOf, parse_vector}
 use Rattle.run_code.proofs.ExactRuns.{IsExact-vector_at}
 use Rattle.run_code.proofs.Filling.{IsFilling, IsExact-filled_at}
@@ -20,7 +20,7 @@ use Rattle.run_code.proofs.Ones.{one_or_zero, places_down_apart, in_places_down,
 use Rattle.packet_encode.specs.Forms.{Directions, wide_by}
 use Rattle.packet_decode.specs.State.{Change}
 use Rattle.packet_decode.specs.PacketReading.{Outcome, Spelled, Opaque, parse_kept, from_edges, parse_mask, parse_whole, parse_whole_with, parse_part_with, parse_content, parse_unsent, parse_maskless, parse_masked, parse_sent, parse_data}
-use Rattle.packet_decode.specs.PartWords.{AllPlaces, places_of, AgreesWith, IsBitThen, NoWord, IsMaskWord, IsWhole, IsPart, IsContent, IsNothing, IsUnsent, IsMaskless, IsMasked, IsSent, IsData}
+use Rattle.packet_decode.specs.PartWords.{AllPlaces, places_of, AgreesWith, IsMaskWord, IsWhole, IsPart, IsContent, IsUnsent, IsMaskless, IsMasked, IsSent, IsData}
 use Rattle.packet_decode.proofs.EdgeMasks.{edges-from_edges, length-from_edges, length_edges, from_edges-edges}
 use Rattle.packet_decode.proofs.Readers.{HasWord, IsImage, IsExact-map, IsExact-bit, IsExact-one, IsAfter, IsExact-after}
 use Rattle.packet_decode.proofs.KeptContent.{IsKept, IsExact-kept_at}

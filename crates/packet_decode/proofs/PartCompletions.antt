@@ -1,15 +1,15 @@
 -- The first part by its forms, and what is sent as a word of the other parts.
-use Rattle.std.proofs.Common.{◌≡◌, ℕ, Bool, List, [], length, Option, Some, None, refl, sym, ap, ◌∙◌, subst}
+use Rattle.std.proofs.Common.{◌≡◌, ℕ, Bool, List, [], length, Option, Some, None, refl, sym, ◌∙◌, subst}
 use Rattle.std.specs.Prelude.{IfSome}
 use Rattle.bit_vectors.specs.Reading.{IsExact}
 use Rattle.bit_vectors.proofs.ExactReading.{IsExact-same}
-use Rattle.packet_encode.specs.Forms.{Content, Part, change_bits}
+use Rattle.packet_encode.specs.Forms.{Content, Part}
 use Rattle.packet_encode.specs.Forms.{data_bits}
-use Rattle.packet_decode.specs.State.{Change, change_of}
+use Rattle.packet_decode.specs.State.{Change}
 use Rattle.packet_decode.specs.Spelling.{IsSentOf}
 use Rattle.packet_decode.specs.PacketReading.{Spelled, parse_change}
 use Rattle.packet_decode.specs.PartWords.{AgreesWith, IsData, IsFirstWord, places_of}
-use Rattle.packet_decode.proofs.ExactChange.{IsChange, IsChangeWord, IsExact-change_at, change_bits_are, change_word}
+use Rattle.packet_decode.proofs.ExactChange.{IsChangeWord, IsExact-change_at, change_bits_are}
 use Rattle.packet_decode.proofs.SpelledWords.{data_of, is_change, is_form}
 
 first_joined : (f : ℕ) (change : Change) (word : List Bool) → IsChangeWord f change word → IsFirstWord f change word

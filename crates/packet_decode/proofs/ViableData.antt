@@ -1,5 +1,5 @@
 -- Bits that are viable are the first of some data, and no others are.
-use Rattle.std.proofs.Common.{◌≡◌, ℕ, ◌+◌, ◌-◌, ◌*◌, ◌≤◌, Bool, true, false, List, [], ◌∷◌, ◌++◌, length, replicate, Option, Some, None, Ok, refl, sym, ap, ◌∙◌, subst, append_assoc, arith, inl, inr, ◌⊎◌}
+use Rattle.std.proofs.Common.{◌≡◌, ℕ, ◌+◌, ◌-◌, ◌*◌, ◌≤◌, Bool, true, false, List, [], ◌∷◌, ◌++◌, length, replicate, Option, Some, None, refl, sym, ap, ◌∙◌, subst, append_assoc, arith, inl, inr, ◌⊎◌}
 use Rattle.std.specs.Prelude.{IfSome}
 use Rattle.std.proofs.lemmas.Bool.{cases_lt}
 use Rattle.std.proofs.lemmas.List.{length-append, append-nil}
@@ -8,7 +8,7 @@ use Rattle.bit_vectors.proofs.ByteBits.{length-vector_bytes, AreBytes-vector_byt
 use Rattle.bit_vectors.proofs.ExactReading.{cut_longer}
 use Rattle.run_code.specs.Edges.{edges}
 use Rattle.run_code.specs.Runs.{run_bits}
-use Rattle.packet_encode.specs.Forms.{Content, Whole, Part, Form, HasPlaces, FitsPlaces, IsForm, change_bits, data_bits, form_bits, wide}
+use Rattle.packet_encode.specs.Forms.{Content, Whole, Part, Form, HasPlaces, FitsPlaces, change_bits, form_bits, wide}
 use Rattle.packet_encode.proofs.Bounds.{HasMost, change_bits-most, data_bits-most, form_bits-most, ones_most}
 use Rattle.packet_decode.specs.declared.decoder.Reading.{Reading}
 use Rattle.packet_decode.specs.declared.decoder.Reading.TheVariants.{Written, Unsynced, Gap}
@@ -16,7 +16,6 @@ use Rattle.packet_decode.specs.State.{State, IsState, change_of}
 use Rattle.packet_decode.specs.Spelling.{Spells, opaque_end, HasOpaqueFront}
 use Rattle.packet_decode.specs.Answers.{SpellsPacket, IsOpaque, Viable, Says, BeginReadable}
 use Rattle.packet_decode.proofs.ExactData.{length-places_of}
-use Rattle.packet_decode.proofs.ExactAnswers.{Means}
 
 -- ---- how many bits a packet has, and a front
 

@@ -1,4 +1,5 @@
-//! Packets of 8 places, with their data and answers worked out by hand.
+//! Packets of 8 places, with their data and answers worked out by hand, and by a script outside that asks which forms
+//! and fronts begin with the bits.
 
 use crate::{Decoder, Reading};
 use bit_vectors::{BitFault, Bits};
@@ -101,11 +102,27 @@ const FRONTS: Run<'static> = Run {
     level: 1,
 };
 
-/// A place that became predictable and is extracted again: padding with a one, a byte after the packet, and
-/// every front of it.
+/// Every front of each packet of a recording `00 01 01 01 01 01` with a new mask at 3 and 5. In the last one a place
+/// became predictable and is extracted again: its padding with a one, and a byte after it, are wrong.
 const DIRECTIONS: Run<'static> = Run {
     packets: &[
-        (4, &[0x81, 0x2E, 0x30, 0x08], Written),
+        (0, &[], Early(0)),
+        (0, &[0x85], Early(8)),
+        (0, &[0x85, 0xB8], Early(16)),
+        (0, &[0x85, 0xB8, 0xC0], Early(24)),
+        (0, &[0x85, 0xB8, 0xC0, 0x00], Written),
+        (1, &[], Early(0)),
+        (1, &[0x42], Early(8)),
+        (1, &[0x42, 0x4B], Early(16)),
+        (1, &[0x42, 0x4B, 0x8C], Early(24)),
+        (1, &[0x42, 0x4B, 0x8C, 0x02], Written),
+        (2, &[], Early(0)),
+        (2, &[0x44], Early(8)),
+        (2, &[0x44, 0xC0], Written),
+        (3, &[], Early(0)),
+        (3, &[0x87], Written),
+        (4, &[], Early(0)),
+        (4, &[0x8B], Written),
         (5, &[0x47, 0xF8], Wrong(12)),
         (5, &[0x47, 0xF0, 0x00], Wrong(16)),
         (5, &[], Early(0)),
@@ -119,10 +136,12 @@ const DIRECTIONS: Run<'static> = Run {
     level: 3,
 };
 
-/// After two lost packets: two that can't be understood, and every front of one that stands alone.
+/// A recording `00 01 03 03 03 03 03`, which begins with the same packets; 2 and 3 are lost. Every front of two that
+/// can't be understood, and of one that stands alone.
 const ALONE: Run<'static> = Run {
     packets: &[
-        (1, &[0x81, 0x2E, 0x30, 0x08], Written),
+        (0, &[0x85, 0xB8, 0xC0, 0x00], Written),
+        (1, &[0x42, 0x4B, 0x8C, 0x02], Written),
         (4, &[], Early(0)),
         (4, &[0x87], Gap(1)),
         (4, &[0x87, 0x80], Gap(1)),

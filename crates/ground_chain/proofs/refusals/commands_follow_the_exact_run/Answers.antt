@@ -1,4 +1,4 @@
-use Rattle.std.proofs.Common.{◌≡◌, ap, ◌∙◌, sym, subst, List}
+use Rattle.std.proofs.Common.{ap, ◌∙◌, sym, subst, List}
 use Rattle.desk_ports.specs.Courses.{to_output}
 use Rattle.packet_decode.specs.Answers.{IsExactAnswer}
 use Rattle.packet_store.specs.Walks.{walk}
@@ -7,7 +7,7 @@ use Rattle.ground_chain.specs.Numbers.{number_after}
 use Rattle.ground_chain.specs.Report.{run_bytes, run_report}
 use Rattle.ground_chain.specs.Listing.{listing_course, run_listing}
 use Rattle.ground_chain.specs.Restoring.{arrivals_of}
-use Rattle.ground_chain.specs.Run.{Judged, nothing_known, judge, run_from}
+use Rattle.ground_chain.specs.Run.{Judged, nothing_known}
 use Rattle.ground_chain.specs.Sound.{AreJudged, IsJudged}
 use Rattle.ground_chain.proofs.DeliveredRuns.{owed-whole}
 use Rattle.ground_chain.proofs.Sound.{AreJudged-run, AreJudged-only, judged_exact, judged_only}

@@ -1,4 +1,4 @@
-use Rattle.std.proofs.Common.{List, [], ◌∷◌}
+use Rattle.std.proofs.Common.{[], ◌∷◌}
 use Rattle.packet_decode.specs.State.{State}
 use Rattle.ground_chain.specs.Report.{content_bytes}
 use Rattle.ground_chain.proofs.TakenOut.{without}
