@@ -1,15 +1,18 @@
 -- What the commands hand on to one another.
 use Rattle.std.proofs.Common.{◌≡◌, ℕ, ◌^◌, ◌<◌, ◌≤◌, List, [], length, All, sym, ap, ◌∙◌, subst, append-nil, arith}
+use Rattle.std.specs.Prelude.{IfSome, None, Option, Some, unwrap_or}
 use Rattle.desk_ports.specs.Courses.{Outputs, by_ending, no_outputs, owed, to_output, to_report}
 use Rattle.mask_update.specs.Histories.{History, IsValid}
 use Rattle.mask_update.proofs.HistoriesOf.{IsValid-history_of}
-use Rattle.side_tables.specs.Grammar.{copy_rows_of, flag_rows_of}
-use Rattle.side_tables.specs.Rows.{copies_of, flags_of}
+use Rattle.side_tables.specs.Grammar.{copy_rows_of, schedule_rows_of}
+use Rattle.side_tables.specs.Rows.{copies_of, flags_of, robust_of}
+use Rattle.side_tables.specs.Texts.{records_of}
+use Rattle.side_tables.proofs.RowBounds.{robust_of-most}
 use Rattle.packet_encode.specs.Deliveries.{arrivals}
 use Rattle.packet_store.specs.Walks.{Walk}
 use Rattle.flight_chain.specs.Recordings.{recording_walk}
 use Rattle.flight_chain.specs.Stores.{store_of}
-use Rattle.flight_chain.specs.Compressing.{compress_course}
+use Rattle.flight_chain.specs.Compressing.{compress_course, required_robustness}
 use Rattle.flight_chain.proofs.Recordings.{IsWalk-recording}
 use Rattle.loss_player.specs.Gaps.{AreGapsShort}
 use Rattle.loss_player.specs.Played.{played_bytes, played_of, store_numbers}
@@ -25,13 +28,17 @@ use Rattle.pocket_cmd.specs.Faults.{of_recording, of_store}
 use Rattle.pocket_cmd.specs.Delivery.{IsWhole, recorded_history}
 use Rattle.pocket_cmd.proofs.Faults.{owed-with_fault}
 
+required_most : (o : Option ℕ) (robust : ℕ) → IfSome o (λ given. given ≤ 7) → robust ≤ 7 → unwrap_or o robust ≤ 7
+required_most None robust most least = least
+required_most (Some given) robust most least = most
+
 -- the history of a recording is valid
 pub IsValid-recorded : (c : CompressValues) (text recording : List ℕ) → AreRight c → All (λ b. b < 256) recording → IsValid (recorded_history c text recording)
 IsValid-recorded c text recording right bytes =
     let (least, most) = right.bits in
     let w = IsWalk-recording (length recording) c.bits 0 recording (omega arith) least (omega arith) bytes in
-    IsValid-history_of (recording_walk c.bits recording).inputs (flags_of (flag_rows_of text)) (λ _. c.robust) c.bits c.mask
-    (omega (arith, right.mask, least), omega (arith, right.mask, most)) right.mask (let few = w.few in omega (arith, few)) w.places (λ t. right.robust)
+    IsValid-history_of (recording_walk c.bits recording).inputs (flags_of (schedule_rows_of text).flags) (required_robustness (schedule_rows_of text).robust c.robust) c.bits c.mask
+    (omega (arith, right.mask, least), omega (arith, right.mask, most)) right.mask (let few = w.few in omega (arith, few)) w.places (λ t. required_most (robust_of (schedule_rows_of text).robust t) c.robust (robust_of-most (records_of text) t) right.robust)
 
 -- what a whole recording owes is the store of its history
 pub owed-recorded : (c : CompressValues) (text recording : List ℕ) → IsWhole (Compress c) recording

@@ -2,7 +2,7 @@
 use Rattle.std.specs.Prelude.{ℕ, List, Option, None}
 use Rattle.std.specs.Option.{option_map}
 use Rattle.desk_ports.specs.Courses.{Course}
-use Rattle.side_tables.specs.Grammar.{flag_rows_of, copy_rows_of, bad_flag_row, bad_copy_row}
+use Rattle.side_tables.specs.Grammar.{schedule_rows_of, copy_rows_of, bad_schedule_row, bad_copy_row}
 use Rattle.side_tables.specs.Rows.{copies_of}
 use Rattle.flight_chain.specs.Compressing.{Compression, compress_course}
 use Rattle.loss_player.specs.Playing.{play_course}
@@ -17,7 +17,7 @@ with_fault name course = record { before = course.before; after = course.after; 
 
 -- what `compress` is told, where its schedule has this text
 abbrev pub compression_by : CompressValues → List ℕ → Compression
-compression_by c text = record { places = c.bits; robust = c.robust; apid = c.apid; mask = c.mask; rows = flag_rows_of text }
+compression_by c text = record { places = c.bits; robust = c.robust; apid = c.apid; mask = c.mask; rows = schedule_rows_of text }
 
 -- what a command owes, by the text of its side input, for an input
 abbrev pub course_of : Command → List ℕ → List ℕ → Course DataFault
@@ -28,7 +28,7 @@ course_of (Show s) text input = with_fault of_store (listing_course s.bits s.api
 
 -- the number of the first record of a side text that is no row
 abbrev pub bad_row_of : Command → List ℕ → Option ℕ
-bad_row_of (Compress c) text = bad_flag_row text
+bad_row_of (Compress c) text = bad_schedule_row text
 bad_row_of (Play p) text = bad_copy_row text
 bad_row_of (Restore r) text = None
 bad_row_of (Show s) text = None

@@ -5,7 +5,7 @@ use Rattle.desk_ports.specs.declared.desk.Outlet.TheVariants as outlet
 use Rattle.desk_ports.specs.Courses.{Outputs}
 use Rattle.desk_ports.specs.Meanings.{Meanings, made}
 use Rattle.mask_update.specs.Histories.{History, IsValid}
-use Rattle.side_tables.specs.Grammar.{bad_copy_row, bad_flag_row}
+use Rattle.side_tables.specs.Grammar.{bad_copy_row, bad_schedule_row}
 use Rattle.packet_store.specs.Walks.{walk}
 use Rattle.flight_chain.specs.Recordings.{recording_walk}
 use Rattle.flight_chain.specs.Stores.{store_of}
@@ -23,7 +23,7 @@ pub record HasWritten (names : Names) (all : Outputs) (m : Meanings) : Type 0 wh
 
 -- a side text is within its limit, and each of its records is a row
 abbrev pub IsSideRight : Command → List ℕ → Type 0
-IsSideRight (Compress c) text = (length text ≤ 1048576) × (bad_flag_row text ≡ None)
+IsSideRight (Compress c) text = (length text ≤ 1048576) × (bad_schedule_row text ≡ None)
 IsSideRight (Play p) text = (length text ≤ 1048576) × (bad_copy_row text ≡ None)
 IsSideRight (Restore r) text = text ≡ []
 IsSideRight (Show s) text = text ≡ []

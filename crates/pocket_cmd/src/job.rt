@@ -2,7 +2,7 @@
 ghost use Rattle.std.specs.Prelude.{◌≡◌, ◌≢◌, ◌≤◌, ℕ, Some, Err, length, IsTrue, is_some, IfOk, OnOk};
 ghost use Rattle.desk_ports.specs.Courses.{AfterRun};
 ghost use Rattle.desk_ports.specs.Meanings.{IsReadyIn, IsReadyOut};
-ghost use Rattle.side_tables.specs.Grammar.{bad_copy_row, bad_flag_row, copy_rows_of};
+ghost use Rattle.side_tables.specs.Grammar.{bad_copy_row, bad_schedule_row, copy_rows_of};
 ghost use Rattle.pocket_cmd.specs.Command.{names_of, view_command, view_compress};
 ghost use Rattle.pocket_cmd.specs.Courses.{course_of, bad_row_of, compression_by};
 ghost use Rattle.pocket_cmd.specs.Jobs.{job_course, writes_report};
@@ -88,8 +88,9 @@ fn flight(alloc: Global, told: &CompressValues<'_>, text: &[u8]) -> Result<Fligh
     requires { length text.now ≤ 1048576 }
     ensures flight { IfOk result
         (λ flight. flight ≡ compression_by (view_compress told.now) text.now) }
-    ensures rows { OnOk result (bad_flag_row text.now ≡ None) }
-    ensures row { (row : ℕ) → result ≡ Err (SideFault.Row row) → bad_flag_row text.now ≡ Some row }
+    ensures rows { OnOk result (bad_schedule_row text.now ≡ None) }
+    ensures row { (row : ℕ) → result ≡ Err (SideFault.Row row)
+        → bad_schedule_row text.now ≡ Some row }
     ensures within { result ≢ Err SideFault.TooLong }
 {
     let plan = Schedule::read(alloc, text)?;

@@ -22,7 +22,7 @@ const EIGHT_BITS_CHANGES_ONCE: &str = "compress in=a out=b bits=8 apid=100 robus
 
 const THIRTEEN_BITS: &str = "compress in=a out=b bits=13 apid=100 robust=0";
 
-static ROWS: [Row; 17] = [
+static ROWS: [Row; 20] = [
     Row {
         words: EIGHT_BITS,
         plan: "",
@@ -80,6 +80,36 @@ static ROWS: [Row; 17] = [
         store: "00 64 C0 00 00 03 85 B8 C0 00 00 64 C0 01 00 03 42 4B 8C 02 00 64 C0 02 00 01 22 70 \
             00 64 C0 03 00 02 C0 85 C0 00 64 C0 04 00 01 87 80 00 64 C0 05 00 01 8B 80 \
             00 64 C0 06 00 04 8D 60 5C 60 30",
+    },
+    // Two packets require more than the others, the first of which is forced by it.
+    Row {
+        words: "compress in=a out=b bits=8 apid=100 robust=0 plan=s",
+        plan: "robust,2,3,1,2",
+        recording: "00 01 03 03",
+        refusal: None,
+        store: "00 64 C0 00 00 03 81 B8 C0 00 00 64 C0 01 00 01 42 C0 \
+            00 64 C0 02 00 04 22 2C 0B 8C 06 00 64 C0 03 00 01 23 70",
+    },
+    // Each packet is forced by its own value: those that require less than their number are not, a later one is.
+    Row {
+        words: "compress in=a out=b bits=8 apid=100 robust=2 plan=s",
+        plan: "robust,0,2,1,0\nrobust,5,5,1,6",
+        recording: "00 01 03 03 03 07 07",
+        refusal: None,
+        store: "00 64 C0 00 00 03 81 B8 C0 00 00 64 C0 01 00 01 42 C0 00 64 C0 02 00 02 C0 83 80 \
+            00 64 C0 03 00 01 23 70 00 64 C0 04 00 02 C0 89 C0 00 64 C0 05 00 04 13 16 0D C6 07 \
+            00 64 C0 06 00 02 C1 8D E0",
+    },
+    // Rows of both kinds over the same packets: flags are joined, and of the robustness the last row decides.
+    Row {
+        words: EIGHT_BITS_BY_PLAN,
+        plan: "0,9,1,f\nrobust,2,9,1,3\n4,5,1,p\nrobust,4,6,2,0\n5,5,1,r",
+        recording: "00 01 01 03 03 03 03 03",
+        refusal: None,
+        store: "00 64 C0 00 00 03 85 B8 C0 00 00 64 C0 01 00 03 42 4B 8C 02 \
+            00 64 C0 02 00 03 46 4B 8C 02 00 64 C0 03 00 04 23 2C 0B 8C 06 \
+            00 64 C0 04 00 02 81 60 4C 00 64 C0 05 00 04 23 F6 E3 01 80 \
+            00 64 C0 06 00 01 81 80 00 64 C0 07 00 02 23 F6 60",
     },
     Row {
         words: "compress in=a out=b bits=1 apid=100 robust=0",

@@ -19,7 +19,7 @@ const ONE_LOST: Chain<'static> = Chain {
     report: "2,2,lost,0\nend,3,3,0\n",
 };
 
-static CHAINS: [Chain<'static>; 11] = [
+static CHAINS: [Chain<'static>; 14] = [
     Chain {
         recording: &[],
         flight: "bits=8 robust=1",
@@ -52,6 +52,38 @@ static CHAINS: [Chain<'static>; 11] = [
         played: "4,4,0,32,0,1\n",
         restored: RECORDING,
         report: "end,36,4,32\n",
+    },
+    // Two lost packets: the level of the next doesn't reach over them, but where it requires more it does.
+    Chain {
+        recording: &[0x00, 0x01, 0x03, 0x03],
+        flight: "bits=8 robust=0",
+        ground: "bits=8",
+        plan: "",
+        script: "drop,1,2,1",
+        played: "4,2,2,0,0,3\n",
+        restored: &[0x00],
+        report: "1,2,lost,0\n3,3,gap,0\nend,2,1,0\n",
+    },
+    Chain {
+        recording: &[0x00, 0x01, 0x03, 0x03],
+        flight: "bits=8 robust=0",
+        ground: "bits=8",
+        plan: "robust,2,3,1,2",
+        script: "drop,1,2,1",
+        played: "4,2,2,0,0,3\n",
+        restored: &[0x00, 0x03],
+        report: "1,2,lost,0\nend,2,2,0\n",
+    },
+    // Rows of both kinds over the same packets.
+    Chain {
+        recording: &[0x00, 0x01, 0x01, 0x03, 0x03, 0x03, 0x03, 0x03],
+        flight: "bits=8 robust=1",
+        ground: "bits=8",
+        plan: "0,9,1,f\nrobust,2,9,1,3\n4,5,1,p\nrobust,4,6,2,0\n5,5,1,r",
+        script: "drop,3,4,1",
+        played: "8,6,2,0,0,3\n",
+        restored: &[0x00, 0x01, 0x01, 0x03, 0x03, 0x03],
+        report: "3,4,lost,0\nend,6,6,0\n",
     },
     // A mask is cleared: behind no loss, behind three lost packets, which its level reaches over, and behind four.
     Chain {

@@ -25,7 +25,7 @@ const STEADY: &str =
     00 64 C0 03 00 00 87 00 64 C0 04 00 00 8B 00 64 C0 05 00 00 8F";
 
 /// Schedules, and the store that each makes.
-static SCHEDULES: [(&str, &str); 8] = [
+static SCHEDULES: [(&str, &str); 10] = [
     ("", STEADY),
     // The first two carry mask and content whatever a schedule says, and have no new mask.
     ("0,1,1,prf\r\n\r\n6,4294967295,4294967295,p", STEADY),
@@ -36,10 +36,13 @@ static SCHEDULES: [(&str, &str); 8] = [
     // An open quote runs to the end, and text behind a closing one is kept.
     ("3,5,2,\"p", RENEWED),
     ("3,\"\"5,2,p", RENEWED),
+    // What the rows require is what is required without them.
+    ("robust,0,9,1,7\r\n\"robust\",0,4294967295,1,\"1\"", STEADY),
+    ("robust,0,9,1,1\n3,5,2,p", RENEWED),
 ];
 
 /// Schedules, and the first row of each that is wrong.
-static WRONG_SCHEDULES: [(&str, u32); 16] = [
+static WRONG_SCHEDULES: [(&str, u32); 23] = [
     ("1,5,0,p", 1),
     ("0,9,1,f\n5,9,1,pp", 2),
     ("\n\n1,5,0,p", 1),
@@ -56,6 +59,13 @@ static WRONG_SCHEDULES: [(&str, u32); 16] = [
     ("3,4294967296,2,p", 1),
     ("\"3,5,2,p\n3,5,2,p\n", 1),
     ("3,5,2,p\r\n3,5,2,p\r\n\r\n3,5,0,p\r\n5,3,1,p\r\n", 3),
+    ("robust,0,9,1,8", 1),
+    ("robust,0,9,1", 1),
+    ("robust,0,9,1,1,1", 1),
+    ("robust,9,8,1,1", 1),
+    ("robust,0,9,0,1", 1),
+    ("0,9,1,p\nRobust,0,9,1,1", 2),
+    ("robust,0,9,1,1\n0,9,1,p\nrobust,0,9,1,-1", 3),
 ];
 
 /// Scripts that drop the third of four packets.
