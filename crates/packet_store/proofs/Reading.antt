@@ -1,8 +1,7 @@
 -- A packet that is read, or is not: what stands at the front of what is ahead then, and how the walk goes on there.
-use Rattle.std.proofs.Common.{◌≡◌, ◌≢◌, refl, [], ◌∷◌, Bool, true, false, ◌==◌, nat_le, ℕ, ◌+◌, ◌^◌, ◌<◌, ◌≤◌, List, ◌++◌, length, take, drop, Option, IfSome, sym, ap, subst, ◌∙◌, append_assoc, append-nil, length-append, length-drop, arith, inl, inr}
+use Rattle.std.proofs.Common.{◌≡◌, refl, [], ◌∷◌, true, ◌==◌, nat_le, ℕ, ◌+◌, ◌^◌, ◌<◌, ◌≤◌, List, ◌++◌, length, take, drop, Option, IfSome, sym, ap, subst, ◌∙◌, append_assoc, append-nil, length-append, length-drop, arith, inl, inr}
 use Rattle.std.proofs.lemmas.Bool.{cases_lt}
 use Rattle.std.proofs.lemmas.List.{take-append-drop, take-append-le, take-take}
-use Rattle.std.proofs.lemmas.Grind.{common_steps}
 use Rattle.std.specs.Io.KnownBytes.{IsAtEnd}
 use Rattle.desk_ports.specs.declared.desk.Inlet.TheVariants as inlet
 use Rattle.desk_ports.specs.Meanings.{Meanings, Moves, left}
@@ -17,8 +16,8 @@ use Rattle.packet_store.specs.declared.fault.StoreFault.{StoreFault}
 use Rattle.packet_store.specs.declared.fault.StoreFault.TheVariants.{Cut, Version, Shape, ReadFault, TooMany}
 use Rattle.packet_store.specs.declared.reader.Taken.{Taken}
 use Rattle.packet_store.specs.SpacePackets.{IsHeader, header_of, packet_bytes, is_chosen, is_misshapen}
-use Rattle.packet_store.specs.Walks.{IsGood, Front, End, Good, Bad, by_checks, front_after, front, Walk, behind_packet, stopped_at, walk_from}
-use Rattle.packet_store.specs.StoreReader.{ReaderState, state_of, walk_on, Takes, Stops, IsOnlyCut, Waits, AfterFault}
+use Rattle.packet_store.specs.Walks.{IsGood, Front, End, Good, Bad, front_after, front, Walk, behind_packet, stopped_at, walk_from}
+use Rattle.packet_store.specs.StoreReader.{ReaderState, state_of, Takes, Stops, IsOnlyCut, Waits, AfterFault}
 use Rattle.packet_store.specs.Reading.{front_packet, BeginsWithPacket, IsEarly, AfterUnread}
 use Rattle.packet_store.proofs.Packets.{header_at-header_of, by_checks-Good, from_long}
 use Rattle.packet_store.proofs.Walks.{walk_from-none, walk_from-good, walk_from-bad, walk_from-too_many, walk_from-early}
