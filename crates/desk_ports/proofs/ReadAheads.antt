@@ -1,23 +1,8 @@
--- How readings ahead of what is used join.
-use Rattle.std.proofs.Common.{◌≡◌, ℕ, ◌+◌, ◌-◌, ◌<◌, ◌≤◌, All, Fits, w8, get_or, List, [], ◌++◌, length, take, drop, take-take, sym, ap, ◌∙◌, append_assoc, append-nil, length-append, arith}
+-- What a reading ahead leaves in its room.
+use Rattle.std.proofs.Common.{◌≡◌, ℕ, ◌+◌, ◌-◌, ◌<◌, ◌≤◌, All, Fits, w8, get_or, List, ◌++◌, length, take, drop, take-take, ap, ◌∙◌, length-append, arith}
 use Rattle.std.proofs.lemmas.List.{take-append-le, length-take-le, get_or_default}
 use borrow.Rule.Slice.PartMut.{put_mid, post_of}
-use Rattle.desk_ports.specs.declared.desk.Inlet.TheVariants as inlet
-use Rattle.desk_ports.specs.Meanings.{Meanings}
-use Rattle.desk_ports.specs.ReadAhead.{ReadsOn}
-use Rattle.desk_ports.proofs.Transfers.{Moves-none, Moves-then, take-put_mid-add}
-
--- nothing was read
-pub ReadsOn-none : (ahead : List ℕ) (m : Meanings) → ReadsOn ahead ahead m m
-ReadsOn-none ahead m = record { bytes = []; joined = sym (append-nil ahead); moved = Moves-none m inlet.Main }
-
--- bytes were read, and then more bytes
-pub ReadsOn-then : {x y z : List ℕ} {a b c : Meanings} → ReadsOn x y a b → ReadsOn y z b c → ReadsOn x z a c
-ReadsOn-then {x = x} {a = a} {b = b} {c = c} p q = record {
-  bytes = p.bytes ++ q.bytes;
-  joined = q.joined ∙ (ap (λ l. l ++ q.bytes) p.joined ∙ append_assoc x p.bytes q.bytes);
-  moved = Moves-then a b c inlet.Main p.bytes q.bytes p.moved q.moved;
-}
+use Rattle.desk_ports.proofs.Transfers.{take-put_mid-add}
 
 -- the front of a room behind whose first bytes others were read
 pub read_behind : (len k n m : ℕ) (items room first buf : List ℕ) → m ≡ k + n → first ≡ room → k ≤ length first → n ≤ length buf → k + length buf ≤ len

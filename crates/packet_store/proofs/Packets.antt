@@ -1,6 +1,6 @@
 -- What stands at the front of bytes, for every reader of them.
-use Rattle.std.proofs.Common.{◌≡◌, refl, [], ◌∷◌, Bool, true, false, ◌==◌, nat_le, ℕ, ◌+◌, ◌*◌, ◌/◌, ◌%◌, ◌^◌, ◌<◌, ◌≤◌, List, ◌++◌, length, take, drop, get_or, Fits, w8, All, Option, Some, None, sym, ap, subst, ◌∙◌, length-take, length-drop, arith}
-use Rattle.std.proofs.lemmas.List.{get_or_default, length-take-le, take-append-drop, take_at, drop_at}
+use Rattle.std.proofs.Common.{◌≡◌, refl, [], ◌∷◌, Bool, true, false, ◌==◌, nat_le, ℕ, ◌+◌, ◌*◌, ◌/◌, ◌%◌, ◌^◌, ◌<◌, ◌≤◌, List, ◌++◌, length, take, drop, All, Option, Some, None, sym, ap, subst, ◌∙◌, length-take, length-drop, arith}
+use Rattle.std.proofs.lemmas.List.{length-take-le, take-append-drop, take_at, drop_at}
 use Rattle.std.proofs.lemmas.List.Elements.{All-take, All-drop}
 use Rattle.std.proofs.lemmas.Grind.{common_steps}
 use Rattle.packet_store.specs.declared.header.Header.{Header}

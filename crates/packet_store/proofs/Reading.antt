@@ -1,8 +1,7 @@
 -- A packet that is read, or is not: what stands at the front of what is ahead then, and how the walk goes on there.
-use Rattle.std.proofs.Common.{◌≡◌, ◌≢◌, refl, [], ◌∷◌, Bool, true, false, ◌==◌, nat_le, ℕ, ◌+◌, ◌^◌, ◌<◌, ◌≤◌, List, ◌++◌, length, take, drop, Option, IfSome, sym, ap, subst, ◌∙◌, append_assoc, append-nil, length-append, length-drop, arith, inl, inr}
+use Rattle.std.proofs.Common.{◌≡◌, refl, [], ◌∷◌, true, ◌==◌, nat_le, ℕ, ◌+◌, ◌^◌, ◌<◌, ◌≤◌, List, ◌++◌, length, take, drop, Option, IfSome, sym, ap, subst, ◌∙◌, append_assoc, append-nil, length-append, length-drop, arith, inl, inr}
 use Rattle.std.proofs.lemmas.Bool.{cases_lt}
 use Rattle.std.proofs.lemmas.List.{take-append-drop, take-append-le, take-take}
-use Rattle.std.proofs.lemmas.Grind.{common_steps}
 use Rattle.std.specs.Io.KnownBytes.{IsAtEnd}
 use Rattle.desk_ports.specs.declared.desk.Inlet.TheVariants as inlet
 use Rattle.desk_ports.specs.Meanings.{Meanings, Moves, left}
@@ -17,9 +16,9 @@ use Rattle.packet_store.specs.declared.fault.StoreFault.{StoreFault}
 use Rattle.packet_store.specs.declared.fault.StoreFault.TheVariants.{Cut, Version, Shape, ReadFault, TooMany}
 use Rattle.packet_store.specs.declared.reader.Taken.{Taken}
 use Rattle.packet_store.specs.SpacePackets.{IsHeader, header_of, packet_bytes, is_chosen, is_misshapen}
-use Rattle.packet_store.specs.Walks.{IsGood, Front, End, Good, Bad, by_checks, front_after, front, Walk, behind_packet, stopped_at, walk_from}
-use Rattle.packet_store.specs.StoreReader.{ReaderState, state_of, walk_on, Takes, Stops, IsOnlyCut, Waits, AfterFault}
-use Rattle.packet_store.specs.Reading.{front_packet, BeginsWithPacket, IsEarly, IsBad, AfterUnread}
+use Rattle.packet_store.specs.Walks.{IsGood, Front, End, Good, Bad, front_after, front, Walk, behind_packet, stopped_at, walk_from}
+use Rattle.packet_store.specs.StoreReader.{ReaderState, state_of, Takes, Stops, IsOnlyCut, Waits, AfterFault}
+use Rattle.packet_store.specs.Reading.{front_packet, BeginsWithPacket, IsEarly, AfterUnread}
 use Rattle.packet_store.proofs.Packets.{header_at-header_of, by_checks-Good, from_long}
 use Rattle.packet_store.proofs.Walks.{walk_from-none, walk_from-good, walk_from-bad, walk_from-too_many, walk_from-early}
 
@@ -41,28 +40,6 @@ IsEarly-short chosen (a ∷ bytes) few = subst IsEarly (sym (front-short chosen 
 front-header : (chosen : Option ℕ) (h : Header) (bytes : List ℕ) → IsHeader h → front chosen (header_of h ++ bytes) ≡ front_after chosen h bytes
 front-header chosen h bytes fields = ap (λ h. front_after chosen h bytes) (header_at-header_of h fields)
 
-not_zero : (n : ℕ) → n ≢ 0 → (n == 0) ≡ false
-not_zero n some = grind (arith, common_steps)
-
-not_long : (m n : ℕ) → n < m → nat_le m n ≡ false
-not_long m n few = grind (arith, common_steps)
-
-abbrev found : Header → List ℕ → Front
-found h bytes = Good (record { header = h; body = take (h.length + 1) bytes }) (drop (h.length + 1) bytes)
-
-front-version : (chosen : Option ℕ) (h : Header) (bytes : List ℕ) → IsHeader h → h.version ≢ 0 → front chosen (header_of h ++ bytes) ≡ Bad kind.Version
-front-version chosen h bytes fields other = front-header chosen h bytes fields ∙ ap (λ v. by_checks v (is_misshapen chosen h) (nat_le (h.length + 1) (length bytes)) (found h bytes)) (not_zero h.version other)
-
-front-shape : (chosen : Option ℕ) (h : Header) (bytes : List ℕ) → IsHeader h → h.version ≡ 0 → is_misshapen chosen h ≡ true → front chosen (header_of h ++ bytes) ≡ Bad kind.Shape
-front-shape chosen h bytes fields version other =
-    let zero : (h.version == 0) ≡ true = ap (λ n. n == 0) version in
-    front-header chosen h bytes fields ∙ (λ i. by_checks (zero i) (other i) (nat_le (h.length + 1) (length bytes)) (found h bytes))
-
-front-cut : (chosen : Option ℕ) (h : Header) (bytes : List ℕ) → IsHeader h → h.version ≡ 0 → is_misshapen chosen h ≡ false → length bytes < h.length + 1 → front chosen (header_of h ++ bytes) ≡ Bad kind.Cut
-front-cut chosen h bytes fields version shape few =
-    let zero : (h.version == 0) ≡ true = ap (λ n. n == 0) version in
-    front-header chosen h bytes fields ∙ (λ i. by_checks (zero i) (shape i) (not_long (h.length + 1) (length bytes) few i) (found h bytes))
-
 -- ---- the header that bytes begin with
 
 -- these bytes begin with this header
@@ -70,30 +47,8 @@ pub record HasHeader (h : Header) (bytes : List ℕ) : Type 0 where
   pub fields : IsHeader h
   pub spelled : take 6 bytes ≡ header_of h
 
-behind_header : (h : Header) (bytes rest : List ℕ) → HasHeader h bytes → bytes ++ rest ≡ header_of h ++ (drop 6 bytes ++ rest)
-behind_header h bytes rest has = ap (λ l. l ++ rest) (sym (take-append-drop 6 bytes)) ∙ (append_assoc (take 6 bytes) (drop 6 bytes) rest ∙ ap (λ l. l ++ (drop 6 bytes ++ rest)) has.spelled)
-
 whole_header : (h : Header) (bytes : List ℕ) → HasHeader h bytes → bytes ≡ header_of h ++ drop 6 bytes
 whole_header h bytes has = sym (take-append-drop 6 bytes) ∙ ap (λ l. l ++ drop 6 bytes) has.spelled
-
--- more bytes behind them change nothing
-pub HasHeader-more : {h : Header} {bytes after : List ℕ} {a b : Meanings} → 6 ≤ length bytes → HasHeader h bytes → ReadsOn bytes after a b → HasHeader h after
-HasHeader-more {bytes = bytes} long has read = record { fields = has.fields; spelled = ap (take 6) read.joined ∙ (take-append-le 6 bytes read.bytes long ∙ has.spelled) }
-
--- it is of another version
-pub IsBad-version : (chosen : Option ℕ) (h : Header) (bytes : List ℕ) → HasHeader h bytes → h.version ≢ 0 → IsBad chosen bytes kind.Version
-IsBad-version chosen h bytes has other rest = ap (front chosen) (behind_header h bytes rest has) ∙ front-version chosen h (drop 6 bytes ++ rest) has.fields other
-
--- it is of the chosen APID and of another shape
-pub IsBad-shape : (chosen : Option ℕ) (h : Header) (bytes : List ℕ) → HasHeader h bytes → h.version ≡ 0 → is_misshapen chosen h ≡ true → IsBad chosen bytes kind.Shape
-IsBad-shape chosen h bytes has version other rest = ap (front chosen) (behind_header h bytes rest has) ∙ front-shape chosen h (drop 6 bytes ++ rest) has.fields version other
-
--- fewer bytes stand behind it than its data
-pub front-part : (chosen : Option ℕ) (h : Header) (bytes : List ℕ) → HasHeader h bytes → h.version ≡ 0 → is_misshapen chosen h ≡ false → length bytes < h.length + 7 → front chosen bytes ≡ Bad kind.Cut
-front-part chosen h bytes has version shape short = ap (front chosen) (whole_header h bytes has) ∙ front-cut chosen h (drop 6 bytes) has.fields version shape (omega (arith, short, length-drop 6 bytes))
-
-pub IsEarly-part : (chosen : Option ℕ) (h : Header) (bytes : List ℕ) → HasHeader h bytes → h.version ≡ 0 → is_misshapen chosen h ≡ false → length bytes < h.length + 7 → IsEarly (front chosen bytes)
-IsEarly-part chosen h bytes has version shape short = subst IsEarly (sym (front-part chosen h bytes has version shape short)) tt
 
 -- ---- where a packet is whole
 

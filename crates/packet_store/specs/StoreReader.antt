@@ -1,5 +1,5 @@
 -- A reader of a store: what it stands at, and what a call of `next` does to it and to the desk.
-use Rattle.std.specs.Prelude.{◌≡◌, ℕ, ◌+◌, ◌*◌, ◌^◌, ◌<◌, ◌≤◌, Bool, true, false, not, ◌&&◌, ◌==◌, if◌then◌else◌, List, [], ◌∷◌, ◌++◌, length, take, drop, Option, Some, None, IfSome}
+use Rattle.std.specs.Prelude.{◌≡◌, ℕ, ◌+◌, ◌*◌, ◌^◌, ◌<◌, ◌≤◌, Bool, true, false, List, [], ◌++◌, length, take, drop, Option, Some, None, IfSome}
 use Rattle.desk_ports.specs.Meanings.{Meanings, Moves, left}
 use Rattle.desk_ports.specs.declared.desk.Inlet.TheVariants as inlet
 use Rattle.packet_store.specs.declared.header.Header.{Header}
@@ -9,7 +9,7 @@ use Rattle.packet_store.specs.declared.fault.WalkFault.{WalkFault}
 use Rattle.packet_store.specs.declared.fault.WalkFault.TheVariants as fault
 use Rattle.packet_store.specs.declared.fault.StoreFault.{StoreFault}
 use Rattle.packet_store.specs.declared.fault.StoreFault.TheVariants.{Cut, Version, Shape, ReadFault, TooMany}
-use Rattle.packet_store.specs.SpacePackets.{packet_bytes, header_at, is_chosen, is_misshapen}
+use Rattle.packet_store.specs.SpacePackets.{packet_bytes, is_chosen}
 use Rattle.packet_store.specs.Walks.{IsGood, Walk, walk_from, behind_packet, stopped_at}
 
 -- the chosen APID, the number of packets given so far and of their bytes, whether the reader goes on, the latest packet with

@@ -1,10 +1,10 @@
-use Rattle.std.proofs.Common.{◌≡◌, ◌+◌, ◌^◌, ◌<◌, ◌≤◌, List, ℕ, length, true, Ok, drop, refl, sym, ap, subst, ◌∙◌, arith}
+use Rattle.std.proofs.Common.{◌≡◌, ◌+◌, ◌^◌, ◌<◌, true, Ok, refl, sym, ap, subst, ◌∙◌, arith}
 use Rattle.std.proofs.lemmas.Result.{err_from_is_err_and}
 use Rattle.desk_ports.specs.ReadAhead.{ReadsOn}
 use Rattle.packet_store.specs.declared.fault.WalkFault.TheVariants as fault
 use Rattle.packet_store.specs.StoreReader.{ReaderState, state_of, Takes, Stops, Waits, AfterFault}
 use Rattle.packet_store.specs.declared.reader.Taken.{Taken}
-use Rattle.packet_store.proofs.Reading.{AfterFault-unread, IsOver, IsOver-read, Stops-too_many, Takes-read, Waits-none}
+use Rattle.packet_store.proofs.Reading.{AfterFault-unread, IsOver-read, Stops-too_many, Takes-read, Waits-none}
 use Rattle.packet_store.proofs.reader.StoreReader.next.Goals as goal
 
 pub returns-in_err-hold-clause-fault : goal.returns-in_err-hold-clause-fault
