@@ -33,7 +33,7 @@ struct Sender {
     pen: BitPen,
     robust: u8,
     is_ready: bool,
-    ghost robust: { robust ≤ 7 },
+    ghost most: { robust ≤ 7 },
     ghost places: { length input ≡ length encoder.masks.mask },
     ghost room: { 10 * length input + 43 ≤ pen.room },
 }

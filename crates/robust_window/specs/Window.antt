@@ -1,5 +1,5 @@
 -- What a window keeps, and for which changes it stands.
-use Rattle.std.specs.Prelude.{◌≡◌, ℕ, ◌+◌, ◌-◌, ◌<◌, ◌≤◌, ◌==◌, Bool, true, false, if◌then◌else◌, List, [], ◌∷◌, length, replicate, All, Contains, slice_index_or}
+use Rattle.std.specs.Prelude.{◌≡◌, ℕ, ◌-◌, ◌<◌, ◌≤◌, ◌==◌, Bool, true, false, if◌then◌else◌, List, [], ◌∷◌, length, replicate, All, Contains, slice_index_or}
 use Rattle.std.specs.Int.{bit_at}
 use Rattle.circular_buffer.specs.Buffer.{Buffer}
 use Rattle.bit_vectors.specs.Vectors.{IsVector, number_bits}
