@@ -1,7 +1,8 @@
 #!/usr/bin/env python3
 """Runs the program on a table of command lines, and compares what each prints, its exit number and its files.
 
-Takes the program: .ci/commands.py crates/pocket/out/pocket. What it must print is worked out by hand, from docs/FORMATS.md.
+Takes the program: .ci/commands.py crates/pocket/out/pocket. What it must print is worked out by hand, from docs/FORMATS.md, and
+the summaries of long trials by .ci/trial.py, which shares no code with the program.
 Its last line is 'N passed, M failed'. Run by root it runs the program as nobody, so that a folder can be closed to it.
 """
 
@@ -12,6 +13,9 @@ import shutil
 import subprocess
 import sys
 import tempfile
+
+sys.dont_write_bytecode = True
+from trial import trial
 
 NOBODY = 65534
 RECORDING = bytes.fromhex("B0B1B1B3")
@@ -31,10 +35,19 @@ COMPRESS = "compress in=x out=y bits=8 apid=100 robust=1"
 PLAY = "play in=x out=y report=z apid=100 script=s"
 RESTORE = "restore in=x out=y report=z bits=8 apid=100"
 SHOW = "show in=x out=y bits=8 apid=100"
+TRIAL = "trial seed=0 packets=3 bits=8 robust=1 out=-"
+SUMMARY = b"packets 3\nrecording 3\nstore 29\nplayed 19\ndelivered 2\nwritten 2\nlisted 1\n"
+# The seed, the packets, the bits of a packet and the required robustness.
+TRIALS = [(1, 10000, 1024, 2), (4294967295, 10000, 4096, 7), (7, 1, 1, 0), (3, 500, 13, 0), (20, 2000, 8, 1)]
 
 
 def wrong(word):
     return b"pocket: word %d is wrong\n" % word
+
+
+def summary(*numbers):
+    """What a trial of these numbers prints."""
+    return "".join(f"{word} {number}\n" for word, number in trial(*numbers)).encode()
 
 
 def case(name, words, status=0, out=b"", err=b"", given=b"", before=None, after=None, **how):
@@ -62,6 +75,9 @@ VERBS = [
     case("restore with the report on a pipe", "restore in=- out=y report=- bits=8 apid=100", given=PLAYED, out=REPORT,
          after={"y": bytes.fromhex("B0B1B3")}),
     case("other names of standard output", "compress in=x out=/dev/stdout bits=8 apid=100 robust=1", before={"x": RECORDING}, out=STORE),
+    case("trial", TRIAL, out=SUMMARY),
+    case("trial to a file", TRIAL[:-1] + "y", after={"y": SUMMARY, "y.part": None}),
+    *[case(f"trial {numbers}", "trial seed=%d packets=%d bits=%d robust=%d out=-" % numbers, out=summary(*numbers)) for numbers in TRIALS],
     case("version", "--version", out=b"pocket 0.1.0\n"),
 ]
 
@@ -96,6 +112,10 @@ REFUSALS = [
     case("the listing of a store that is cut", SHOW, 4, err=b"pocket: store packet at byte 10 is cut\n",
          before={"x": FIRST + bytes.fromhex("0064C0")}, after={"y": None, "y.part": b"0 written 1 00 00 b0\n"}),
     case("show with a report", SHOW + " report=z", 2, err=wrong(5), before={"x": PLAYED}, after={"y": None, "y.part": None}),
+    case("a trial of too many packets", "trial seed=0 packets=10001 bits=8 robust=1 out=-", 2, err=wrong(2)),
+    case("a trial of packets of too many bits", "trial seed=0 packets=3 bits=4097 robust=1 out=-", 2, err=wrong(3)),
+    case("a trial with an input", TRIAL + " in=x", 2, err=wrong(6), before={"x": RECORDING}),
+    case("a trial to a device that is full", TRIAL[:-1] + "/dev/full", 1, err=WRITE),
     case("another version", RESTORE, 4, err=b"pocket: store packet at byte 0 has another version\n", before={"x": bytes.fromhex("2064C000000000")}),
     case("another shape", PLAY, 4, err=b"pocket: store packet at byte 0 has another shape\n",
          before={"x": bytes.fromhex("00640000000082"), "s": b""}, after={"y": None, "z": None}),
@@ -238,7 +258,8 @@ def got(path):
 def helps(runner):
     """Whether `--help` names each verb with each of its keys."""
     verbs = {"compress": "in= out= bits= apid= robust= plan= mask=", "play": "in= out= report= apid= script=",
-             "restore": "in= out= report= bits= apid=", "show": "in= out= bits= apid="}
+             "restore": "in= out= report= bits= apid=", "show": "in= out= bits= apid=",
+             "trial": "seed= packets= bits= robust= out="}
     told = runner.start(["--help"], stdout=subprocess.PIPE, stderr=subprocess.PIPE)
     out, err = told.communicate()
     lines = {line.split()[1]: line for line in out.decode().splitlines() if line.startswith("pocket ")}

@@ -29,6 +29,8 @@ pocket restore in=STORE out=PACKETS report=REPORT bits=F apid=APID
     gives back the packets of F bits that a store has on an APID, and lists all others
 pocket show in=STORE out=LISTING bits=F apid=APID
     lists what is found for each packet that a store has on an APID
+pocket trial seed=SEED packets=N bits=F robust=R out=SUMMARY
+    runs compress, play and restore over a recording that it generates, in memory
 A name is a file's, or - for standard input or output. The keys come in any order.
 pocket --help
 pocket --version";

@@ -2,7 +2,6 @@
 use Rattle.std.proofs.Common.{◌≡◌, ℕ, List, [], Option, Some, None, IfSome, refl, sym, ap, ◌∙◌, subst}
 use Rattle.std.specs.Io.KnownBytes.{append_known}
 use Rattle.std.specs.Option.{option_map}
-use Rattle.desk_ports.specs.declared.desk.Inlet.TheVariants as inlet
 use Rattle.desk_ports.specs.declared.desk.Outlet.TheVariants as outlet
 use Rattle.desk_ports.specs.Courses.{Course, owed}
 use Rattle.desk_ports.specs.Meanings.{Meanings, made}
@@ -10,9 +9,9 @@ use Rattle.pocket_cmd.specs.Faults.{DataFault}
 use Rattle.pocket_cmd.specs.Command.{Command, Names, names_of}
 use Rattle.pocket_cmd.specs.Courses.{course_of}
 use Rattle.pocket_cmd.specs.Delivery.{HasWritten}
-use Rattle.pocket_cmd.specs.Openings.{all_finished, all_opened, given, side_given, with_input, with_output, with_report, with_side}
+use Rattle.pocket_cmd.specs.Openings.{all_finished, all_opened, input_given, side_given, with_input, with_output, with_report, with_side}
 use Rattle.pocket_cmd.specs.Outcome.{RunStands, Stands}
-use Rattle.pocket_cmd.proofs.Performed.{input_is, same_some}
+use Rattle.pocket_cmd.proofs.Performed.{AddsOwed-stands, same_some}
 
 -- the side text is the one that is told
 side_text_is : (o : Option (List ℕ)) (text told : List ℕ) → IfSome o (λ bytes. text ≡ bytes) → o ≡ Some told → text ≡ told
@@ -20,9 +19,10 @@ side_text_is None text told is e = absurd cc
 side_text_is (Some bytes) text told is e = is ∙ same_some e
 
 -- and reading it leaves the input
-given-with_side : (m : Meanings) (side : Option (List ℕ)) (name : List ℕ) → given (with_side m side) inlet.Main name ≡ given m inlet.Main name
-given-with_side m None name = refl
-given-with_side m (Some other) name = refl
+given-with_side : (m : Meanings) (side input : Option (List ℕ)) → input_given (with_side m side) input ≡ input_given m input
+given-with_side m None input = refl
+given-with_side m (Some other) None = refl
+given-with_side m (Some other) (Some name) = refl
 
 -- finishing leaves what was written
 made-finished : (report : Option (List ℕ)) (m : Meanings) → (made (all_finished report m) outlet.Main ≡ made m outlet.Main) × (made (all_finished report m) outlet.Report ≡ made m outlet.Report)
@@ -43,22 +43,22 @@ report-written : (names : Names) (report : Option (List ℕ)) (old end new : Mea
     → made end outlet.Report ≡ append_known (made (all_opened names old input) outlet.Report) bytes → IfSome report (λ name. IfSome (made new outlet.Report) (λ made. made ≡ bytes))
 report-written names None old end new input bytes is finished ran = tt
 report-written names (Some name) old end new input bytes is finished ran =
-    written-told (made (with_output (with_input old input) names.output) outlet.Report) (made new outlet.Report) bytes
-    (ap (λ m. made m outlet.Report) finished ∙ ((made-finished names.report end).1 ∙ (ran ∙ ap (λ report. append_known (made (with_report (with_output (with_input old input) names.output) report) outlet.Report) bytes) is)))
+    written-told (made (with_output (with_input old names.input input) names.output) outlet.Report) (made new outlet.Report) bytes
+    (ap (λ m. made m outlet.Report) finished ∙ ((made-finished names.report end).1 ∙ (ran ∙ ap (λ report. append_known (made (with_report (with_output (with_input old names.input input) names.output) report) outlet.Report) bytes) is)))
 
-run_written : (names : Names) (course : List ℕ → Course DataFault) (old new : Meanings) (input : List ℕ) → RunStands names course old new None → given old inlet.Main names.input ≡ Some input → HasWritten names (owed (course input)) new
+run_written : (names : Names) (course : List ℕ → Course DataFault) (old new : Meanings) (input : List ℕ) → RunStands names course old new None → input_given old names.input ≡ Some input → HasWritten names (owed (course input)) new
 run_written names course old new input e told =
     let out = e.after in
-    let went = out.ran.went in
-    subst (λ i. HasWritten names (owed (course i)) new) (input_is names course old new None input e told) (record {
-      output = written-told (made (with_input old e.input) outlet.Main) (made new outlet.Main) (owed (course out.ran.input)).output
-          (ap (λ m. made m outlet.Main) out.is ∙ ((made-finished names.report out.end).0 ∙ (went.ran.output
-          ∙ ap (λ o. append_known o (owed (course out.ran.input)).output) (made-with_report (with_output (with_input old e.input) names.output) names.report))));
-      report = report-written names names.report old out.end new e.input (owed (course out.ran.input)).report refl out.is went.ran.report;
-    })
+    let done = AddsOwed-stands names course old new None input e told in
+    record {
+      output = written-told (made (with_input old names.input e.input) outlet.Main) (made new outlet.Main) (owed (course input)).output
+          (ap (λ m. made m outlet.Main) out.is ∙ ((made-finished names.report out.end).0 ∙ (done.output
+          ∙ ap (λ o. append_known o (owed (course input)).output) (made-with_report (with_output (with_input old names.input e.input) names.output) names.report))));
+      report = report-written names names.report old out.end new e.input (owed (course input)).report refl out.is done.report;
+    }
 
 -- a command that is done has written all that it owes
-pub HasWritten-stands : (command : Command) (old new : Meanings) (text input : List ℕ) → Stands command old new None → side_given old (names_of command).side ≡ Some text → given old inlet.Main (names_of command).input ≡ Some input
+pub HasWritten-stands : (command : Command) (old new : Meanings) (text input : List ℕ) → Stands command old new None → side_given old (names_of command).side ≡ Some text → input_given old (names_of command).input ≡ Some input
     → HasWritten (names_of command) (owed (course_of command text input)) new
 HasWritten-stands command old new text input e side_told input_told =
     subst (λ t. HasWritten (names_of command) (owed (course_of command t input)) new) (side_text_is (side_given old (names_of command).side) e.text text e.told side_told)

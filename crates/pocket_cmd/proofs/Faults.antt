@@ -1,12 +1,13 @@
 -- A course whose fault is named otherwise, and the refusal for a fault of a chain.
-use Rattle.std.proofs.Common.{◌≡◌, ℕ, List, Option, Some, None, Ok, Err, refl, sym, ap, subst}
+use Rattle.std.proofs.Common.{◌≡◌, ℕ, true, List, Option, Some, None, Ok, Err, refl, sym, ap, subst}
 use Rattle.std.specs.Option.{option_map}
 use Rattle.desk_ports.specs.Stop.{Stop}
 use Rattle.desk_ports.specs.Stop.{Data, ReadFault, WriteFault}
 use Rattle.desk_ports.specs.Meanings.{Meanings, Counts}
-use Rattle.desk_ports.specs.Courses.{Outputs, Course, by_ending, owed, Went, Ends, AreFronts, AfterRun, AfterStop, HasCause}
+use Rattle.desk_ports.specs.Courses.{Outputs, Course, by_ending, owed, Went, Ends, AreFronts, AfterStop, HasCause}
 use Rattle.pocket_cmd.specs.Courses.{with_fault}
 use Rattle.pocket_cmd.specs.declared.status.Refusal.{Refusal}
+use Rattle.pocket_cmd.specs.Jobs.{AfterJob}
 use Rattle.pocket_cmd.specs.Faults.{DataFault, stop_with}
 use Rattle.pocket_cmd.specs.Faults as fault
 use Rattle.pocket_cmd.specs.Status.{HasRefusalCause, IsEnded, refusal_by}
@@ -33,7 +34,7 @@ Ends-with_fault name course_of old new ending e = record {
   read_out = λ whole. e.read_out (unmapped name ending whole);
 }
 
-pub AfterStop-with_fault : {F G : Type 0} (name : F → G) (course_of : List ℕ → Course F) (old new : Meanings) (stop : Stop F) → AfterStop course_of old new stop → AfterStop (λ input. with_fault name (course_of input)) old new (stop_with name stop)
+pub AfterStop-with_fault : {F : Type 0} (name : F → DataFault) (course_of : List ℕ → Course F) (old new : Meanings) (stop : Stop F) → AfterStop course_of old new stop → AfterJob true (λ input. with_fault name (course_of input)) old new (Err (stop_with name stop))
 AfterStop-with_fault name course_of old new (Data fault) e = Ends-with_fault name course_of old new (Some fault) e
 AfterStop-with_fault name course_of old new ReadFault e = record { taken = e.taken; ran = e.ran }
 AfterStop-with_fault name course_of old new WriteFault e = record {
@@ -45,11 +46,11 @@ AfterStop-with_fault name course_of old new WriteFault e = record {
 
 -- ---- the answer of a chain
 
-pub IsEnded-done : {F : Type 0} (name : F → DataFault) (course_of : List ℕ → Course F) (old new : Meanings) → Ends course_of old new None → IsEnded (AfterRun (λ input. with_fault name (course_of input)) old new) (Ok tt)
+pub IsEnded-done : {F : Type 0} (name : F → DataFault) (course_of : List ℕ → Course F) (old new : Meanings) → Ends course_of old new None → IsEnded (AfterJob true (λ input. with_fault name (course_of input)) old new) (Ok tt)
 IsEnded-done name course_of old new e = record { ended = Ok tt; over = Ends-with_fault name course_of old new None e; answered = refl }
 
 pub IsEnded-stop : {F : Type 0} (name : F → DataFault) (course_of : List ℕ → Course F) (old new : Meanings) (stop : Stop F) (refusal : Refusal) → AfterStop course_of old new stop → refusal ≡ refusal_by (stop_with name stop)
-    → IsEnded (AfterRun (λ input. with_fault name (course_of input)) old new) (Err refusal)
+    → IsEnded (AfterJob true (λ input. with_fault name (course_of input)) old new) (Err refusal)
 IsEnded-stop name course_of old new stop refusal e is =
     record { ended = Err (stop_with name stop); over = AfterStop-with_fault name course_of old new stop e; answered = ap Err is }
 

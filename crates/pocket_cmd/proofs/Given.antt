@@ -8,8 +8,8 @@ use Rattle.std.proofs.lemmas.Bool.Decides.{nat_tests}
 use Rattle.std.proofs.lemmas.List.{length-replicate}
 use Rattle.std.proofs.lemmas.List.Sums.{split_at_first, passes_at_first}
 use Rattle.std.proofs.lemmas.Slice.Eq.{bytes_eq-Decides}
-use Rattle.pocket_cmd.specs.Words.{Given, Assigns, verb_of, is_equals_sign, nothing_given, once, with_text, with_word, given_by, ◌>>=◌}
-use Rattle.pocket_cmd.specs.Command.{CompressValues, PlayValues, RestoreValues, ShowValues, Command, Compress, Play, Restore, Show, names_of, AreRight, AreGiven, IsChosen, IsPlaces, IsRight, compress_values, play_values, restore_values, show_values, with_values, command_of, mask_given}
+use Rattle.pocket_cmd.specs.Words.{Given, Assigns, verb_of, is_equals_sign, nothing_given, once, with_bits, with_text, with_word, given_by, ◌>>=◌}
+use Rattle.pocket_cmd.specs.Command.{CompressValues, PlayValues, RestoreValues, ShowValues, TrialValues, Command, Compress, Play, Restore, Show, Trial, names_of, AreRight, AreGiven, IsChosen, IsPlaces, IsRight, IsTrialRight, compress_values, play_values, restore_values, show_values, trial_values, with_values, command_of, mask_given}
 use Rattle.pocket_cmd.specs.Masks.{mask_of}
 use Rattle.pocket_cmd.specs.declared.words.Verb.{Verb}
 use Rattle.pocket_cmd.specs.declared.words.Verb.TheVariants as verb
@@ -37,6 +37,12 @@ later word words text h = (h.0 + 1, omega (arith, h.1), shifted h.0 h.2) where
 
 -- ---- what is given
 
+-- the numbers of a trial are within their bounds
+record AreOfTrial (s p f : Option ℕ) : Type 0 where
+  pub seed : IfSome s (λ n. n ≤ 4294967295)
+  pub packets : IfSome p (λ n. (1 ≤ n) × (n ≤ 10000))
+  pub bits : IfSome f (λ n. (1 ≤ n) × (n ≤ 4096))
+
 -- names that words give, and numbers within their bounds
 abbrev IsGiven : List (List ℕ) → Given → Type 0
 IsGiven words g =
@@ -48,6 +54,7 @@ IsGiven words g =
     × IfSome g.bits IsPlaces
     × IfSome g.apid IsChosen
     × IfSome g.robust (λ r. r ≤ 7)
+    × AreOfTrial g.seed g.packets g.trial_bits
 
 -- one key has the text, or it is one of the others
 by_key : {P : Type 0} (key k : List ℕ) (b : Bool) → bytes_eq key k ≡ b → (here others : Option Given) (more : Given) → cond b here others ≡ Some more → (key ≡ k → here ≡ Some more → P) → (others ≡ Some more → P) → P
@@ -65,38 +72,61 @@ with_number put None None more e = absurd cc
 with_number put None (Some x) more e = (x, refl, same_some e)
 with_number put (Some old) value more e = absurd cc
 
-IsGiven-text : (words : List (List ℕ)) (g more : Given) (place : ℕ) (key text : List ℕ) → Assigns words key text → IsGiven words g → with_text g place key text ≡ Some more → IsGiven words more
-IsGiven-text words g more place key text assigned h e =
+-- the bits of a packet, of a trial or of another verb
+IsGiven-bits : (words : List (List ℕ)) (v : Verb) (g more : Given) (text : List ℕ) → IsGiven words g → with_bits v g text ≡ Some more → IsGiven words more
+IsGiven-bits words verb.Trial g more text h e =
+    let n = with_number _ g.trial_bits _ more e in
+    subst (IsGiven words) n.2 (h.0, h.1, h.2, h.3, h.4, h.5, h.6, h.7, record { seed = h.8.seed; packets = h.8.packets; bits = within_bounds 1 4096 n.0 text n.1 })
+IsGiven-bits words verb.Compress g more text h e =
+    let n = with_number _ g.bits _ more e in
+    subst (IsGiven words) n.2 (h.0, h.1, h.2, h.3, h.4, within_bounds 1 49152 n.0 text n.1, h.6, h.7, h.8)
+IsGiven-bits words verb.Play g more text h e =
+    let n = with_number _ g.bits _ more e in
+    subst (IsGiven words) n.2 (h.0, h.1, h.2, h.3, h.4, within_bounds 1 49152 n.0 text n.1, h.6, h.7, h.8)
+IsGiven-bits words verb.Restore g more text h e =
+    let n = with_number _ g.bits _ more e in
+    subst (IsGiven words) n.2 (h.0, h.1, h.2, h.3, h.4, within_bounds 1 49152 n.0 text n.1, h.6, h.7, h.8)
+IsGiven-bits words verb.Show g more text h e =
+    let n = with_number _ g.bits _ more e in
+    subst (IsGiven words) n.2 (h.0, h.1, h.2, h.3, h.4, within_bounds 1 49152 n.0 text n.1, h.6, h.7, h.8)
+
+IsGiven-text : (words : List (List ℕ)) (v : Verb) (g more : Given) (place : ℕ) (key text : List ℕ) → Assigns words key text → IsGiven words g → with_text v g place key text ≡ Some more → IsGiven words more
+IsGiven-text words v g more place key text assigned h e =
     let at = λ (k : List ℕ) (is : key ≡ k). subst (λ x. Assigns words x text) is assigned in
     by_key key (codes "in") _ refl _ _ more e
-    (λ is e. subst (IsGiven words) (with_name _ g.input _ text more e) (at _ is, h.1, h.2, h.3, h.4, h.5, h.6, h.7))
+    (λ is e. subst (IsGiven words) (with_name _ g.input _ text more e) (at _ is, h.1, h.2, h.3, h.4, h.5, h.6, h.7, h.8))
     (λ e. by_key key (codes "plan") _ refl _ _ more e
-    (λ is e. subst (IsGiven words) (with_name _ g.plan _ text more e) (h.0, at _ is, h.2, h.3, h.4, h.5, h.6, h.7))
+    (λ is e. subst (IsGiven words) (with_name _ g.plan _ text more e) (h.0, at _ is, h.2, h.3, h.4, h.5, h.6, h.7, h.8))
     (λ e. by_key key (codes "script") _ refl _ _ more e
-    (λ is e. subst (IsGiven words) (with_name _ g.script _ text more e) (h.0, h.1, at _ is, h.3, h.4, h.5, h.6, h.7))
+    (λ is e. subst (IsGiven words) (with_name _ g.script _ text more e) (h.0, h.1, at _ is, h.3, h.4, h.5, h.6, h.7, h.8))
     (λ e. by_key key (codes "out") _ refl _ _ more e
-    (λ is e. subst (IsGiven words) (with_name _ g.output _ text more e) (h.0, h.1, h.2, at _ is, h.4, h.5, h.6, h.7))
+    (λ is e. subst (IsGiven words) (with_name _ g.output _ text more e) (h.0, h.1, h.2, at _ is, h.4, h.5, h.6, h.7, h.8))
     (λ e. by_key key (codes "report") _ refl _ _ more e
-    (λ is e. subst (IsGiven words) (with_name _ g.report _ text more e) (h.0, h.1, h.2, h.3, at _ is, h.5, h.6, h.7))
+    (λ is e. subst (IsGiven words) (with_name _ g.report _ text more e) (h.0, h.1, h.2, h.3, at _ is, h.5, h.6, h.7, h.8))
     (λ e. by_key key (codes "bits") _ refl _ _ more e
-    (λ is e. let n = with_number _ g.bits _ more e in
-    subst (IsGiven words) n.2 (h.0, h.1, h.2, h.3, h.4, within_bounds 1 49152 n.0 text n.1, h.6, h.7))
+    (λ is e. IsGiven-bits words v g more text h e)
     (λ e. by_key key (codes "apid") _ refl _ _ more e
     (λ is e. let n = with_number _ g.apid _ more e in
-    subst (IsGiven words) n.2 (h.0, h.1, h.2, h.3, h.4, h.5, (within_bounds 0 2046 n.0 text n.1).1, h.7))
+    subst (IsGiven words) n.2 (h.0, h.1, h.2, h.3, h.4, h.5, (within_bounds 0 2046 n.0 text n.1).1, h.7, h.8))
     (λ e. by_key key (codes "robust") _ refl _ _ more e
     (λ is e. let n = with_number _ g.robust _ more e in
-    subst (IsGiven words) n.2 (h.0, h.1, h.2, h.3, h.4, h.5, h.6, (within_bounds 0 7 n.0 text n.1).1))
+    subst (IsGiven words) n.2 (h.0, h.1, h.2, h.3, h.4, h.5, h.6, (within_bounds 0 7 n.0 text n.1).1, h.8))
+    (λ e. by_key key (codes "seed") _ refl _ _ more e
+    (λ is e. let n = with_number _ g.seed _ more e in
+    subst (IsGiven words) n.2 (h.0, h.1, h.2, h.3, h.4, h.5, h.6, h.7, record { seed = (within_bounds 0 4294967295 n.0 text n.1).1; packets = h.8.packets; bits = h.8.bits }))
+    (λ e. by_key key (codes "packets") _ refl _ _ more e
+    (λ is e. let n = with_number _ g.packets _ more e in
+    subst (IsGiven words) n.2 (h.0, h.1, h.2, h.3, h.4, h.5, h.6, h.7, record { seed = h.8.seed; packets = within_bounds 1 10000 n.0 text n.1; bits = h.8.bits }))
     (λ e. by_key key (codes "mask") _ refl _ _ more e
     (λ is e. subst (IsGiven words) (with_number _ g.mask _ more e).2 h)
-    (λ e. absurd cc)))))))))
+    (λ e. absurd cc)))))))))))
 
 IsGiven-word : (words : List (List ℕ)) (v : Verb) (g more : Given) (place : ℕ) (word : List ℕ) → Contains words word → IsGiven words g → with_word v g place word ≡ Some more → IsGiven words more
 IsGiven-word words v g more place word among h e = by_tests _ _ refl e where
   by_tests : (is_split has : Bool) → nat_lt (position_or_len is_equals_sign word) (length word) ≡ is_split
-      → cond (is_split && has) (with_text g place (before_first is_equals_sign word) (after_first is_equals_sign word)) None ≡ Some more → IsGiven words more
+      → cond (is_split && has) (with_text v g place (before_first is_equals_sign word) (after_first is_equals_sign word)) None ≡ Some more → IsGiven words more
   by_tests true true at e =
-      IsGiven-text words g more place (before_first is_equals_sign word) (after_first is_equals_sign word) (subst (Contains words) (split_joined word (below _ _ at)) among) h e where
+      IsGiven-text words v g more place (before_first is_equals_sign word) (after_first is_equals_sign word) (subst (Contains words) (split_joined word (below _ _ at)) among) h e where
         below : (m n : ℕ) → nat_lt m n ≡ true → m < n
         below m n h = grind (arith, nat_tests)
   by_tests true false at e = absurd cc
@@ -215,13 +245,32 @@ show_given words g missing s h e =
       };
     })
 
+trial_given : (words : List (List ℕ)) (g : Given) (missing : ℕ) (t : TrialValues) → IsGiven words g → trial_values g missing ≡ Ok t → IsCommand words (Trial t)
+unfolding trial_values
+trial_given words g missing t h e =
+    let output = bind_ok _ _ t e in
+    let seed = bind_ok _ _ t output.2 in
+    let packets = bind_ok _ _ t seed.2 in
+    let bits = bind_ok _ _ t packets.2 in
+    let robust = bind_ok _ _ t bits.2 in
+    let right : IsTrialRight (record { output = output.0; seed = seed.0; packets = packets.0; bits = bits.0; robust = robust.0 }) = record {
+      seed = needed (λ n. n ≤ 4294967295) g.seed missing seed.0 seed.1 h.8.seed;
+      packets = needed (λ n. (1 ≤ n) × (n ≤ 10000)) g.packets missing packets.0 packets.1 h.8.packets;
+      bits = needed (λ n. (1 ≤ n) × (n ≤ 4096)) g.trial_bits missing bits.0 bits.1 h.8.bits;
+      robust = needed (λ r. r ≤ 7) g.robust missing robust.0 robust.1 h.7;
+    } in
+    subst (λ x. IsCommand words (Trial x)) (same_ok robust.2) (record {
+      right = right;
+      given = record { side = tt; input = tt; output = needed _ g.output missing output.0 output.1 h.3; report = tt };
+    })
+
 -- the values of a command are within their bounds, and its names are those that words give
 pub IsCommand-command_of : (words : List (List ℕ)) (command : Command) → command_of words ≡ Ok command → IsCommand words command
 IsCommand-command_of [] command e = absurd cc
 IsCommand-command_of (word ∷ words) command e =
     let v = bind_ok (ok_or (verb_of word) 0) (λ v. given_by v nothing_given 1 words >>= λ g. with_values v g (length words + 1)) command e in
     let g = bind_ok (given_by v.0 nothing_given 1 words) (λ g. with_values v.0 g (length words + 1)) command v.2 in
-    by_verb v.0 g.0 (IsGiven-given_by (word ∷ words) words v.0 nothing_given g.0 1 (later word words) (tt, tt, tt, tt, tt, tt, tt, tt) g.1) g.2 where
+    by_verb v.0 g.0 (IsGiven-given_by (word ∷ words) words v.0 nothing_given g.0 1 (later word words) (tt, tt, tt, tt, tt, tt, tt, tt, record { seed = tt; packets = tt; bits = tt }) g.1) g.2 where
       made : {A : Type 0} (r : Result A ℕ) (form : A → Command) → ((x : A) → r ≡ Ok x → IsCommand (word ∷ words) (form x)) → (r >>= λ x. Ok (form x)) ≡ Ok command → IsCommand (word ∷ words) command
       made r form given e =
           let b = bind_ok r (λ x. Ok (form x)) command e in
@@ -232,3 +281,4 @@ IsCommand-command_of (word ∷ words) command e =
       by_verb verb.Play g h e = made (play_values g (length words + 1)) Play (λ p at. play_given (word ∷ words) g (length words + 1) p h at) e
       by_verb verb.Restore g h e = made (restore_values g (length words + 1)) Restore (λ r at. restore_given (word ∷ words) g (length words + 1) r h at) e
       by_verb verb.Show g h e = made (show_values g (length words + 1)) Show (λ s at. show_given (word ∷ words) g (length words + 1) s h at) e
+      by_verb verb.Trial g h e = made (trial_values g (length words + 1)) Trial (λ t at. trial_given (word ∷ words) g (length words + 1) t h at) e

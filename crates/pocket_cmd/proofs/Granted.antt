@@ -22,8 +22,9 @@ side_granted words None grants granted given = tt
 side_granted words (Some name) grants granted (inl plan) = granted name (codes "plan", (1, omega arith, refl), plan)
 side_granted words (Some name) grants granted (inr script) = granted name (codes "script", (2, omega arith, refl), script)
 
-pub input_granted : (words : List (List ℕ)) (name : List ℕ) (grants : List ℕ → Bool) → AreGranted words read_keys grants → Assigns words (codes "in") name → IsTrue (grants name)
-input_granted words name grants granted given = granted name (codes "in", (0, omega arith, refl), given)
+pub input_granted : (words : List (List ℕ)) (input : Option (List ℕ)) (grants : List ℕ → Bool) → AreGranted words read_keys grants → IfSome input (Assigns words (codes "in")) → IfSome input (λ name. IsTrue (grants name))
+input_granted words None grants granted given = tt
+input_granted words (Some name) grants granted given = granted name (codes "in", (0, omega arith, refl), given)
 
 pub output_granted : (words : List (List ℕ)) (name : List ℕ) (grants : List ℕ → Bool) → AreGranted words written_keys grants → Assigns words (codes "out") name → IsTrue (grants name)
 output_granted words name grants granted given = granted name (codes "out", (0, omega arith, refl), given)

@@ -14,7 +14,7 @@ use Rattle.ground_chain.proofs.DeliveredRuns.{owed-played}
 use Rattle.pocket_cmd.specs.declared.status.Status.TheVariants.{Done, Refused}
 use Rattle.pocket_cmd.specs.declared.status.Refusal.{Refusal}
 use Rattle.pocket_cmd.specs.declared.status.Refusal.TheVariants as refusal
-use Rattle.pocket_cmd.specs.Command.{Command, Compress, Play, Restore, Show, RestoreValues, IsChosen, names_of}
+use Rattle.pocket_cmd.specs.Command.{Command, Compress, Play, Restore, Show, Trial, RestoreValues, IsChosen, names_of}
 use Rattle.pocket_cmd.specs.Courses.{course_of}
 use Rattle.pocket_cmd.specs.Faults.{of_recording, of_store}
 use Rattle.pocket_cmd.specs.Delivery.{HasWritten, IsPlayedStore, IsSideRight, IsWhole}
@@ -58,3 +58,4 @@ Done-whole (Restore r) text input none whole =
     ap (λ text. answer_to (Restore r) text input) none ∙ ap (λ o. status_of (option_map of_store o)) whole
 Done-whole (Show s) text input none whole =
     ap (λ text. answer_to (Show s) text input) none ∙ ap (λ o. status_of (option_map of_store o)) whole
+Done-whole (Trial t) text input none whole = ap (λ text. answer_to (Trial t) text input) none

@@ -2,9 +2,11 @@ pub mod Bounds
 pub mod Faults
 pub mod Masks
 pub mod Given
+pub mod Texts
 pub mod Opened
 pub mod Performed
 pub mod Granted
 mod Delivered
 mod Headline
 mod Compositions
+mod Trials

@@ -1,21 +1,23 @@
 -- What a command leaves and answers, from its steps.
-use Rattle.std.proofs.Common.{◌≡◌, ℕ, List, ◌++◌, Option, Some, None, IfSome, Result, Ok, Err, refl, sym, ap, ◌∙◌, subst}
+use Rattle.std.proofs.Common.{◌≡◌, ℕ, List, ◌++◌, Option, Some, None, is_some, IfSome, Result, Ok, Err, refl, sym, ap, ◌∙◌, subst}
 use Rattle.std.specs.Option.{option_map}
-use Rattle.std.specs.Io.KnownBytes.{prepend_known}
+use Rattle.std.specs.Io.KnownBytes.{append_known, prepend_known}
 use Rattle.desk_ports.specs.declared.desk.Inlet.TheVariants as inlet
+use Rattle.desk_ports.specs.declared.desk.Outlet.TheVariants as outlet
 use Rattle.desk_ports.specs.Stop.{Stop}
 use Rattle.desk_ports.specs.Stop.{Data, ReadFault, WriteFault}
-use Rattle.desk_ports.specs.Meanings.{Meanings, Counts, Kept, Rose, kept_at, left}
-use Rattle.desk_ports.specs.Courses.{Course}
+use Rattle.desk_ports.specs.Meanings.{Meanings, Counts, Kept, Rose, kept_at, left, made}
+use Rattle.desk_ports.specs.Courses.{Course, owed}
 use Rattle.desk_ports.proofs.Faults.{Rose-reads, Rose-writes}
 use Rattle.pocket_cmd.specs.Faults.{DataFault}
 use Rattle.pocket_cmd.specs.Faults as fault
 use Rattle.pocket_cmd.specs.declared.status.Status.{Status}
-use Rattle.pocket_cmd.specs.declared.status.Status.TheVariants.{Refused}
+use Rattle.pocket_cmd.specs.declared.status.Status.TheVariants.{Done, Refused}
 use Rattle.pocket_cmd.specs.declared.status.Refusal.{Refusal}
 use Rattle.pocket_cmd.specs.Command.{Names, Command, names_of}
 use Rattle.pocket_cmd.specs.Courses.{course_of, bad_row_of}
-use Rattle.pocket_cmd.specs.Openings.{given_by, given, with_report, with_output, with_input}
+use Rattle.pocket_cmd.specs.Openings.{AreKept, all_opened, given_by, input_given, with_report, with_output, with_input}
+use Rattle.pocket_cmd.specs.Unfed.{EndsBy}
 use Rattle.pocket_cmd.specs.Status.{HasStatusCause, IsEnded, refusal_of, refused_by, status_of, status_by}
 use Rattle.pocket_cmd.specs.Outcome.{RunStands, AfterNames, AfterText, Stands, AfterCommand, AfterRefusal, IsAnsweredBy, by_row}
 
@@ -35,17 +37,33 @@ left-with_report : (m : Meanings) (report : Option (List ℕ)) → left (with_re
 left-with_report m None = refl
 left-with_report m (Some name) = refl
 
--- the run's input is the one that is told
-pub input_is : (names : Names) (course : List ℕ → Course DataFault) (old new : Meanings) (ending : Option DataFault) (input : List ℕ) → (e : RunStands names course old new ending) → given old inlet.Main names.input ≡ Some input → e.after.ran.input ≡ input
-input_is names course old new ending input e told =
-    let went = e.after.ran.went in
-    let opened = sym (left-with_report (with_output (with_input old e.input) names.output) names.report) in
-    sym went.split ∙ told_input old.held (left old inlet.Main) (left e.after.end inlet.Main) names.input input e.input went.taken went.rest told e.kept (opened ∙ went.ran.input) went.told
+-- a run ended so, and added all that the course of this input owes to the outputs
+pub record AddsOwed (course : List ℕ → Course DataFault) (start end : Meanings) (ending : Option DataFault) (input : List ℕ) : Type 0 where
+  pub output : made end outlet.Main ≡ append_known (made start outlet.Main) (owed (course input)).output
+  pub report : made end outlet.Report ≡ append_known (made start outlet.Report) (owed (course input)).report
+  pub ends : (course input).ending ≡ ending
 
-pub ending_is : (names : Names) (course : List ℕ → Course DataFault) (old new : Meanings) (ending : Option DataFault) (input : List ℕ) → RunStands names course old new ending → given old inlet.Main names.input ≡ Some input → (course input).ending ≡ ending
-ending_is names course old new ending input e told = ap (λ i. (course i).ending) (sym (input_is names course old new ending input e told)) ∙ e.after.ran.ends
+AddsOwed-by : (name : Option (List ℕ)) (names : Names) (course : List ℕ → Course DataFault) (old end : Meanings) (ending : Option DataFault) (opened input : List ℕ) → AreKept old name opened
+    → EndsBy (is_some name) course (with_report (with_output (with_input old name opened) names.output) names.report) end ending → input_given old name ≡ Some input
+    → AddsOwed course (with_report (with_output (with_input old name opened) names.output) names.report) end ending input
+AddsOwed-by None names course old end ending opened input kept ran told =
+    subst (AddsOwed course (with_report (with_output old names.output) names.report) end ending) (same_some told) (record { output = ran.ran.output; report = ran.ran.report; ends = ran.ends })
+AddsOwed-by (Some name) names course old end ending opened input kept ran told =
+    let went = ran.went in
+    let left_is = sym (left-with_report (with_output (with_input old (Some name) opened) names.output) names.report) in
+    let input_is : ran.input ≡ input = sym went.split ∙ told_input old.held (left old inlet.Main) (left end inlet.Main) name input opened went.taken went.rest told kept (left_is ∙ went.ran.input) went.told in
+    subst (AddsOwed course (with_report (with_output (with_input old (Some name) opened) names.output) names.report) end ending) input_is
+    (record { output = went.ran.output; report = went.ran.report; ends = ran.ends })
 
-status-run : (names : Names) (course : List ℕ → Course DataFault) (old new : Meanings) (counts after : Counts) (r : Result (Unit {0}) (Stop DataFault)) (input : List ℕ) → AfterNames names course old new r → HasStatusCause counts after (status_by (refused_by r)) → given old inlet.Main names.input ≡ Some input
+-- and the input is the one that is told
+pub AddsOwed-stands : (names : Names) (course : List ℕ → Course DataFault) (old new : Meanings) (ending : Option DataFault) (input : List ℕ) → (e : RunStands names course old new ending) → input_given old names.input ≡ Some input
+    → AddsOwed course (all_opened names old e.input) e.after.end ending input
+AddsOwed-stands names course old new ending input e told = AddsOwed-by names.input names course old e.after.end ending e.input input e.kept e.after.ran told
+
+pub ending_is : (names : Names) (course : List ℕ → Course DataFault) (old new : Meanings) (ending : Option DataFault) (input : List ℕ) → RunStands names course old new ending → input_given old names.input ≡ Some input → (course input).ending ≡ ending
+ending_is names course old new ending input e told = (AddsOwed-stands names course old new ending input e told).ends
+
+status-run : (names : Names) (course : List ℕ → Course DataFault) (old new : Meanings) (counts after : Counts) (r : Result (Unit {0}) (Stop DataFault)) (input : List ℕ) → AfterNames names course old new r → HasStatusCause counts after (status_by (refused_by r)) → input_given old names.input ≡ Some input
     → ¬ Rose counts.reads after.reads → ¬ Rose counts.writes after.writes → status_by (refused_by r) ≡ status_of (course input).ending
 status-run names course old new counts after (Ok done) input e cause told reads writes = ap status_of (sym (ending_is names course old new None input e told))
 status-run names course old new counts after (Err (Data f)) input e cause told reads writes = ap status_of (sym (ending_is names course old new (Some f) input e told))
@@ -73,9 +91,12 @@ AfterText-run command text old new answer e = subst (AfterText command text old 
 
 -- ---- the answer
 
+not_refused : {why : Refusal} → ◌≡◌ {A = Status} Done (Refused why) → ⊥
+not_refused e = cc
+
 -- what a refusal leaves
 pub AfterRefusal-answer : (command : Command) (old new : Meanings) (r : Result (Unit {0}) Refusal) (why : Refusal) → AfterCommand command old new r → status_by r ≡ Refused why → AfterRefusal command old new why
-AfterRefusal-answer command old new (Ok done) why e is = absurd cc
+AfterRefusal-answer command old new (Ok done) why e is = absurd (not_refused is)
 AfterRefusal-answer command old new (Err x) why e is = subst (AfterRefusal command old new) (same_refusal is) e where
   same_refusal : {x y : Refusal} → ◌≡◌ {A = Status} (Refused x) (Refused y) → x ≡ y
   same_refusal e = cc
@@ -83,8 +104,8 @@ AfterRefusal-answer command old new (Err x) why e is = subst (AfterRefusal comma
 -- what the end of a course leaves
 pub Stands-answer : (command : Command) (old new : Meanings) (r : Result (Unit {0}) Refusal) (ending : Option DataFault) → AfterCommand command old new r → status_by r ≡ status_of ending → Stands command old new ending
 Stands-answer command old new (Ok done) None e is = e
-Stands-answer command old new (Ok done) (Some f) e is = absurd cc
-Stands-answer command old new (Err x) None e is = absurd cc
+Stands-answer command old new (Ok done) (Some f) e is = absurd (not_refused is)
+Stands-answer command old new (Err x) None e is = absurd (not_refused (sym is))
 Stands-answer command old new (Err x) (Some f) e is = by_fault f (AfterRefusal-answer command old new (Err x) (refusal_of f) e is) where
   by_fault : (f : DataFault) → AfterRefusal command old new (refusal_of f) → Stands command old new (Some f)
   by_fault (fault.CutRecord t) e = e

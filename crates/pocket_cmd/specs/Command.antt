@@ -11,6 +11,7 @@ use Rattle.pocket_cmd.specs.declared.command.CompressValues.{CompressValues as H
 use Rattle.pocket_cmd.specs.declared.command.PlayValues.{PlayValues as HeldPlay}
 use Rattle.pocket_cmd.specs.declared.command.RestoreValues.{RestoreValues as HeldRestore}
 use Rattle.pocket_cmd.specs.declared.command.ShowValues.{ShowValues as HeldShow}
+use Rattle.pocket_cmd.specs.declared.command.TrialValues.{TrialValues as HeldTrial}
 use Rattle.pocket_cmd.specs.declared.command.Command.{Command as Held}
 use Rattle.pocket_cmd.specs.declared.command.Command.TheVariants as held
 
@@ -47,25 +48,37 @@ pub record ShowValues : Type 0 where
   pub bits : ℕ
   pub apid : ℕ
 
+-- what `trial` is told: the name of its output, the seed, the number of packets, the bits of a packet and the required
+-- robustness
+pub record TrialValues : Type 0 where
+  pub output : List ℕ
+  pub seed : ℕ
+  pub packets : ℕ
+  pub bits : ℕ
+  pub robust : ℕ
+
 -- a verb with its values
 pub data Command : Type 0 where
   Compress : CompressValues → Command
   Play : PlayValues → Command
   Restore : RestoreValues → Command
   Show : ShowValues → Command
+  Trial : TrialValues → Command
 
--- the names that a command opens: those of its side input, its input, its output and its report
+-- the names that a command opens: those of its side input, its input, its output and its report. Only that of an output is one
+-- that each has
 pub record Names : Type 0 where
   pub side : Option (List ℕ)
-  pub input : List ℕ
+  pub input : Option (List ℕ)
   pub output : List ℕ
   pub report : Option (List ℕ)
 
 abbrev pub names_of : Command → Names
-names_of (Compress c) = record { side = c.plan; input = c.input; output = c.output; report = None }
-names_of (Play p) = record { side = Some p.script; input = p.input; output = p.output; report = Some p.report }
-names_of (Restore r) = record { side = None; input = r.input; output = r.output; report = Some r.report }
-names_of (Show s) = record { side = None; input = s.input; output = s.output; report = None }
+names_of (Compress c) = record { side = c.plan; input = Some c.input; output = c.output; report = None }
+names_of (Play p) = record { side = Some p.script; input = Some p.input; output = p.output; report = Some p.report }
+names_of (Restore r) = record { side = None; input = Some r.input; output = r.output; report = Some r.report }
+names_of (Show s) = record { side = None; input = Some s.input; output = s.output; report = None }
+names_of (Trial t) = record { side = None; input = None; output = t.output; report = None }
 
 -- ---- what is right
 
@@ -83,17 +96,25 @@ pub record AreRight (c : CompressValues) : Type 0 where
   pub robust : c.robust ≤ 7
   pub mask : length c.mask ≡ c.bits
 
+-- the values of `trial` are within their bounds
+pub record IsTrialRight (t : TrialValues) : Type 0 where
+  pub seed : t.seed ≤ 4294967295
+  pub packets : (1 ≤ t.packets) × (t.packets ≤ 10000)
+  pub bits : (1 ≤ t.bits) × (t.bits ≤ 4096)
+  pub robust : t.robust ≤ 7
+
 -- the values of a command are within their bounds
 abbrev pub IsRight : Command → Type 0
 IsRight (Compress c) = AreRight c
 IsRight (Play p) = IsChosen p.apid
 IsRight (Restore r) = IsPlaces r.bits × IsChosen r.apid
 IsRight (Show s) = IsPlaces s.bits × IsChosen s.apid
+IsRight (Trial t) = IsTrialRight t
 
 -- each name is one that a word gives
 pub record AreGiven (words : List (List ℕ)) (names : Names) : Type 0 where
   pub side : IfSome names.side (λ name. Assigns words (codes "plan") name ⊎ Assigns words (codes "script") name)
-  pub input : Assigns words (codes "in") names.input
+  pub input : IfSome names.input (Assigns words (codes "in"))
   pub output : Assigns words (codes "out") names.output
   pub report : IfSome names.report (Assigns words (codes "report"))
 
@@ -119,11 +140,15 @@ view_restore r = record { input = r.input.now; output = r.output.now; report = r
 abbrev pub view_show : HeldShow → ShowValues
 view_show s = record { input = s.input.now; output = s.output.now; bits = s.bits.value; apid = s.apid.value }
 
+abbrev pub view_trial : HeldTrial → TrialValues
+view_trial t = record { output = t.output.now; seed = t.seed; packets = t.packets.value; bits = t.bits.value; robust = t.robust.value }
+
 abbrev pub view_command : Held → Command
 view_command (held.Compress c) = Compress (view_compress c)
 view_command (held.Play p) = Play (view_play p)
 view_command (held.Restore r) = Restore (view_restore r)
 view_command (held.Show s) = Show (view_show s)
+view_command (held.Trial t) = Trial (view_trial t)
 
 abbrev pub view_result : Result Held ℕ → Result Command ℕ
 view_result (Ok command) = Ok (view_command command)
@@ -177,11 +202,22 @@ show_values g missing = do
   apid ← ok_or g.apid missing
   Ok (record { input = input; output = output; bits = bits; apid = apid })
 
+-- what `trial` is told
+unfoldable pub trial_values : Given → ℕ → Result TrialValues ℕ
+trial_values g missing = do
+  output ← ok_or g.output missing
+  seed ← ok_or g.seed missing
+  packets ← ok_or g.packets missing
+  bits ← ok_or g.trial_bits missing
+  robust ← ok_or g.robust missing
+  Ok (record { output = output; seed = seed; packets = packets; bits = bits; robust = robust })
+
 abbrev pub with_values : Verb → Given → ℕ → Result Command ℕ
 with_values verb.Compress g missing = compress_values g missing >>= λ c. Ok (Compress c)
 with_values verb.Play g missing = play_values g missing >>= λ p. Ok (Play p)
 with_values verb.Restore g missing = restore_values g missing >>= λ r. Ok (Restore r)
 with_values verb.Show g missing = show_values g missing >>= λ s. Ok (Show s)
+with_values verb.Trial g missing = trial_values g missing >>= λ t. Ok (Trial t)
 
 -- the verb with its values; or the place of the first faulty word; or the number of words, where one is missing; or the
 -- place of the word with the mask, where its text says none

@@ -12,7 +12,7 @@ use Rattle.flight_chain.specs.Stores.{store_of}
 use Rattle.flight_chain.specs.Compressing.{history_by}
 use Rattle.loss_player.specs.Gaps.{AreGapsShort}
 use Rattle.loss_player.specs.Played.{played_bytes}
-use Rattle.pocket_cmd.specs.Command.{Command, Compress, CompressValues, Play, Restore, Show, Names, RestoreValues}
+use Rattle.pocket_cmd.specs.Command.{Command, Compress, CompressValues, Play, Restore, Show, Trial, Names, RestoreValues}
 use Rattle.pocket_cmd.specs.Courses.{compression_by}
 use Rattle.pocket_cmd.specs.Openings.{given}
 
@@ -27,13 +27,15 @@ IsSideRight (Compress c) text = (length text ≤ 1048576) × (bad_schedule_row t
 IsSideRight (Play p) text = (length text ≤ 1048576) × (bad_copy_row text ≡ None)
 IsSideRight (Restore r) text = text ≡ []
 IsSideRight (Show s) text = text ≡ []
+IsSideRight (Trial t) text = text ≡ []
 
--- a recording, or a store, is whole
+-- a recording, or a store, is whole; a trial has none
 abbrev pub IsWhole : Command → List ℕ → Type 0
 IsWhole (Compress c) recording = (recording_walk c.bits recording).ending ≡ None
 IsWhole (Play p) store = (walk (Some p.apid) store).ending ≡ None
 IsWhole (Restore r) store = (walk (Some r.apid) store).ending ≡ None
 IsWhole (Show s) store = (walk (Some s.apid) store).ending ≡ None
+IsWhole (Trial t) input = Unit {0}
 
 -- The store that is to be restored is the played store of a valid history: each packet arrives so many times, with gaps that
 -- are shorter than the period of the sequence counts.

@@ -1,6 +1,9 @@
 -- What a command owes once all memory of its run is taken, and what it writes.
-use Rattle.std.specs.Prelude.{ℕ, List, Bool, true, false}
+use Rattle.std.specs.Prelude.{ℕ, List, Bool, true, false, Some, None, Result, Ok, Err}
 use Rattle.desk_ports.specs.Courses.{Course}
+use Rattle.desk_ports.specs.Meanings.{Meanings}
+use Rattle.desk_ports.specs.Stop.{Stop}
+use Rattle.desk_ports.specs.Stop.{Data, ReadFault, WriteFault}
 use Rattle.side_tables.specs.Rows.{copies_of}
 use Rattle.flight_chain.specs.Compressing.{compress_course}
 use Rattle.loss_player.specs.Playing.{play_course}
@@ -8,8 +11,9 @@ use Rattle.ground_chain.specs.Listing.{listing_course}
 use Rattle.ground_chain.specs.Restoring.{restore_course}
 use Rattle.pocket_cmd.specs.declared.job.Job.{Job}
 use Rattle.pocket_cmd.specs.declared.job.Job.TheVariants as job
-use Rattle.pocket_cmd.specs.Courses.{with_fault}
+use Rattle.pocket_cmd.specs.Courses.{text_course, with_fault}
 use Rattle.pocket_cmd.specs.Faults.{DataFault, of_recording, of_store}
+use Rattle.pocket_cmd.specs.Unfed.{EndsBy, IsCutOffBy, IsCutShortBy}
 
 -- what a job owes for an input
 abbrev pub job_course : Job → List ℕ → Course DataFault
@@ -17,6 +21,15 @@ job_course (job.Compress flight) input = with_fault of_recording (compress_cours
 job_course (job.Play player) input = with_fault of_store (play_course (copies_of player.rows) player.apid input)
 job_course (job.Restore restorer) input = with_fault of_store (restore_course restorer.places restorer.apid input)
 job_course (job.Show lister) input = with_fault of_store (listing_course lister.places lister.apid input)
+job_course (job.Trial text) input = text_course text.items
+
+-- whether it reads an input
+abbrev pub reads_input : Job → Bool
+reads_input (job.Compress flight) = true
+reads_input (job.Play player) = true
+reads_input (job.Restore restorer) = true
+reads_input (job.Show lister) = true
+reads_input (job.Trial text) = false
 
 -- whether it writes a report
 abbrev pub writes_report : Job → Bool
@@ -24,3 +37,11 @@ writes_report (job.Compress flight) = false
 writes_report (job.Play player) = true
 writes_report (job.Restore restorer) = true
 writes_report (job.Show lister) = false
+writes_report (job.Trial text) = false
+
+-- after a job, which reads an input or has none, by its answer
+abbrev pub AfterJob : Bool → (List ℕ → Course DataFault) → Meanings → Meanings → Result (Unit {0}) (Stop DataFault) → Type 0
+AfterJob reads course old new (Ok done) = EndsBy reads course old new None
+AfterJob reads course old new (Err (Data fault)) = EndsBy reads course old new (Some fault)
+AfterJob reads course old new (Err ReadFault) = IsCutOffBy reads course old new
+AfterJob reads course old new (Err WriteFault) = IsCutShortBy reads course old new

@@ -2,8 +2,10 @@ pub mod Words
 pub mod Masks
 pub mod Command
 pub mod Faults
+pub mod Summary
 pub mod Courses
 pub mod Openings
+pub mod Unfed
 pub mod Jobs
 pub mod Outcome
 pub mod Status

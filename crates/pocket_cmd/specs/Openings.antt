@@ -1,5 +1,5 @@
 -- What reading a side input, and opening and finishing the names of a command, do to a desk.
-use Rattle.std.specs.Prelude.{◌≡◌, ℕ, ◌<◌, ◌≤◌, ◌⊎◌, true, List, [], length, Option, Some, None, Result, Ok, Err, IfSome}
+use Rattle.std.specs.Prelude.{◌≡◌, ℕ, ◌<◌, ◌≤◌, ◌⊎◌, true, List, [], length, Option, Some, None, Result, Ok, Err, IfSome, IsSome}
 use Rattle.std.specs.Option.{option_map}
 use Rattle.desk_ports.specs.Meanings.{Meanings, Counts, Kept, FailsToRead, FailsToWrite, kept_at, kept_after, left, made, with_incoming, with_outgoing}
 use Rattle.desk_ports.specs.declared.desk.Inlet.{Inlet}
@@ -15,7 +15,7 @@ use Rattle.pocket_cmd.specs.Command.{Names}
 abbrev pub view_names : Held → Names
 view_names names = record {
   side = option_map (λ name. name.now) names.side;
-  input = names.input.now;
+  input = option_map (λ name. name.now) names.input;
   output = names.output.now;
   report = option_map (λ name. name.now) names.report;
 }
@@ -36,9 +36,14 @@ abbrev pub side_given : Meanings → Option (List ℕ) → Option (List ℕ)
 side_given m None = Some []
 side_given m (Some name) = given m inlet.Side name
 
+-- the bytes of an input, where the desk tells them; none are read where there is none
+abbrev pub input_given : Meanings → Option (List ℕ) → Option (List ℕ)
+input_given m None = Some []
+input_given m (Some name) = given m inlet.Main name
+
 -- the desk tells both inputs of these names
 abbrev pub AreTold : Names → Meanings → List ℕ → List ℕ → Type 0
-AreTold names m text input = (side_given m names.side ≡ Some text) × (given m inlet.Main names.input ≡ Some input)
+AreTold names m text input = (side_given m names.side ≡ Some text) × (input_given m names.input ≡ Some input)
 
 -- the text is that of the side input, where the desk tells it
 abbrev pub IsSideText : Meanings → Option (List ℕ) → List ℕ → Type 0
@@ -71,9 +76,10 @@ HasSideCause old new (Err unread.NoMemory) = new ≡ old
 
 -- ---- opening
 
--- the input is opened, and has these bytes
-abbrev pub with_input : Meanings → List ℕ → Meanings
-with_input m bytes = with_incoming m inlet.Main (record { left = option_map (λ _. bytes) (left m inlet.Main); ready = true })
+-- the input is opened, where there is one, and has these bytes
+abbrev pub with_input : Meanings → Option (List ℕ) → List ℕ → Meanings
+with_input m None bytes = m
+with_input m (Some name) bytes = with_incoming m inlet.Main (record { left = option_map (λ _. bytes) (left m inlet.Main); ready = true })
 
 -- the output is opened under a name
 abbrev pub with_output : Meanings → List ℕ → Meanings
@@ -87,16 +93,19 @@ with_report m (Some name) =
 
 -- all names but that of the side input are opened, and the input has these bytes
 abbrev pub all_opened : Names → Meanings → List ℕ → Meanings
-all_opened names old bytes = with_report (with_output (with_input old bytes) names.output) names.report
+all_opened names old bytes = with_report (with_output (with_input old names.input bytes) names.output) names.report
 
--- the bytes are those that are kept under a name, where the desk tells what it keeps
-abbrev pub AreKept : Meanings → List ℕ → List ℕ → Type 0
-AreKept m name bytes = IfSome m.held (λ kept. bytes ≡ kept_at kept name)
+-- the bytes are those that are kept under the input's name, where the desk tells what it keeps, and none where there is no
+-- input
+abbrev pub AreKept : Meanings → Option (List ℕ) → List ℕ → Type 0
+AreKept m None bytes = bytes ≡ []
+AreKept m (Some name) bytes = IfSome m.held (λ kept. bytes ≡ kept_at kept name)
 
 -- what was opened before the report, where there is one, stands
 abbrev pub LacksReport : Names → Option (List ℕ) → Meanings → Meanings → List ℕ → Type 0
-LacksReport names None old new bytes = new ≡ with_input old bytes
-LacksReport names (Some report) old new bytes = (new ≡ with_input old bytes) ⊎ (new ≡ with_output (with_input old bytes) names.output)
+LacksReport names None old new bytes = new ≡ with_input old names.input bytes
+LacksReport names (Some report) old new bytes =
+    (new ≡ with_input old names.input bytes) ⊎ (new ≡ with_output (with_input old names.input bytes) names.output)
 
 -- the output, or the report, was not opened: what was opened before it stands so
 abbrev pub IsHalfOpened : Names → Meanings → Meanings → List ℕ → Type 0
@@ -105,7 +114,7 @@ IsHalfOpened names old new bytes = LacksReport names names.report old new bytes
 -- after the opening of all names
 abbrev pub AfterOpening : Names → Meanings → Meanings → Result (Unit {0}) Unopened → Type 0
 AfterOpening names old new (Ok done) = (bytes : List ℕ) × AreKept old names.input bytes × (new ≡ all_opened names old bytes)
-AfterOpening names old new (Err unopened.Input) = new ≡ old
+AfterOpening names old new (Err unopened.Input) = IsSome names.input × (new ≡ old)
 AfterOpening names old new (Err unopened.Output) = (bytes : List ℕ) × AreKept old names.input bytes × IsHalfOpened names old new bytes
 
 -- why a name was not opened: reading or writing failed, and otherwise both counts are as before

@@ -1,8 +1,7 @@
 -- What a command leaves of a desk, by the way it ended.
-use Rattle.std.specs.Prelude.{◌≡◌, ◌≢◌, ℕ, ◌⊎◌, nat_lt, List, length, Option, Some, None, Result, Ok, Err, if◌then◌else◌}
-use Rattle.desk_ports.specs.Courses.{Course, Ends, IsCutOff, IsCutShort}
+use Rattle.std.specs.Prelude.{◌≡◌, ◌≢◌, ℕ, ◌⊎◌, nat_lt, List, length, Option, Some, None, Result, Ok, Err, is_some, IsSome, if◌then◌else◌}
+use Rattle.desk_ports.specs.Courses.{Course}
 use Rattle.desk_ports.specs.Meanings.{Meanings, Counts, Rose}
-use Rattle.desk_ports.specs.declared.desk.Inlet.TheVariants as inlet
 use Rattle.desk_ports.specs.Stop.{Stop}
 use Rattle.desk_ports.specs.Stop.{Data, ReadFault, WriteFault}
 use Rattle.pocket_cmd.specs.Faults.{DataFault}
@@ -13,17 +12,24 @@ use Rattle.pocket_cmd.specs.declared.status.Refusal.{Refusal}
 use Rattle.pocket_cmd.specs.declared.status.Refusal.TheVariants as refusal
 use Rattle.pocket_cmd.specs.Command.{Names, Command, names_of}
 use Rattle.pocket_cmd.specs.Courses.{course_of, bad_row_of}
+use Rattle.pocket_cmd.specs.Unfed.{EndsBy, IsCutOffBy, IsCutShortBy}
 use Rattle.pocket_cmd.specs.Status.{status_of, status_by}
-use Rattle.pocket_cmd.specs.Openings.{AreKept, IsSideText, IsSideLong, KeepsAll, with_side, all_opened, all_finished, IsHalfOpened, IsHalfKept, given, side_given}
+use Rattle.pocket_cmd.specs.Openings.{AreKept, IsSideText, IsSideLong, KeepsAll, with_side, all_opened, all_finished, IsHalfOpened, IsHalfKept, input_given, side_given}
 
 -- ---- behind the side input
 
--- the input has these bytes, which are those kept under its name, where the desk tells them; and this holds of the desk at
--- which all names are opened
+-- the input has these bytes, which are those kept under its name, where the desk tells them, and none where there is no input;
+-- and this holds of the desk at which all names are opened
 pub record Behind (names : Names) (old : Meanings) (After : Meanings → Type 0) : Type 0 where
   pub input : List ℕ
   pub kept : AreKept old names.input input
   pub after : After (all_opened names old input)
+
+-- all names are opened
+pub record AreOpened (names : Names) (old start : Meanings) : Type 0 where
+  pub input : List ℕ
+  pub kept : AreKept old names.input input
+  pub is : start ≡ all_opened names old input
 
 -- where the run has no fault, the outputs are finished
 abbrev pub finished_where : Option DataFault → Option (List ℕ) → Meanings → Meanings
@@ -31,16 +37,16 @@ finished_where None report m = all_finished report m
 finished_where (Some fault) report m = m
 
 -- the run is done, and the outputs are finished where it has no fault
-pub record IsRunOut (course : List ℕ → Course DataFault) (report : Option (List ℕ)) (ending : Option DataFault) (start new : Meanings) : Type 0 where
+pub record IsRunOut (names : Names) (course : List ℕ → Course DataFault) (ending : Option DataFault) (start new : Meanings) : Type 0 where
   pub end : Meanings
-  pub ran : Ends course start end ending
-  pub is : new ≡ finished_where ending report end
+  pub ran : EndsBy (is_some names.input) course start end ending
+  pub is : new ≡ finished_where ending names.report end
 
 -- the outputs of a run that has no fault were not finished
-pub record IsUnfinished (course : List ℕ → Course DataFault) (report : Option (List ℕ)) (start new : Meanings) : Type 0 where
+pub record IsUnfinished (names : Names) (course : List ℕ → Course DataFault) (start new : Meanings) : Type 0 where
   pub end : Meanings
-  pub ran : Ends course start end None
-  pub is : IsHalfKept report end new
+  pub ran : EndsBy (is_some names.input) course start end None
+  pub is : IsHalfKept names.report end new
 
 -- an output was not opened
 pub record IsUnopened (names : Names) (old new : Meanings) : Type 0 where
@@ -50,20 +56,20 @@ pub record IsUnopened (names : Names) (old new : Meanings) : Type 0 where
 
 -- all that the course of the input owes stands, which ends so
 abbrev pub RunStands : Names → (List ℕ → Course DataFault) → Meanings → Meanings → Option DataFault → Type 0
-RunStands names course old new ending = Behind names old (λ start. IsRunOut course names.report ending start new)
+RunStands names course old new ending = Behind names old (λ start. IsRunOut names course ending start new)
 
 -- reading failed: the input was not opened; or what the bytes owe that were moved before the failing read stands, and
 -- nothing is kept
 abbrev pub IsRunUnread : Names → (List ℕ → Course DataFault) → Meanings → Meanings → Type 0
-IsRunUnread names course old new = (new ≡ old) ⊎ Behind names old (λ start. IsCutOff course start new)
+IsRunUnread names course old new = (IsSome names.input × (new ≡ old)) ⊎ Behind names old (λ start. IsCutOffBy (is_some names.input) course start new)
 
 -- writing failed: an output was not opened; or a front of what is owed stands, and nothing is kept; or the outputs were not
 -- finished
 abbrev pub IsRunUnwritten : Names → (List ℕ → Course DataFault) → Meanings → Meanings → Type 0
 IsRunUnwritten names course old new =
     IsUnopened names old new
-    ⊎ (Behind names old (λ start. IsCutShort course start new)
-    ⊎ Behind names old (λ start. IsUnfinished course names.report start new))
+    ⊎ (Behind names old (λ start. IsCutShortBy (is_some names.input) course start new)
+    ⊎ Behind names old (λ start. IsUnfinished names course start new))
 
 -- after a run, by its answer
 abbrev pub AfterNames : Names → (List ℕ → Course DataFault) → Meanings → Meanings → Result (Unit {0}) (Stop DataFault) → Type 0
@@ -100,10 +106,10 @@ abbrev pub IsUntouched : Command → Meanings → Meanings → Type 0
 IsUntouched command old new = KeepsAll (names_of command).side old new
 
 -- reading failed: nothing changed but the side input, or what the bytes owe that were moved before the failing read stands,
--- and nothing is kept
+-- and nothing is kept. So a command without an input and a side input has no such answer.
 abbrev pub IsUnread : Command → Meanings → Meanings → Type 0
 IsUnread command old new =
-    IsUntouched command old new
+    (IsSome (names_of command).side × IsUntouched command old new)
     ⊎ BehindSide (names_of command).side old (λ text start. IsRunUnread (names_of command) (course_of command text) start new)
 
 -- writing failed: an output was not opened; or a front of what is owed stands, and nothing is kept; or the outputs were not
@@ -167,12 +173,12 @@ NoneRose old new = (¬ Rose old.reads new.reads) × (¬ Rose old.writes new.writ
 -- where the input is told, memory was found and no count rose, the answer is this one
 abbrev pub IsAnsweredBy : Command → List ℕ → Meanings → Counts → Counts → Result (Unit {0}) Refusal → Type 0
 IsAnsweredBy command text m old new result =
-    (input : List ℕ) → given m inlet.Main (names_of command).input ≡ Some input → status_by result ≢ Refused refusal.NoMemory
+    (input : List ℕ) → input_given m (names_of command).input ≡ Some input → status_by result ≢ Refused refusal.NoMemory
     → ¬ Rose old.reads new.reads → ¬ Rose old.writes new.writes → status_by result ≡ answer_by command text input
 
 -- the same where the side text is told, too
 abbrev pub IsAnswered : Command → Meanings → Counts → Counts → Result (Unit {0}) Refusal → Type 0
 IsAnswered command m old new result =
-    (text input : List ℕ) → side_given m (names_of command).side ≡ Some text → given m inlet.Main (names_of command).input ≡ Some input
+    (text input : List ℕ) → side_given m (names_of command).side ≡ Some text → input_given m (names_of command).input ≡ Some input
     → status_by result ≢ Refused refusal.NoMemory → ¬ Rose old.reads new.reads → ¬ Rose old.writes new.writes
     → status_by result ≡ answer_to command text input

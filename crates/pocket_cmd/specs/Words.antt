@@ -8,7 +8,7 @@ use Rattle.std.specs.List.{list_any, before_first, after_first, position_or_len}
 use Rattle.std.specs.Str.{bytes_eq}
 use Rattle.side_tables.specs.Numbers.{number_of}
 use Rattle.pocket_cmd.specs.declared.words.Verb.{Verb}
-use Rattle.pocket_cmd.specs.declared.words.Verb.TheVariants.{Compress, Play, Restore, Show}
+use Rattle.pocket_cmd.specs.declared.words.Verb.TheVariants.{Compress, Play, Restore, Show, Trial}
 use Rattle.pocket_cmd.specs.declared.words.Given.{Given as Held}
 
 -- the verb that a word names
@@ -18,7 +18,8 @@ verb_of word =
     else (if bytes_eq word (codes "play") then Some Play
     else (if bytes_eq word (codes "restore") then Some Restore
     else (if bytes_eq word (codes "show") then Some Show
-    else None)))
+    else (if bytes_eq word (codes "trial") then Some Trial
+    else None))))
 
 -- the keys of each verb
 abbrev pub keys_of : Verb → List (List ℕ)
@@ -26,6 +27,7 @@ keys_of Compress = codes "in" ∷ codes "out" ∷ codes "bits" ∷ codes "apid" 
 keys_of Play = codes "in" ∷ codes "out" ∷ codes "apid" ∷ codes "script" ∷ codes "report" ∷ []
 keys_of Restore = codes "in" ∷ codes "out" ∷ codes "report" ∷ codes "bits" ∷ codes "apid" ∷ []
 keys_of Show = codes "in" ∷ codes "out" ∷ codes "bits" ∷ codes "apid" ∷ []
+keys_of Trial = codes "seed" ∷ codes "packets" ∷ codes "bits" ∷ codes "robust" ∷ codes "out" ∷ []
 
 abbrev pub has_key : Verb → List ℕ → Bool
 has_key verb key = list_any (bytes_eq key) (keys_of verb)
@@ -40,11 +42,15 @@ pub record Given : Type 0 where
   pub bits : Option ℕ
   pub apid : Option ℕ
   pub robust : Option ℕ
+  pub seed : Option ℕ
+  pub packets : Option ℕ
+  -- the bits of a packet, of a trial
+  pub trial_bits : Option ℕ
   -- the place of its word, and the digits
   pub mask : Option (ℕ × List ℕ)
 
 abbrev pub nothing_given : Given
-nothing_given = record { input = None; plan = None; script = None; output = None; report = None; bits = None; apid = None; robust = None; mask = None }
+nothing_given = record { input = None; plan = None; script = None; output = None; report = None; bits = None; apid = None; robust = None; seed = None; packets = None; trial_bits = None; mask = None }
 
 abbrev pub view_digits : Option (ℕ × Bor (List ℕ)) → Option (ℕ × List ℕ)
 view_digits mask = option_map (λ mask. (mask.0, mask.1.now)) mask
@@ -59,6 +65,9 @@ view_given g = record {
   bits = option_map (λ places. places.value) g.bits;
   apid = option_map (λ apid. apid.value) g.apid;
   robust = option_map (λ robust. robust.value) g.robust;
+  seed = g.seed;
+  packets = option_map (λ packets. packets.value) g.packets;
+  trial_bits = option_map (λ places. places.value) g.trial_bits;
   mask = view_digits g.mask;
 }
 
@@ -87,20 +96,30 @@ abbrev pub once : {A : Type 0} → Option A → Option A → Option A
 once None value = value
 once (Some old) value = None
 
+-- the bits of a packet are 1 to 49,152, those of a trial at most 4,096
+abbrev pub with_bits : Verb → Given → List ℕ → Option Given
+with_bits Trial g text = option_map (λ n. record g { trial_bits = Some n }) (once g.trial_bits (number_of 1 4096 text))
+with_bits Compress g text = option_map (λ n. record g { bits = Some n }) (once g.bits (number_of 1 49152 text))
+with_bits Play g text = option_map (λ n. record g { bits = Some n }) (once g.bits (number_of 1 49152 text))
+with_bits Restore g text = option_map (λ n. record g { bits = Some n }) (once g.bits (number_of 1 49152 text))
+with_bits Show g text = option_map (λ n. record g { bits = Some n }) (once g.bits (number_of 1 49152 text))
+
 -- what is given when the word at this place gives this text to a key: each key has one value, a name, a plain decimal within
 -- its bounds, or any text
-abbrev pub with_text : Given → ℕ → List ℕ → List ℕ → Option Given
-with_text g place key text =
+abbrev pub with_text : Verb → Given → ℕ → List ℕ → List ℕ → Option Given
+with_text verb g place key text =
     if bytes_eq key (codes "in") then option_map (λ name. record g { input = Some name }) (once g.input (name_in g text))
     else (if bytes_eq key (codes "plan") then option_map (λ name. record g { plan = Some name }) (once g.plan (name_in g text))
     else (if bytes_eq key (codes "script") then option_map (λ name. record g { script = Some name }) (once g.script (name_in g text))
     else (if bytes_eq key (codes "out") then option_map (λ name. record g { output = Some name }) (once g.output (name_out g text))
     else (if bytes_eq key (codes "report") then option_map (λ name. record g { report = Some name }) (once g.report (name_out g text))
-    else (if bytes_eq key (codes "bits") then option_map (λ n. record g { bits = Some n }) (once g.bits (number_of 1 49152 text))
+    else (if bytes_eq key (codes "bits") then with_bits verb g text
     else (if bytes_eq key (codes "apid") then option_map (λ n. record g { apid = Some n }) (once g.apid (number_of 0 2046 text))
     else (if bytes_eq key (codes "robust") then option_map (λ n. record g { robust = Some n }) (once g.robust (number_of 0 7 text))
+    else (if bytes_eq key (codes "seed") then option_map (λ n. record g { seed = Some n }) (once g.seed (number_of 0 4294967295 text))
+    else (if bytes_eq key (codes "packets") then option_map (λ n. record g { packets = Some n }) (once g.packets (number_of 1 10000 text))
     else (if bytes_eq key (codes "mask") then option_map (λ digits. record g { mask = Some digits }) (once g.mask (Some (place, text)))
-    else None))))))))
+    else None))))))))))
 
 abbrev pub is_equals_sign : ℕ → Bool
 is_equals_sign c = c == 61
@@ -109,7 +128,7 @@ is_equals_sign c = c == 61
 abbrev pub with_word : Verb → Given → ℕ → List ℕ → Option Given
 with_word verb g place word =
     if nat_lt (position_or_len is_equals_sign word) (length word) && has_key verb (before_first is_equals_sign word)
-    then with_text g place (before_first is_equals_sign word) (after_first is_equals_sign word)
+    then with_text verb g place (before_first is_equals_sign word) (after_first is_equals_sign word)
     else None
 
 infixl 10 ◌>>=◌

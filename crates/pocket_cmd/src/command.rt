@@ -2,13 +2,13 @@
 ghost use Rattle.std.specs.Prelude.{◌≡◌, ◌<◌, ◌^◌, length, map, Ok, Err, MatchResult};
 ghost use Rattle.std.specs.Option.{option_map};
 ghost use Rattle.std.specs.String.{string_bytes};
-ghost use Rattle.pocket_cmd.specs.Command.{compress_values, play_values, restore_values, show_values, mask_given, view_compress, view_play, view_restore, view_show, view_command, view_result, command_of, names_of};
+ghost use Rattle.pocket_cmd.specs.Command.{compress_values, play_values, restore_values, show_values, trial_values, mask_given, view_compress, view_play, view_restore, view_show, view_trial, view_command, view_result, command_of, names_of};
 ghost use Rattle.pocket_cmd.specs.Masks.{first_mask};
 ghost use Rattle.pocket_cmd.specs.Openings.{view_names};
 ghost use Rattle.pocket_cmd.specs.Words.{view_given, view_digits};
 
 use crate::mask::is_mask;
-use crate::numbers::{Apid, Places, Robustness};
+use crate::numbers::{Apid, Places, Robustness, TrialPackets, TrialPlaces};
 use crate::run::Names;
 use crate::words::{Given, Verb};
 
@@ -55,6 +55,17 @@ pub struct ShowValues<'a> {
     pub apid: Apid,
 }
 
+/// What `trial` is told: the name of the summary, the seed, how many packets there are, the bits of a packet and the required
+/// robustness.
+#[derive(Clone, Copy, Debug)]
+pub struct TrialValues<'a> {
+    pub output: &'a str,
+    pub seed: u32,
+    pub packets: TrialPackets,
+    pub bits: TrialPlaces,
+    pub robust: Robustness,
+}
+
 /// What is to be done.
 #[derive(Clone, Copy, Debug)]
 pub enum Command<'a> {
@@ -66,6 +77,8 @@ pub enum Command<'a> {
     Restore(RestoreValues<'a>),
     /// List what is found for each packet of a store.
     Show(ShowValues<'a>),
+    /// Run a trial.
+    Trial(TrialValues<'a>),
 }
 
 impl<'a> Command<'a> {
@@ -86,6 +99,7 @@ impl<'a> Command<'a> {
             Verb::Play => Ok(Command::Play(play_values(&given, missing)?)),
             Verb::Restore => Ok(Command::Restore(restore_values(&given, missing)?)),
             Verb::Show => Ok(Command::Show(show_values(&given, missing)?)),
+            Verb::Trial => Ok(Command::Trial(trial_values(&given, missing)?)),
         }
     }
 
@@ -96,25 +110,31 @@ impl<'a> Command<'a> {
         match self {
             Command::Compress(told) => Names {
                 side: told.plan,
-                input: told.input,
+                input: Some(told.input),
                 output: told.output,
                 report: None,
             },
             Command::Play(told) => Names {
                 side: Some(told.script),
-                input: told.input,
+                input: Some(told.input),
                 output: told.output,
                 report: Some(told.report),
             },
             Command::Restore(told) => Names {
                 side: None,
-                input: told.input,
+                input: Some(told.input),
                 output: told.output,
                 report: Some(told.report),
             },
             Command::Show(told) => Names {
                 side: None,
-                input: told.input,
+                input: Some(told.input),
+                output: told.output,
+                report: None,
+            },
+            Command::Trial(told) => Names {
+                side: None,
+                input: None,
                 output: told.output,
                 report: None,
             },
@@ -200,5 +220,21 @@ fn show_values<'a>(given: &Given<'a>, missing: u32) -> Result<ShowValues<'a>, u3
         output: given.output.ok_or(missing)?,
         bits: given.bits.ok_or(missing)?,
         apid: given.apid.ok_or(missing)?,
+    })
+}
+
+/// What `trial` is told by what the words give, or the number of all words where one is missing.
+#[tactic(auto, unfolding(crate::specs::Command::trial_values))]
+fn trial_values<'a>(given: &Given<'a>, missing: u32) -> Result<TrialValues<'a>, u32>
+    ensures { MatchResult result
+        (λ told. trial_values (view_given given.now) missing ≡ Ok (view_trial told))
+        (λ word. trial_values (view_given given.now) missing ≡ Err word) }
+{
+    Ok(TrialValues {
+        output: given.output.ok_or(missing)?,
+        seed: given.seed.ok_or(missing)?,
+        packets: given.packets.ok_or(missing)?,
+        bits: given.trial_bits.ok_or(missing)?,
+        robust: given.robust.ok_or(missing)?,
     })
 }

@@ -1,31 +1,33 @@
 //! A command whose memory is taken.
-ghost use Rattle.std.specs.Prelude.{◌≡◌, ◌≢◌, ◌≤◌, ℕ, Some, Err, length, IsTrue, is_some, IfOk, OnOk};
-ghost use Rattle.desk_ports.specs.Courses.{AfterRun};
-ghost use Rattle.desk_ports.specs.Meanings.{IsReadyIn, IsReadyOut};
+ghost use Rattle.std.specs.Prelude.{◌≡◌, ◌≢◌, ◌≤◌, ℕ, Some, Err, length, IsTrue, is_some, IfOk, OnOk, OnErr};
+ghost use Rattle.desk_ports.specs.Meanings.{Adds, AddsFront, HasWriteCause, IsReadyIn, IsReadyOut};
 ghost use Rattle.side_tables.specs.Grammar.{bad_copy_row, bad_schedule_row, copy_rows_of};
 ghost use Rattle.pocket_cmd.specs.Command.{names_of, view_command, view_compress};
 ghost use Rattle.pocket_cmd.specs.Courses.{course_of, bad_row_of, compression_by};
-ghost use Rattle.pocket_cmd.specs.Jobs.{job_course, writes_report};
+ghost use Rattle.pocket_cmd.specs.Jobs.{AfterJob, job_course, reads_input, writes_report};
 ghost use Rattle.pocket_cmd.specs.Status.{HasStatusCause, IsEnded, status_by};
 
 use crate::command::{Command, CompressValues, PlayValues, RestoreValues, ShowValues};
 use crate::mask::first_mask;
 use crate::status::Refusal;
+use crate::summary::summary_text;
 use bit_vectors::NoMemory;
-use desk_ports::{Desk, Inlet, Outlet};
+use desk_ports::{Desk, Failed, Inlet, Outlet, write_all};
 use flight_chain::Flight;
 use ground_chain::{Lister, Restorer};
 use loss_player::Player;
 use side_tables::{Schedule, Script, SideFault};
 use std::alloc::Global;
 
-/// What reads the main input to its end and writes the outputs. It owns all memory of its run.
+/// What reads the main input to its end, where there is one, and writes the outputs. It owns all memory of its run.
 #[derive(Drop)]
 pub enum Job {
     Compress(Flight),
     Play(Player),
     Restore(Restorer),
     Show(Lister),
+    /// The text of a trial's summary.
+    Trial(Vec<u8>),
 }
 
 impl Job {
@@ -34,6 +36,8 @@ impl Job {
         requires { length text.now ≤ 1048576 }
         ensures course { IfOk result
             (λ job. job_course job ≡ course_of (view_command command.now) text.now) }
+        ensures input { IfOk result
+            (λ job. reads_input job ≡ is_some (names_of (view_command command.now)).input) }
         ensures report { IfOk result
             (λ job. writes_report job ≡ is_some (names_of (view_command command.now)).report) }
         ensures rows { OnOk result (bad_row_of (view_command command.now) text.now ≡ None) }
@@ -46,16 +50,18 @@ impl Job {
             Command::Play(told) => Ok(Job::Play(player(alloc, told, text)?)),
             Command::Restore(told) => Ok(Job::Restore(restorer(alloc, told)?)),
             Command::Show(told) => Ok(Job::Show(lister(alloc, told)?)),
+            Command::Trial(told) => Ok(Job::Trial(summary_text(alloc, told)?)),
         }
     }
 
     /// Runs over a desk at which the input and the outputs are opened. It takes no memory.
     pub fn run<D: Desk>(self, desk: &mut D) -> Result<(), Refusal>
-        requires input { IsReadyIn (D.meaning desk.old) Inlet.Main }
+        requires input { IsTrue (reads_input self) → IsReadyIn (D.meaning desk.old) Inlet.Main }
         requires output { IsReadyOut (D.meaning desk.old) Outlet.Main }
         requires report { IsTrue (writes_report self)
             → IsReadyOut (D.meaning desk.old) Outlet.Report }
-        ensures ran { IsEnded (AfterRun (job_course self) (D.meaning desk.old) (D.meaning desk.new))
+        ensures ran { IsEnded
+            (AfterJob (reads_input self) (job_course self) (D.meaning desk.old) (D.meaning desk.new))
             result }
         ensures cause { HasStatusCause (D.counts desk.old) (D.counts desk.new) (status_by result) }
         ensures ready_out { OnOk result (IsReadyOut (D.meaning desk.new) Outlet.Main) }
@@ -79,8 +85,24 @@ impl Job {
                 Ok(_) => Ok(()),
                 Err(fault) => Err(fault.into()),
             },
+            Job::Trial(text) => match write_text(text, desk) {
+                Ok(()) => Ok(()),
+                Err(_) => Err(Refusal::WriteFault),
+            },
         }
     }
+}
+
+/// Writes a text to the main output.
+fn write_text<D: Desk>(text: Vec<u8>, desk: &mut D) -> Result<(), Failed>
+    requires { IsReadyOut (D.meaning desk.old) Outlet.Main }
+    ensures added { OnOk result
+        (Adds (D.meaning desk.old) (D.meaning desk.new) Outlet.Main text.items) }
+    ensures front { OnErr result
+        (AddsFront (D.meaning desk.old) (D.meaning desk.new) Outlet.Main text.items) }
+    ensures cause { HasWriteCause (D.counts desk.old) (D.counts desk.new) result }
+{
+    write_all(desk, Outlet::Main, &text)
 }
 
 /// The flight of `compress`, whose schedule has this text.

@@ -1,5 +1,5 @@
 //! Laws of the definitions that the top call's contract cites.
-ghost use Rattle.std.specs.Prelude.{◌≡◌, ◌≤◌, ◌<◌, ◌^◌, ℕ, [], length, All, List, Ok, Some, None};
+ghost use Rattle.std.specs.Prelude.{◌≡◌, ◌⊎◌, ◌≤◌, ◌<◌, ◌^◌, ℕ, [], length, All, List, Ok, Some, None};
 ghost use Rattle.desk_ports.specs.Courses.{owed, to_output};
 ghost use Rattle.desk_ports.specs.Meanings.{Meanings};
 ghost use Rattle.mask_update.specs.Histories.{History, IsValid};
@@ -11,13 +11,14 @@ ghost use Rattle.loss_player.specs.Gaps.{AreGapsShort};
 ghost use Rattle.loss_player.specs.Played.{played_bytes, played_of};
 ghost use Rattle.loss_player.specs.Report.{play_report};
 ghost use Rattle.ground_chain.specs.Deliveries.{report_text, restored_bytes};
-ghost use Rattle.pocket_cmd.specs.Command.{Command, Compress, CompressValues, Play, PlayValues, Restore, RestoreValues, AreGiven, IsRight, command_of, names_of};
+ghost use Rattle.pocket_cmd.specs.Command.{Command, Compress, CompressValues, Play, PlayValues, Restore, RestoreValues, Trial, TrialValues, AreGiven, IsRight, command_of, names_of};
 ghost use Rattle.pocket_cmd.specs.Courses.{course_of};
 ghost use Rattle.pocket_cmd.specs.Delivery.{HasWritten, IsWhole, recorded_history};
-ghost use Rattle.pocket_cmd.specs.Openings.{given, side_given};
-ghost use Rattle.pocket_cmd.specs.Outcome.{Stands};
+ghost use Rattle.pocket_cmd.specs.Openings.{input_given, side_given};
+ghost use Rattle.pocket_cmd.specs.Outcome.{AfterRefusal, Stands};
+ghost use Rattle.pocket_cmd.specs.Summary.{summary_by};
 
-use desk_ports::Inlet;
+use crate::status::Refusal;
 
 /// A command's values are within their bounds, and each of its names is one that a word gives.
 pub fn commands_are_given()
@@ -32,8 +33,18 @@ pub fn done_commands_wrote_all()
     ensures { (command : Command) (old new : Meanings) (text input : List ℕ)
         → Stands command old new None
         → side_given old (names_of command).side ≡ Some text
-        → given old Inlet.Main (names_of command).input ≡ Some input
+        → input_given old (names_of command).input ≡ Some input
         → HasWritten (names_of command) (owed (course_of command text input)) new }
+{}
+
+/// A trial owes its summary, whatever a side text or an input would be, and reads nothing: it is refused only where a writing
+/// failed, or where memory was wanting.
+pub fn trials_owe_their_summary()
+    ensures summary { (t : TrialValues) (text input : List ℕ)
+        → owed (course_of (Trial t) text input) ≡ to_output (summary_by t) }
+    ensures refused { (t : TrialValues) (old new : Meanings) (refusal : Refusal)
+        → AfterRefusal (Trial t) old new refusal
+        → (refusal ≡ Refusal.WriteFault) ⊎ (refusal ≡ Refusal.NoMemory) }
 {}
 
 /// What the commands hand on to one another. The store that `compress` owes for a whole recording is that of a valid history;

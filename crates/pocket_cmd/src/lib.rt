@@ -10,11 +10,14 @@ mod rehearsal;
 mod run;
 mod side;
 mod status;
+mod summary;
 mod top;
 mod words;
 mod work;
 
-pub use laws::{commands_are_given, commands_compose, done_commands_wrote_all};
+pub use laws::{
+    commands_are_given, commands_compose, done_commands_wrote_all, trials_owe_their_summary,
+};
 pub use rehearsal::rehearse;
 pub use status::{Refusal, Status, exit_code};
 pub use top::pocket;

@@ -23,6 +23,49 @@ impl Places {
     }
 }
 
+/// The bits of a packet of a trial.
+#[derive(Clone, Copy, Debug, PartialEq, Eq)]
+pub struct TrialPlaces {
+    pub value: u32,
+    ghost some: { 1 ≤ value },
+    ghost most: { value ≤ 4096 },
+}
+
+impl TrialPlaces {
+    /// The number that a plain decimal says.
+    pub fn read(text: &str) -> Option<TrialPlaces>
+        ensures { option_map (λ places. places.value) result ≡ number_of 1 4096 text.now }
+    {
+        let value = number(text.as_bytes(), 1, 4096)?;
+        Some(TrialPlaces { value })
+    }
+}
+
+/// The packets of a trial.
+#[derive(Clone, Copy, Debug, PartialEq, Eq)]
+pub struct TrialPackets {
+    pub value: u32,
+    ghost some: { 1 ≤ value },
+    ghost most: { value ≤ 10000 },
+}
+
+impl TrialPackets {
+    /// The number that a plain decimal says.
+    pub fn read(text: &str) -> Option<TrialPackets>
+        ensures { option_map (λ packets. packets.value) result ≡ number_of 1 10000 text.now }
+    {
+        let value = number(text.as_bytes(), 1, 10_000)?;
+        Some(TrialPackets { value })
+    }
+}
+
+/// The seed of a trial, which a plain decimal says.
+pub fn seed(text: &str) -> Option<u32>
+    ensures { result ≡ number_of 0 4294967295 text.now }
+{
+    number(text.as_bytes(), 0, u32::MAX)
+}
+
 /// An APID which is no idle one.
 #[derive(Clone, Copy, Debug, PartialEq, Eq)]
 pub struct Apid {

@@ -1,10 +1,10 @@
 //! A run over a desk: opening the names of a command, running its job, and finishing its outputs.
-ghost use Rattle.std.specs.Prelude.{◌≡◌, is_some, IsTrue, IfSome, IsSome, IfErr, OnOk, OnErr};
+ghost use Rattle.std.specs.Prelude.{◌≡◌, ℕ, List, is_some, IsTrue, IfSome, IsSome, IfErr, OnOk, OnErr};
 ghost use Rattle.std.specs.Option.{option_map};
-ghost use Rattle.desk_ports.specs.Meanings.{IsReadyIn, IsReadyOut, HasWriteCause};
-ghost use Rattle.pocket_cmd.specs.Jobs.{job_course, writes_report};
-ghost use Rattle.pocket_cmd.specs.Openings.{view_names, AfterOpening, HasOpeningCause, AfterFinishing, with_report};
-ghost use Rattle.pocket_cmd.specs.Outcome.{AfterNames};
+ghost use Rattle.desk_ports.specs.Meanings.{Meanings, IsReadyIn, IsReadyOut, HasReadCause, HasWriteCause};
+ghost use Rattle.pocket_cmd.specs.Jobs.{job_course, reads_input, writes_report};
+ghost use Rattle.pocket_cmd.specs.Openings.{view_names, AfterOpening, HasOpeningCause, AfterFinishing, AreKept, with_input, with_report};
+ghost use Rattle.pocket_cmd.specs.Outcome.{AfterNames, AreOpened};
 ghost use Rattle.pocket_cmd.specs.Status.{HasStatusCause, IsEnded, status_by};
 ghost use Rattle.pocket_cmd.specs.declared.run.Unopened.TheVariants as unopened;
 
@@ -12,11 +12,11 @@ use crate::job::Job;
 use crate::status::Refusal;
 use desk_ports::{Desk, Failed, Inlet, Outlet};
 
-/// The names that a command opens: those of its side input and of its report, where it has them, too.
+/// The names that a command opens. Only that of an output is one that each has.
 #[derive(Clone, Copy, Debug)]
 pub struct Names<'a> {
     pub side: Option<&'a str>,
-    pub input: &'a str,
+    pub input: Option<&'a str>,
     pub output: &'a str,
     pub report: Option<&'a str>,
 }
@@ -30,10 +30,12 @@ enum Unopened {
 
 /// Opens the names, runs the job, and finishes the outputs.
 pub fn run<D: Desk>(desk: &mut D, names: &Names<'_>, job: Job) -> Result<(), Refusal>
-    requires input { IsTrue ((D.meaning desk.old).grants_in names.now.input.now) }
+    requires input { IfSome names.now.input
+        (λ name. IsTrue ((D.meaning desk.old).grants_in name.now)) }
     requires output { IsTrue ((D.meaning desk.old).grants_out names.now.output.now) }
     requires report { IfSome names.now.report
         (λ name. IsTrue ((D.meaning desk.old).grants_out name.now)) }
+    requires reads { reads_input job ≡ is_some names.now.input }
     requires writes { writes_report job ≡ is_some names.now.report }
     ensures ran { let names = view_names names.now in
         IsEnded (AfterNames names (job_course job) (D.meaning desk.old)
@@ -41,10 +43,33 @@ pub fn run<D: Desk>(desk: &mut D, names: &Names<'_>, job: Job) -> Result<(), Ref
     ensures cause { HasStatusCause (D.counts desk.old) (D.counts desk.new) (status_by result) }
 {
     match open_all(desk, names) {
-        Ok(()) => {}
-        Err(Unopened::Input) => return Err(Refusal::ReadFault),
-        Err(Unopened::Output) => return Err(Refusal::WriteFault),
+        Ok(()) => run_opened(desk, names, job),
+        Err(Unopened::Input) => {
+            let_go(job);
+            Err(Refusal::ReadFault)
+        }
+        Err(Unopened::Output) => {
+            let_go(job);
+            Err(Refusal::WriteFault)
+        }
     }
+}
+
+/// Gives back the memory of a job that does not run.
+fn let_go<T: Drop>(_job: T) {}
+
+/// Runs the job at a desk at which the names are opened, and finishes the outputs.
+fn run_opened<D: Desk>(desk: &mut D, names: &Names<'_>, job: Job) -> Result<(), Refusal>
+    requires input { IsTrue (reads_input job) → IsReadyIn (D.meaning desk.old) Inlet.Main }
+    requires output { IsReadyOut (D.meaning desk.old) Outlet.Main }
+    requires report { IsSome names.now.report → IsReadyOut (D.meaning desk.old) Outlet.Report }
+    requires reads { reads_input job ≡ is_some names.now.input }
+    requires writes { writes_report job ≡ is_some names.now.report }
+    ensures ran { let names = view_names names.now in
+        (old : Meanings) → AreOpened names old (D.meaning desk.old)
+        → IsEnded (AfterNames names (job_course job) old (D.meaning desk.new)) result }
+    ensures cause { HasStatusCause (D.counts desk.old) (D.counts desk.new) (status_by result) }
+{
     match job.run(desk) {
         Ok(()) => {}
         Err(refusal) => return Err(refusal),
@@ -55,27 +80,49 @@ pub fn run<D: Desk>(desk: &mut D, names: &Names<'_>, job: Job) -> Result<(), Ref
     }
 }
 
-/// Opens the input, the output, and the report where there is one.
+/// Opens the input where there is one, the output, and the report where there is one.
 fn open_all<D: Desk>(desk: &mut D, names: &Names<'_>) -> Result<(), Unopened>
-    requires input { IsTrue ((D.meaning desk.old).grants_in names.now.input.now) }
+    requires input { IfSome names.now.input
+        (λ name. IsTrue ((D.meaning desk.old).grants_in name.now)) }
     requires output { IsTrue ((D.meaning desk.old).grants_out names.now.output.now) }
     requires report { IfSome names.now.report
         (λ name. IsTrue ((D.meaning desk.old).grants_out name.now)) }
     ensures opened { AfterOpening (view_names names.now) (D.meaning desk.old)
         (D.meaning desk.new) result }
     ensures cause { HasOpeningCause (D.counts desk.old) (D.counts desk.new) result }
-    ensures ready_in { OnOk result (IsReadyIn (D.meaning desk.new) Inlet.Main) }
+    ensures ready_in { OnOk result
+        (IsSome names.now.input → IsReadyIn (D.meaning desk.new) Inlet.Main) }
     ensures ready_out { OnOk result (IsReadyOut (D.meaning desk.new) Outlet.Main) }
     ensures ready_report { OnOk result
         (IsSome names.now.report → IsReadyOut (D.meaning desk.new) Outlet.Report) }
 {
-    let Ok(()) = desk.open_in(Inlet::Main, names.input) else {
-        return Err(Unopened::Input);
-    };
+    open_input(desk, names.input)?;
     let Ok(()) = desk.open_out(Outlet::Main, names.output) else {
         return Err(Unopened::Output);
     };
     open_report(desk, names.report)
+}
+
+/// Opens the input, where there is one.
+fn open_input<D: Desk>(desk: &mut D, name: Option<&str>) -> Result<(), Unopened>
+    requires { IfSome name (λ name. IsTrue ((D.meaning desk.old).grants_in name.now)) }
+    ensures opened { let input = option_map (λ name. name.now) name.entry in
+        OnOk result ((bytes : List ℕ) × AreKept (D.meaning desk.old) input bytes
+        × (D.meaning desk.new ≡ with_input (D.meaning desk.old) input bytes)) }
+    ensures only { IfErr result (λ fault. fault ≡ unopened.Input) }
+    ensures ready { OnOk result
+        (IsSome name.entry → IsReadyIn (D.meaning desk.new) Inlet.Main) }
+    ensures input { OnErr result (IsSome name.entry) }
+    ensures unchanged { OnErr result (D.meaning desk.new ≡ D.meaning desk.old) }
+    ensures cause { HasReadCause (D.counts desk.old) (D.counts desk.new) result }
+{
+    let Some(name) = name else {
+        return Ok(());
+    };
+    match desk.open_in(Inlet::Main, name) {
+        Ok(()) => Ok(()),
+        Err(_) => Err(Unopened::Input),
+    }
 }
 
 /// Opens the report, where there is one.

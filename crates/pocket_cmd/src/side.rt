@@ -1,5 +1,5 @@
 //! The side input: the text of a schedule or of a script.
-ghost use Rattle.std.specs.Prelude.{◌≡◌, ◌≤◌, ◌<◌, length, take, Some, Err, IsTrue, IfSome, IfOk, OnOk, OnErr};
+ghost use Rattle.std.specs.Prelude.{◌≡◌, ◌≤◌, ◌<◌, length, take, Some, Err, IsTrue, IsSome, IfSome, IfOk, OnOk, OnErr};
 ghost use Rattle.std.specs.Option.{option_map};
 ghost use Rattle.desk_ports.specs.Meanings.{HasReadCause};
 ghost use Rattle.pocket_cmd.specs.declared.side.TextFault.TheVariants as unread;
@@ -52,6 +52,7 @@ pub fn side_text<D: Desk>(
         result ≡ Err unread.TooLong → IsSideLong (D.meaning desk.old) side }
     ensures keeps { let side = option_map (λ name. name.now) name.entry in
         OnErr result (KeepsAll side (D.meaning desk.old) (D.meaning desk.new)) }
+    ensures side { OnErr result (IsSome name.entry) }
     ensures cause { HasSideCause (D.counts desk.old) (D.counts desk.new) result }
 {
     match name {

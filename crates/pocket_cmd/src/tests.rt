@@ -14,4 +14,5 @@ mod short_chains;
 mod sides;
 mod stores;
 mod texts;
+mod trials;
 mod words;

@@ -19,8 +19,8 @@ use std::alloc::Global;
 
 /// Does what the words say over a desk, and tells how it ended.
 ///
-/// The words are those after the program's name: a verb, and then `key=value` in any order. All verbs take the keys `in`,
-/// `out` and `apid` (0 to 2046).
+/// The words are those after the program's name: a verb, and then `key=value` in any order. All verbs but `trial` take the keys
+/// `in`, `out` and `apid` (0 to 2046).
 ///
 /// - `compress` makes the store of a recording. It takes `bits` (the bits of a packet, 1 to 49,152) and `robust` (the
 ///   required robustness, 0 to 7) too, and may take `plan` (a schedule) and `mask` (the first mask in hexadecimal digits,
@@ -28,6 +28,8 @@ use std::alloc::Global;
 /// - `play` makes a store of the packets that arrive. It takes `script` and `report` too.
 /// - `restore` gives back the packets of a store. It takes `report` and `bits` too.
 /// - `show` lists what is found for each packet of a store. It takes `bits` too.
+/// - `trial` runs the other three over a history that it generates from a seed, in memory, and writes a summary. It takes `seed`
+///   (any number of 32 bits), `packets` (1 to 10,000), `bits` (1 to 4,096), `robust` and `out`.
 ///
 /// What the side input, a schedule or a script, says is looked at before any other name is opened. Its text has at most
 /// 1,048,576 bytes.

@@ -2,9 +2,9 @@
 ghost use Rattle.std.specs.Prelude.{◌≡◌, ◌+◌, ◌<◌, ◌^◌, length, map, MatchOption, MatchResult, IsSome, Some, None, Ok, Err};
 ghost use Rattle.std.specs.Option.{option_map};
 ghost use Rattle.std.specs.String.{string_bytes};
-ghost use Rattle.pocket_cmd.specs.Words.{verb_of, has_key, view_given, nothing_given, is_read, is_written, name_in, name_out, once, with_text, with_word, given_by};
+ghost use Rattle.pocket_cmd.specs.Words.{verb_of, has_key, view_given, nothing_given, is_read, is_written, name_in, name_out, once, with_bits, with_text, with_word, given_by};
 
-use crate::numbers::{Apid, Places, Robustness};
+use crate::numbers::{Apid, Places, Robustness, TrialPackets, TrialPlaces, seed};
 
 /// What the command is to do.
 #[derive(Clone, Copy, Debug, PartialEq, Eq)]
@@ -17,6 +17,8 @@ pub enum Verb {
     Restore,
     /// Lists what is found for each packet.
     Show,
+    /// Runs the other three over a generated history.
+    Trial,
 }
 
 impl Verb {
@@ -29,6 +31,7 @@ impl Verb {
             "play" => Some(Verb::Play),
             "restore" => Some(Verb::Restore),
             "show" => Some(Verb::Show),
+            "trial" => Some(Verb::Trial),
             _ => None,
         }
     }
@@ -45,6 +48,7 @@ impl Verb {
             Verb::Play => matches!(key, "in" | "out" | "apid" | "script" | "report"),
             Verb::Restore => matches!(key, "in" | "out" | "report" | "bits" | "apid"),
             Verb::Show => matches!(key, "in" | "out" | "bits" | "apid"),
+            Verb::Trial => matches!(key, "seed" | "packets" | "bits" | "robust" | "out"),
         }
     }
 }
@@ -60,6 +64,10 @@ pub struct Given<'a> {
     pub bits: Option<Places>,
     pub apid: Option<Apid>,
     pub robust: Option<Robustness>,
+    pub seed: Option<u32>,
+    pub packets: Option<TrialPackets>,
+    /// The bits of a packet, of a trial.
+    pub trial_bits: Option<TrialPlaces>,
     /// The place of its word, and the digits.
     pub mask: Option<(u32, &'a str)>,
 }
@@ -75,6 +83,9 @@ impl<'a> Given<'a> {
         bits: None,
         apid: None,
         robust: None,
+        seed: None,
+        packets: None,
+        trial_bits: None,
         mask: None,
     };
 
@@ -106,15 +117,15 @@ impl<'a> Given<'a> {
         if !verb.has(key) {
             return None;
         }
-        self.give(place, key, text)
+        self.give(verb, place, key, text)
     }
 
     /// Gives a key the value that a text says, where it is one of the key's and the key had none. The word stands at this
     /// place.
-    fn give(&mut self, place: u32, key: &str, text: &'a str) -> Option<()>
+    fn give(&mut self, verb: Verb, place: u32, key: &str, text: &'a str) -> Option<()>
         ensures { MatchOption result
-            (with_text (view_given self.old) place key.now text.now ≡ None)
-            (λ _. with_text (view_given self.old) place key.now text.now
+            (with_text verb (view_given self.old) place key.now text.now ≡ None)
+            (λ _. with_text verb (view_given self.old) place key.now text.now
             ≡ Some (view_given self.new)) }
     {
         let (to_read, to_write) = (self.name_in(text), self.name_out(text));
@@ -124,11 +135,27 @@ impl<'a> Given<'a> {
             "script" => once(&mut self.script, to_read),
             "out" => once(&mut self.output, to_write),
             "report" => once(&mut self.report, to_write),
-            "bits" => once(&mut self.bits, Places::read(text)),
+            "bits" => self.give_bits(verb, text),
             "apid" => once(&mut self.apid, Apid::read(text)),
             "robust" => once(&mut self.robust, Robustness::read(text)),
+            "seed" => once(&mut self.seed, seed(text)),
+            "packets" => once(&mut self.packets, TrialPackets::read(text)),
             "mask" => once(&mut self.mask, Some((place, text))),
             _ => None,
+        }
+    }
+
+    /// Gives the bits of a packet, of which a trial may have fewer than the other verbs.
+    fn give_bits(&mut self, verb: Verb, text: &str) -> Option<()>
+        ensures { MatchOption result
+            (with_bits verb (view_given self.old) text.now ≡ None)
+            (λ _. with_bits verb (view_given self.old) text.now ≡ Some (view_given self.new)) }
+    {
+        match verb {
+            Verb::Trial => once(&mut self.trial_bits, TrialPlaces::read(text)),
+            Verb::Compress | Verb::Play | Verb::Restore | Verb::Show => {
+                once(&mut self.bits, Places::read(text))
+            }
         }
     }
 

@@ -16,8 +16,8 @@ use std::alloc::Global;
 pub fn perform<D: Desk>(alloc: Global, command: &Command<'_>, desk: &mut D) -> Result<(), Refusal>
     requires side { IfSome (names_of (view_command command.now)).side
         (λ name. IsTrue ((D.meaning desk.old).grants_in name)) }
-    requires input { IsTrue
-        ((D.meaning desk.old).grants_in (names_of (view_command command.now)).input) }
+    requires input { IfSome (names_of (view_command command.now)).input
+        (λ name. IsTrue ((D.meaning desk.old).grants_in name)) }
     requires output { IsTrue
         ((D.meaning desk.old).grants_out (names_of (view_command command.now)).output) }
     requires report { IfSome (names_of (view_command command.now)).report
@@ -42,8 +42,8 @@ fn perform_with<D: Desk>(
     desk: &mut D,
 ) -> Result<(), Refusal>
     requires within { length text.now ≤ 1048576 }
-    requires input { IsTrue
-        ((D.meaning desk.old).grants_in (names_of (view_command command.now)).input) }
+    requires input { IfSome (names_of (view_command command.now)).input
+        (λ name. IsTrue ((D.meaning desk.old).grants_in name)) }
     requires output { IsTrue
         ((D.meaning desk.old).grants_out (names_of (view_command command.now)).output) }
     requires report { IfSome (names_of (view_command command.now)).report

@@ -7,7 +7,7 @@ use std::alloc::Global;
 use std::test::Fail;
 
 /// Lines of words, and the place of the first wrong word in each.
-static WRONG: [(&str, u32); 83] = [
+static WRONG: [(&str, u32); 109] = [
     ("", 0),
     ("shrink", 0),
     ("Restore in=a out=b report=c bits=8 apid=100", 0),
@@ -97,10 +97,37 @@ static WRONG: [(&str, u32); 83] = [
     ("show in=a out=b bits=8 apid=2047", 4),
     ("show in=a out=b bits=8 apid=1 report=c", 5),
     ("show in=a out=b bits=8 apid=1 script=s", 5),
+    ("trial", 1),
+    ("trial seed=0 packets=3 bits=8 robust=1", 5),
+    ("trial packets=3 bits=8 robust=1 out=b", 5),
+    ("trial seed=0 bits=8 robust=1 out=b", 5),
+    ("trial seed=0 packets=3 robust=1 out=b", 5),
+    ("trial seed=0 packets=3 bits=8 out=b", 5),
+    ("trial seed=4294967296", 1),
+    ("trial seed=00", 1),
+    ("trial seed=-1", 1),
+    ("trial seed=", 1),
+    ("trial seed=0 seed=0", 2),
+    ("trial packets=0", 1),
+    ("trial packets=10001", 1),
+    ("trial packets=03", 1),
+    ("trial packets=3 packets=3", 2),
+    // A trial has fewer bits a packet than the other verbs.
+    ("trial bits=4097", 1),
+    ("trial bits=0", 1),
+    ("trial bits=8 bits=8", 2),
+    ("trial robust=8", 1),
+    ("trial out=", 1),
+    ("trial seed=0 in=a", 2),
+    ("trial seed=0 apid=100", 2),
+    ("trial seed=0 report=c", 2),
+    ("trial seed=0 plan=p", 2),
+    ("restore seed=0", 1),
+    ("compress packets=3", 1),
 ];
 
 /// Lines that give a command, and the names of all that it opens for reading.
-static RIGHT: [(&str, &[&str]); 18] = [
+static RIGHT: [(&str, &[&str]); 21] = [
     ("restore in=a out=b report=c bits=8 apid=100", &["a"]),
     ("restore apid=0 bits=1 report=c out=b in=a", &["a"]),
     ("restore in=a out=b report=c bits=49152 apid=2046", &["a"]),
@@ -128,6 +155,12 @@ static RIGHT: [(&str, &[&str]); 18] = [
     ("play in=- out=b script=s report=- apid=2046", &["-", "s"]),
     ("show in=a out=b bits=8 apid=100", &["a"]),
     ("show apid=2046 bits=49152 out=- in=-", &["-"]),
+    ("trial seed=0 packets=1 bits=1 robust=0 out=-", &[]),
+    (
+        "trial out=b robust=7 bits=4096 packets=2 seed=4294967295",
+        &[],
+    ),
+    ("show in=a out=b bits=4097 apid=0", &["a"]),
 ];
 
 #[test]

@@ -5,6 +5,7 @@ use Rattle.ground_chain.specs.Listing.{listing_course}
 use Rattle.ground_chain.specs.Restoring.{restore_course, stop_by as restore_stop}
 use Rattle.pocket_cmd.specs.Faults.{of_recording, of_store}
 use Rattle.pocket_cmd.proofs.Faults.{HasRefusalCause-stop, IsEnded-done, IsEnded-stop}
+use Rattle.pocket_cmd.proofs.Texts.{IsEnded-text, IsEnded-text_cut}
 use Rattle.pocket_cmd.proofs.job.Job.run.Goals as goal
 
 pub returns-in-Ok-clause-ran : goal.returns-in-Ok-clause-ran
@@ -54,3 +55,11 @@ returns-in-Err-list-clause-ran g c =
 pub returns-in-Err-list-clause-cause : goal.returns-in-Err-list-clause-cause
 returns-in-Err-list-clause-cause g c =
     HasRefusalCause-stop of_store _ _ (restore_stop c.in-Err-list.fault) c.into-in-Err-list.result c.in-Err-list.ensures.cause c.into-in-Err-list.ensures
+
+pub returns-in-Ok-write_text-clause-ran : goal.returns-in-Ok-write_text-clause-ran
+returns-in-Ok-write_text-clause-ran g c =
+    rw c.in-Trial.is (IsEnded-text c.in-Trial.text.items _ _ c.in-Ok-write_text.ensures.added)
+
+pub returns-in-Err-write_text-clause-ran : goal.returns-in-Err-write_text-clause-ran
+returns-in-Err-write_text-clause-ran g c =
+    rw c.in-Trial.is (IsEnded-text_cut c.in-Trial.text.items _ _ c.in-Err-write_text.ensures.front)

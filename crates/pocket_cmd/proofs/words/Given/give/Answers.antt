@@ -16,5 +16,7 @@ returns-in_default c =
       differ key (codes "bits") no.not-bits,
       differ key (codes "apid") no.not-apid,
       differ key (codes "robust") no.not-robust,
+      differ key (codes "seed") no.not-seed,
+      differ key (codes "packets") no.not-packets,
       differ key (codes "mask") no.not-mask,
     )

@@ -1,0 +1,48 @@
+//! The summary of a trial, which is run in memory.
+ghost use Rattle.std.specs.Prelude.{◌≡◌, ◌≤◌, ◌++◌, length, IfOk, OnOk};
+ghost use Rattle.pocket_cmd.specs.Command.{view_trial};
+ghost use Rattle.pocket_cmd.specs.Summary.{summary_by, summary_line, summary_lines};
+
+use crate::command::TrialValues;
+use bit_vectors::NoMemory;
+use desk_ports::{MemDesk, Row};
+use std::alloc::Global;
+use trial_chain::{Summary, run_trial};
+
+/// Runs a trial at a desk of its own, and gives its summary as a text.
+pub fn summary_text(alloc: Global, told: &TrialValues<'_>) -> Result<Vec<u8>, NoMemory>
+    ensures { IfOk result (λ text. text.items ≡ summary_by (view_trial told.now)) }
+{
+    let mut desk = MemDesk::new(alloc);
+    let (packets, f, robust) = (told.packets.value, told.bits.value, told.robust.value);
+    let summary = run_trial(alloc, told.seed, packets, f, robust, &mut desk)?;
+    lines(alloc, &summary)
+}
+
+/// The seven lines of a summary.
+fn lines(alloc: Global, summary: &Summary) -> Result<Vec<u8>, NoMemory>
+    ensures { IfOk result (λ text. text.items ≡ summary_lines summary.now) }
+{
+    let mut text = Vec::new(alloc);
+    push_line(&mut text, "packets", summary.packets)?;
+    push_line(&mut text, "recording", summary.recording)?;
+    push_line(&mut text, "store", summary.store)?;
+    push_line(&mut text, "played", summary.played)?;
+    push_line(&mut text, "delivered", summary.delivered)?;
+    push_line(&mut text, "written", summary.written)?;
+    push_line(&mut text, "listed", summary.listed)?;
+    Ok(text)
+}
+
+/// Appends a line with a word, of nine letters at most, and a number.
+fn push_line(text: &mut Vec<u8>, word: &str, number: u64) -> Result<(), NoMemory>
+    requires { length word.now ≤ 9 }
+    ensures { OnOk result (text.new.items ≡ text.old.items ++ summary_line word.now number) }
+{
+    let mut row = Row::new();
+    row.put_text(word);
+    row.put_text(" ");
+    row.put_number(number);
+    row.put_text("\n");
+    Ok(text.extend_from_slice(row.as_bytes())?)
+}

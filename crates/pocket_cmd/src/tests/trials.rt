@@ -1,0 +1,97 @@
+//! Trials: a worked one, one whose calls fail, and many of which the summary is compared with what the trial holds.
+
+use super::desk::{Case, answer, assert_both, assert_ending, done, front, refused, words_alone};
+use crate::{Refusal, Status};
+use desk_ports::{Call, MemDesk, Outlet};
+use std::alloc::Global;
+use std::process::Abort;
+use std::test::Fail;
+use trial_chain::{Summary, run_trial};
+
+/// Three packets of eight bits, of which the second does not arrive.
+const THREE: &str = "trial seed=0 packets=3 bits=8 robust=1 out=b";
+
+const SUMMARY: &[u8] =
+    b"packets 3\nrecording 3\nstore 29\nplayed 19\ndelivered 2\nwritten 2\nlisted 1\n";
+
+#[test]
+fn a_trial(rt: HostRuntime) -> Result<(), Fail> {
+    assert_both(&rt, words_alone(THREE), &done(SUMMARY, &[]))
+}
+
+#[test]
+fn calls_of_trial(rt: HostRuntime) -> Result<(), Fail> {
+    let rows: [(Call, u32, usize); 5] = [
+        (Call::OpenOut, 1, 0),
+        (Call::Write, 1, 0),
+        (Call::Write, 11, 10),
+        (Call::Write, 72, 71),
+        (Call::Finish, 1, 72),
+    ];
+    for (call, nth, written) in &rows {
+        let case = Case {
+            one_byte: true,
+            fails: &[(*call, *nth)],
+            ..words_alone(THREE)
+        };
+        let wanted = refused(Refusal::WriteFault, front(SUMMARY, *written), &[]);
+        assert_ending(&rt, &case, &wanted)?;
+    }
+    // Nothing is read, nothing more is opened, and the summary is written in one piece.
+    let case = Case {
+        fails: &[
+            (Call::OpenIn, 1),
+            (Call::Read, 1),
+            (Call::OpenOut, 2),
+            (Call::Write, 2),
+            (Call::Finish, 2),
+        ],
+        ..words_alone(THREE)
+    };
+    assert_ending(&rt, &case, &done(SUMMARY, &[]))
+}
+
+/// What is printed of fifty packets of thirteen bits.
+fn printed(rt: &(impl Abort + AllocGlobal), seed: u32) -> Result<MemDesk, Fail> {
+    let line = format!(in rt.alloc(); "trial seed={seed} packets=50 bits=13 robust=2 out=summary")?;
+    let mut desk = MemDesk::new(rt.alloc());
+    let status = answer(rt.alloc(), &line, &mut desk)?;
+    assert_eq!(rt; status, Status::Done);
+    Ok(desk)
+}
+
+/// The same trial by the call, with the desk that holds it.
+fn trial(alloc: Global, seed: u32) -> Result<(Summary, MemDesk), Fail> {
+    let mut desk = MemDesk::new(alloc);
+    let summary = run_trial(alloc, seed, 50, 13, 2, &mut desk)?;
+    Ok((summary, desk))
+}
+
+/// The lines that a trial must print, by its answer and by the lengths of what it holds.
+fn lines(alloc: Global, summary: &Summary, held: &MemDesk) -> Result<String, Fail> {
+    let recording = held.get("recording").len();
+    let store = held.get("store").len();
+    let played = held.get("played").len();
+    let written = held.get("restored").len() / 2;
+    let (delivered, listed) = (summary.delivered, summary.listed);
+    Ok(format!(in alloc;
+        "packets 50\nrecording {recording}\nstore {store}\nplayed {played}\ndelivered {delivered}\n\
+            written {written}\nlisted {listed}\n"
+    )?)
+}
+
+#[test]
+fn summaries_of_what_trials_hold(rt: HostRuntime) -> Result<(), Fail> {
+    for seed in 0..=20 {
+        let desk = printed(&rt, seed)?;
+        let (summary, held) = trial(rt.alloc(), seed)?;
+        let wanted = lines(rt.alloc(), &summary, &held)?;
+        assert_eq!(rt; desk.seen(Outlet::Main), wanted.as_bytes(), "{seed}");
+        assert_eq!(rt; summary.packets, 50);
+        assert_eq!(rt; summary.recording, held.get("recording").len() as u64);
+        assert_eq!(rt; summary.store, held.get("store").len() as u64);
+        assert_eq!(rt; summary.played, held.get("played").len() as u64);
+        assert_eq!(rt; summary.written, (held.get("restored").len() / 2) as u64);
+    }
+    Ok(())
+}
