@@ -9,7 +9,7 @@ use Rattle.pocket_cmd.specs.declared.status.Refusal.{Refusal}
 use Rattle.pocket_cmd.specs.Command.{Names}
 use Rattle.pocket_cmd.specs.Jobs.{AfterJob}
 use Rattle.pocket_cmd.specs.Unfed.{EndsBy, IsCutOffBy, IsCutShortBy}
-use Rattle.pocket_cmd.specs.Openings.{AreKept, all_opened, all_finished, IsHalfKept}
+use Rattle.pocket_cmd.specs.Openings.{all_finished, IsHalfKept}
 use Rattle.pocket_cmd.specs.Outcome.{AreOpened, IsRunOut, IsUnfinished, RunStands, IsRunUnwritten, AfterNames}
 use Rattle.pocket_cmd.specs.Status.{IsEnded, refused_by}
 

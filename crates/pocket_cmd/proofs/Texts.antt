@@ -1,5 +1,5 @@
 -- A text that is written where there is no input.
-use Rattle.std.proofs.Common.{◌≡◌, ℕ, false, List, [], ◌++◌, None, Result, Ok, Err, refl, ap}
+use Rattle.std.proofs.Common.{ℕ, false, List, Ok, Err, refl, ap}
 use Rattle.desk_ports.specs.declared.desk.Outlet.TheVariants as outlet
 use Rattle.desk_ports.specs.Courses.{to_output}
 use Rattle.desk_ports.specs.Meanings.{Meanings, Adds, AddsFront}

@@ -18,6 +18,7 @@ mod work;
 pub use laws::{
     commands_are_given, commands_compose, done_commands_wrote_all, trials_owe_their_summary,
 };
+pub use packet_store::StoreKind;
 pub use rehearsal::rehearse;
 pub use status::{Refusal, Status, exit_code};
 pub use top::pocket;

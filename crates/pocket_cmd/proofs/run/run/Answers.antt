@@ -1,4 +1,4 @@
-use Rattle.std.proofs.Common.{◌≡◌, Ok, Err, inl, refl, sym, ◌∙◌, subst}
+use Rattle.std.proofs.Common.{◌≡◌, Err, inl, refl, sym, ◌∙◌, subst}
 use Rattle.desk_ports.specs.Stop.{ReadFault, WriteFault}
 use Rattle.pocket_cmd.specs.declared.run.Unopened.TheVariants as unopened
 use Rattle.pocket_cmd.specs.Openings.{view_names, AfterOpening, HasOpeningCause}
