@@ -7,6 +7,7 @@ mod faults;
 mod listings;
 mod long_chains;
 mod played;
+mod reading;
 mod recordings;
 mod rehearsals;
 mod samples;

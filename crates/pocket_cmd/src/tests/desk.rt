@@ -110,10 +110,20 @@ pub fn assert_ending(
     wanted: &Ending<'_>,
 ) -> Result<(), Fail> {
     let mut desk = desk_for(rt.alloc(), case)?;
-    let status = answer(rt.alloc(), case.words, &mut desk)?;
+    assert_ending_at(rt, case, &mut desk, wanted)
+}
+
+/// Runs it at this desk.
+fn assert_ending_at(
+    rt: &(impl Abort + AllocGlobal),
+    case: &Case<'_>,
+    desk: &mut MemDesk,
+    wanted: &Ending<'_>,
+) -> Result<(), Fail> {
+    let status = answer(rt.alloc(), case.words, desk)?;
     let side = front(case.side.unwrap_or(&[]), 80);
     assert_eq!(rt;
-        ended(status, &desk),
+        ended(status, desk),
         *wanted,
         "{} {:?} {side:?}",
         case.words,
@@ -127,13 +137,25 @@ pub fn front(bytes: &[u8], count: usize) -> &[u8] {
     &bytes[..count.min(bytes.len())]
 }
 
-/// Runs a case with whole reads and writes, and with those of one byte.
+/// Runs a case with reads and writes of seven bytes at most.
+fn assert_by_seven(
+    rt: &(impl Abort + AllocGlobal),
+    case: &Case<'_>,
+    wanted: &Ending<'_>,
+) -> Result<(), Fail> {
+    let mut desk = desk_for(rt.alloc(), case)?;
+    desk.pieces(7);
+    assert_ending_at(rt, case, &mut desk, wanted)
+}
+
+/// Runs a case with whole reads and writes, with those of seven bytes at most, and with those of one byte.
 pub fn assert_both(
     rt: &(impl Abort + AllocGlobal),
     case: Case<'_>,
     wanted: &Ending<'_>,
 ) -> Result<(), Fail> {
     assert_ending(rt, &case, wanted)?;
+    assert_by_seven(rt, &case, wanted)?;
     let one_byte = Case {
         one_byte: true,
         ..case

@@ -10,9 +10,9 @@ use desk_ports::Call;
 use std::process::Abort;
 use std::test::Fail;
 
-const OUTPUT: &[u8] = &[0xB0, 0xB1, 0xB3];
+pub const OUTPUT: &[u8] = &[0xB0, 0xB1, 0xB3];
 
-const REPORT: &[u8] = b"first,last,cause,value\n2,2,lost,0\nend,3,3,0\n";
+pub const REPORT: &[u8] = b"first,last,cause,value\n2,2,lost,0\nend,3,3,0\n";
 
 const DROP_THE_THIRD: &[u8] = b"drop,2,2,1";
 
@@ -103,7 +103,7 @@ fn writes_of_restore(rt: HostRuntime) -> Result<(), Fail> {
     assert_rows(&rt, case, &[(&[(Call::Write, 48)], done(OUTPUT, REPORT))])
 }
 
-const COMPRESS: &str = "compress in=a out=b bits=8 apid=100 robust=1";
+pub const COMPRESS: &str = "compress in=a out=b bits=8 apid=100 robust=1";
 
 const BY_PLAN: &str = "compress in=a out=b bits=8 apid=100 robust=1 plan=s";
 
