@@ -1,12 +1,12 @@
 -- The bits of a word at the ones of another, one after the other.
 use Rattle.std.proofs.Common.{◌≡◌, ℕ, zero, suc, ◌+◌, ◌-◌, ◌*◌, ◌/◌, ◌%◌, ◌^◌, ◌<◌, ◌≤◌, Bool, true, false, cond, eqb, List, [], ◌∷◌, ◌++◌, length, get_or, bit_and, w64, refl, sym, ap, ◌∙◌, arith, inl, inr}
 use Rattle.std.specs.Int.{bit_at, trailing_zeros}
-use Rattle.std.proofs.lemmas.Bool.{cases_eq}
+use Rattle.std.proofs.lemmas.Bool.{cases_eq, cases_lt}
 use Rattle.std.proofs.lemmas.Nat.{pow_pos, mod_below, shr_split, pow-add, ones-le, and_le_l}
 use Rattle.std.proofs.Math.Nat.{pow-succ', le-mul_of_pos_right, pow-le-pow_right, mod-eq_of_lt}
 use Rattle.std.specs.Int.RustNames.{count_ones}
 use Rattle.bit_vectors.proofs.WordBits.{count_by-number_bits}
-use Rattle.std.proofs.lemmas.Nat.Bits.{shr_and_one, bit_at_and, bit_at_cat_high, bit_at_cat_low, bit_at_ones_above, bit_at-trailing_zeros, same_from_bits_below, bit_at-zero, bit_at-lt}
+use Rattle.std.proofs.lemmas.Nat.Bits.{shr_and_one, bit_at_and, bit_at_cat_high, bit_at_cat_low, bit_at_ones_above, bit_at-trailing_zeros, same_from_bits, same_from_bits_below, bit_at-zero, bit_at-lt}
 use Rattle.std.proofs.lemmas.List.{get_or_past, length-append}
 use Rattle.bit_vectors.specs.Vectors.{number_bits, bits_number, NoneIsOne}
 use Rattle.bit_vectors.specs.Words.{IsWord}
@@ -57,6 +57,21 @@ module _ (n t : ℕ) (one : bit_at n t ≡ 1) (none : (i : ℕ) → i < t → bi
             rw here (bit_at_and n (n - 1) t ∙ omega (arith, less))
         | inr other ↦ bit_at_and n (n - 1) i ∙ omega (arith, none i (omega arith))
       ]
+
+  without_is : bit_and n (n - 1) ≡ above * 2 ^ (t + 1)
+  without_is = same_from_bits (bit_and n (n - 1)) (above * 2 ^ (t + 1)) (λ i. elim (cases_lt t i) [
+    | inl lt ↦
+        let end : above * 2 ^ (t + 1) + 0 ≡ above * 2 ^ (t + 1) = omega arith in
+        without_above i lt ∙ ap (λ (m : ℕ). bit_at m i) number_is ∙ bit_at_cat_high above (t + 1) (2 ^ t) i small (omega arith)
+        ∙ sym (bit_at_cat_high above (t + 1) 0 i (pow_pos (t + 1)) (omega arith)) ∙ ap (λ (m : ℕ). bit_at m i) end
+    | inr le ↦
+        let end : above * 2 ^ (t + 1) + 0 ≡ above * 2 ^ (t + 1) = omega arith in
+        without_below i le ∙ sym (bit_at-zero i) ∙ sym (bit_at_cat_low above (t + 1) 0 i (omega arith)) ∙ ap (λ (m : ℕ). bit_at m i) end
+  ])
+
+  -- its weight is what is taken away
+  pub lowest_weight : n - bit_and n (n - 1) ≡ 2 ^ t
+  lowest_weight = omega (arith, without_is, number_is)
 
 -- ---- ones below a place
 

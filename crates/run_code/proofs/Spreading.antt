@@ -10,7 +10,7 @@ use Rattle.bit_vectors.specs.Vectors.{number_bits}
 use Rattle.bit_vectors.proofs.NumberBits.{length-number_bits, number_bits-more}
 use Rattle.bit_vectors.proofs.Numbers.{number_bits-cat, number_bits-mod, number_bits-split}
 use Rattle.bit_vectors.proofs.FrontWord.{shl_word, shown_front}
-use Rattle.run_code.proofs.Gathering.{ones_below-past, word_extract, word_extract-lowest, word_extract-none, length-word_extract, ones-lowest, without_below, places_of_word, bit_is}
+use Rattle.run_code.proofs.Gathering.{ones_below-past, word_extract, word_extract-lowest, word_extract-none, length-word_extract, ones-lowest, without_below, lowest_weight, places_of_word, bit_is}
 use Rattle.run_code.specs.Places.{places_down}
 use Rattle.run_code.proofs.Ones.{ones_below}
 use Rattle.run_code.proofs.EdgeWords.{zero_of}
@@ -54,6 +54,18 @@ first_bits next m below most =
     let later : number_bits 64 (next * 2 ^ 1 % 2 ^ 64) ≡ number_bits 63 next ++ number_bits 1 0 =
     ap (number_bits 64) (shl_word next 1 (omega arith) ∙ whole) ∙ number_bits-cat 63 1 (next % 2 ^ 63) 0 (omega arith) ∙ ap (λ (bits : List Bool). bits ++ number_bits 1 0) (number_bits-mod 63 63 next (omega arith)) in
     ap (take (suc m)) (number_bits-more 63 next) ∙ rw (first, later, take-append-le m (number_bits 63 next) (number_bits 1 0) (omega (arith, length-number_bits 63 next))) refl
+
+-- a bit at the lowest one of a word
+pub lowest_bit : (bit rest : ℕ) → bit < 2 → 0 < rest → rest < 2 ^ 64 → bit * (rest - bit_and rest (rest - 1)) ≡ bit * 2 ^ trailing_zeros w64 rest % 2 ^ 64
+lowest_bit bit rest lt some small =
+    let lowest = bit_at-trailing_zeros w64 rest some small in
+    let weight : rest - bit_and rest (rest - 1) ≡ 2 ^ trailing_zeros w64 rest = lowest_weight rest (trailing_zeros w64 rest) lowest.1 lowest.2 in
+    rw weight (by_bit bit lt (one_shl (trailing_zeros w64 rest) 64 lowest.0))
+  where
+    by_bit : (bit : ℕ) → bit < 2 → 1 * 2 ^ trailing_zeros w64 rest % 2 ^ 64 ≡ 2 ^ trailing_zeros w64 rest → bit * 2 ^ trailing_zeros w64 rest ≡ bit * 2 ^ trailing_zeros w64 rest % 2 ^ 64
+    by_bit zero lt shifted = omega arith
+    by_bit (suc zero) lt shifted = omega (arith, shifted)
+    by_bit (suc (suc bit)) lt shifted = absurd (omega arith)
 
 -- ---- the step
 

@@ -47,9 +47,10 @@ pub fn spread(word: u64, at: u64, ahead: u64) -> u64
     let mut next = ahead;
     let mut rest = at;
     while rest != 0 {
-        made |= (next >> 63) << rest.trailing_zeros();
+        let later = rest & (rest - 1);
+        made |= (next >> 63) * (rest - later);
         next <<= 1;
-        rest &= rest - 1;
+        rest = later;
     }
     made
 }
