@@ -81,7 +81,8 @@ pub fn schedules_without_robustness()
     ensures store { (k : Compression) (inputs : List (List Bool))
         → ((t : ℕ) → t < length inputs → robust_of k.rows.robust t ≡ None) →
         store_of (history_by k inputs) k.apid
-        ≡ store_of (history_of inputs (flags_of k.rows.flags) (λ _. k.robust) k.places k.mask) k.apid }
+        ≡ store_of (history_of inputs (flags_of k.rows.flags)
+        (λ _. k.robust) k.places k.mask) k.apid }
 {}
 
 /// What a front of a recording owes is a front of what the recording owes before its end.

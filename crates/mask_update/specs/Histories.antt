@@ -66,7 +66,7 @@ abbrev pub step_of : (ℕ → Flags) → (ℕ → ℕ) → ℕ × List Bool → 
 step_of flags robust numbered =
     record { input = numbered.1; flags = flags_after (robust numbered.0) numbered.0 (flags numbered.0); robust = robust numbered.0 }
 
--- the history of these inputs that takes the given flags wherever it may
+-- the history of these inputs, each with its required robustness, that takes the given flags wherever it may
 abbrev pub history_of : List (List Bool) → (ℕ → Flags) → (ℕ → ℕ) → ℕ → List Bool → History
 history_of inputs flags robust f first_mask =
     record { places = f; first_mask = first_mask; steps = map (step_of flags robust) (enumerate_from 0 inputs) }

@@ -61,7 +61,8 @@ impl Job {
         requires report { IsTrue (writes_report self)
             → IsReadyOut (D.meaning desk.old) Outlet.Report }
         ensures ran { IsEnded
-            (AfterJob (reads_input self) (job_course self) (D.meaning desk.old) (D.meaning desk.new))
+            (AfterJob (reads_input self) (job_course self) (D.meaning desk.old)
+            (D.meaning desk.new))
             result }
         ensures cause { HasStatusCause (D.counts desk.old) (D.counts desk.new) (status_by result) }
         ensures ready_out { OnOk result (IsReadyOut (D.meaning desk.new) Outlet.Main) }

@@ -41,7 +41,8 @@ pub fn run_words_are_completed()
 /// Reading directions is exact: with fewer bits than there are ones, they can still be completed, by zeros and a one in
 /// the last place.
 pub fn directions_are_completed()
-    ensures exact { (x : List Bool) → Contains x true → IsExact (IsInverseWord x) (parse_inverse x) }
+    ensures exact { (x : List Bool) → Contains x true
+        → IsExact (IsInverseWord x) (parse_inverse x) }
     ensures last { (x front : List Bool) → length front < count_by (λ bit. bit) x →
         (y : List Bool) × IsInverseWord x y
         (front ++ (replicate (count_by (λ bit. bit) x - length front - 1) false ++ true ∷ [])) }

@@ -38,7 +38,7 @@ trial_inputs seed packets f = map (trial_input seed f) (range_with_len 0 packets
 abbrev pub is_every : ℕ → ℕ → Bool
 is_every step t = nat_lt 0 t && (t % step == 0)
 
--- a new mask for every 20th packet, whole content for every 50th, and the mask for every 100th
+-- a new mask for every 20th packet, the mask for every 50th, and whole content for every 100th
 abbrev pub trial_flags : ℕ → Flags
 trial_flags t = record { p = is_every 20 t; f = is_every 50 t; r = is_every 100 t }
 

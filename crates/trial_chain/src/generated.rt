@@ -28,8 +28,10 @@ pub(crate) fn generate(
     requires some { 1 ≤ packets }
     requires places { 1 ≤ f }
     requires most { f ≤ 4096 }
-    ensures recording { IfOk result (λ r. r.recording.items ≡ recording_of (trial_inputs seed packets f)) }
-    ensures script { IfOk result (λ r. (t : ℕ) → copies_of r.script.items t ≡ trial_copies seed packets t) }
+    ensures recording { IfOk result
+        (λ r. r.recording.items ≡ recording_of (trial_inputs seed packets f)) }
+    ensures script { IfOk result
+        (λ r. (t : ℕ) → copies_of r.script.items t ≡ trial_copies seed packets t) }
     ensures right { IfOk result (λ r. All IsCopyRow r.script.items) }
 {
     let mut generator = Generator::open(alloc, seed, f)?;
@@ -66,7 +68,8 @@ fn note(script: &mut Vec<CopyRow>, t: u32, copies: u8) -> Result<(), NoMemory>
 /// Appends the bytes of an input vector to the recording, by a line that has room for them.
 fn append(recording: &mut Vec<u8>, input: &Bits, line: &mut [u8]) -> Result<(), NoMemory>
     requires { length line.old ≡ byte_count (length input.now) }
-    ensures appended { OnOk result (recording.new.items ≡ recording.old.items ++ vector_bytes input.now) }
+    ensures appended { OnOk result
+        (recording.new.items ≡ recording.old.items ++ vector_bytes input.now) }
     ensures line { length line.new ≡ length line.old }
 {
     input.store(line);

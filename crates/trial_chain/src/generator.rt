@@ -32,7 +32,8 @@ impl Generator {
     /// Goes on to the next packet, and tells how many copies of it arrive, at most 2.
     pub fn advance(&mut self) -> u8
         ensures number { self.new.number ≡ next_number (next_number self.old.number) }
-        ensures input { self.new.input ≡ input_behind (drawn (next_number self.old.number)) self.old.input }
+        ensures input { self.new.input
+            ≡ input_behind (drawn (next_number self.old.number)) self.old.input }
         ensures places { length self.new.input ≡ length self.old.input }
         ensures copies { result ≡ copies_by (drawn (next_number (next_number self.old.number))) }
         ensures most { result ≤ 2 }

@@ -59,7 +59,8 @@ impl RunDesk {
 
     /// Opens an output.
     pub fn begin(&mut self, outlet: Outlet, name: &str) -> Result<(), NoMemory>
-        ensures { OnOk result (Begins (run_meanings self.old) (run_meanings self.new) outlet name.now) }
+        ensures { OnOk result
+            (Begins (run_meanings self.old) (run_meanings self.new) outlet name.now) }
     {
         self.open_out(outlet, name).map_err(no_memory)
     }

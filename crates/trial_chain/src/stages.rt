@@ -27,7 +27,8 @@ pub(crate) fn compress(desk: MemDesk, flight: Flight) -> Result<MemDesk, NoMemor
     requires whole { (compress_course flight (kept_at desk.held recording_name)).ending ≡ None }
     ensures nothing { IfOk result (λ after. NothingFails after.plan) }
     ensures held { IfOk result (λ after. after.held
-        ≡ map.insert desk.held store_name (owed (compress_course flight (kept_at desk.held recording_name))).output) }
+        ≡ map.insert desk.held store_name
+        (owed (compress_course flight (kept_at desk.held recording_name))).output) }
 {
     let mut run = RunDesk::open(desk, "recording", "store")?;
     match flight.compress(&mut run) {
@@ -46,11 +47,15 @@ pub(crate) fn compress(desk: MemDesk, flight: Flight) -> Result<MemDesk, NoMemor
 pub(crate) fn play(desk: MemDesk, player: Player) -> Result<(MemDesk, Played), NoMemory>
     requires nothing { NothingFails desk.plan }
     requires held { IsSome (map.get desk.held store_name) }
-    requires whole { (play_course (copies_of player.rows) player.apid (kept_at desk.held store_name)).ending ≡ None }
+    requires whole { (play_course (copies_of player.rows) player.apid
+        (kept_at desk.held store_name)).ending ≡ None }
     ensures nothing { IfOk result (λ after. NothingFails after.0.plan) }
     ensures held { IfOk result (λ after. after.0.held
-        ≡ with_outputs desk.held played_name play_name (owed (play_course (copies_of player.rows) player.apid (kept_at desk.held store_name)))) }
-    ensures numbers { IfOk result (λ after. after.1 ≡ store_numbers (copies_of player.rows) player.apid (kept_at desk.held store_name)) }
+        ≡ with_outputs desk.held played_name play_name
+        (owed (play_course (copies_of player.rows) player.apid (kept_at desk.held store_name)))) }
+    ensures numbers { IfOk result
+        (λ after. after.1 ≡ store_numbers (copies_of player.rows) player.apid
+        (kept_at desk.held store_name)) }
 {
     let mut run = RunDesk::open(desk, "store", "played")?;
     run.begin(Outlet::Report, "play")?;
@@ -68,10 +73,14 @@ pub(crate) fn play(desk: MemDesk, player: Player) -> Result<(MemDesk, Played), N
 pub(crate) fn restore(desk: MemDesk, restorer: Restorer) -> Result<(MemDesk, Restored), NoMemory>
     requires nothing { NothingFails desk.plan }
     requires held { IsSome (map.get desk.held played_name) }
-    requires whole { (restore_course restorer.places restorer.apid (kept_at desk.held played_name)).ending ≡ None }
+    requires whole { (restore_course restorer.places restorer.apid
+        (kept_at desk.held played_name)).ending ≡ None }
     ensures held { IfOk result (λ after. after.0.held
-        ≡ with_outputs desk.held restored_name report_name (owed (restore_course restorer.places restorer.apid (kept_at desk.held played_name)))) }
-    ensures numbers { IfOk result (λ after. after.1 ≡ restored_of (store_run restorer.places restorer.apid (kept_at desk.held played_name))) }
+        ≡ with_outputs desk.held restored_name report_name
+        (owed (restore_course restorer.places restorer.apid (kept_at desk.held played_name)))) }
+    ensures numbers { IfOk result
+        (λ after. after.1 ≡ restored_of
+        (store_run restorer.places restorer.apid (kept_at desk.held played_name))) }
 {
     let mut run = RunDesk::open(desk, "played", "restored")?;
     run.begin(Outlet::Report, "report")?;
