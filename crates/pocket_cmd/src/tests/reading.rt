@@ -23,7 +23,7 @@ fn assert_last_read(
 ) -> Result<(), Fail> {
     let [whole, cut_off] = wanted;
     let none = Case {
-        fails: &[(Call::Read, last + 1)],
+        fails: &[(Call::Read, last.saturating_add(1))],
         ..case
     };
     assert_ending(rt, &none, &whole)?;
