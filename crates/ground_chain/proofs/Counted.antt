@@ -56,8 +56,8 @@ lost_count_is first t le false is = grind (arith, common_steps)
 -- an answer is a written packet or one that is not written
 answer_counts : (answer : Result Reading BitFault) → (if is_written_kind (kind_of answer) then 1 else 0) + (if is_unwritten (kind_of answer) then 1 else 0) ≡ 1
 answer_counts (Ok Written) = refl
-answer_counts (Ok Unsynced) = refl
-answer_counts (Ok (Gap level)) = refl
+answer_counts (Ok (Unsynced mask)) = refl
+answer_counts (Ok (Gap level mask)) = refl
 answer_counts (Err fault) = refl
 
 judged_counts : (f : ℕ) (known : Known) (body : List ℕ) (number : Option ℕ) → IsLater known.latest number

@@ -65,16 +65,16 @@ numbers_same a b few most same = decimal_injective a b few most (append_cancel_r
 abbrev IsSmall : Kind → Type 0
 IsSmall Written = Unit {0}
 IsSmall Repeat = Unit {0}
-IsSmall Unsynced = Unit {0}
-IsSmall (Gap level) = Unit {0}
+IsSmall (Unsynced mask) = Unit {0}
+IsSmall (Gap level mask) = Unit {0}
 IsSmall (Refused (Wrong bit)) = bit < 2 ^ 64
 IsSmall (Refused (EndsEarly bit)) = bit < 2 ^ 64
 
 wrong_kind : (t bit : ℕ) (kind : Kind) → bit < 2 ^ 64 → IsSmall kind → own_row t kind ≡ number_row t (codes "wrong") bit → kind ≡ Refused (Wrong bit)
 wrong_kind t bit Written few small same = absurd (empty_row t (codes "wrong") bit same)
 wrong_kind t bit Repeat few small same = absurd (empty_row t (codes "wrong") bit same)
-wrong_kind t bit Unsynced few small same = absurd (causes_apart t (codes "unsynced") (codes "wrong") 0 bit 117 119 refl refl (λ e. omega (arith, e)) same)
-wrong_kind t bit (Gap level) few small same = absurd (causes_apart t (codes "gap") (codes "wrong") level bit 103 119 refl refl (λ e. omega (arith, e)) same)
+wrong_kind t bit (Unsynced mask) few small same = absurd (causes_apart t (codes "unsynced") (codes "wrong") 0 bit 117 119 refl refl (λ e. omega (arith, e)) same)
+wrong_kind t bit (Gap level mask) few small same = absurd (causes_apart t (codes "gap") (codes "wrong") level bit 103 119 refl refl (λ e. omega (arith, e)) same)
 wrong_kind t bit (Refused (Wrong at)) few small same =
     let tails = row_tails t (codes "wrong") (codes "wrong") at bit same in
     ap (λ (n : ℕ). Refused (Wrong n)) (numbers_same at bit small few (append_cancel_left (codes "wrong,") (decimal at ++ codes "\n") (decimal bit ++ codes "\n") tails))
@@ -83,8 +83,8 @@ wrong_kind t bit (Refused (EndsEarly at)) few small same = absurd (causes_apart 
 early_kind : (t bit : ℕ) (kind : Kind) → bit < 2 ^ 64 → IsSmall kind → own_row t kind ≡ number_row t (codes "early") bit → kind ≡ Refused (EndsEarly bit)
 early_kind t bit Written few small same = absurd (empty_row t (codes "early") bit same)
 early_kind t bit Repeat few small same = absurd (empty_row t (codes "early") bit same)
-early_kind t bit Unsynced few small same = absurd (causes_apart t (codes "unsynced") (codes "early") 0 bit 117 101 refl refl (λ e. omega (arith, e)) same)
-early_kind t bit (Gap level) few small same = absurd (causes_apart t (codes "gap") (codes "early") level bit 103 101 refl refl (λ e. omega (arith, e)) same)
+early_kind t bit (Unsynced mask) few small same = absurd (causes_apart t (codes "unsynced") (codes "early") 0 bit 117 101 refl refl (λ e. omega (arith, e)) same)
+early_kind t bit (Gap level mask) few small same = absurd (causes_apart t (codes "gap") (codes "early") level bit 103 101 refl refl (λ e. omega (arith, e)) same)
 early_kind t bit (Refused (EndsEarly at)) few small same =
     let tails = row_tails t (codes "early") (codes "early") at bit same in
     ap (λ (n : ℕ). Refused (EndsEarly n)) (numbers_same at bit small few (append_cancel_left (codes "early,") (decimal at ++ codes "\n") (decimal bit ++ codes "\n") tails))
@@ -106,21 +106,21 @@ record IsRead (f : ℕ) (known : Known) (body : List ℕ) (number : Option ℕ) 
 
 fault_of : (answer : Result Reading BitFault) (fault : BitFault) → kind_of answer ≡ Refused fault → answer ≡ Err fault
 fault_of (Ok answer.Written) fault is = absurd cc
-fault_of (Ok answer.Unsynced) fault is = absurd cc
-fault_of (Ok (answer.Gap level)) fault is = absurd cc
+fault_of (Ok (answer.Unsynced mask)) fault is = absurd cc
+fault_of (Ok (answer.Gap level mask)) fault is = absurd cc
 fault_of (Err other) fault is = let same : other ≡ fault = cc in ap Err same
 
 small_by : (f : ℕ) (state : State) (t : ℕ) (bits : List Bool) (a : Result Reading BitFault) → length bits < 2 ^ 64 → IsExactAnswer f state t bits a → IsSmall (kind_of a)
 small_by f state t bits (Ok answer.Written) few exact = tt
-small_by f state t bits (Ok answer.Unsynced) few exact = tt
-small_by f state t bits (Ok (answer.Gap level)) few exact = tt
+small_by f state t bits (Ok (answer.Unsynced mask)) few exact = tt
+small_by f state t bits (Ok (answer.Gap level mask)) few exact = tt
 small_by f state t bits (Err (Wrong bit)) few exact = omega (arith, few, exact.0.inside)
 small_by f state t bits (Err (EndsEarly bit)) few exact = omega (arith, few, exact.0.all)
 
 taken_by : (reading : Reading) → is_taken_or_listed (kind_of (Ok reading)) ≡ true
 taken_by answer.Written = refl
-taken_by answer.Unsynced = refl
-taken_by (answer.Gap level) = refl
+taken_by (answer.Unsynced mask) = refl
+taken_by (answer.Gap level mask) = refl
 
 module _ (f : ℕ) (known : Known) (has : IsState f known.state) where
   is_read : (body : List ℕ) (number : Option ℕ) (fault : BitFault) → (judged_by f known body number).verdict.kind ≡ Refused fault → IsRead f known body number fault
@@ -158,7 +158,7 @@ module _ (f : ℕ) (some : 1 ≤ f) (most : f ≤ 49152) (before : List Arrival)
   known = known_after f before
 
   has : IsState f (known_after f before).state
-  has = IsState-known f nothing_known before tt
+  has = IsState-known f nothing_known before (record { mask = tt; content = tt })
 
   begun : (front : List Bool) → length front ≤ 524288 → Viable f (known_after f before).state t front → BeginData f before count front
   begun front few viable =
@@ -182,7 +182,7 @@ module _ (f : ℕ) (some : 1 ≤ f) (most : f ≤ 49152) (before : List Arrival)
   judged = judge f (known_after f before) arrival
 
   known_has : IsState f (known_after f before).state
-  known_has = IsState-known f nothing_known before tt
+  known_has = IsState-known f nothing_known before (record { mask = tt; content = tt })
 
   number : Option ℕ
   number = number_after (known_after f before).latest arrival.count

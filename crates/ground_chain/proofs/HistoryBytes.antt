@@ -5,7 +5,7 @@ use Rattle.std.proofs.lemmas.Grind.{flat_map-append}
 use Rattle.bit_vectors.specs.Vectors.{vector_bytes}
 use Rattle.mask_update.specs.Histories.{History, IsValid, input_at}
 use Rattle.robust_window.specs.Histories.{level_at}
-use Rattle.packet_encode.specs.Deliveries.{is_written, latest_written}
+use Rattle.packet_encode.specs.Deliveries.{is_mask_known, is_written, latest_mask_known, latest_of_missing, latest_written}
 use Rattle.packet_decode.specs.Histories.{true_state}
 use Rattle.loss_player.specs.Gaps.{AreGapsShort}
 use Rattle.ground_chain.specs.declared.verdict.Kind.TheVariants.{Written}
@@ -32,26 +32,26 @@ flat_map-filter g test (x ∷ xs) = flat_map-cond g (test x) x (filter test xs) 
 
 -- ---- one packet
 
-is_kind-missed : (latest : Option ℕ) (level : ℕ) → is_kind_written (missed_behind latest level) ≡ false
-is_kind-missed None level = refl
-is_kind-missed (Some s) level = refl
+is_kind-missed : (latest : Option ℕ) (level : ℕ) (mask : Bool) → is_kind_written (missed_behind latest level mask) ≡ false
+is_kind-missed None level mask = refl
+is_kind-missed (Some s) level mask = refl
 
-pub kind-written : (written : Bool) (latest : Option ℕ) (level : ℕ) → is_kind_written (if written then Written else missed_behind latest level) ≡ written
-kind-written true latest level = refl
-kind-written false latest level = is_kind-missed latest level
+pub kind-written : (written : Bool) (latest : Option ℕ) (level : ℕ) (mask : Bool) → is_kind_written (if written then Written else missed_behind latest level mask) ≡ written
+kind-written true latest level mask = refl
+kind-written false latest level mask = is_kind-missed latest level mask
 
 repeats-nothing : (known : Known) (n : ℕ) → flat_map (λ j. written_bytes j) (replicate n (repeat_judged known)) ≡ []
 repeats-nothing known zero = refl
 repeats-nothing known (suc n) = repeats-nothing known n
 
 module _ (h : History) (copies : ℕ → ℕ) where
-  bytes-by : (t : ℕ) (written : Bool) (latest : Option ℕ) (level : ℕ) (next : Option ℕ) → next ≡ (if written then Some t else latest)
-      → (if is_kind_written (if written then Written else missed_behind latest level) then content_bytes (true_state h next) else []) ≡ cond written (vector_bytes (input_at h t)) []
-  bytes-by t true latest level next is = ap (λ (o : Option ℕ). content_bytes (true_state h o)) is
-  bytes-by t false latest level next is = ap (λ (b : Bool). if b then content_bytes (true_state h next) else []) (is_kind-missed latest level)
+  bytes-by : (t : ℕ) (written mask : Bool) (missing : Option ℕ) (level : ℕ) (latest masks next : Option ℕ) → next ≡ (if written then Some t else latest)
+      → (if is_kind_written (if written then Written else missed_behind missing level mask) then content_bytes (true_state h masks next) else []) ≡ cond written (vector_bytes (input_at h t)) []
+  bytes-by t true mask missing level latest masks next is = ap (λ (o : Option ℕ). content_bytes (true_state h masks o)) is
+  bytes-by t false mask missing level latest masks next is = ap (λ (b : Bool). if b then content_bytes (true_state h masks next) else []) (is_kind-missed missing level mask)
 
   bytes-first : (t : ℕ) → written_bytes (judged_first h copies t) ≡ cond (is_written h copies t) (vector_bytes (input_at h t)) []
-  bytes-first t = bytes-by t (is_written h copies t) (latest_written h copies t) (level_at h t) (latest_written h copies (t + 1)) (latest_written-more h copies t)
+  bytes-first t = bytes-by t (is_written h copies t) (is_mask_known h copies t) (latest_of_missing h copies t) (level_at h t) (latest_written h copies t) (latest_mask_known h copies (t + 1)) (latest_written h copies (t + 1)) (latest_written-more h copies t)
 
   bytes-copies : (t c : ℕ) → copies t ≡ c → flat_map (λ j. written_bytes j) (judged_copies h copies t c) ≡ cond (is_written h copies t) (vector_bytes (input_at h t)) []
   bytes-copies t zero is = ap (λ (b : Bool). cond b (vector_bytes (input_at h t)) []) (sym (is_written-dropped h copies t is))

@@ -9,7 +9,7 @@ use Rattle.std.proofs.lemmas.List.Sums.{length-filter, sum_by-append, sum_by-con
 use Rattle.packet_store.specs.SpacePackets.{period}
 use Rattle.mask_update.specs.Histories.{History, IsValid}
 use Rattle.robust_window.specs.Histories.{level_at}
-use Rattle.packet_encode.specs.Deliveries.{arrivals, count_to_last, is_written, latest_written, listed_numbers, written_numbers}
+use Rattle.packet_encode.specs.Deliveries.{arrivals, count_to_last, is_mask_known, is_written, latest_of_missing, listed_numbers, written_numbers}
 use Rattle.loss_player.specs.Gaps.{AreGapsShort}
 use Rattle.ground_chain.specs.declared.verdict.Kind.TheVariants.{Written}
 use Rattle.ground_chain.specs.Numbers.{expected}
@@ -48,10 +48,10 @@ filter-none test (suc k) first none =
 
 -- ---- one packet
 
-kind-repeat : (written : Bool) (latest : Option ℕ) (level : ℕ) → is_repeat (if written then Written else missed_behind latest level) ≡ false
-kind-repeat true latest level = refl
-kind-repeat false None level = refl
-kind-repeat false (Some s) level = refl
+kind-repeat : (written : Bool) (latest : Option ℕ) (level : ℕ) (mask : Bool) → is_repeat (if written then Written else missed_behind latest level mask) ≡ false
+kind-repeat true latest level mask = refl
+kind-repeat false None level mask = refl
+kind-repeat false (Some s) level mask = refl
 
 -- a count over all copies of a packet
 count-copies : (h : History) (copies : ℕ → ℕ) (test : Judged → Bool) (t c : ℕ) → count_by test (judged_copies h copies t (suc c))
@@ -64,14 +64,14 @@ module _ (h : History) (copies : ℕ → ℕ) where
   written-copies : (t c : ℕ) → copies t ≡ c → count_by (λ j. is_kind_written j.verdict.kind) (judged_copies h copies t c) ≡ cond (is_written h copies t) 1 0
   written-copies t zero is = ap (λ (b : Bool). cond b 1 0) (sym (is_written-dropped h copies t is))
   written-copies t (suc c) is =
-      let first = kind-written (is_written h copies t) (latest_written h copies t) (level_at h t) in
+      let first = kind-written (is_written h copies t) (latest_of_missing h copies t) (level_at h t) (is_mask_known h copies t) in
       let none : cond (is_written h copies t) 1 0 + c * 0 ≡ cond (is_written h copies t) 1 0 = omega arith in
       count-copies h copies (λ j. is_kind_written j.verdict.kind) t c ∙ (ap (λ (b : Bool). cond b 1 0 + c * 0) first ∙ none)
 
   repeat-copies : (t c : ℕ) → copies t ≡ c → count_by (λ j. is_repeat j.verdict.kind) (judged_copies h copies t c) ≡ copies t - 1
   repeat-copies t zero is = omega (arith, is)
   repeat-copies t (suc c) is =
-      let first = kind-repeat (is_written h copies t) (latest_written h copies t) (level_at h t) in
+      let first = kind-repeat (is_written h copies t) (latest_of_missing h copies t) (level_at h t) (is_mask_known h copies t) in
       let all : 0 + c * 1 ≡ copies t - 1 = omega (arith, is) in
       count-copies h copies (λ j. is_repeat j.verdict.kind) t c ∙ (ap (λ (b : Bool). cond b 1 0 + c * 1) first ∙ all)
 

@@ -9,7 +9,7 @@ use Rattle.std.proofs.lemmas.Grind.{flat_map-append}
 use Rattle.std.proofs.lemmas.List.Elements.{filter-append}
 use Rattle.mask_update.specs.Histories.{History, IsValid}
 use Rattle.robust_window.specs.Histories.{level_at}
-use Rattle.packet_encode.specs.Deliveries.{Cause, Lost, cause_behind, cause_at, count_to_last, is_written, latest_written}
+use Rattle.packet_encode.specs.Deliveries.{Cause, Lost, cause_behind, cause_at, count_to_last, is_mask_known, is_written, latest_of_missing}
 use Rattle.loss_player.specs.Gaps.{AreDropped, AreGapsShort}
 use Rattle.ground_chain.specs.declared.verdict.Kind.TheVariants as kind
 use Rattle.ground_chain.specs.Numbers.{expected}
@@ -54,12 +54,12 @@ missed-apart last t (Some s) level rows = refl
 three-texts : (a b c d : List ℕ) → a ++ b ++ c ++ d ≡ a ++ (b ++ c ++ d)
 three-texts a b c d = ap (λ (l : List ℕ). l ++ d) (append_assoc a b c) ∙ append_assoc a (b ++ c) d
 
-missed-text : (t : ℕ) (latest : Option ℕ) (level : ℕ) → row_text (record { first = t; last = t; cause = cause_behind latest level }) ≡ own_row t (missed_behind latest level)
-missed-text t None level =
+missed-text : (t : ℕ) (latest : Option ℕ) (level : ℕ) (mask : Bool) → row_text (record { first = t; last = t; cause = cause_behind latest level }) ≡ own_row t (missed_behind latest level mask)
+missed-text t None level mask =
     let before = decimal t ++ codes "," ++ decimal t ++ codes "," in
     ap (λ (zero_text : List ℕ). before ++ (codes "unsynced" ++ codes "," ++ zero_text) ++ codes "\n") (sym (decimal_digit 0 (omega arith)))
     ∙ ap (λ (l : List ℕ). l ++ codes "\n") (sym (three-texts before (codes "unsynced") (codes ",") (decimal 0)))
-missed-text t (Some s) level =
+missed-text t (Some s) level mask =
     let before = decimal t ++ codes "," ++ decimal t ++ codes "," in
     ap (λ (l : List ℕ). l ++ codes "\n") (sym (three-texts before (codes "gap") (codes ",") (decimal level)))
 
@@ -118,12 +118,12 @@ module _ (h : History) (copies : ℕ → ℕ) where
   listed_between first last = filter is_unwritten_at (range_with_len first (last - first))
 
   row-lost : (t : ℕ) → copies t ≡ 0 → cause_at h copies t ≡ Lost
-  row-lost t none = ap (λ (n : ℕ). if n == 0 then Lost else cause_behind (latest_written h copies t) (level_at h t)) none
+  row-lost t none = ap (λ (n : ℕ). if n == 0 then Lost else cause_behind (latest_of_missing h copies t) (level_at h t)) none
 
-  row-missed : (t c : ℕ) → copies t ≡ suc c → cause_at h copies t ≡ cause_behind (latest_written h copies t) (level_at h t)
+  row-missed : (t c : ℕ) → copies t ≡ suc c → cause_at h copies t ≡ cause_behind (latest_of_missing h copies t) (level_at h t)
   row-missed t c is =
       let some : copies t ≡ 0 → ⊥ = λ e. omega (arith, e, is) in
-      ap (λ (b : Bool). if b then Lost else cause_behind (latest_written h copies t) (level_at h t)) (ne_eqb (copies t) 0 some)
+      ap (λ (b : Bool). if b then Lost else cause_behind (latest_of_missing h copies t) (level_at h t)) (ne_eqb (copies t) 0 some)
 
   -- lost numbers in a row stand as one
   lost-rows : (m first : ℕ) (more : List ℕ) → ((s : ℕ) → first ≤ s → s < first + suc m → copies s ≡ 0) → joins (first + m) (rows_from more) ≡ false
@@ -155,22 +155,22 @@ module _ (h : History) (copies : ℕ → ℕ) where
 
   -- ---- the row of an arrival
 
-  own-rows : (t c : ℕ) → copies t ≡ suc c → (more : List ℕ) → rows_from (t ∷ more) ≡ record { first = t; last = t; cause = cause_behind (latest_written h copies t) (level_at h t) } ∷ rows_from more
+  own-rows : (t c : ℕ) → copies t ≡ suc c → (more : List ℕ) → rows_from (t ∷ more) ≡ record { first = t; last = t; cause = cause_behind (latest_of_missing h copies t) (level_at h t) } ∷ rows_from more
   own-rows t c is more =
       ap (λ (cause : Cause). before_rows (record { first = t; last = t; cause = cause }) (rows_from more)) (row-missed t c is)
-      ∙ missed-before t (latest_written h copies t) (level_at h t) (rows_from more)
+      ∙ missed-before t (latest_of_missing h copies t) (level_at h t) (rows_from more)
 
   own-text : (t c : ℕ) → copies t ≡ suc c → (more : List ℕ) (written : Bool)
-      → text_of (cond (not written) (t ∷ more) more) ≡ own_row t (if written then kind.Written else missed_behind (latest_written h copies t) (level_at h t)) ++ text_of more
+      → text_of (cond (not written) (t ∷ more) more) ≡ own_row t (if written then kind.Written else missed_behind (latest_of_missing h copies t) (level_at h t) (is_mask_known h copies t)) ++ text_of more
   own-text t c is more true = refl
   own-text t c is more false =
       ap (λ (rows : List ListedRow). flat_map row_text rows) (own-rows t c is more)
-      ∙ ap (λ (l : List ℕ). l ++ text_of more) (missed-text t (latest_written h copies t) (level_at h t))
+      ∙ ap (λ (l : List ℕ). l ++ text_of more) (missed-text t (latest_of_missing h copies t) (level_at h t) (is_mask_known h copies t))
 
   own-apart : (last t c : ℕ) → copies t ≡ suc c → (more : List ℕ) (written : Bool) → joins last (rows_from more) ≡ false → joins last (rows_from (cond (not written) (t ∷ more) more)) ≡ false
   own-apart last t c is more true apart = apart
   own-apart last t c is more false apart =
-      ap (joins last) (own-rows t c is more) ∙ missed-apart last t (latest_written h copies t) (level_at h t) (rows_from more)
+      ap (joins last) (own-rows t c is more) ∙ missed-apart last t (latest_of_missing h copies t) (level_at h t) (rows_from more)
 
   -- lost numbers before t, and then others
   lost-then : (d first t : ℕ) → t - first ≡ d → first ≤ t → AreDropped copies first t → (more : List ℕ) → ((last : ℕ) → last + 1 ≡ t → joins last (rows_from more) ≡ false)

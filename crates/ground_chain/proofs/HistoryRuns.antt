@@ -8,7 +8,7 @@ use Rattle.bit_vectors.specs.Vectors.{bits_of}
 use Rattle.packet_store.specs.SpacePackets.{period}
 use Rattle.mask_update.specs.Histories.{History, IsValid}
 use Rattle.robust_window.specs.Histories.{level_at}
-use Rattle.packet_encode.specs.Deliveries.{arrivals, count_up_to, is_written, latest_written}
+use Rattle.packet_encode.specs.Deliveries.{arrivals, count_up_to, is_mask_known, is_written, latest_by, latest_mask_known, latest_of_missing, latest_written}
 use Rattle.packet_decode.specs.Histories.{true_state}
 use Rattle.loss_player.specs.Gaps.{AreGapsShort}
 use Rattle.flight_chain.specs.Stores.{data_at}
@@ -17,17 +17,17 @@ use Rattle.ground_chain.specs.Numbers.{number_after, expected}
 use Rattle.ground_chain.specs.Run.{Known, Judged, nothing_known, change_after, lost_from, judged_by, judge, repeat_judged, run_from, known_from, known_after, run}
 use Rattle.ground_chain.specs.Deliveries.{arrival_at, history_arrivals}
 use Rattle.ground_chain.proofs.LastArrivals.{copies_of, last_before, last-dropped, last-arrived, number-arrived, number-repeated}
-use Rattle.ground_chain.proofs.HistoryPackets.{missed_behind, kind_at, kind_read, state_next, latest_written-dropped}
+use Rattle.ground_chain.proofs.HistoryPackets.{missed_behind, kind_at, kind_read, state_next, latest_mask_known-dropped, latest_written-dropped}
 
 -- what is known before the packet t: the latest packet that arrived, and the state of the latest written one
 abbrev pub known_at : History → (ℕ → ℕ) → ℕ → Known
-known_at h copies t = record { latest = last_before copies t; state = true_state h (latest_written h copies t) }
+known_at h copies t = record { latest = last_before copies t; state = true_state h (latest_mask_known h copies t) (latest_written h copies t) }
 
 -- the verdict on the first copy of a packet, and what is known after it
 abbrev pub judged_first : History → (ℕ → ℕ) → ℕ → Judged
 judged_first h copies t = record {
   verdict = record { lost = lost_from (expected (last_before copies t)) t; t = t; kind = kind_at h copies t };
-  change = change_after h.places (true_state h (latest_written h copies t)) t (bits_of (data_at h t));
+  change = change_after h.places (true_state h (latest_mask_known h copies t) (latest_written h copies t)) t (bits_of (data_at h t));
   after = known_at h copies (t + 1);
 }
 
@@ -42,7 +42,7 @@ judged_at h copies t = judged_copies h copies t (copies t)
 
 -- what is known where this is the latest packet that arrived
 abbrev pub known_by : History → (ℕ → ℕ) → Option ℕ → Known
-known_by h copies latest = record { latest = latest; state = true_state h (latest_written h copies (count_up_to latest)) }
+known_by h copies latest = record { latest = latest; state = true_state h (latest_mask_known h copies (count_up_to latest)) (latest_written h copies (count_up_to latest)) }
 
 -- Before the packet t, where the latest one that arrived is this, each front of these arrivals leaves what is known at its
 -- end.
@@ -51,7 +51,7 @@ IsKnownFrom h copies t latest numbers = (front rest : List ℕ) → front ++ res
 
 module _ (h : History) (copies : ℕ → ℕ) where
   known-first : known_at h copies 0 ≡ nothing_known
-  unfolding latest_written
+  unfolding latest_by
   known-first = refl
 
   written-more : (t c : ℕ) → copies t ≡ c → latest_written h copies t ≡ latest_written h copies (count_up_to (last_before copies t))
@@ -66,8 +66,20 @@ module _ (h : History) (copies : ℕ → ℕ) where
       let next : t + 1 ≡ suc t = omega arith in
       subst (λ (s : ℕ). latest_written h copies s ≡ latest_written h copies (count_up_to (last_before copies s))) next (written-more t (copies t) refl (written-is t))
 
+  -- nor does its mask become known
+  masked-more : (t c : ℕ) → copies t ≡ c → latest_mask_known h copies t ≡ latest_mask_known h copies (count_up_to (last_before copies t))
+      → latest_mask_known h copies (t + 1) ≡ latest_mask_known h copies (count_up_to (last_before copies (t + 1)))
+  masked-more t zero is same = latest_mask_known-dropped h copies t is ∙ (same ∙ ap (λ (latest : Option ℕ). latest_mask_known h copies (count_up_to latest)) (sym (last-dropped copies t is)))
+  masked-more t (suc c) is same = ap (λ (latest : Option ℕ). latest_mask_known h copies (count_up_to latest)) (sym (last-arrived copies t c is))
+
+  masked-is : (t : ℕ) → latest_mask_known h copies t ≡ latest_mask_known h copies (count_up_to (last_before copies t))
+  masked-is zero = refl
+  masked-is (suc t) =
+      let next : t + 1 ≡ suc t = omega arith in
+      subst (λ (s : ℕ). latest_mask_known h copies s ≡ latest_mask_known h copies (count_up_to (last_before copies s))) next (masked-more t (copies t) refl (masked-is t))
+
   known-is : (t : ℕ) → known_at h copies t ≡ known_by h copies (last_before copies t)
-  known-is t = ap (λ (latest : Option ℕ). record { latest = last_before copies t; state = true_state h latest }) (written-is t)
+  known-is t = λ i. record { latest = last_before copies t; state = true_state h (masked-is t i) (written-is t i) }
 
   known-arrived : (t c : ℕ) → copies t ≡ suc c → known_at h copies (t + 1) ≡ known_by h copies (Some t)
   known-arrived t c is = known-is (t + 1) ∙ ap (known_by h copies) (last-arrived copies t c is)
@@ -79,8 +91,9 @@ module _ (h : History) (copies : ℕ → ℕ) (valid : IsValid h) (short : AreGa
   known-dropped : (t : ℕ) → copies t ≡ 0 → known_at h copies (t + 1) ≡ known_at h copies t
   known-dropped t none =
       let latest = last-dropped copies t none in
-      let state = ap (true_state h) (latest_written-dropped h copies t none) in
-      λ i. record { latest = latest i; state = state i }
+      let masked = latest_mask_known-dropped h copies t none in
+      let written = latest_written-dropped h copies t none in
+      λ i. record { latest = latest i; state = true_state h (masked i) (written i) }
 
   -- the first copy
   first-judged : (t c : ℕ) → t < length h.steps → copies t ≡ suc c → judge h.places (known_at h copies t) (arrival_at h t) ≡ judged_first h copies t
@@ -92,7 +105,7 @@ module _ (h : History) (copies : ℕ → ℕ) (valid : IsValid h) (short : AreGa
       let state = state_next h copies t c valid lt is in
       ap (judged_by h.places (known_at h copies t) (data_at h t)) number ∙ λ i. record {
         verdict = record { lost = lost_from (expected (last_before copies t)) t; t = t; kind = kind i };
-        change = change_after h.places (true_state h (latest_written h copies t)) t (bits_of (data_at h t));
+        change = change_after h.places (true_state h (latest_mask_known h copies t) (latest_written h copies t)) t (bits_of (data_at h t));
         after = record { latest = latest i; state = state i };
       }
 
@@ -174,10 +187,10 @@ module _ (h : History) (copies : ℕ → ℕ) (valid : IsValid h) (short : AreGa
 abbrev pub IsUnrefused : Judged → Type 0
 IsUnrefused j = (fault : BitFault) → j.verdict.kind ≡ Refused fault → ⊥
 
-unrefused-by : (written : Bool) (latest : Option ℕ) (level : ℕ) (fault : BitFault) → (if written then Written else missed_behind latest level) ≡ Refused fault → ⊥
-unrefused-by true latest level fault is = cc
-unrefused-by false None level fault is = cc
-unrefused-by false (Some s) level fault is = cc
+unrefused-by : (written mask : Bool) (latest : Option ℕ) (level : ℕ) (fault : BitFault) → (if written then Written else missed_behind latest level mask) ≡ Refused fault → ⊥
+unrefused-by true mask latest level fault is = cc
+unrefused-by false mask None level fault is = cc
+unrefused-by false mask (Some s) level fault is = cc
 
 unrefused-repeat : (known : Known) → IsUnrefused (repeat_judged known)
 unrefused-repeat known fault is = cc
@@ -185,7 +198,7 @@ unrefused-repeat known fault is = cc
 unrefused-copies : (h : History) (copies : ℕ → ℕ) (t c : ℕ) → All IsUnrefused (judged_copies h copies t c)
 unrefused-copies h copies t zero = All-nil (λ j. IsUnrefused j)
 unrefused-copies h copies t (suc c) =
-    All-cons (λ j. IsUnrefused j) (judged_first h copies t) (replicate c (repeat_judged (known_at h copies (t + 1)))) (unrefused-by (is_written h copies t) (latest_written h copies t) (level_at h t))
+    All-cons (λ j. IsUnrefused j) (judged_first h copies t) (replicate c (repeat_judged (known_at h copies (t + 1)))) (unrefused-by (is_written h copies t) (is_mask_known h copies t) (latest_of_missing h copies t) (level_at h t))
     (All-replicate (λ j. IsUnrefused j) c (repeat_judged (known_at h copies (t + 1))) (unrefused-repeat (known_at h copies (t + 1))))
 
 pub unrefused-packets : (h : History) (copies : ℕ → ℕ) (numbers : List ℕ) → All IsUnrefused (flat_map (judged_at h copies) numbers)

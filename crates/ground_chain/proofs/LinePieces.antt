@@ -1,19 +1,19 @@
 -- The lines of one arrival, in the pieces in which they are written.
-use Rattle.std.proofs.Common.{◌≡◌, ℕ, Bool, true, false, List, ◌++◌, codes, refl, sym, ap, ◌∙◌, subst, append_assoc}
+use Rattle.std.proofs.Common.{◌≡◌, ℕ, eqb, if◌then◌else◌, Bool, true, false, List, ◌++◌, codes, Option, Some, None, refl, sym, ap, ◌∙◌, subst, append_assoc}
 use Rattle.std.specs.Fmt.{decimal}
+use Rattle.std.specs.Option.{option_eq}
 use Rattle.bit_vectors.specs.declared.fault.BitFault.TheVariants.{Wrong, EndsEarly}
 use Rattle.desk_ports.specs.declared.desk.Outlet.{Outlet}
 use Rattle.desk_ports.specs.declared.desk.Outlet.TheVariants as outlet
 use Rattle.desk_ports.specs.Meanings.{Meanings, Adds, AddsFront}
 use Rattle.desk_ports.proofs.Transfers.{Adds-then}
-use Rattle.packet_decode.specs.Decoding.{Decoding, latest_content, latest_mask}
+use Rattle.packet_decode.specs.State.{KnownVector, State}
+use Rattle.packet_decode.specs.Decoding.{Decoding, latest_content, number_of, vector_of}
 use Rattle.ground_chain.specs.declared.verdict.Kind.{Kind}
 use Rattle.ground_chain.specs.declared.verdict.Kind.TheVariants.{Written, Repeat, Unsynced, Gap, Refused}
 use Rattle.ground_chain.specs.Run.{Judged}
-use Rattle.ground_chain.specs.Report.{is_written_kind}
 use Rattle.ground_chain.specs.Reception.{Shows}
-use Rattle.ground_chain.specs.Listing.{front_line, judged_lines, kind_text, latest_vectors, lost_line, packet_text, vector_digits, vectors_text}
-use Rattle.ground_chain.proofs.Writings.{kind_written}
+use Rattle.ground_chain.specs.Listing.{front_line, judged_lines, kind_text, kind_vectors, known_with, latest_vectors, level_of, lost_line, shown_vectors, mask_line, mask_text, own_vectors, packet_vectors, vector_digits, vectors_text}
 
 -- ---- pieces
 
@@ -36,60 +36,75 @@ AddsFront-behind a b c o xs ys adds cut = record {
 }
 
 -- the vectors of a line, each with what stands behind it
-pub vectors_text-pieces : (recent mask content : List Bool)
-    → (vector_digits recent ++ codes " ") ++ ((vector_digits mask ++ codes " ") ++ (vector_digits content ++ codes "\n")) ≡ vectors_text recent mask content
+pub vectors_text-pieces : (recent : List Bool) (mask : Option (List Bool)) (content : List Bool)
+    → (vector_digits recent ++ codes " ") ++ ((mask_text mask ++ codes " ") ++ (vector_digits content ++ codes "\n")) ≡ vectors_text recent mask content
 vectors_text-pieces recent mask content =
     let x = vector_digits recent ++ codes " " in
-    let m = vector_digits mask in
+    let m = mask_text mask in
     let i = vector_digits content in
     sym (append_assoc (x ++ m ++ codes " ") i (codes "\n") ∙ (ap (λ (l : List ℕ). l ++ (i ++ codes "\n")) (append_assoc x m (codes " ")) ∙ append_assoc x (m ++ codes " ") (i ++ codes "\n")))
 
+-- another packet is the latest whose mask became known, or none
+pub not_known : (t : ℕ) (part : Option KnownVector) → option_eq eqb (number_of part) (Some t) ≡ false → known_with t part ≡ None
+not_known t None other = refl
+not_known t (Some known) other = ap (λ (same : Bool). if same then Some known.vector else None) other
+
 -- ---- lines
 
-kind_text-unwritten : (kind : Kind) (x y : List ℕ) → is_written_kind kind ≡ false → kind_text kind x ≡ kind_text kind y
-kind_text-unwritten Written x y other = absurd cc
-kind_text-unwritten Repeat x y other = refl
-kind_text-unwritten Unsynced x y other = refl
-kind_text-unwritten (Gap level) x y other = refl
-kind_text-unwritten (Refused (Wrong bit)) x y other = refl
-kind_text-unwritten (Refused (EndsEarly bit)) x y other = refl
+kind_text-level : (kind : Kind) (a b : ℕ) → (kind ≡ Written → a ≡ b) → kind_text kind a ≡ kind_text kind b
+kind_text-level Written a b same = ap (kind_text Written) (same refl)
+kind_text-level Repeat a b same = refl
+kind_text-level (Unsynced false) a b same = refl
+kind_text-level (Unsynced true) a b same = refl
+kind_text-level (Gap reached false) a b same = refl
+kind_text-level (Gap reached true) a b same = refl
+kind_text-level (Refused (Wrong bit)) a b same = refl
+kind_text-level (Refused (EndsEarly bit)) a b same = refl
 
--- an arrival that is not written has its lines at once
-pub lines-unwritten : (judged : Judged) (level : ℕ) → is_written_kind judged.verdict.kind ≡ false → front_line judged.verdict level ≡ judged_lines judged
-lines-unwritten judged level other =
-    let text = kind_text-unwritten judged.verdict.kind (decimal level ++ codes " ") (packet_text judged.change judged.after.state) other in
-    ap (λ (l : List ℕ). lost_line judged.verdict.lost ++ (decimal judged.verdict.t ++ l)) text
+-- the level of a written packet is the decoder's
+shown_level : (judged : Judged) (decoder : Decoding) → Shows decoder judged → judged.verdict.kind ≡ Written → decoder.level ≡ level_of judged.change
+shown_level judged decoder shows written = let packet = shows.written written in packet.level ∙ ap level_of (sym packet.first)
 
-assoc_pieces : (a b c d rest : List ℕ) → (a ++ (b ++ (c ++ d))) ++ rest ≡ a ++ (b ++ (c ++ (d ++ rest)))
-assoc_pieces a b c d rest =
-    append_assoc a (b ++ (c ++ d)) rest ∙ ap (λ (l : List ℕ). a ++ l) (append_assoc b (c ++ d) rest ∙ ap (λ (l : List ℕ). b ++ l) (append_assoc c d rest))
-
--- of a written packet the vectors come behind the level
-pub lines-written : (judged : Judged) (decoder : Decoding) → is_written_kind judged.verdict.kind ≡ true → Shows decoder judged
-    → front_line judged.verdict decoder.level ++ latest_vectors decoder ≡ judged_lines judged
-lines-written judged decoder written shows =
+-- the vectors come behind the front
+pub lines-are : (judged : Judged) (decoder : Decoding) → Shows decoder judged → front_line judged.verdict decoder.level ++ own_vectors judged ≡ judged_lines judged
+lines-are judged decoder shows =
     let lost = lost_line judged.verdict.lost in
     let number = decimal judged.verdict.t in
-    let kind = kind_written judged.verdict.kind written in
-    let packet = shows kind in
-    let recent = packet.recent in
-    let level = packet.level in
-    let state = packet.state in
-    let vectors = vectors_text packet.change.recent packet.packet.mask packet.packet.content in
-    let shown : front_line judged.verdict decoder.level ++ latest_vectors decoder
-    ≡ (lost_line judged.verdict.lost ++ (decimal judged.verdict.t ++ (codes " written " ++ (decimal packet.change.level ++ codes " ")))) ++ vectors_text packet.change.recent packet.packet.mask packet.packet.content =
-    λ i. (lost ++ (number ++ kind_text (kind i) (decimal (level i) ++ codes " "))) ++ vectors_text (recent i) (latest_mask decoder.places (state i)) (latest_content decoder.places (state i)) in
-    let whole = assoc_pieces (lost_line judged.verdict.lost) (decimal judged.verdict.t) (codes " written ") (decimal packet.change.level ++ codes " ") vectors in
-    let first = sym packet.first in
-    let after = sym packet.after in
-    let of = sym kind in
-    shown ∙ (whole ∙ λ i. lost ++ (number ++ kind_text (of i) (packet_text (first i) (after i))))
+    let level = kind_text-level judged.verdict.kind decoder.level (level_of judged.change) (shown_level judged decoder shows) in
+    append_assoc lost (number ++ kind_text judged.verdict.kind decoder.level) (own_vectors judged)
+    ∙ ap (λ (l : List ℕ). lost ++ l) (append_assoc number (kind_text judged.verdict.kind decoder.level) (own_vectors judged))
+    ∙ ap (λ (l : List ℕ). lost ++ (number ++ (l ++ own_vectors judged))) level
+
+-- the vectors that the decoder has are those of the line
+pub vectors-written : (judged : Judged) (decoder : Decoding) → judged.verdict.kind ≡ Written → Shows decoder judged → latest_vectors judged.verdict.t decoder ≡ packet_vectors judged.change judged.verdict.t judged.after.state judged.after.state.content
+vectors-written judged decoder written shows =
+    let packet = shows.written written in
+    let t = judged.verdict.t in
+    ap (λ (s : State). vectors_text decoder.recent (known_with t s.mask) (latest_content decoder.places s)) shows.state
+    ∙ ap (λ (k : Option KnownVector). vectors_text decoder.recent (known_with t judged.after.state.mask) (vector_of decoder.places k)) packet.content
+    ∙ ap (λ (x : List Bool). vectors_text x (known_with t judged.after.state.mask) packet.known.vector) packet.recent
+    ∙ sym (λ i. packet_vectors (packet.first i) t judged.after.state (packet.content i))
+
+-- what the decoder has is what the line shows
+pub shown-are : (judged : Judged) (decoder : Decoding) → Shows decoder judged → shown_vectors judged.verdict decoder ≡ own_vectors judged
+shown-are judged decoder shows = by_kind judged.verdict.kind refl
+  where
+    packet : List ℕ
+    packet = packet_vectors judged.change judged.verdict.t judged.after.state judged.after.state.content
+
+    same_mask : mask_line judged.verdict.t decoder.state.mask ≡ mask_line judged.verdict.t judged.after.state.mask
+    same_mask = ap (λ (s : State). mask_line judged.verdict.t s.mask) shows.state
+
+    by_kind : (kind : Kind) → judged.verdict.kind ≡ kind → kind_vectors kind (latest_vectors judged.verdict.t decoder) (mask_line judged.verdict.t decoder.state.mask) ≡ kind_vectors kind (packet_vectors judged.change judged.verdict.t judged.after.state judged.after.state.content) (mask_line judged.verdict.t judged.after.state.mask)
+    by_kind Written is = vectors-written judged decoder is shows
+    by_kind Repeat is = refl
+    by_kind (Unsynced false) is = refl
+    by_kind (Unsynced true) is = same_mask
+    by_kind (Gap reached false) is = refl
+    by_kind (Gap reached true) is = same_mask
+    by_kind (Refused fault) is = refl
 
 -- a front of the front of the lines is one of the lines
 pub front_front : (a b : Meanings) (judged : Judged) (decoder : Decoding) → Shows decoder judged → AddsFront a b outlet.Main (front_line judged.verdict decoder.level) → AddsFront a b outlet.Main (judged_lines judged)
-front_front a b judged decoder shows cut = by_kind (is_written_kind judged.verdict.kind) refl where
-  by_kind : (written : Bool) → is_written_kind judged.verdict.kind ≡ written → AddsFront a b outlet.Main (judged_lines judged)
-  by_kind true written =
-      let vectors = latest_vectors decoder in
-      subst (AddsFront a b outlet.Main) (lines-written judged decoder written shows) (AddsFront-then a b outlet.Main (front_line judged.verdict decoder.level) vectors cut)
-  by_kind false other = subst (AddsFront a b outlet.Main) (lines-unwritten judged decoder.level other) cut
+front_front a b judged decoder shows cut =
+    subst (AddsFront a b outlet.Main) (lines-are judged decoder shows) (AddsFront-then a b outlet.Main (front_line judged.verdict decoder.level) (own_vectors judged) cut)

@@ -1,5 +1,6 @@
 -- One arrival more: the verdict is the run's, and what is kept stands for the run over it.
-use Rattle.std.proofs.Common.{◌≡◌, ℕ, Bool, List, [], ◌∷◌, ◌++◌, Some, None, Result, Ok, Err, refl, sym, ap, ◌∙◌, subst}
+use Rattle.std.proofs.Common.{◌≡◌, ℕ, ◌+◌, ◌<◌, ◌≤◌, Bool, true, false, List, [], ◌∷◌, ◌++◌, Option, Some, None, Result, Ok, Err, refl, sym, ap, ◌∙◌, subst, arith}
+use Rattle.std.specs.Prelude.{IfSome}
 use Rattle.bit_vectors.specs.declared.fault.BitFault.{BitFault}
 use Rattle.bit_vectors.specs.Vectors.{bits_of}
 use Rattle.packet_encode.specs.Forms.{Form}
@@ -7,43 +8,104 @@ use Rattle.packet_decode.specs.declared.decoder.Reading.{Reading}
 use Rattle.packet_decode.specs.declared.decoder.Reading.TheVariants.{Written, Unsynced, Gap}
 use Rattle.packet_decode.specs.Spelling.{Spells}
 use Rattle.packet_decode.specs.Answers.{IsExactAnswer}
-use Rattle.packet_decode.specs.State.{IsState, change_of}
+use Rattle.packet_decode.specs.State.{KnownVector, State, IsState, change_of, next_part, next_state}
 use Rattle.packet_decode.specs.PacketReading.{answer_of}
-use Rattle.packet_decode.specs.Decoding.{Decoding}
+use Rattle.packet_decode.specs.Decoding.{Decoding, latest_mask_number, latest_number, number_of, tells_nothing}
 use Rattle.packet_decode.proofs.ExactAnswers.{answer_of-exact}
 use Rattle.packet_decode.proofs.OneAnswer.{one_answer, spells_read}
 use Rattle.ground_chain.specs.declared.verdict.Kind.TheVariants as kind
 use Rattle.ground_chain.specs.declared.verdict.Verdict.{Verdict}
 use Rattle.ground_chain.specs.Numbers.{number_after, expected}
 use Rattle.ground_chain.specs.Run.{Arrival, Known, Judged, nothing_known, change_after, change_read, state_read, lost_from, kind_of, judge_as, judged_by, judge, repeat_judged, known_after}
-use Rattle.ground_chain.specs.Sound.{IsChangeAfter, IsStateAfter, IsJudgedBy}
+use Rattle.ground_chain.specs.Sound.{IsChangeAfter, IsSpelled, IsStateAfter, IsJudgedBy}
 use Rattle.ground_chain.specs.Reception.{ShowsPacket, Reception, IsReception, Shows, StandsFor, known_of, next_judged}
 use Rattle.ground_chain.proofs.Runs.{known_from-append}
-use Rattle.ground_chain.proofs.Sound.{judged_only, kept_answer}
+use Rattle.ground_chain.proofs.Sound.{IsState-follows, judged_only, kept_answer}
 
--- what a decoder does where it reads a packet
-abbrev pub Latest : Decoding → Decoding → ℕ → List Bool → Type 0
-Latest old new t bits =
-    (form : Form) (mask content : List Bool) → Spells old.places old.state t bits form mask content
-    → new ≡ record { places = old.places; state = Some (record { number = t; mask = mask; content = content }); recent = form.recent; level = form.level }
+-- what a decoder does where it reads a packet: what becomes known, by its content or by its mask alone
+abbrev pub Decodes : Decoding → Decoding → ℕ → List Bool → Type 0
+Decodes old new t bits =
+    (form : Form) (mask : Option (List Bool)) (content : List Bool) → Spells old.places old.state t bits form mask (Some content)
+    → new ≡ record { places = old.places; state = next_state old.state t mask (Some content); recent = form.recent; level = form.level }
+
+abbrev pub Masks : Decoding → Decoding → ℕ → List Bool → Type 0
+Masks old new t bits =
+    (form : Form) (mask : Option (List Bool)) → Spells old.places old.state t bits form mask None
+    → new ≡ record { places = old.places; state = next_state old.state t mask None; recent = old.recent; level = old.level }
 
 abbrev pub Unchanged : Decoding → Decoding → Result Reading BitFault → Type 0
-Unchanged old new answer = (answer ≡ Ok Written → ⊥) → new ≡ old
+Unchanged old new answer = tells_nothing answer ≡ true → new ≡ old
 
-follows_read : (old new : Decoding) (t : ℕ) (bits : List Bool) (answer : Result Reading BitFault) → IsExactAnswer old.places old.state t bits answer → Latest old new t bits → Unchanged old new answer
-    → IsStateAfter old.places old.state t bits new.state answer
-follows_read old new t bits (Ok Written) (form, mask, content, spells) latest unchanged =
-    record { form = form; mask = mask; content = content; spells = spells; is = ap (λ (d : Decoding). d.state) (latest form mask content spells) }
-follows_read old new t bits (Ok Unsynced) exact latest unchanged = ap (λ (d : Decoding). d.state) (unchanged (λ e. cc))
-follows_read old new t bits (Ok (Gap level)) exact latest unchanged = ap (λ (d : Decoding). d.state) (unchanged (λ e. cc))
-follows_read old new t bits (Err fault) exact latest unchanged = ap (λ (d : Decoding). d.state) (unchanged (λ e. cc))
+pub record Reads (old new : Decoding) (t : ℕ) (bits : List Bool) (answer : Result Reading BitFault) : Type 0 where
+  pub decodes : Decodes old new t bits
+  pub masks : Masks old new t bits
+  pub unchanged : Unchanged old new answer
+
+masked_state : (old new : Decoding) (t : ℕ) (bits : List Bool) (form : Form) (mask : Option (List Bool)) → Masks old new t bits → Spells old.places old.state t bits form mask None → IsSpelled old.places old.state t bits new.state
+masked_state old new t bits form mask masks spells = record { form = form; mask = mask; content = None; spells = spells; is = ap (λ (d : Decoding). d.state) (masks form mask spells) }
+
+follows_read : (old new : Decoding) (t : ℕ) (bits : List Bool) (answer : Result Reading BitFault) → IsExactAnswer old.places old.state t bits answer → Reads old new t bits answer → IsStateAfter old.places old.state t bits new.state answer
+follows_read old new t bits (Ok Written) (form, mask, content, spells) reads =
+    record { form = form; mask = mask; content = Some content; spells = spells; is = ap (λ (d : Decoding). d.state) (reads.decodes form mask content spells) }
+follows_read old new t bits (Ok (Unsynced true)) ((level, s), none) reads = masked_state old new t bits s.0 s.1 reads.masks s.2
+follows_read old new t bits (Ok (Unsynced false)) exact reads = ap (λ (d : Decoding). d.state) (reads.unchanged refl)
+follows_read old new t bits (Ok (Gap level true)) (s, some) reads = masked_state old new t bits s.0 s.1 reads.masks s.2
+follows_read old new t bits (Ok (Gap level false)) exact reads = ap (λ (d : Decoding). d.state) (reads.unchanged refl)
+follows_read old new t bits (Err fault) exact reads = ap (λ (d : Decoding). d.state) (reads.unchanged refl)
+
+-- ---- what is kept after it
+
+-- a number that became known with the packet t or before it
+number_next : (part : Option KnownVector) (t : ℕ) (vector : Option (List Bool)) → IfSome (number_of part) (λ n. n < t) → IfSome (number_of (next_part part t vector)) (λ n. n < t + 1)
+number_next None t None before = tt
+number_next (Some known) t None before = omega (arith, before)
+number_next part t (Some vector) before = omega arith
+
+record HasNumbers (state : State) (t : ℕ) : Type 0 where
+  content : IfSome (latest_number state) (λ n. n < t)
+  mask : IfSome (latest_mask_number state) (λ n. n < t)
+
+later : (part : Option KnownVector) (t : ℕ) → IfSome (number_of part) (λ n. n < t) → IfSome (number_of part) (λ n. n < t + 1)
+later None t before = tt
+later (Some known) t before = omega (arith, before)
+
+stays_later : (state next : State) (t : ℕ) → HasNumbers state t → next ≡ state → HasNumbers next (t + 1)
+stays_later state next t has same = subst (λ (s : State). HasNumbers s (t + 1)) (sym same) (record { content = later state.content t has.content; mask = later state.mask t has.mask })
+
+spelled_later : (f : ℕ) (state next : State) (t : ℕ) (bits : List Bool) → HasNumbers state t → IsSpelled f state t bits next → HasNumbers next (t + 1)
+spelled_later f state next t bits has s =
+    subst (λ (x : State). HasNumbers x (t + 1)) (sym s.is) (record { content = number_next state.content t s.content has.content; mask = number_next state.mask t s.mask has.mask })
+
+numbers_after : (f : ℕ) (state next : State) (t : ℕ) (bits : List Bool) (answer : Result Reading BitFault) → HasNumbers state t → IsStateAfter f state t bits next answer → HasNumbers next (t + 1)
+numbers_after f state next t bits (Ok Written) has s = spelled_later f state next t bits has s
+numbers_after f state next t bits (Ok (Unsynced true)) has s = spelled_later f state next t bits has s
+numbers_after f state next t bits (Ok (Unsynced false)) has same = stays_later state next t has same
+numbers_after f state next t bits (Ok (Gap level true)) has s = spelled_later f state next t bits has s
+numbers_after f state next t bits (Ok (Gap level false)) has same = stays_later state next t has same
+numbers_after f state next t bits (Err fault) has same = stays_later state next t has same
+
+below : (part : Option KnownVector) (bound t : ℕ) → bound ≤ t → IfSome (number_of part) (λ n. n < bound) → IfSome (number_of part) (λ n. n < t)
+below None bound t le before = tt
+below (Some known) bound t le before = omega (arith, le, before)
+
+pub kept_read : (latest next : Option ℕ) (old new : Decoding) (t : ℕ) (bits : List Bool) (answer : Result Reading BitFault) → IsReception latest old → expected latest ≤ t → next ≡ Some t → new.places ≡ old.places
+    → IsExactAnswer old.places old.state t bits answer → Reads old new t bits answer → IsReception next new
+kept_read latest next old new t bits answer kept le next_is places exact reads =
+    let after = follows_read old new t bits answer exact reads in
+    let state = old.state in
+    let numbers = numbers_after old.places old.state new.state t bits answer (record { content = below state.content (expected latest) t le kept.arrived; mask = below state.mask (expected latest) t le kept.mask_arrived }) after in
+    subst (λ (n : Option ℕ). IsReception n new) (sym next_is) (record {
+      places = subst (λ (f : ℕ). IsState f new.state) (sym places) (IsState-follows old.places old.state t kept.places bits new.state answer after);
+      arrived = numbers.content;
+      mask_arrived = numbers.mask;
+    })
 
 -- an arrival that is read
 pub judged_read : (r : Reception) (new : Decoding) (count t : ℕ) (body : List ℕ) (verdict : Verdict) (answer : Result Reading BitFault) → IsReception r.latest r.decoder → number_after r.latest count ≡ Some t
     → verdict ≡ record { lost = lost_from (expected r.latest) t; t = t; kind = kind_of answer }
-    → IsExactAnswer r.decoder.places r.decoder.state t (bits_of body) answer → Latest r.decoder new t (bits_of body) → Unchanged r.decoder new answer
+    → IsExactAnswer r.decoder.places r.decoder.state t (bits_of body) answer → Reads r.decoder new t (bits_of body) answer
     → record { verdict = verdict; change = change_after r.decoder.places r.decoder.state t (bits_of body); after = record { latest = Some t; state = new.state } } ≡ next_judged r count body
-judged_read r new count t body verdict answer kept number is exact latest unchanged =
+judged_read r new count t body verdict answer kept number is exact reads =
     let known = known_of r in
     let f = r.decoder.places in
     let bits = bits_of body in
@@ -55,7 +117,7 @@ judged_read r new count t body verdict answer kept number is exact latest unchan
       verdict = is;
       change = subst (IsChangeAfter f r.decoder.state t bits first) (sym (one_answer f r.decoder.state t kept.places bits answer exact)) (kept_answer f r.decoder.state t kept.places bits);
       latest = refl;
-      state = follows_read r.decoder new t (bits_of body) answer exact latest unchanged;
+      state = follows_read r.decoder new t (bits_of body) answer exact reads;
     } in
     judged_only r.decoder.places known kept.places body judged (Some t) right ∙ ap (judged_by r.decoder.places known body) (sym number)
 
@@ -63,38 +125,39 @@ judged_read r new count t body verdict answer kept number is exact latest unchan
 pub judged_repeat : (r : Reception) (count : ℕ) (body : List ℕ) → number_after r.latest count ≡ None → repeat_judged (known_of r) ≡ next_judged r count body
 judged_repeat r count body number = ap (judged_by r.decoder.places (known_of r) body) (sym number)
 
--- ---- a written packet
+-- ---- what the decoder shows
 
-module _ (r : Reception) (new : Decoding) (t : ℕ) (body : List ℕ) (has : IsState r.decoder.places r.decoder.state) (latest : Latest r.decoder new t (bits_of body)) where
+module _ (r : Reception) (new : Decoding) (t : ℕ) (body : List ℕ) (has : IsState r.decoder.places r.decoder.state) (decodes : Decodes r.decoder new t (bits_of body)) where
   shows_by : (answer : Result Reading BitFault) → IsExactAnswer r.decoder.places r.decoder.state t (bits_of body) answer → kind_of answer ≡ kind.Written → ShowsPacket new (judge_as r.decoder.places (known_of r) body t)
   shows_by (Ok Written) (form, mask, content, spells) written =
-      let read = spells_read r.decoder.places r.decoder.state t has (bits_of body) form mask content spells in
-      let is = latest form mask content spells in
+      let read = spells_read r.decoder.places r.decoder.state t has (bits_of body) form mask (Some content) spells in
+      let is = decodes form mask content spells in
       record {
-        packet = record { number = t; mask = mask; content = content };
+        known = record { number = t; vector = content };
         change = change_of form;
-        state = ap (λ (d : Decoding). d.state) is;
+        content = ap (λ (s : State). s.content) (ap (state_read r.decoder.state t) read);
         recent = ap (λ (d : Decoding). d.recent) is;
         level = ap (λ (d : Decoding). d.level) is;
-        after = ap (state_read r.decoder.state t) read;
         first = ap change_read read;
       }
-  shows_by (Ok Unsynced) exact written = absurd cc
-  shows_by (Ok (Gap level)) exact written = absurd cc
+  shows_by (Ok (Unsynced mask)) exact written = absurd cc
+  shows_by (Ok (Gap level mask)) exact written = absurd cc
   shows_by (Err fault) exact written = absurd cc
 
-  shows_as : Shows new (judge_as r.decoder.places (known_of r) body t)
-  shows_as written = shows_by (answer_of r.decoder.places r.decoder.state t (bits_of body)) (answer_of-exact r.decoder.places r.decoder.state t has (bits_of body)) written
-
   -- after an arrival that is read the decoder shows it
-  pub shows_read : (count : ℕ) → number_after r.latest count ≡ Some t → Shows new (next_judged r count body)
-  shows_read count number = subst (Shows new) (ap (judged_by r.decoder.places (known_of r) body) (sym number)) shows_as
+  pub shows_read : (count : ℕ) → number_after r.latest count ≡ Some t → new.state ≡ (next_judged r count body).after.state → Shows new (next_judged r count body)
+  shows_read count number state = record {
+    state = state;
+    written = subst (λ (j : Judged). j.verdict.kind ≡ kind.Written → ShowsPacket new j) (ap (judged_by r.decoder.places (known_of r) body) (sym number))
+        (shows_by (answer_of r.decoder.places r.decoder.state t (bits_of body)) (answer_of-exact r.decoder.places r.decoder.state t has (bits_of body)));
+  }
 
 -- a repeat is not written
-pub shows_repeat : (r : Reception) (new : Decoding) (count : ℕ) (body : List ℕ) → number_after r.latest count ≡ None → Shows new (next_judged r count body)
-shows_repeat r new count body number written =
-    let same = ap (λ (j : Judged). j.verdict.kind) (judged_repeat r count body number) in
-    absurd (not_written (same ∙ written))
+pub shows_repeat : (r : Reception) (count : ℕ) (body : List ℕ) → number_after r.latest count ≡ None → Shows r.decoder (next_judged r count body)
+shows_repeat r count body number = record {
+  state = ap (λ (j : Judged). j.after.state) (judged_repeat r count body number);
+  written = λ written. absurd (not_written (ap (λ (j : Judged). j.verdict.kind) (judged_repeat r count body number) ∙ written));
+}
   where
     not_written : kind.Repeat ≡ kind.Written → ⊥
     not_written e = cc

@@ -1,17 +1,19 @@
 -- The run is exact, no other run is, and every sound run is the same but for its faults.
-use Rattle.std.proofs.Common.{◌≡◌, ℕ, Bool, List, [], ◌∷◌, map, Option, Some, None, Result, Ok, Err, refl, sym, ap, ◌∙◌, subst}
+use Rattle.std.proofs.Common.{◌≡◌, ℕ, Bool, true, false, List, [], ◌∷◌, map, Option, Some, None, Result, Ok, Err, refl, sym, ap, ◌∙◌, subst}
 use Rattle.bit_vectors.specs.declared.fault.BitFault.{BitFault}
 use Rattle.bit_vectors.specs.Reading.{Parsed, Read, WrongBit, TooShort}
 use Rattle.bit_vectors.specs.Vectors.{bits_of}
 use Rattle.packet_decode.specs.declared.decoder.Reading.{Reading}
 use Rattle.packet_decode.specs.declared.decoder.Reading.TheVariants.{Written, Unsynced, Gap}
-use Rattle.packet_decode.specs.State.{State, IsState, Change}
-use Rattle.packet_decode.specs.Answers.{IsSoundAnswer, IsExactAnswer}
-use Rattle.packet_decode.specs.PacketReading.{Outcome, Spelled, Opaque, Found, parse_whole_packet, parsed_answer, answer_of}
+use Rattle.packet_decode.specs.State.{KnownVector, State, IsState, Change}
+use Rattle.packet_encode.specs.Forms.{Form}
+use Rattle.packet_decode.specs.Spelling.{Spells}
+use Rattle.packet_decode.specs.Answers.{Says, IsSoundAnswer, IsExactAnswer}
+use Rattle.packet_decode.specs.PacketReading.{Outcome, Spelled, Opaque, Found, missed, parse_whole_packet, parsed_answer, answer_of}
 use Rattle.packet_decode.proofs.ExactAnswers.{answer_of-exact}
-use Rattle.packet_decode.proofs.OneAnswer.{spells_read, says_answer, one_answer, sound_reading}
+use Rattle.packet_decode.proofs.OneAnswer.{next_state-is, spells_read, says_answer, one_answer, sound_reading}
 use Rattle.ground_chain.specs.Numbers.{number_after}
-use Rattle.ground_chain.specs.Run.{Arrival, Known, Judged, kind_of, verdict_of, change_read, change_after, state_read, state_after, judge_as, judged_by, judge, run_from, run}
+use Rattle.ground_chain.specs.Run.{Arrival, Known, Judged, kind_of, verdict_of, change_read, change_after, state_read, state_with, state_after, judge_as, judged_by, judge, run_from, run}
 use Rattle.ground_chain.specs.Sound.{IsFirstPart, IsChangeAfter, IsSpelled, IsStateAfter, IsJudgedBy, AreJudged, without_fault, but_for_faults}
 
 module _ (f : ℕ) (state : State) (t : ℕ) (has : IsState f state) where
@@ -21,19 +23,34 @@ module _ (f : ℕ) (state : State) (t : ℕ) (has : IsState f state) where
   spelled_state : (bits : List Bool) (next : State) → IsSpelled f state t bits next → state_after f state t bits ≡ next
   spelled_state bits next s = ap (state_read state t) (spells_read f state t has bits s.form s.mask s.content s.spells) ∙ sym s.is
 
-  follows_opaque : (bits : List Bool) (change : Change) (rest : List Bool) → IsStateAfter f state t bits state (parsed_answer state bits (Read (record { change = change; outcome = Opaque }) rest))
-  follows_opaque bits change rest = by_state state where
-    by_state : (s : State) → IsStateAfter f s t bits s (parsed_answer s bits (Read (record { change = change; outcome = Opaque }) rest))
-    by_state None = refl
-    by_state (Some latest) = refl
+  -- what a packet tells of a part that is missing doesn't change the state if it is no packet
+  missed_stays : (part : Option KnownVector) (level : ℕ) (bits : List Bool) → IsStateAfter f state t bits state (Ok (missed part level false))
+  missed_stays None level bits = refl
+  missed_stays (Some known) level bits = refl
+
+  missed_spelled : (part : Option KnownVector) (level : ℕ) (bits : List Bool) (next : State) → IsSpelled f state t bits next → IsStateAfter f state t bits next (Ok (missed part level true))
+  missed_spelled None level bits next s = s
+  missed_spelled (Some known) level bits next s = s
 
   abbrev FollowsBy : List Bool → Parsed Found → Type 0
   FollowsBy bits r = parse_whole_packet f state t bits ≡ r → IsExactAnswer f state t bits (parsed_answer state bits r) → IsStateAfter f state t bits (state_read state t r) (parsed_answer state bits r)
 
+  -- bits that are spelled, by what they are read as
+  spelled_as : (bits rest : List Bool) (change : Change) (o : Outcome) → parse_whole_packet f state t bits ≡ Read (record { change = change; outcome = o }) rest → (form : Form) (mask content : Option (List Bool)) → Spells f state t bits form mask content
+      → IsSpelled f state t bits (state_with state t o)
+  spelled_as bits rest change o is form mask content spells =
+      record { form = form; mask = mask; content = content; spells = spells; is = ap (state_read state t) (sym is ∙ spells_read f state t has bits form mask content spells) }
+
+  alone_spelled : (part : Option KnownVector) (level : ℕ) (bits : List Bool) → Says f state t bits (missed part level true) → (form : Form) × (mask : Option (List Bool)) × Spells f state t bits form mask None
+  alone_spelled None level bits (s, none) = (s.1.0, s.1.1, s.1.2)
+  alone_spelled (Some known) level bits (s, some) = (s.0, s.1, s.2)
+
   follows_read : (bits rest : List Bool) (change : Change) (o : Outcome) → FollowsBy bits (Read (record { change = change; outcome = o }) rest)
-  follows_read bits rest change (Spelled mask content) is (form, m, i, spells) =
-      record { form = form; mask = m; content = i; spells = spells; is = ap (state_read state t) (sym is) ∙ ap (state_read state t) (spells_read f state t has bits form m i spells) }
-  follows_read bits rest change Opaque is exact = follows_opaque bits change rest
+  follows_read bits rest change (Spelled mask (Some content)) is (form, m, i, spells) = spelled_as bits rest change (Spelled mask (Some content)) is form m (Some i) spells
+  follows_read bits rest change (Spelled mask None) is exact =
+      let s = alone_spelled state.content change.level bits exact in
+      missed_spelled state.content change.level bits (state_with state t (Spelled mask None)) (spelled_as bits rest change (Spelled mask None) is s.0 s.1 None s.2)
+  follows_read bits rest change Opaque is exact = missed_stays state.mask change.level bits
 
   follows_by : (bits : List Bool) (r : Parsed Found) → FollowsBy bits r
   follows_by bits (Read found rest) is exact = follows_read bits rest found.change found.outcome is exact
@@ -47,38 +64,44 @@ module _ (f : ℕ) (state : State) (t : ℕ) (has : IsState f state) where
   -- no other state does
   one_state : (bits : List Bool) (next other : State) (answer : Result Reading BitFault) → IsStateAfter f state t bits next answer → IsStateAfter f state t bits other answer → next ≡ other
   one_state bits next other (Ok Written) a b = sym (spelled_state bits next a) ∙ spelled_state bits other b
-  one_state bits next other (Ok Unsynced) a b = a ∙ sym b
-  one_state bits next other (Ok (Gap level)) a b = a ∙ sym b
+  one_state bits next other (Ok (Unsynced true)) a b = sym (spelled_state bits next a) ∙ spelled_state bits other b
+  one_state bits next other (Ok (Unsynced false)) a b = a ∙ sym b
+  one_state bits next other (Ok (Gap level true)) a b = sym (spelled_state bits next a) ∙ spelled_state bits other b
+  one_state bits next other (Ok (Gap level false)) a b = a ∙ sym b
   one_state bits next other (Err fault) a b = a ∙ sym b
 
   pub state_is : (bits : List Bool) (next : State) → IsStateAfter f state t bits next (answer_of f state t bits) → next ≡ state_after f state t bits
   state_is bits next follows = one_state bits next (state_after f state t bits) (answer_of f state t bits) follows (follows_answer bits)
 
   -- a packet that is spelled has f places
-  IsState-follows : (bits : List Bool) (next : State) (answer : Result Reading BitFault) → IsStateAfter f state t bits next answer → IsState f next
-  IsState-follows bits next (Ok Written) s = subst (IsState f) (sym s.is) (record { mask_places = s.spells.mask_places; content_places = s.spells.content_places })
-  IsState-follows bits next (Ok Unsynced) same = subst (IsState f) (sym same) has
-  IsState-follows bits next (Ok (Gap level)) same = subst (IsState f) (sym same) has
+  spelled_places : (bits : List Bool) (next : State) → IsSpelled f state t bits next → IsState f next
+  spelled_places bits next s = subst (IsState f) (sym s.is) (next_state-is f state t bits s.form s.mask s.content has s.spells)
+
+  pub IsState-follows : (bits : List Bool) (next : State) (answer : Result Reading BitFault) → IsStateAfter f state t bits next answer → IsState f next
+  IsState-follows bits next (Ok Written) s = spelled_places bits next s
+  IsState-follows bits next (Ok (Unsynced true)) s = spelled_places bits next s
+  IsState-follows bits next (Ok (Unsynced false)) same = subst (IsState f) (sym same) has
+  IsState-follows bits next (Ok (Gap level true)) s = spelled_places bits next s
+  IsState-follows bits next (Ok (Gap level false)) same = subst (IsState f) (sym same) has
   IsState-follows bits next (Err fault) same = subst (IsState f) (sym same) has
 
   -- ---- one first part
 
   spelled_change : (bits : List Bool) (change : Option Change) → IsFirstPart f state t bits change → change_after f state t bits ≡ change
-  spelled_change bits change s = ap change_read (spells_read f state t has bits s.form s.mask s.content s.spells) ∙ sym s.is
+  spelled_change bits change s = ap change_read (spells_read f state t has bits s.form s.mask (Some s.content) s.spells) ∙ sym s.is
 
-  opaque_change : (bits : List Bool) (change : Change) (rest : List Bool) → IsChangeAfter f state t bits None (parsed_answer state bits (Read (record { change = change; outcome = Opaque }) rest))
-  opaque_change bits change rest = by_state state where
-    by_state : (s : State) → IsChangeAfter f s t bits None (parsed_answer s bits (Read (record { change = change; outcome = Opaque }) rest))
-    by_state None = refl
-    by_state (Some latest) = refl
+  no_change : (part : Option KnownVector) (level : ℕ) (mask : Bool) (bits : List Bool) → IsChangeAfter f state t bits None (Ok (missed part level mask))
+  no_change None level mask bits = refl
+  no_change (Some known) level mask bits = refl
 
   abbrev KeptBy : List Bool → Parsed Found → Type 0
   KeptBy bits r = parse_whole_packet f state t bits ≡ r → IsExactAnswer f state t bits (parsed_answer state bits r) → IsChangeAfter f state t bits (change_read r) (parsed_answer state bits r)
 
   kept_read : (bits rest : List Bool) (change : Change) (o : Outcome) → KeptBy bits (Read (record { change = change; outcome = o }) rest)
-  kept_read bits rest change (Spelled mask content) is (form, m, i, spells) =
-      record { form = form; mask = m; content = i; spells = spells; is = ap change_read (sym is) ∙ ap change_read (spells_read f state t has bits form m i spells) }
-  kept_read bits rest change Opaque is exact = opaque_change bits change rest
+  kept_read bits rest change (Spelled mask (Some content)) is (form, m, i, spells) =
+      record { form = form; mask = m; content = i; spells = spells; is = ap change_read (sym is) ∙ ap change_read (spells_read f state t has bits form m (Some i) spells) }
+  kept_read bits rest change (Spelled mask None) is exact = no_change state.content change.level true bits
+  kept_read bits rest change Opaque is exact = no_change state.mask change.level false bits
 
   kept_by : (bits : List Bool) (r : Parsed Found) → KeptBy bits r
   kept_by bits (Read found rest) is exact = kept_read bits rest found.change found.outcome is exact
@@ -92,8 +115,8 @@ module _ (f : ℕ) (state : State) (t : ℕ) (has : IsState f state) where
   -- no other first part does
   one_change : (bits : List Bool) (kept other : Option Change) (answer : Result Reading BitFault) → IsChangeAfter f state t bits kept answer → IsChangeAfter f state t bits other answer → kept ≡ other
   one_change bits kept other (Ok Written) a b = sym (spelled_change bits kept a) ∙ spelled_change bits other b
-  one_change bits kept other (Ok Unsynced) a b = a ∙ sym b
-  one_change bits kept other (Ok (Gap level)) a b = a ∙ sym b
+  one_change bits kept other (Ok (Unsynced mask)) a b = a ∙ sym b
+  one_change bits kept other (Ok (Gap level mask)) a b = a ∙ sym b
   one_change bits kept other (Err fault) a b = a ∙ sym b
 
   change_is : (bits : List Bool) (kept : Option Change) → IsChangeAfter f state t bits kept (answer_of f state t bits) → kept ≡ change_after f state t bits

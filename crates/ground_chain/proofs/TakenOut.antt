@@ -7,34 +7,39 @@ use Rattle.std.proofs.lemmas.List.Concat.{flat_map-cons}
 use Rattle.std.proofs.lemmas.List.Elements.{All-head, All-tail}
 use Rattle.bit_vectors.specs.Vectors.{bits_of}
 use Rattle.bit_vectors.specs.Reading.{Parsed, Read, WrongBit, TooShort}
-use Rattle.packet_decode.specs.State.{State}
-use Rattle.packet_decode.specs.PacketReading.{Outcome, Spelled, Opaque, Found, outcome_answer, parse_whole_packet, parsed_answer}
+use Rattle.packet_decode.specs.State.{KnownVector, State}
+use Rattle.packet_decode.specs.PacketReading.{Outcome, Spelled, Opaque, Found, missed, outcome_answer, parse_whole_packet, parsed_answer}
 use Rattle.packet_store.specs.SpacePackets.{period}
 use Rattle.ground_chain.specs.declared.verdict.Kind.{Kind}
 use Rattle.ground_chain.specs.declared.verdict.Kind.TheVariants.{Written, Repeat, Unsynced, Gap, Refused}
 use Rattle.ground_chain.specs.Numbers.{HasCount, number_after}
 use Rattle.ground_chain.specs.Run.{Arrival, Known, Judged, nothing_known, kind_of, state_with, state_read, judge_as, judged_by, judge, run_from, run, known_from, known_after}
-use Rattle.ground_chain.specs.Report.{is_unwritten, is_written_kind}
+use Rattle.ground_chain.specs.Report.{is_written_kind}
 use Rattle.ground_chain.specs.Told.{AreArrivals}
-use Rattle.ground_chain.specs.Refusals.{IsWithinPeriod, IsNearNext, CanBeTakenOut}
+use Rattle.ground_chain.specs.Refusals.{is_untold, IsWithinPeriod, IsNearNext, CanBeTakenOut}
 use Rattle.ground_chain.proofs.Distances.{number_after-above, number_after-count, number_after-least, number_after-repeat}
 use Rattle.ground_chain.proofs.Runs.{known_from-append, run_from-append}
 use Rattle.ground_chain.proofs.Told.{first_arrival, later_arrivals}
 
 -- ---- an arrival that is not written
 
-not_written : (kind : Kind) → is_unwritten kind ≡ true → is_written_kind kind ≡ false
+not_written : (kind : Kind) → is_untold kind ≡ true → is_written_kind kind ≡ false
 not_written Written is = absurd cc
 not_written Repeat is = refl
-not_written Unsynced is = refl
-not_written (Gap level) is = refl
+not_written (Unsynced mask) is = refl
+not_written (Gap level mask) is = refl
 not_written (Refused fault) is = refl
 
-left_with : (s : State) (t level : ℕ) (o : Outcome) → is_unwritten (kind_of (Ok (outcome_answer s level o))) ≡ true → state_with s t o ≡ s
-left_with s t level (Spelled mask content) is = absurd cc
+told_alone : (part : Option KnownVector) (level : ℕ) → is_untold (kind_of (Ok (missed part level true))) ≡ true → ⊥
+told_alone None level is = cc
+told_alone (Some known) level is = cc
+
+left_with : (s : State) (t level : ℕ) (o : Outcome) → is_untold (kind_of (Ok (outcome_answer s level o))) ≡ true → state_with s t o ≡ s
+left_with s t level (Spelled mask (Some content)) is = absurd cc
+left_with s t level (Spelled mask None) is = absurd (told_alone s.content level is)
 left_with s t level Opaque is = refl
 
-left_by : (s : State) (t : ℕ) (bits : List Bool) (r : Parsed Found) → is_unwritten (kind_of (parsed_answer s bits r)) ≡ true → state_read s t r ≡ s
+left_by : (s : State) (t : ℕ) (bits : List Bool) (r : Parsed Found) → is_untold (kind_of (parsed_answer s bits r)) ≡ true → state_read s t r ≡ s
 left_by s t bits (Read found rest) is = left_with s t found.change.level found.outcome is
 left_by s t bits (WrongBit rest) is = refl
 left_by s t bits TooShort is = refl
@@ -44,7 +49,7 @@ record IsLeft (known : Known) (judged : Judged) (number : Option ℕ) : Type 0 w
   is : number ≡ Some judged.verdict.t
   after : judged.after ≡ record { latest = Some judged.verdict.t; state = known.state }
 
-left : (f : ℕ) (known : Known) (body : List ℕ) (number : Option ℕ) → is_unwritten (judged_by f known body number).verdict.kind ≡ true → IsLeft known (judged_by f known body number) number
+left : (f : ℕ) (known : Known) (body : List ℕ) (number : Option ℕ) → is_untold (judged_by f known body number).verdict.kind ≡ true → IsLeft known (judged_by f known body number) number
 left f known body None is = absurd cc
 left f known body (Some t) is = record {
   is = refl;
@@ -126,7 +131,7 @@ module _ {A : Type 0} (g : State → List A) where
       )
 
   -- from the packet on
-  taken_out : (f : ℕ) (known : Known) (arrival : Arrival) (repeats after : List Arrival) → is_unwritten (judge f known arrival).verdict.kind ≡ true
+  taken_out : (f : ℕ) (known : Known) (arrival : Arrival) (repeats after : List Arrival) → is_untold (judge f known arrival).verdict.kind ≡ true
       → All (λ (r : Arrival). number_after (Some (judge f known arrival).verdict.t) r.count ≡ None) repeats → NextSame (judge f known arrival).verdict.t known.latest after
       → (flat_map told (run_from f known (arrival ∷ (repeats ++ after))) ≡ flat_map told (run_from f known after))
       × ((known_from f known (arrival ∷ (repeats ++ after))).state ≡ (known_from f known after).state)
@@ -173,12 +178,12 @@ module _ {A : Type 0} (g : State → List A) where
       let known = known_after f before in
       let these = all_right before (arrival ∷ (repeats ++ after)) all in
       let few = first_arrival arrival (repeats ++ after) these in
-      let l = left f (known_after f before) arrival.body (number_after (known_after f before).latest arrival.count) can.unwritten in
+      let l = left f (known_after f before) arrival.body (number_after (known_after f before).latest arrival.count) can.untold in
       let t = (judge f (known_after f before) arrival).verdict.t in
       let none = (number_after-repeat (judge f (known_after f before) arrival).verdict.t arrival.count few).1 (own_count (known_after f before).latest arrival.count (judge f (known_after f before) arrival).verdict.t few l.is) in
       let later = all_right repeats after (later_arrivals arrival (repeats ++ after) these) in
       let same = near_same (known_after f before).latest arrival.count (judge f (known_after f before) arrival).verdict.t after few later l.is can.near in
-      let out = taken_out f (known_after f before) arrival repeats after can.unwritten (are_repeats (judge f (known_after f before) arrival).verdict.t arrival.count repeats none can.repeated) same in (
+      let out = taken_out f (known_after f before) arrival repeats after can.untold (are_repeats (judge f (known_after f before) arrival).verdict.t arrival.count repeats none can.repeated) same in (
         ap (λ (l : List Judged). flat_map told l) (run_from-append f nothing_known before (arrival ∷ (repeats ++ after)))
             ∙ flat_map-append told (run f before) (run_from f (known_after f before) (arrival ∷ (repeats ++ after)))
             ∙ ap (λ (l : List A). flat_map told (run f before) ++ l) out.0

@@ -51,8 +51,8 @@ ranges a b le =
 
 never_repeat : (answer : Result Reading BitFault) → is_repeat (kind_of answer) ≡ false
 never_repeat (Ok Written) = refl
-never_repeat (Ok Unsynced) = refl
-never_repeat (Ok (Gap level)) = refl
+never_repeat (Ok (Unsynced mask)) = refl
+never_repeat (Ok (Gap level mask)) = refl
 never_repeat (Err fault) = refl
 
 numbers_from : (first t : ℕ) → first ≤ t → (lost : Bool) → ltb first t ≡ lost → lost_numbers (if lost then Some (record { first = first; last = t - 1 }) else None) ++ t ∷ [] ≡ range_with_len first (t + 1 - first)

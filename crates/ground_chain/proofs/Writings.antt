@@ -1,5 +1,5 @@
 -- What is written of one arrival: its rows, and then its content.
-use Rattle.std.proofs.Common.{◌≡◌, ℕ, Bool, true, false, if◌then◌else◌, List, [], Result, Ok, Err, OnOk, OnErr, refl, sym, ap, ◌∙◌, subst, append-nil}
+use Rattle.std.proofs.Common.{◌≡◌, ℕ, Bool, true, false, if◌then◌else◌, List, [], Option, Result, Ok, Err, OnOk, OnErr, refl, sym, ap, ◌∙◌, subst, append-nil}
 use Rattle.bit_vectors.specs.Vectors.{vector_bytes}
 use Rattle.desk_ports.specs.declared.desk.Outlet.TheVariants as outlet
 use Rattle.desk_ports.specs.Meanings.{Meanings, Adds, AddsFront}
@@ -7,12 +7,12 @@ use Rattle.desk_ports.specs.Runs.{Ran}
 use Rattle.desk_ports.specs.Courses.{to_report}
 use Rattle.desk_ports.specs.Turns.{Wrote, WroteFront}
 use Rattle.desk_ports.proofs.Runs.{Ran-then, Ran-adds, Ran-notes}
-use Rattle.packet_decode.specs.State.{State}
-use Rattle.packet_decode.specs.Decoding.{Decoding, latest_content}
+use Rattle.packet_decode.specs.State.{KnownVector, State}
+use Rattle.packet_decode.specs.Decoding.{Decoding, latest_content, vector_of}
 use Rattle.ground_chain.specs.declared.verdict.Kind.{Kind}
 use Rattle.ground_chain.specs.declared.verdict.Kind.TheVariants.{Written, Repeat, Unsynced, Gap, Refused}
 use Rattle.ground_chain.specs.Run.{Judged}
-use Rattle.ground_chain.specs.Report.{is_written_kind, content_bytes, verdict_rows, written_bytes}
+use Rattle.ground_chain.specs.Report.{is_written_kind, content_bytes, known_bytes, verdict_rows, written_bytes}
 use Rattle.ground_chain.specs.Reception.{Shows}
 use Rattle.ground_chain.specs.Restoring.{restored_texts}
 
@@ -31,16 +31,17 @@ OnOk-map (Err e) f p = tt
 pub kind_written : (k : Kind) → is_written_kind k ≡ true → k ≡ Written
 kind_written Written is = refl
 kind_written Repeat is = absurd cc
-kind_written Unsynced is = absurd cc
-kind_written (Gap level) is = absurd cc
+kind_written (Unsynced mask) is = absurd cc
+kind_written (Gap level mask) is = absurd cc
 kind_written (Refused fault) is = absurd cc
 
 -- the content of a written packet is that of the latest one
 pub content_written : (j : Judged) (decoder : Decoding) → is_written_kind j.verdict.kind ≡ true → Shows decoder j → vector_bytes (latest_content decoder.places decoder.state) ≡ written_bytes j
 content_written j decoder written shows =
-    let packet = shows (kind_written j.verdict.kind written) in
-    ap (λ (s : State). vector_bytes (latest_content decoder.places s)) packet.state
-    ∙ (ap content_bytes (sym packet.after) ∙ ap (λ (b : Bool). if b then content_bytes j.after.state else []) (sym written))
+    let packet = shows.written (kind_written j.verdict.kind written) in
+    ap (λ (s : State). vector_bytes (latest_content decoder.places s)) shows.state
+    ∙ (ap (λ (k : Option KnownVector). vector_bytes (vector_of decoder.places k)) packet.content
+    ∙ (ap known_bytes (sym packet.content) ∙ ap (λ (b : Bool). if b then content_bytes j.after.state else []) (sym written)))
 
 pub no_content : (j : Judged) → is_written_kind j.verdict.kind ≡ false → [] ≡ written_bytes j
 no_content j other = ap (λ (b : Bool). if b then content_bytes j.after.state else []) (sym other)

@@ -1,13 +1,13 @@
 -- The listing of a store: a line for each arrival, with one before it for lost numbers, and a last line.
-use Rattle.std.specs.Prelude.{◌≡◌, ℕ, ◌*◌, ◌++◌, Bool, List, [], codes, Option, Some, None, unwrap_or, vec_len}
+use Rattle.std.specs.Prelude.{◌≡◌, ◌==◌, ℕ, ◌*◌, ◌++◌, Bool, true, false, if◌then◌else◌, List, [], codes, Option, Some, None, unwrap_or, vec_len}
 use Rattle.std.specs.Fmt.{decimal}
 use Rattle.std.specs.List.{flat_map}
 use Rattle.bit_vectors.specs.declared.fault.BitFault.TheVariants.{Wrong, EndsEarly}
 use Rattle.bit_vectors.specs.Vectors.{byte_count, vector_bytes}
 use Rattle.desk_ports.specs.Courses.{Course, to_output}
 use Rattle.hex.specs.Hex.{encode_lower}
-use Rattle.packet_decode.specs.State.{State, Change}
-use Rattle.packet_decode.specs.Decoding.{Decoding, latest_content, latest_mask}
+use Rattle.packet_decode.specs.State.{KnownVector, State, Change}
+use Rattle.packet_decode.specs.Decoding.{Decoding, latest_content}
 use Rattle.packet_store.specs.declared.fault.WalkFault.{WalkFault}
 use Rattle.packet_store.specs.Walks.{walk}
 use Rattle.ground_chain.specs.declared.listing.Listing.{Listing}
@@ -27,32 +27,69 @@ use Rattle.ground_chain.specs.Restoring.{store_run}
 abbrev pub vector_digits : List Bool → List ℕ
 vector_digits vector = encode_lower (vector_bytes vector)
 
+-- a mask, or a dash where it did not become known
+abbrev pub mask_text : Option (List Bool) → List ℕ
+mask_text None = codes "-"
+mask_text (Some mask) = vector_digits mask
+
 -- the vectors of a written packet: its recent changes, its mask and its content
-abbrev pub vectors_text : List Bool → List Bool → List Bool → List ℕ
-vectors_text recent mask content = vector_digits recent ++ codes " " ++ vector_digits mask ++ codes " " ++ vector_digits content ++ codes "\n"
+abbrev pub vectors_text : List Bool → Option (List Bool) → List Bool → List ℕ
+vectors_text recent mask content = vector_digits recent ++ codes " " ++ mask_text mask ++ codes " " ++ vector_digits content ++ codes "\n"
 
--- those of a decoder's latest packet
-abbrev pub latest_vectors : Decoding → List ℕ
-latest_vectors decoder = vectors_text decoder.recent (latest_mask decoder.places decoder.state) (latest_content decoder.places decoder.state)
+-- the vector that became known with the packet t
+abbrev pub known_with : ℕ → Option KnownVector → Option (List Bool)
+known_with t None = None
+known_with t (Some known) = if known.number == t then Some known.vector else None
 
--- the level of a written packet, and its vectors
-abbrev pub packet_text : Option Change → State → List ℕ
-packet_text (Some change) (Some packet) = decimal change.level ++ codes " " ++ vectors_text change.recent packet.mask packet.content
-packet_text (Some change) None = []
-packet_text None state = []
+-- those of a decoder's latest written packet, which is t
+abbrev pub latest_vectors : ℕ → Decoding → List ℕ
+latest_vectors t decoder = vectors_text decoder.recent (known_with t decoder.state.mask) (latest_content decoder.places decoder.state)
 
--- what is said behind the number of an arrival
-abbrev pub kind_text : Kind → List ℕ → List ℕ
-kind_text Written packet = codes " written " ++ packet
-kind_text Repeat packet = codes " repeat\n"
-kind_text Unsynced packet = codes " unsynced\n"
-kind_text (Gap level) packet = codes " gap " ++ decimal level ++ codes "\n"
-kind_text (Refused (Wrong bit)) packet = codes " wrong " ++ decimal bit ++ codes "\n"
-kind_text (Refused (EndsEarly bit)) packet = codes " early " ++ decimal bit ++ codes "\n"
+-- those of a written packet, by its first part
+abbrev pub packet_vectors : Option Change → ℕ → State → Option KnownVector → List ℕ
+packet_vectors (Some change) t state (Some known) = vectors_text change.recent (known_with t state.mask) known.vector
+packet_vectors (Some change) t state None = []
+packet_vectors None t state content = []
+
+-- the mask that became known with the packet t, where that alone did
+abbrev pub mask_line : ℕ → Option KnownVector → List ℕ
+mask_line t part = mask_text (known_with t part) ++ codes "\n"
+
+abbrev pub level_of : Option Change → ℕ
+level_of None = 0
+level_of (Some change) = change.level
+
+-- what is said behind the number of an arrival, up to its vectors; of a written packet with its level
+abbrev pub kind_text : Kind → ℕ → List ℕ
+kind_text Written level = codes " written " ++ (decimal level ++ codes " ")
+kind_text Repeat level = codes " repeat\n"
+kind_text (Unsynced false) level = codes " unsynced\n"
+kind_text (Unsynced true) level = codes " unsynced mask "
+kind_text (Gap reached false) level = codes " gap " ++ (decimal reached ++ codes "\n")
+kind_text (Gap reached true) level = codes " gap " ++ (decimal reached ++ codes " mask ")
+kind_text (Refused (Wrong bit)) level = codes " wrong " ++ (decimal bit ++ codes "\n")
+kind_text (Refused (EndsEarly bit)) level = codes " early " ++ (decimal bit ++ codes "\n")
+
+-- its vectors: those of a written packet, or the mask where that alone became known
+abbrev pub kind_vectors : Kind → List ℕ → List ℕ → List ℕ
+kind_vectors Written packet mask = packet
+kind_vectors Repeat packet mask = []
+kind_vectors (Unsynced false) packet mask = []
+kind_vectors (Unsynced true) packet mask = mask
+kind_vectors (Gap reached false) packet mask = []
+kind_vectors (Gap reached true) packet mask = mask
+kind_vectors (Refused fault) packet mask = []
+
+abbrev pub own_vectors : Judged → List ℕ
+own_vectors judged = kind_vectors judged.verdict.kind (packet_vectors judged.change judged.verdict.t judged.after.state judged.after.state.content) (mask_line judged.verdict.t judged.after.state.mask)
+
+-- the same as a decoder has them
+abbrev pub shown_vectors : Verdict → Decoding → List ℕ
+shown_vectors verdict decoder = kind_vectors verdict.kind (latest_vectors verdict.t decoder) (mask_line verdict.t decoder.state.mask)
 
 -- the line of an arrival
 abbrev pub own_line : Judged → List ℕ
-own_line judged = decimal judged.verdict.t ++ kind_text judged.verdict.kind (packet_text judged.change judged.after.state)
+own_line judged = decimal judged.verdict.t ++ (kind_text judged.verdict.kind (level_of judged.change) ++ own_vectors judged)
 
 -- the line of the numbers that did not arrive
 abbrev pub lost_line : Option Lost → List ℕ
@@ -63,17 +100,20 @@ lost_line (Some lost) = decimal lost.first ++ codes "-" ++ decimal lost.last ++ 
 abbrev pub judged_lines : Judged → List ℕ
 judged_lines judged = lost_line judged.verdict.lost ++ own_line judged
 
--- what a line says of a cause, and of the value that belongs to it, where there is one
-abbrev pub cause_text : List ℕ → Option ℕ → List ℕ
-cause_text cause None = codes " " ++ cause ++ codes "\n"
-cause_text cause (Some value) = codes " " ++ cause ++ codes " " ++ decimal value ++ codes "\n"
+-- what a line says of a cause, of the value that belongs to it, where there is one, and of a mask that became known
+abbrev pub cause_text : List ℕ → Option ℕ → Option (List ℕ) → List ℕ
+cause_text cause None None = codes " " ++ cause ++ codes "\n"
+cause_text cause (Some value) None = codes " " ++ cause ++ codes " " ++ decimal value ++ codes "\n"
+cause_text cause None (Some mask) = codes " " ++ cause ++ codes " mask " ++ mask
+cause_text cause (Some value) (Some mask) = codes " " ++ cause ++ codes " " ++ decimal value ++ codes " mask " ++ mask
 
 -- the row and the line of an arrival name one cause and one value, which is 0 in the row of a line that has none
 pub record IsToldAlike (judged : Judged) : Type 0 where
   pub cause : List ℕ
   pub value : Option ℕ
+  pub mask : Option (List ℕ)
   pub row : own_row judged.verdict.t judged.verdict.kind ≡ number_row judged.verdict.t cause (unwrap_or value 0)
-  pub line : own_line judged ≡ decimal judged.verdict.t ++ cause_text cause value
+  pub line : own_line judged ≡ decimal judged.verdict.t ++ cause_text cause value mask
 
 -- ---- the listing
 
@@ -111,11 +151,11 @@ pub record HasVectorRoom (listing : Listing) (f : ℕ) : Type 0 where
 
 -- a word, a number, and what stands behind it
 abbrev pub line_with : List ℕ → ℕ → List ℕ → List ℕ
-line_with word value behind = word ++ decimal value ++ behind
+line_with word value behind = word ++ (decimal value ++ behind)
 
--- the line of an arrival, of a written packet only up to its level
+-- the line of an arrival up to its vectors
 abbrev pub own_front : ℕ → Kind → ℕ → List ℕ
-own_front t kind level = decimal t ++ kind_text kind (decimal level ++ codes " ")
+own_front t kind level = decimal t ++ kind_text kind level
 
 -- the same with the line of what was lost before it
 abbrev pub front_line : Verdict → ℕ → List ℕ

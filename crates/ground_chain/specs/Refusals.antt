@@ -1,5 +1,5 @@
 -- What a refusal says of the data of an arrival, and when an arrival that is not written can be taken out.
-use Rattle.std.specs.Prelude.{◌≡◌, ℕ, ◌+◌, ◌<◌, ◌≤◌, Bool, true, false, if◌then◌else◌, List, [], ◌∷◌, ◌++◌, All, length, Option, Some, None, Result, ⊤}
+use Rattle.std.specs.Prelude.{◌≡◌, ℕ, ◌+◌, ◌<◌, ◌≤◌, Bool, true, false, not, if◌then◌else◌, List, [], ◌∷◌, ◌++◌, All, length, Option, Some, None, Result, ⊤}
 use Rattle.std.specs.List.{flat_map}
 use Rattle.bit_vectors.specs.declared.fault.BitFault.{BitFault}
 use Rattle.bit_vectors.specs.Vectors.{AreBytes, bits_of}
@@ -12,7 +12,7 @@ use Rattle.ground_chain.specs.declared.verdict.Kind.TheVariants.{Written, Repeat
 use Rattle.ground_chain.specs.declared.verdict.Verdict.{Verdict}
 use Rattle.ground_chain.specs.Numbers.{number_after}
 use Rattle.ground_chain.specs.Run.{Arrival, Judged, judge, known_after, verdict_of}
-use Rattle.ground_chain.specs.Report.{is_unwritten, is_written_kind, number_row, own_row}
+use Rattle.ground_chain.specs.Report.{is_written_kind, number_row, own_row}
 use Rattle.ground_chain.specs.Reception.{Reception}
 
 -- ---- the verdict of an arrival that is no repeat
@@ -29,8 +29,8 @@ pub record IsExactVerdict (r : Reception) (body : List ℕ) (verdict : Verdict) 
 abbrev pub is_taken_or_listed : Kind → Bool
 is_taken_or_listed Written = true
 is_taken_or_listed Repeat = false
-is_taken_or_listed Unsynced = true
-is_taken_or_listed (Gap level) = true
+is_taken_or_listed (Unsynced mask) = true
+is_taken_or_listed (Gap level mask) = true
 is_taken_or_listed (Refused fault) = false
 
 -- After these arrivals, the bits are the first of some data that the ground would take or list as those of the next
@@ -49,11 +49,19 @@ SaysRow judged cause value = own_row judged.verdict.t judged.verdict.kind ≡ nu
 
 -- ---- what a run writes
 
--- the written packets of a run, each with its number, its mask and its content
+-- the written packets of a run, each as what is known after it: the content with its number, and the latest mask
 abbrev pub run_written : List Judged → List State
 run_written judged = flat_map (λ j. if is_written_kind j.verdict.kind then j.after.state ∷ [] else []) judged
 
 -- ---- taking out an arrival
+
+-- it is refused, or neither its mask nor its content became known
+abbrev pub is_untold : Kind → Bool
+is_untold Written = false
+is_untold Repeat = false
+is_untold (Unsynced mask) = not mask
+is_untold (Gap level mask) = not mask
+is_untold (Refused fault) = true
 
 -- less than a period above the latest number, or below the period where there is none
 abbrev pub IsWithinPeriod : Option ℕ → ℕ → Type 0
@@ -66,9 +74,9 @@ abbrev pub IsNearNext : Option ℕ → ℕ → List Arrival → Type 0
 IsNearNext earlier t [] = ⊤
 IsNearNext earlier t (next ∷ more) = (number : ℕ) × (number_after (Some t) next.count ≡ Some number) × IsWithinPeriod earlier number
 
--- Between the arrivals before it and after it, an arrival is not written, only repeats of it stand behind it, and the
+-- Between the arrivals before it and after it, an arrival tells nothing, only repeats of it stand behind it, and the
 -- next number is still told by its count if these are taken out.
 pub record CanBeTakenOut (f : ℕ) (before : List Arrival) (arrival : Arrival) (repeats after : List Arrival) : Type 0 where
-  pub unwritten : is_unwritten (judge f (known_after f before) arrival).verdict.kind ≡ true
+  pub untold : is_untold (judge f (known_after f before) arrival).verdict.kind ≡ true
   pub repeated : All (λ repeat. repeat.count ≡ arrival.count) repeats
   pub near : IsNearNext (known_after f before).latest (judge f (known_after f before) arrival).verdict.t after

@@ -1,10 +1,10 @@
 -- What is written of a run: the restored packets and the report, and the numbers of the report's last row.
-use Rattle.std.specs.Prelude.{ℕ, ◌+◌, ◌-◌, Bool, true, false, if◌then◌else◌, List, [], ◌++◌, length, codes, Option, Some, None}
+use Rattle.std.specs.Prelude.{ℕ, ◌+◌, ◌-◌, Bool, true, false, ◌||◌, if◌then◌else◌, List, [], ◌++◌, length, codes, Option, Some, None}
 use Rattle.std.specs.Fmt.{decimal}
 use Rattle.std.specs.List.{flat_map, count_by, sum_by}
 use Rattle.bit_vectors.specs.declared.fault.BitFault.TheVariants.{Wrong, EndsEarly}
 use Rattle.bit_vectors.specs.Vectors.{vector_bytes}
-use Rattle.packet_decode.specs.State.{State}
+use Rattle.packet_decode.specs.State.{KnownVector, State}
 use Rattle.ground_chain.specs.declared.verdict.Lost.{Lost}
 use Rattle.ground_chain.specs.declared.verdict.Kind.{Kind}
 use Rattle.ground_chain.specs.declared.verdict.Kind.TheVariants.{Written, Repeat, Unsynced, Gap, Refused}
@@ -17,30 +17,45 @@ use Rattle.ground_chain.specs.Run.{Judged}
 abbrev pub is_written_kind : Kind → Bool
 is_written_kind Written = true
 is_written_kind Repeat = false
-is_written_kind Unsynced = false
-is_written_kind (Gap level) = false
+is_written_kind (Unsynced mask) = false
+is_written_kind (Gap level mask) = false
 is_written_kind (Refused fault) = false
 
 abbrev pub is_repeat : Kind → Bool
 is_repeat Written = false
 is_repeat Repeat = true
-is_repeat Unsynced = false
-is_repeat (Gap level) = false
+is_repeat (Unsynced mask) = false
+is_repeat (Gap level mask) = false
 is_repeat (Refused fault) = false
 
 -- it arrived for the first time and is not written
 abbrev pub is_unwritten : Kind → Bool
 is_unwritten Written = false
 is_unwritten Repeat = false
-is_unwritten Unsynced = true
-is_unwritten (Gap level) = true
+is_unwritten (Unsynced mask) = true
+is_unwritten (Gap level mask) = true
 is_unwritten (Refused fault) = true
+
+-- its mask became known and its content did not
+abbrev pub tells_mask_alone : Kind → Bool
+tells_mask_alone Written = false
+tells_mask_alone Repeat = false
+tells_mask_alone (Unsynced mask) = mask
+tells_mask_alone (Gap level mask) = mask
+tells_mask_alone (Refused fault) = false
+
+-- its mask or its content became known
+abbrev pub is_told : Kind → Bool
+is_told kind = is_written_kind kind || tells_mask_alone kind
 
 -- ---- restored packets
 
+abbrev pub known_bytes : Option KnownVector → List ℕ
+known_bytes None = []
+known_bytes (Some known) = vector_bytes known.vector
+
 abbrev pub content_bytes : State → List ℕ
-content_bytes None = []
-content_bytes (Some packet) = vector_bytes packet.content
+content_bytes state = known_bytes state.content
 
 -- the content of a written packet, in whole bytes with spare bits 0, and nothing for any other arrival
 abbrev pub written_bytes : Judged → List ℕ
@@ -69,8 +84,8 @@ number_row t cause value = decimal t ++ codes "," ++ decimal t ++ codes "," ++ c
 abbrev pub own_row : ℕ → Kind → List ℕ
 own_row t Written = []
 own_row t Repeat = []
-own_row t Unsynced = number_row t (codes "unsynced") 0
-own_row t (Gap level) = number_row t (codes "gap") level
+own_row t (Unsynced mask) = number_row t (codes "unsynced") 0
+own_row t (Gap level mask) = number_row t (codes "gap") level
 own_row t (Refused (Wrong bit)) = number_row t (codes "wrong") bit
 own_row t (Refused (EndsEarly bit)) = number_row t (codes "early") bit
 

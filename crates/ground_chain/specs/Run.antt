@@ -5,7 +5,7 @@ use Rattle.bit_vectors.specs.Reading.{Parsed, Read, WrongBit, TooShort}
 use Rattle.bit_vectors.specs.Vectors.{bits_of}
 use Rattle.packet_decode.specs.declared.decoder.Reading.{Reading}
 use Rattle.packet_decode.specs.declared.decoder.Reading.TheVariants as answer
-use Rattle.packet_decode.specs.State.{State, Change}
+use Rattle.packet_decode.specs.State.{State, Change, next_state, no_vectors}
 use Rattle.packet_decode.specs.PacketReading.{Outcome, Spelled, Opaque, Found, parse_whole_packet, answer_of}
 use Rattle.ground_chain.specs.declared.verdict.Lost.{Lost}
 use Rattle.ground_chain.specs.declared.verdict.Kind.{Kind}
@@ -18,14 +18,14 @@ pub record Arrival : Type 0 where
   pub count : ℕ
   pub body : List ℕ
 
--- what is known between two arrivals: the number of the latest one, and the latest written packet
+-- what is known between two arrivals: the number of the latest one, and the latest mask and content
 pub record Known : Type 0 where
   pub latest : Option ℕ
   pub state : State
 
 -- before the first arrival
 abbrev pub nothing_known : Known
-nothing_known = record { latest = None; state = None }
+nothing_known = record { latest = None; state = no_vectors }
 
 -- an arrival's verdict, the first part of its packet where that is written, and what is known after it
 pub record Judged : Type 0 where
@@ -41,8 +41,8 @@ lost_from first t = if nat_lt first t then Some (record { first = first; last = 
 
 abbrev pub kind_of : Result Reading BitFault → Kind
 kind_of (Ok answer.Written) = Written
-kind_of (Ok answer.Unsynced) = Unsynced
-kind_of (Ok (answer.Gap level)) = Gap level
+kind_of (Ok (answer.Unsynced mask)) = Unsynced mask
+kind_of (Ok (answer.Gap level mask)) = Gap level mask
 kind_of (Err fault) = Refused fault
 
 -- the verdict of an arrival that is no repeat: what was lost before it, its number, and the answer to its data
@@ -54,10 +54,11 @@ abbrev pub repeat_judged : Known → Judged
 repeat_judged known = record { verdict = record { lost = None; t = unwrap_or known.latest 0; kind = Repeat }; change = None; after = known }
 
 abbrev pub state_with : State → ℕ → Outcome → State
-state_with state t (Spelled mask content) = Some (record { number = t; mask = mask; content = content })
+state_with state t (Spelled mask content) = next_state state t mask content
 state_with state t Opaque = state
 
--- what was read of all bits, as the state after it: the packet with the number t where one is spelled, else as before
+-- what was read of all bits, as the state after it: with what becomes known by the packet t where one is spelled, else as
+-- before
 abbrev pub state_read : State → ℕ → Parsed Found → State
 state_read state t (Read found rest) = state_with state t found.outcome
 state_read state t (WrongBit rest) = state
@@ -68,10 +69,11 @@ abbrev pub state_after : ℕ → State → ℕ → List Bool → State
 state_after f state t bits = state_read state t (parse_whole_packet f state t bits)
 
 abbrev pub change_with : Change → Outcome → Option Change
-change_with change (Spelled mask content) = Some change
+change_with change (Spelled mask (Some content)) = Some change
+change_with change (Spelled mask None) = None
 change_with change Opaque = None
 
--- the first part of what was read of all bits, where they spell a packet
+-- the first part of what was read of all bits, where a content becomes known
 abbrev pub change_read : Parsed Found → Option Change
 change_read (Read found rest) = change_with found.change found.outcome
 change_read (WrongBit rest) = None

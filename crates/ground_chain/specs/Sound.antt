@@ -1,13 +1,13 @@
 -- Runs whose answers are right: soundly, where the bit of a fault may come later than the first at which it can be seen,
 -- or exactly.
-use Rattle.std.specs.Prelude.{◌≡◌, ℕ, List, [], ◌∷◌, Bool, Option, Some, None, Result, Ok, Err, ⊤}
+use Rattle.std.specs.Prelude.{◌≡◌, ℕ, List, [], ◌∷◌, Bool, true, false, Option, Some, None, Result, Ok, Err, ⊤}
 use Rattle.bit_vectors.specs.declared.fault.BitFault.{BitFault}
 use Rattle.bit_vectors.specs.declared.fault.BitFault.TheVariants.{Wrong}
 use Rattle.bit_vectors.specs.Vectors.{bits_of}
 use Rattle.packet_encode.specs.Forms.{Form}
 use Rattle.packet_decode.specs.declared.decoder.Reading.{Reading}
 use Rattle.packet_decode.specs.declared.decoder.Reading.TheVariants.{Written, Unsynced, Gap}
-use Rattle.packet_decode.specs.State.{State, Change, change_of}
+use Rattle.packet_decode.specs.State.{State, Change, change_of, next_state}
 use Rattle.packet_decode.specs.Spelling.{Spells}
 use Rattle.packet_decode.specs.Answers.{IsSoundAnswer, IsExactAnswer}
 use Rattle.ground_chain.specs.declared.verdict.Kind.{Kind}
@@ -19,34 +19,36 @@ use Rattle.ground_chain.specs.Run.{Arrival, Known, Judged, nothing_known, verdic
 abbrev pub Rightness : Type 1
 Rightness = ℕ → State → ℕ → List Bool → Result Reading BitFault → Type 0
 
--- the next state is the packet that the bits spell
+-- the next state has what becomes known by the packet that the bits spell
 pub record IsSpelled (f : ℕ) (state : State) (t : ℕ) (bits : List Bool) (next : State) : Type 0 where
   pub form : Form
-  pub mask : List Bool
-  pub content : List Bool
+  pub mask : Option (List Bool)
+  pub content : Option (List Bool)
   pub spells : Spells f state t bits form mask content
-  pub is : next ≡ Some (record { number = t; mask = mask; content = content })
+  pub is : next ≡ next_state state t mask content
 
--- the state after an answer: a written packet is the latest one, and all other answers leave the state
+-- the state after an answer: by a packet that is spelled, what becomes known; all other answers leave the state
 abbrev pub IsStateAfter : ℕ → State → ℕ → List Bool → State → Result Reading BitFault → Type 0
 IsStateAfter f state t bits next (Ok Written) = IsSpelled f state t bits next
-IsStateAfter f state t bits next (Ok Unsynced) = next ≡ state
-IsStateAfter f state t bits next (Ok (Gap level)) = next ≡ state
+IsStateAfter f state t bits next (Ok (Unsynced true)) = IsSpelled f state t bits next
+IsStateAfter f state t bits next (Ok (Unsynced false)) = next ≡ state
+IsStateAfter f state t bits next (Ok (Gap level true)) = IsSpelled f state t bits next
+IsStateAfter f state t bits next (Ok (Gap level false)) = next ≡ state
 IsStateAfter f state t bits next (Err fault) = next ≡ state
 
--- this is the first part of the packet that the bits spell
+-- this is the first part of the packet that the bits spell, with its content
 pub record IsFirstPart (f : ℕ) (state : State) (t : ℕ) (bits : List Bool) (change : Option Change) : Type 0 where
   pub form : Form
-  pub mask : List Bool
+  pub mask : Option (List Bool)
   pub content : List Bool
-  pub spells : Spells f state t bits form mask content
+  pub spells : Spells f state t bits form mask (Some content)
   pub is : change ≡ Some (change_of form)
 
 -- the first part that is kept after an answer: that of a written packet, and none after all other answers
 abbrev pub IsChangeAfter : ℕ → State → ℕ → List Bool → Option Change → Result Reading BitFault → Type 0
 IsChangeAfter f state t bits change (Ok Written) = IsFirstPart f state t bits change
-IsChangeAfter f state t bits change (Ok Unsynced) = change ≡ None
-IsChangeAfter f state t bits change (Ok (Gap level)) = change ≡ None
+IsChangeAfter f state t bits change (Ok (Unsynced mask)) = change ≡ None
+IsChangeAfter f state t bits change (Ok (Gap level mask)) = change ≡ None
 IsChangeAfter f state t bits change (Err fault) = change ≡ None
 
 -- an arrival with the number t has a verdict with a right answer
@@ -85,8 +87,8 @@ IsExactRun f arrivals judged = AreJudged IsExactAnswer f nothing_known arrivals 
 abbrev pub without_fault : Kind → Kind
 without_fault kind.Written = kind.Written
 without_fault kind.Repeat = kind.Repeat
-without_fault kind.Unsynced = kind.Unsynced
-without_fault (kind.Gap level) = kind.Gap level
+without_fault (kind.Unsynced mask) = kind.Unsynced mask
+without_fault (kind.Gap level mask) = kind.Gap level mask
 without_fault (kind.Refused fault) = kind.Refused (Wrong 0)
 
 -- the same of a verdict

@@ -1,9 +1,9 @@
 -- Words for worked runs and histories.
-use Rattle.std.specs.Prelude.{ℕ, false, List, [], ◌∷◌, nat_lt, if◌then◌else◌, None, Some}
+use Rattle.std.specs.Prelude.{ℕ, ◌==◌, false, List, [], ◌∷◌, nat_lt, if◌then◌else◌, None}
 use Rattle.bit_vectors.specs.declared.flags.Flags.{Flags}
 use Rattle.bit_vectors.specs.Vectors.{bits_of}
 use Rattle.mask_update.specs.Histories.{History, history_of}
-use Rattle.packet_decode.specs.State.{State}
+use Rattle.packet_decode.specs.State.{State, both_known}
 use Rattle.ground_chain.specs.declared.verdict.Kind.TheVariants.{Written}
 use Rattle.ground_chain.specs.declared.verdict.Verdict.{Verdict}
 use Rattle.ground_chain.specs.Run.{Arrival}
@@ -15,9 +15,9 @@ arrival count body = record { count = count; body = body }
 abbrev pub first_packet : List Arrival
 first_packet = arrival 0 (0x85 ∷ 0xB8 ∷ 0xD6 ∷ 0x00 ∷ []) ∷ []
 
--- the packet with the number t and this content, where no place is masked
+-- the packet with the number t, with this content, and with a mask that is known with it, of no place
 abbrev pub unmasked : ℕ → ℕ → State
-unmasked t content = Some (record { number = t; mask = bits_of (0x00 ∷ []); content = bits_of (content ∷ []) })
+unmasked t content = both_known t (bits_of (0x00 ∷ [])) (bits_of (content ∷ []))
 
 -- a packet is written that follows the one before
 abbrev pub written_verdict : ℕ → Verdict
@@ -29,6 +29,15 @@ no_flags_at t = record { p = false; f = false; r = false }
 
 abbrev pub four_packets : History
 four_packets = history_of (bits_of (0xB0 ∷ []) ∷ bits_of (0xB1 ∷ []) ∷ bits_of (0xB1 ∷ []) ∷ bits_of (0xB3 ∷ []) ∷ []) no_flags_at (λ _. 1) 8 (bits_of (0x00 ∷ []))
+
+-- six packets of 8 bits, 00 01 03 03 02 02, with the required robustness 0, of which 3 carries its whole content and 4 its
+-- mask
+abbrev pub apart_flags_at : ℕ → Flags
+apart_flags_at t = record { p = false; f = t == 4; r = t == 3 }
+
+abbrev pub six_packets : History
+six_packets =
+    history_of (bits_of (0x00 ∷ []) ∷ bits_of (0x01 ∷ []) ∷ bits_of (0x03 ∷ []) ∷ bits_of (0x03 ∷ []) ∷ bits_of (0x02 ∷ []) ∷ bits_of (0x02 ∷ []) ∷ []) apart_flags_at (λ _. 0) 8 (bits_of (0x00 ∷ []))
 
 -- the packets from one number to another are lost, and all others arrive once
 abbrev pub lost_between : ℕ → ℕ → ℕ → ℕ

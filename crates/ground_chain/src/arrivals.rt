@@ -1,10 +1,11 @@
 //! The arrivals, one after the other, with a verdict for each.
 
-ghost use Rattle.std.specs.Prelude.{◌≡◌, ◌+◌, ◌^◌, ◌<◌, ◌≤◌, ◌↔◌, ◌∷◌, ◌++◌, [], List, None, IfSome, IfOk, length};
+ghost use Rattle.std.specs.Prelude.{◌≡◌, ◌+◌, ◌^◌, ◌<◌, ◌≤◌, ◌↔◌, ◌∷◌, ◌++◌, [], List, true, false, None, IfSome, IfOk, length};
 ghost use Rattle.ground_chain.specs.Numbers.{expected, number_after};
 ghost use Rattle.ground_chain.specs.Run.{Arrival, kind_of, lost_from};
 ghost use Rattle.ground_chain.specs.Refusals.{IsExactVerdict};
-ghost use Rattle.ground_chain.specs.Reception.{AreLost, HasDecoded, Shows, StandsFor, known_of, next_judged, nothing_arrived};
+ghost use Rattle.ground_chain.specs.Report.{is_told, tells_mask_alone};
+ghost use Rattle.ground_chain.specs.Reception.{AreLost, HasDecoded, HasMasked, Shows, StandsFor, known_of, next_judged, nothing_arrived};
 
 use crate::unwrap::Unwrap;
 use crate::verdict::{Kind, Lost, Verdict};
@@ -14,7 +15,7 @@ use packet_store::PERIOD;
 use std::alloc::Global;
 use std::marker::Model;
 
-/// Gives each packet that arrives its number and its verdict, and keeps the latest written packet. Contracts see
+/// Gives each packet that arrives its number and its verdict, and keeps the latest mask and content. Contracts see
 /// the latest number and the decoder, and say for which arrivals it stands.
 #[derive(Debug, Drop)]
 pub struct Ground {
@@ -64,11 +65,14 @@ impl Ground {
         // Repeat comes exactly for the count of the latest number.
         ensures repeat { (result.kind ≡ Kind.Repeat) ↔ (number_after self.old.latest count ≡ None) }
         ensures repeated { result.kind ≡ Kind.Repeat → self.new ≡ self.old }
-        // Only a written packet changes the decoder.
+        // Only a packet whose mask or content becomes known changes the decoder, and one whose mask alone does leaves the
+        // latest written packet.
         ensures written { result.kind ≡ Kind.Written
             → HasDecoded self.old.decoder self.new.decoder result.t bytes.now }
+        ensures mask_alone { tells_mask_alone result.kind ≡ true
+            → HasMasked self.old.decoder self.new.decoder result.t bytes.now }
         ensures shows { Shows self.new.decoder (next_judged self.old count bytes.now) }
-        ensures unchanged { (result.kind ≡ Kind.Written → ⊥) → self.new.decoder ≡ self.old.decoder }
+        ensures unchanged { is_told result.kind ≡ false → self.new.decoder ≡ self.old.decoder }
         ensures places { self.new.decoder.places ≡ self.old.decoder.places }
         ensures lost { IfSome result.lost AreLost }
         ensures near { expected self.new.latest ≤ expected self.old.latest + PERIOD }
@@ -116,8 +120,8 @@ fn kind_of(answer: Result<Reading, BitFault>) -> Kind
 {
     match answer {
         Ok(Reading::Written) => Kind::Written,
-        Ok(Reading::Unsynced) => Kind::Unsynced,
-        Ok(Reading::Gap { level }) => Kind::Gap { level },
+        Ok(Reading::Unsynced { mask }) => Kind::Unsynced { mask },
+        Ok(Reading::Gap { level, mask }) => Kind::Gap { level, mask },
         Err(fault) => Kind::Refused { fault },
     }
 }

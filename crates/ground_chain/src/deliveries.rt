@@ -3,7 +3,7 @@
 ghost use Rattle.std.specs.Prelude.{◌≡◌, ◌<◌, ◌≤◌, ◌^◌, ◌∷◌, ◌++◌, ◌+◌, ℕ, [], length, codes, All, List, None, Some, map};
 ghost use Rattle.std.specs.List.{flat_map, last_or};
 ghost use Rattle.mask_update.specs.Histories.{History, IsValid};
-ghost use Rattle.packet_encode.specs.Deliveries.{Lost, arrivals, count_up_to, latest_written, listed_numbers};
+ghost use Rattle.packet_encode.specs.Deliveries.{Lost, arrivals, count_up_to, latest_mask_known, latest_written, listed_numbers};
 ghost use Rattle.packet_decode.specs.Histories.{true_state};
 ghost use Rattle.packet_store.specs.Walks.{walk};
 ghost use Rattle.flight_chain.specs.Stores.{store_of};
@@ -13,7 +13,7 @@ ghost use Rattle.desk_ports.specs.Courses.{owed};
 ghost use Rattle.ground_chain.specs.Restoring.{arrivals_of, restore_course, store_run};
 ghost use Rattle.ground_chain.specs.Run.{known_after, run};
 ghost use Rattle.ground_chain.specs.Report.{header_row, run_bytes, run_rows, run_report, restored_of};
-ghost use Rattle.ground_chain.specs.Worked.{four_packets, lost_between};
+ghost use Rattle.ground_chain.specs.Worked.{four_packets, lost_between, six_packets};
 ghost use Rattle.ground_chain.specs.Deliveries.{ListedRow, TellsOf, arrival_at, history_arrivals, restored_bytes, listed_rows, row_numbers, row_text, delivered_numbers, report_text};
 
 use crate::verdict::Kind;
@@ -37,15 +37,16 @@ pub fn played_histories_arrive()
         ≡ Some WalkFault.TooMany }
 {}
 
-/// The ground knows where it is in a history, and what it has written of it. After each arrival the latest number is that
-/// of the packet, and the state is that of the latest packet so far that is written: its number, its mask and its input.
+/// The ground knows where it is in a history, and what it knows of it. After each arrival the latest number is that of the
+/// packet, and the state has two parts, each with its number: the mask of the latest packet so far whose mask became known,
+/// and the input of the latest packet so far that is written.
 pub fn histories_are_known()
     ensures { (h : History) (copies : ℕ → ℕ) → IsValid h → AreGapsShort copies (length h.steps) →
         (front rest : List ℕ) → front ++ rest ≡ arrivals copies (length h.steps) →
         known_after h.places (map (arrival_at h) front)
         ≡ record {
           latest = last_or None front;
-          state = true_state h
+          state = true_state h (latest_mask_known h copies (count_up_to (last_or None front)))
               (latest_written h copies (count_up_to (last_or None front)));
         } }
 {}
@@ -106,7 +107,7 @@ pub fn played_histories_are_restored()
         ≡ delivered_numbers h copies }
 {}
 
-/// What is restored of a worked history of four packets, of which some are lost.
+/// What is restored of worked histories, of which some packets are lost.
 pub fn worked_deliveries()
     // The third is lost, and the level of the fourth reaches over it.
     ensures restored { restored_bytes four_packets (lost_between 2 2) ≡ 0xB0 ∷ 0xB1 ∷ 0xB3 ∷ [] }
@@ -120,4 +121,9 @@ pub fn worked_deliveries()
     ensures none { restored_bytes four_packets (lost_between 0 1) ≡ [] }
     ensures unsynced { report_text four_packets (lost_between 0 1)
         ≡ header_row ++ codes "0,1,lost,0\n2,2,unsynced,0\n3,3,unsynced,0\nend,2,0,0\n" }
+    // Whole content comes before its mask, and both are known apart: all that arrives is written.
+    ensures apart { restored_bytes six_packets (lost_between 1 2)
+        ≡ 0x00 ∷ 0x03 ∷ 0x02 ∷ 0x02 ∷ [] }
+    ensures none_listed { report_text six_packets (lost_between 1 2)
+        ≡ header_row ++ codes "1,2,lost,0\nend,4,4,0\n" }
 {}

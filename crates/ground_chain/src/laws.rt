@@ -125,7 +125,8 @@ pub fn fronts_owe_fronts()
 {}
 
 /// Report and listing are accounts of one run: what a store owes as either is what is written of the same verdicts.
-/// Exactly the arrivals that are not written have a row, and their lines name the same cause and value.
+/// Exactly the arrivals that are not written have a row, and their lines name the same cause and value, and the mask if it
+/// became known.
 pub fn report_and_listing_agree()
     ensures report { (f apid : ℕ) (store : List ℕ) → restore_course f apid store
         ≡ behind (to_report header_row) (store_course restored_texts f apid store) }
@@ -147,7 +148,7 @@ pub fn worked_runs()
           lost = Some
               (record { first = 1; last = 1 });
           t = 2;
-          kind = Kind.Gap 0;
+          kind = Kind.Gap 0 false;
         } ∷ written_verdict 3 ∷ [] }
     // A packet that comes twice.
     ensures repeat { map (λ j. j.verdict)
@@ -156,7 +157,7 @@ pub fn worked_runs()
         ≡ written_verdict 0 ∷ record { lost = None; t = 0; kind = Kind.Repeat } ∷ [] }
     // The first arrival comes late, and nothing is known.
     ensures unsynced { map (λ j. j.verdict) (run 8 (arrival 5 (0x82 ∷ []) ∷ []))
-        ≡ record { lost = Some (record { first = 0; last = 4 }); t = 5; kind = Kind.Unsynced }
+        ≡ record { lost = Some (record { first = 0; last = 4 }); t = 5; kind = Kind.Unsynced false }
         ∷ [] }
     // Directions without a place.
     ensures wrong { map (λ j. j.verdict)

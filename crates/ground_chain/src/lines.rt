@@ -8,7 +8,7 @@ use crate::verdict::{Kind, Lost, Verdict};
 use bit_vectors::BitFault;
 use desk_ports::Row;
 
-/// The line of the numbers lost before the arrival, and its own line, of a written packet only up to its level.
+/// The line of the numbers lost before the arrival, and its own line up to the vectors, if it has some.
 pub fn front_of(verdict: &Verdict, level: u8) -> Row
     ensures { result ≡ front_line verdict.now level }
 {
@@ -32,7 +32,7 @@ fn put_lost(row: &mut Row, lost: &Lost)
     row.put_text(" lost\n");
 }
 
-/// Appends the line of an arrival, of a written packet only up to its level.
+/// Appends the line of an arrival up to its vectors.
 fn put_own(row: &mut Row, t: u64, kind: &Kind, level: u8)
     requires { length row.old ≤ 47 }
     ensures { row.new ≡ row.old ++ own_front t kind.now level }
@@ -41,8 +41,10 @@ fn put_own(row: &mut Row, t: u64, kind: &Kind, level: u8)
     match kind {
         Kind::Written => put_value(row, " written ", u64::from(level), " "),
         Kind::Repeat => row.put_text(" repeat\n"),
-        Kind::Unsynced => row.put_text(" unsynced\n"),
-        Kind::Gap { level } => put_value(row, " gap ", u64::from(*level), "\n"),
+        Kind::Unsynced { mask: false } => row.put_text(" unsynced\n"),
+        Kind::Unsynced { mask: true } => row.put_text(" unsynced mask "),
+        Kind::Gap { level, mask: false } => put_value(row, " gap ", u64::from(*level), "\n"),
+        Kind::Gap { level, mask: true } => put_value(row, " gap ", u64::from(*level), " mask "),
         Kind::Refused {
             fault: BitFault::Wrong { bit },
         } => put_value(row, " wrong ", u64::from(*bit), "\n"),
@@ -56,7 +58,7 @@ fn put_own(row: &mut Row, t: u64, kind: &Kind, level: u8)
 fn put_value(row: &mut Row, word: &str, value: u64, behind: &str)
     requires room { length row.old ≤ 67 }
     requires word { length word.now ≤ 9 }
-    requires behind { length behind.now ≤ 1 }
+    requires behind { length behind.now ≤ 6 }
     ensures { row.new ≡ row.old ++ line_with word.now value behind.now }
 {
     row.put_text(word);

@@ -2,12 +2,12 @@
 
 ghost use Rattle.std.specs.Prelude.{◌≡◌, ◌≤◌, ◌++◌, length, IfOk, OnOk, OnErr};
 ghost use Rattle.desk_ports.specs.Meanings.{IsReadyOut, Adds, AddsFront, HasWriteCause};
-ghost use Rattle.ground_chain.specs.Listing.{latest_vectors, vector_digits};
+ghost use Rattle.ground_chain.specs.Listing.{known_with, latest_vectors, mask_text, shown_vectors, vector_digits};
 
 use crate::account::Account;
 use crate::lines::{end_line, front_of};
 use crate::restored::Restored;
-use crate::verdict::Verdict;
+use crate::verdict::{Kind, Verdict};
 use bit_vectors::{Bits, NoMemory, byte_len};
 use desk_ports::{Desk, Failed, Outlet, write_all};
 use packet_decode::Decoder;
@@ -41,10 +41,7 @@ impl Account for Listing {
             Outlet::Main,
             front_of(verdict, decoder.level()).as_bytes(),
         )?;
-        if verdict.kind.is_written() {
-            self.write_vectors(desk, decoder)?;
-        }
-        Ok(())
+        self.write_own(desk, verdict, decoder)
     }
 
     fn end<D: Desk>(&self, desk: &mut D, restored: &Restored) -> Result<(), Failed> {
@@ -67,21 +64,78 @@ impl Listing {
         Ok(Listing { bytes, digits })
     }
 
-    /// Writes the vectors of the latest written packet, which end its line.
-    fn write_vectors<D: Desk>(&mut self, desk: &mut D, decoder: &Decoder) -> Result<(), Failed>
+    /// Writes the vectors of an arrival's line, if it has some.
+    fn write_own<D: Desk>(
+        &mut self,
+        desk: &mut D,
+        verdict: &Verdict,
+        decoder: &Decoder,
+    ) -> Result<(), Failed>
         requires room { HasVectorRoom self.old decoder.now.places }
         requires output { IsReadyOut (D.meaning desk.old) Outlet.Main }
         ensures room { HasVectorRoom self.new decoder.now.places }
         ensures added { OnOk result (Adds (D.meaning desk.old) (D.meaning desk.new) Outlet.Main
-            (latest_vectors decoder.now)) }
+            (shown_vectors verdict.now decoder.now)) }
         ensures front { OnErr result
             (AddsFront (D.meaning desk.old) (D.meaning desk.new) Outlet.Main
-            (latest_vectors decoder.now)) }
+            (shown_vectors verdict.now decoder.now)) }
+        ensures cause { HasWriteCause (D.counts desk.old) (D.counts desk.new) result }
+    {
+        match verdict.kind {
+            Kind::Written => self.write_vectors(desk, verdict.t, decoder),
+            Kind::Unsynced { mask: true } | Kind::Gap { mask: true, .. } => {
+                self.write_mask(desk, verdict.t, decoder, "\n")
+            }
+            _ => Ok(()),
+        }
+    }
+
+    /// Writes the vectors of the latest written packet, which end its line. In place of its mask a dash stands if that did
+    /// not become known with the packet `t`.
+    fn write_vectors<D: Desk>(
+        &mut self,
+        desk: &mut D,
+        t: u64,
+        decoder: &Decoder,
+    ) -> Result<(), Failed>
+        requires room { HasVectorRoom self.old decoder.now.places }
+        requires output { IsReadyOut (D.meaning desk.old) Outlet.Main }
+        ensures room { HasVectorRoom self.new decoder.now.places }
+        ensures added { OnOk result (Adds (D.meaning desk.old) (D.meaning desk.new) Outlet.Main
+            (latest_vectors t decoder.now)) }
+        ensures front { OnErr result
+            (AddsFront (D.meaning desk.old) (D.meaning desk.new) Outlet.Main
+            (latest_vectors t decoder.now)) }
         ensures cause { HasWriteCause (D.counts desk.old) (D.counts desk.new) result }
     {
         self.write_vector(desk, decoder.recent(), " ")?;
-        self.write_vector(desk, decoder.mask(), " ")?;
+        self.write_mask(desk, t, decoder, " ")?;
         self.write_vector(desk, decoder.content(), "\n")
+    }
+
+    /// Writes the mask that became known with the packet `t`, or a dash if none did, and a text behind it.
+    fn write_mask<D: Desk>(
+        &mut self,
+        desk: &mut D,
+        t: u64,
+        decoder: &Decoder,
+        behind: &str,
+    ) -> Result<(), Failed>
+        requires room { HasVectorRoom self.old decoder.now.places }
+        requires output { IsReadyOut (D.meaning desk.old) Outlet.Main }
+        ensures room { HasVectorRoom self.new decoder.now.places }
+        ensures added { OnOk result (Adds (D.meaning desk.old) (D.meaning desk.new) Outlet.Main
+            (mask_text (known_with t decoder.now.state.mask) ++ behind.now)) }
+        ensures front { OnErr result
+            (AddsFront (D.meaning desk.old) (D.meaning desk.new) Outlet.Main
+            (mask_text (known_with t decoder.now.state.mask) ++ behind.now)) }
+        ensures cause { HasWriteCause (D.counts desk.old) (D.counts desk.new) result }
+    {
+        if decoder.last_mask() == Some(t) {
+            return self.write_vector(desk, decoder.mask(), behind);
+        }
+        write_all(desk, Outlet::Main, "-".as_bytes())?;
+        write_all(desk, Outlet::Main, behind.as_bytes())
     }
 
     /// Writes the bytes of a vector in hexadecimal digits, and a text behind them.

@@ -53,9 +53,9 @@ pub fn wrong_bits_are_the_first()
         × BeginData f before arrival.count (bits_of arrival.body) }
 {}
 
-/// A refused packet acts as a lost one, and so does one that can't be understood. If it is taken out with the repeats that
-/// follow it at once, and the next number is still told by its count, then the run writes the same packets: the same
-/// numbers with the same masks and contents. So it leaves what the decoder knows.
+/// A refused packet acts as a lost one, and so does one of which neither mask nor content became known. If it is taken out
+/// with the repeats that follow it at once, and the next number is still told by its count, then the run writes the same
+/// packets: the same numbers with the same contents, and with the same masks known. So it leaves what the decoder knows.
 pub fn refused_means_lost()
     ensures written { (f : ℕ) (before repeats after : List Arrival) (arrival : Arrival) →
         AreArrivals (before ++ arrival ∷ (repeats ++ after)) →

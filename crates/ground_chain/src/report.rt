@@ -43,8 +43,8 @@ fn put_own(row: &mut Row, t: u64, kind: &Kind)
 {
     match kind {
         Kind::Written | Kind::Repeat => {}
-        Kind::Unsynced => put_row(row, t, "unsynced", 0),
-        Kind::Gap { level } => put_row(row, t, "gap", u64::from(*level)),
+        Kind::Unsynced { .. } => put_row(row, t, "unsynced", 0),
+        Kind::Gap { level, .. } => put_row(row, t, "gap", u64::from(*level)),
         Kind::Refused {
             fault: BitFault::Wrong { bit },
         } => put_row(row, t, "wrong", u64::from(*bit)),

@@ -52,7 +52,7 @@ impl Restored {
         match verdict.kind {
             Kind::Written => self.written += 1,
             Kind::Repeat => self.repeats += 1,
-            Kind::Unsynced | Kind::Gap { .. } | Kind::Refused { .. } => self.listed += 1,
+            Kind::Unsynced { .. } | Kind::Gap { .. } | Kind::Refused { .. } => self.listed += 1,
         }
     }
 }

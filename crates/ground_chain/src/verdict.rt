@@ -15,15 +15,16 @@ pub struct Lost {
 /// What became of an arrival.
 #[derive(Clone, Copy, Debug, PartialEq, Eq)]
 pub enum Kind {
-    /// Its data spell a packet, which is restored.
+    /// Its data spell a packet whose content became known. It is restored.
     Written,
     /// It has the sequence count of the arrival before, and its data are not read.
     Repeat,
-    /// No packet was written so far, and its data don't stand alone.
-    Unsynced,
-    /// Its data don't stand alone, and the latest written packet is too far back for their effective robustness
-    /// level.
-    Gap { level: u8 },
+    /// Its content didn't become known, and none is known so far. `mask` tells whether its mask became known; if not, no
+    /// mask is known so far.
+    Unsynced { mask: bool },
+    /// Its content didn't become known. `mask` tells whether its mask became known. The content that is known, or the mask
+    /// if this one's didn't become known, is of a packet too far back for its effective robustness level.
+    Gap { level: u8, mask: bool },
     /// Its data are no packet, from this bit on.
     Refused { fault: BitFault },
 }

@@ -2,6 +2,7 @@
 use Rattle.std.proofs.Common.{◌≡◌, ◌≢◌, ℕ, ◌-◌, ◌↔◌, List, [], Bool, true, false, cond, length, replicate, drop, Option, Some, None, Result, Ok, Err, IfSome, IsSome, IsTrue, refl, sym, ap, ◌∙◌, subst}
 use Rattle.std.specs.Prelude.{nat_le}
 use Rattle.std.specs.Bool.{OnTrue, OnFalse}
+use Rattle.std.specs.Option.{option_map}
 use Rattle.std.proofs.lemmas.Bool.{true≢false}
 use Rattle.bit_vectors.specs.declared.fault.BitFault.{BitFault}
 use Rattle.bit_vectors.specs.Vectors.{bits_of}
@@ -10,21 +11,28 @@ use Rattle.bit_vectors.specs.Reading.{Read}
 use Rattle.bit_vectors.proofs.ExactReading.{read_same}
 use Rattle.packet_encode.specs.Forms.{Form}
 use Rattle.packet_decode.specs.declared.decoder.Reading.{Reading}
-use Rattle.packet_decode.specs.declared.decoder.Reading.TheVariants.{Written}
 use Rattle.packet_decode.specs.declared.draft.Latest.{Latest}
 use Rattle.packet_decode.specs.declared.draft.DataKind.{DataKind}
-use Rattle.packet_decode.specs.declared.draft.DataKind.TheVariants.{Deduced as DeducedKind, Sent as SentKind, Opaque as OpaqueKind}
-use Rattle.packet_decode.specs.State.{State, IsState, Change, change_of, mask_after}
+use Rattle.packet_decode.specs.declared.draft.DataKind.TheVariants.{Deduced as DeducedKind, Sent as SentKind, Maskless as MasklessKind, Opaque as OpaqueKind}
+use Rattle.packet_decode.specs.State.{KnownVector, State, HasVector, IsState, Change, change_of, in_reach, deduced_by, known_if, mask_after, next_part, next_state}
 use Rattle.packet_decode.specs.Spelling.{Spells}
 use Rattle.packet_decode.specs.Answers.{Says, IsExactAnswer}
-use Rattle.packet_decode.specs.PacketReading.{Spelled, Opaque, Found, Tells, deduced_by, parse_whole_packet, outcome_answer, answer_of}
-use Rattle.packet_decode.specs.Parts.{state_by, kept_state, outcome_of, IsLatest}
-use Rattle.packet_decode.specs.Decoding.{Decoding}
-use Rattle.packet_decode.proofs.ExactAnswers.{answer_of-exact}
+use Rattle.packet_decode.specs.PacketReading.{Spelled, Opaque, Found, Tells, missed, parse_whole_packet, outcome_answer, answer_of}
+use Rattle.packet_decode.specs.Parts.{IsDeduced, IsLatest, kept_state, outcome_of, part_by, tells_content, tells_mask}
+use Rattle.packet_decode.specs.Decoding.{Decoding, tells_nothing}
+use Rattle.packet_decode.proofs.ExactAnswers.{answer_of-exact, spelled_says}
 use Rattle.packet_decode.proofs.OneAnswer.{spells_read, says_answer}
 use Rattle.packet_decode.proofs.Telling.{answer_ok, answer_err}
 
 -- ---- an answer that is the one of the reading function
+
+missed_tells : (part : Option KnownVector) (level : ℕ) → tells_nothing (Ok (missed part level true)) ≡ true → ⊥
+missed_tells None level none = cc
+missed_tells (Some known) level none = cc
+
+not_nothing : (state : State) (level : ℕ) (mask content : Option (List Bool)) → tells_nothing (Ok (outcome_answer state level (Spelled mask content))) ≡ true → ⊥
+not_nothing state level mask None none = missed_tells state.content level none
+not_nothing state level mask (Some content) none = cc
 
 module _ (f : ℕ) (state : State) (t : ℕ) (bits : List Bool) (has : IsState f state) (result : Result Reading BitFault) (is : answer_of f state t bits ≡ result) where
   pub exact_by : IsExactAnswer f state t bits result
@@ -33,30 +41,37 @@ module _ (f : ℕ) (state : State) (t : ℕ) (bits : List Bool) (has : IsState f
   pub says_by : (reading : Reading) → (result ≡ Ok reading) ↔ Says f state t bits reading
   says_by reading = (λ e. subst (λ (r : Result Reading BitFault). IsExactAnswer f state t bits r) (is ∙ e) (answer_of-exact f state t has bits), λ s. sym is ∙ says_answer f state t has bits reading s)
 
-  pub spelled_by : (form : Form) (mask content : List Bool) → Spells f state t bits form mask content → result ≡ Ok Written
-  spelled_by form mask content s = (says_by Written).1 (form, mask, content, s)
-
--- an opaque front is not written
-missed_by : (number : Option ℕ) (mask content : List Bool) (level : ℕ) (reading : Reading) → reading ≡ outcome_answer (state_by number mask content) level Opaque → ◌≡◌ {A = Result Reading BitFault} (Ok reading) (Ok Written) → ⊥
-missed_by None mask content level reading is written = absurd cc
-missed_by (Some number) mask content level reading is written = absurd cc
-
-pub not_missed : {A : Type 0} (latest : Latest) (level : ℕ) (reading : Reading) → reading ≡ outcome_answer (kept_state latest) level Opaque → ◌≡◌ {A = Result Reading BitFault} (Ok reading) (Ok Written) → A
-not_missed latest level reading is written = absurd (missed_by latest.number latest.mask latest.content level reading is written)
+  -- a packet that is spelled is not told as a fault, nor as an opaque front
+  pub spelled_by : (form : Form) (mask content : Option (List Bool)) → Spells f state t bits form mask content → tells_nothing result ≡ true → ⊥
+  spelled_by form mask content s none =
+      let told = sym (says_answer f state t has bits (outcome_answer state form.level (Spelled mask content)) (spelled_says f state t has bits form mask content form.level s refl)) ∙ is in
+      not_nothing state form.level mask content (ap tells_nothing told ∙ none)
 
 -- ---- the parts of a decoder
 
 abbrev pub decoding_of : Latest → Change → Decoding
 decoding_of latest shown = record { places = length latest.content; state = kept_state latest; recent = shown.recent; level = shown.level }
 
-has_by : (f : ℕ) (number : Option ℕ) (mask content : List Bool) → length mask ≡ f → length content ≡ f → IsState f (state_by number mask content)
-has_by f None mask content mask_places content_places = tt
-has_by f (Some number) mask content mask_places content_places = record { mask_places = mask_places; content_places = content_places }
+part_has : (f : ℕ) (number : Option ℕ) (vector : List Bool) → length vector ≡ f → HasVector f (part_by number vector)
+part_has f None vector len = tt
+part_has f (Some number) vector len = len
+
+abbrev built : ℕ → Option KnownVector → Option KnownVector → List Bool → ℕ → Decoding
+built places mask content recent level = record { places = places; state = record { mask = mask; content = content }; recent = recent; level = level }
+
+same_some : (a b : List Bool) → Some a ≡ Some b → a ≡ b
+same_some a b e = cc
+
+-- what was read is what is spelled
+pub record IsFound (next : Change) (read_mask read_content : Option (List Bool)) (form : Form) (mask content : Option (List Bool)) : Type 0 where
+  pub change_is : next ≡ change_of form
+  pub mask_is : read_mask ≡ mask
+  pub content_is : read_content ≡ content
 
 -- a decoder of these parts, and an eye at the first of these bytes
 module _ (d : Decoding) (latest : Latest) (shown : Change) (view : decoding_of latest shown ≡ d) (vectors : IsLatest (length latest.content) latest) where
   pub has_state : IsState d.places d.state
-  has_state = subst (λ (x : Decoding). IsState x.places x.state) view (has_by (length latest.content) latest.number latest.mask latest.content vectors.mask vectors.content)
+  has_state = subst (λ (x : Decoding). IsState x.places x.state) view (record { mask = part_has (length latest.content) latest.mask_number latest.mask vectors.mask; content = part_has (length latest.content) latest.content_number latest.content refl })
 
   module _ (f t : ℕ) (eye : EyeState) (bytes : List ℕ) (places : f ≡ length latest.content) (bits : eye.bits ≡ bits_of bytes) (start : eye.place ≡ 0) where
     whole_is : parse_whole_packet f (kept_state latest) t (bits_left eye) ≡ parse_whole_packet d.places d.state t (bits_of bytes)
@@ -77,44 +92,88 @@ module _ (d : Decoding) (latest : Latest) (shown : Change) (view : decoding_of l
         answer_ok d.places d.state t (bits_of bytes) (λ (x : Found). x) new (same ∙ bits) found (sym whole_is ∙ told)
         ∙ ap (λ (x : Decoding). Ok (outcome_answer x.state found.change.level found.outcome)) (sym view)
 
-    -- after a packet that is spelled
-    pub latest_is : (next : Change) (read_mask read_content : List Bool) (rest : List Bool) → parse_whole_packet f (kept_state latest) t (bits_left eye) ≡ Read (record { change = next; outcome = Spelled read_mask read_content }) rest
-        → (after : Change) (new_mask new_content : List Bool) → after ≡ next → new_mask ≡ read_mask → new_content ≡ read_content
-        → (form : Form) (mask content : List Bool) → Spells d.places d.state t (bits_of bytes) form mask content
-        → decoding_of (record { number = Some t; mask = new_mask; content = new_content }) after
-        ≡ record { places = d.places; state = Some (record { number = t; mask = mask; content = content }); recent = form.recent; level = form.level }
-    latest_is next read_mask read_content rest told after new_mask new_content after_is mask_is content_is form mask content s =
+    -- a packet that is spelled is read as its mask and its content
+    pub found_is : (next : Change) (read_mask read_content : Option (List Bool)) (rest : List Bool) → parse_whole_packet f (kept_state latest) t (bits_left eye) ≡ Read (record { change = next; outcome = Spelled read_mask read_content }) rest
+        → (form : Form) (mask content : Option (List Bool)) → Spells d.places d.state t (bits_of bytes) form mask content → IsFound next read_mask read_content form mask content
+    found_is next read_mask read_content rest told form mask content s =
         let same : ◌≡◌ {A = Found} (record { change = next; outcome = Spelled read_mask read_content }) (record { change = change_of form; outcome = Spelled mask content }) =
         (read_same (record { change = next; outcome = Spelled read_mask read_content }) (record { change = change_of form; outcome = Spelled mask content }) rest []
         (sym told ∙ whole_is ∙ spells_read d.places d.state t has_state (bits_of bytes) form mask content s)).0 in
-        let change_is : after ≡ change_of form = after_is ∙ ap (λ (x : Found). x.change) same in
         let outcome_is : Spelled read_mask read_content ≡ Spelled mask content = ap (λ (x : Found). x.outcome) same in
-        let masks : new_mask ≡ mask = cc in
-        let contents : new_content ≡ content = cc in
-        rw (change_is, masks, contents, s.content_places) refl
+        record { change_is = ap (λ (x : Found). x.change) same; mask_is = cc; content_is = cc }
+
+    -- an opaque front is not spelled
+    pub opaque_unspelled : (next : Change) (rest : List Bool) → parse_whole_packet f (kept_state latest) t (bits_left eye) ≡ Read (record { change = next; outcome = Opaque }) rest
+        → (form : Form) (mask content : Option (List Bool)) → Spells d.places d.state t (bits_of bytes) form mask content → ⊥
+    opaque_unspelled next rest told form mask content s =
+        let same : ◌≡◌ {A = Found} (record { change = next; outcome = Opaque }) (record { change = change_of form; outcome = Spelled mask content }) =
+        (read_same (record { change = next; outcome = Opaque }) (record { change = change_of form; outcome = Spelled mask content }) rest []
+        (sym told ∙ whole_is ∙ spells_read d.places d.state t has_state (bits_of bytes) form mask content s)).0 in
+        let outcome_is : Opaque ≡ Spelled mask content = ap (λ (x : Found). x.outcome) same in
+        cc
+
+    -- after a packet of which the mask alone becomes known
+    pub alone_is : (new : Latest) (told mask : Option (List Bool)) → new.content ≡ latest.content → new.content_number ≡ latest.content_number → part_by new.mask_number new.mask ≡ next_part (part_by latest.mask_number latest.mask) t told → told ≡ mask
+        → decoding_of new shown ≡ record { places = d.places; state = next_state d.state t mask None; recent = d.recent; level = d.level }
+    alone_is new told mask content number part same =
+        ap (λ (m : Option KnownVector). built (length new.content) m (part_by new.content_number new.content) shown.recent shown.level) (part ∙ ap (next_part (part_by latest.mask_number latest.mask) t) same)
+        ∙ ap (λ (n : Option ℕ). built (length new.content) (next_part (part_by latest.mask_number latest.mask) t mask) (part_by n new.content) shown.recent shown.level) number
+        ∙ ap (λ (v : List Bool). built (length v) (next_part (part_by latest.mask_number latest.mask) t mask) (part_by latest.content_number v) shown.recent shown.level) content
+        ∙ ap (λ (x : Decoding). record { places = x.places; state = next_state x.state t mask None; recent = x.recent; level = x.level }) view
+
+    -- after a packet whose content becomes known
+    pub written_is : (new : Latest) (after next : Change) (told read_content : Option (List Bool)) → new.content_number ≡ Some t → Some new.content ≡ read_content → part_by new.mask_number new.mask ≡ next_part (part_by latest.mask_number latest.mask) t told → after ≡ next
+        → (form : Form) (mask : Option (List Bool)) (content : List Bool) → IsFound next told read_content form mask (Some content) → length content ≡ d.places
+        → decoding_of new after ≡ record { places = d.places; state = next_state d.state t mask (Some content); recent = form.recent; level = form.level }
+    written_is new after next told read_content number content_is part after_is form mask content found len =
+        let same : new.content ≡ content = same_some new.content content (content_is ∙ found.content_is) in
+        ap (λ (m : Option KnownVector). built (length new.content) m (part_by new.content_number new.content) after.recent after.level) (part ∙ ap (next_part (part_by latest.mask_number latest.mask) t) found.mask_is)
+        ∙ ap (λ (n : Option ℕ). built (length new.content) (next_part (part_by latest.mask_number latest.mask) t mask) (part_by n new.content) after.recent after.level) number
+        ∙ ap (λ (v : List Bool). built (length v) (next_part (part_by latest.mask_number latest.mask) t mask) (part_by (Some t) v) after.recent after.level) same
+        ∙ ap (λ (x : Change). built (length content) (next_part (part_by latest.mask_number latest.mask) t mask) (part_by (Some t) content) x.recent x.level) (after_is ∙ found.change_is)
+        ∙ ap (λ (n : ℕ). built n (next_part (part_by latest.mask_number latest.mask) t mask) (part_by (Some t) content) form.recent form.level) len
+        ∙ ap (λ (x : Decoding). record { places = d.places; state = next_state x.state t mask (Some content); recent = form.recent; level = form.level }) view
 
 -- ---- the mask of a packet that is spelled
 
--- where nothing changed, the mask that is deduced is the latest one
-stays_by : (within : Bool) (old mask : List Bool) → mask ≡ old → IfSome (cond within (Some mask) None) (λ m. old ≡ m)
-stays_by true old mask stays = sym stays
-stays_by false old mask stays = tt
+-- where nothing changed, the mask that is deduced is the known one
+stays_by : (within : Bool) (old : List Bool) (next : Change) → mask_after old next ≡ old → IfSome (option_map (λ mask. mask_after mask next) (cond within (Some old) None)) (λ m. old ≡ m)
+stays_by true old next stays = sym stays
+stays_by false old next stays = tt
 
-stays_deduced : (number : Option ℕ) (mask content : List Bool) (t : ℕ) (next : Change) → mask_after mask next ≡ mask → IfSome (deduced_by (state_by number mask content) t next) (λ m. mask ≡ m)
-stays_deduced None mask content t next stays = tt
-stays_deduced (Some last) mask content t next stays = stays_by (nat_le (t - 1 - last) next.level) mask (mask_after mask next) stays
+stays_deduced : (number : Option ℕ) (mask : List Bool) (t : ℕ) (next : Change) → mask_after mask next ≡ mask → IfSome (option_map (λ m. mask_after m next) (in_reach (part_by number mask) t next.level)) (λ m. mask ≡ m)
+stays_deduced None mask t next stays = tt
+stays_deduced (Some last) mask t next stays = stays_by (nat_le (t - 1 - last) next.level) mask next stays
 
 -- the mask that is made the latest one is the deduced one
 pub deduced_is : (quiet : Bool) (latest : Latest) (t : ℕ) (next : Change) (deduced new : List Bool) → length latest.mask ≡ length next.recent → OnTrue quiet (new ≡ latest.mask) → OnFalse quiet (new ≡ deduced)
     → (IsTrue quiet ↔ (next.recent ≡ replicate (length next.recent) false)) → OnTrue quiet ((mask : List Bool) → length mask ≡ length next.recent → mask_after mask next ≡ mask)
     → (next.recent ≢ replicate (length next.recent) false → IfSome (deduced_by (kept_state latest) t next) (λ m. deduced ≡ m)) → IfSome (deduced_by (kept_state latest) t next) (λ m. new ≡ m)
-deduced_is true latest t next deduced new places kept made zero stays changed = rw kept (stays_deduced latest.number latest.mask latest.content t next (stays latest.mask places))
+deduced_is true latest t next deduced new places kept made zero stays changed = rw kept (stays_deduced latest.mask_number latest.mask t next (stays latest.mask places))
 deduced_is false latest t next deduced new places kept made zero stays changed = rw made (changed (λ none. absurd (true≢false (sym (zero.1 none)))))
 
--- what was read of a packet that is spelled
-pub spelled_as : (kind : DataKind) (deduced : Option (List Bool)) (sent content mask : List Bool) → (kind ≡ OpaqueKind → ⊥) → (kind ≡ DeducedKind → IsSome deduced) → (kind ≡ SentKind → mask ≡ sent) → (kind ≡ DeducedKind → IfSome deduced (λ m. mask ≡ m))
-    → outcome_of kind deduced sent content ≡ Spelled mask content
-spelled_as DeducedKind None sent content mask some has by_sent by_deduced = absurd (true≢false (sym (has refl)))
-spelled_as DeducedKind (Some m) sent content mask some has by_sent by_deduced = ap (λ (x : List Bool). Spelled x content) (sym (by_deduced refl))
-spelled_as SentKind deduced sent content mask some has by_sent by_deduced = ap (λ (x : List Bool). Spelled x content) (sym (by_sent refl))
-spelled_as OpaqueKind deduced sent content mask some has by_sent by_deduced = absurd (some refl)
+-- the mask that a packet tells is made the latest one
+some_mask : (deduced : Option (List Bool)) (mask : List Bool) → IsSome deduced → IfSome deduced (λ m. mask ≡ m) → deduced ≡ Some mask
+some_mask None mask has same = absurd cc
+some_mask (Some m) mask has same = ap Some (sym same)
+
+pub record IsTold (kind : DataKind) (latest new : Latest) (t : ℕ) (deduced : Option (List Bool)) (sent content : List Bool) : Type 0 where
+  pub mask : Option (List Bool)
+  pub outcome : outcome_of kind deduced sent content ≡ Spelled mask (known_if (tells_content kind) content)
+  pub part : part_by new.mask_number new.mask ≡ next_part (part_by latest.mask_number latest.mask) t mask
+
+pub told_as : (kind : DataKind) (latest new : Latest) (t : ℕ) (deduced : Option (List Bool)) (sent content : List Bool) → (kind ≡ OpaqueKind → ⊥) → (IsDeduced kind → IsSome deduced) → ((known : Bool) → kind ≡ SentKind known → new.mask ≡ sent)
+    → (IsDeduced kind → IfSome deduced (λ m. new.mask ≡ m)) → (tells_mask kind ≡ true → new.mask_number ≡ Some t) → (tells_mask kind ≡ false → new ≡ latest) → IsTold kind latest new t deduced sent content
+told_as (DeducedKind known) latest new t deduced sent content some has by_sent by_deduced number untold = record {
+  mask = Some new.mask;
+  outcome = ap (λ (m : Option (List Bool)). Spelled m (known_if known content)) (some_mask deduced new.mask (has tt) (by_deduced tt));
+  part = ap (λ (n : Option ℕ). part_by n new.mask) (number refl);
+}
+told_as (SentKind known) latest new t deduced sent content some has by_sent by_deduced number untold = record {
+  mask = Some new.mask;
+  outcome = ap (λ (m : List Bool). Spelled (Some m) (known_if known content)) (sym (by_sent known refl));
+  part = ap (λ (n : Option ℕ). part_by n new.mask) (number refl);
+}
+told_as MasklessKind latest new t deduced sent content some has by_sent by_deduced number untold =
+    record { mask = None; outcome = refl; part = ap (λ (x : Latest). part_by x.mask_number x.mask) (untold refl) }
+told_as OpaqueKind latest new t deduced sent content some has by_sent by_deduced number untold = absurd (some refl)

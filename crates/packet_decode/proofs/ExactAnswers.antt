@@ -1,15 +1,17 @@
 -- What is read of all bits is the exact answer.
-use Rattle.std.proofs.Common.{◌≡◌, ℕ, ◌+◌, ◌-◌, ◌≤◌, Bool, List, [], ◌∷◌, ◌++◌, length, take, drop, Some, None, Err, refl, sym, ap, ◌∙◌, subst, append_assoc, arith, inl, inr, ◌⊎◌}
+use Rattle.std.proofs.Common.{◌≡◌, ℕ, ◌+◌, ◌-◌, ◌≤◌, Bool, List, [], ◌∷◌, ◌++◌, length, take, drop, Option, Some, None, Err, true, false, refl, sym, ap, ◌∙◌, subst, append_assoc, arith, inl, inr, ◌⊎◌}
+use Rattle.std.specs.Option.{is_some}
 use Rattle.std.proofs.lemmas.Bool.{cases_lt}
 use Rattle.std.proofs.lemmas.List.{length-append, append-nil, take_at, take-append-drop}
 use Rattle.std.proofs.Math.Seq.{take-add}
 use Rattle.bit_vectors.specs.declared.fault.BitFault.TheVariants.{Wrong}
 use Rattle.bit_vectors.specs.Reading.{Parsed, Read, WrongBit, TooShort, ◌>>=◌, CanBegin, IsWrongBefore, IsExact}
 use Rattle.bit_vectors.proofs.ExactReading.{cut_longer, read_same}
-use Rattle.packet_decode.specs.State.{State, IsState, Change, change_of}
+use Rattle.packet_encode.specs.Forms.{Form}
+use Rattle.packet_decode.specs.State.{KnownVector, State, IsState, Change, change_of}
 use Rattle.packet_decode.specs.Spelling.{Spells, HasOpaqueFront}
-use Rattle.packet_decode.specs.Answers.{SpellsPacket, IsOpaque, Viable, Says, IsExactAnswer}
-use Rattle.packet_decode.specs.PacketReading.{Outcome, Spelled, Opaque, Found, parse_end, parse_packet, parse_whole_packet, outcome_answer, parsed_answer, answer_of}
+use Rattle.packet_decode.specs.Answers.{SpellsPacket, SpellsMaskAlone, IsOpaque, Viable, Says, IsExactAnswer}
+use Rattle.packet_decode.specs.PacketReading.{Outcome, Spelled, Opaque, Found, parse_end, parse_packet, parse_whole_packet, missed, outcome_answer, parsed_answer, answer_of}
 use Rattle.packet_decode.proofs.ExactPacket.{IsPacket, IsExact-packet_at}
 use Rattle.packet_decode.proofs.SpelledWords.{packet_spells, spells_packet, packet_opaque, opaque_packet}
 
@@ -123,10 +125,10 @@ module _ (f : ℕ) (state : State) (t : ℕ) (has : IsState f state) where
       record { front = w.front; bit = w.bit; parts = w.parts; hopeful = begins_viable w.front w.hopeful; hopeless = none_after bits rest wrong w }
 
   -- a further bit after a packet is wrong
-  not_closed : (found : Found) (change : Change) (mask content rest : List Bool) (bit : Bool) → IsClosed found.outcome (bit ∷ rest) → found ≡ record { change = change; outcome = Spelled mask content } → ⊥
+  not_closed : (found : Found) (change : Change) (mask content : Option (List Bool)) (rest : List Bool) (bit : Bool) → IsClosed found.outcome (bit ∷ rest) → found ≡ record { change = change; outcome = Spelled mask content } → ⊥
   not_closed found change mask content rest bit closed is = let no = subst (λ (x : Found). IsClosed x.outcome (bit ∷ rest)) is closed in cc
 
-  further_bit : (change : Change) (mask content word : List Bool) (bit : Bool) (rest : List Bool) → IsPacket f state t (record { change = change; outcome = Spelled mask content }) word → FirstWrong (word ++ bit ∷ rest) rest
+  further_bit : (change : Change) (mask content : Option (List Bool)) (word : List Bool) (bit : Bool) (rest : List Bool) → IsPacket f state t (record { change = change; outcome = Spelled mask content }) word → FirstWrong (word ++ bit ∷ rest) rest
   further_bit change mask content word bit rest is =
       let found : Found = record { change = change; outcome = Spelled mask content } in
       record {
@@ -143,9 +145,21 @@ module _ (f : ℕ) (state : State) (t : ℕ) (has : IsState f state) where
 
   -- ---- each case of the reading
 
-  opaque_answer : (s : State) (bits : List Bool) (level : ℕ) → HasOpaqueFront f s t bits level → Says f s t bits (outcome_answer s level Opaque)
-  opaque_answer None bits level o = ((level, o), refl)
-  opaque_answer (Some latest) bits level o = (o, refl)
+  -- a part that did not become known: nothing of it was known before, or something was
+  opaque_says : (bits : List Bool) (level : ℕ) → HasOpaqueFront f state t bits level → (part : Option KnownVector) → part ≡ state.mask → Says f state t bits (missed part level false)
+  opaque_says bits level o None is = ((level, o), ap is_some (sym is))
+  opaque_says bits level o (Some known) is = (o, ap is_some (sym is))
+
+  alone_says : (bits : List Bool) (level : ℕ) → SpellsMaskAlone f state t bits level → (part : Option KnownVector) → part ≡ state.content → Says f state t bits (missed part level true)
+  alone_says bits level s None is = ((level, s), ap is_some (sym is))
+  alone_says bits level s (Some known) is = (s, ap is_some (sym is))
+
+  pub spelled_says : (bits : List Bool) (form : Form) (mask content : Option (List Bool)) (level : ℕ) → Spells f state t bits form mask content → form.level ≡ level → Says f state t bits (outcome_answer state level (Spelled mask content))
+  spelled_says bits form mask None level s is = alone_says bits level (form, mask, s, is) state.content refl
+  spelled_says bits form mask (Some content) level s is = (form, mask, content, s)
+
+  pub front_says : (bits : List Bool) (level : ℕ) → HasOpaqueFront f state t bits level → Says f state t bits (outcome_answer state level Opaque)
+  front_says bits level o = opaque_says bits level o state.mask refl
 
   abbrev ended : Change → Outcome → List Bool → Parsed Found
   ended change o rest = parse_end o rest >>= λ u last. Read (record { change = change; outcome = o }) last
@@ -155,13 +169,13 @@ module _ (f : ℕ) (state : State) (t : ℕ) (has : IsState f state) where
   read_exact bits change (Spelled mask content) [] read =
       let r = exact.read_is bits (record { change = change; outcome = Spelled mask content }) [] read in
       let s = packet_spells f state t has change mask content r.0 r.1 in
-      (s.0, mask, content, subst (λ (b : List Bool). Spells f state t b s.0 mask content) (sym (r.2 ∙ append-nil r.0)) s.1)
+      spelled_says bits s.0 mask content change.level (subst (λ (b : List Bool). Spells f state t b s.0 mask content) (sym (r.2 ∙ append-nil r.0)) s.1) (ap (λ (x : Change). x.level) s.2)
   read_exact bits change (Spelled mask content) (bit ∷ rest) read =
       let r = exact.read_is bits (record { change = change; outcome = Spelled mask content }) (bit ∷ rest) read in
       wrong_answer bits rest (subst (λ (b : List Bool). FirstWrong b rest) (sym r.2) (further_bit change mask content r.0 bit rest r.1))
   read_exact bits change Opaque rest read =
       let r = exact.read_is bits (record { change = change; outcome = Opaque }) rest read in
-      opaque_answer state bits change.level (subst (λ (b : List Bool). HasOpaqueFront f state t b change.level) (sym r.2) (packet_opaque f state t has change r.0 rest r.1))
+      front_says bits change.level (subst (λ (b : List Bool). HasOpaqueFront f state t b change.level) (sym r.2) (packet_opaque f state t has change r.0 rest r.1))
 
   not_means : (bits : List Bool) → parse_packet f state t bits ≡ TooShort → Means bits → ⊥
   not_means bits short m = let r = read_of bits m in read_or_short (parse_packet f state t bits) r.found r.rest (reading_is bits r) short

@@ -1,6 +1,6 @@
 -- Reading the parts after the first is exact, by a deduced mask or none and a known content or none.
 use Rattle.std.proofs.Common.{◌≡◌, ℕ, Bool, true, false, cond, List, [], ◌∷◌, ◌++◌, length, get_or, replicate, Option, Some, None, refl, sym, ap, ◌∙◌, subst, inl, inr}
-use Rattle.std.specs.Prelude.{◌||◌}
+use Rattle.std.specs.Prelude.{◌||◌, count_by}
 use Rattle.std.proofs.lemmas.Bool.{true≢false}
 use Rattle.std.proofs.lemmas.List.{length-replicate}
 use Rattle.std.proofs.lemmas.Simd.{length-zip2}
@@ -19,8 +19,8 @@ use Rattle.run_code.proofs.Filling.{IsFilling, IsExact-filled_at}
 use Rattle.run_code.proofs.Ones.{one_or_zero, places_down_apart, in_places_down, places_down_has}
 use Rattle.packet_encode.specs.Forms.{Directions, wide_by}
 use Rattle.packet_decode.specs.State.{Change}
-use Rattle.packet_decode.specs.PacketReading.{Outcome, Spelled, Opaque, parse_kept, from_edges, parse_mask, parse_whole, parse_whole_with, parse_part_with, parse_content, parse_unsent, parse_maskless, parse_masked, parse_sent, parse_data}
-use Rattle.packet_decode.specs.PartWords.{AllPlaces, places_of, AgreesWith, IsMaskWord, IsWhole, IsPart, IsContent, IsUnsent, IsMaskless, IsMasked, IsSent, IsData}
+use Rattle.packet_decode.specs.PacketReading.{Outcome, Spelled, Opaque, parse_kept, from_edges, parse_mask, parse_whole, parse_whole_with, parse_whole_alone, parse_part_with, parse_content, parse_unsent, parse_maskless, parse_masked, parse_sent, parse_data}
+use Rattle.packet_decode.specs.PartWords.{AllPlaces, places_of, IsMaskWord, IsContentWord, IsWhole, IsWholeAlone, IsPart, IsContent, IsUnsent, IsMaskless, IsMasked, IsSent, IsData}
 use Rattle.packet_decode.proofs.EdgeMasks.{edges-from_edges, length-from_edges, length_edges, from_edges-edges}
 use Rattle.packet_decode.proofs.Readers.{HasWord, IsImage, IsExact-map, IsExact-bit, IsExact-one, IsAfter, IsExact-after}
 use Rattle.packet_decode.proofs.KeptContent.{IsKept, IsExact-kept_at}
@@ -46,16 +46,17 @@ IsExact-mask_at f (Some deduced) =
 
 -- ---- the whole content
 
-abbrev IsContentWord : ℕ → List Bool → Option (List Bool) → List Bool → List Bool → Type 0
-IsContentWord f places known content word = AgreesWith f places known content × (word ≡ count_bits f ++ content)
-
-IsExact-whole_at : (f : ℕ) (places : List Bool) (known : Option (List Bool)) → length places ≡ f → AllPlaces f known → IsExact (IsContentWord f places known) (parse_whole f places known)
+IsExact-whole_none : (f : ℕ) (places : List Bool) → IsExact (IsContentWord f places None) (parse_whole f places None)
 unfolding parse_whole
-IsExact-whole_at f places None len all =
+IsExact-whole_none f places =
     IsExact-same (IsAfter (count_bits f) (IsFront f)) (IsContentWord f places None) (parse_whole f places None)
     (λ content word (back, is, parts). ((is.0, tt), parts ∙ ap (λ (x : List Bool). count_bits f ++ x) is.1))
     (λ content word (is, parts). (content, (is.0, refl), parts))
     (IsExact-after (count_bits f) (IsFront f) (parse_front f) (IsExact-front_at f) (replicate f false, replicate f false, (length-replicate f false, refl)))
+
+IsExact-whole_at : (f : ℕ) (places : List Bool) (known : Option (List Bool)) → length places ≡ f → AllPlaces f known → IsExact (IsContentWord f places known) (parse_whole f places known)
+unfolding parse_whole
+IsExact-whole_at f places None len all = IsExact-whole_none f places
 IsExact-whole_at f places (Some known) len all =
     IsExact-same (IsAfter (count_bits f) (IsKept places known)) (IsContentWord f places (Some known)) (parse_whole f places (Some known))
     (λ content word (back, is, parts). ((is.0 ∙ all, is.1), parts ∙ ap (λ (x : List Bool). count_bits f ++ x) is.2))
@@ -66,13 +67,6 @@ IsExact-whole_at f places (Some known) len all =
 agreeing : (f : ℕ) (places : List Bool) (known : Option (List Bool)) → AllPlaces f known → HasWord (IsContentWord f places known)
 agreeing f places None all = (replicate f false, count_bits f ++ replicate f false, ((length-replicate f false, tt), refl))
 agreeing f places (Some known) all = (known, count_bits f ++ known, ((all, λ place bound. refl), refl))
-
-whole_joined : (f : ℕ) (change : Change) (mask : List Bool) (known : Option (List Bool)) (o : Outcome) (word : List Bool) → IsImage (Spelled mask) (IsContentWord f (places_of change mask) known) o word → IsWhole f change mask known o word
-whole_joined f change mask known o word (content, is, same) = subst (λ (x : Outcome). IsWhole f change mask known x word) (sym same) (refl, is.0, is.1)
-
-whole_apart : (f : ℕ) (change : Change) (mask : List Bool) (known : Option (List Bool)) (o : Outcome) (word : List Bool) → IsWhole f change mask known o word → IsImage (Spelled mask) (IsContentWord f (places_of change mask) known) o word
-whole_apart f change mask known (Spelled m content) word (same, is, bits) = (content, (is, bits), ap (λ (x : List Bool). Spelled x content) same)
-whole_apart f change mask known Opaque word is = absurd is
 
 length-wide_by : (recent mask : List Bool) (directions : Option Directions) → length mask ≡ length recent → length (wide_by directions recent mask) ≡ length mask
 length-wide_by recent mask None len = refl
@@ -85,61 +79,85 @@ length-wide_by recent mask (Some directions) len = by_twice directions.twice
 pub length-places_of : (f : ℕ) (change : Change) (mask : List Bool) → length change.recent ≡ f → length mask ≡ f → length (places_of change mask) ≡ f
 length-places_of f change mask recent len = length-wide_by change.recent mask change.directions (len ∙ sym recent) ∙ len
 
+-- under a mask
+abbrev whole_under : List Bool → List Bool → Outcome
+whole_under mask content = Spelled (Some mask) (Some content)
+
 IsExact-whole_with : (f : ℕ) (change : Change) (mask : List Bool) (known : Option (List Bool)) → length change.recent ≡ f → length mask ≡ f → AllPlaces f known → IsExact (IsWhole f change mask known) (parse_whole_with f change mask known)
 unfolding parse_whole_with
 IsExact-whole_with f change mask known recent len all =
-    IsExact-same (IsImage (Spelled mask) (IsContentWord f (places_of change mask) known)) (IsWhole f change mask known) (parse_whole_with f change mask known) (whole_joined f change mask known) (whole_apart f change mask known)
-    (IsExact-map (Spelled mask) (IsContentWord f (places_of change mask) known) (parse_whole f (places_of change mask) known) (IsExact-whole_at f (places_of change mask) known (length-places_of f change mask recent len) all))
+    IsExact-map (whole_under mask) (IsContentWord f (places_of change mask) known) (parse_whole f (places_of change mask) known) (IsExact-whole_at f (places_of change mask) known (length-places_of f change mask recent len) all)
 
 some_whole : (f : ℕ) (change : Change) (mask : List Bool) (known : Option (List Bool)) → AllPlaces f known → HasWord (IsWhole f change mask known)
-some_whole f change mask known all = let a = agreeing f (places_of change mask) known all in (Spelled mask a.0, a.1, (refl, a.2.0, a.2.1))
+some_whole f change mask known all = let a = agreeing f (places_of change mask) known all in (Spelled (Some mask) (Some a.0), a.1, (a.0, a.2, refl))
+
+-- without one
+abbrev whole_alone : List Bool → Outcome
+whole_alone content = Spelled None (Some content)
+
+IsExact-whole_alone : (f : ℕ) → IsExact (IsWholeAlone f) (parse_whole_alone f)
+unfolding parse_whole_alone
+IsExact-whole_alone f = IsExact-map whole_alone (IsContentWord f [] None) (parse_whole f [] None) (IsExact-whole_none f [])
+
+some_whole_alone : (f : ℕ) → HasWord (IsWholeAlone f)
+some_whole_alone f = let a = agreeing f [] None tt in (Spelled None (Some a.0), a.1, (a.0, a.2, refl))
 
 -- ---- the extracted bits
 
-part_joined : (change : Change) (mask known : List Bool) (o : Outcome) (word : List Bool) → IsImage (Spelled mask) (IsFilling (places_down (places_of change mask)) known) o word → IsPart change mask (Some known) o word
-part_joined change mask known o word (content, is, same) =
-    subst (λ (x : Outcome). IsPart change mask (Some known) x word) (sym same) (
-      refl,
-      (is.0.same_length, λ place bound. is.0.others place (λ c. true≢false (sym (in_places_down (places_of change mask) place c) ∙ bound))),
-      is.1,
-    )
+part_joined : (change : Change) (mask known : List Bool) (o : Outcome) (word : List Bool) → IsImage (whole_under mask) (IsFilling (places_down (places_of change mask)) known) o word → IsPart change mask (Some known) o word
+part_joined change mask known o word (content, is, same) = (
+  content,
+  record {
+    same_length = is.0.same_length;
+    kept = λ place bound. is.0.others place (λ c. true≢false (sym (in_places_down (places_of change mask) place c) ∙ bound));
+    bits_are = is.1;
+  },
+  same,
+)
 
-part_apart : (change : Change) (mask known : List Bool) (o : Outcome) (word : List Bool) → IsPart change mask (Some known) o word → IsImage (Spelled mask) (IsFilling (places_down (places_of change mask)) known) o word
-part_apart change mask known (Spelled m content) word (same, agrees, is) = (
+part_apart : (change : Change) (mask known : List Bool) (o : Outcome) (word : List Bool) → IsPart change mask (Some known) o word → IsImage (whole_under mask) (IsFilling (places_down (places_of change mask)) known) o word
+part_apart change mask known o word (content, filled, same) = (
   content,
   (
     record {
-      same_length = agrees.0;
+      same_length = filled.same_length;
       others = λ k out.
           elim (one_or_zero (get_or (places_of change mask) k false)) [
             | inl one ↦ absurd (out (places_down_has (places_of change mask) k one))
-            | inr none ↦ agrees.1 k none
+            | inr none ↦ filled.kept k none
           ];
     },
-    is,
+    filled.bits_are,
   ),
-  ap (λ (x : List Bool). Spelled x content) same,
+  same,
 )
-part_apart change mask known Opaque word is = absurd is
 
-nothing_joined : (change : Change) (mask : List Bool) (o : Outcome) (word : List Bool) → (o ≡ Opaque) × (word ≡ []) → IsPart change mask None o word
-nothing_joined change mask o word (opaque, none) = subst (λ (x : Outcome). IsPart change mask None x word) (sym opaque) none
+-- any bits, which tell no content
+abbrev mask_alone : List Bool → List Bool → Outcome
+mask_alone mask part = Spelled (Some mask) None
 
-nothing_apart : (change : Change) (mask : List Bool) (o : Outcome) (word : List Bool) → IsPart change mask None o word → (o ≡ Opaque) × (word ≡ [])
-nothing_apart change mask (Spelled m content) word is = absurd is
-nothing_apart change mask Opaque word is = (refl, is)
+abbrev ones_of : List Bool → ℕ
+ones_of places = count_by (λ bit. bit) places
+
+alone_joined : (change : Change) (mask : List Bool) (o : Outcome) (word : List Bool) → IsImage (mask_alone mask) (IsFront (ones_of (places_of change mask))) o word → IsPart change mask None o word
+alone_joined change mask o word (part, is, same) = (same, ap (λ (bits : List Bool). length bits) is.1 ∙ is.0)
+
+alone_apart : (change : Change) (mask : List Bool) (o : Outcome) (word : List Bool) → IsPart change mask None o word → IsImage (mask_alone mask) (IsFront (ones_of (places_of change mask))) o word
+alone_apart change mask o word (same, len) = (word, (len, refl), same)
 
 IsExact-part_with : (change : Change) (mask : List Bool) (known : Option (List Bool)) → AllPlaces (length (places_of change mask)) known → IsExact (IsPart change mask known) (parse_part_with change mask known)
 unfolding parse_part_with
 IsExact-part_with change mask None all =
-    IsExact-same (λ (o : Outcome) (word : List Bool). (o ≡ Opaque) × (word ≡ [])) (IsPart change mask None) (parse_part_with change mask None) (nothing_joined change mask) (nothing_apart change mask) (IsExact-give Opaque)
+    IsExact-same (IsImage (mask_alone mask) (IsFront (ones_of (places_of change mask)))) (IsPart change mask None) (parse_part_with change mask None) (alone_joined change mask) (alone_apart change mask)
+    (IsExact-map (mask_alone mask) (IsFront (ones_of (places_of change mask))) (parse_front (ones_of (places_of change mask))) (IsExact-front_at (ones_of (places_of change mask))))
 IsExact-part_with change mask (Some known) all =
-    IsExact-same (IsImage (Spelled mask) (IsFilling (places_down (places_of change mask)) known)) (IsPart change mask (Some known)) (parse_part_with change mask (Some known)) (part_joined change mask known) (part_apart change mask known)
-    (IsExact-map (Spelled mask) (IsFilling (places_down (places_of change mask)) known) (parse_filled (places_down (places_of change mask)) known) (IsExact-filled_at (places_down (places_of change mask)) known (rw all (places_down_apart (places_of change mask)))))
+    IsExact-same (IsImage (whole_under mask) (IsFilling (places_down (places_of change mask)) known)) (IsPart change mask (Some known)) (parse_part_with change mask (Some known)) (part_joined change mask known) (part_apart change mask known)
+    (IsExact-map (whole_under mask) (IsFilling (places_down (places_of change mask)) known) (parse_filled (places_down (places_of change mask)) known) (IsExact-filled_at (places_down (places_of change mask)) known (rw all (places_down_apart (places_of change mask)))))
 
 some_part : (change : Change) (mask : List Bool) (known : Option (List Bool)) → HasWord (IsPart change mask known)
-some_part change mask None = (Opaque, [], refl)
-some_part change mask (Some known) = (Spelled mask known, extract known (places_of change mask), (refl, (refl, λ place bound. refl), refl))
+some_part change mask None = (Spelled (Some mask) None, replicate (ones_of (places_of change mask)) false, (refl, length-replicate (ones_of (places_of change mask)) false))
+some_part change mask (Some known) =
+    (Spelled (Some mask) (Some known), extract known (places_of change mask), (known, record { same_length = refl; kept = λ place bound. refl; bits_are = refl }, refl))
 
 -- ---- either
 
@@ -167,7 +185,7 @@ some_masked f change deduced known =
     (c.0, m.1 ++ c.1, (m.0, m.1, c.1, m.2, c.2, refl))
 
 some_maskless : (f : ℕ) (change : Change) (deduced known : Option (List Bool)) → AllPlaces f known → HasWord (IsMaskless f change deduced known)
-some_maskless f change None known all = (Opaque, [], (refl, refl))
+some_maskless f change None known all = let w = some_whole_alone f in (w.0, true ∷ w.1, w.2)
 some_maskless f change (Some mask) known all = let w = some_whole f change mask known all in (w.0, true ∷ w.1, w.2)
 
 some_unsent : (change : Change) (deduced known : Option (List Bool)) → HasWord (IsUnsent change deduced known)
@@ -203,7 +221,7 @@ module _ (f : ℕ) (change : Change) (known : Option (List Bool)) (recent : leng
 
   maskless_exact : (deduced : Option (List Bool)) → AllPlaces f deduced → IsExact (IsMaskless f change deduced known) (parse_maskless f change deduced known)
   unfolding parse_maskless
-  maskless_exact None mask_places = IsExact-give Opaque
+  maskless_exact None mask_places = IsExact-one (IsWholeAlone f) (parse_whole_alone f) (IsExact-whole_alone f) (some_whole_alone f)
   maskless_exact (Some mask) mask_places =
       IsExact-one (IsWhole f change mask known) (parse_whole_with f change mask known) (IsExact-whole_with f change mask known recent mask_places content_places) (some_whole f change mask known content_places)
 

@@ -1,14 +1,15 @@
 -- Reading a packet with its padding is exact.
 use Rattle.std.proofs.Common.{◌≡◌, ℕ, ◌-◌, ◌*◌, eqb, leb, Bool, true, false, cond, List, [], ◌++◌, length, replicate, Option, Some, None, refl, sym, ap, ◌∙◌, subst}
 use Rattle.std.specs.Prelude.{IfSome, not, ◌&&◌, ◌||◌}
+use Rattle.std.specs.Option.{option_map}
 use Rattle.std.proofs.lemmas.Simd.{length-zip2}
 use Rattle.bit_vectors.specs.Vectors.{xor_bits, or_bits, without_bits, byte_count}
 use Rattle.bit_vectors.specs.Reading.{Read, ◌>>=◌, IsExact}
 use Rattle.bit_vectors.proofs.ExactReading.{IsWordThen, IsExact-give, IsExact-same, IsExact-then}
 use Rattle.bit_vectors.proofs.SameWord.{IsExact-same_at}
 use Rattle.packet_encode.specs.Forms.{Directions, AreDirections}
-use Rattle.packet_decode.specs.State.{State, IsState, Change, unpredictable, mask_after}
-use Rattle.packet_decode.specs.PacketReading.{Outcome, Spelled, Opaque, Found, deduced_by, known_by, parse_change, parse_data, parse_parts, parse_padding, parse_packet}
+use Rattle.packet_decode.specs.State.{KnownVector, State, IsState, HasVector, Change, unpredictable, mask_after, in_reach, deduced_by, known_by}
+use Rattle.packet_decode.specs.PacketReading.{Outcome, Spelled, Opaque, Found, parse_change, parse_data, parse_parts, parse_padding, parse_packet}
 use Rattle.packet_decode.proofs.Readers.{IsImage, IsExact-map, IsExact-by, IsCounted, counted, IsExact-counted, counted_then}
 use Rattle.packet_decode.proofs.ExactChange.{bare, IsChange, IsChangeWord, IsExact-change_at}
 use Rattle.packet_decode.specs.PartWords.{AllPlaces, IsData}
@@ -36,21 +37,23 @@ length-mask_after f mask change len is = by_level (eqb change.level 0)
     by_level true = length-zip2 (λ (a b : Bool). cond a (not b) b) mask change.recent same ∙ len
     by_level false = length-zip2 (λ (a b : Bool). a || b) (without_bits mask change.recent) (unpredictable change.recent change.directions) (kept ∙ same ∙ sym rest) ∙ kept ∙ len
 
-deduced_places : (f : ℕ) (state : State) (t : ℕ) (change : Change) → IsState f state → IsChange f change → AllPlaces f (deduced_by state t change)
-deduced_places f None t change has is = tt
-deduced_places f (Some latest) t change has is = by_reach (leb (t - 1 - latest.number) change.level)
+in_reach-places : (f : ℕ) (part : Option KnownVector) (t level : ℕ) → HasVector f part → AllPlaces f (in_reach part t level)
+in_reach-places f None t level has = tt
+in_reach-places f (Some known) t level has = by_reach (leb (t - 1 - known.number) level)
   where
-    by_reach : (near : Bool) → AllPlaces f (cond near (Some (mask_after latest.mask change)) None)
-    by_reach true = length-mask_after f latest.mask change has.mask_places is
+    by_reach : (near : Bool) → AllPlaces f (cond near (Some known.vector) None)
+    by_reach true = has
     by_reach false = tt
 
-known_places : (f : ℕ) (state : State) (t : ℕ) (change : Change) → IsState f state → AllPlaces f (known_by state t change)
-known_places f None t change has = tt
-known_places f (Some latest) t change has = by_reach (leb (t - 1 - latest.number) change.level)
-  where
-    by_reach : (near : Bool) → AllPlaces f (cond near (Some latest.content) None)
-    by_reach true = has.content_places
-    by_reach false = tt
+after_places : (f : ℕ) (mask : Option (List Bool)) (change : Change) → AllPlaces f mask → IsChange f change → AllPlaces f (option_map (λ (m : List Bool). mask_after m change) mask)
+after_places f None change all is = tt
+after_places f (Some mask) change all is = length-mask_after f mask change all is
+
+pub deduced_places : (f : ℕ) (state : State) (t : ℕ) (change : Change) → IsState f state → IsChange f change → AllPlaces f (deduced_by state t change)
+deduced_places f state t change has is = after_places f (in_reach state.mask t change.level) change (in_reach-places f state.mask t change.level has.mask) is
+
+pub known_places : (f : ℕ) (state : State) (t : ℕ) (change : Change) → IsState f state → AllPlaces f (known_by state t change)
+known_places f state t change has = in_reach-places f state.content t change.level has.content
 
 -- ---- all parts
 

@@ -2,13 +2,14 @@ pub mod EdgeMasks
 pub mod Readers
 pub mod ExactChange
 pub mod KeptContent
+pub mod ExtractedFront
 pub mod ExactData
 pub mod ExactPacket
 pub mod SpelledWords
 mod PartCompletions
 pub mod ExactAnswers
-pub mod ViableData
 pub mod OneAnswer
+pub mod ViableData
 pub mod PaddingBits
 pub mod Telling
 pub mod NoDirections

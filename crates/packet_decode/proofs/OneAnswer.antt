@@ -1,8 +1,9 @@
 -- Only one answer is exact, and the bits and the state determine the packet.
 use Rattle.std.proofs.Common.{◌≡◌, ℕ, ◌+◌, ◌*◌, ◌-◌, ◌≤◌, Bool, true, false, List, [], ◌∷◌, ◌++◌, length, take, replicate, Option, Some, None, Result, Ok, Err, refl, sym, ap, ◌∙◌, subst, append_assoc, arith, inl, inr}
-use Rattle.std.specs.Prelude.{IfSome, IsSome, IsNone}
+use Rattle.std.specs.Prelude.{IfSome, IfNone, IsSome, IsNone, IsSomeAnd, count_by}
+use Rattle.std.specs.Option.{option_map, option_or}
 use Rattle.std.proofs.lemmas.Bool.{cases_lt}
-use Rattle.std.proofs.lemmas.List.{length-append, append-nil, append_cancel_left}
+use Rattle.std.proofs.lemmas.List.{length-append, append-nil, append_cancel_left, take_at}
 use Rattle.bit_vectors.specs.Vectors.{byte_count}
 use Rattle.bit_vectors.specs.declared.fault.BitFault.{BitFault}
 use Rattle.bit_vectors.specs.declared.fault.BitFault.TheVariants.{Wrong, EndsEarly}
@@ -10,17 +11,17 @@ use Rattle.bit_vectors.specs.Reading.{Parsed, Read, WrongBit, ◌>>=◌}
 use Rattle.bit_vectors.proofs.ExactReading.{read_same}
 use Rattle.run_code.specs.Edges.{edges}
 use Rattle.run_code.specs.Runs.{run_bits}
-use Rattle.packet_encode.specs.Forms.{Content, Whole, Part, Form, content_bits, data_bits, change_bits, form_bits, wide}
+use Rattle.packet_encode.specs.Forms.{Content, Whole, Part, HasPlaces, Form, content_bits, data_bits, change_bits, form_bits, wide}
 use Rattle.packet_decode.specs.declared.decoder.Reading.{Reading}
 use Rattle.packet_decode.specs.declared.decoder.Reading.TheVariants.{Written, Unsynced, Gap}
-use Rattle.packet_decode.specs.State.{State, IsState, Change, change_of}
-use Rattle.packet_decode.specs.Spelling.{IsSentOf, Spells, HasOpaqueFront}
-use Rattle.packet_decode.specs.Answers.{SpellsPacket, Viable, IsHopeless, IsIncomplete, Says, IsSoundAnswer, IsExactAnswer}
-use Rattle.packet_decode.specs.PacketReading.{Spelled, Opaque, Found, parse_end, parse_packet, parse_whole_packet, outcome_answer, parsed_answer, answer_of}
+use Rattle.packet_decode.specs.State.{KnownVector, State, IsState, HasVector, Change, change_of, next_part, next_state, deduced_by, known_by}
+use Rattle.packet_decode.specs.Spelling.{IsKnownContent, IsWholeContent, FitsMask, Spells, HasOpaqueFront}
+use Rattle.packet_decode.specs.Answers.{SpellsPacket, SpellsMaskAlone, Viable, IsHopeless, IsIncomplete, Says, IsSoundAnswer, IsExactAnswer}
+use Rattle.packet_decode.specs.PacketReading.{Spelled, Opaque, Found, parse_end, parse_packet, parse_whole_packet, missed, parsed_answer, answer_of}
 use Rattle.packet_decode.proofs.ExactChange.{change_word, change_bits_are}
-use Rattle.packet_decode.specs.PartWords.{places_of}
-use Rattle.packet_decode.proofs.ExactPacket.{IsExact-packet_at}
-use Rattle.packet_decode.proofs.SpelledWords.{spelled_sent, spells_packet, opaque_packet}
+use Rattle.packet_decode.specs.PartWords.{AllPlaces, places_of}
+use Rattle.packet_decode.proofs.ExactPacket.{IsExact-packet_at, deduced_places, known_places}
+use Rattle.packet_decode.proofs.SpelledWords.{IsSentBy, form_of, is_change, same_outcome, spelled_sent, spells_packet, opaque_packet}
 use Rattle.packet_decode.proofs.ExactAnswers.{Means, means_viable, take_viable, fewer_viable, answer_of-exact}
 
 -- an exact answer is sound
@@ -40,7 +41,7 @@ whole_is f state t bits r e = ap closed e
 module _ (f : ℕ) (state : State) (t : ℕ) (has : IsState f state) where
   -- ---- what is spelled is read
 
-  spelled_end : (change : Change) (mask content : List Bool) → closed (Read (record { change = change; outcome = Spelled mask content }) []) ≡ Read (record { change = change; outcome = Spelled mask content }) []
+  spelled_end : (change : Change) (mask content : Option (List Bool)) → closed (Read (record { change = change; outcome = Spelled mask content }) []) ≡ Read (record { change = change; outcome = Spelled mask content }) []
   unfolding parse_end
   spelled_end change mask content = refl
 
@@ -49,7 +50,7 @@ module _ (f : ℕ) (state : State) (t : ℕ) (has : IsState f state) where
   opaque_end change rest = refl
 
   -- bits that spell a packet are read whole, as its first part, its mask and its content
-  pub spells_read : (bits : List Bool) (form : Form) (mask content : List Bool) → Spells f state t bits form mask content → parse_whole_packet f state t bits ≡ Read (record { change = change_of form; outcome = Spelled mask content }) []
+  pub spells_read : (bits : List Bool) (form : Form) (mask content : Option (List Bool)) → Spells f state t bits form mask content → parse_whole_packet f state t bits ≡ Read (record { change = change_of form; outcome = Spelled mask content }) []
   spells_read bits form mask content s =
       let found : Found = record { change = change_of form; outcome = Spelled mask content } in
       let read : parse_packet f state t bits ≡ Read (record { change = change_of form; outcome = Spelled mask content }) [] =
@@ -66,24 +67,30 @@ module _ (f : ℕ) (state : State) (t : ℕ) (has : IsState f state) where
 
   -- ---- answers
 
-  some_state : (s : State) (level : ℕ) → IsSome s → outcome_answer s level Opaque ≡ Gap level
-  some_state None level some = absurd cc
-  some_state (Some latest) level some = refl
+  some_part : (part : Option KnownVector) (level : ℕ) (mask : Bool) → IsSome part → missed part level mask ≡ Gap level mask
+  some_part None level mask some = absurd cc
+  some_part (Some known) level mask some = refl
 
-  no_state : (s : State) (level : ℕ) → IsNone s → outcome_answer s level Opaque ≡ Unsynced
-  no_state None level none = refl
-  no_state (Some latest) level none = absurd cc
+  no_part : (part : Option KnownVector) (level : ℕ) (mask : Bool) → IsNone part → missed part level mask ≡ Unsynced mask
+  no_part None level mask none = refl
+  no_part (Some known) level mask none = absurd cc
 
-  opaque_answer : (bits : List Bool) (level : ℕ) → HasOpaqueFront f state t bits level → answer_of f state t bits ≡ Ok (outcome_answer state level Opaque)
+  opaque_answer : (bits : List Bool) (level : ℕ) → HasOpaqueFront f state t bits level → answer_of f state t bits ≡ Ok (missed state.mask level false)
   opaque_answer bits level o =
       let r = opaque_read bits level o in
-      ap (parsed_answer state bits) r.3 ∙ ap (λ (v : ℕ). Ok (outcome_answer state v Opaque)) r.2
+      ap (parsed_answer state bits) r.3 ∙ ap (λ (v : ℕ). Ok (missed state.mask v false)) r.2
+
+  alone_answer : (bits : List Bool) (level : ℕ) → SpellsMaskAlone f state t bits level → answer_of f state t bits ≡ Ok (missed state.content level true)
+  alone_answer bits level (form, mask, s, is) =
+      ap (parsed_answer state bits) (spells_read bits form mask None s) ∙ ap (λ (v : ℕ). Ok (missed state.content v true)) is
 
   -- what the bits say is the answer
   pub says_answer : (bits : List Bool) (reading : Reading) → Says f state t bits reading → answer_of f state t bits ≡ Ok reading
-  says_answer bits Written (form, mask, content, s) = ap (parsed_answer state bits) (spells_read bits form mask content s)
-  says_answer bits Unsynced ((level, o), none) = opaque_answer bits level o ∙ ap Ok (no_state state level none)
-  says_answer bits (Gap level) (o, some) = opaque_answer bits level o ∙ ap Ok (some_state state level some)
+  says_answer bits Written (form, mask, content, s) = ap (parsed_answer state bits) (spells_read bits form mask (Some content) s)
+  says_answer bits (Unsynced true) ((level, s), none) = alone_answer bits level s ∙ ap Ok (no_part state.content level true none)
+  says_answer bits (Unsynced false) ((level, o), none) = opaque_answer bits level o ∙ ap Ok (no_part state.mask level false none)
+  says_answer bits (Gap level true) (s, some) = alone_answer bits level s ∙ ap Ok (some_part state.content level true some)
+  says_answer bits (Gap level false) (o, some) = opaque_answer bits level o ∙ ap Ok (some_part state.mask level false some)
 
   same_ok : (a b : Reading) → ◌≡◌ {A = Result Reading BitFault} (Ok a) (Ok b) → a ≡ b
   same_ok a b e = cc
@@ -92,18 +99,22 @@ module _ (f : ℕ) (state : State) (t : ℕ) (has : IsState f state) where
   pub one_reading : (bits : List Bool) (reading other : Reading) → Says f state t bits reading → Says f state t bits other → reading ≡ other
   one_reading bits reading other a b = same_ok reading other (sym (says_answer bits reading a) ∙ says_answer bits other b)
 
-  says_means : (bits : List Bool) (reading : Reading) → Says f state t bits reading → Means f state t has bits
-  says_means bits Written h = inl h
-  says_means bits Unsynced h = inr h.0
-  says_means bits (Gap level) h = inr (level, h.0)
+  pub says_means : (bits : List Bool) (reading : Reading) → Says f state t bits reading → Means f state t has bits
+  says_means bits Written (form, mask, content, s) = inl (form, mask, Some content, s)
+  says_means bits (Unsynced true) ((level, s), none) = inl (s.0, s.1, None, s.2)
+  says_means bits (Unsynced false) h = inr h.0
+  says_means bits (Gap level true) (s, some) = inl (s.0, s.1, None, s.2)
+  says_means bits (Gap level false) h = inr (level, h.0)
 
   says_viable : (bits : List Bool) (reading : Reading) → Says f state t bits reading → Viable f state t bits
   says_viable bits reading h = means_viable f state t has bits (says_means bits reading h)
 
+  not_means : (bits : List Bool) (bit : ℕ) → IsIncomplete f state t bits bit → Means f state t has bits → ⊥
+  not_means bits bit i (inl spelled) = i.not_spelled spelled
+  not_means bits bit i (inr opaque) = i.not_opaque opaque
+
   complete : (bits : List Bool) (bit : ℕ) (reading : Reading) → IsIncomplete f state t bits bit → Says f state t bits reading → ⊥
-  complete bits bit Written i h = i.not_spelled h
-  complete bits bit Unsynced i h = i.not_opaque h.0
-  complete bits bit (Gap level) i h = i.not_opaque (level, h.0)
+  complete bits bit reading i h = not_means bits bit i (says_means bits reading h)
 
   viable_after : (bits : List Bool) (bit : ℕ) → IsHopeless f state t bits bit → Viable f state t bits → ⊥
   viable_after bits bit h v = h.hopeless (take_viable f state t has (bit + 1) bits v)
@@ -139,36 +150,69 @@ module _ (f : ℕ) (state : State) (t : ℕ) (has : IsState f state) where
 
 -- ---- one packet
 
-spelled_same : (mask other content others : List Bool) → Spelled mask content ≡ Spelled other others → (mask ≡ other) × (content ≡ others)
-spelled_same mask other content others e = (cc, cc)
+same_some : (a b : List Bool) (o : Option (List Bool)) → o ≡ Some a → o ≡ Some b → a ≡ b
+same_some a b o p q = cc
+
+-- what is sent, by the mask and the content that become known: the mask, if it is sent; the whole content; and a bit for
+-- each extracted place
+abbrev IsToldBy : Change → Option (List Bool) → Option (List Bool) → Content → Type 0
+IsToldBy change mask content (Whole whole) = content ≡ Some whole
+IsToldBy change mask content (Part bits) = IsSomeAnd mask (λ m. length bits ≡ count_by (λ bit. bit) (places_of change m))
+
+mask_told : (deduced known sent content : Option (List Bool)) (change : Change) (c : Content) → IsSentBy change deduced known sent c content → IfSome sent (λ m. option_or deduced sent ≡ Some m)
+mask_told deduced known None content change c s = tt
+mask_told None known (Some m) content change c s = refl
+mask_told (Some deduced) known (Some m) content change c s = ap Some (sym s.masked.sent)
+
+part_told : (change : Change) (mask known sent : Option (List Bool)) (bits : List Bool) → IfNone mask (IsWholeContent (Part bits)) → IfSome mask (FitsMask (form_of change sent (Part bits)) known) → IsSomeAnd mask (λ m. length bits ≡ count_by (λ bit. bit) (places_of change m))
+part_told change None known sent bits unmasked masked = absurd unmasked
+part_told change (Some mask) known sent bits unmasked masked = masked.fits
+
+content_told : (deduced known sent content : Option (List Bool)) (change : Change) (c : Content) → IsSentBy change deduced known sent c content → IsToldBy change (option_or deduced sent) content c
+content_told deduced known sent content change (Whole whole) s = s.content_is
+content_told deduced known sent content change (Part bits) s = part_told change (option_or deduced sent) known sent bits s.unmasked s.masked
+
+front_same : (a b rest others : List Bool) → length a ≡ length b → a ++ rest ≡ b ++ others → a ≡ b
+front_same a b rest others len e = sym (take_at a rest (length a) refl) ∙ ap (take (length a)) e ∙ take_at b others (length a) (sym len)
+
+same_length : (change : Change) (mask : Option (List Bool)) (a b : List Bool) → IsSomeAnd mask (λ m. length a ≡ count_by (λ bit. bit) (places_of change m)) → IsSomeAnd mask (λ m. length b ≡ count_by (λ bit. bit) (places_of change m)) → length a ≡ length b
+same_length change None a b p q = absurd p
+same_length change (Some mask) a b p q = p ∙ sym q
+
+after_one : (a : Bool) (xs ys : List Bool) → a ∷ xs ≡ a ∷ ys → xs ≡ ys
+after_one a xs ys e = cc
+
+same_part : (change : Change) (mask content : Option (List Bool)) (rest others a b : List Bool) → IsToldBy change mask content (Part a) → IsToldBy change mask content (Part b) → a ++ rest ≡ b ++ others → a ≡ b
+same_part change mask content rest others a b p q e = front_same a b rest others (same_length change mask a b p q) e
 
 -- with the same mask and the same content, what is sent of the content is told by its bits
-same_kind : (places content front rest others : List Bool) (a b : Content) → IsSentOf places content a → IsSentOf places content b → (front ++ content_bits a) ++ rest ≡ (front ++ content_bits b) ++ others → a ≡ b
-same_kind places content front rest others (Part a) (Part b) p q e = ap Part (p ∙ sym q)
-same_kind places content front rest others (Whole a) (Whole b) p q e = ap Whole (p ∙ sym q)
-same_kind places content front rest others (Part a) (Whole b) p q e =
+same_kind : (change : Change) (mask content : Option (List Bool)) (front rest others : List Bool) (a b : Content) → IsToldBy change mask content a → IsToldBy change mask content b → (front ++ content_bits a) ++ rest ≡ (front ++ content_bits b) ++ others → a ≡ b
+same_kind change mask content front rest others (Part a) (Part b) p q e =
+    let tails = append_cancel_left front (content_bits (Part a) ++ rest) (content_bits (Part b) ++ others) (sym (append_assoc front (content_bits (Part a)) rest) ∙ e ∙ append_assoc front (content_bits (Part b)) others) in
+    ap Part (same_part change mask content rest others a b p q (after_one false (a ++ rest) (b ++ others) tails))
+same_kind change mask content front rest others (Whole a) (Whole b) p q e = ap Whole (same_some a b content p q)
+same_kind change mask content front rest others (Part a) (Whole b) p q e =
     let tails = append_cancel_left front (content_bits (Part a) ++ rest) (content_bits (Whole b) ++ others) (sym (append_assoc front (content_bits (Part a)) rest) ∙ e ∙ append_assoc front (content_bits (Whole b)) others) in absurd cc
-same_kind places content front rest others (Whole a) (Part b) p q e =
+same_kind change mask content front rest others (Whole a) (Part b) p q e =
     let tails = append_cancel_left front (content_bits (Whole a) ++ rest) (content_bits (Part b) ++ others) (sym (append_assoc front (content_bits (Whole a)) rest) ∙ e ∙ append_assoc front (content_bits (Part b)) others) in absurd cc
 
 after_two : (a b : Bool) (xs ys : List Bool) → a ∷ b ∷ xs ≡ a ∷ b ∷ ys → xs ≡ ys
 after_two a b xs ys e = cc
 
-same_data : (places mask content rest others : List Bool) (sent other : Option (List Bool)) (a b : Content) → IfSome sent (λ m. m ≡ mask) → IfSome other (λ m. m ≡ mask) → IsSentOf places content a → IsSentOf places content b
+same_data : (change : Change) (mask content : Option (List Bool)) (rest others : List Bool) (sent other : Option (List Bool)) (a b : Content) → IfSome sent (λ m. mask ≡ Some m) → IfSome other (λ m. mask ≡ Some m) → IsToldBy change mask content a → IsToldBy change mask content b
     → data_bits sent a ++ rest ≡ data_bits other b ++ others → (sent ≡ other) × (a ≡ b)
-same_data places mask content rest others None None (Part a) (Part b) m n p q e = (refl, ap Part (p ∙ sym q))
-same_data places mask content rest others None None (Part a) (Whole b) m n p q e = absurd cc
-same_data places mask content rest others None None (Whole a) (Part b) m n p q e = absurd cc
-same_data places mask content rest others None None (Whole a) (Whole b) m n p q e = (refl, ap Whole (p ∙ sym q))
-same_data places mask content rest others None (Some x) (Part a) b m n p q e = absurd cc
-same_data places mask content rest others None (Some x) (Whole a) b m n p q e = absurd cc
-same_data places mask content rest others (Some x) None a (Part b) m n p q e = absurd cc
-same_data places mask content rest others (Some x) None a (Whole b) m n p q e = absurd cc
-same_data places mask content rest others (Some x) (Some y) a b m n p q e =
-    let same : x ≡ y = m ∙ sym n in
-    let front = run_bits (edges x) in
+same_data change mask content rest others None None (Part a) (Part b) m n p q e = (refl, ap Part (same_part change mask content rest others a b p q (after_one true (a ++ rest) (b ++ others) e)))
+same_data change mask content rest others None None (Part a) (Whole b) m n p q e = absurd cc
+same_data change mask content rest others None None (Whole a) (Part b) m n p q e = absurd cc
+same_data change mask content rest others None None (Whole a) (Whole b) m n p q e = (refl, ap Whole (same_some a b content p q))
+same_data change mask content rest others None (Some x) (Part a) b m n p q e = absurd cc
+same_data change mask content rest others None (Some x) (Whole a) b m n p q e = absurd cc
+same_data change mask content rest others (Some x) None a (Part b) m n p q e = absurd cc
+same_data change mask content rest others (Some x) None a (Whole b) m n p q e = absurd cc
+same_data change mask content rest others (Some x) (Some y) a b m n p q e =
+    let same : x ≡ y = same_some x y mask m n in
     let tails = after_two false true ((run_bits (edges x) ++ content_bits a) ++ rest) ((run_bits (edges y) ++ content_bits b) ++ others) e in
-    (ap Some same, same_kind places content (run_bits (edges x)) rest others a b p q (rw (← same) at tails))
+    (ap Some same, same_kind change mask content (run_bits (edges x)) rest others a b p q (rw (← same) at tails))
 
 form_parts : (form : Form) → form_bits form ≡ change_word (change_of form) ++ data_bits form.sent form.content
 unfolding form_bits
@@ -186,7 +230,7 @@ same_form form other change sent content =
 abbrev zeros_after : List Bool → List Bool
 zeros_after bits = replicate (8 * byte_count (length bits) - length bits) false
 
-module _ (f : ℕ) (state : State) (t : ℕ) (has : IsState f state) (bits : List Bool) (form other : Form) (mask content other_mask other_content : List Bool) (a : Spells f state t bits form mask content) (b : Spells f state t bits other other_mask other_content) where
+module _ (f : ℕ) (state : State) (t : ℕ) (has : IsState f state) (bits : List Bool) (form other : Form) (mask content other_mask other_content : Option (List Bool)) (a : Spells f state t bits form mask content) (b : Spells f state t bits other other_mask other_content) where
   both_read : ◌≡◌ {A = Found} (record { change = change_of form; outcome = Spelled mask content }) (record { change = change_of other; outcome = Spelled other_mask other_content })
   both_read = (read_same (record { change = change_of form; outcome = Spelled mask content }) (record { change = change_of other; outcome = Spelled other_mask other_content }) [] []
       (sym (spells_read f state t has bits form mask content a) ∙ spells_read f state t has bits other other_mask other_content b)).0
@@ -195,7 +239,7 @@ module _ (f : ℕ) (state : State) (t : ℕ) (has : IsState f state) (bits : Lis
   one_change = ap (λ (x : Found). x.change) both_read
 
   vectors_same : (mask ≡ other_mask) × (content ≡ other_content)
-  vectors_same = spelled_same mask other_mask content other_content (ap (λ (x : Found). x.outcome) both_read)
+  vectors_same = same_outcome mask other_mask content other_content (ap (λ (x : Found). x.outcome) both_read)
 
   data_same : data_bits form.sent form.content ++ zeros_after (form_bits form) ≡ data_bits other.sent other.content ++ zeros_after (form_bits other)
   data_same =
@@ -209,16 +253,26 @@ module _ (f : ℕ) (state : State) (t : ℕ) (has : IsState f state) (bits : Lis
       ∙ ap (λ (x : List Bool). x ++ zeros_after (form_bits other)) (form_parts other)
       ∙ append_assoc (change_word (change_of other)) (data_bits other.sent other.content) (zeros_after (form_bits other)))
 
+  told : (form : Form) (mask content : Option (List Bool)) → Spells f state t bits form mask content → IfSome form.sent (λ m. mask ≡ Some m) × IsToldBy (change_of form) mask content form.content
+  told form mask content s =
+      let sent = spelled_sent f state t has bits form mask content s in
+      let deduced = deduced_by state t (change_of form) in
+      let known = known_by state t (change_of form) in
+      let same : mask ≡ option_or (deduced_by state t (change_of form)) form.sent = s.mask_is in (
+        rw same (mask_told (deduced_by state t (change_of form)) (known_by state t (change_of form)) form.sent content (change_of form) form.content sent),
+        rw same (content_told (deduced_by state t (change_of form)) (known_by state t (change_of form)) form.sent content (change_of form) form.content sent),
+      )
+
   sent_same : (form.sent ≡ other.sent) × (form.content ≡ other.content)
   sent_same =
-      let mine = spelled_sent f state t bits form mask content a in
-      let theirs = spelled_sent f state t bits other other_mask other_content b in
-      let content_sent : IsSentOf (wide form mask) content other.content =
-      subst (λ (c : Change). IsSentOf (places_of c mask) content other.content) (sym one_change)
-      (subst (λ (m : List Bool). IsSentOf (wide other m) content other.content) (sym vectors_same.0)
-      (subst (λ (i : List Bool). IsSentOf (wide other other_mask) i other.content) (sym vectors_same.1) theirs.content_sent)) in
-      let mask_sent : IfSome other.sent (λ m. m ≡ mask) = subst (λ (m : List Bool). IfSome other.sent (λ n. n ≡ m)) (sym vectors_same.0) theirs.mask_sent in
-      same_data (wide form mask) mask content (zeros_after (form_bits form)) (zeros_after (form_bits other)) form.sent other.sent form.content other.content mine.mask_sent mask_sent mine.content_sent content_sent data_same
+      let mine = told form mask content a in
+      let theirs = told other other_mask other_content b in
+      let content_sent : IsToldBy (change_of form) mask content other.content =
+      subst (λ (c : Change). IsToldBy c mask content other.content) (sym one_change)
+      (subst (λ (m : Option (List Bool)). IsToldBy (change_of other) m content other.content) (sym vectors_same.0)
+      (subst (λ (i : Option (List Bool)). IsToldBy (change_of other) other_mask i other.content) (sym vectors_same.1) theirs.1)) in
+      let mask_sent : IfSome other.sent (λ m. mask ≡ Some m) = subst (λ (m : Option (List Bool)). IfSome other.sent (λ n. m ≡ Some n)) (sym vectors_same.0) theirs.0 in
+      same_data (change_of form) mask content (zeros_after (form_bits form)) (zeros_after (form_bits other)) form.sent other.sent form.content other.content mine.0 mask_sent mine.1 content_sent data_same
 
   -- the bits and the state determine the form, the mask and the content
   pub one_packet : (form ≡ other) × (mask ≡ other_mask) × (content ≡ other_content)
@@ -227,7 +281,7 @@ module _ (f : ℕ) (state : State) (t : ℕ) (has : IsState f state) (bits : Lis
 -- ---- what follows a packet, and what follows a front
 
 module _ (f : ℕ) (state : State) (t : ℕ) (has : IsState f state) where
-  further_end : (change : Change) (mask content more : List Bool) (bit : Bool) → closed (Read (record { change = change; outcome = Spelled mask content }) (bit ∷ more)) ≡ WrongBit more
+  further_end : (change : Change) (mask content : Option (List Bool)) (more : List Bool) (bit : Bool) → closed (Read (record { change = change; outcome = Spelled mask content }) (bit ∷ more)) ≡ WrongBit more
   unfolding parse_end
   further_end change mask content more bit = refl
 
@@ -245,8 +299,38 @@ front_goes_on f state t bits more level o = record {
   is_form = o.is_form;
   level_is = o.level_is;
   out_of_reach = o.out_of_reach;
-  end = o.end;
-  end_is = o.end_is;
+  no_mask = o.no_mask;
+  not_whole = o.not_whole;
   rest = o.rest ++ more;
-  bits_are = ap (λ (b : List Bool). b ++ more) o.bits_are ∙ append_assoc (change_bits o.form) (o.end ++ o.rest) more ∙ ap (λ (b : List Bool). change_bits o.form ++ b) (append_assoc o.end o.rest more);
+  bits_are = ap (λ (b : List Bool). b ++ more) o.bits_are ∙ append_assoc (change_bits o.form) (true ∷ o.rest) more;
 }
+
+-- ---- the next state
+
+next_places : (f : ℕ) (part : Option KnownVector) (t : ℕ) (vector : Option (List Bool)) → HasVector f part → AllPlaces f vector → HasVector f (next_part part t vector)
+next_places f part t None has all = has
+next_places f part t (Some vector) has all = all
+
+mask_places : (f : ℕ) (deduced sent : Option (List Bool)) → AllPlaces f deduced → AllPlaces f sent → AllPlaces f (option_or deduced sent)
+mask_places f None sent all is = is
+mask_places f (Some deduced) sent all is = all
+
+content_places : (f : ℕ) (c : Content) (places known content : Option (List Bool)) → HasPlaces f c → AllPlaces f known → IsKnownContent c places known content → AllPlaces f content
+content_places f (Whole whole) places known content has all is = rw is has
+content_places f (Part bits) None known content has all is = rw is tt
+content_places f (Part bits) (Some places) None content has all is = rw is tt
+content_places f (Part bits) (Some places) (Some known) None has all is = absurd is
+content_places f (Part bits) (Some places) (Some known) (Some content) has all is = is.same_length ∙ all
+
+-- what becomes known has as many places
+pub spelled_places : (f : ℕ) (state : State) (t : ℕ) (bits : List Bool) (form : Form) (mask content : Option (List Bool)) → IsState f state → Spells f state t bits form mask content → AllPlaces f mask × AllPlaces f content
+spelled_places f state t bits form mask content has s =
+    let same : mask ≡ option_or (deduced_by state t (change_of form)) form.sent = s.mask_is in (
+      rw same (mask_places f (deduced_by state t (change_of form)) form.sent (deduced_places f state t (change_of form) has (is_change f form s.is_form)) s.is_form.sent),
+      content_places f form.content (option_map (wide form) mask) (known_by state t (change_of form)) content s.is_form.content (known_places f state t (change_of form) has) s.content_is,
+    )
+
+pub next_state-is : (f : ℕ) (state : State) (t : ℕ) (bits : List Bool) (form : Form) (mask content : Option (List Bool)) → IsState f state → Spells f state t bits form mask content → IsState f (next_state state t mask content)
+next_state-is f state t bits form mask content has s =
+    let places = spelled_places f state t bits form mask content has s in
+    record { mask = next_places f state.mask t mask has.mask places.0; content = next_places f state.content t content has.content places.1 }

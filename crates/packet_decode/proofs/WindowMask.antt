@@ -15,7 +15,6 @@ use Rattle.packet_encode.specs.Forms.{Directions}
 use Rattle.packet_encode.specs.Packets.{directions_of, form_at}
 use Rattle.packet_encode.proofs.Directions.{directions-none, directions-some, has_one, has_one-some}
 use Rattle.packet_decode.specs.State.{deduced_mask, mask_after, unpredictable}
-use Rattle.packet_decode.specs.Histories.{written_at}
 use Rattle.packet_decode.proofs.PlaceByStep.{change_bit, change_bit-suc, mask_bit, same_bit, stays}
 
 -- ---- bits
@@ -179,7 +178,7 @@ module _ (h : History) (earlier t : ℕ) (lt : t < length h.steps) (before : ear
       get_or-zip2_all (λ a b. cond a (not b) b) refl old recent place same
       ∙ at_level_zero place (omega (arith, length-zip2 (λ a b. cond a (not b) b) old recent same, old_len)) none)
 
-  pub deduced_mask-is : deduced_mask (written_at h earlier) (form_at h t) ≡ mask_at h t
+  pub deduced_mask-is : deduced_mask (mask_at h earlier) (form_at h t) ≡ mask_at h t
   deduced_mask-is =
       elim (cases_eq (level_at h t) 0) [
         | inl none ↦ mask_after-level_zero old recent (level_at h t) directions none ∙ by_turning none

@@ -1,5 +1,5 @@
 -- The answers to the bits of a packet: what each of them says, exactly or only soundly.
-use Rattle.std.specs.Prelude.{◌≡◌, ℕ, ◌+◌, ◌<◌, ◌≤◌, ◌⊎◌, List, ◌++◌, Bool, length, take, IsSome, IsNone, Result, Ok, Err}
+use Rattle.std.specs.Prelude.{◌≡◌, ℕ, ◌+◌, ◌<◌, ◌≤◌, ◌⊎◌, List, ◌++◌, Bool, true, false, length, take, Option, Some, None, IsSome, IsNone, Result, Ok, Err}
 use Rattle.bit_vectors.specs.declared.fault.BitFault.{BitFault}
 use Rattle.bit_vectors.specs.declared.fault.BitFault.TheVariants.{Wrong, EndsEarly}
 use Rattle.bit_vectors.specs.Vectors.{AreBytes, bits_of}
@@ -11,7 +11,15 @@ use Rattle.packet_decode.specs.Spelling.{Spells, HasOpaqueFront}
 
 -- the bits spell a packet
 abbrev pub SpellsPacket : ℕ → State → ℕ → List Bool → Type 0
-SpellsPacket f state t bits = (form : Form) × (mask : List Bool) × (content : List Bool) × Spells f state t bits form mask content
+SpellsPacket f state t bits = (form : Form) × (mask : Option (List Bool)) × (content : Option (List Bool)) × Spells f state t bits form mask content
+
+-- they spell one whose content becomes known
+abbrev pub SpellsContent : ℕ → State → ℕ → List Bool → Type 0
+SpellsContent f state t bits = (form : Form) × (mask : Option (List Bool)) × (content : List Bool) × Spells f state t bits form mask (Some content)
+
+-- they spell one of this level whose content doesn't become known; so its mask does
+abbrev pub SpellsMaskAlone : ℕ → State → ℕ → List Bool → ℕ → Type 0
+SpellsMaskAlone f state t bits level = (form : Form) × (mask : Option (List Bool)) × Spells f state t bits form mask None × (form.level ≡ level)
 
 -- they have an opaque front, of some level
 abbrev pub IsOpaque : ℕ → State → ℕ → List Bool → Type 0
@@ -34,11 +42,14 @@ pub record IsIncomplete (f : ℕ) (state : State) (t : ℕ) (bits : List Bool) (
   pub not_spelled : SpellsPacket f state t bits → ⊥
   pub not_opaque : IsOpaque f state t bits → ⊥
 
--- what the bits say: a packet is spelled, or they have an opaque front, and nothing or something is known
+-- What the bits say. A packet whose content becomes known is written. Else its mask became known or did not, and of the part
+-- that did not, nothing was known before or something was.
 abbrev pub Says : ℕ → State → ℕ → List Bool → Reading → Type 0
-Says f state t bits Written = SpellsPacket f state t bits
-Says f state t bits Unsynced = IsOpaque f state t bits × IsNone state
-Says f state t bits (Gap level) = HasOpaqueFront f state t bits level × IsSome state
+Says f state t bits Written = SpellsContent f state t bits
+Says f state t bits (Unsynced true) = ((level : ℕ) × SpellsMaskAlone f state t bits level) × IsNone state.content
+Says f state t bits (Unsynced false) = IsOpaque f state t bits × IsNone state.mask
+Says f state t bits (Gap level true) = SpellsMaskAlone f state t bits level × IsSome state.content
+Says f state t bits (Gap level false) = HasOpaqueFront f state t bits level × IsSome state.mask
 
 -- an answer that is right, where the bit of a fault may come later than the first at which it can be seen
 abbrev pub IsSoundAnswer : ℕ → State → ℕ → List Bool → Result Reading BitFault → Type 0

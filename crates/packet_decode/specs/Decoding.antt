@@ -1,7 +1,11 @@
--- What a decoder is: the number of places of its vectors, the latest written packet, and the recent changes
--- of its mask and its effective robustness level, which are zero before the first.
-use Rattle.std.specs.Prelude.{ℕ, false, List, Bool, replicate, Option, None, Some}
-use Rattle.packet_decode.specs.State.{State}
+-- What a decoder is: the number of places of its vectors, the known mask and the known content, and the recent changes of
+-- the mask and the effective robustness level of the latest written packet, which are zero before the first.
+use Rattle.std.specs.Prelude.{ℕ, Bool, true, false, List, replicate, Option, Result, Ok, Err, unwrap_or}
+use Rattle.std.specs.Option.{option_map}
+use Rattle.bit_vectors.specs.declared.fault.BitFault.{BitFault}
+use Rattle.packet_decode.specs.declared.decoder.Reading.{Reading}
+use Rattle.packet_decode.specs.declared.decoder.Reading.TheVariants.{Written, Unsynced, Gap}
+use Rattle.packet_decode.specs.State.{KnownVector, State}
 
 pub record Decoding : Type 0 where
   pub places : ℕ
@@ -9,17 +13,35 @@ pub record Decoding : Type 0 where
   pub recent : List Bool
   pub level : ℕ
 
+-- the number of the packet with which it became known
+abbrev pub number_of : Option KnownVector → Option ℕ
+number_of part = option_map (λ known. known.number) part
+
+-- the vector that became known, and zeros before the first
+abbrev pub vector_of : ℕ → Option KnownVector → List Bool
+vector_of f part = unwrap_or (option_map (λ known. known.vector) part) (replicate f false)
+
 -- the number of the latest written packet
 abbrev pub latest_number : State → Option ℕ
-latest_number None = None
-latest_number (Some packet) = Some packet.number
+latest_number state = number_of state.content
 
--- the mask of the latest written packet, and zeros before the first
+-- the number of the latest packet whose mask became known
+abbrev pub latest_mask_number : State → Option ℕ
+latest_mask_number state = number_of state.mask
+
+-- the latest mask that became known, and zeros before the first
 abbrev pub latest_mask : ℕ → State → List Bool
-latest_mask f None = replicate f false
-latest_mask f (Some packet) = packet.mask
+latest_mask f state = vector_of f state.mask
 
 -- the content of the latest written packet, and zeros before the first
 abbrev pub latest_content : ℕ → State → List Bool
-latest_content f None = replicate f false
-latest_content f (Some packet) = packet.content
+latest_content f state = vector_of f state.content
+
+-- the data say nothing that becomes known
+abbrev pub tells_nothing : Result Reading BitFault → Bool
+tells_nothing (Ok Written) = false
+tells_nothing (Ok (Unsynced true)) = false
+tells_nothing (Ok (Unsynced false)) = true
+tells_nothing (Ok (Gap level true)) = false
+tells_nothing (Ok (Gap level false)) = true
+tells_nothing (Err fault) = true

@@ -1,21 +1,25 @@
--- The packets of a history, as a decoder that has written them knows them.
-use Rattle.std.specs.Prelude.{ℕ, ◌⊎◌, Option, None, Some}
-use Rattle.mask_update.specs.Histories.{History, input_at}
+-- The packets of a history, as a decoder knows them.
+use Rattle.std.specs.Prelude.{ℕ, Bool, ◌&&◌, ◌||◌, Option}
+use Rattle.std.specs.Option.{option_map}
+use Rattle.mask_update.specs.Histories.{History, flags_at, input_at}
 use Rattle.mask_update.specs.Masks.{mask_at}
 use Rattle.robust_window.specs.Histories.{level_at}
-use Rattle.packet_encode.specs.Deliveries.{CarriesBoth}
-use Rattle.packet_decode.specs.State.{InReach, WrittenPacket, State}
+use Rattle.packet_encode.specs.Deliveries.{reaches}
+use Rattle.packet_decode.specs.State.{State}
 
--- the packet of a step, with the mask and the input of the step
-abbrev pub written_at : History → ℕ → WrittenPacket
-written_at h t = record { number = t; mask = mask_at h t; content = input_at h t }
+-- the state of a decoder that knows the mask of this step and the input of that one, or none
+abbrev pub true_state : History → Option ℕ → Option ℕ → State
+true_state h mask content = record {
+  mask = option_map (λ s. record { number = s; vector = mask_at h s }) mask;
+  content = option_map (λ s. record { number = s; vector = input_at h s }) content;
+}
 
--- the state of a decoder whose latest written packet is that of this step, and nothing where none was written
-abbrev pub true_state : History → Option ℕ → State
-true_state h None = None
-true_state h (Some latest) = Some (written_at h latest)
+-- The packet of a step tells its mask, where the latest known one is of this step: it carries the mask, or its effective
+-- robustness level reaches that one.
+abbrev pub is_mask_told : History → Option ℕ → ℕ → Bool
+is_mask_told h mask t = (flags_at h t).f || reaches mask t (level_at h t)
 
--- The packet of a step is understood after the latest written one: it carries the mask and the whole content, or the
--- latest one is in reach of its effective robustness level.
-abbrev pub IsUnderstood : History → Option ℕ → ℕ → Type 0
-IsUnderstood h latest t = CarriesBoth h t ⊎ InReach (true_state h latest) t (level_at h t)
+-- It tells its content, where the latest known mask and content are of these steps: it carries the whole content, or it tells
+-- its mask and its effective robustness level reaches that content.
+abbrev pub is_content_told : History → Option ℕ → Option ℕ → ℕ → Bool
+is_content_told h mask content t = (flags_at h t).r || is_mask_told h mask t && reaches content t (level_at h t)

@@ -1,5 +1,5 @@
 -- Reading a packet from its first bit to its last, as functions of the bits that are left.
-use Rattle.std.specs.Prelude.{◌≡◌, ℕ, ◌+◌, ◌-◌, ◌*◌, nat_lt, nat_le, Bool, true, false, not, ◌&&◌, ◌||◌, if◌then◌else◌, List, [], ◌∷◌, length, replicate, slice_index_or, Option, None, Some, Result, Ok, Err}
+use Rattle.std.specs.Prelude.{◌≡◌, ℕ, ◌+◌, ◌-◌, ◌*◌, nat_lt, Bool, true, false, not, ◌&&◌, ◌||◌, if◌then◌else◌, List, [], ◌∷◌, length, count_by, replicate, slice_index_or, Option, None, Some, Result, Ok, Err}
 use Rattle.std.specs.List.{list_any}
 use Rattle.bit_vectors.specs.declared.fault.BitFault.{BitFault}
 use Rattle.bit_vectors.specs.declared.fault.BitFault.TheVariants.{Wrong, EndsEarly}
@@ -14,11 +14,11 @@ use Rattle.run_code.specs.Runs.{run_bits, parse_vector}
 use Rattle.packet_encode.specs.Forms.{Directions, wide_by}
 use Rattle.packet_decode.specs.declared.decoder.Reading.{Reading}
 use Rattle.packet_decode.specs.declared.decoder.Reading.TheVariants.{Written, Unsynced, Gap}
-use Rattle.packet_decode.specs.State.{State, Change, mask_after}
+use Rattle.packet_decode.specs.State.{KnownVector, State, Change, deduced_by, known_by}
 
--- what the parts after the first one say: a mask and a content, or too little to understand them
+-- what the parts after the first one say: the mask and the content that become known, or too little to understand them
 pub data Outcome : Type 0 where
-  Spelled : List Bool → List Bool → Outcome
+  Spelled : Option (List Bool) → Option (List Bool) → Outcome
   Opaque : Outcome
 
 -- the first part and what the others say
@@ -67,18 +67,6 @@ parse_change f bits =
     >>= λ level more. parse_directions recent level more
     >>= λ directions last. Read (record { recent = recent; level = level; directions = directions }) last
 
--- ---- what is asked of the state
-
--- the mask that is deduced in reach
-abbrev pub deduced_by : State → ℕ → Change → Option (List Bool)
-deduced_by None t change = None
-deduced_by (Some latest) t change = if nat_le (t - 1 - latest.number) change.level then Some (mask_after latest.mask change) else None
-
--- the content that is known in reach
-abbrev pub known_by : State → ℕ → Change → Option (List Bool)
-known_by None t change = None
-known_by (Some latest) t change = if nat_le (t - 1 - latest.number) change.level then Some latest.content else None
-
 -- ---- the mask
 
 -- the mask with these edges
@@ -104,14 +92,22 @@ parse_whole f places (Some known) bits = parse_word (count_bits f) bits >>= λ u
 unfoldable pub parse_whole_with : ℕ → Change → List Bool → Option (List Bool) → List Bool → Parsed Outcome
 parse_whole_with f change mask known bits =
     parse_whole f (wide_by change.directions change.recent mask) known bits
-    >>= λ content rest. Read (Spelled mask content) rest
+    >>= λ content rest. Read (Spelled (Some mask) (Some content)) rest
 
--- the extracted bits, with a mask; where nothing is known the other bits of the content can't be told
+-- the same, without a mask, so that there is nothing to compare it with
+unfoldable pub parse_whole_alone : ℕ → List Bool → Parsed Outcome
+parse_whole_alone f bits =
+    parse_whole f [] None bits
+    >>= λ content rest. Read (Spelled None (Some content)) rest
+
+-- the extracted bits, with a mask; where no content is known the other bits of the content can't be told
 unfoldable pub parse_part_with : Change → List Bool → Option (List Bool) → List Bool → Parsed Outcome
-parse_part_with change mask None bits = Read Opaque bits
+parse_part_with change mask None bits =
+    parse_front (count_by (λ bit. bit) (wide_by change.directions change.recent mask)) bits
+    >>= λ part rest. Read (Spelled (Some mask) None) rest
 parse_part_with change mask (Some known) bits =
     parse_filled (places_down (wide_by change.directions change.recent mask)) known bits
-    >>= λ content rest. Read (Spelled mask content) rest
+    >>= λ content rest. Read (Spelled (Some mask) (Some content)) rest
 
 -- whether the content is whole, and the content
 unfoldable pub parse_content : ℕ → Change → List Bool → Option (List Bool) → List Bool → Parsed Outcome
@@ -126,9 +122,11 @@ unfoldable pub parse_unsent : Change → Option (List Bool) → Option (List Boo
 parse_unsent change None known bits = Read Opaque bits
 parse_unsent change (Some mask) known bits = parse_part_with change mask known bits
 
--- whole content is sent without a mask, which must then be deduced
+-- whole content is sent without a mask
 unfoldable pub parse_maskless : ℕ → Change → Option (List Bool) → Option (List Bool) → List Bool → Parsed Outcome
-parse_maskless f change None known bits = Read Opaque bits
+parse_maskless f change None known bits =
+    bit_where (allowed false true) bits
+    >>= λ whole rest. parse_whole_alone f rest
 parse_maskless f change (Some mask) known bits =
     bit_where (allowed false true) bits
     >>= λ whole rest. parse_whole_with f change mask known rest
@@ -187,11 +185,15 @@ parse_whole_packet f state t bits =
 
 -- ---- the answer
 
--- with nothing known, an opaque front is not in reach of any packet; else it comes after a gap
+-- a packet of which a part did not become known: nothing of that part was known before, or it was, and there is a gap
+abbrev pub missed : Option KnownVector → ℕ → Bool → Reading
+missed None level mask = Unsynced mask
+missed (Some known) level mask = Gap level mask
+
 abbrev pub outcome_answer : State → ℕ → Outcome → Reading
-outcome_answer state level (Spelled mask content) = Written
-outcome_answer None level Opaque = Unsynced
-outcome_answer (Some latest) level Opaque = Gap level
+outcome_answer state level (Spelled mask (Some content)) = Written
+outcome_answer state level (Spelled mask None) = missed state.content level true
+outcome_answer state level Opaque = missed state.mask level false
 
 -- what was read of all bits, as an answer
 abbrev pub parsed_answer : State → List Bool → Parsed Found → Result Reading BitFault

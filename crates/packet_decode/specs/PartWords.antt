@@ -1,12 +1,13 @@
 -- The words of the parts of a packet. Those after the first part depend on it, on a deduced mask or none, and on a known
 -- content or none, and on no state.
-use Rattle.std.specs.Prelude.{◌≡◌, ℕ, Bool, true, false, List, [], ◌∷◌, ◌++◌, length, Option, None, Some, IfSome}
+use Rattle.std.specs.Prelude.{◌≡◌, ℕ, Bool, true, false, List, [], ◌∷◌, ◌++◌, length, count_by, Option, None, Some, IfSome}
 use Rattle.count_code.specs.Code.{count_bits}
 use Rattle.run_code.specs.Edges.{edges}
-use Rattle.run_code.specs.Extraction.{extract, SameOutside}
+use Rattle.run_code.specs.Extraction.{SameOutside}
 use Rattle.run_code.specs.Runs.{run_bits}
 use Rattle.packet_encode.specs.Forms.{Form, IsForm, change_bits, wide_by}
 use Rattle.packet_decode.specs.State.{Change, change_of}
+use Rattle.packet_decode.specs.Spelling.{IsFilled}
 use Rattle.packet_decode.specs.PacketReading.{Outcome, Spelled, Opaque}
 
 -- the first part of a form of f places
@@ -47,17 +48,23 @@ abbrev pub IsMaskWord : ℕ → Option (List Bool) → List Bool → List Bool �
 IsMaskWord f None mask word = (length mask ≡ f) × (word ≡ run_bits (edges mask))
 IsMaskWord f (Some deduced) mask word = (mask ≡ deduced) × (word ≡ run_bits (edges mask))
 
+-- a content that agrees, after its number of places
+abbrev pub IsContentWord : ℕ → List Bool → Option (List Bool) → List Bool → List Bool → Type 0
+IsContentWord f places known content word = AgreesWith f places known content × (word ≡ count_bits f ++ content)
+
 -- with a mask: the whole content
 abbrev pub IsWhole : ℕ → Change → List Bool → Option (List Bool) → Outcome → List Bool → Type 0
-IsWhole f change mask known (Spelled m content) word = (m ≡ mask) × AgreesWith f (places_of change mask) known content × (word ≡ count_bits f ++ content)
-IsWhole f change mask known Opaque word = ⊥
+IsWhole f change mask known o word =
+    (content : List Bool) × IsContentWord f (places_of change mask) known content word × (o ≡ Spelled (Some mask) (Some content))
 
--- with a mask: the extracted bits, and nothing if no content is known
+-- without a mask: any whole content
+abbrev pub IsWholeAlone : ℕ → Outcome → List Bool → Type 0
+IsWholeAlone f o word = (content : List Bool) × IsContentWord f [] None content word × (o ≡ Spelled None (Some content))
+
+-- with a mask: the extracted bits; if no content is known, any bits for the extracted places, which tell the mask alone
 abbrev pub IsPart : Change → List Bool → Option (List Bool) → Outcome → List Bool → Type 0
-IsPart change mask None (Spelled m content) word = ⊥
-IsPart change mask None Opaque word = word ≡ []
-IsPart change mask (Some known) (Spelled m content) word = (m ≡ mask) × AgreesWith (length known) (places_of change mask) (Some known) content × (word ≡ extract content (places_of change mask))
-IsPart change mask (Some known) Opaque word = ⊥
+IsPart change mask None o word = (o ≡ Spelled (Some mask) None) × (length word ≡ count_by (λ bit. bit) (places_of change mask))
+IsPart change mask (Some known) o word = (content : List Bool) × IsFilled (places_of change mask) known word content × (o ≡ Spelled (Some mask) (Some content))
 
 -- with a mask: whether the content is whole, and the content
 abbrev pub IsContent : ℕ → Change → List Bool → Option (List Bool) → Outcome → List Bool → Type 0
@@ -68,9 +75,9 @@ abbrev pub IsUnsent : Change → Option (List Bool) → Option (List Bool) → O
 IsUnsent change None known = IsNothing
 IsUnsent change (Some mask) known = IsPart change mask known
 
--- whole content is sent without a mask
+-- whole content is sent without a mask; if none is deduced, it is not compared
 abbrev pub IsMaskless : ℕ → Change → Option (List Bool) → Option (List Bool) → Outcome → List Bool → Type 0
-IsMaskless f change None known = IsNothing
+IsMaskless f change None known = IsBitThen (IsWholeAlone f) NoWord
 IsMaskless f change (Some mask) known = IsBitThen (IsWhole f change mask known) NoWord
 
 -- a mask is sent, and then a content

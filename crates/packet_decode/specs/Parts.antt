@@ -1,14 +1,14 @@
 -- What the values stand for by which packets are read.
-use Rattle.std.specs.Prelude.{◌≡◌, ℕ, List, Bool, true, false, replicate, IfNone, IfSome, length, Option, None, Some}
+use Rattle.std.specs.Prelude.{◌≡◌, ℕ, ⊤, List, Bool, true, false, replicate, IfNone, IfSome, length, Option, None, Some}
 use Rattle.std.specs.Borrow.{Bor}
 use Rattle.std.specs.Option.{option_map}
 use Rattle.bit_vectors.specs.Vectors.{IsVector}
 use Rattle.packet_encode.specs.Forms.{Directions}
 use Rattle.packet_decode.specs.declared.draft.DataKind.{DataKind}
-use Rattle.packet_decode.specs.declared.draft.DataKind.TheVariants.{Deduced as DeducedKind, Sent as SentKind, Opaque as OpaqueKind}
+use Rattle.packet_decode.specs.declared.draft.DataKind.TheVariants.{Deduced as DeducedKind, Sent as SentKind, Maskless as MasklessKind, Opaque as OpaqueKind}
 use Rattle.packet_decode.specs.declared.draft.Draft.{Draft}
 use Rattle.packet_decode.specs.declared.draft.Latest.{Latest}
-use Rattle.packet_decode.specs.State.{State, Change}
+use Rattle.packet_decode.specs.State.{KnownVector, State, Change, known_if}
 use Rattle.packet_decode.specs.PacketReading.{Outcome, Spelled, Opaque}
 
 -- directions, where it was sent whether all recent changes are extracted
@@ -16,32 +16,46 @@ abbrev pub sent_directions : Option Bool → List Bool → Option Directions
 sent_directions None predictable = None
 sent_directions (Some twice) predictable = Some (record { predictable = predictable; twice = twice })
 
--- the deduced mask, or the sent one where none is deduced
-abbrev pub mask_or : Option (List Bool) → List Bool → List Bool
-mask_or None sent = sent
-mask_or (Some mask) sent = mask
-
 -- what the parts after the first one say, by the deduced mask, if there is one, the sent mask and the content
 abbrev pub outcome_of : DataKind → Option (List Bool) → List Bool → List Bool → Outcome
-outcome_of DeducedKind deduced sent content = Spelled (mask_or deduced sent) content
-outcome_of SentKind deduced sent content = Spelled sent content
+outcome_of (DeducedKind known) deduced sent content = Spelled deduced (known_if known content)
+outcome_of (SentKind known) deduced sent content = Spelled (Some sent) (known_if known content)
+outcome_of MasklessKind deduced sent content = Spelled None (Some content)
 outcome_of OpaqueKind deduced sent content = Opaque
 
 -- what they say under a mask, where the content is known or is not
 abbrev pub content_outcome : Bool → List Bool → List Bool → Outcome
-content_outcome true mask content = Spelled mask content
-content_outcome false mask content = Opaque
+content_outcome known mask content = Spelled (Some mask) (known_if known content)
 
--- the state
-abbrev pub state_by : Option ℕ → List Bool → List Bool → State
-state_by None mask content = None
-state_by (Some number) mask content = Some (record { number = number; mask = mask; content = content })
+-- the data have a content under a deduced mask
+abbrev pub IsDeduced : DataKind → Type 0
+IsDeduced (DeducedKind known) = ⊤
+IsDeduced (SentKind known) = ⊥
+IsDeduced MasklessKind = ⊥
+IsDeduced OpaqueKind = ⊥
 
--- the state of a decoder that keeps this as the latest packet
+-- whether they tell a mask, and whether they tell the content
+abbrev pub tells_mask : DataKind → Bool
+tells_mask (DeducedKind known) = true
+tells_mask (SentKind known) = true
+tells_mask MasklessKind = false
+tells_mask OpaqueKind = false
+
+abbrev pub tells_content : DataKind → Bool
+tells_content (DeducedKind known) = known
+tells_content (SentKind known) = known
+tells_content MasklessKind = true
+tells_content OpaqueKind = false
+
+-- a known vector, where there is a number
+abbrev pub part_by : Option ℕ → List Bool → Option KnownVector
+part_by number vector = option_map (λ n. record { number = n; vector = vector }) number
+
+-- the state of a decoder that keeps these
 abbrev pub kept_state : Latest → State
-kept_state latest = state_by latest.number latest.mask latest.content
+kept_state latest = record { mask = part_by latest.mask_number latest.mask; content = part_by latest.content_number latest.content }
 
--- the latest packet's vectors have so many places
+-- the latest vectors have so many places
 pub record IsLatest (f : ℕ) (latest : Latest) : Type 0 where
   pub mask : length latest.mask ≡ f
   pub content : length latest.content ≡ f
@@ -64,7 +78,8 @@ pub record IsReady (first : Change) (mask content : Option (List Bool)) (vectors
   pub known : IfSome content (λ v. length v ≡ length vectors.content)
   pub draft : IsDraft (length vectors.content) vectors
 
--- What holds of the parts of a decoder: the latest packet and its first part, and what is filled as the next one is read.
+-- What holds of the parts of a decoder: the latest vectors, the first part of the latest written packet, and what is filled
+-- as the next packet is read.
 pub record IsDecoder (latest : Latest) (shown next : Change) (deduced sent : List Bool) (draft : Draft) : Type 0 where
   pub vector : IsVector latest.content
   pub latest_vectors : IsLatest (length latest.content) latest
@@ -73,7 +88,7 @@ pub record IsDecoder (latest : Latest) (shown next : Change) (deduced sent : Lis
   pub deduced_places : length deduced ≡ length latest.content
   pub sent_places : length sent ≡ length latest.content
   pub draft_vectors : IsDraft (length latest.content) draft
-  pub first_mask : IfNone latest.number (latest.mask ≡ replicate (length latest.content) false)
-  pub first_content : IfNone latest.number (latest.content ≡ replicate (length latest.content) false)
-  pub first_recent : IfNone latest.number (shown.recent ≡ replicate (length latest.content) false)
-  pub first_level : IfNone latest.number (shown.level ≡ 0)
+  pub first_mask : IfNone latest.mask_number (latest.mask ≡ replicate (length latest.content) false)
+  pub first_content : IfNone latest.content_number (latest.content ≡ replicate (length latest.content) false)
+  pub first_recent : IfNone latest.content_number (shown.recent ≡ replicate (length latest.content) false)
+  pub first_level : IfNone latest.content_number (shown.level ≡ 0)

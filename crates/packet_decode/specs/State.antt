@@ -1,31 +1,57 @@
 -- What a decoder knows, and what a packet's first part says of the mask by that (CCSDS 124.0-B-1).
-use Rattle.std.specs.Prelude.{◌≡◌, ◌==◌, ℕ, ◌-◌, ◌≤◌, Bool, if◌then◌else◌, List, length, Option, None, Some, IfSome}
+use Rattle.std.specs.Prelude.{◌≡◌, ◌==◌, ℕ, ◌-◌, nat_le, Bool, true, false, if◌then◌else◌, List, length, Option, None, Some, IfSome}
+use Rattle.std.specs.Option.{option_map}
 use Rattle.bit_vectors.specs.Vectors.{xor_bits, or_bits, without_bits}
 use Rattle.packet_encode.specs.Forms.{Directions, Form}
 
--- a written packet: its number, its mask and its content
-pub record WrittenPacket : Type 0 where
+-- a vector that became known, and the number of the packet with which it did
+pub record KnownVector : Type 0 where
   pub number : ℕ
-  pub mask : List Bool
-  pub content : List Bool
+  pub vector : List Bool
 
--- the latest written packet, where there is one
-abbrev pub State : Type 0
-State = Option WrittenPacket
+-- The mask and the content of packets are known apart: the latest mask that became known and the latest content that did,
+-- each where there is one.
+pub record State : Type 0 where
+  pub mask : Option KnownVector
+  pub content : Option KnownVector
 
--- the packet's vectors have f places
-pub record HasVectors (f : ℕ) (packet : WrittenPacket) : Type 0 where
-  pub mask_places : length packet.mask ≡ f
-  pub content_places : length packet.content ≡ f
+-- nothing is known
+abbrev pub no_vectors : State
+no_vectors = record { mask = None; content = None }
 
-abbrev pub IsState : ℕ → State → Type 0
-IsState f state = IfSome state (HasVectors f)
+-- mask and content of the packet with this number are known
+abbrev pub both_known : ℕ → List Bool → List Bool → State
+both_known number mask content = record { mask = Some (record { number = number; vector = mask }); content = Some (record { number = number; vector = content }) }
 
--- the packet with the number t and this effective robustness level comes so soon after the latest written one that it
--- is understood by that: at most as many packets as the level says are between them
-abbrev pub InReach : State → ℕ → ℕ → Type 0
-InReach None t level = ⊥
-InReach (Some latest) t level = t - 1 - latest.number ≤ level
+-- a vector, where it is known
+abbrev pub known_if : Bool → List Bool → Option (List Bool)
+known_if true vector = Some vector
+known_if false vector = None
+
+-- what is known has f places
+abbrev pub HasVector : ℕ → Option KnownVector → Type 0
+HasVector f part = IfSome part (λ known. length known.vector ≡ f)
+
+pub record IsState (f : ℕ) (state : State) : Type 0 where
+  pub mask : HasVector f state.mask
+  pub content : HasVector f state.content
+
+-- What is known, where it is in reach of the packet with the number t and this effective robustness level: at most as many
+-- packets as the level says are between the one with which it became known and this one.
+abbrev pub in_reach : Option KnownVector → ℕ → ℕ → Option (List Bool)
+in_reach None t level = None
+in_reach (Some known) t level = if nat_le (t - 1 - known.number) level then Some known.vector else None
+
+-- ---- the state after a packet
+
+-- a part of it, by the vector that became known with the packet t, if one did
+abbrev pub next_part : Option KnownVector → ℕ → Option (List Bool) → Option KnownVector
+next_part part t None = part
+next_part part t (Some vector) = Some (record { number = t; vector = vector })
+
+-- the state, by the mask and the content that became known
+abbrev pub next_state : State → ℕ → Option (List Bool) → Option (List Bool) → State
+next_state state t mask content = record { mask = next_part state.mask t mask; content = next_part state.content t content }
 
 -- ---- the first part of a packet
 
@@ -50,6 +76,16 @@ mask_after mask change =
     if change.level == 0 then xor_bits mask change.recent
     else or_bits (without_bits mask change.recent) (unpredictable change.recent change.directions)
 
--- the mask after the latest packet's
-abbrev pub deduced_mask : WrittenPacket → Form → List Bool
-deduced_mask latest form = mask_after latest.mask (change_of form)
+-- the mask after another one, by a form
+abbrev pub deduced_mask : List Bool → Form → List Bool
+deduced_mask mask form = mask_after mask (change_of form)
+
+-- ---- what is in reach
+
+-- the mask that is deduced, where the known mask is in reach
+abbrev pub deduced_by : State → ℕ → Change → Option (List Bool)
+deduced_by state t change = option_map (λ mask. mask_after mask change) (in_reach state.mask t change.level)
+
+-- the known content, where it is in reach
+abbrev pub known_by : State → ℕ → Change → Option (List Bool)
+known_by state t change = in_reach state.content t change.level

@@ -1,9 +1,12 @@
 //! The content of a packet: all of it, or its extracted bits (CCSDS 124.0-B-1).
 
-ghost use Rattle.std.specs.Prelude.{◌≡◌, true, length, Some};
+ghost use Rattle.std.specs.Prelude.{◌≡◌, true, length, None, Some};
 ghost use Rattle.bit_vectors.specs.Eye.{bits_left};
-ghost use Rattle.bit_vectors.specs.Reading.{MovesOn};
-ghost use Rattle.packet_decode.specs.PacketReading.{Tells, parse_kept, parse_whole_with, parse_part_with, parse_content};
+ghost use Rattle.bit_vectors.specs.Reading.{Gives, MovesOn};
+ghost use Rattle.run_code.specs.Extraction.{parse_filled};
+ghost use Rattle.run_code.specs.Places.{places_down};
+ghost use Rattle.packet_encode.specs.Forms.{wide_by};
+ghost use Rattle.packet_decode.specs.PacketReading.{Tells, parse_kept, parse_whole_with, parse_whole_alone, parse_part_with, parse_content, Spelled};
 ghost use Rattle.packet_decode.specs.Parts.{IsDraft, IsReady, lent, content_outcome};
 
 use crate::change::FirstPart;
@@ -13,7 +16,7 @@ use count_code::match_count;
 use run_code::take_into;
 
 /// Takes whether the content is whole, and the content into the draft, under a mask. Answers whether it is known then:
-/// where no content is known, extracted bits are too little.
+/// if no content is known, extracted bits are too little.
 #[tactic(auto, unfolding(crate::specs::PacketReading::parse_content))]
 pub fn take_content(
     eye: &mut BitEye,
@@ -38,7 +41,7 @@ pub fn take_content(
     }
 }
 
-/// Takes the extracted bits, where a content is known, and answers whether it is.
+/// Takes the extracted bits, and answers whether they tell the content, which they do if one is known.
 #[tactic(auto, unfolding(crate::specs::PacketReading::parse_part_with))]
 pub fn take_part(
     eye: &mut BitEye,
@@ -55,17 +58,51 @@ pub fn take_part(
         (parse_part_with change.now mask.now (lent known.entry) (bits_left eye.old)) }
 {
     let Some(known) = known else {
+        take_untold(eye, change, mask, draft)?;
         return Ok(false);
     };
     draft.content.copy_from(known);
+    take_extracted(eye, change, mask, draft)?;
+    Ok(true)
+}
+
+/// Takes the extracted bits, which tell no content, since none is known. The draft has any content then.
+fn take_untold(
+    eye: &mut BitEye,
+    change: &FirstPart,
+    mask: &Bits,
+    draft: &mut Draft,
+) -> Result<(), BitFault>
+    requires ready { IsReady change.now (Some mask.now) None draft.old }
+    ensures draft { IsDraft (length draft.old.content) draft.new }
+    ensures moves { MovesOn eye.old eye.new }
+    ensures reading { Tells (λ _. Spelled (Some mask.now) None) result eye.new
+        (parse_part_with change.now mask.now None (bits_left eye.old)) }
+{
+    take_extracted(eye, change, mask, draft)
+}
+
+/// Takes the extracted bits into the content of the draft.
+fn take_extracted(
+    eye: &mut BitEye,
+    change: &FirstPart,
+    mask: &Bits,
+    draft: &mut Draft,
+) -> Result<(), BitFault>
+    requires ready { IsReady change.now (Some mask.now) None draft.old }
+    ensures draft { IsDraft (length draft.old.content) draft.new }
+    ensures moves { MovesOn eye.old eye.new }
+    ensures reading { Gives (λ _. draft.new.content) result eye.new
+        (parse_filled (places_down (wide_by change.now.directions change.now.recent mask.now))
+        draft.old.content (bits_left eye.old)) }
+{
     if change.is_wide() {
         draft.places.copy_from(mask);
         change.widen(&mut draft.places);
-        take_into(eye, &mut draft.content, &draft.places)?;
+        take_into(eye, &mut draft.content, &draft.places)
     } else {
-        take_into(eye, &mut draft.content, mask)?;
+        take_into(eye, &mut draft.content, mask)
     }
-    Ok(true)
 }
 
 /// Takes the whole content. Where one is known, it is that outside the extracted places.
@@ -98,6 +135,19 @@ pub fn take_whole(
         &mut draft.content,
         &mut draft.spare,
     )
+}
+
+/// Takes the whole content, any, since no mask is known.
+#[tactic(auto, unfolding(crate::specs::PacketReading::parse_whole_alone, crate::specs::PacketReading::parse_whole))]
+pub fn take_whole_alone(eye: &mut BitEye, draft: &mut Draft) -> Result<(), BitFault>
+    requires { IsDraft (length draft.old.content) draft.old }
+    ensures draft { IsDraft (length draft.old.content) draft.new }
+    ensures moves { MovesOn eye.old eye.new }
+    ensures reading { Tells (λ _. Spelled None (Some draft.new.content)) result eye.new
+        (parse_whole_alone (length draft.old.content) (bits_left eye.old)) }
+{
+    match_count(eye, draft.content.len())?;
+    eye.take_bits(&mut draft.content)
 }
 
 /// Takes a content that is the known one outside these places. The first bit that differs is wrong. It is

@@ -5,10 +5,10 @@ ghost use Rattle.std.specs.Prelude.{◌≡◌, Bool, List, length, IfOk, IsSome}
 ghost use Rattle.bit_vectors.specs.Eye.{bits_left};
 ghost use Rattle.bit_vectors.specs.Reading.{MovesOn};
 ghost use Rattle.packet_decode.specs.PacketReading.{Tells, parse_unsent, parse_maskless, parse_masked, parse_data};
-ghost use Rattle.packet_decode.specs.Parts.{IsDraft, IsReady, lent, outcome_of};
+ghost use Rattle.packet_decode.specs.Parts.{IsDeduced, IsDraft, IsReady, lent, outcome_of};
 
 use crate::change::FirstPart;
-use crate::content::{take_content, take_part, take_whole};
+use crate::content::{take_content, take_part, take_whole, take_whole_alone};
 use crate::draft::{DataKind, Draft};
 use crate::mask::{match_mask, read_mask};
 use bit_vectors::{BitEye, BitFault, Bits};
@@ -26,7 +26,7 @@ pub fn take_data(
 ) -> Result<DataKind, BitFault>
     requires ready { IsReady change.now (lent deduced) (lent known) draft.old }
     requires sent { length sent.old ≡ length draft.old.content }
-    ensures deduced { IfOk result (λ kind. kind ≡ DataKind.Deduced → IsSome (lent deduced.entry)) }
+    ensures deduced { IfOk result (λ kind. IsDeduced kind → IsSome (lent deduced.entry)) }
     ensures draft { IsDraft (length draft.old.content) draft.new }
     ensures sent { length sent.new ≡ length sent.old }
     ensures moves { MovesOn eye.old eye.new }
@@ -54,7 +54,7 @@ fn take_unsent(
     draft: &mut Draft,
 ) -> Result<DataKind, BitFault>
     requires { IsReady change.now (lent deduced) (lent known) draft.old }
-    ensures deduced { IfOk result (λ kind. kind ≡ DataKind.Deduced → IsSome (lent deduced.entry)) }
+    ensures deduced { IfOk result (λ kind. IsDeduced kind → IsSome (lent deduced.entry)) }
     ensures draft { IsDraft (length draft.old.content) draft.new }
     ensures moves { MovesOn eye.old eye.new }
     ensures reading { (sent : List Bool) → Tells
@@ -64,14 +64,10 @@ fn take_unsent(
     let Some(mask) = deduced else {
         return Ok(DataKind::Opaque);
     };
-    if take_part(eye, change, mask, known, draft)? {
-        Ok(DataKind::Deduced)
-    } else {
-        Ok(DataKind::Opaque)
-    }
+    Ok(DataKind::Deduced(take_part(eye, change, mask, known, draft)?))
 }
 
-/// Takes what follows where the content must be whole, since no mask is sent.
+/// Takes whole content, which follows if no mask is sent here.
 #[tactic(auto, unfolding(crate::specs::PacketReading::parse_maskless))]
 fn take_maskless(
     eye: &mut BitEye,
@@ -81,7 +77,7 @@ fn take_maskless(
     draft: &mut Draft,
 ) -> Result<DataKind, BitFault>
     requires { IsReady change.now (lent deduced) (lent known) draft.old }
-    ensures deduced { IfOk result (λ kind. kind ≡ DataKind.Deduced → IsSome (lent deduced.entry)) }
+    ensures deduced { IfOk result (λ kind. IsDeduced kind → IsSome (lent deduced.entry)) }
     ensures draft { IsDraft (length draft.old.content) draft.new }
     ensures moves { MovesOn eye.old eye.new }
     ensures reading { (sent : List Bool) → Tells
@@ -89,12 +85,13 @@ fn take_maskless(
         (parse_maskless (length draft.old.content) change.now (lent deduced.entry)
         (lent known.entry) (bits_left eye.old)) }
 {
-    let Some(mask) = deduced else {
-        return Ok(DataKind::Opaque);
-    };
     eye.take_allowed(false, true)?;
+    let Some(mask) = deduced else {
+        take_whole_alone(eye, draft)?;
+        return Ok(DataKind::Maskless);
+    };
     take_whole(eye, change, mask, known, draft)?;
-    Ok(DataKind::Deduced)
+    Ok(DataKind::Deduced(true))
 }
 
 /// Takes what follows where a mask is sent, which is the deduced one if there is one.
@@ -109,7 +106,7 @@ fn take_masked(
 ) -> Result<DataKind, BitFault>
     requires ready { IsReady change.now (lent deduced) (lent known) draft.old }
     requires sent { length sent.old ≡ length draft.old.content }
-    ensures deduced { IfOk result (λ kind. kind ≡ DataKind.Deduced → IsSome (lent deduced.entry)) }
+    ensures deduced { IfOk result (λ kind. IsDeduced kind → IsSome (lent deduced.entry)) }
     ensures draft { IsDraft (length draft.old.content) draft.new }
     ensures sent { length sent.new ≡ length sent.old }
     ensures moves { MovesOn eye.old eye.new }
@@ -118,25 +115,10 @@ fn take_masked(
         (parse_masked (length draft.old.content) change.now (lent deduced.entry)
         (lent known.entry) (bits_left eye.old)) }
 {
-    let (kind, is_known) = match deduced {
-        Some(mask) => {
-            match_mask(eye, mask, &mut draft.spare)?;
-            (
-                DataKind::Deduced,
-                take_content(eye, change, mask, known, draft)?,
-            )
-        }
-        None => {
-            read_mask(eye, sent, &mut draft.spare)?;
-            (
-                DataKind::Sent,
-                take_content(eye, change, sent, known, draft)?,
-            )
-        }
+    let Some(mask) = deduced else {
+        read_mask(eye, sent, &mut draft.spare)?;
+        return Ok(DataKind::Sent(take_content(eye, change, sent, known, draft)?));
     };
-    if is_known {
-        Ok(kind)
-    } else {
-        Ok(DataKind::Opaque)
-    }
+    match_mask(eye, mask, &mut draft.spare)?;
+    Ok(DataKind::Deduced(take_content(eye, change, mask, known, draft)?))
 }

@@ -1,15 +1,15 @@
-//! The decoder: the latest written packet, and the reading of the next.
+//! The decoder: the latest known mask and content, and the reading of the next packet.
 
-ghost use Rattle.std.specs.Prelude.{◌≡◌, ◌^◌, ◌<◌, ◌≤◌, ◌↔◌, Bool, false, List, length, replicate, Some, None, Ok, IfSome, IfNone, IfOk};
+ghost use Rattle.std.specs.Prelude.{◌≡◌, ◌^◌, ◌<◌, ◌≤◌, ◌↔◌, Bool, true, false, List, length, replicate, Option, Some, None, Ok, IfSome, IfNone, IfOk};
 ghost use Rattle.std.specs.Bool.{OnTrue, OnFalse};
 ghost use Rattle.bit_vectors.specs.Vectors.{IsVector, bits_of};
 ghost use Rattle.packet_encode.specs.Forms.{Form};
-ghost use Rattle.packet_decode.specs.State.{IsState};
+ghost use Rattle.packet_decode.specs.State.{IsState, next_state, no_vectors};
 ghost use Rattle.packet_decode.specs.Spelling.{Spells};
 ghost use Rattle.packet_decode.specs.Answers.{Says, IsExactAnswer};
-ghost use Rattle.packet_decode.specs.PacketReading.{Opaque, outcome_answer};
-ghost use Rattle.packet_decode.specs.Parts.{state_by};
-ghost use Rattle.packet_decode.specs.Decoding.{latest_number, latest_mask, latest_content};
+ghost use Rattle.packet_decode.specs.PacketReading.{missed};
+ghost use Rattle.packet_decode.specs.Parts.{IsDeduced, part_by, tells_mask};
+ghost use Rattle.packet_decode.specs.Decoding.{latest_number, latest_mask_number, latest_mask, latest_content, tells_nothing};
 
 use crate::change::FirstPart;
 use crate::draft::{DataKind, Draft, Latest};
@@ -22,17 +22,19 @@ use std::mem::swap;
 /// What the data of a packet were.
 #[derive(Clone, Copy, Debug, PartialEq, Eq)]
 pub enum Reading {
-    /// They spell a packet, which is now the latest written one.
+    /// They spell a packet whose content became known. It is now the latest written one.
     Written,
-    /// No packet was written so far, and they don't stand alone.
-    Unsynced,
-    /// They don't stand alone, and the latest written packet is too far back for their effective robustness level.
-    Gap { level: u8 },
+    /// The content didn't become known, and none is known so far. `mask` tells whether the mask became known; if not, no
+    /// mask is known so far.
+    Unsynced { mask: bool },
+    /// The content didn't become known. `mask` tells whether the mask became known. The content that is known, or the mask
+    /// if it didn't become known, is of a packet too far back for this effective robustness level.
+    Gap { level: u8, mask: bool },
 }
 
-/// Reads the data of packets with vectors of 1 to 49,152 places, and keeps the latest written packet.
-/// Contracts see the number of places, that packet, the recent changes of its mask and its effective robustness
-/// level.
+/// Reads the data of packets with vectors of 1 to 49,152 places, and keeps the latest mask and the latest content that
+/// became known, which may be those of different packets. Contracts see the number of places, these two, each with the
+/// number of its packet, and the recent changes and the effective robustness level of the latest written packet.
 #[derive(Debug, Drop)]
 pub struct Decoder {
     latest: Latest,
@@ -61,7 +63,7 @@ impl Decoder {
         requires some { 1 ≤ f }
         requires most { f ≤ 49152 }
         ensures { IfOk result
-            (λ d. d ≡ record { places = f; state = None; recent = replicate f false; level = 0 }) }
+            (λ d. d ≡ record { places = f; state = no_vectors; recent = replicate f false; level = 0 }) }
     {
         let latest = Latest::none(alloc, f)?;
         let shown = FirstPart::zeros(alloc, f)?;
@@ -79,28 +81,37 @@ impl Decoder {
         })
     }
 
-    /// Reads the data of the packet with the number `t`, at most 65,536 bytes. Where they spell a packet, that
-    /// is then the latest one; else nothing changes. A fault names the first bit after which the data can neither
-    /// spell a packet nor be those of one that can't be understood (CCSDS 124.0-B-1).
+    /// Reads the data of the packet with the number `t`, at most 65,536 bytes. If they spell a packet, its mask is then
+    /// the latest known one, if it became known, and so is its content; else nothing changes. A fault names the first bit
+    /// after which the data can neither spell a packet nor be those of one that can't be understood (CCSDS 124.0-B-1).
     pub fn read(&mut self, t: u64, bytes: &[u8]) -> Result<Reading, BitFault>
         requires number { t < 2 ^ 62 }
         requires later { IfSome (latest_number self.old.state) (λ last. last < t) }
+        requires later_mask { IfSome (latest_mask_number self.old.state) (λ last. last < t) }
         requires size { length bytes.now ≤ 65536 }
         // Each answer comes exactly where it is the right one, and a fault names the first bit.
         ensures exact { IsExactAnswer self.old.places self.old.state t (bits_of bytes.now) result }
         // Written, Unsynced and Gap come exactly where the bits say so.
         ensures says { (reading : Reading) → (result ≡ Ok reading) ↔
             Says self.old.places self.old.state t (bits_of bytes.now) reading }
-        // The packet that the bits spell is then the latest written one.
-        ensures latest { (form : Form) (mask content : List Bool) →
-            Spells self.old.places self.old.state t (bits_of bytes.now) form mask content →
+        // What the bits tell is then known, and the rest stays.
+        ensures written { (form : Form) (mask : Option (List Bool)) (content : List Bool) →
+            Spells self.old.places self.old.state t (bits_of bytes.now) form mask (Some content) →
             self.new ≡ record {
               places = self.old.places;
-              state = Some (record { number = t; mask = mask; content = content });
+              state = next_state self.old.state t mask (Some content);
               recent = form.recent;
               level = form.level;
             } }
-        ensures unchanged { (result ≡ Ok Reading.Written → ⊥) → self.new ≡ self.old }
+        ensures mask_alone { (form : Form) (mask : Option (List Bool)) →
+            Spells self.old.places self.old.state t (bits_of bytes.now) form mask None →
+            self.new ≡ record {
+              places = self.old.places;
+              state = next_state self.old.state t mask None;
+              recent = self.old.recent;
+              level = self.old.level;
+            } }
+        ensures unchanged { tells_nothing result ≡ true → self.new ≡ self.old }
         ensures places { self.new.places ≡ self.old.places }
     {
         let mut eye = BitEye::new(bytes);
@@ -114,18 +125,22 @@ impl Decoder {
             &mut self.draft,
         )?;
         if kind.is_opaque() {
-            return Ok(missed(self.latest.number, self.next.level()));
+            return Ok(missed(self.latest.mask_number, self.next.level(), false));
         }
-        replace_mask(
-            &mut self.latest.mask,
+        keep_mask(
+            &mut self.latest,
+            t,
             kind,
             self.next.is_quiet(),
             &mut self.deduced,
             &mut self.sent,
         );
+        if !kind.tells_content() {
+            return Ok(missed(self.latest.content_number, self.next.level(), true));
+        }
         swap(&mut self.shown, &mut self.next);
         swap(&mut self.latest.content, &mut self.draft.content);
-        self.latest.number = Some(t);
+        self.latest.content_number = Some(t);
         Ok(Reading::Written)
     }
 
@@ -134,7 +149,14 @@ impl Decoder {
         ensures number { result ≡ latest_number self.now.state }
         ensures state { IsState self.now.places self.now.state }
     {
-        self.latest.number
+        self.latest.content_number
+    }
+
+    /// The number of the latest packet whose mask became known, and nothing before the first.
+    pub fn last_mask(&self) -> Option<u64>
+        ensures number { result ≡ latest_mask_number self.now.state }
+    {
+        self.latest.mask_number
     }
 
     /// The content of the latest written packet, and zeros before the first.
@@ -146,7 +168,7 @@ impl Decoder {
         &self.latest.content
     }
 
-    /// The mask of the latest written packet, and zeros before the first.
+    /// The latest mask that became known, and zeros before the first.
     pub fn mask(&self) -> &Bits
         ensures mask { result.now ≡ latest_mask self.now.places self.now.state }
         ensures places { length result.now ≡ self.now.places }
@@ -157,7 +179,7 @@ impl Decoder {
     /// The recent changes of the mask by the latest written packet, and zeros before the first.
     pub fn recent(&self) -> &Bits
         ensures recent { result.now ≡ self.now.recent }
-        ensures first { IfNone self.now.state (result.now ≡ replicate self.now.places false) }
+        ensures first { IfNone self.now.state.content (result.now ≡ replicate self.now.places false) }
         ensures places { length result.now ≡ self.now.places }
     {
         self.shown.recent()
@@ -167,44 +189,51 @@ impl Decoder {
     pub fn level(&self) -> u8
         ensures level { result ≡ self.now.level }
         ensures most { result < 16 }
-        ensures first { IfNone self.now.state (result ≡ 0) }
+        ensures first { IfNone self.now.state.content (result ≡ 0) }
     {
         self.shown.level()
     }
 }
 
-/// Makes the mask of a packet that is spelled the latest one: the sent one, or the deduced one, which is the latest one
-/// itself if nothing changed.
-fn replace_mask(
-    latest: &mut Bits,
+/// Makes the mask that the packet with the number `t` tells the latest one: the sent one, or the deduced one, which is the
+/// latest one itself if nothing changed. If it tells none, nothing changes.
+fn keep_mask(
+    latest: &mut Latest,
+    t: u64,
     kind: DataKind,
     is_quiet: bool,
     deduced: &mut Bits,
     sent: &mut Bits,
 )
-    requires deduced { length deduced.old ≡ length latest.old }
-    requires sent { length sent.old ≡ length latest.old }
-    ensures sent { kind ≡ DataKind.Sent → latest.new ≡ sent.old }
-    ensures stays { kind ≡ DataKind.Deduced → OnTrue is_quiet (latest.new ≡ latest.old) }
-    ensures changed { kind ≡ DataKind.Deduced → OnFalse is_quiet (latest.new ≡ deduced.old) }
-    ensures latest_places { length latest.new ≡ length latest.old }
+    requires deduced { length deduced.old ≡ length latest.old.mask }
+    requires sent { length sent.old ≡ length latest.old.mask }
+    ensures sent { (known : Bool) → kind ≡ DataKind.Sent known → latest.new.mask ≡ sent.old }
+    ensures stays { IsDeduced kind → OnTrue is_quiet (latest.new.mask ≡ latest.old.mask) }
+    ensures changed { IsDeduced kind → OnFalse is_quiet (latest.new.mask ≡ deduced.old) }
+    ensures number { tells_mask kind ≡ true → latest.new.mask_number ≡ Some t }
+    ensures untold { tells_mask kind ≡ false → latest.new ≡ latest.old }
+    ensures content { latest.new.content ≡ latest.old.content }
+    ensures content_number { latest.new.content_number ≡ latest.old.content_number }
+    ensures mask_places { length latest.new.mask ≡ length latest.old.mask }
     ensures deduced_places { length deduced.new ≡ length deduced.old }
     ensures sent_places { length sent.new ≡ length sent.old }
 {
     match kind {
-        DataKind::Sent => swap(latest, sent),
-        DataKind::Deduced if !is_quiet => swap(latest, deduced),
-        DataKind::Deduced | DataKind::Opaque => {}
+        DataKind::Sent(_) => swap(&mut latest.mask, sent),
+        DataKind::Deduced(_) if !is_quiet => swap(&mut latest.mask, deduced),
+        DataKind::Deduced(_) => {}
+        DataKind::Maskless | DataKind::Opaque => return,
     }
+    latest.mask_number = Some(t);
 }
 
-/// The answer to an opaque front of this level.
-fn missed(last: Option<u64>, level: u8) -> Reading
-    ensures { (mask content : List Bool)
-        → result ≡ outcome_answer (state_by last mask content) level Opaque }
+/// The answer where a part did not become known that was last known with this packet, if with any. `mask` tells whether
+/// the mask became known.
+fn missed(last: Option<u64>, level: u8, mask: bool) -> Reading
+    ensures { (vector : List Bool) → result ≡ missed (part_by last vector) level mask }
 {
     match last {
-        None => Reading::Unsynced,
-        Some(_) => Reading::Gap { level },
+        None => Reading::Unsynced { mask },
+        Some(_) => Reading::Gap { level, mask },
     }
 }

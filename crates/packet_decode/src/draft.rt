@@ -1,27 +1,31 @@
-//! The latest written packet, and the vectors that reading the next one fills.
+//! The latest known vectors, and the vectors that reading the next packet fills.
 
 ghost use Rattle.std.specs.Prelude.{◌≡◌, ◌≤◌, ◌↔◌, false, replicate, None, IfOk, IsTrue};
-ghost use Rattle.packet_decode.specs.Parts.{IsDraft};
+ghost use Rattle.packet_decode.specs.Parts.{IsDraft, tells_content};
 
 use bit_vectors::{Bits, NoMemory};
 use std::alloc::Global;
 
-/// The latest written packet. Its vectors are zero before the first.
+/// The latest mask that became known and the latest content that did, each with the number of its packet. Before the
+/// first they are zero.
 #[derive(Debug, Drop)]
 pub struct Latest {
-    pub number: Option<u64>,
+    pub mask_number: Option<u64>,
     /// The mask: ones where the content can't be predicted.
     pub mask: Bits,
+    pub content_number: Option<u64>,
     pub content: Bits,
 }
 
 /// What the parts after the first one are.
 #[derive(Clone, Copy, Debug, PartialEq, Eq)]
 pub enum DataKind {
-    /// They have a content, under the deduced mask.
-    Deduced,
-    /// They have a mask, of which none was deduced, and a content.
-    Sent,
+    /// They are read under the deduced mask. Whether they tell the content.
+    Deduced(bool),
+    /// They have a mask, of which none was deduced. Whether they tell the content.
+    Sent(bool),
+    /// They have whole content, and no mask is known.
+    Maskless,
     /// They have too little to be understood.
     Opaque,
 }
@@ -37,19 +41,21 @@ pub struct Draft {
 }
 
 impl Latest {
-    /// No packet, of `f` places.
+    /// Nothing, of `f` places.
     pub fn none(alloc: Global, f: u32) -> Result<Latest, NoMemory>
         requires some { 1 ≤ f }
         requires most { f ≤ 49152 }
-        ensures number { IfOk result (λ latest. latest.number ≡ None) }
+        ensures mask_number { IfOk result (λ latest. latest.mask_number ≡ None) }
+        ensures content_number { IfOk result (λ latest. latest.content_number ≡ None) }
         ensures mask { IfOk result (λ latest. latest.mask ≡ replicate f false) }
         ensures content { IfOk result (λ latest. latest.content ≡ replicate f false) }
     {
         let mask = Bits::zeros(alloc, f)?;
         let content = Bits::zeros(alloc, f)?;
         Ok(Latest {
-            number: None,
+            mask_number: None,
             mask,
+            content_number: None,
             content,
         })
     }
@@ -61,6 +67,17 @@ impl DataKind {
         ensures { IsTrue result ↔ (self ≡ DataKind.Opaque) }
     {
         matches!(self, DataKind::Opaque)
+    }
+
+    /// Whether they tell the content.
+    pub fn tells_content(self) -> bool
+        ensures { result ≡ tells_content self }
+    {
+        match self {
+            DataKind::Deduced(known) | DataKind::Sent(known) => known,
+            DataKind::Maskless => true,
+            DataKind::Opaque => false,
+        }
     }
 }
 

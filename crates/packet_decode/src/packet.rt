@@ -3,9 +3,9 @@
 ghost use Rattle.std.specs.Prelude.{◌≡◌, ◌≢◌, ◌<◌, false, length, replicate, IfOk, IfSome, IsSome, OnOk};
 ghost use Rattle.bit_vectors.specs.Eye.{bits_left};
 ghost use Rattle.bit_vectors.specs.Reading.{MovesOn};
-ghost use Rattle.packet_decode.specs.PacketReading.{Tells, deduced_by, parse_parts, parse_whole_packet};
-ghost use Rattle.packet_decode.specs.Parts.{IsLatest, IsDraft, outcome_of, kept_state};
-ghost use Rattle.packet_encode.specs.Deliveries.{reaches};
+ghost use Rattle.packet_decode.specs.PacketReading.{Tells, parse_parts, parse_whole_packet};
+ghost use Rattle.packet_decode.specs.Parts.{IsDeduced, IsLatest, IsDraft, lent, outcome_of, kept_state, part_by};
+ghost use Rattle.packet_decode.specs.State.{deduced_by, in_reach};
 
 use crate::change::FirstPart;
 use crate::data::take_data;
@@ -26,7 +26,8 @@ pub fn take_whole_packet(
     draft: &mut Draft,
 ) -> Result<DataKind, BitFault>
     requires start { eye.old.place ≡ 0 }
-    requires later { IfSome latest.now.number (λ last. last < t) }
+    requires later { IfSome latest.now.content_number (λ last. last < t) }
+    requires later_mask { IfSome latest.now.mask_number (λ last. last < t) }
     requires latest { IsLatest (length draft.old.content) latest.now }
     requires next { length next.old.recent ≡ length draft.old.content }
     requires deduced { length deduced.old ≡ length draft.old.content }
@@ -36,7 +37,7 @@ pub fn take_whole_packet(
     ensures deduced { length deduced.new ≡ length deduced.old }
     ensures sent { length sent.new ≡ length sent.old }
     ensures draft { IsDraft (length draft.old.content) draft.new }
-    ensures deduced_by { IfOk result (λ kind. kind ≡ DataKind.Deduced
+    ensures deduced_by { IfOk result (λ kind. IsDeduced kind
         → IsSome (deduced_by (kept_state latest.now) t next.new)) }
     ensures changed { OnOk result (next.new.recent ≢ replicate (length next.new.recent) false
         → IfSome (deduced_by (kept_state latest.now) t next.new) (λ mask. deduced.new ≡ mask)) }
@@ -56,7 +57,8 @@ pub fn take_whole_packet(
     Ok(kind)
 }
 
-/// Takes all parts of a packet. In reach, behind the first of them, the mask is deduced and the content known.
+/// Takes all parts of a packet. After the first of them, the mask is deduced if the known mask is in reach, and the
+/// content is known if that is in reach.
 #[tactic(auto, unfolding(crate::specs::PacketReading::parse_parts))]
 fn take_parts(
     eye: &mut BitEye,
@@ -67,7 +69,8 @@ fn take_parts(
     sent: &mut Bits,
     draft: &mut Draft,
 ) -> Result<DataKind, BitFault>
-    requires later { IfSome latest.now.number (λ last. last < t) }
+    requires later { IfSome latest.now.content_number (λ last. last < t) }
+    requires later_mask { IfSome latest.now.mask_number (λ last. last < t) }
     requires latest { IsLatest (length draft.old.content) latest.now }
     requires next { length next.old.recent ≡ length draft.old.content }
     requires deduced { length deduced.old ≡ length draft.old.content }
@@ -77,7 +80,7 @@ fn take_parts(
     ensures deduced { length deduced.new ≡ length deduced.old }
     ensures sent { length sent.new ≡ length sent.old }
     ensures draft { IsDraft (length draft.old.content) draft.new }
-    ensures deduced_by { IfOk result (λ kind. kind ≡ DataKind.Deduced
+    ensures deduced_by { IfOk result (λ kind. IsDeduced kind
         → IsSome (deduced_by (kept_state latest.now) t next.new)) }
     ensures changed { OnOk result (next.new.recent ≢ replicate (length next.new.recent) false
         → IfSome (deduced_by (kept_state latest.now) t next.new) (λ mask. deduced.new ≡ mask)) }
@@ -92,38 +95,28 @@ fn take_parts(
         (bits_left eye.old)) }
 {
     next.take(eye)?;
-    if !is_in_reach(latest.number, t, next.level()) {
-        return take_data(eye, next, None, None, sent, draft);
-    }
+    let level = next.level();
+    let known = in_reach_of(latest.content_number, &latest.content, t, level);
+    let Some(mask) = in_reach_of(latest.mask_number, &latest.mask, t, level) else {
+        return take_data(eye, next, None, known, sent, draft);
+    };
     if next.is_quiet() {
-        return take_data(
-            eye,
-            next,
-            Some(&latest.mask),
-            Some(&latest.content),
-            sent,
-            draft,
-        );
+        return take_data(eye, next, Some(mask), known, sent, draft);
     }
-    deduced.copy_from(&latest.mask);
+    deduced.copy_from(mask);
     next.deduce(deduced, &mut draft.spare);
-    take_data(
-        eye,
-        next,
-        Some(&*deduced),
-        Some(&latest.content),
-        sent,
-        draft,
-    )
+    take_data(eye, next, Some(&*deduced), known, sent, draft)
 }
 
-/// Whether the packet with the number `t` and this level is in reach of that with the number `last`.
-fn is_in_reach(last: Option<u64>, t: u64, level: u8) -> bool
+/// A known vector, if the packet with the number `t` and this level is in reach of the one with which it became known.
+fn in_reach_of(last: Option<u64>, vector: &Bits, t: u64, level: u8) -> Option<&Bits>
     requires { IfSome last (λ last. last < t) }
-    ensures { result ≡ reaches last t level }
+    ensures { lent result ≡ in_reach (part_by last vector.now) t level }
 {
-    match last {
-        None => false,
-        Some(last) => t - 1 - last <= u64::from(level),
+    let last = last?;
+    if t - 1 - last <= u64::from(level) {
+        Some(vector)
+    } else {
+        None
     }
 }

@@ -21,8 +21,8 @@ pub fn take_padding(eye: &mut BitEye, kind: DataKind) -> Result<(), BitFault>
 {
     let place = eye.at();
     match kind {
-        DataKind::Deduced | DataKind::Sent => eye.match_number(0, (8 - place % 8) % 8),
         DataKind::Opaque => Ok(()),
+        _ => eye.match_number(0, (8 - place % 8) % 8),
     }
 }
 
@@ -34,7 +34,7 @@ pub fn take_end(eye: &mut BitEye, kind: DataKind) -> Result<(), BitFault>
         Gives (λ _. tt) result eye.new
         (parse_end (outcome_of kind deduced sent content) (bits_left eye.old)) }
 {
-    if kind != DataKind::Opaque && eye.take().is_some() {
+    if !kind.is_opaque() && eye.take().is_some() {
         return Err(BitFault::Wrong { bit: eye.at() - 1 });
     }
     Ok(())

@@ -11,6 +11,7 @@ use std::test::Fail;
 struct Run<'a> {
     packets: &'a [(u64, &'a [u8], Answer)],
     last: Option<u64>,
+    last_mask: Option<u64>,
     mask: u8,
     content: u8,
     recent: u8,
@@ -21,8 +22,8 @@ struct Run<'a> {
 #[derive(Clone, Copy)]
 enum Answer {
     Written,
-    Unsynced,
-    Gap(u8),
+    Unsynced(bool),
+    Gap(u8, bool),
     Early(u32),
     Wrong(u32),
 }
@@ -33,8 +34,8 @@ impl Answer {
     fn result(self) -> Result<Reading, BitFault> {
         match self {
             Written => Ok(Reading::Written),
-            Unsynced => Ok(Reading::Unsynced),
-            Gap(level) => Ok(Reading::Gap { level }),
+            Unsynced(mask) => Ok(Reading::Unsynced { mask }),
+            Gap(level, mask) => Ok(Reading::Gap { level, mask }),
             Early(bit) => Err(BitFault::EndsEarly { bit }),
             Wrong(bit) => Err(BitFault::Wrong { bit }),
         }
@@ -44,6 +45,11 @@ impl Answer {
 /// Whether the data have their answer, where they may be read.
 fn answers(decoder: &mut Decoder, t: u64, data: &[u8], answer: Answer) -> bool {
     if let Some(last) = decoder.last() {
+        if last >= t {
+            return false;
+        }
+    }
+    if let Some(last) = decoder.last_mask() {
         if last >= t {
             return false;
         }
@@ -67,6 +73,7 @@ fn passes(decoder: &mut Decoder, run: &Run<'_>) -> bool {
         }
     }
     decoder.last() == run.last
+        && decoder.last_mask() == run.last_mask
         && byte(decoder.mask()) == run.mask
         && byte(decoder.content()) == run.content
         && byte(decoder.recent()) == run.recent
@@ -96,6 +103,7 @@ const FRONTS: Run<'static> = Run {
         (3, &[0xC0, 0x85, 0xC0], Written),
     ],
     last: Some(3),
+    last_mask: Some(3),
     mask: 0x03,
     content: 0xB3,
     recent: 0x02,
@@ -130,6 +138,7 @@ const DIRECTIONS: Run<'static> = Run {
         (5, &[0x47, 0xF0], Written),
     ],
     last: Some(5),
+    last_mask: Some(5),
     mask: 0x00,
     content: 0x01,
     recent: 0x01,
@@ -143,11 +152,11 @@ const ALONE: Run<'static> = Run {
         (0, &[0x85, 0xB8, 0xC0, 0x00], Written),
         (1, &[0x42, 0x4B, 0x8C, 0x02], Written),
         (4, &[], Early(0)),
-        (4, &[0x87], Gap(1)),
-        (4, &[0x87, 0x80], Gap(1)),
+        (4, &[0x87], Gap(1, false)),
+        (4, &[0x87, 0x80], Gap(1, false)),
         (5, &[], Early(0)),
-        (5, &[0x8B], Gap(2)),
-        (5, &[0x8B, 0x80], Gap(2)),
+        (5, &[0x8B], Gap(2, false)),
+        (5, &[0x8B, 0x80], Gap(2, false)),
         (6, &[], Early(0)),
         (6, &[0x8D], Early(8)),
         (6, &[0x8D, 0x60], Early(16)),
@@ -156,6 +165,7 @@ const ALONE: Run<'static> = Run {
         (6, &[0x8D, 0x60, 0x5C, 0x60, 0x30], Written),
     ],
     last: Some(6),
+    last_mask: Some(6),
     mask: 0x03,
     content: 0x03,
     recent: 0x00,
@@ -179,6 +189,7 @@ const FAULTS: Run<'static> = Run {
         (1, &[0x42, 0x4B, 0x8D, 0x62], Written),
     ],
     last: Some(1),
+    last_mask: Some(1),
     mask: 0x01,
     content: 0xB1,
     recent: 0x01,
@@ -189,10 +200,11 @@ const FAULTS: Run<'static> = Run {
 const REACH: Run<'static> = Run {
     packets: &[
         (0, &[0x85, 0xB8, 0xD6, 0x00], Written),
-        (2, &[0x82], Gap(0)),
+        (2, &[0x82], Gap(0, false)),
         (3, &[0x8A], Written),
     ],
     last: Some(3),
+    last_mask: Some(3),
     mask: 0x00,
     content: 0xB0,
     recent: 0x00,
@@ -203,10 +215,99 @@ const REACH: Run<'static> = Run {
 const UNSYNCED: Run<'static> = Run {
     packets: &[
         (0, &[0x85, 0xB8, 0xF6, 0x00], Wrong(18)),
-        (5, &[0x82], Unsynced),
+        (5, &[0x82], Unsynced(false)),
     ],
     last: None,
+    last_mask: None,
     mask: 0x00,
+    content: 0x00,
+    recent: 0x00,
+    level: 0,
+};
+
+/// A recording `00 01 03 03 02 02`, of which 1 and 2 are lost. Whole content without a mask; then a mask under which the
+/// content is known.
+const CONTENT_FIRST: Run<'static> = Run {
+    packets: &[
+        (0, &[0x81, 0xB8, 0xC0, 0x00], Written),
+        (3, &[], Early(0)),
+        (3, &[0x80], Early(8)),
+        (3, &[0x80, 0xE3], Early(16)),
+        (3, &[0x80, 0xE3, 0x01], Early(24)),
+        (3, &[0x80, 0x00], Wrong(8)),
+        (3, &[0x80, 0xE3, 0x01, 0x80], Written),
+        (4, &[0x85, 0x60, 0x44], Written),
+        (5, &[0x8A, 0x80], Written),
+    ],
+    last: Some(5),
+    last_mask: Some(5),
+    mask: 0x03,
+    content: 0x02,
+    recent: 0x00,
+    level: 2,
+};
+
+/// The content of 3 leaves the mask of 0.
+const CONTENT_ALONE: Run<'static> = Run {
+    packets: &[
+        (0, &[0x81, 0xB8, 0xC0, 0x00], Written),
+        (3, &[0x80, 0xE3, 0x01, 0x80], Written),
+    ],
+    last: Some(3),
+    last_mask: Some(0),
+    mask: 0x00,
+    content: 0x03,
+    recent: 0x00,
+    level: 0,
+};
+
+/// The same recording. A mask whose extracted bits tell no content; then whole content; then extracted bits under both.
+const MASK_FIRST: Run<'static> = Run {
+    packets: &[
+        (0, &[0x81, 0xB8, 0xC0, 0x00], Written),
+        (3, &[0x81], Early(8)),
+        (3, &[0x81, 0x60], Early(16)),
+        (3, &[0x81, 0x60, 0x4D], Wrong(23)),
+        (3, &[0x81, 0x60, 0x4C, 0x00], Wrong(24)),
+        (3, &[0x81, 0x60, 0x4C], Gap(0, true)),
+        (4, &[0x84, 0x00], Wrong(8)),
+        (4, &[0x84, 0xE3, 0x01, 0x00], Written),
+        (5, &[0x8A, 0x80], Written),
+    ],
+    last: Some(5),
+    last_mask: Some(5),
+    mask: 0x03,
+    content: 0x02,
+    recent: 0x00,
+    level: 2,
+};
+
+/// The mask of 3 leaves the content of 0, with its recent changes and its level.
+const MASK_ALONE: Run<'static> = Run {
+    packets: &[
+        (0, &[0x81, 0xB8, 0xC0, 0x00], Written),
+        (3, &[0x81, 0x60, 0x4C], Gap(0, true)),
+    ],
+    last: Some(0),
+    last_mask: Some(3),
+    mask: 0x03,
+    content: 0x00,
+    recent: 0x00,
+    level: 0,
+};
+
+/// The first packet that arrives tells its mask alone. One that tells nothing is then after a gap if its mask can't be
+/// deduced; if it can, the content is missing.
+const MASK_UNSYNCED: Run<'static> = Run {
+    packets: &[
+        (5, &[0x85, 0x60, 0x45], Wrong(23)),
+        (5, &[0x85, 0x60, 0x44], Unsynced(true)),
+        (6, &[0x8A, 0x80], Unsynced(true)),
+        (9, &[0x82], Gap(0, false)),
+    ],
+    last: None,
+    last_mask: Some(6),
+    mask: 0x03,
     content: 0x00,
     recent: 0x00,
     level: 0,
@@ -214,7 +315,19 @@ const UNSYNCED: Run<'static> = Run {
 
 #[test]
 fn worked_data(rt: HostRuntime) -> Result<(), Fail> {
-    for run in [FRONTS, DIRECTIONS, ALONE, FAULTS, REACH, UNSYNCED] {
+    for run in [
+        FRONTS,
+        DIRECTIONS,
+        ALONE,
+        FAULTS,
+        REACH,
+        UNSYNCED,
+        CONTENT_FIRST,
+        CONTENT_ALONE,
+        MASK_FIRST,
+        MASK_ALONE,
+        MASK_UNSYNCED,
+    ] {
         let mut decoder = Decoder::open(rt.alloc(), 8)?;
         assert!(rt; passes(&mut decoder, &run));
     }

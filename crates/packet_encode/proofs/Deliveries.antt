@@ -1,76 +1,130 @@
 -- Which numbers are written and which are listed.
-use Rattle.std.proofs.Common.{◌≡◌, ℕ, zero, suc, ◌+◌, ◌<◌, ◌≤◌, Bool, true, false, cond, ◌⊎◌, List, [], ◌∷◌, ◌++◌, length, replicate, Contains, Option, Some, None, inl, inr, refl, sym, ap, subst, ◌∙◌, arith}
-use Rattle.std.proofs.lemmas.Bool.{cases_eq, cases_lt}
+use Rattle.std.proofs.Common.{◌≡◌, ℕ, zero, suc, ◌+◌, ◌-◌, ◌<◌, ◌≤◌, Bool, true, false, cond, ◌⊎◌, List, [], ◌∷◌, ◌++◌, length, replicate, Contains, Option, Some, None, inl, inr, refl, sym, ap, subst, ◌∙◌, arith}
+use Rattle.std.proofs.lemmas.Bool.{cases_eq, cases_lt, true≢false}
 use Rattle.std.proofs.lemmas.List.{append-nil}
 use Rattle.std.proofs.lemmas.Grind.{common_steps, flat_map-append}
 use Rattle.std.specs.List.{filter, flat_map, last_or, range_with_len}
 use Rattle.std.proofs.lemmas.List.Elements.{filter-append, Contains-append_left, Contains-push, Contains-push_cases}
 use Rattle.mask_update.proofs.NewMasks.{range_push}
 use Rattle.mask_update.specs.Histories.{History}
-use Rattle.packet_encode.specs.Deliveries.{arrivals, count_to_last, count_up_to, is_written, latest_written, IsLatestWritten, Listed, WrittenAt}
+use Rattle.robust_window.specs.Histories.{level_at}
+use Rattle.packet_encode.specs.Deliveries.{arrivals, count_to_last, count_up_to, latest_by, is_mask_known_behind, is_mask_known, latest_mask_known, is_written_behind, is_written, latest_written, is_written_whole_behind, is_written_whole, latest_written_whole, CarriesBoth, IsReached, IsLatest, Listed, MaskKnownAt, WrittenAt, WrittenWholeAt}
 
--- ---- the latest written one
+-- ---- the latest one that passes a test
 
-pub latest_written-zero : (h : History) (copies : ℕ → ℕ) → latest_written h copies 0 ≡ None
-unfolding latest_written
-latest_written-zero h copies = refl
+pub latest_by-zero : (test : Option ℕ → ℕ → Bool) → latest_by test 0 ≡ None
+unfolding latest_by
+latest_by-zero test = refl
 
-pub latest_written-suc : (h : History) (copies : ℕ → ℕ) (t : ℕ) → latest_written h copies (suc t) ≡ cond (is_written h copies t) (Some t) (latest_written h copies t)
-unfolding latest_written
-latest_written-suc h copies t = refl
+pub latest_by-suc : (test : Option ℕ → ℕ → Bool) (t : ℕ) → latest_by test (suc t) ≡ cond (test (latest_by test t) t) (Some t) (latest_by test t)
+unfolding latest_by
+latest_by-suc test t = refl
+
+-- it holds for none before a number, or this is the latest one
+abbrev pub IsLatestOr : (ℕ → Type 0) → ℕ → Option ℕ → Type 0
+IsLatestOr Holds t None = (s : ℕ) → s < t → Holds s → ⊥
+IsLatestOr Holds t (Some latest) = IsLatest Holds t latest
+
+module _ (test : Option ℕ → ℕ → Bool) (Holds : ℕ → Type 0) (from : (t : ℕ) → test (latest_by test t) t ≡ true → Holds t) (to : (t : ℕ) → Holds t → test (latest_by test t) t ≡ true) where
+  -- one number more, which passes or doesn't
+  latest-more : (t : ℕ) (latest : Option ℕ) → IsLatestOr Holds t latest → (b : Bool) → test (latest_by test t) t ≡ b → IsLatestOr Holds (suc t) (cond b (Some t) latest)
+  latest-more t latest is true e = record {
+    before = omega arith;
+    holds = from t e;
+    none_later = λ s after before holds. absurd (omega (arith, after, before));
+  }
+  latest-more t None none false e = λ s before holds. by_place (cases_eq s t) before holds
+    where
+      by_place : {s : ℕ} → (s ≡ t) ⊎ (s ≡ t → ⊥) → s < suc t → Holds s → ⊥
+      by_place {s} (inl same) before holds = absurd (true≢false (sym (to t (subst Holds same holds)) ∙ e))
+      by_place {s} (inr other) before holds = none s (omega (arith, before, other)) holds
+  latest-more t (Some latest) is false e = record {
+    before = let before = is.before in omega (arith, before);
+    holds = is.holds;
+    none_later = λ s after before holds. by_place (cases_eq s t) after before holds;
+  }
+    where
+      by_place : {s : ℕ} → (s ≡ t) ⊎ (s ≡ t → ⊥) → latest < s → s < suc t → Holds s → ⊥
+      by_place {s} (inl same) after before holds = absurd (true≢false (sym (to t (subst Holds same holds)) ∙ e))
+      by_place {s} (inr other) after before holds = is.none_later s after (omega (arith, before, other)) holds
+
+  pub latest-right : (t : ℕ) → IsLatestOr Holds t (latest_by test t)
+  latest-right zero = subst (IsLatestOr Holds 0) (sym (latest_by-zero test)) (λ s before holds. absurd (omega (arith, before)))
+  latest-right (suc t) =
+      subst (IsLatestOr Holds (suc t)) (sym (latest_by-suc test t))
+      (latest-more t (latest_by test t) (latest-right t) (test (latest_by test t) t) refl)
+
+-- there is one answer
+pub latest-only : (Holds : ℕ → Type 0) (t : ℕ) (latest other : Option ℕ) → IsLatestOr Holds t latest → IsLatestOr Holds t other → latest ≡ other
+latest-only Holds t None None is was = refl
+latest-only Holds t None (Some other) none was = absurd (none other was.before was.holds)
+latest-only Holds t (Some latest) None is none = absurd (none latest is.before is.holds)
+latest-only Holds t (Some latest) (Some other) is was = by_order (cases_lt latest other) (cases_lt other latest)
+  where
+    by_order : (latest < other) ⊎ (other ≤ latest) → (other < latest) ⊎ (latest ≤ other) → Some latest ≡ Some other
+    by_order (inl less) order = absurd (is.none_later other less was.before was.holds)
+    by_order (inr most) (inl less) = absurd (was.none_later latest less is.before is.holds)
+    by_order (inr most) (inr least) = let same : latest ≡ other = omega (arith, most, least) in ap Some same
+
+-- a level that reaches an earlier one for which it holds reaches the latest one
+pub reached_later : (Holds : ℕ → Type 0) (t s level : ℕ) (latest : Option ℕ) → IsLatestOr Holds t latest → s < t → Holds s → t - 1 - s ≤ level → IsReached latest t level
+reached_later Holds t s level None none before holds within = absurd (none s before holds)
+reached_later Holds t s level (Some latest) is before holds within = elim (cases_lt latest s) [
+  | inl less ↦ absurd (is.none_later s less before holds)
+  | inr least ↦ omega (arith, least, within)
+]
+
+-- ---- masks that become known, and what is written
+
+-- a mask becomes known exactly where the packet arrives and carries it or reaches the latest known one
+pub mask_known-from : (h : History) (copies : ℕ → ℕ) (t : ℕ) → is_mask_known h copies t ≡ true → MaskKnownAt h copies t
+mask_known-from h copies t is = grind (arith, common_steps)
+
+pub mask_known-to : (h : History) (copies : ℕ → ℕ) (t : ℕ) → MaskKnownAt h copies t → is_mask_known h copies t ≡ true
+mask_known-to h copies t known = grind (arith, common_steps)
 
 -- it is written exactly where it arrives and is understood
 pub written-from : (h : History) (copies : ℕ → ℕ) (t : ℕ) → is_written h copies t ≡ true → WrittenAt h copies t
-written-from h copies t is = grind (arith, common_steps)
+written-from h copies t is = grind (arith, common_steps, mask_known-from h copies t)
 
 pub written-to : (h : History) (copies : ℕ → ℕ) (t : ℕ) → WrittenAt h copies t → is_written h copies t ≡ true
-written-to h copies t written = grind (arith, common_steps)
+written-to h copies t written = grind (arith, common_steps, mask_known-to h copies t)
 
--- none is written before a packet, or this is the latest one
-abbrev pub IsLatestOr : History → (ℕ → ℕ) → ℕ → Option ℕ → Type 0
-IsLatestOr h copies t None = (s : ℕ) → s < t → WrittenAt h copies s → ⊥
-IsLatestOr h copies t (Some latest) = IsLatestWritten h copies t latest
+pub latest_mask-right : (h : History) (copies : ℕ → ℕ) (t : ℕ) → IsLatestOr (MaskKnownAt h copies) t (latest_mask_known h copies t)
+latest_mask-right h copies = latest-right (is_mask_known_behind h copies) (MaskKnownAt h copies) (mask_known-from h copies) (mask_known-to h copies)
 
--- one packet more, which is written or not
-latest-more : (h : History) (copies : ℕ → ℕ) (t : ℕ) (latest : Option ℕ) → IsLatestOr h copies t latest
-    → (b : Bool) → is_written h copies t ≡ b → IsLatestOr h copies (suc t) (cond b (Some t) latest)
-latest-more h copies t latest is true e = record {
-  before = omega arith;
-  written = written-from h copies t e;
-  none_later = λ s after before written. absurd (omega (arith, after, before));
-}
-latest-more h copies t None none false e = λ s before written. by_place (cases_eq s t) before written
-  where
-    by_place : {s : ℕ} → (s ≡ t) ⊎ (s ≡ t → ⊥) → s < suc t → WrittenAt h copies s → ⊥
-    by_place {s} (inl same) before written = let is = written-to h copies t (subst (WrittenAt h copies) same written) in grind (arith, common_steps)
-    by_place {s} (inr other) before written = none s (omega (arith, before, other)) written
-latest-more h copies t (Some latest) is false e = record {
-  before = let before = is.before in omega (arith, before);
-  written = is.written;
-  none_later = λ s after before written. by_place (cases_eq s t) after before written;
-}
-  where
-    by_place : {s : ℕ} → (s ≡ t) ⊎ (s ≡ t → ⊥) → latest < s → s < suc t → WrittenAt h copies s → ⊥
-    by_place {s} (inl same) after before written = let is = written-to h copies t (subst (WrittenAt h copies) same written) in grind (arith, common_steps)
-    by_place {s} (inr other) after before written = is.none_later s after (omega (arith, before, other)) written
+pub latest_written-right : (h : History) (copies : ℕ → ℕ) (t : ℕ) → IsLatestOr (WrittenAt h copies) t (latest_written h copies t)
+latest_written-right h copies = latest-right (is_written_behind h copies) (WrittenAt h copies) (written-from h copies) (written-to h copies)
 
-pub latest-right : (h : History) (copies : ℕ → ℕ) (t : ℕ) → IsLatestOr h copies t (latest_written h copies t)
-latest-right h copies zero = subst (IsLatestOr h copies 0) (sym (latest_written-zero h copies)) (λ s before written. absurd (omega (arith, before)))
-latest-right h copies (suc t) =
-    subst (IsLatestOr h copies (suc t)) (sym (latest_written-suc h copies t))
-    (latest-more h copies t (latest_written h copies t) (latest-right h copies t) (is_written h copies t) refl)
+-- ---- nothing is given up
 
--- there is one answer
-pub latest-only : (h : History) (copies : ℕ → ℕ) (t : ℕ) (latest other : Option ℕ) → IsLatestOr h copies t latest → IsLatestOr h copies t other → latest ≡ other
-latest-only h copies t None None is was = refl
-latest-only h copies t None (Some other) none was = absurd (none other was.before was.written)
-latest-only h copies t (Some latest) None is none = absurd (none latest is.before is.written)
-latest-only h copies t (Some latest) (Some other) is was = by_order (cases_lt latest other) (cases_lt other latest)
-  where
-    by_order : (latest < other) ⊎ (other ≤ latest) → (other < latest) ⊎ (latest ≤ other) → Some latest ≡ Some other
-    by_order (inl less) order = absurd (is.none_later other less was.before was.written)
-    by_order (inr most) (inl less) = absurd (was.none_later latest less is.before is.written)
-    by_order (inr most) (inr least) = let same : latest ≡ other = omega (arith, most, least) in ap Some same
+whole-from : (h : History) (copies : ℕ → ℕ) (t : ℕ) → is_written_whole h copies t ≡ true → WrittenWholeAt h copies t
+whole-from h copies t is = grind (arith, common_steps)
+
+whole-to : (h : History) (copies : ℕ → ℕ) (t : ℕ) → WrittenWholeAt h copies t → is_written_whole h copies t ≡ true
+whole-to h copies t written = grind (arith, common_steps)
+
+latest_whole-right : (h : History) (copies : ℕ → ℕ) (t : ℕ) → IsLatestOr (WrittenWholeAt h copies) t (latest_written_whole h copies t)
+latest_whole-right h copies = latest-right (is_written_whole_behind h copies) (WrittenWholeAt h copies) (whole-from h copies) (whole-to h copies)
+
+-- a packet that reaches one that is written with its mask known is so too
+both_reach : (h : History) (copies : ℕ → ℕ) (t s : ℕ) → 1 ≤ copies t → s < t → t - 1 - s ≤ level_at h t → WrittenAt h copies s × MaskKnownAt h copies s → WrittenAt h copies t × MaskKnownAt h copies t
+both_reach h copies t s arrives before within was =
+    let mask : MaskKnownAt h copies t = record { arrives = arrives; known = inr (reached_later (MaskKnownAt h copies) t s (level_at h t) (latest_mask_known h copies t) (latest_mask-right h copies t) before was.1 within) } in (
+      record { arrives = arrives; known = inr (mask, reached_later (WrittenAt h copies) t s (level_at h t) (latest_written h copies t) (latest_written-right h copies t) before was.0 within) },
+      mask,
+    )
+
+kept_by : (h : History) (copies : ℕ → ℕ) (t : ℕ) → 1 ≤ copies t → ((s : ℕ) → s < t → WrittenWholeAt h copies s → WrittenAt h copies s × MaskKnownAt h copies s)
+    → (latest : Option ℕ) → IsLatestOr (WrittenWholeAt h copies) t latest → CarriesBoth h t ⊎ IsReached latest t (level_at h t) → WrittenAt h copies t × MaskKnownAt h copies t
+kept_by h copies t arrives earlier latest is (inl both) = (record { arrives = arrives; known = inl both.1 }, record { arrives = arrives; known = inl both.0 })
+kept_by h copies t arrives earlier None none (inr within) = absurd within
+kept_by h copies t arrives earlier (Some s) is (inr within) = both_reach h copies t s arrives is.before within (earlier s is.before is.holds)
+
+pub kept_below : (h : History) (copies : ℕ → ℕ) (n t : ℕ) → t < n → WrittenWholeAt h copies t → WrittenAt h copies t × MaskKnownAt h copies t
+kept_below h copies zero t below written = absurd (omega (arith, below))
+kept_below h copies (suc n) t below written =
+    kept_by h copies t written.arrives (λ s before was. kept_below h copies n s (omega (arith, below, before)) was) (latest_written_whole h copies t) (latest_whole-right h copies t) written.known
 
 -- ---- numbers that pass a test
 

@@ -2,7 +2,6 @@
 -- is a function from the numbers of the packets.
 use Rattle.std.specs.Prelude.{◌≡◌, ℕ, zero, suc, ◌+◌, ◌-◌, ◌<◌, ◌≤◌, nat_lt, nat_le, ◌⊎◌, ◌==◌, Bool, true, false, not, ◌&&◌, ◌||◌, if◌then◌else◌, List, length, replicate, Option, Some, None}
 use Rattle.std.specs.List.{filter, flat_map, last_or, range_with_len}
-use Rattle.bit_vectors.specs.declared.flags.Flags.{Flags}
 use Rattle.mask_update.specs.Histories.{History, flags_at}
 use Rattle.robust_window.specs.Histories.{level_at}
 
@@ -21,55 +20,97 @@ count_up_to (Some t) = t + 1
 abbrev pub count_to_last : (ℕ → ℕ) → ℕ → ℕ
 count_to_last copies n = count_up_to (last_or None (arrivals copies n))
 
--- ---- what is written
+-- ---- what a level reaches
 
--- the packet carries the mask and the whole content
-abbrev pub carries_both : Flags → Bool
-carries_both flags = flags.f && flags.r
-
--- No more packets are unwritten since the latest written one than the level says. Where none was written, this doesn't hold.
+-- No more packets lie between this one and the latest one of some kind than the level says. Where there is no latest one,
+-- this doesn't hold.
 abbrev pub reaches : Option ℕ → ℕ → ℕ → Bool
 reaches None t level = false
 reaches (Some latest) t level = nat_le (t - 1 - latest) level
-
--- whether the packet t is written, where this is the latest one written before it
-abbrev pub is_written_behind : Option ℕ → History → (ℕ → ℕ) → ℕ → Bool
-is_written_behind latest h copies t = nat_lt 0 (copies t) && (carries_both (flags_at h t) || reaches latest t (level_at h t))
-
--- the latest written one of the first t packets
-unfoldable pub latest_written : History → (ℕ → ℕ) → ℕ → Option ℕ
-latest_written h copies zero = None
-latest_written h copies (suc t) =
-    let latest = latest_written h copies t in
-    if is_written_behind latest h copies t then Some t else latest
-
--- whether the packet t is written
-abbrev pub is_written : History → (ℕ → ℕ) → ℕ → Bool
-is_written h copies t = is_written_behind (latest_written h copies t) h copies t
-
--- the numbers of the written packets
-abbrev pub written_numbers : History → (ℕ → ℕ) → List ℕ
-written_numbers h copies = filter (is_written h copies) (range_with_len 0 (length h.steps))
-
--- the same as facts
-abbrev pub CarriesBoth : History → ℕ → Type 0
-CarriesBoth h t = ((flags_at h t).f ≡ true) × ((flags_at h t).r ≡ true)
 
 abbrev pub IsReached : Option ℕ → ℕ → ℕ → Type 0
 IsReached None t level = ⊥
 IsReached (Some latest) t level = t - 1 - latest ≤ level
 
--- The packet arrives, and either it carries the mask and the whole content, or no more packets are unwritten since the
--- latest written one than its effective robustness level.
+-- the latest of the first t numbers that passes a test, which is asked of each number with the latest one that passed before
+unfoldable pub latest_by : (Option ℕ → ℕ → Bool) → ℕ → Option ℕ
+latest_by test zero = None
+latest_by test (suc t) =
+    let latest = latest_by test t in
+    if test latest t then Some t else latest
+
+-- this is the latest of the first t numbers for which this holds
+pub record IsLatest (Holds : ℕ → Type 0) (t latest : ℕ) : Type 0 where
+  pub before : latest < t
+  pub holds : Holds latest
+  pub none_later : (s : ℕ) → latest < s → s < t → Holds s → ⊥
+
+-- ---- which masks become known
+
+-- whether the mask of the packet t becomes known, where this is the latest one before it whose mask did
+abbrev pub is_mask_known_behind : History → (ℕ → ℕ) → Option ℕ → ℕ → Bool
+is_mask_known_behind h copies latest t = nat_lt 0 (copies t) && ((flags_at h t).f || reaches latest t (level_at h t))
+
+-- the latest of the first t packets whose mask becomes known
+abbrev pub latest_mask_known : History → (ℕ → ℕ) → ℕ → Option ℕ
+latest_mask_known h copies t = latest_by (is_mask_known_behind h copies) t
+
+-- whether the mask of the packet t becomes known
+abbrev pub is_mask_known : History → (ℕ → ℕ) → ℕ → Bool
+is_mask_known h copies t = is_mask_known_behind h copies (latest_mask_known h copies t) t
+
+-- The packet arrives, and either it carries the mask, or no more masks are unknown since the latest known one than its
+-- effective robustness level.
+pub record MaskKnownAt (h : History) (copies : ℕ → ℕ) (t : ℕ) : Type 0 where
+  pub arrives : 1 ≤ copies t
+  pub known : ((flags_at h t).f ≡ true) ⊎ IsReached (latest_mask_known h copies t) t (level_at h t)
+
+-- ---- what is written
+
+-- whether the packet t is written, where this is the latest one written before it
+abbrev pub is_written_behind : History → (ℕ → ℕ) → Option ℕ → ℕ → Bool
+is_written_behind h copies latest t = nat_lt 0 (copies t) && ((flags_at h t).r || is_mask_known h copies t && reaches latest t (level_at h t))
+
+-- the latest written one of the first t packets
+abbrev pub latest_written : History → (ℕ → ℕ) → ℕ → Option ℕ
+latest_written h copies t = latest_by (is_written_behind h copies) t
+
+-- whether the packet t is written
+abbrev pub is_written : History → (ℕ → ℕ) → ℕ → Bool
+is_written h copies t = is_written_behind h copies (latest_written h copies t) t
+
+-- the numbers of the written packets
+abbrev pub written_numbers : History → (ℕ → ℕ) → List ℕ
+written_numbers h copies = filter (is_written h copies) (range_with_len 0 (length h.steps))
+
+-- The packet arrives, and either it carries the whole content, or its mask becomes known and no more packets are unwritten
+-- since the latest written one than its effective robustness level.
 pub record WrittenAt (h : History) (copies : ℕ → ℕ) (t : ℕ) : Type 0 where
   pub arrives : 1 ≤ copies t
-  pub known : CarriesBoth h t ⊎ IsReached (latest_written h copies t) t (level_at h t)
+  pub known : ((flags_at h t).r ≡ true) ⊎ MaskKnownAt h copies t × IsReached (latest_written h copies t) t (level_at h t)
 
--- the packet is the latest written one of the first t
-pub record IsLatestWritten (h : History) (copies : ℕ → ℕ) (t latest : ℕ) : Type 0 where
-  pub before : latest < t
-  pub written : WrittenAt h copies latest
-  pub none_later : (s : ℕ) → latest < s → s < t → WrittenAt h copies s → ⊥
+-- ---- what would be written if mask and content were known together alone
+
+-- the packet carries the mask and the whole content
+abbrev pub CarriesBoth : History → ℕ → Type 0
+CarriesBoth h t = ((flags_at h t).f ≡ true) × ((flags_at h t).r ≡ true)
+
+-- whether the packet t would be written, where this is the latest one before it that would be
+abbrev pub is_written_whole_behind : History → (ℕ → ℕ) → Option ℕ → ℕ → Bool
+is_written_whole_behind h copies latest t = nat_lt 0 (copies t) && ((flags_at h t).f && (flags_at h t).r || reaches latest t (level_at h t))
+
+-- the latest of the first t packets that would be written
+abbrev pub latest_written_whole : History → (ℕ → ℕ) → ℕ → Option ℕ
+latest_written_whole h copies t = latest_by (is_written_whole_behind h copies) t
+
+abbrev pub is_written_whole : History → (ℕ → ℕ) → ℕ → Bool
+is_written_whole h copies t = is_written_whole_behind h copies (latest_written_whole h copies t) t
+
+-- The packet arrives, and either it carries the mask and the whole content, or no more packets are unwritten since the
+-- latest one that would be written than its effective robustness level.
+pub record WrittenWholeAt (h : History) (copies : ℕ → ℕ) (t : ℕ) : Type 0 where
+  pub arrives : 1 ≤ copies t
+  pub known : CarriesBoth h t ⊎ IsReached (latest_written_whole h copies t) t (level_at h t)
 
 -- ---- what is listed
 
@@ -82,8 +123,8 @@ pub record Listed (h : History) (copies : ℕ → ℕ) (t : ℕ) : Type 0 where
 abbrev pub listed_numbers : History → (ℕ → ℕ) → List ℕ
 listed_numbers h copies = filter (λ t. not (is_written h copies t)) (range_with_len 0 (count_to_last copies (length h.steps)))
 
--- why a packet is not written: it did not arrive; nothing was written before it; or the latest written one is too far back
--- for its effective robustness level
+-- why a packet is not written: it did not arrive; the part that is missing was never known before it; or the latest packet
+-- with which that part became known is too far back for its effective robustness level
 pub data Cause : Type 0 where
   Lost : Cause
   Unsynced : Cause
@@ -93,5 +134,10 @@ abbrev pub cause_behind : Option ℕ → ℕ → Cause
 cause_behind None level = Unsynced
 cause_behind (Some latest) level = Gap level
 
+-- The missing part is the mask where it doesn't become known, and else the content: the latest packet before this one with
+-- which that part became known.
+abbrev pub latest_of_missing : History → (ℕ → ℕ) → ℕ → Option ℕ
+latest_of_missing h copies t = if is_mask_known h copies t then latest_written h copies t else latest_mask_known h copies t
+
 abbrev pub cause_at : History → (ℕ → ℕ) → ℕ → Cause
-cause_at h copies t = if copies t == 0 then Lost else cause_behind (latest_written h copies t) (level_at h t)
+cause_at h copies t = if copies t == 0 then Lost else cause_behind (latest_of_missing h copies t) (level_at h t)

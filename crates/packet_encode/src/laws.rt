@@ -6,7 +6,7 @@ ghost use Rattle.mask_update.specs.Histories.{History, IsValid, Step, input_at, 
 ghost use Rattle.mask_update.specs.Masks.{mask_at};
 ghost use Rattle.packet_encode.specs.Forms.{Fits, IsForm, Whole, Part, form_bits};
 ghost use Rattle.packet_encode.specs.Packets.{AgreeUpTo, form_at, packet_at};
-ghost use Rattle.packet_encode.specs.Deliveries.{IsLatestWritten, Listed, WrittenAt, count_to_last, is_written, latest_written, listed_numbers, written_numbers};
+ghost use Rattle.packet_encode.specs.Deliveries.{IsLatest, Listed, MaskKnownAt, WrittenAt, WrittenWholeAt, count_to_last, is_mask_known, is_written, latest_mask_known, latest_written, listed_numbers, written_numbers};
 ghost use Rattle.robust_window.specs.Worked.{worked};
 
 /// The packet of each step of a valid history has a form, which fits the mask.
@@ -41,16 +41,37 @@ pub fn packets_of_the_past()
         packet_at h t ≡ packet_at other t }
 {}
 
-/// A packet is written exactly where it arrives and either it carries the mask and the whole content, or no more packets
-/// are unwritten since the latest written one than its effective robustness level; and the latest written one is the
-/// greatest number before it that is written.
+/// The mask of a packet becomes known exactly where the packet arrives and either carries it, or no more masks are unknown
+/// since the latest known one than its effective robustness level; and the latest known one is the greatest number before
+/// it whose mask became known.
+pub fn known_masks()
+    ensures is { (h : History) (copies : ℕ → ℕ) (t : ℕ)
+        → (is_mask_known h copies t ≡ true) ↔ MaskKnownAt h copies t }
+    ensures latest { (h : History) (copies : ℕ → ℕ) (t latest : ℕ) →
+        (latest_mask_known h copies t ≡ Some latest) ↔ IsLatest (MaskKnownAt h copies) t latest }
+    ensures none { (h : History) (copies : ℕ → ℕ) (t : ℕ) →
+        (latest_mask_known h copies t ≡ None) ↔ ((s : ℕ) → s < t → MaskKnownAt h copies s → ⊥) }
+{}
+
+/// A packet is written exactly where it arrives and either it carries the whole content, or its mask becomes known and no
+/// more packets are unwritten since the latest written one than its effective robustness level; and the latest written one
+/// is the greatest number before it that is written.
 pub fn written_packets()
     ensures is { (h : History) (copies : ℕ → ℕ) (t : ℕ)
         → (is_written h copies t ≡ true) ↔ WrittenAt h copies t }
     ensures latest { (h : History) (copies : ℕ → ℕ) (t latest : ℕ) →
-        (latest_written h copies t ≡ Some latest) ↔ IsLatestWritten h copies t latest }
+        (latest_written h copies t ≡ Some latest) ↔ IsLatest (WrittenAt h copies) t latest }
     ensures none { (h : History) (copies : ℕ → ℕ) (t : ℕ) →
         (latest_written h copies t ≡ None) ↔ ((s : ℕ) → s < t → WrittenAt h copies s → ⊥) }
+{}
+
+/// That mask and content are known apart gives up no packet: each one that would be written if they were known together
+/// alone is written, and its mask becomes known.
+pub fn no_packet_is_given_up()
+    ensures written { (h : History) (copies : ℕ → ℕ) (t : ℕ)
+        → WrittenWholeAt h copies t → WrittenAt h copies t }
+    ensures mask { (h : History) (copies : ℕ → ℕ) (t : ℕ)
+        → WrittenWholeAt h copies t → MaskKnownAt h copies t }
 {}
 
 /// A packet is listed exactly where it is one up to the last arrival and not written; so each of these is either written

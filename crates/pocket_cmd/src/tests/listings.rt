@@ -11,7 +11,7 @@ const ONE_BIT: &str = "show apid=100 bits=1 out=b in=a";
 const THIRTEEN_BITS: &str = "show in=a out=b bits=13 apid=100";
 
 /// Words, a store in hexadecimal, and its listing.
-static WHOLE: [(&str, &str, &str); 11] = [
+static WHOLE: [(&str, &str, &str); 14] = [
     (LIST, "", "end 0 0 0\n"),
     (LIST, FIRST, "0 written 1 00 00 b0\nend 1 1 0\n"),
     // A mask of ones.
@@ -45,6 +45,27 @@ static WHOLE: [(&str, &str, &str); 11] = [
         LIST,
         "00 64 C0 05 00 00 82",
         "0-4 lost\n5 unsynced\nend 1 0 0\n",
+    ),
+    // Whole content whose mask is not known, and then a mask under which that content is.
+    (
+        LIST,
+        "00 64 C0 00 00 03 81 B8 C0 00 00 64 C0 03 00 03 80 E3 01 80 00 64 C0 04 00 02 85 60 44 \
+            00 64 C0 05 00 01 8A 80",
+        "0 written 0 00 00 00\n1-2 lost\n3 written 0 00 - 03\n4 written 1 00 03 02\n\
+            5 written 2 00 03 02\nend 4 4 0\n",
+    ),
+    // A mask whose extracted bits tell no content, and then whole content.
+    (
+        LIST,
+        "00 64 C0 00 00 03 81 B8 C0 00 00 64 C0 03 00 02 81 60 4C 00 64 C0 04 00 03 84 E3 01 00 \
+            00 64 C0 05 00 01 8A 80",
+        "0 written 0 00 00 00\n1-2 lost\n3 gap 0 mask 03\n4 written 1 00 03 02\n\
+            5 written 2 00 03 02\nend 4 3 0\n",
+    ),
+    (
+        LIST,
+        "00 64 C0 05 00 02 85 60 44",
+        "0-4 lost\n5 unsynced mask 03\nend 1 0 0\n",
     ),
     // Data with a wrong bit, and data that end early.
     (

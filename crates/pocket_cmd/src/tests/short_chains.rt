@@ -19,7 +19,7 @@ const ONE_LOST: Chain<'static> = Chain {
     report: "2,2,lost,0\nend,3,3,0\n",
 };
 
-static CHAINS: [Chain<'static>; 14] = [
+static CHAINS: [Chain<'static>; 16] = [
     Chain {
         recording: &[],
         flight: "bits=8 robust=1",
@@ -73,6 +73,28 @@ static CHAINS: [Chain<'static>; 14] = [
         played: "4,2,2,0,0,3\n",
         restored: &[0x00, 0x03],
         report: "1,2,lost,0\nend,2,2,0\n",
+    },
+    // Two lost packets, then whole content without its mask, and a mask under which that content is known.
+    Chain {
+        recording: &[0x00, 0x01, 0x03, 0x03, 0x02, 0x02],
+        flight: "bits=8 robust=0",
+        ground: "bits=8",
+        plan: "3,3,1,r\n4,4,1,f\n",
+        script: "drop,1,2,1",
+        played: "6,4,2,0,0,3\n",
+        restored: &[0x00, 0x03, 0x02, 0x02],
+        report: "1,2,lost,0\nend,4,4,0\n",
+    },
+    // The mask first: its packet is not written.
+    Chain {
+        recording: &[0x00, 0x01, 0x03, 0x03, 0x02, 0x02],
+        flight: "bits=8 robust=0",
+        ground: "bits=8",
+        plan: "3,3,1,f\n4,4,1,r\n",
+        script: "drop,1,2,1",
+        played: "6,4,2,0,0,3\n",
+        restored: &[0x00, 0x02, 0x02],
+        report: "1,2,lost,0\n3,3,gap,0\nend,4,3,0\n",
     },
     // Rows of both kinds over the same packets.
     Chain {

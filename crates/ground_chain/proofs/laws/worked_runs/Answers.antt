@@ -6,21 +6,21 @@ use Rattle.count_code.specs.Counts.{parse_bounded, parse_long, parse_above_one, 
 use Rattle.run_code.specs.Places.{ones_from}
 use Rattle.run_code.specs.Runs.{run_bits, runs_from, parse_ones, parse_vector}
 use Rattle.run_code.specs.Extraction.{parse_filled, parse_inverse}
-use Rattle.packet_decode.specs.PacketReading.{parse_kept, parse_named, parse_directions, parse_change, from_edges, parse_mask, parse_whole, parse_whole_with, parse_part_with, parse_content, parse_unsent, parse_maskless, parse_masked, parse_sent, parse_data, parse_parts, parse_padding, parse_end, parse_packet, parse_whole_packet}
+use Rattle.packet_decode.specs.PacketReading.{parse_kept, parse_named, parse_directions, parse_change, from_edges, parse_mask, parse_whole, parse_whole_with, parse_whole_alone, parse_part_with, parse_content, parse_unsent, parse_maskless, parse_masked, parse_sent, parse_data, parse_parts, parse_padding, parse_end, parse_packet, parse_whole_packet}
 use Rattle.ground_chain.proofs.laws.worked_runs.Goals as goal
 
 pub returns-clause-lost : goal.returns-clause-lost
-unfolding number_bits bits_number count_bits parse_bounded parse_long parse_above_one parse_after_one parse_count ones_from run_bits runs_from parse_ones parse_vector parse_word parse_filled parse_inverse parse_front parse_number parse_kept parse_named parse_directions parse_change from_edges parse_mask parse_whole parse_whole_with parse_part_with parse_content parse_unsent parse_maskless parse_masked parse_sent parse_data parse_parts parse_padding parse_end parse_packet parse_whole_packet
+unfolding number_bits bits_number count_bits parse_bounded parse_long parse_above_one parse_after_one parse_count ones_from run_bits runs_from parse_ones parse_vector parse_word parse_filled parse_inverse parse_front parse_number parse_kept parse_named parse_directions parse_change from_edges parse_mask parse_whole parse_whole_with parse_whole_alone parse_part_with parse_content parse_unsent parse_maskless parse_masked parse_sent parse_data parse_parts parse_padding parse_end parse_packet parse_whole_packet
 returns-clause-lost c = refl
 
 pub returns-clause-repeat : goal.returns-clause-repeat
-unfolding number_bits bits_number count_bits parse_bounded parse_long parse_above_one parse_after_one parse_count ones_from run_bits runs_from parse_ones parse_vector parse_word parse_filled parse_inverse parse_front parse_number parse_kept parse_named parse_directions parse_change from_edges parse_mask parse_whole parse_whole_with parse_part_with parse_content parse_unsent parse_maskless parse_masked parse_sent parse_data parse_parts parse_padding parse_end parse_packet parse_whole_packet
+unfolding number_bits bits_number count_bits parse_bounded parse_long parse_above_one parse_after_one parse_count ones_from run_bits runs_from parse_ones parse_vector parse_word parse_filled parse_inverse parse_front parse_number parse_kept parse_named parse_directions parse_change from_edges parse_mask parse_whole parse_whole_with parse_whole_alone parse_part_with parse_content parse_unsent parse_maskless parse_masked parse_sent parse_data parse_parts parse_padding parse_end parse_packet parse_whole_packet
 returns-clause-repeat c = refl
 
 pub returns-clause-unsynced : goal.returns-clause-unsynced
-unfolding number_bits bits_number count_bits parse_bounded parse_long parse_above_one parse_after_one parse_count ones_from run_bits runs_from parse_ones parse_vector parse_word parse_filled parse_inverse parse_front parse_number parse_kept parse_named parse_directions parse_change from_edges parse_mask parse_whole parse_whole_with parse_part_with parse_content parse_unsent parse_maskless parse_masked parse_sent parse_data parse_parts parse_padding parse_end parse_packet parse_whole_packet
+unfolding number_bits bits_number count_bits parse_bounded parse_long parse_above_one parse_after_one parse_count ones_from run_bits runs_from parse_ones parse_vector parse_word parse_filled parse_inverse parse_front parse_number parse_kept parse_named parse_directions parse_change from_edges parse_mask parse_whole parse_whole_with parse_whole_alone parse_part_with parse_content parse_unsent parse_maskless parse_masked parse_sent parse_data parse_parts parse_padding parse_end parse_packet parse_whole_packet
 returns-clause-unsynced c = refl
 
 pub returns-clause-wrong : goal.returns-clause-wrong
-unfolding number_bits bits_number count_bits parse_bounded parse_long parse_above_one parse_after_one parse_count ones_from run_bits runs_from parse_ones parse_vector parse_word parse_filled parse_inverse parse_front parse_number parse_kept parse_named parse_directions parse_change from_edges parse_mask parse_whole parse_whole_with parse_part_with parse_content parse_unsent parse_maskless parse_masked parse_sent parse_data parse_parts parse_padding parse_end parse_packet parse_whole_packet
+unfolding number_bits bits_number count_bits parse_bounded parse_long parse_above_one parse_after_one parse_count ones_from run_bits runs_from parse_ones parse_vector parse_word parse_filled parse_inverse parse_front parse_number parse_kept parse_named parse_directions parse_change from_edges parse_mask parse_whole parse_whole_with parse_whole_alone parse_part_with parse_content parse_unsent parse_maskless parse_masked parse_sent parse_data parse_parts parse_padding parse_end parse_packet parse_whole_packet
 returns-clause-wrong c = refl

@@ -23,16 +23,16 @@ returns-clause-arrive c = λ f known arrival judged has. (
 pub returns-clause-store : goal.returns-clause-store
 returns-clause-store c = λ f apid store judged.
     let arrivals = arrivals_of (Some apid) (walk (Some apid) store).packets in (
-      λ is. AreJudged-only f nothing_known (arrivals_of (Some apid) (walk (Some apid) store).packets) judged tt is,
-      λ same. subst (AreJudged IsExactAnswer f nothing_known (arrivals_of (Some apid) (walk (Some apid) store).packets)) (sym same) (AreJudged-run f nothing_known (arrivals_of (Some apid) (walk (Some apid) store).packets) tt),
+      λ is. AreJudged-only f nothing_known (arrivals_of (Some apid) (walk (Some apid) store).packets) judged (record { mask = tt; content = tt }) is,
+      λ same. subst (AreJudged IsExactAnswer f nothing_known (arrivals_of (Some apid) (walk (Some apid) store).packets)) (sym same) (AreJudged-run f nothing_known (arrivals_of (Some apid) (walk (Some apid) store).packets) (record { mask = tt; content = tt })),
     )
 
 pub returns-clause-restore : goal.returns-clause-restore
 returns-clause-restore c = λ f apid store judged whole is.
-    let same = AreJudged-only f nothing_known (arrivals_of (Some apid) (walk (Some apid) store).packets) judged tt is in
+    let same = AreJudged-only f nothing_known (arrivals_of (Some apid) (walk (Some apid) store).packets) judged (record { mask = tt; content = tt }) is in
     owed-whole f apid store whole ∙ ap (λ (run : List Judged). record { output = run_bytes run; report = run_report run }) (sym same)
 
 pub returns-clause-show : goal.returns-clause-show
 returns-clause-show c = λ f apid store judged whole is.
-    let same = AreJudged-only f nothing_known (arrivals_of (Some apid) (walk (Some apid) store).packets) judged tt is in
+    let same = AreJudged-only f nothing_known (arrivals_of (Some apid) (walk (Some apid) store).packets) judged (record { mask = tt; content = tt }) is in
     ap (λ ending. by_ending ending (listing_course f apid store).before (listing_course f apid store).after) whole ∙ ap (λ (run : List Judged). to_output (run_listing run)) (sym same)

@@ -9,7 +9,7 @@ use Rattle.count_code.specs.Counts.{parse_bounded, parse_long, parse_above_one, 
 use Rattle.run_code.specs.Places.{ones_from}
 use Rattle.run_code.specs.Runs.{run_bits, runs_from, parse_ones, parse_vector}
 use Rattle.run_code.specs.Extraction.{parse_filled, parse_inverse}
-use Rattle.packet_decode.specs.PacketReading.{parse_kept, parse_named, parse_directions, parse_change, from_edges, parse_mask, parse_whole, parse_whole_with, parse_part_with, parse_content, parse_unsent, parse_maskless, parse_masked, parse_sent, parse_data, parse_parts, parse_padding, parse_end, parse_packet, parse_whole_packet}
+use Rattle.packet_decode.specs.PacketReading.{parse_kept, parse_named, parse_directions, parse_change, from_edges, parse_mask, parse_whole, parse_whole_with, parse_whole_alone, parse_part_with, parse_content, parse_unsent, parse_maskless, parse_masked, parse_sent, parse_data, parse_parts, parse_padding, parse_end, parse_packet, parse_whole_packet}
 use Rattle.ground_chain.proofs.refusals.worked_refusals.Goals as goal
 
 are_bytes : AreBytes (0x43 ∷ 0xA0 ∷ [])
@@ -18,25 +18,25 @@ are_bytes (suc zero) = omega arith
 are_bytes (suc (suc i)) = omega arith
 
 pub returns-clause-row : goal.returns-clause-row
-unfolding number_bits bits_number count_bits parse_bounded parse_long parse_above_one parse_after_one parse_count ones_from run_bits runs_from parse_ones parse_vector parse_word parse_filled parse_inverse parse_front parse_number parse_kept parse_named parse_directions parse_change from_edges parse_mask parse_whole parse_whole_with parse_part_with parse_content parse_unsent parse_maskless parse_masked parse_sent parse_data parse_parts parse_padding parse_end parse_packet parse_whole_packet
+unfolding number_bits bits_number count_bits parse_bounded parse_long parse_above_one parse_after_one parse_count ones_from run_bits runs_from parse_ones parse_vector parse_word parse_filled parse_inverse parse_front parse_number parse_kept parse_named parse_directions parse_change from_edges parse_mask parse_whole parse_whole_with parse_whole_alone parse_part_with parse_content parse_unsent parse_maskless parse_masked parse_sent parse_data parse_parts parse_padding parse_end parse_packet parse_whole_packet
 returns-clause-row c = refl
 
 pub returns-clause-begins : goal.returns-clause-begins
-unfolding number_bits bits_number count_bits parse_bounded parse_long parse_above_one parse_after_one parse_count ones_from run_bits runs_from parse_ones parse_vector parse_word parse_filled parse_inverse parse_front parse_number parse_kept parse_named parse_directions parse_change from_edges parse_mask parse_whole parse_whole_with parse_part_with parse_content parse_unsent parse_maskless parse_masked parse_sent parse_data parse_parts parse_padding parse_end parse_packet parse_whole_packet
+unfolding number_bits bits_number count_bits parse_bounded parse_long parse_above_one parse_after_one parse_count ones_from run_bits runs_from parse_ones parse_vector parse_word parse_filled parse_inverse parse_front parse_number parse_kept parse_named parse_directions parse_change from_edges parse_mask parse_whole parse_whole_with parse_whole_alone parse_part_with parse_content parse_unsent parse_maskless parse_masked parse_sent parse_data parse_parts parse_padding parse_end parse_packet parse_whole_packet
 returns-clause-begins c = record { body = 0x43 ∷ 0xA0 ∷ []; bytes = are_bytes; size = omega arith; rest = bits_of (0xA0 ∷ []); begins = refl; taken = refl }
 
 pub returns-clause-taken_out : goal.returns-clause-taken_out
-unfolding number_bits bits_number count_bits parse_bounded parse_long parse_above_one parse_after_one parse_count ones_from run_bits runs_from parse_ones parse_vector parse_word parse_filled parse_inverse parse_front parse_number parse_kept parse_named parse_directions parse_change from_edges parse_mask parse_whole parse_whole_with parse_part_with parse_content parse_unsent parse_maskless parse_masked parse_sent parse_data parse_parts parse_padding parse_end parse_packet parse_whole_packet
+unfolding number_bits bits_number count_bits parse_bounded parse_long parse_above_one parse_after_one parse_count ones_from run_bits runs_from parse_ones parse_vector parse_word parse_filled parse_inverse parse_front parse_number parse_kept parse_named parse_directions parse_change from_edges parse_mask parse_whole parse_whole_with parse_whole_alone parse_part_with parse_content parse_unsent parse_maskless parse_masked parse_sent parse_data parse_parts parse_padding parse_end parse_packet parse_whole_packet
 returns-clause-taken_out c = record {
-  unwritten = refl;
+  untold = refl;
   repeated = All-cons (λ (r : Arrival). r.count ≡ 1) (arrival 1 (0x8A ∷ [])) [] refl (All-nil (λ (r : Arrival). r.count ≡ 1));
   near = (2, refl, omega arith);
 }
 
 pub returns-clause-with_it : goal.returns-clause-with_it
-unfolding number_bits bits_number count_bits parse_bounded parse_long parse_above_one parse_after_one parse_count ones_from run_bits runs_from parse_ones parse_vector parse_word parse_filled parse_inverse parse_front parse_number parse_kept parse_named parse_directions parse_change from_edges parse_mask parse_whole parse_whole_with parse_part_with parse_content parse_unsent parse_maskless parse_masked parse_sent parse_data parse_parts parse_padding parse_end parse_packet parse_whole_packet
+unfolding number_bits bits_number count_bits parse_bounded parse_long parse_above_one parse_after_one parse_count ones_from run_bits runs_from parse_ones parse_vector parse_word parse_filled parse_inverse parse_front parse_number parse_kept parse_named parse_directions parse_change from_edges parse_mask parse_whole parse_whole_with parse_whole_alone parse_part_with parse_content parse_unsent parse_maskless parse_masked parse_sent parse_data parse_parts parse_padding parse_end parse_packet parse_whole_packet
 returns-clause-with_it c = refl
 
 pub returns-clause-without_it : goal.returns-clause-without_it
-unfolding number_bits bits_number count_bits parse_bounded parse_long parse_above_one parse_after_one parse_count ones_from run_bits runs_from parse_ones parse_vector parse_word parse_filled parse_inverse parse_front parse_number parse_kept parse_named parse_directions parse_change from_edges parse_mask parse_whole parse_whole_with parse_part_with parse_content parse_unsent parse_maskless parse_masked parse_sent parse_data parse_parts parse_padding parse_end parse_packet parse_whole_packet
+unfolding number_bits bits_number count_bits parse_bounded parse_long parse_above_one parse_after_one parse_count ones_from run_bits runs_from parse_ones parse_vector parse_word parse_filled parse_inverse parse_front parse_number parse_kept parse_named parse_directions parse_change from_edges parse_mask parse_whole parse_whole_with parse_whole_alone parse_part_with parse_content parse_unsent parse_maskless parse_masked parse_sent parse_data parse_parts parse_padding parse_end parse_packet parse_whole_packet
 returns-clause-without_it c = refl

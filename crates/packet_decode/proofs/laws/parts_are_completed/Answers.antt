@@ -1,6 +1,6 @@
 use Rattle.packet_decode.proofs.ExactData.{IsExact-data_at, IsExact-mask_at, content_exact}
-use Rattle.packet_decode.proofs.PartCompletions.{IsExact-first, reached}
-use Rattle.packet_decode.proofs.SpelledWords.{data_alone, data_opaque}
+use Rattle.packet_decode.proofs.PartCompletions.{IsExact-first, reached, extracted, alone, mask_alone, content_alone}
+use Rattle.packet_decode.proofs.SpelledWords.{data_opaque}
 use Rattle.packet_decode.proofs.laws.parts_are_completed.Goals as goal
 
 pub returns-clause-first : goal.returns-clause-first
@@ -18,8 +18,17 @@ returns-clause-others c = λ f change deduced known recent masks contents. IsExa
 pub returns-clause-reached : goal.returns-clause-reached
 returns-clause-reached c = reached
 
+pub returns-clause-extracted : goal.returns-clause-extracted
+returns-clause-extracted c = extracted
+
 pub returns-clause-alone : goal.returns-clause-alone
-returns-clause-alone c = λ f change mask content. data_alone f change mask content
+returns-clause-alone c = alone
+
+pub returns-clause-mask_alone : goal.returns-clause-mask_alone
+returns-clause-mask_alone c = mask_alone
+
+pub returns-clause-content_alone : goal.returns-clause-content_alone
+returns-clause-content_alone c = content_alone
 
 pub returns-clause-opaque : goal.returns-clause-opaque
-returns-clause-opaque c = λ f change sent c end places is. data_opaque f change sent c end places is
+returns-clause-opaque c = λ f change known. data_opaque f change known

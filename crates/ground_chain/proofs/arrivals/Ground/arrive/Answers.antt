@@ -2,10 +2,12 @@ use Rattle.std.specs.Prelude.{IfSome}
 use Rattle.std.proofs.Common.{◌≡◌, ℕ, Option, Some, None, refl, sym, ap, ◌∙◌, subst, rules}
 use Rattle.ground_chain.specs.declared.verdict.Verdict.{Verdict}
 use Rattle.ground_chain.specs.Numbers.{number_after, latest_after, expected}
-use Rattle.ground_chain.specs.Run.{Judged, lost_from, kind_of, verdict_of}
+use Rattle.ground_chain.specs.Run.{Judged, Known, lost_from, kind_of, verdict_of}
 use Rattle.ground_chain.specs.Refusals.{IsExactVerdict}
 use Rattle.ground_chain.specs.Reception.{Reception, Shows, StandsFor, known_of, next_judged}
-use Rattle.ground_chain.proofs.Receptions.{judged_read, judged_repeat, shows_read, shows_repeat, stands_next}
+use Rattle.ground_chain.proofs.Receptions.{judged_read, kept_read, judged_repeat, shows_read, shows_repeat, stands_next}
+use Rattle.bit_vectors.specs.Vectors.{bits_of}
+use Rattle.ground_chain.proofs.Told.{IsLater, number_later}
 use Rattle.ground_chain.proofs.arrivals.Ground.arrive.Goals as goal
 
 pub returns-in_default-clause-stands : goal.returns-in_default-clause-stands
@@ -26,7 +28,7 @@ returns-clause-verdict c =
     let verdict : Verdict = record { lost = c.lost_from-lost.result; t = c.in-Some.t; kind = c.kind_of-kind.result } in
     let is : verdict ≡ record { lost = lost_from (expected c.self.inside.numbers) c.in-Some.t; t = c.in-Some.t; kind = kind_of c.read.result } =
     λ i. record { lost = lost i; t = c.in-Some.t; kind = c.kind_of-kind.ensures i } in
-    let judged = judged_read old c.read.new.self c.args.count c.in-Some.t c.args.bytes.now verdict c.read.result c.self.invariant number is c.read.ensures.exact c.read.ensures.latest c.read.ensures.unchanged in
+    let judged = judged_read old c.read.new.self c.args.count c.in-Some.t c.args.bytes.now verdict c.read.result c.self.invariant number is c.read.ensures.exact (record { decodes = c.read.ensures.written; masks = c.read.ensures.mask_alone; unchanged = c.read.ensures.unchanged }) in
     ap (λ (j : Judged). j.verdict) judged ∙ ap (λ (r : Reception). (next_judged r c.args.count c.args.bytes.now).verdict) c.self.view_is
 
 pub returns-clause-known : goal.returns-clause-known
@@ -37,7 +39,7 @@ returns-clause-known c =
     let verdict : Verdict = record { lost = c.lost_from-lost.result; t = c.in-Some.t; kind = c.kind_of-kind.result } in
     let is : verdict ≡ record { lost = lost_from (expected c.self.inside.numbers) c.in-Some.t; t = c.in-Some.t; kind = kind_of c.read.result } =
     λ i. record { lost = lost i; t = c.in-Some.t; kind = c.kind_of-kind.ensures i } in
-    let judged = judged_read old c.read.new.self c.args.count c.in-Some.t c.args.bytes.now verdict c.read.result c.self.invariant number is c.read.ensures.exact c.read.ensures.latest c.read.ensures.unchanged in
+    let judged = judged_read old c.read.new.self c.args.count c.in-Some.t c.args.bytes.now verdict c.read.result c.self.invariant number is c.read.ensures.exact (record { decodes = c.read.ensures.written; masks = c.read.ensures.mask_alone; unchanged = c.read.ensures.unchanged }) in
     let latest : c.next.new.self ≡ Some c.in-Some.t = c.next.ensures.latest ∙ ap (latest_after c.self.inside.numbers) c.in-Some.is in
     ap (λ (n : Option ℕ). record { latest = n; state = c.read.new.self.state }) latest ∙ ap (λ (j : Judged). j.after) judged ∙ ap (λ (r : Reception). (next_judged r c.args.count c.args.bytes.now).after) c.self.view_is
 
@@ -69,11 +71,20 @@ pub returns-in_default-clause-shows : goal.returns-in_default-clause-shows
 returns-in_default-clause-shows c =
     let old : Reception = record { latest = c.self.inside.numbers; decoder = c.self.inside.decoder } in
     let none : number_after c.self.inside.numbers c.args.count ≡ None = search rules in
-    subst (λ (r : Reception). Shows c.self.inside.decoder (next_judged r c.args.count c.args.bytes.now)) c.self.view_is (shows_repeat old c.self.inside.decoder c.args.count c.args.bytes.now none)
+    subst (λ (r : Reception). Shows c.self.inside.decoder (next_judged r c.args.count c.args.bytes.now)) c.self.view_is (shows_repeat old c.args.count c.args.bytes.now none)
 
 pub returns-clause-shows : goal.returns-clause-shows
 returns-clause-shows c =
     let old : Reception = record { latest = c.self.inside.numbers; decoder = c.self.inside.decoder } in
     let number : number_after c.self.inside.numbers c.args.count ≡ Some c.in-Some.t = sym c.next.ensures.number ∙ c.in-Some.is in
-    let shows = shows_read old c.read.new.self c.in-Some.t c.args.bytes.now c.self.invariant.places c.read.ensures.latest c.args.count number in
+    let state = ap (λ (k : Known). k.state) (returns-clause-known c) ∙ ap (λ (r : Reception). (next_judged r c.args.count c.args.bytes.now).after.state) (sym c.self.view_is) in
+    let shows = shows_read old c.read.new.self c.in-Some.t c.args.bytes.now c.self.invariant.places c.read.ensures.written c.args.count number state in
     subst (λ (r : Reception). Shows c.read.new.self (next_judged r c.args.count c.args.bytes.now)) c.self.view_is shows
+
+pub invariant_of-self-2 : goal.invariant_of-self-2
+invariant_of-self-2 c =
+    let number : number_after c.self.inside.numbers c.args.count ≡ Some c.in-Some.t = sym c.next.ensures.number ∙ c.in-Some.is in
+    let latest : c.next.new.self ≡ Some c.in-Some.t = c.next.ensures.latest ∙ ap (latest_after c.self.inside.numbers) c.in-Some.is in
+    let later = subst (IsLater c.self.inside.numbers) number (number_later c.self.inside.numbers c.args.count c.requires.count_bits) in
+    kept_read c.self.inside.numbers c.next.new.self c.self.inside.decoder c.read.new.self c.in-Some.t (bits_of c.args.bytes.now) c.read.result c.self.invariant later latest c.read.ensures.places c.read.ensures.exact
+    (record { decodes = c.read.ensures.written; masks = c.read.ensures.mask_alone; unchanged = c.read.ensures.unchanged })

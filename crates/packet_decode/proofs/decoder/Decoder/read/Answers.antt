@@ -1,17 +1,20 @@
-use Rattle.std.proofs.Common.{◌≡◌, length, ap, refl, sym, ◌∙◌, Ok, Err, arith}
+use Rattle.std.proofs.Common.{◌≡◌, ℕ, Bool, List, Option, length, ap, refl, sym, ◌∙◌, Some, None, Ok, Err, arith, true, false}
 use Rattle.std.proofs.lemmas.Bool.{true≢false}
 use Rattle.std.proofs.lemmas.Result.{err_from_is_err_and}
 use Rattle.bit_vectors.specs.Vectors.{bits_of}
 use Rattle.bit_vectors.specs.Eye.{bits_left}
 use Rattle.bit_vectors.specs.Reading.{Read}
-use Rattle.packet_decode.specs.State.{IsState}
+use Rattle.packet_encode.specs.Forms.{Form}
+use Rattle.packet_decode.specs.State.{IsState, deduced_by, known_if}
+use Rattle.packet_decode.specs.Spelling.{Spells}
 use Rattle.packet_decode.specs.declared.decoder.Reading.TheVariants.{Written}
-use Rattle.packet_decode.specs.PacketReading.{deduced_by, parse_whole_packet, answer_of, Outcome, Spelled, Opaque}
-use Rattle.packet_decode.specs.Parts.{outcome_of, kept_state}
+use Rattle.packet_decode.specs.PacketReading.{parse_whole_packet, answer_of, missed, outcome_answer, Outcome, Spelled, Opaque}
+use Rattle.packet_decode.specs.Parts.{outcome_of, kept_state, part_by, tells_content}
 use Rattle.packet_decode.specs.declared.draft.DataKind.{DataKind}
-use Rattle.packet_decode.proofs.DecoderAnswers.{exact_by, says_by, spelled_by, has_state, not_missed, fault_is, reading_is, latest_is, deduced_is, spelled_as}
+use Rattle.packet_decode.proofs.DecoderAnswers.{IsFound, IsTold, exact_by, says_by, spelled_by, has_state, found_is, opaque_unspelled, fault_is, reading_is, alone_is, written_is, deduced_is, told_as}
+use Rattle.packet_decode.proofs.OneAnswer.{spelled_places}
 use Rattle.packet_decode.proofs.decoder.Decoder.read.Goals as goal
-use Rattle.packet_decode.proofs.decoder.Decoder.read.Goals.{After-replace_mask}
+use Rattle.packet_decode.proofs.decoder.Decoder.read.Goals.{After-keep_mask}
 
 -- ---- a fault
 
@@ -26,24 +29,29 @@ fault_answer c =
 fault_has : (c : goal.After-from_residual) → IsState c.args.self.now.places c.args.self.now.state
 fault_has c = has_state c.args.self.now c.self.inside.latest c.self.inside.shown c.self.view_is c.self.invariant.latest_vectors
 
+fault_nothing : {A : Type 0} (c : goal.After-from_residual) (form : Form) (mask content : Option (List Bool)) → Spells c.args.self.now.places c.args.self.now.state c.args.t (bits_of c.args.bytes.now) form mask content → A
+fault_nothing c form mask content s =
+    let p = err_from_is_err_and c.from_residual.result c.from_residual.ensures.1 in
+    absurd (spelled_by c.args.self.now.places c.args.self.now.state c.args.t (bits_of c.args.bytes.now) (fault_has c) (Err p.0) (fault_answer c ∙ p.1) form mask content s refl)
+
 pub returns-in_err-kind-clause-exact : goal.returns-in_err-kind-clause-exact
 returns-in_err-kind-clause-exact c = exact_by c.args.self.now.places c.args.self.now.state c.args.t (bits_of c.args.bytes.now) (fault_has c) c.from_residual.result (fault_answer c)
 
 pub returns-in_err-kind-clause-says : goal.returns-in_err-kind-clause-says
 returns-in_err-kind-clause-says c = says_by c.args.self.now.places c.args.self.now.state c.args.t (bits_of c.args.bytes.now) (fault_has c) c.from_residual.result (fault_answer c)
 
-pub returns-in_err-kind-clause-latest : goal.returns-in_err-kind-clause-latest
-returns-in_err-kind-clause-latest c form mask content s =
-    let p = err_from_is_err_and c.from_residual.result c.from_residual.ensures.1 in
-    let written = spelled_by c.args.self.now.places c.args.self.now.state c.args.t (bits_of c.args.bytes.now) (fault_has c) c.from_residual.result (fault_answer c) form mask content s in
-    absurd cc
+pub returns-in_err-kind-clause-written : goal.returns-in_err-kind-clause-written
+returns-in_err-kind-clause-written c form mask content s = fault_nothing c form mask (Some content) s
+
+pub returns-in_err-kind-clause-mask_alone : goal.returns-in_err-kind-clause-mask_alone
+returns-in_err-kind-clause-mask_alone c form mask s = fault_nothing c form mask None s
 
 -- ---- an opaque front
 
 opaque_answer : (c : goal.After-missed) → answer_of c.args.self.now.places c.args.self.now.state c.args.t (bits_of c.args.bytes.now) ≡ Ok c.missed.result
 opaque_answer c =
     let told = rw (c.is_opaque.ensures.0 c.if-is_opaque.true) at c.in_ok-kind.ensures.reading in
-    let missed_is = c.missed.ensures c.self.inside.latest.mask c.self.inside.latest.content in
+    let missed_is = c.missed.ensures c.self.inside.latest.mask in
     reading_is c.args.self.now c.self.inside.latest c.self.inside.shown c.self.view_is c.self.invariant.latest_vectors _ c.args.t c.new-eye.result c.args.bytes.now c.self.invariant.draft_vectors.content c.new-eye.ensures.bits c.new-eye.ensures.place
     (record { change = c.take_whole_packet.new.next; outcome = Opaque }) c.take_whole_packet.new.eye c.take_whole_packet.ensures.moves.bits told
     ∙ ap Ok (rw (sym c.level.ensures.level) (sym missed_is))
@@ -51,51 +59,117 @@ opaque_answer c =
 opaque_has : (c : goal.After-missed) → IsState c.args.self.now.places c.args.self.now.state
 opaque_has c = has_state c.args.self.now c.self.inside.latest c.self.inside.shown c.self.view_is c.self.invariant.latest_vectors
 
+opaque_nothing : {A : Type 0} (c : goal.After-missed) (form : Form) (mask content : Option (List Bool)) → Spells c.args.self.now.places c.args.self.now.state c.args.t (bits_of c.args.bytes.now) form mask content → A
+opaque_nothing c form mask content s =
+    let told = rw (c.is_opaque.ensures.0 c.if-is_opaque.true) at c.in_ok-kind.ensures.reading in
+    absurd (opaque_unspelled c.args.self.now c.self.inside.latest c.self.inside.shown c.self.view_is c.self.invariant.latest_vectors _ c.args.t c.new-eye.result c.args.bytes.now c.self.invariant.draft_vectors.content c.new-eye.ensures.bits c.new-eye.ensures.place c.take_whole_packet.new.next (bits_left c.take_whole_packet.new.eye) told form mask content s)
+
 pub returns-then-is_opaque-clause-exact : goal.returns-then-is_opaque-clause-exact
 returns-then-is_opaque-clause-exact c = exact_by c.args.self.now.places c.args.self.now.state c.args.t (bits_of c.args.bytes.now) (opaque_has c) (Ok c.missed.result) (opaque_answer c)
 
 pub returns-then-is_opaque-clause-says : goal.returns-then-is_opaque-clause-says
 returns-then-is_opaque-clause-says c = says_by c.args.self.now.places c.args.self.now.state c.args.t (bits_of c.args.bytes.now) (opaque_has c) (Ok c.missed.result) (opaque_answer c)
 
-pub returns-then-is_opaque-clause-latest : goal.returns-then-is_opaque-clause-latest
-returns-then-is_opaque-clause-latest c form mask content s =
-    let written = spelled_by c.args.self.now.places c.args.self.now.state c.args.t (bits_of c.args.bytes.now) (opaque_has c) (Ok c.missed.result) (opaque_answer c) form mask content s in
-    not_missed c.self.inside.latest c.level.result c.missed.result (c.missed.ensures c.self.inside.latest.mask c.self.inside.latest.content) written
+pub returns-then-is_opaque-clause-written : goal.returns-then-is_opaque-clause-written
+returns-then-is_opaque-clause-written c form mask content s = opaque_nothing c form mask (Some content) s
+
+pub returns-then-is_opaque-clause-mask_alone : goal.returns-then-is_opaque-clause-mask_alone
+returns-then-is_opaque-clause-mask_alone c form mask s = opaque_nothing c form mask None s
 
 -- ---- a packet
 
-told_mask : (c : After-replace_mask) → parse_whole_packet (length c.self.inside.draft.content) (kept_state c.self.inside.latest) c.args.t (bits_left c.new-eye.result)
-    ≡ Read (record { change = c.take_whole_packet.new.next; outcome = Spelled c.replace_mask.new.latest c.take_whole_packet.new.draft.content }) (bits_left c.take_whole_packet.new.eye)
-told_mask c =
-    c.in_ok-kind.ensures.reading
-    ∙ ap (λ (o : Outcome). Read (record { change = c.take_whole_packet.new.next; outcome = o }) (bits_left c.take_whole_packet.new.eye))
-    (spelled_as c.in_ok-kind.kind (deduced_by (kept_state c.self.inside.latest) c.args.t c.take_whole_packet.new.next) c.take_whole_packet.new.sent c.take_whole_packet.new.draft.content c.replace_mask.new.latest
+told : (c : After-keep_mask) → IsTold c.in_ok-kind.kind c.self.inside.latest c.keep_mask.new.latest c.args.t (deduced_by (kept_state c.self.inside.latest) c.args.t c.take_whole_packet.new.next) c.take_whole_packet.new.sent c.take_whole_packet.new.draft.content
+told c =
+    told_as c.in_ok-kind.kind c.self.inside.latest c.keep_mask.new.latest c.args.t (deduced_by (kept_state c.self.inside.latest) c.args.t c.take_whole_packet.new.next) c.take_whole_packet.new.sent c.take_whole_packet.new.draft.content
     (λ opaque. absurd (true≢false (sym (c.is_opaque.ensures.1 opaque) ∙ c.if-is_opaque.false)))
     c.in_ok-kind.ensures.deduced_by
-    c.replace_mask.ensures.sent
-    (λ deduced. deduced_is c.is_quiet.result c.self.inside.latest c.args.t c.take_whole_packet.new.next c.take_whole_packet.new.deduced c.replace_mask.new.latest (omega arith)
-    (c.replace_mask.ensures.stays deduced) (c.replace_mask.ensures.changed deduced) c.is_quiet.ensures.zero c.is_quiet.ensures.stays c.in_ok-kind.ensures.changed))
+    c.keep_mask.ensures.sent
+    (λ deduced. deduced_is c.is_quiet.result c.self.inside.latest c.args.t c.take_whole_packet.new.next c.take_whole_packet.new.deduced c.keep_mask.new.latest.mask (omega arith)
+    (c.keep_mask.ensures.stays deduced) (c.keep_mask.ensures.changed deduced) c.is_quiet.ensures.zero c.is_quiet.ensures.stays c.in_ok-kind.ensures.changed)
+    c.keep_mask.ensures.number
+    c.keep_mask.ensures.untold
 
-spelled_answer : (c : After-replace_mask) → answer_of c.args.self.now.places c.args.self.now.state c.args.t (bits_of c.args.bytes.now) ≡ Ok Written
-spelled_answer c =
-    reading_is c.args.self.now c.self.inside.latest c.self.inside.shown c.self.view_is c.self.invariant.latest_vectors _ c.args.t c.new-eye.result c.args.bytes.now c.self.invariant.draft_vectors.content c.new-eye.ensures.bits c.new-eye.ensures.place
-    (record { change = c.take_whole_packet.new.next; outcome = Spelled c.replace_mask.new.latest c.take_whole_packet.new.draft.content }) c.take_whole_packet.new.eye c.take_whole_packet.ensures.moves.bits (told_mask c)
-
-spelled_has : (c : After-replace_mask) → IsState c.args.self.now.places c.args.self.now.state
+spelled_has : (c : After-keep_mask) → IsState c.args.self.now.places c.args.self.now.state
 spelled_has c = has_state c.args.self.now c.self.inside.latest c.self.inside.shown c.self.view_is c.self.invariant.latest_vectors
+
+-- what was read, where the content becomes known or doesn't
+read_as : (c : After-keep_mask) (known : Bool) → tells_content c.in_ok-kind.kind ≡ known → parse_whole_packet (length c.self.inside.draft.content) (kept_state c.self.inside.latest) c.args.t (bits_left c.new-eye.result)
+    ≡ Read (record { change = c.take_whole_packet.new.next; outcome = Spelled (told c).mask (known_if known c.take_whole_packet.new.draft.content) }) (bits_left c.take_whole_packet.new.eye)
+read_as c known is =
+    c.in_ok-kind.ensures.reading
+    ∙ ap (λ (o : Outcome). Read (record { change = c.take_whole_packet.new.next; outcome = o }) (bits_left c.take_whole_packet.new.eye))
+    ((told c).outcome ∙ ap (λ (b : Bool). Spelled (told c).mask (known_if b c.take_whole_packet.new.draft.content)) is)
+
+found : (c : After-keep_mask) (known : Bool) → tells_content c.in_ok-kind.kind ≡ known → (form : Form) (mask content : Option (List Bool)) → Spells c.args.self.now.places c.args.self.now.state c.args.t (bits_of c.args.bytes.now) form mask content
+    → IsFound c.take_whole_packet.new.next (told c).mask (known_if known c.take_whole_packet.new.draft.content) form mask content
+found c known is form mask content s =
+    found_is c.args.self.now c.self.inside.latest c.self.inside.shown c.self.view_is c.self.invariant.latest_vectors _ c.args.t c.new-eye.result c.args.bytes.now c.self.invariant.draft_vectors.content c.new-eye.ensures.bits c.new-eye.ensures.place c.take_whole_packet.new.next (told c).mask (known_if known c.take_whole_packet.new.draft.content) (bits_left c.take_whole_packet.new.eye) (read_as c known is) form mask content s
+
+spelled_answer : (c : After-keep_mask) (known : Bool) → tells_content c.in_ok-kind.kind ≡ known
+    → answer_of c.args.self.now.places c.args.self.now.state c.args.t (bits_of c.args.bytes.now) ≡ Ok (outcome_answer (kept_state c.self.inside.latest) c.take_whole_packet.new.next.level (Spelled (told c).mask (known_if known c.take_whole_packet.new.draft.content)))
+spelled_answer c known is =
+    reading_is c.args.self.now c.self.inside.latest c.self.inside.shown c.self.view_is c.self.invariant.latest_vectors _ c.args.t c.new-eye.result c.args.bytes.now c.self.invariant.draft_vectors.content c.new-eye.ensures.bits c.new-eye.ensures.place
+    (record { change = c.take_whole_packet.new.next; outcome = Spelled (told c).mask (known_if known c.take_whole_packet.new.draft.content) }) c.take_whole_packet.new.eye c.take_whole_packet.ensures.moves.bits (read_as c known is)
+
+-- ---- its mask alone
+
+alone_answer : (c : goal.After-missed-then-not-tells_content) → (at : After-keep_mask) → answer_of c.args.self.now.places c.args.self.now.state c.args.t (bits_of c.args.bytes.now) ≡ Ok (missed (kept_state c.self.inside.latest).content c.take_whole_packet.new.next.level true)
+    → answer_of c.args.self.now.places c.args.self.now.state c.args.t (bits_of c.args.bytes.now) ≡ Ok c.missed-then-not-tells_content.result
+alone_answer c at is =
+    is ∙ ap Ok (
+    ap (λ (n : Option ℕ). missed (part_by n c.self.inside.latest.content) c.take_whole_packet.new.next.level true) (sym c.keep_mask.ensures.content_number)
+    ∙ ap (λ (v : ℕ). missed (part_by c.keep_mask.new.latest.content_number c.self.inside.latest.content) v true) (sym c.level-then-not-tells_content.ensures.level)
+    ∙ sym (c.missed-then-not-tells_content.ensures c.self.inside.latest.content)
+    )
+
+pub returns-then-not-tells_content-clause-exact : goal.returns-then-not-tells_content-clause-exact
+returns-then-not-tells_content-clause-exact c =
+    let at = (goal.at.returns-then-not-tells_content-clause-exact c).After-keep_mask in
+    exact_by c.args.self.now.places c.args.self.now.state c.args.t (bits_of c.args.bytes.now) (spelled_has at) (Ok c.missed-then-not-tells_content.result) (alone_answer c at (spelled_answer at false (sym c.tells_content.ensures ∙ c.if-not-tells_content.true)))
+
+pub returns-then-not-tells_content-clause-says : goal.returns-then-not-tells_content-clause-says
+returns-then-not-tells_content-clause-says c =
+    let at = (goal.at.returns-then-not-tells_content-clause-says c).After-keep_mask in
+    says_by c.args.self.now.places c.args.self.now.state c.args.t (bits_of c.args.bytes.now) (spelled_has at) (Ok c.missed-then-not-tells_content.result) (alone_answer c at (spelled_answer at false (sym c.tells_content.ensures ∙ c.if-not-tells_content.true)))
+
+not_some : {A : Type 0} (content : List Bool) → ◌≡◌ {A = Option (List Bool)} None (Some content) → A
+not_some content e = absurd cc
+
+pub returns-then-not-tells_content-clause-written : goal.returns-then-not-tells_content-clause-written
+returns-then-not-tells_content-clause-written c form mask content s =
+    let at = (goal.at.returns-then-not-tells_content-clause-written c).After-keep_mask in
+    let found_as = found at false (sym c.tells_content.ensures ∙ c.if-not-tells_content.true) form mask (Some content) s in
+    not_some content found_as.content_is
+
+pub returns-then-not-tells_content-clause-mask_alone : goal.returns-then-not-tells_content-clause-mask_alone
+returns-then-not-tells_content-clause-mask_alone c form mask s =
+    let at = (goal.at.returns-then-not-tells_content-clause-mask_alone c).After-keep_mask in
+    let found_as = found at false (sym c.tells_content.ensures ∙ c.if-not-tells_content.true) form mask None s in
+    alone_is c.args.self.now c.self.inside.latest c.self.inside.shown c.self.view_is c.self.invariant.latest_vectors _ c.args.t c.new-eye.result c.args.bytes.now c.self.invariant.draft_vectors.content c.new-eye.ensures.bits c.new-eye.ensures.place
+    c.keep_mask.new.latest (told at).mask mask c.keep_mask.ensures.content c.keep_mask.ensures.content_number (told at).part found_as.mask_is
+
+-- ---- its content
 
 pub returns-clause-exact : goal.returns-clause-exact
 returns-clause-exact c =
-    let at = (goal.at.returns-clause-exact c).After-replace_mask in
-    exact_by c.args.self.now.places c.args.self.now.state c.args.t (bits_of c.args.bytes.now) (spelled_has at) (Ok Written) (spelled_answer at)
+    let at = (goal.at.returns-clause-exact c).After-keep_mask in
+    exact_by c.args.self.now.places c.args.self.now.state c.args.t (bits_of c.args.bytes.now) (spelled_has at) (Ok Written) (spelled_answer at true (sym c.tells_content.ensures ∙ c.if-not-tells_content.false))
 
 pub returns-clause-says : goal.returns-clause-says
 returns-clause-says c =
-    let at = (goal.at.returns-clause-says c).After-replace_mask in
-    says_by c.args.self.now.places c.args.self.now.state c.args.t (bits_of c.args.bytes.now) (spelled_has at) (Ok Written) (spelled_answer at)
+    let at = (goal.at.returns-clause-says c).After-keep_mask in
+    says_by c.args.self.now.places c.args.self.now.state c.args.t (bits_of c.args.bytes.now) (spelled_has at) (Ok Written) (spelled_answer at true (sym c.tells_content.ensures ∙ c.if-not-tells_content.false))
 
-pub returns-clause-latest : goal.returns-clause-latest
-returns-clause-latest c =
-    latest_is c.args.self.now c.self.inside.latest c.self.inside.shown c.self.view_is c.self.invariant.latest_vectors _ c.args.t c.new-eye.result c.args.bytes.now c.self.invariant.draft_vectors.content c.new-eye.ensures.bits c.new-eye.ensures.place
-    c.take_whole_packet.new.next c.replace_mask.new.latest c.take_whole_packet.new.draft.content _ (told_mask (goal.at.returns-clause-latest c).After-replace_mask)
-    c.swap.new.x c.replace_mask.new.latest c.swap-2.new.x c.swap.ensures.x_after refl c.swap-2.ensures.x_after
+pub returns-clause-mask_alone : goal.returns-clause-mask_alone
+returns-clause-mask_alone c form mask s =
+    let at = (goal.at.returns-clause-mask_alone c).After-keep_mask in
+    let found_as = found at true (sym c.tells_content.ensures ∙ c.if-not-tells_content.false) form mask None s in
+    not_some c.take_whole_packet.new.draft.content (sym found_as.content_is)
+
+pub returns-clause-written : goal.returns-clause-written
+returns-clause-written c form mask content s =
+    let at = (goal.at.returns-clause-written c).After-keep_mask in
+    let found_as = found at true (sym c.tells_content.ensures ∙ c.if-not-tells_content.false) form mask (Some content) s in
+    let places = spelled_places c.args.self.now.places c.args.self.now.state c.args.t (bits_of c.args.bytes.now) form mask (Some content) (spelled_has at) s in
+    written_is c.args.self.now c.self.inside.latest c.self.inside.shown c.self.view_is c.self.invariant.latest_vectors _ c.args.t c.new-eye.result c.args.bytes.now c.self.invariant.draft_vectors.content c.new-eye.ensures.bits c.new-eye.ensures.place
+    (record { mask_number = c.keep_mask.new.latest.mask_number; mask = c.keep_mask.new.latest.mask; content_number = Some c.args.t; content = c.swap-2.new.x }) c.swap.new.x c.take_whole_packet.new.next (told at).mask (Some c.take_whole_packet.new.draft.content) refl (ap Some c.swap-2.ensures.x_after) (told at).part c.swap.ensures.x_after form mask content found_as places.1
