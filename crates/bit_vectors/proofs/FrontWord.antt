@@ -10,7 +10,7 @@ use Rattle.std.proofs.Math.Nat.{pow-succ', mul-mod_left, mul-le-mul_right}
 use Rattle.bit_vectors.specs.Vectors.{number_bits, bits_of, AreBytes}
 use Rattle.bit_vectors.specs.Eye.{Shows}
 use Rattle.bit_vectors.proofs.NumberBits.{length-number_bits, get_or-number_bits}
-use Rattle.bit_vectors.proofs.Numbers.{number_bits-split, number_bits-cat, number_bits-mod, bit_at_shr}
+use Rattle.bit_vectors.proofs.Numbers.{number_bits-split, number_bits-cat, number_bits-mod, bit_at_mod, bit_at_shr, bit_at_shl, bit_at_shl_low}
 use Rattle.bit_vectors.proofs.ByteBits.{length-bits_of, get_or-bits_of}
 
 byte_power : (k : ℕ) → 256 ^ k ≡ 2 ^ (8 * k)
@@ -60,26 +60,6 @@ pub Shows-bytes : (bytes front : List ℕ) (word : ℕ) → length front ≡ 8 �
 Shows-bytes bytes front word len below is same =
     let bits : number_bits 64 word ≡ bits_of front = sym (bits_of-to_be_bytes word) ∙ ap (λ (b : List ℕ). bits_of b) (be_bytes_8 front word len below is) in
     Shows-is (bits_of bytes) word (λ k lt. rw (bits, get_or-bits_of_all front k, same (k / 8) (omega arith)) (sym (get_or-bits_of_all bytes k)))
-
-get_or-zeros : (n i : ℕ) → get_or {A = ℕ} (replicate n 0) i 0 ≡ 0
-get_or-zeros zero i = refl
-get_or-zeros (suc n) zero = refl
-get_or-zeros (suc n) (suc i) = get_or-zeros n i
-
--- zeros after bytes
-pub get_or-then_zeros : (bytes : List ℕ) (n i : ℕ) → get_or (bytes ++ replicate n 0) i 0 ≡ get_or bytes i 0
-get_or-then_zeros [] n i = get_or-zeros n i
-get_or-then_zeros (b ∷ bytes) n zero = refl
-get_or-then_zeros (b ∷ bytes) n (suc i) = get_or-then_zeros bytes n i
-
-drop-eight : (n : ℕ) → n ≤ 8 → drop n (replicate {A = ℕ} 8 0) ≡ replicate (8 - n) 0
-drop-eight n le = drop-replicate n 8 0
-
-pub Shows-short : (bytes front : List ℕ) (word : ℕ) → length bytes < 8 → AreBytes bytes → front ≡ bytes ++ drop (length bytes) (replicate {A = ℕ} 8 0) → word ≡ from_be_bytes w64 front → Shows (bits_of bytes) word
-Shows-short bytes front word lt below front-is is =
-    let whole : front ≡ bytes ++ replicate (8 - length bytes) 0 = front-is ∙ rw (drop-eight (length bytes) (omega arith)) refl in
-    Shows-bytes bytes front word (rw whole (omega (arith, length-append bytes (replicate (8 - length bytes) 0), length-replicate {A = ℕ} (8 - length bytes) 0)))
-    (λ i. rw (whole, get_or-then_zeros bytes (8 - length bytes) i) (below i)) is (λ i i_lt. rw whole (get_or-then_zeros bytes (8 - length bytes) i))
 
 -- ---- a word, and the first bits of the byte after it
 
@@ -137,6 +117,31 @@ Shows-from bytes place word n all shows =
     let weight : (place % 8 + k) % 8 ≡ (place + k) % 8 = omega arith in
     shows k lt ∙ get_or-drop (place % 8) (bits_of (take n (drop (place / 8) bytes))) k false ∙ rw (rest, get_or-bits_of_all (drop (place / 8) bytes) (place % 8 + k), get_or-drop (place / 8) bytes ((place % 8 + k) / 8) 0, byte, weight)
     (sym (get_or-drop place (bits_of bytes) k false ∙ get_or-bits_of_all bytes (place + k)))
+
+-- the same from the bytes after so many
+pub Shows-drop : (bytes : List ℕ) (n s place word : ℕ) → place ≡ 8 * n + s → Shows (drop s (bits_of (drop n bytes))) word → Shows (drop place (bits_of bytes)) word
+Shows-drop bytes n s place word place_is shows =
+    λ k lt.
+    let byte : n + (s + k) / 8 ≡ (place + k) / 8 = omega (arith, place_is) in
+    let weight : (s + k) % 8 ≡ (place + k) % 8 = omega (arith, place_is) in
+    shows k lt ∙ get_or-drop s (bits_of (drop n bytes)) k false ∙ rw (get_or-bits_of_all (drop n bytes) (s + k), get_or-drop n bytes ((s + k) / 8) 0, byte, weight)
+    (sym (get_or-drop place (bits_of bytes) k false ∙ get_or-bits_of_all bytes (place + k)))
+
+-- ---- a word of all the bits that are left
+
+pub Shows-none : (bits : List Bool) → length bits ≤ 64 → Shows (drop 64 bits) 0
+Shows-none bits most =
+    λ k lt. rw (bit_at-zero (63 - k)) (sym (get_or-drop 64 bits k false ∙ get_or_past bits (64 + k) false (omega arith)))
+
+pub Shows-left : (bits : List Bool) (word s : ℕ) → s < 64 → length bits ≤ 64 → Shows bits word → Shows (drop s bits) (word * 2 ^ s % 2 ^ 64)
+Shows-left bits word s s_lt most shows =
+    λ k lt.
+    ap (λ (b : ℕ). eqb b 1) (bit_at_mod (word * 2 ^ s) 64 (63 - k) (omega arith)) ∙ elim (cases_lt k (64 - s)) [
+      | inl low ↦
+          let weight : 63 - k - s ≡ 63 - (s + k) = omega arith in
+          rw (bit_at_shl word s (63 - k) (omega arith), weight) (shows (s + k) (omega arith) ∙ sym (get_or-drop s bits k false))
+      | inr high ↦ rw (bit_at_shl_low word s (63 - k) (omega arith)) (sym (get_or-drop s bits k false ∙ get_or_past bits (s + k) false (omega arith)))
+    ]
 
 -- the first bits of a word that shows them
 pub shown_front : (bits : List Bool) (word width : ℕ) → Shows bits word → width ≤ 64 → width ≤ length bits → number_bits width (word / 2 ^ (64 - width)) ≡ take width bits

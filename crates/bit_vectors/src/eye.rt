@@ -1,6 +1,6 @@
 //! Reading bytes bit by bit.
 
-ghost use Rattle.std.specs.Prelude.{◌≡◌, ◌+◌, ◌*◌, ◌<◌, ◌≤◌, ◌↔◌, [], ◌∷◌, length, drop, slice_index_or, false, IsNone, IfSome, OnSome, IfNone};
+ghost use Rattle.std.specs.Prelude.{◌≡◌, ◌+◌, ◌*◌, ◌<◌, ◌≤◌, ◌↔◌, [], ◌∷◌, Bool, List, length, drop, slice_index_or, false, IsNone, IfSome, OnSome, IfNone};
 ghost use Rattle.bit_vectors.specs.Vectors.{bits_of};
 ghost use Rattle.bit_vectors.specs.Eye.{EyeState, bits_left, Shows};
 
@@ -13,18 +13,21 @@ use std::marker::Model;
 pub struct BitEye<'a> {
     bytes: &'a [u8],
     place: u32,
+    /// The last eight bytes, or all bytes if they are fewer, and zeros.
+    last: u64,
 }
 
 impl<'a> Model for BitEye<'a> {
-    ghost use Rattle.std.specs.Prelude.{◌≤◌, ◌*◌, length};
+    ghost use Rattle.std.specs.Prelude.{◌≤◌, ◌*◌, ◌-◌, length, drop};
     ghost use Rattle.bit_vectors.specs.Vectors.{bits_of};
-    ghost use Rattle.bit_vectors.specs.Eye.{EyeState};
+    ghost use Rattle.bit_vectors.specs.Eye.{EyeState, Shows};
 
     ghost Value = { EyeState };
 
     ghost view = { λ e. record { bits = bits_of e.bytes.now; place = e.place } };
 
-    ghost invariant = { λ e. (length e.bytes.now ≤ 65536) × (e.place ≤ 8 * length e.bytes.now) };
+    ghost invariant = { λ e. (length e.bytes.now ≤ 65536) × (e.place ≤ 8 * length e.bytes.now)
+        × Shows (bits_of (drop (length e.bytes.now - 8) e.bytes.now)) e.last };
 }
 
 impl<'a> BitEye<'a> {
@@ -34,7 +37,12 @@ impl<'a> BitEye<'a> {
         ensures bits { result.bits ≡ bits_of bytes.now }
         ensures place { result.place ≡ 0 }
     {
-        BitEye { bytes, place: 0 }
+        let last = front_word(&bytes[bytes.len().saturating_sub(8)..]);
+        BitEye {
+            bytes,
+            place: 0,
+            last,
+        }
     }
 
     /// The number of the next bit.
@@ -83,7 +91,12 @@ impl<'a> BitEye<'a> {
     pub fn ahead(&self) -> u64
         ensures { Shows (bits_left self.now) result }
     {
-        word_after(&self.bytes[self.place as usize / 8..], self.place % 8)
+        let last = self.size().saturating_sub(64);
+        if self.place < last {
+            word_after(&self.bytes[self.place as usize / 8..], self.place % 8)
+        } else {
+            word_left(self.last, self.place - last)
+        }
     }
 
     /// Moves on by so many bits, at most those that are left.
@@ -112,4 +125,13 @@ fn word_after(bytes: &[u8], skipped: u32) -> u64
 {
     let next = bytes.get(8).copied().unwrap_or(0);
     (front_word(bytes) << skipped) + (u64::from(next) >> (8 - skipped))
+}
+
+/// What is left of at most 64 bits, which are the first of this word, after so many of them, and zeros.
+fn word_left(word: u64, passed: u32) -> u64
+    requires { passed ≤ 64 }
+    ensures { (bits : List Bool) → length bits ≤ 64 → Shows bits word
+        → Shows (drop passed bits) result }
+{
+    if passed == 64 { 0 } else { word << passed }
 }

@@ -1,6 +1,6 @@
 //! The front of bytes as a word of 64 bits.
 
-ghost use Rattle.std.specs.Prelude.{◌≡◌, ◌+◌, ◌<◌, length};
+ghost use Rattle.std.specs.Prelude.{◌≡◌, ◌+◌, ◌<◌, length, slice_index};
 ghost use Rattle.bit_vectors.specs.Vectors.{bits_of};
 ghost use Rattle.bit_vectors.specs.Eye.{Shows};
 
@@ -19,7 +19,21 @@ fn short_word(bytes: &[u8]) -> u64
     requires { length bytes.now < 8 }
     ensures { Shows (bits_of bytes.now) result }
 {
-    let mut front = [0; 8];
-    front[..bytes.len()].copy_from_slice(bytes);
-    u64::from_be_bytes(front)
+    u64::from_be_bytes([
+        byte_or_zero(bytes, 0),
+        byte_or_zero(bytes, 1),
+        byte_or_zero(bytes, 2),
+        byte_or_zero(bytes, 3),
+        byte_or_zero(bytes, 4),
+        byte_or_zero(bytes, 5),
+        byte_or_zero(bytes, 6),
+        0,
+    ])
+}
+
+/// The byte with this number, and 0 past the end.
+fn byte_or_zero(bytes: &[u8], index: usize) -> u8
+    ensures { result ≡ slice_index bytes.now index }
+{
+    bytes.get(index).copied().unwrap_or(0)
 }

@@ -14,4 +14,4 @@ pub overflow_add-self : goal.overflow_add-self
 overflow_add-self c = omega (arith, within c.self.inside.bytes.now c.self.inside.place c.args.width c.args.self.now c.self.view_is c.self.invariant.1 c.requires, c.self.invariant.0)
 
 pub invariant_of-self : goal.invariant_of-self
-invariant_of-self c = (c.self.invariant.0, within c.self.inside.bytes.now c.self.inside.place c.args.width c.args.self.now c.self.view_is c.self.invariant.1 c.requires)
+invariant_of-self c = (c.self.invariant.0, within c.self.inside.bytes.now c.self.inside.place c.args.width c.args.self.now c.self.view_is c.self.invariant.1 c.requires, c.self.invariant.2)

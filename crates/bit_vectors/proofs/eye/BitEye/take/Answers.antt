@@ -11,7 +11,7 @@ bit_in-bit-requires c =
 
 pub invariant_of-self : goal.invariant_of-self
 invariant_of-self c =
-    (c.self.invariant.0, omega (arith, length-bits_of c.self.inside.bytes.now, ap (λ (e : EyeState). length e.bits) c.self.view_is))
+    (c.self.invariant.0, omega (arith, length-bits_of c.self.inside.bytes.now, ap (λ (e : EyeState). length e.bits) c.self.view_is), c.self.invariant.2)
 
 pub returns-clause-bit : goal.returns-clause-bit
 returns-clause-bit c =
