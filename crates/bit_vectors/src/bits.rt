@@ -9,8 +9,8 @@ ghost use Rattle.bit_vectors.specs.Words.{word_count, IsWord, HasNoSpareBit, vec
 use crate::fault::{NoMemory, SpareBit};
 use crate::word_bytes::{has_spare_bit, load_words, store_words};
 use crate::words::{
-    are_zero, bit_in_words, drop_words, first_one, last_one, ones_in, or_words, write_bit_in_words,
-    xor_words, zero_words,
+    are_zero, bit_in_words, copy_words, drop_words, first_one, last_one, ones_in, or_words,
+    write_bit_in_words, xor_words, zero_words,
 };
 use std::alloc::Global;
 use std::marker::Model;
@@ -89,7 +89,7 @@ impl Bits {
         requires { length self.old ≡ length other.now }
         ensures { self.new ≡ other.now }
     {
-        self.words.copy_from_slice(&other.words);
+        copy_words(&mut self.words, &other.words);
     }
 
     /// Makes the bits 1 at which exactly one of this vector and `other`, which has as many places, is 1,

@@ -1,7 +1,7 @@
 //! Words of 64 bits and the bytes that hold the same bits: the bit of the greatest weight comes first.
 
-ghost use Rattle.std.specs.Prelude.{◌≡◌, ℕ, ◌+◌, ◌-◌, ◌*◌, ◌^◌, ◌<◌, ◌≤◌, ◌↔◌, ◌==◌, true, false, length, drop, slice_index, slice_index_or, Contains, IsTrue};
-ghost use Rattle.std.specs.Int.{bit_at};
+ghost use Rattle.std.specs.Prelude.{◌≡◌, ℕ, ◌+◌, ◌-◌, ◌*◌, ◌^◌, ◌<◌, ◌≤◌, ◌↔◌, ◌==◌, true, false, length, take, drop, slice_index, slice_index_or, Contains, IsTrue};
+ghost use Rattle.std.specs.Int.{bit_at, to_be_bytes, w64};
 ghost use Rattle.bit_vectors.specs.Vectors.{bits_of, byte_count};
 ghost use Rattle.bit_vectors.specs.Words.{bit_of};
 
@@ -34,9 +34,18 @@ pub fn store_words(words: &[u64], bytes: &mut [u8])
     for index in 0..whole {
         bytes[8 * index..8 * index + 8].copy_from_slice(&words[index].to_be_bytes());
     }
-    let rest = bytes.len() % 8;
-    if rest > 0 {
-        bytes[8 * whole..8 * whole + rest].copy_from_slice(&words[whole].to_be_bytes()[..rest]);
+    if whole < words.len() {
+        store_short(words[whole], &mut bytes[8 * whole..]);
+    }
+}
+
+/// Writes the first bytes of a word, at most eight, one by one: they are too few for a copy.
+fn store_short(word: u64, bytes: &mut [u8])
+    requires { length bytes.old ≤ 8 }
+    ensures { bytes.new ≡ take (length bytes.old) (to_be_bytes w64 word) }
+{
+    for index in 0..bytes.len() {
+        bytes[index] = ((word >> (56 - 8 * index)) % 256) as u8;
     }
 }
 

@@ -42,6 +42,18 @@ pub fn write_bit_in_words(words: &mut [u64], place: u32, value: bool)
     }
 }
 
+/// Makes the words the others. A single one is no call of a copy.
+pub fn copy_words(words: &mut [u64], others: &[u64])
+    requires { length words.old ≡ length others.now }
+    ensures { words.new ≡ others.now }
+{
+    if words.len() == 1 {
+        words[0] = others[0];
+    } else {
+        words.copy_from_slice(others);
+    }
+}
+
 /// Makes each word the bits that exactly one of it and the other has.
 pub fn xor_words(words: &mut [u64], others: &[u64])
     requires { length words.old ≡ length others.now }
