@@ -1,5 +1,5 @@
 -- What rows say of a packet number.
-use Rattle.std.specs.Prelude.{ℕ, ◌≤◌, Bool, ◌&&◌, List, find, reverse, Option, Some, None}
+use Rattle.std.specs.Prelude.{ℕ, ◌≤◌, Bool, false, ◌&&◌, List, find, reverse, Option, Some, None}
 use Rattle.std.specs.List.{filter_map, list_any}
 use Rattle.std.specs.Option.{option_map, option_map_or}
 use Rattle.bit_vectors.specs.declared.flags.Flags.{Flags}
@@ -67,6 +67,9 @@ flags_of rows t = record {
   f = list_any (gives_flag (λ flags. flags.f) t) rows;
   r = list_any (gives_flag (λ flags. flags.r) t) rows;
 }
+
+abbrev pub no_flags : Flags
+no_flags = record { p = false; f = false; r = false }
 
 -- the last row that names the number
 abbrev pub last_row : {R : Type 0} → (R → Span) → List R → ℕ → Option R

@@ -1,6 +1,6 @@
 //! Rows in the order of their first numbers, so that those that name a number are found without a walk over all.
 
-ghost use Rattle.std.specs.Prelude.{◌≡◌, List, map, All, IfOk};
+ghost use Rattle.std.specs.Prelude.{◌≡◌, ℕ, ◌<◌, ◌≤◌, [], List, map, All, IfOk};
 ghost use Rattle.std.specs.Iterator.{YieldsFirst, item_count};
 ghost use Rattle.std.specs.List.Sorted.{IsNonDecreasingBy};
 ghost use Rattle.side_tables.specs.declared.order.OrderEntry.{OrderEntry};
@@ -162,4 +162,19 @@ fn next_of_few(order: &[OrderEntry], start: usize, t: u32) -> Option<usize>
         }
     }
     None
+}
+
+/// A number up to which no entry names one from `t` on. Only a few entries are looked at; of more it tells nothing.
+pub fn next_named(order: &[OrderEntry], t: u32) -> u32
+    requires { AreOrdered order.now }
+    ensures { (n : ℕ) → t ≤ n → n < result → places_naming n order.now ≡ [] }
+{
+    if order.len() > FEW {
+        return t;
+    }
+    let mut next = u32::MAX;
+    for k in 0..order.len() {
+        next = next.min(order[k].span.next(t));
+    }
+    next
 }

@@ -1,6 +1,6 @@
 //! Packet numbers in steps.
 
-ghost use Rattle.std.specs.Prelude.{◌≡◌, ◌≤◌};
+ghost use Rattle.std.specs.Prelude.{◌≡◌, ℕ, ◌<◌, ◌≤◌, false};
 ghost use Rattle.side_tables.specs.Spans.{names};
 
 /// Each `step`-th number from `first` to `last`.
@@ -18,5 +18,22 @@ impl Span {
         ensures { result ≡ names self.now t }
     {
         self.first <= t && t <= self.last && (t - self.first) % self.step == 0
+    }
+    /// A number up to which none from `t` on is one of them.
+    pub fn next(&self, t: u32) -> u32
+        requires { 1 ≤ self.now.step }
+        ensures { (n : ℕ) → t ≤ n → n < result → names self.now n ≡ false }
+    {
+        if t <= self.first {
+            return self.first;
+        }
+        if self.last < t {
+            return u32::MAX;
+        }
+        let past = (t - self.first) % self.step;
+        if past == 0 {
+            return t;
+        }
+        t.saturating_add(self.step - past)
     }
 }

@@ -1,10 +1,10 @@
 //! Tables: rows that name packets by their numbers, and those of them that name one packet.
 
-ghost use Rattle.std.specs.Prelude.{◌≡◌, All, IfOk, IfSome};
+ghost use Rattle.std.specs.Prelude.{◌≡◌, ℕ, ◌<◌, ◌≤◌, [], All, IfOk, IfSome};
 ghost use Rattle.side_tables.specs.Rows.{last_row};
 ghost use Rattle.side_tables.specs.Tables.{ArePlacesNaming};
 
-use crate::order::{OrderEntry, PlacesAt, order_of, places_at};
+use crate::order::{OrderEntry, PlacesAt, next_named, order_of, places_at};
 use crate::rows::TableRow;
 use bit_vectors::NoMemory;
 use std::alloc::Global;
@@ -69,5 +69,11 @@ impl<R: TableRow> Table<R> {
     {
         let place = self.naming(t).max()?;
         Some(self.rows[place])
+    }
+    /// A number up to which no row names a packet from `t` on.
+    pub(crate) fn next_named(&self, t: u32) -> u32
+        ensures { (n : ℕ) → t ≤ n → n < result → ArePlacesNaming R.span_of self.now n [] }
+    {
+        next_named(&self.order, t)
     }
 }
