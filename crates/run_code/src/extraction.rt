@@ -37,20 +37,27 @@ pub fn take_into(eye: &mut BitEye, a: &mut Bits, b: &Bits) -> Result<(), BitFaul
     ensures reading { Gives (λ _. a.new) result eye.new
         (parse_filled (places_down b.now) a.old (bits_left eye.old)) }
 {
+    let mut ahead = 0;
+    let mut shown = 0;
     for index in (0..b.word_count()).rev() {
         let at = b.word(index);
         if at == 0 {
             continue;
         }
         let count = at.count_ones();
-        let left = eye.left();
-        if left < count {
-            eye.pass(left);
-            return Err(BitFault::EndsEarly { bit: eye.size() });
+        if shown < count {
+            ahead = eye.ahead();
+            shown = eye.left().min(64);
+            if shown < count {
+                eye.pass(shown);
+                return Err(BitFault::EndsEarly { bit: eye.size() });
+            }
         }
-        let word = spread(a.word(index), at, eye.ahead());
+        let word = spread(a.word(index), at, ahead);
         a.set_word(index, word);
         eye.pass(count);
+        ahead <<= count % 64;
+        shown -= count;
     }
     Ok(())
 }

@@ -1,7 +1,9 @@
 use Rattle.std.proofs.Common.{◌≡◌, ◌+◌, ◌-◌, ◌*◌, ◌<◌, ◌≤◌, ◌++◌, ℕ, Bool, List, false, length, get_or, refl, sym, ap, ◌∙◌, arith, inl, inr}
 use Rattle.std.specs.Prelude.{count_by}
 use Rattle.std.proofs.lemmas.Bool.{true≢false}
-use Rattle.std.proofs.lemmas.List.{length-append}
+use Rattle.std.specs.Int.RustNames.{count_ones}
+use Rattle.std.proofs.lemmas.Nat.{ones-le}
+use Rattle.std.proofs.lemmas.List.{length-append, length-drop}
 use Rattle.bit_vectors.specs.Eye.{bits_left}
 use Rattle.bit_vectors.specs.Words.{word_count}
 use Rattle.bit_vectors.proofs.EyeReading.{MovesOn-refl, MovesOn-then}
@@ -11,9 +13,9 @@ use Rattle.run_code.proofs.InverseBits.{length-bits_at}
 use Rattle.run_code.proofs.Ones.{ones_below, places_down_apart, places_down_has, length-places_down, one_or_zero}
 use Rattle.run_code.proofs.Filling.{OnlyAt, IsExact-filled_at, parse_filled-few}
 use Rattle.run_code.proofs.Gathering.{ones_step, ones_below-past}
-use Rattle.run_code.proofs.Spreading.{ones_span, span_none, span_all, span_skip, places_parts, spread_more, spread_others}
+use Rattle.run_code.proofs.Spreading.{ones_span, span_none, span_all, span_skip, places_parts, spread_more, spread_others, ShowsFirst, ShowsFirst-after}
 use Rattle.run_code.proofs.extraction.take_into.Goals as goal
-use Rattle.run_code.proofs.extraction.take_into.Goals.{After-word-at, Then-left-count}
+use Rattle.run_code.proofs.extraction.take_into.Goals.{After-word-at, Then-shown-count-2, then-shown-count+else-shown-count-2, else-shown-count}
 
 pub loop-index-init : goal.loop-index-init
 loop-index-init c =
@@ -23,6 +25,9 @@ loop-index-init c =
       places = refl;
       others = λ k zero. refl;
       taken = rw (none, span_none (64 * c.word_count-index.result) c.args.b.now) refl;
+      few = omega arith;
+      within = omega arith;
+      shows = λ k none. absurd (omega arith);
     }
 
 -- the bits that were left at first are those that were taken and those that are left
@@ -43,39 +48,66 @@ loop-index-preserved-then-at-eq0 c =
       places = i.places;
       others = i.others;
       taken = rw skip i.taken;
+      few = i.few;
+      within = i.within;
+      shows = i.shows;
     }
 
 -- the bits are too few for the ones of a word
-few : (c : Then-left-count) → length (bits_left c.args.eye.now) < count_by (λ bit. bit) c.args.b.now
+few : (c : Then-shown-count-2) → length (bits_left c.args.eye.now) < count_by (λ bit. bit) c.args.b.now
 few c =
     let within : 64 * c.loop-index.index ≤ 64 * word_count (length c.args.b.now) = omega (arith, c.word_count-index.ensures.count) in
+    let most : count_ones c.word-at.result ≤ 64 = ones-le 64 c.word-at.result c.word-at.type_inv in
     omega (
       arith,
-      c.if-left-count.true,
-      c.left-left.ensures.left,
+      most,
+      c.if-shown-count-2.true,
+      c.min-shown.ensures,
+      c.left.ensures.left,
       so_far c.loop-index.a c.args.b.now (bits_left c.args.eye.now) (bits_left c.loop-index.eye) (64 * c.loop-index.index) (64 * word_count (length c.args.b.now)) within (omega arith) c.loop-index.invariant.taken,
       ones_step c.args.b.now c.args.b.now c.loop-index.index c.word-at.result c.word-at.result (omega arith) c.word-at.type_inv c.word-at.ensures c.word-at.ensures,
     )
 
-pub returns-then-left-count-clause-early : goal.returns-then-left-count-clause-early
-returns-then-left-count-clause-early c = (λ _. few (goal.at.returns-then-left-count-clause-early c).Then-left-count, λ _. refl)
+pub returns-then-shown-count-2-clause-early : goal.returns-then-shown-count-2-clause-early
+returns-then-shown-count-2-clause-early c = (λ _. few (goal.at.returns-then-shown-count-2-clause-early c).Then-shown-count-2, λ _. refl)
 
-pub returns-then-left-count-clause-reading : goal.returns-then-left-count-clause-reading
-returns-then-left-count-clause-reading c = (
-  parse_filled-few (places_down c.args.b.now) c.args.a.now (bits_left c.args.eye.now) (omega (arith, length-places_down c.args.b.now, few (goal.at.returns-then-left-count-clause-reading c).Then-left-count)),
+pub returns-then-shown-count-2-clause-reading : goal.returns-then-shown-count-2-clause-reading
+returns-then-shown-count-2-clause-reading c = (
+  parse_filled-few (places_down c.args.b.now) c.args.a.now (bits_left c.args.eye.now) (omega (arith, length-places_down c.args.b.now, few (goal.at.returns-then-shown-count-2-clause-reading c).Then-shown-count-2)),
   c.size.ensures.size,
-  omega (arith, c.left-left.ensures.rest, c.pass.ensures.place, ap length c.pass.ensures.bits),
+  omega (arith, ones-le 64 c.word-at.result c.word-at.type_inv, c.if-shown-count-2.true, c.min-shown.ensures, c.left.ensures.left, c.left.ensures.rest, c.pass.ensures.place, ap length c.pass.ensures.bits),
 )
+
+-- the bits that a word wants are shown
+record AreShown (left : List Bool) (ahead shown count : ℕ) : Type 0 where
+  most : shown ≤ 64
+  enough : count ≤ shown
+  within : shown ≤ length left
+  shows : ShowsFirst shown left ahead
 
 pub loop-index-preserved : goal.loop-index-preserved
 loop-index-preserved c =
     let i = c.loop-index.invariant in
+    let here : AreShown (bits_left c.loop-index.eye) c.if-shown-count.ahead c.if-shown-count.shown (count_ones c.word-at.result) =
+    elim c.if-shown-count.branch [
+      | then-shown-count+else-shown-count-2 w ↦ rw (w.shown-is, w.ahead-is) (record {
+        most = omega (arith, w.min-shown.ensures);
+        enough = w.if-shown-count-2.false;
+        within = omega (arith, w.min-shown.ensures, w.left.ensures.left);
+        shows = λ k lt. w.ahead-ahead.ensures k (omega (arith, w.min-shown.ensures));
+      })
+      | else-shown-count w ↦ rw (w.shown-is, w.ahead-is) (record { most = i.few; enough = w.if-shown-count.false; within = i.within; shows = i.shows })
+    ] in
     record {
       moves = MovesOn-then c.args.eye.now c.loop-index.eye c.pass-in-loop-index.new.self i.moves (record { bits = c.pass-in-loop-index.ensures.bits; forward = omega (arith, c.pass-in-loop-index.ensures.place) });
       places = c.set_word.ensures.len ∙ i.places;
       others = λ k zero. spread_others c.loop-index.a c.set_word.new.self c.args.b.now (c.loop-index.index - 1) c.word.result c.word-at.result c.spread-word.result c.word.ensures c.word-at.ensures c.set_word.ensures.word c.set_word.ensures.others c.spread-word.ensures.others k zero ∙ i.others k zero;
       taken = rw c.pass-in-loop-index.ensures.left
-          (spread_more (bits_left c.args.eye.now) (bits_left c.loop-index.eye) c.loop-index.a c.set_word.new.self c.args.b.now c.loop-index.index (64 * word_count (length c.args.b.now)) c.word-at.result c.spread-word.result c.ahead.result (omega arith) (within (goal.at.loop-index-preserved c).After-word-at) c.word-at.type_inv c.word-at.ensures c.set_word.ensures.word c.set_word.ensures.others c.spread-word.ensures.bits c.ahead.ensures (omega (arith, c.left-left.ensures.left)) i.taken);
+          (spread_more (bits_left c.args.eye.now) (bits_left c.loop-index.eye) c.loop-index.a c.set_word.new.self c.args.b.now c.loop-index.index (64 * word_count (length c.args.b.now)) c.word-at.result c.spread-word.result c.if-shown-count.ahead (omega arith) (within (goal.at.loop-index-preserved c).After-word-at) c.word-at.type_inv c.word-at.ensures c.set_word.ensures.word c.set_word.ensures.others c.spread-word.ensures.bits
+          (λ k lt. here.shows k (omega (arith, lt, here.enough))) (omega (arith, here.enough, here.within)) i.taken);
+      few = omega (arith, here.most);
+      within = rw c.pass-in-loop-index.ensures.left (omega (arith, here.within, length-drop (count_ones c.word-at.result) (bits_left c.loop-index.eye)));
+      shows = rw c.pass-in-loop-index.ensures.left (ShowsFirst-after (bits_left c.loop-index.eye) c.if-shown-count.ahead c.if-shown-count.shown (count_ones c.word-at.result) here.most here.enough here.shows);
     }
 
 -- all is taken
