@@ -1,5 +1,5 @@
 -- What rows say of a packet number.
-use Rattle.std.specs.Prelude.{ℕ, ◌≤◌, Bool, false, ◌&&◌, List, find, reverse, Option, Some, None}
+use Rattle.std.specs.Prelude.{◌≡◌, ℕ, ◌<◌, ◌≤◌, Bool, false, ◌&&◌, List, find, reverse, Option, Some, None}
 use Rattle.std.specs.List.{filter_map, list_any}
 use Rattle.std.specs.Option.{option_map, option_map_or}
 use Rattle.bit_vectors.specs.declared.flags.Flags.{Flags}
@@ -82,3 +82,8 @@ robust_of rows t = option_map (λ row. row.value) (last_row robust_span rows t)
 -- the copies that the last row that names the number gives, and one where none does
 abbrev pub copies_of : List CopyRow → ℕ → ℕ
 copies_of rows t = option_map_or (λ row. row.copies) (last_row copy_span rows t) 1
+
+-- rows that give nothing to the numbers from one up to another
+pub record GiveNothing (rows : ScheduleRows) (from until : ℕ) : Type 0 where
+  pub flags : (n : ℕ) → from ≤ n → n < until → flags_of rows.flags n ≡ no_flags
+  pub robust : (n : ℕ) → from ≤ n → n < until → robust_of rows.robust n ≡ None

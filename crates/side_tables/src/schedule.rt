@@ -2,7 +2,7 @@
 
 ghost use Rattle.std.specs.Prelude.{◌≡◌, ℕ, ◌<◌, ◌≤◌, ◌||◌, ◌↔◌, [], length, All, Err, Some, None, IfOk, IfSome, OnOk};
 ghost use Rattle.side_tables.specs.Grammar.{bad_schedule_row, schedule_rows_of};
-ghost use Rattle.side_tables.specs.Rows.{IsFlagRow, IsScheduleRow, by_kind, flags_of, no_flags, robust_of};
+ghost use Rattle.side_tables.specs.Rows.{IsFlagRow, IsScheduleRow, by_kind, flags_of, GiveNothing, robust_of};
 
 use crate::fault::SideFault;
 use crate::rows::{FlagRow, RobustRow, ScheduleRow};
@@ -101,10 +101,9 @@ impl Schedule {
         Some(row.value)
     }
 
-    /// A number up to which no row names a packet from `t` on. If there are many rows, it may be `t`.
+    /// A number up to which no packet is given anything from `t` on. If there are many rows, it may be `t`.
     pub fn next_named(&self, t: u32) -> u32
-        ensures flags { (n : ℕ) → t ≤ n → n < result → flags_of self.now.flags n ≡ no_flags }
-        ensures robust { (n : ℕ) → t ≤ n → n < result → robust_of self.now.robust n ≡ None }
+        ensures { GiveNothing self.now t result }
     {
         let flags = self.flags.next_named(t);
         flags.min(self.robust.next_named(t))

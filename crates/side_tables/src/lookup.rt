@@ -1,0 +1,70 @@
+//! A schedule that is asked for one packet after the other.
+
+ghost use Rattle.std.specs.Prelude.{◌≡◌, ◌≤◌, IfSome};
+ghost use Rattle.side_tables.specs.Rows.{flags_of, robust_of};
+
+use crate::schedule::Schedule;
+use bit_vectors::Flags;
+use std::marker::Model;
+
+/// What a schedule gives a packet.
+#[derive(Clone, Copy, Debug, PartialEq, Eq)]
+pub struct Given {
+    /// The flags of all rows of flags that name it, joined.
+    pub flags: Flags,
+    /// The required robustness, if a row gives it one.
+    pub robust: Option<u8>,
+}
+
+/// A schedule, and numbers of packets that it gives nothing, which are answered without a look at its rows. Contracts
+/// see the rows.
+#[derive(Debug, Drop)]
+pub struct Lookup {
+    schedule: Schedule,
+    idle_from: u32,
+    idle_until: u32,
+}
+
+impl Model for Lookup {
+    ghost use Rattle.side_tables.specs.Rows.{ScheduleRows, GiveNothing};
+
+    ghost Value = { ScheduleRows };
+
+    ghost view = { λ l. l.schedule };
+
+    ghost invariant = { λ l. GiveNothing l.schedule l.idle_from l.idle_until };
+}
+
+impl Lookup {
+    /// This schedule.
+    pub fn new(schedule: Schedule) -> Lookup
+        ensures { result ≡ schedule }
+    {
+        Lookup {
+            schedule,
+            idle_from: 0,
+            idle_until: 0,
+        }
+    }
+
+    /// What the schedule gives a packet.
+    pub fn at(&mut self, t: u32) -> Given
+        ensures flags { result.flags ≡ flags_of self.old.flags t }
+        ensures robust { result.robust ≡ robust_of self.old.robust t }
+        ensures most { IfSome result.robust (λ robust. robust ≤ 7) }
+        ensures same { self.new ≡ self.old }
+    {
+        if self.idle_from <= t && t < self.idle_until {
+            return Given {
+                flags: Flags::default(),
+                robust: None,
+            };
+        }
+        self.idle_until = self.schedule.next_named(t);
+        self.idle_from = t;
+        Given {
+            flags: self.schedule.flags(t),
+            robust: self.schedule.robust(t),
+        }
+    }
+}
