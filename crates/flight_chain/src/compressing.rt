@@ -5,7 +5,7 @@ ghost use Rattle.desk_ports.specs.Meanings.{IsReadyOut, HasWriteCause, Adds, Add
 ghost use Rattle.mask_update.specs.Histories.{History};
 ghost use Rattle.packet_encode.specs.Encoder.{StandsFor};
 ghost use Rattle.packet_store.specs.SpacePackets.{space_packet};
-ghost use Rattle.flight_chain.specs.Compressing.{required_robustness, with_packet};
+ghost use Rattle.flight_chain.specs.Compressing.{with_packet};
 ghost use Rattle.flight_chain.specs.Stores.{data_at};
 
 use crate::fault::{FlightFault, RecordFault};
@@ -14,7 +14,7 @@ use bit_vectors::{BitPen, Bits, NoMemory};
 use desk_ports::{Desk, Failed, Outlet, ReadAhead, Run, Turn};
 use packet_encode::{Encoder, room};
 use packet_store::{PERIOD, StoreWriter};
-use side_tables::Schedule;
+use side_tables::{Lookup, Schedule};
 use std::alloc::Global;
 
 /// An encoder with its schedule, the required robustness of packets to which that gives none, and the writer of its
@@ -22,7 +22,7 @@ use std::alloc::Global;
 #[derive(Debug, Drop)]
 pub struct Compressing {
     encoder: Encoder,
-    plan: Schedule,
+    plan: Lookup,
     robust: u8,
     writer: StoreWriter,
     ahead: ReadAhead,
@@ -87,7 +87,7 @@ impl Compressing {
     {
         Ok(Compressing {
             encoder: Encoder::open(alloc, f, mask)?,
-            plan,
+            plan: Lookup::new(plan),
             robust,
             writer: StoreWriter::open(alloc, apid)?,
             ahead: ReadAhead::open(alloc)?,
@@ -122,19 +122,11 @@ impl Compressing {
         ensures ahead { self.new.ahead ≡ self.old.ahead }
     {
         self.pen.clear();
-        let robust = self.required(t);
+        let given = self.plan.at(t);
+        let robust = given.robust.unwrap_or(self.robust);
         self.encoder
-            .encode(&self.input, self.plan.flags(t), robust, &mut self.pen);
+            .encode(&self.input, given.flags, robust, &mut self.pen);
         let count = (u64::from(t) % PERIOD) as u16;
         self.writer.put(desk, count, self.pen.bytes())
-    }
-
-    /// The required robustness of the packet `t`, at most 7: what the schedule gives it, and else that of the command.
-    fn required(&self, t: u32) -> u8
-        requires { self.now.robust ≤ 7 }
-        ensures robust { result ≡ required_robustness self.now.plan.robust self.now.robust t }
-        ensures most { result ≤ 7 }
-    {
-        self.plan.robust(t).unwrap_or(self.robust)
     }
 }

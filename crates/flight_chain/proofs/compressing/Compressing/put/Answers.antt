@@ -1,4 +1,4 @@
-use Rattle.std.proofs.Common.{◌≡◌, ℕ, ◌%◌, List, length, OnOk, OnErr, ap, ◌∙◌, subst}
+use Rattle.std.proofs.Common.{◌≡◌, ℕ, ◌%◌, List, length, refl, OnOk, OnErr, ap, ◌∙◌, subst}
 use Rattle.bit_vectors.specs.Vectors.{vector_bytes}
 use Rattle.desk_ports.specs.declared.desk.Outlet.TheVariants as outlet
 use Rattle.desk_ports.specs.Meanings.{Adds, AddsFront}
@@ -16,8 +16,8 @@ packet_is : (g : _) (c : goal.After-put g) (h : History) → StandsFor h c.args.
     ≡ space_packet c.args.self.now.writer.apid (c.args.t % period) (data_at (with_packet h c.args.self.now c.args.self.now.input c.args.t) (length h.steps))
 packet_is g c h stands =
     let s = c.args.self.now in
-    let flags = c.flags.ensures in
-    let robust = c.required-robust.ensures.robust in
+    let flags = c.at-given.ensures.flags in
+    let robust = c.unwrap_or-robust.ensures ∙ rw c.at-given.ensures.robust refl in
     let bytes = c.bytes.ensures.bytes ∙ (ap vector_bytes (c.encode.ensures.bits h stands) ∙ λ i. data_at (with_next_input h (robust i) s.input (flags i)) (length h.steps)) in
     λ i. space_packet s.writer.apid (c.from.ensures i % period) (bytes i)
 
