@@ -18,9 +18,9 @@ use Rattle.loss_player.specs.Playing.{PlayerState, play_course}
 use Rattle.loss_player.specs.Report.{play_report}
 use Rattle.ground_chain.specs.Deliveries.{report_text, restored_bytes}
 use Rattle.ground_chain.specs.Restoring.{RestorerState, restore_course}
-use Rattle.trial_chain.specs.Stages.{HoldsTrial, play_name, played_name, recording_name, report_name, restored_name, store_name, with_outputs}
-use Rattle.trial_chain.specs.Trials.{trial_copies, trial_history, trial_recording}
-use Rattle.trial_chain.proofs.TrialRuns.{IsTrial, owed-recording, owed-restored, owed-store, trial_flight, trial_played}
+use Rattle.trial_chain.specs.Stages.{HoldsTrial, held_played, held_recording, held_restored, held_store, play_name, played_name, played_outputs, recording_name, report_name, restored_name, restored_outputs, store_name, trial_played, trial_store, with_outputs}
+use Rattle.trial_chain.specs.Trials.{IsTrial, trial_copies, trial_history, trial_recording}
+use Rattle.trial_chain.proofs.TrialRuns.{owed-recording, owed-restored, owed-store, trial_flight}
 
 get_insert : (kept : Kept) (name bytes sought : List ℕ) → map.get (map.insert kept name bytes) sought ≡ cond (bytes_eq sought name) (Some bytes) (map.get kept sought)
 get_insert kept name bytes sought = map.get-insert nat_list_cmp_total kept name bytes sought ∙ ap (λ same. cond same (Some bytes) (map.get kept sought)) (is_eq-slice_cmp sought name)
@@ -39,9 +39,6 @@ kept_latest kept before name bytes is = ap (λ (k : Kept). kept_at k name) is �
 
 -- ---- the recording
 
-abbrev pub held_recording : ℕ → ℕ → ℕ → Kept
-held_recording seed packets f = map.insert map.empty recording_name (trial_recording seed packets f)
-
 pub held_start : (desk put new : MemState) (bytes items recording : List ℕ) → desk ≡ put → put ≡ record new { held = map.insert new.held recording_name bytes } → new ≡ empty_desk → bytes ≡ items → items ≡ recording
     → desk.held ≡ map.insert map.empty recording_name recording
 held_start desk put new bytes items recording same ok empty value is =
@@ -51,12 +48,6 @@ pub kept-recording : (seed packets f : ℕ) (held : Kept) → held ≡ held_reco
 kept-recording seed packets f held is = kept_latest held map.empty recording_name (trial_recording seed packets f) is
 
 -- ---- the store
-
-abbrev pub trial_store : ℕ → ℕ → ℕ → ℕ → List ℕ
-trial_store seed packets f robust = store_of (trial_history seed packets f robust) 100
-
-abbrev pub held_store : ℕ → ℕ → ℕ → ℕ → Kept
-held_store seed packets f robust = map.insert (held_recording seed packets f) store_name (trial_store seed packets f robust)
 
 pub held-compressed : (seed packets f robust : ℕ) → IsTrial packets f robust → (before after : Kept) (flight : Compression) → before ≡ held_recording seed packets f → flight ≡ trial_flight f robust
     → after ≡ map.insert before store_name (owed (compress_course flight (kept_at before recording_name))).output → after ≡ held_store seed packets f robust
@@ -71,12 +62,6 @@ kept-store seed packets f robust held is = kept_latest held (held_recording seed
 
 pub same-copies : (seed packets : ℕ) (rows script : List CopyRow) → rows ≡ script → ((t : ℕ) → copies_of script t ≡ trial_copies seed packets t) → copies_of rows ≡ trial_copies seed packets
 same-copies seed packets rows script is so = ap copies_of is ∙ fun_ext so
-
-abbrev pub played_outputs : ℕ → ℕ → ℕ → ℕ → Outputs
-played_outputs seed packets f robust = record { output = trial_played seed packets f robust; report = play_report (played_of (trial_copies seed packets) packets) }
-
-abbrev pub held_played : ℕ → ℕ → ℕ → ℕ → Kept
-held_played seed packets f robust = with_outputs (held_store seed packets f robust) played_name play_name (played_outputs seed packets f robust)
 
 pub held-played : (seed packets f robust : ℕ) → IsTrial packets f robust → (before after : Kept) (player : PlayerState) → before ≡ held_store seed packets f robust → player.apid ≡ 100 → copies_of player.rows ≡ trial_copies seed packets
     → after ≡ with_outputs before played_name play_name (owed (play_course (copies_of player.rows) player.apid (kept_at before store_name))) → after ≡ held_played seed packets f robust
@@ -98,21 +83,15 @@ IsSome-played seed packets f robust held is =
 
 -- ---- the restored packets
 
-abbrev pub restored_outputs : ℕ → ℕ → ℕ → ℕ → Outputs
-restored_outputs seed packets f robust = record {
-  output = restored_bytes (trial_history seed packets f robust) (trial_copies seed packets);
-  report = report_text (trial_history seed packets f robust) (trial_copies seed packets);
-}
-
 pub held-restored : (seed packets f robust : ℕ) → IsTrial packets f robust → (before after : Kept) (restorer : RestorerState) → before ≡ held_played seed packets f robust → restorer ≡ record { places = f; apid = 100 }
     → after ≡ with_outputs before restored_name report_name (owed (restore_course restorer.places restorer.apid (kept_at before played_name)))
-    → after ≡ with_outputs (held_played seed packets f robust) restored_name report_name (restored_outputs seed packets f robust)
+    → after ≡ held_restored seed packets f robust
 held-restored seed packets f robust trial before after restorer started opened is =
     is ∙ λ i. with_outputs (started i) restored_name report_name
     (((λ j. owed (restore_course (opened j).places (opened j).apid (kept-played seed packets f robust before started j))) ∙ owed-restored seed packets f robust trial) i)
 
 -- all six
-pub HoldsTrial-held : (seed packets f robust : ℕ) (held : Kept) → held ≡ with_outputs (held_played seed packets f robust) restored_name report_name (restored_outputs seed packets f robust) → HoldsTrial seed packets f robust held
+pub HoldsTrial-held : (seed packets f robust : ℕ) (held : Kept) → held ≡ held_restored seed packets f robust → HoldsTrial seed packets f robust held
 HoldsTrial-held seed packets f robust held is =
     let recording = trial_recording seed packets f in
     let store = trial_store seed packets f robust in

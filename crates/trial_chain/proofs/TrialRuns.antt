@@ -15,15 +15,9 @@ use Rattle.ground_chain.proofs.DeliveredRuns.{numbers-played, owed-played}
 use Rattle.ground_chain.specs.Deliveries.{delivered_numbers, report_text, restored_bytes}
 use Rattle.ground_chain.specs.Report.{restored_of}
 use Rattle.ground_chain.specs.Restoring.{restore_course, store_run}
-use Rattle.trial_chain.specs.Trials.{trial_copies, trial_history, trial_inputs, trial_plan, trial_recording}
+use Rattle.trial_chain.specs.Trials.{IsTrial, trial_copies, trial_history, trial_inputs, trial_plan, trial_recording}
+use Rattle.trial_chain.specs.Stages.{trial_played}
 use Rattle.trial_chain.proofs.TrialHistories.{AreGapsShort-few, IsValid-trial, few-arrivals, history-planned, length-inputs, length-steps, places-inputs}
-
--- the bounds of a trial
-pub record IsTrial (packets f robust : ℕ) : Type 0 where
-  pub places : 1 ≤ f
-  pub most : f ≤ 4096
-  pub few : packets ≤ 10000
-  pub level : robust ≤ 7
 
 -- the flight of a trial
 abbrev pub trial_flight : ℕ → ℕ → Compression
@@ -64,9 +58,6 @@ owed-store seed packets f robust copies trial =
     ∙ λ i. record { output = append-nil (played_bytes copies 100 store) i; report = play_report (numbers-store seed packets f robust copies trial i) }
 
 -- ---- restoring
-
-abbrev pub trial_played : ℕ → ℕ → ℕ → ℕ → List ℕ
-trial_played seed packets f robust = played_bytes (trial_copies seed packets) 100 (store_of (trial_history seed packets f robust) 100)
 
 pub whole-played : (seed packets f robust : ℕ) → IsTrial packets f robust → (walk (Some 100) (trial_played seed packets f robust)).ending ≡ None
 whole-played seed packets f robust trial =

@@ -31,6 +31,37 @@ report_name = codes "report"
 abbrev pub with_outputs : Kept → List ℕ → List ℕ → Outputs → Kept
 with_outputs kept output report all = map.insert (map.insert kept output all.output) report all.report
 
+-- ---- what is held after each step of a trial
+
+abbrev pub trial_store : ℕ → ℕ → ℕ → ℕ → List ℕ
+trial_store seed packets f robust = store_of (trial_history seed packets f robust) trial_apid
+
+abbrev pub trial_played : ℕ → ℕ → ℕ → ℕ → List ℕ
+trial_played seed packets f robust = played_bytes (trial_copies seed packets) trial_apid (trial_store seed packets f robust)
+
+abbrev pub played_outputs : ℕ → ℕ → ℕ → ℕ → Outputs
+played_outputs seed packets f robust = record { output = trial_played seed packets f robust; report = play_report (played_of (trial_copies seed packets) packets) }
+
+abbrev pub restored_outputs : ℕ → ℕ → ℕ → ℕ → Outputs
+restored_outputs seed packets f robust = record {
+  output = restored_bytes (trial_history seed packets f robust) (trial_copies seed packets);
+  report = report_text (trial_history seed packets f robust) (trial_copies seed packets);
+}
+
+abbrev pub held_recording : ℕ → ℕ → ℕ → Kept
+held_recording seed packets f = map.insert map.empty recording_name (trial_recording seed packets f)
+
+abbrev pub held_store : ℕ → ℕ → ℕ → ℕ → Kept
+held_store seed packets f robust = map.insert (held_recording seed packets f) store_name (trial_store seed packets f robust)
+
+abbrev pub held_played : ℕ → ℕ → ℕ → ℕ → Kept
+held_played seed packets f robust = with_outputs (held_store seed packets f robust) played_name play_name (played_outputs seed packets f robust)
+
+abbrev pub held_restored : ℕ → ℕ → ℕ → ℕ → Kept
+held_restored seed packets f robust = with_outputs (held_played seed packets f robust) restored_name report_name (restored_outputs seed packets f robust)
+
+-- ---- what a trial holds
+
 -- What a trial holds: the recording of its history, the store of that for its APID, the played store of its copies with its
 -- report, and what is restored of that with the report.
 pub record HoldsTrial (seed packets f robust : ℕ) (held : Kept) : Type 0 where

@@ -1,5 +1,5 @@
 -- The history of a trial, how often each of its packets arrives, and the numbers that a trial tells.
-use Rattle.std.specs.Prelude.{ℕ, zero, suc, ◌-◌, ◌/◌, ◌%◌, ◌==◌, nat_lt, ◌&&◌, not, Bool, true, false, if◌then◌else◌, List, [], ◌∷◌, length, map, replicate, slice_index_or, slice_set}
+use Rattle.std.specs.Prelude.{ℕ, zero, suc, ◌-◌, ◌/◌, ◌%◌, ◌==◌, ◌≤◌, nat_lt, ◌&&◌, not, Bool, true, false, if◌then◌else◌, List, [], ◌∷◌, length, map, replicate, slice_index_or, slice_set}
 use Rattle.std.specs.List.{range_with_len}
 use Rattle.bit_vectors.specs.declared.flags.Flags.{Flags}
 use Rattle.side_tables.specs.declared.rows.CopyRow.{CopyRow}
@@ -11,6 +11,13 @@ use Rattle.loss_player.specs.Played.{played_bytes, played_of}
 use Rattle.ground_chain.specs.Deliveries.{delivered_numbers}
 use Rattle.trial_chain.specs.declared.trial.Summary.{Summary}
 use Rattle.trial_chain.specs.Draws.{first_draw, second_draw}
+
+-- the bounds of a trial
+pub record IsTrial (packets f robust : ℕ) : Type 0 where
+  pub places : 1 ≤ f
+  pub most : f ≤ 4096
+  pub few : packets ≤ 10000
+  pub level : robust ≤ 7
 
 -- ---- inputs
 

@@ -1,18 +1,21 @@
 //! A trial: a generated history, through the three chains over a desk in memory.
 
-ghost use Rattle.std.specs.Prelude.{◌≡◌, ◌≤◌, false, [], replicate, All, IfOk, OnOk, OnErr};
+ghost use Rattle.std.specs.Prelude.{◌≡◌, ◌≤◌, ℕ, false, [], replicate, All, IfOk, OnOk, OnErr};
 ghost use Rattle.desk_ports.specs.MemState.{empty_desk};
-ghost use Rattle.side_tables.specs.Rows.{IsCopyRow};
-ghost use Rattle.trial_chain.specs.Stages.{HoldsTrial};
-ghost use Rattle.trial_chain.specs.Trials.{every, trial_plan, trial_summary};
+ghost use Rattle.side_tables.specs.Rows.{IsCopyRow, copies_of};
+ghost use Rattle.loss_player.specs.Played.{played_of};
+ghost use Rattle.ground_chain.specs.Deliveries.{delivered_numbers};
+ghost use Rattle.trial_chain.specs.RunDesk.{NothingFails};
+ghost use Rattle.trial_chain.specs.Stages.{HoldsTrial, held_recording, held_store, held_played, held_restored};
+ghost use Rattle.trial_chain.specs.Trials.{IsTrial, every, trial_copies, trial_history, trial_plan, trial_summary};
 
 use crate::generated::generate;
 use crate::stages::{compress, play, restore};
 use bit_vectors::{Bits, Flags, NoMemory};
 use desk_ports::MemDesk;
 use flight_chain::Flight;
-use ground_chain::Restorer;
-use loss_player::Player;
+use ground_chain::{Restored, Restorer};
+use loss_player::{Played, Player};
 use side_tables::{CopyRow, FlagRow, Schedule, Script};
 use std::alloc::Global;
 
@@ -60,12 +63,16 @@ pub fn run_trial(
     ensures summary { IfOk result (λ summary. summary ≡ trial_summary seed packets f robust) }
     ensures unchanged { OnErr result (desk.new ≡ desk.old) }
 {
-    let generated = generate(alloc, seed, packets, f)?;
-    let mut held = MemDesk::new(alloc);
-    held.put("recording", &generated.recording)?;
-    let held = compress(held, flight(alloc, f, robust)?)?;
-    let (held, played) = play(held, player(alloc, &generated.script)?)?;
-    let (held, restored) = restore(held, Restorer::open(alloc, f, APID)?)?;
+    let trial = Trial {
+        seed,
+        packets,
+        f,
+        robust,
+    };
+    let (held, script) = trial.record(alloc)?;
+    let held = trial.compress(alloc, held)?;
+    let (held, played) = trial.play(alloc, held, &script)?;
+    let (held, restored) = trial.restore(alloc, held)?;
     *desk = held;
     Ok(Summary {
         packets: u64::from(packets),
@@ -76,6 +83,85 @@ pub fn run_trial(
         written: restored.written,
         listed: restored.listed,
     })
+}
+
+/// The numbers that a trial is generated from.
+#[derive(Clone, Copy, Debug)]
+struct Trial {
+    seed: u32,
+    packets: u32,
+    f: u32,
+    robust: u8,
+}
+
+impl Trial {
+    /// Generates the trial, and holds its recording. Gives the rows of its script too.
+    fn record(self, alloc: Global) -> Result<(MemDesk, Vec<CopyRow>), NoMemory>
+        requires trial { IsTrial self.packets self.f self.robust }
+        requires some { 1 ≤ self.packets }
+        ensures nothing { IfOk result (λ r. NothingFails r.0.plan) }
+        ensures held { IfOk result
+            (λ r. r.0.held ≡ held_recording self.seed self.packets self.f) }
+        ensures script { IfOk result
+            (λ r. (t : ℕ) → copies_of r.1.items t ≡ trial_copies self.seed self.packets t) }
+        ensures right { IfOk result (λ r. All IsCopyRow r.1.items) }
+    {
+        let generated = generate(alloc, self.seed, self.packets, self.f)?;
+        let mut held = MemDesk::new(alloc);
+        held.put("recording", &generated.recording)?;
+        Ok((held, generated.script))
+    }
+
+    /// Compresses the recording.
+    fn compress(self, alloc: Global, held: MemDesk) -> Result<MemDesk, NoMemory>
+        requires trial { IsTrial self.packets self.f self.robust }
+        requires nothing { NothingFails held.plan }
+        requires held { held.held ≡ held_recording self.seed self.packets self.f }
+        ensures nothing { IfOk result (λ after. NothingFails after.plan) }
+        ensures held { IfOk result
+            (λ after. after.held ≡ held_store self.seed self.packets self.f self.robust) }
+    {
+        let flight = flight(alloc, self.f, self.robust)?;
+        compress(held, flight)
+    }
+
+    /// Plays the store by the script.
+    fn play(
+        self,
+        alloc: Global,
+        held: MemDesk,
+        script: &[CopyRow],
+    ) -> Result<(MemDesk, Played), NoMemory>
+        requires trial { IsTrial self.packets self.f self.robust }
+        requires nothing { NothingFails held.plan }
+        requires held { held.held ≡ held_store self.seed self.packets self.f self.robust }
+        requires script { (t : ℕ) → copies_of script.now t
+            ≡ trial_copies self.seed self.packets t }
+        requires right { All IsCopyRow script.now }
+        ensures nothing { IfOk result (λ after. NothingFails after.0.plan) }
+        ensures held { IfOk result
+            (λ after. after.0.held ≡ held_played self.seed self.packets self.f self.robust) }
+        ensures numbers { IfOk result
+            (λ after. after.1 ≡ played_of (trial_copies self.seed self.packets) self.packets) }
+    {
+        let player = player(alloc, script)?;
+        play(held, player)
+    }
+
+    /// Restores the played store.
+    fn restore(self, alloc: Global, held: MemDesk) -> Result<(MemDesk, Restored), NoMemory>
+        requires trial { IsTrial self.packets self.f self.robust }
+        requires nothing { NothingFails held.plan }
+        requires held { held.held ≡ held_played self.seed self.packets self.f self.robust }
+        ensures held { IfOk result
+            (λ after. after.0.held ≡ held_restored self.seed self.packets self.f self.robust) }
+        ensures numbers { IfOk result (λ after. after.1
+            ≡ delivered_numbers (trial_history self.seed self.packets self.f self.robust)
+            (trial_copies self.seed self.packets)) }
+    {
+        let restorer = Restorer::open(alloc, self.f, APID)?;
+        restore(held, restorer)
+    }
 }
 
 /// The flight of a trial, with a zero mask at the start.

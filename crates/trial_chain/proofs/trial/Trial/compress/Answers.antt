@@ -1,0 +1,28 @@
+use Rattle.std.proofs.Common.{◌≡◌, ◌∙◌}
+use Rattle.std.proofs.lemmas.Result.{IfOk-weaker}
+use Rattle.std.specs.FinMap as map
+use Rattle.desk_ports.specs.Courses.{owed}
+use Rattle.desk_ports.specs.Meanings.{kept_at}
+use Rattle.desk_ports.specs.MemState.{MemState}
+use Rattle.flight_chain.specs.Compressing.{compress_course}
+use Rattle.trial_chain.specs.Stages.{held_store, recording_name, store_name}
+use Rattle.trial_chain.specs.Trials.{trial_recording}
+use Rattle.trial_chain.proofs.TrialRuns.{whole-recording}
+use Rattle.trial_chain.proofs.TrialHeld.{IsSome-here, held-compressed, kept-recording}
+use Rattle.trial_chain.proofs.trial.Trial.compress.Goals as goal
+
+pub compress-requires-clause-held : goal.compress-requires-clause-held
+compress-requires-clause-held c = IsSome-here c.args.held.held map.empty recording_name (trial_recording c.args.self.seed c.args.self.packets c.args.self.f) c.requires.held
+
+pub compress-requires-clause-whole : goal.compress-requires-clause-whole
+compress-requires-clause-whole c =
+    (λ i. (compress_course (c.in_ok-flight.ensures i) (kept-recording c.args.self.seed c.args.self.packets c.args.self.f c.args.held.held c.requires.held i)).ending)
+    ∙ whole-recording c.args.self.seed c.args.self.packets c.args.self.f c.args.self.robust c.requires.trial
+
+pub returns-clause-held : goal.returns-clause-held
+returns-clause-held c =
+    IfOk-weaker c.compress.result
+    (λ (after : MemState). after.held ≡ map.insert c.args.held.held store_name (owed (compress_course c.in_ok-flight.flight (kept_at c.args.held.held recording_name))).output)
+    (λ after. after.held ≡ held_store c.args.self.seed c.args.self.packets c.args.self.f c.args.self.robust)
+    (λ after is. held-compressed c.args.self.seed c.args.self.packets c.args.self.f c.args.self.robust c.requires.trial c.args.held.held after.held c.in_ok-flight.flight c.requires.held c.in_ok-flight.ensures is)
+    c.compress.ensures.held
