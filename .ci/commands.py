@@ -15,6 +15,7 @@ import sys
 import tempfile
 
 sys.dont_write_bytecode = True
+import pictures
 from trial import trial
 
 NOBODY = 65534
@@ -27,7 +28,7 @@ STORE = FIRST + SECOND + THIRD + FOURTH
 PLAYED = FIRST + SECOND + FOURTH
 HEADER = b"first,last,cause,value\n"
 REPORT = HEADER + b"2,2,lost,0\nend,3,3,0\n"
-LISTING = b"0 written 1 00 00 b0\n1 written 1 01 01 b1\n2-2 lost\n3 written 1 02 03 b3\nend 3 3 0\n"
+LISTING = pictures.LISTING
 PLAY_REPORT = b"packets,delivered,dropped,repeats,first,widest\n4,3,1,0,0,2\n"
 READ, WRITE = b"pocket: reading failed\n", b"pocket: writing failed\n"
 
@@ -312,6 +313,7 @@ def main():
         runner = Runner(sys.argv[1], room)
         tries = [(row["name"], lambda row=row: runner.run(row)) for row in VERBS + REFUSALS + FILES]
         tries += [("help", lambda: helps(runner)), ("no memory", lambda: wants_memory(runner)), ("progress", lambda: tells_progress(runner))]
+        tries += pictures.tries()
         for name, attempt in tries:
             fault = attempt()
             passed, failed = passed + (fault is None), failed + (fault is not None)
