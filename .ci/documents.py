@@ -1,5 +1,6 @@
 #!/usr/bin/env python3
-"""Tries pictures/draw.py, and holds the pictures of docs/pictures to what it draws. Run alone it draws these anew."""
+"""Tries pictures/draw.py, and holds the pictures and the caller that docs/ shows to what is drawn and to what is proved. Run
+alone it draws the pictures anew."""
 
 import os
 import subprocess
@@ -50,7 +51,7 @@ def is_held(name, words, given):
         held = file.read()
     drawn = draw(words, given)
     xml.fromstring(drawn.stdout)
-    return None if drawn.stdout == held and drawn.returncode == 0 else f"it is not docs/pictures/{name}: python3 .ci/pictures.py draws it anew"
+    return None if drawn.stdout == held and drawn.returncode == 0 else f"it is not docs/pictures/{name}: python3 .ci/documents.py draws it anew"
 
 
 def draws_each():
@@ -70,10 +71,17 @@ def refuses():
     return None
 
 
+def quotes_the_caller():
+    """Whether the caller that docs/CALLING.md shows is that of the crate round_trip."""
+    with open(os.path.join(ROOT, "docs", "CALLING.md")) as page, open(os.path.join(ROOT, "crates", "round_trip", "src", "lib.rt")) as code:
+        shown = page.read().split("```rust\n")[1].split("```")[0]
+        return None if shown.strip() and shown in code.read() else "docs/CALLING.md shows another one"
+
+
 def tries():
     """What is tried: each with its name, and a function that gives what is wrong, or None."""
     return [(f"the picture {name}", lambda name=name, row=row: is_held(name, *row)) for name, row in DRAWN.items()] + [
-        ("pictures of each line", draws_each), ("refused listings", refuses)]
+        ("pictures of each line", draws_each), ("refused listings", refuses), ("the caller that is shown", quotes_the_caller)]
 
 
 if __name__ == "__main__":
