@@ -15,6 +15,7 @@ import sys
 import tempfile
 
 sys.dont_write_bytecode = True
+import documents
 from trial import trial
 
 NOBODY = 65534
@@ -27,7 +28,7 @@ STORE = FIRST + SECOND + THIRD + FOURTH
 PLAYED = FIRST + SECOND + FOURTH
 HEADER = b"first,last,cause,value\n"
 REPORT = HEADER + b"2,2,lost,0\nend,3,3,0\n"
-LISTING = b"0 written 1 00 00 b0\n1 written 1 01 01 b1\n2-2 lost\n3 written 1 02 03 b3\nend 3 3 0\n"
+LISTING = documents.LISTING
 PLAY_REPORT = b"packets,delivered,dropped,repeats,first,widest\n4,3,1,0,0,2\n"
 READ, WRITE = b"pocket: reading failed\n", b"pocket: writing failed\n"
 
@@ -55,6 +56,16 @@ def case(name, words, status=0, out=b"", err=b"", given=b"", before=None, after=
     words = words.split() if isinstance(words, str) else words
     return dict(name=name, words=words, status=status, out=out, err=err, given=given, before=before or {}, after=after or {}, **how)
 
+
+# What --help says of each number: its key, the first and the last one, and a command that takes it and can't be done.
+RANGES = [
+    ("bits", 1, 49152, "compress in=none out=y bits={} apid=100 robust=1"),
+    ("bits", 1, 4096, "trial seed=0 packets=3 bits={} robust=1 out=/dev/full"),
+    ("apid", 0, 2046, "show in=none out=y bits=8 apid={}"),
+    ("robust", 0, 7, "compress in=none out=y bits=8 apid=100 robust={}"),
+    ("seed", 0, 4294967295, "trial seed={} packets=3 bits=8 robust=1 out=/dev/full"),
+    ("packets", 1, 10000, "trial seed=0 packets={} bits=8 robust=1 out=/dev/full"),
+]
 
 VERBS = [
     case("compress", COMPRESS, before={"x": RECORDING}, after={"x": RECORDING, "y": STORE, "y.part": None}),
@@ -256,15 +267,31 @@ def got(path):
 
 
 def helps(runner):
-    """Whether `--help` names each verb with each of its keys."""
+    """Whether `--help` names each verb with each of its keys, the range of each number and the exit numbers."""
     verbs = {"compress": "in= out= bits= apid= robust= plan= mask=", "play": "in= out= report= apid= script=",
              "restore": "in= out= report= bits= apid=", "show": "in= out= bits= apid=",
              "trial": "seed= packets= bits= robust= out="}
     told = runner.start(["--help"], stdout=subprocess.PIPE, stderr=subprocess.PIPE)
     out, err = told.communicate()
-    lines = {line.split()[1]: line for line in out.decode().splitlines() if line.startswith("pocket ")}
+    text = out.decode().splitlines()
+    lines = {line.split()[1]: line for line in text if line.startswith("pocket ")}
     missing = [key for verb, keys in verbs.items() for key in keys.split() if key not in lines.get(verb, "")]
+    missing += [f"{key} {low} to {high}" for key, low, high, _ in RANGES
+                if not any(line.split()[0] == key and f"{low} to {high}" in line for line in text if line.startswith("    "))]
+    missing += [number for number in "0123457" if not any(line.startswith(f"    {number}  ") for line in text)]
     return f"no {missing}, {err}" if missing or err or told.returncode else None
+
+
+def keeps_range(runner, key, low, high, words):
+    """Whether a key takes the first and the last number of its range, and not those beside it: the other words name no input
+    that is there, or a trial that can't be written."""
+    folder = runner.folder({})
+    for value, status in [(low, 1), (high, 1), (high + 1, 2)] + [(low - 1, 2)] * (low > 0):
+        program = runner.start(words.format(value).split(), cwd=folder, stdout=subprocess.PIPE, stderr=subprocess.PIPE)
+        _, err = program.communicate(timeout=120)
+        if program.returncode != status:
+            return f"{key}={value} ended with {program.returncode}, {err}"
+    return None
 
 
 def wants_memory(runner):
@@ -311,7 +338,9 @@ def main():
     with tempfile.TemporaryDirectory(prefix="pocket-commands-") as room:
         runner = Runner(sys.argv[1], room)
         tries = [(row["name"], lambda row=row: runner.run(row)) for row in VERBS + REFUSALS + FILES]
+        tries += [(f"the range of {row[0]}", lambda row=row: keeps_range(runner, *row)) for row in RANGES]
         tries += [("help", lambda: helps(runner)), ("no memory", lambda: wants_memory(runner)), ("progress", lambda: tells_progress(runner))]
+        tries += documents.tries()
         for name, attempt in tries:
             fault = attempt()
             passed, failed = passed + (fault is None), failed + (fault is not None)

@@ -31,9 +31,25 @@ pocket show in=STORE out=LISTING bits=F apid=APID
     lists what is found for each packet that a store has on an APID
 pocket trial seed=SEED packets=N bits=F robust=R out=SUMMARY
     runs compress, play and restore over a recording that it generates, in memory
-A name is a file's, or - for standard input or output. The keys come in any order.
 pocket --help
-pocket --version";
+pocket --version
+The keys come in any order, and those in brackets may be left out:
+    in, plan, script  a file to read, or - for standard input
+    out, report       a file to write, or - for standard output
+    bits              the bits of a packet, 1 to 49152, of trial 1 to 4096
+    apid              the APID, 0 to 2046
+    robust            how many packets lost in a row each packet withstands at least, 0 to 7
+    mask              the first mask, two hexadecimal digits for each byte of a packet
+    seed              where the numbers of a trial begin, 0 to 4294967295
+    packets           how many packets a trial has, 1 to 10000
+Exit numbers:
+    0  done
+    1  reading or writing failed
+    2  a word is wrong, where word 0 is the verb
+    3  the schedule or the script is wrong
+    4  the recording or the store is wrong
+    5  out of memory
+    7  the words cannot be read";
 
 const VERSION: &str = "pocket 0.1.0";
 

@@ -1,0 +1,90 @@
+#!/usr/bin/env python3
+"""Tries pictures/draw.py, and holds the pictures and the caller that docs/ shows to what is drawn and to what is proved. Run
+alone it draws the pictures anew."""
+
+import os
+import subprocess
+import sys
+import xml.etree.ElementTree as xml
+
+ROOT = os.path.dirname(os.path.dirname(os.path.abspath(__file__)))
+LISTING = b"0 written 1 00 00 b0\n1 written 1 01 01 b1\n2-2 lost\n3 written 1 02 03 b3\nend 3 3 0\n"
+PACKET = ["recent changes: no place=10", "effective robustness level: 1=0001", "not short: a mask or whole content follows=0", "the mask is sent=1",
+          "the edges of the mask: none, so the mask is 00=10", "the content is whole=1", "number of places: 8=11000110", "content: B0=10110000"]
+DRAWN = {"loss.svg": (["listing"], LISTING), "packet.svg": (["packet"] + PACKET, b"")}
+
+# Each line of a listing, and what the picture says of the packet.
+EACH = [(b"0 written 15 00 00 b0", "packet 0: written, level 15, repeated 2 times"), (b"0 repeat", ""), (b"0 repeat", ""),
+        (b"1 written 0 01 - b1", "packet 1: written, level 0, its mask is not known"), (b"2-3 lost", "packet 3: lost"),
+        (b"4 gap 1 mask 0f", "packet 4: gap, level 1, its mask is known"), (b"5 gap 0", "packet 5: gap, level 0"),
+        (b"6 unsynced", "packet 6: unsynced"), (b"7 unsynced mask 0f", "packet 7: unsynced, its mask is known"),
+        (b"8 wrong 12", "packet 8: wrong, bit 12"), (b"9 early 8", "packet 9: early, bits 8"), (b"end 10 2 2", "")]
+LONG = b"".join(b"%d written %d 00 00 b0\n" % (number, number % 16) for number in range(3000))
+
+# What is refused: the words, the listing, and the fault that is named.
+REFUSED = [
+    (["listing"], b"0 written 1 00 00 b0\n1 writen 1 01 01 b1\n", "line 2 is wrong: it is no line of a listing"),
+    (["listing"], b"0 written 1 00 00 b0\n2 gap 0\n", "line 2 is wrong: packet 1 comes next"),
+    (["listing"], b"0 written 16 00 00 b0\n", "line 1 is wrong: a level is at most 15"),
+    (["listing"], b"0-4294967295 lost\n", "line 1 is wrong: more than 200000 packets"),
+    (["listing"], b"5-4 lost\n", "line 1 is wrong"),
+    (["listing"], b"0 gap 0\n1 repeat\n", "line 2 is wrong: it repeats a packet that is not the latest one"),
+    (["listing"], LISTING.replace(b"end 3", b"end 4"), "line 5 is wrong: the lines before it have other numbers: 3 3 0"),
+    (["listing"], LISTING + b"4 gap 0\n", "line 6 is wrong: nothing comes after the last line"),
+    (["listing"], b"first,last,cause,value\n2,2,lost,0\n", "line 1 is wrong"),
+    (["packet", "level=0001", "mask=2"], b"", "part 2 is wrong: it is no NAME=BITS"),
+]
+
+
+def draw(words, given):
+    return subprocess.run([sys.executable, os.path.join(ROOT, "pictures", "draw.py"), *words], input=given, capture_output=True, timeout=60)
+
+
+def titles(words, given):
+    """What the parts of a picture are called."""
+    return [part.text for part in xml.fromstring(draw(words, given).stdout).iter() if part.tag.endswith("title")]
+
+
+def is_held(name, words, given):
+    """Whether a picture of the documents is what is drawn."""
+    with open(os.path.join(ROOT, "docs", "pictures", name), "rb") as file:
+        held = file.read()
+    drawn = draw(words, given)
+    xml.fromstring(drawn.stdout)
+    return None if drawn.stdout == held and drawn.returncode == 0 else f"it is not docs/pictures/{name}: python3 .ci/documents.py draws it anew"
+
+
+def draws_each():
+    """Whether each line of a listing is told, a long one in rows, and one that has no last line, as such."""
+    told = titles(["listing"], b"\n".join(line for line, _ in EACH) + b"\n")
+    missing = [words for _, words in EACH if words and words not in told]
+    long = draw(["listing"], LONG).stdout.decode()
+    rows = all(f">{first}</text>" in long for first in range(0, 3000, 100)) and "packet 2999: written, level 7" in titles(["listing"], LONG)
+    return None if not missing and rows and "has no last line" in long else f"missing {missing}"
+
+
+def refuses():
+    for words, given, fault in REFUSED:
+        found = draw(words, given)
+        if (found.returncode, found.stdout) != (1, b"") or not found.stderr.startswith(b"draw.py: " + fault.encode()):
+            return f"{fault}: {found.returncode}, {found.stderr}"
+    return None
+
+
+def quotes_the_caller():
+    """Whether the caller that docs/CALLING.md shows is that of the crate round_trip."""
+    with open(os.path.join(ROOT, "docs", "CALLING.md")) as page, open(os.path.join(ROOT, "crates", "round_trip", "src", "lib.rt")) as code:
+        shown = page.read().split("```rust\n")[1].split("```")[0]
+        return None if shown.strip() and shown in code.read() else "docs/CALLING.md shows another one"
+
+
+def tries():
+    """What is tried: each with its name, and a function that gives what is wrong, or None."""
+    return [(f"the picture {name}", lambda name=name, row=row: is_held(name, *row)) for name, row in DRAWN.items()] + [
+        ("pictures of each line", draws_each), ("refused listings", refuses), ("the caller that is shown", quotes_the_caller)]
+
+
+if __name__ == "__main__":
+    for name, row in DRAWN.items():
+        with open(os.path.join(ROOT, "docs", "pictures", name), "wb") as file:
+            file.write(draw(*row).stdout)

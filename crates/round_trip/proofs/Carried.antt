@@ -1,0 +1,75 @@
+-- A packet that carries its mask and whole content tells both, whatever of the packets before it is known.
+use Rattle.std.proofs.Common.{◌≡◌, ℕ, zero, suc, ◌<◌, ◌≤◌, Bool, true, false, cond, List, [], ◌∷◌, length, get_or, Option, Some, refl, sym, ap, ◌∙◌, subst, arith}
+use Rattle.std.proofs.lemmas.List.{length-append}
+use Rattle.std.specs.Prelude.{◌||◌, ◌&&◌, nat_le, IfSome}
+use Rattle.bit_vectors.specs.declared.flags.Flags.{Flags}
+use Rattle.mask_update.specs.Histories.{History, IsValid, Step, flags_at, forced_flags, input_at, no_steps, step_of}
+use Rattle.mask_update.specs.Masks.{mask_at}
+use Rattle.mask_update.proofs.HistoriesOf.{IsValid-history_of}
+use Rattle.mask_update.proofs.Standing.{step_at-last}
+use Rattle.mask_update.proofs.StepByStep.{mask_at-zero}
+use Rattle.robust_window.specs.Histories.{level_at}
+use Rattle.packet_encode.specs.Deliveries.{reaches}
+use Rattle.packet_encode.specs.Packets.{form_at, packet_at}
+use Rattle.packet_decode.specs.Histories.{is_content_told, is_mask_told, true_state}
+use Rattle.packet_decode.specs.Spelling.{Spells}
+use Rattle.packet_decode.specs.State.{known_if}
+use Rattle.packet_decode.proofs.OfHistories.{told-spelled}
+use Rattle.round_trip.specs.Carrying.{with_input}
+
+module _ (h : History) (input : List Bool) (mask content : Option ℕ) where
+  abbrev after : History
+  after = with_input h input
+
+  abbrev t : ℕ
+  t = length h.steps
+
+  abbrev step : Step
+  step = step_of (λ _. forced_flags) (λ _. 0) (t, input)
+
+  flags_same : (is_first : Bool) → cond is_first forced_flags forced_flags ≡ forced_flags
+  flags_same true = refl
+  flags_same false = refl
+
+  flags_are : flags_at after t ≡ forced_flags
+  flags_are = ap (λ (s : Step). s.flags) (step_at-last h step) ∙ flags_same (nat_le t 0)
+
+  mask_told : is_mask_told after mask t ≡ true
+  mask_told = ap (λ (flags : Flags). flags.f || reaches mask t (level_at after t)) flags_are
+
+  content_told : is_content_told after mask content t ≡ true
+  content_told = ap (λ (flags : Flags). flags.r || is_mask_told after mask t && reaches content t (level_at after t)) flags_are
+
+  mask_known : known_if (is_mask_told after mask t) (mask_at after t) ≡ Some (mask_at after t)
+  mask_known = ap (λ (b : Bool). known_if b (mask_at after t)) mask_told
+
+  content_known : known_if (is_content_told after mask content t) (input_at after t) ≡ Some input
+  content_known = ap (λ (b : Bool). known_if b (input_at after t)) content_told ∙ ap (λ (s : Step). Some s.input) (step_at-last h step)
+
+  within : t < length after.steps
+  within = omega (arith, length-append h.steps (step ∷ []))
+
+  pub carried : IsValid after → IfSome mask (λ s. s < t) → IfSome content (λ s. s < t)
+      → Spells h.places (true_state after mask content) t (packet_at after t) (form_at after t) (Some (mask_at after t)) (Some input)
+  carried valid masks contents =
+      subst (λ m. Spells h.places (true_state after mask content) t (packet_at after t) (form_at after t) m (Some input)) mask_known
+      (subst (λ v. Spells h.places (true_state after mask content) t (packet_at after t) (form_at after t) (known_if (is_mask_told after mask t) (mask_at after t)) v) content_known
+      (told-spelled after t valid within mask content masks contents (ap (λ (told : Bool). told || (flags_at after t).r) mask_told)))
+
+pub places_are : (h : History) (input : List Bool) → IsValid (with_input h input) → length input ≡ h.places
+places_are h input valid =
+    let step : Step = step_of (λ _. forced_flags) (λ _. 0) (length h.steps, input) in
+    sym (ap (λ (s : Step). length s.input) (step_at-last h step)) ∙ valid.inputs (length h.steps) (omega (arith, length-append h.steps (step ∷ [])))
+
+-- ---- the first packet
+
+pub first-valid : (mask input : List Bool) → 1 ≤ length mask → length mask ≤ 49152 → length input ≡ length mask → IsValid (with_input (no_steps mask) input)
+first-valid mask input some most len =
+    IsValid-history_of (input ∷ []) (λ _. forced_flags) (λ _. 0) (length mask) mask (some, most) refl (omega arith) all (λ t. omega arith)
+  where
+    all : (i : ℕ) (d : List Bool) → i < 1 → length (get_or (input ∷ []) i d) ≡ length mask
+    all zero d lt = len
+    all (suc i) d lt = absurd (omega arith)
+
+pub first_mask : (mask input : List Bool) → mask_at (with_input (no_steps mask) input) 0 ≡ mask
+first_mask mask input = mask_at-zero (with_input (no_steps mask) input) refl

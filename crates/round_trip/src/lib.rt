@@ -1,0 +1,69 @@
+//! A small caller of the encoder and the decoder: an input is encoded, and its packet is read back.
+#![tactic(auto)]
+
+ghost use Rattle.std.specs.Prelude.{◌≡◌, ℕ, ◌+◌, ◌*◌, ◌<◌, ◌≤◌, [], length, Option, Ok, IfSome, IfOk};
+ghost use Rattle.mask_update.specs.Histories.{History};
+ghost use Rattle.mask_update.specs.Masks.{mask_at};
+ghost use Rattle.packet_decode.specs.Decoding.{latest_mask_number, latest_number};
+ghost use Rattle.packet_decode.specs.State.{both_known};
+ghost use Rattle.round_trip.specs.Carrying.{AreInStep, with_input};
+
+use bit_vectors::{BitFault, BitPen, Bits, Flags, NoMemory};
+use packet_decode::{Decoder, Reading};
+use packet_encode::{Encoder, room};
+use std::alloc::Global;
+
+/// The flags of a packet that carries its mask and whole content.
+const WHOLE: Flags = Flags {
+    p: false,
+    f: true,
+    r: true,
+};
+
+/// Encodes the next input with its mask and whole content, and reads the packet.
+pub fn carry(
+    encoder: &mut Encoder,
+    input: &Bits,
+    pen: &mut BitPen,
+    decoder: &mut Decoder,
+) -> Result<Reading, BitFault>
+    requires places { length input.now ≡ length encoder.old.masks.mask }
+    requires decoder_places { decoder.old.places ≡ length input.now }
+    requires most { encoder.old.masks.taken < 4294967296 }
+    requires later { IfSome (latest_number decoder.old.state) (λ last. last < encoder.old.masks.taken) }
+    requires later_mask { IfSome (latest_mask_number decoder.old.state)
+        (λ last. last < encoder.old.masks.taken) }
+    requires empty { pen.old.bits ≡ [] }
+    requires room { 10 * length input.now + 43 ≤ pen.old.room }
+    // Whatever was sent before, and whatever arrived of it, the packet is written.
+    ensures written { (h : History) (mask content : Option ℕ)
+        → AreInStep h mask content input.now encoder.old decoder.old → result ≡ Ok Reading.Written }
+    // The decoder then knows the sender's mask and the input, with the number of the packet.
+    ensures known { (h : History) (mask content : Option ℕ)
+        → AreInStep h mask content input.now encoder.old decoder.old → decoder.new.state
+        ≡ both_known (length h.steps) (mask_at (with_input h input.now) (length h.steps)) input.now }
+    ensures places { decoder.new.places ≡ decoder.old.places }
+{
+    let number = encoder.taken();
+    encoder.encode(input, WHOLE, 0, pen);
+    decoder.read(number, pen.bytes())
+}
+
+/// A decoder that has read the first packet of a sender with this first mask of `f` places and this input.
+pub fn carry_first(alloc: Global, f: u32, mask: &Bits, input: &Bits) -> Result<Decoder, NoMemory>
+    requires some { 1 ≤ f }
+    requires most { f ≤ 49152 }
+    requires mask { length mask.now ≡ f }
+    requires input { length input.now ≡ f }
+    ensures known { IfOk result (λ decoder. decoder.state ≡ both_known 0 mask.now input.now) }
+    ensures places { IfOk result (λ decoder. decoder.places ≡ f) }
+{
+    let mut encoder = Encoder::open(alloc, f, mask)?;
+    let mut pen = BitPen::with_room(alloc, room(f))?;
+    let mut decoder = Decoder::open(alloc, f)?;
+    let _ = carry(&mut encoder, input, &mut pen, &mut decoder);
+    Ok(decoder)
+}
+
+#[cfg(test)]
+mod tests;

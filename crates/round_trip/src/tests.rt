@@ -1,0 +1,39 @@
+//! A first packet, read back.
+
+use crate::carry_first;
+use bit_vectors::{Bits, NoMemory};
+use std::alloc::Global;
+use std::test::Fail;
+
+/// A vector of 8 places, from a byte.
+fn vector(alloc: Global, byte: u8) -> Result<Bits, NoMemory> {
+    let mut vector = Bits::zeros(alloc, 8)?;
+    let _ = vector.load(&[byte]);
+    Ok(vector)
+}
+
+/// A vector of 8 places, as a byte.
+fn byte(vector: &Bits) -> u8 {
+    let mut out = [0];
+    if vector.len() == 8 {
+        vector.store(&mut out);
+    }
+    out[0]
+}
+
+/// What a decoder shows that has read the first packet of this input: the content and its mask.
+fn carried(alloc: Global, mask: u8, input: u8) -> Result<(u8, u8), NoMemory> {
+    let mask = vector(alloc, mask)?;
+    let input = vector(alloc, input)?;
+    if mask.len() != 8 || input.len() != 8 {
+        return Ok((0, 0));
+    }
+    let decoder = carry_first(alloc, 8, &mask, &input)?;
+    Ok((byte(decoder.content()), byte(decoder.mask())))
+}
+
+#[test]
+fn a_first_packet(rt: HostRuntime) -> Result<(), Fail> {
+    assert_eq!(rt; carried(rt.alloc(), 0x0F, 0xB0)?, (0xB0, 0x0F));
+    Ok(())
+}

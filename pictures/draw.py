@@ -1,0 +1,256 @@
+#!/usr/bin/env python3
+"""Draws pictures of what pocket lists, as SVG on standard output.
+
+    draw.py listing < LISTING             the packets of a listing (what `pocket show` writes), one cell for each number
+    draw.py packet NAME=BITS NAME=BITS .. the bits of one packet, part by part, and its bytes
+
+A listing that can't be read is refused with the number of its first wrong line, parts with the first wrong word; the exit
+number is then 1. docs/FORMATS.md has the lines of a listing and the parts of a packet.
+"""
+
+import re
+import sys
+from collections import Counter
+from html import escape
+
+FONT = "font-family='DejaVu Sans, Verdana, Arial, sans-serif'"
+MOST = 200_000  # packets in one picture
+FEW = 16  # so many packets have large cells
+ROW = 100  # small cells in a row
+
+# What can become of a packet: its letter, fill, the colour of the letter, and the words of the legend. The colours are told
+# apart without colour vision by their lightness too, and the letter says the same.
+KINDS = {
+    "written": ("", "#a6d3f2", "#000000", "written; the bar is its level, from 0 to 15"),
+    "lost": ("L", "#ffffff", "#000000", "lost: it did not arrive"),
+    "gap": ("G", "#f5e663", "#000000", "gap: its level does not reach back to what is known"),
+    "unsynced": ("U", "#e69f00", "#000000", "unsynced: nothing is known that it builds on"),
+    "wrong": ("W", "#a63c00", "#ffffff", "wrong: its data are no packet's"),
+    "early": ("E", "#5b2a6e", "#ffffff", "early: its data end too early"),
+}
+DARK = "#1f5f8b"
+
+HEX = "(?:[0-9a-f]{2})+"
+NUMBER = "(0|[1-9][0-9]*)"
+LINES = [(kind, re.compile(text)) for kind, text in [
+    ("lost", f"{NUMBER}-{NUMBER} lost"),
+    ("written", f"{NUMBER} written {NUMBER} {HEX} (-|{HEX}) ({HEX})"),
+    ("repeat", f"{NUMBER} repeat"),
+    ("unsynced", f"{NUMBER} unsynced( mask {HEX})?"),
+    ("gap", f"{NUMBER} gap {NUMBER}( mask {HEX})?"),
+    ("wrong", f"{NUMBER} wrong {NUMBER}"),
+    ("early", f"{NUMBER} early {NUMBER}"),
+    ("end", f"end {NUMBER} {NUMBER} {NUMBER}"),
+]]
+
+
+class Wrong(Exception):
+    """What can't be drawn, and why."""
+
+
+class Packet:
+    """What became of the packet of one number."""
+
+    def __init__(self, kind, level=None, detail="", mask="", content=""):
+        self.kind, self.level, self.detail, self.mask, self.content, self.repeats = kind, level, detail, mask, content, 0
+
+    def told(self, number):
+        """It in words."""
+        again = f", repeated {self.repeats} times" if self.repeats > 1 else ", repeated once" if self.repeats else ""
+        return f"packet {number}: {self.kind}{self.detail}{self.mask}{again}"
+
+
+def read_line(kind, found, packets):
+    """Adds what a line of a listing tells to the packets before it, or says what is wrong."""
+    group = found.group
+    if kind == "repeat":
+        if not packets or int(group(1)) != len(packets) - 1:
+            return "it repeats a packet that is not the latest one"
+        packets[-1].repeats += 1
+        return None
+    if int(group(1)) != len(packets):
+        return f"packet {len(packets)} comes next"
+    if kind == "lost":
+        count = int(group(2)) - int(group(1)) + 1
+        if count < 1 or len(packets) + count > MOST:
+            return "its last number is below its first" if count < 1 else f"more than {MOST} packets"
+        packets += [Packet("lost") for _ in range(count)]
+    elif kind == "written":
+        packets.append(Packet(kind, int(group(2)), f", level {group(2)}", ", its mask is not known" if group(3) == "-" else "", group(4)))
+    elif kind == "gap":
+        packets.append(Packet(kind, int(group(2)), f", level {group(2)}", ", its mask is known" if group(3) else ""))
+    elif kind == "unsynced":
+        packets.append(Packet(kind, None, "", ", its mask is known" if group(2) else ""))
+    else:
+        packets.append(Packet(kind, None, f", {'bit' if kind == 'wrong' else 'bits'} {group(2)}"))
+    if packets[-1].level is not None and packets[-1].level > 15:
+        return "a level is at most 15"
+    return f"more than {MOST} packets" if len(packets) > MOST else None
+
+
+def read_listing(text):
+    """The packets of a listing, in order, and whether it has its last line."""
+    packets, whole = [], False
+    for number, line in enumerate(text.splitlines(), 1):
+        kind, found = next(((kind, found) for kind, form in LINES if (found := form.fullmatch(line))), (None, None))
+        fault = "nothing comes after the last line" if whole else "it is no line of a listing" if found is None else None
+        if fault is None and kind == "end":
+            whole = True
+            arrived = [packet for packet in packets if packet.kind != "lost"]
+            numbers = [len(arrived) + sum(packet.repeats for packet in packets), sum(packet.kind == "written" for packet in packets),
+                       sum(packet.repeats for packet in packets)]
+            if numbers != [int(found.group(place)) for place in (1, 2, 3)]:
+                fault = "the lines before it have other numbers: {} {} {}".format(*numbers)
+        elif fault is None:
+            fault = read_line(kind, found, packets)
+        if fault:
+            raise Wrong(f"line {number} is wrong: {fault}: {line[:60]!r}")
+    return packets, whole
+
+
+def words(x, y, text, size=12, anchor="start", fill="#000000", weight="normal"):
+    """A line of text."""
+    return f"<text x='{x:g}' y='{y:g}' font-size='{size}' text-anchor='{anchor}' fill='{fill}' font-weight='{weight}'>{escape(text)}</text>"
+
+
+def cell(x, y, width, height, packet):
+    """What became of a packet, drawn: its colour, its letter, a bar for its level, a ring for repeats, and in the lower corner a
+    dash if the content alone is known, a dot if the mask alone is."""
+    letter, fill, ink, _ = KINDS[packet.kind]
+    parts = [f"<rect x='{x:g}' y='{y:g}' width='{width:g}' height='{height:g}' fill='{fill}' stroke='#444444' stroke-width='1'/>"]
+    if packet.kind == "lost":
+        parts.append(f"<path d='M{x:g} {y + height:g}L{x + width:g} {y:g}' stroke='#999999' stroke-width='1'/>")
+    if packet.kind == "written" and packet.level:
+        bar, left, wide = (height - 2) * packet.level / 15, x + 1 if width > 20 else x + width * 0.3, min(width * 0.4, 6)
+        parts.append(f"<rect x='{left:g}' y='{y + height - 1 - bar:g}' width='{wide:g}' height='{bar:g}' fill='{DARK}'/>")
+    if letter:
+        size = round(min(width, height) * 0.75)
+        parts.append(words(x + width / 2, y + height / 2 + size * 0.36, letter, size, "middle", ink, "bold"))
+    if packet.mask and packet.kind == "written":
+        parts.append(f"<path d='M{x + width - 6:g} {y + height - 3:g}h5' stroke='{ink}' stroke-width='2'/>")
+    elif packet.mask:
+        parts.append(f"<circle cx='{x + width - 3:g}' cy='{y + height - 3:g}' r='2' fill='{ink}'/>")
+    if packet.repeats:
+        parts.append(f"<circle cx='{x + width - 3:g}' cy='{y + 3:g}' r='2.5' fill='#ffffff' stroke='#000000' stroke-width='1.2'/>")
+    return "".join(parts)
+
+
+def legend(x, y, packets):
+    """What the cells mean, and how many there are of each; of those that are there alone."""
+    counts = Counter(packet.kind for packet in packets)
+    rows = [(Packet(kind, 6 if kind == "written" else None), f"{counts[kind]} {KINDS[kind][3]}") for kind in KINDS if counts[kind]]
+    if any(packet.mask and packet.kind == "written" for packet in packets):
+        rows.append((Packet("written", 0, mask="-"), "dash: written, and its mask is not known"))
+    if any(packet.mask and packet.kind != "written" for packet in packets):
+        kind = next(packet.kind for packet in packets if packet.mask and packet.kind != "written")
+        rows.append((Packet(kind, mask="m"), "dot: its mask is known, its content is not"))
+    if any(packet.repeats for packet in packets):
+        again = Packet("written", 0)
+        again.repeats = 1
+        rows.append((again, f"ring: repeats arrived, {sum(packet.repeats for packet in packets)} in all"))
+    parts = [cell(x, y + 20 * place, 14, 14, packet) + words(x + 22, y + 20 * place + 12, text) for place, (packet, text) in enumerate(rows)]
+    return parts, y + 20 * len(rows)
+
+
+def large_cells(packets, x, y):
+    """A few packets in one row, each with its number and level, and with its content if that is short."""
+    parts = []
+    for number, packet in enumerate(packets):
+        left = x + 52 * number
+        level = f"level {packet.level}" if packet.level is not None else packet.kind
+        content = words(left + 25, y + 43, packet.content.upper(), 12, "middle", weight="bold") if 0 < len(packet.content) <= 4 else ""
+        drawn = words(left + 22, y + 12, str(number), 12, "middle") + cell(left, y + 18, 44, 40, packet) + content
+        parts.append(f"<g><title>{packet.told(number)}</title>{drawn}{words(left + 22, y + 72, level, 10, 'middle')}</g>")
+    return parts, y + 84, x + 52 * len(packets)
+
+
+def small_cells(packets, x, y):
+    """Many packets in rows of a hundred."""
+    parts = [words(x + 11 * place + 5, y + 12, str(place), 9, "middle") for place in range(0, min(ROW, len(packets)), 10)]
+    for first in range(0, len(packets), ROW):
+        top = y + 18 + 17 * (first // ROW)
+        parts.append(words(x - 6, top + 10, str(first), 10, "end"))
+        parts += [f"<g><title>{packet.told(first + place)}</title>{cell(x + 11 * place, top, 10, 13, packet)}</g>"
+                  for place, packet in enumerate(packets[first:first + ROW])]
+    return parts, y + 18 + 17 * -(-len(packets) // ROW) + 10, x + 11 * min(ROW, len(packets))
+
+
+def picture(width, height, title, parts):
+    """The whole SVG."""
+    size = f"width='{width:g}' height='{height:g}'"
+    head = f"<svg xmlns='http://www.w3.org/2000/svg' {size} viewBox='0 0 {width:g} {height:g}' role='img' {FONT}>"
+    return "\n".join([head, f"<title>{escape(title)}</title>", f"<rect {size} fill='#ffffff'/>", *parts, "</svg>", ""])
+
+
+def draw_listing(text):
+    packets, whole = read_listing(text)
+    counts = Counter(packet.kind for packet in packets)
+    title = f"{len(packets)} packets, of which {counts['written']} are written" if packets else "no packets"
+    left = 14 if len(packets) <= FEW else 60
+    cells, bottom, right = (large_cells if len(packets) <= FEW else small_cells)(packets, left, 36)
+    keys, end = legend(14, bottom + 6, packets)
+    if not whole:
+        keys.append(words(14, end + 12, "The listing has no last line: the store was not read to its end.", weight="bold"))
+        end += 20
+    return picture(max(right + 14, 480), end + 10, title, [words(14, 22, title, 14, weight="bold"), *cells, *keys])
+
+
+def read_parts(given):
+    """The parts of a packet, each with its name and its bits."""
+    parts = []
+    for number, word in enumerate(given, 1):
+        name, _, bits = word.partition("=")
+        if not name or not re.fullmatch("[01]+", bits):
+            raise Wrong(f"part {number} is wrong: it is no NAME=BITS: {word[:60]!r}")
+        parts.append((name, bits))
+    if not parts:
+        raise Wrong("no parts")
+    return parts
+
+
+def draw_packet(given):
+    """The bits in rows of four bytes, the parts numbered and in two shades in turn, and a line for each part."""
+    parts = read_parts(given)
+    count = sum(len(bits) for _, bits in parts)
+    if count % 8:
+        parts.append(("padding", "0" * (-count % 8)))
+    marked = [(bit, number) for number, (_, bits) in enumerate(parts, 1) for bit in bits]
+    drawn = []
+    for place, (bit, number) in enumerate(marked):
+        x, y = 14 + 24 * (place % 32), 56 + 76 * (place // 32)
+        fill = "#e4e4e4" if parts[number - 1][0] == "padding" else ("#a6d3f2", "#fff3c4")[number % 2]
+        if place % 8 == 0:
+            byte = int("".join(bit for bit, _ in marked[place:place + 8]), 2)
+            drawn.append(words(x + 2, y - 6, str(place), 10, fill="#444444") + words(x + 96, y - 6, f"{byte:02X}", 14, "middle", weight="bold"))
+        drawn.append(f"<rect x='{x}' y='{y}' width='24' height='28' fill='{fill}' stroke='#444444' stroke-width='1'/>")
+        drawn.append(words(x + 12, y + 19, bit, 14, "middle"))
+    place = 0
+    for number, (_, bits) in enumerate(parts, 1):
+        for first in sorted({place} | {start for start in range(place, place + len(bits)) if start % 32 == 0}):
+            last = min(place + len(bits), first - first % 32 + 32)
+            x, y = 14 + 24 * (first % 32), 56 + 76 * (first // 32) + 32
+            drawn.append(f"<path d='M{x + 2} {y}v4h{24 * (last - first) - 4}v-4' fill='none' stroke='#000000'/>"
+                         + words(x + 12 * (last - first), y + 17, str(number), 12, "middle", weight="bold"))
+        place += len(bits)
+    bottom, widest = 56 + 76 * -(-len(marked) // 32), max(len(bits) for _, bits in parts)
+    for number, (name, bits) in enumerate(parts, 1):
+        drawn.append(words(14, bottom + 20 * number - 12, f"{number}", weight="bold") + words(40, bottom + 20 * number - 12, bits)
+                     + words(60 + 8 * widest, bottom + 20 * number - 12, name))
+    title = f"{count} bits of a packet in {len(marked) // 8} bytes"
+    return picture(28 + 24 * min(32, len(marked)), bottom + 20 * len(parts) + 4, title, [words(14, 22, title, 14, weight="bold"), *drawn])
+
+
+def main(given):
+    try:
+        if given == ["listing"]:
+            sys.stdout.write(draw_listing(sys.stdin.buffer.read().decode("ascii", "replace")))
+        elif given[:1] == ["packet"]:
+            sys.stdout.write(draw_packet(given[1:]))
+        else:
+            sys.exit(__doc__)
+    except Wrong as fault:
+        sys.exit(f"draw.py: {fault}")
+
+
+if __name__ == "__main__":
+    main(sys.argv[1:])
