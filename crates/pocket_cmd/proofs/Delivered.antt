@@ -14,7 +14,7 @@ use Rattle.pocket_cmd.specs.Outcome.{RunStands, Stands}
 use Rattle.pocket_cmd.proofs.Performed.{AddsOwed-stands, same_some}
 
 -- the side text is the one that is told
-side_text_is : (o : Option (List ℕ)) (text told : List ℕ) → IfSome o (λ bytes. text ≡ bytes) → o ≡ Some told → text ≡ told
+pub side_text_is : (o : Option (List ℕ)) (text told : List ℕ) → IfSome o (λ bytes. text ≡ bytes) → o ≡ Some told → text ≡ told
 side_text_is None text told is e = absurd cc
 side_text_is (Some bytes) text told is e = is ∙ same_some e
 
@@ -25,7 +25,7 @@ given-with_side m (Some other) None = refl
 given-with_side m (Some other) (Some name) = refl
 
 -- finishing leaves what was written
-made-finished : (report : Option (List ℕ)) (m : Meanings) → (made (all_finished report m) outlet.Main ≡ made m outlet.Main) × (made (all_finished report m) outlet.Report ≡ made m outlet.Report)
+pub made-finished : (report : Option (List ℕ)) (m : Meanings) → (made (all_finished report m) outlet.Main ≡ made m outlet.Main) × (made (all_finished report m) outlet.Report ≡ made m outlet.Report)
 made-finished None m = (refl, refl)
 made-finished (Some name) m = (refl, refl)
 

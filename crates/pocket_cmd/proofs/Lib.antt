@@ -7,6 +7,8 @@ pub mod Opened
 pub mod Performed
 pub mod Granted
 mod Delivered
+mod Kept
+mod Sided
 mod Headline
 mod Compositions
 mod Trials

@@ -8,5 +8,6 @@ pub mod Openings
 pub mod Unfed
 pub mod Jobs
 pub mod Outcome
+pub mod Kept
 pub mod Status
 pub mod Delivery

@@ -1,5 +1,5 @@
 -- What a command leaves of a desk, by the way it ended.
-use Rattle.std.specs.Prelude.{◌≡◌, ◌≢◌, ℕ, ◌⊎◌, nat_lt, List, length, Option, Some, None, Result, Ok, Err, is_some, IsSome, if◌then◌else◌}
+use Rattle.std.specs.Prelude.{◌≡◌, ◌≢◌, ◌<◌, ◌≤◌, ◌↔◌, ℕ, ◌⊎◌, nat_lt, List, length, Option, Some, None, Result, Ok, Err, is_some, IsSome, if◌then◌else◌}
 use Rattle.desk_ports.specs.Courses.{Course}
 use Rattle.desk_ports.specs.Meanings.{Meanings, Counts, Rose}
 use Rattle.desk_ports.specs.Stop.{Stop}
@@ -182,3 +182,22 @@ IsAnswered command m old new result =
     (text input : List ℕ) → side_given m (names_of command).side ≡ Some text → input_given m (names_of command).input ≡ Some input
     → status_by result ≢ Refused refusal.NoMemory → ¬ Rose old.reads new.reads → ¬ Rose old.writes new.writes
     → status_by result ≡ answer_to command text input
+
+-- ---- the side text
+
+-- an answer refuses a side text exactly where it is too long, and exactly at its first record that is no row
+pub record IsSideJudged (command : Command) (text : List ℕ) (status : Status) : Type 0 where
+  pub too_long : (status ≡ Refused refusal.SideTooLong) ↔ (1048576 < length text)
+  pub bad_row : (row : ℕ) → (status ≡ Refused (refusal.BadSide row)) ↔ ((length text ≤ 1048576) × (bad_row_of command text ≡ Some row))
+
+-- where this record of the side text is the first that is no row, and memory was found, that is the answer
+abbrev pub IsRowAnswered : Command → List ℕ → Result (Unit {0}) Refusal → Type 0
+IsRowAnswered command text result =
+    (row : ℕ) → bad_row_of command text ≡ Some row → status_by result ≢ Refused refusal.NoMemory → status_by result ≡ Refused (refusal.BadSide row)
+
+-- where the side text is told, memory was found and no reading failed, a text that is too long and a record that is no row are
+-- answered
+abbrev pub IsSideAnswered : Command → Meanings → Counts → Counts → Result (Unit {0}) Refusal → Type 0
+IsSideAnswered command m old new result =
+    (text : List ℕ) → side_given m (names_of command).side ≡ Some text → status_by result ≢ Refused refusal.NoMemory → ¬ Rose old.reads new.reads
+    → (1048576 < length text → status_by result ≡ Refused refusal.SideTooLong) × (length text ≤ 1048576 → IsRowAnswered command text result)

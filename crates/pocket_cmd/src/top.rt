@@ -1,13 +1,15 @@
 //! The top call: from the words of the command line to the outputs of a desk.
-ghost use Rattle.std.specs.Prelude.{◌≡◌, ◌≢◌, ◌<◌, ◌^◌, ◌↔◌, ℕ, List, Option, length, map, Err, IsTrue};
+ghost use Rattle.std.specs.Prelude.{◌≡◌, ◌≢◌, ◌<◌, ◌^◌, ◌↔◌, ℕ, List, Option, length, map, Some, Err, IsTrue};
 ghost use Rattle.std.specs.String.{string_bytes};
 ghost use Rattle.pocket_cmd.specs.Faults.{DataFault as Fault};
 ghost use Rattle.pocket_cmd.specs.Command.{Command as Told, Restore, RestoreValues, HasCommand, IsCommandOf, command_of, names_of};
 ghost use Rattle.mask_update.specs.Histories.{History};
 ghost use Rattle.ground_chain.specs.Deliveries.{report_text, restored_bytes};
 ghost use Rattle.pocket_cmd.specs.Delivery.{HasWritten, IsPlayedStore, IsSideRight, IsWhole};
-ghost use Rattle.pocket_cmd.specs.Openings.{AreTold};
-ghost use Rattle.pocket_cmd.specs.Outcome.{AfterRefusal, NoneRose, Stands, answer_to};
+ghost use Rattle.desk_ports.specs.Meanings.{Rose};
+ghost use Rattle.pocket_cmd.specs.Kept.{Leaves};
+ghost use Rattle.pocket_cmd.specs.Openings.{AreTold, side_given};
+ghost use Rattle.pocket_cmd.specs.Outcome.{AfterRefusal, IsSideJudged, NoneRose, Stands, answer_to};
 ghost use Rattle.pocket_cmd.specs.Status.{HasStatusCause, status_of};
 ghost use Rattle.pocket_cmd.specs.Words.{Gives, read_keys, written_keys};
 
@@ -57,6 +59,20 @@ pub fn pocket<D: Desk>(alloc: Global, words: &[String], desk: &mut D) -> Status
     ensures refused { (refusal : Refusal) (command : Told) → result ≡ Status.Refused refusal
         → IsCommandOf words.now command
         → AfterRefusal command (D.meaning desk.old) (D.meaning desk.new) refusal }
+
+    // The same in plain words. Nothing has changed but the side input, or each name has what it had; or, after a failed
+    // writing of a command with a report, both outputs are made as far as at Done, and the output alone is kept.
+    ensures leaves { (refusal : Refusal) (command : Told) → result ≡ Status.Refused refusal
+        → IsCommandOf words.now command
+        → Leaves command (D.meaning desk.old) (D.meaning desk.new) refusal }
+
+    // Where the side text is told, memory was found and no reading failed, it is refused exactly where it is too long, and
+    // exactly at its first record that is no row, whatever the main input is.
+    ensures side_text { (command : Told) (text : List ℕ) → IsCommandOf words.now command
+        → side_given (D.meaning desk.old) (names_of command).side ≡ Some text
+        → result ≢ Status.Refused Refusal.NoMemory
+        → ¬ Rose (D.counts desk.old).reads (D.counts desk.new).reads
+        → IsSideJudged command text result }
 
     // Where both inputs are told, memory was found and no count rose, the answer is that of the side text and of the input's
     // course.

@@ -1,7 +1,7 @@
 //! The work of a command.
 ghost use Rattle.std.specs.Prelude.{◌≤◌, length, IsTrue, IfSome};
 ghost use Rattle.pocket_cmd.specs.Command.{names_of, view_command};
-ghost use Rattle.pocket_cmd.specs.Outcome.{AfterCommand, AfterText, IsAnswered, IsAnsweredBy};
+ghost use Rattle.pocket_cmd.specs.Outcome.{AfterCommand, AfterText, IsAnswered, IsAnsweredBy, IsRowAnswered, IsSideAnswered};
 ghost use Rattle.pocket_cmd.specs.Status.{HasStatusCause, status_by};
 
 use crate::command::Command;
@@ -27,6 +27,8 @@ pub fn perform<D: Desk>(alloc: Global, command: &Command<'_>, desk: &mut D) -> R
     ensures cause { HasStatusCause (D.counts desk.old) (D.counts desk.new) (status_by result) }
     ensures ends { IsAnswered (view_command command.now) (D.meaning desk.old) (D.counts desk.old)
         (D.counts desk.new) result }
+    ensures side_text { IsSideAnswered (view_command command.now) (D.meaning desk.old)
+        (D.counts desk.old) (D.counts desk.new) result }
 {
     match side_text(alloc, desk, command.names().side) {
         Ok(text) => perform_with(alloc, command, &text, desk),
@@ -53,6 +55,7 @@ fn perform_with<D: Desk>(
     ensures cause { HasStatusCause (D.counts desk.old) (D.counts desk.new) (status_by result) }
     ensures ends { IsAnsweredBy (view_command command.now) text.now (D.meaning desk.old)
         (D.counts desk.old) (D.counts desk.new) result }
+    ensures row { IsRowAnswered (view_command command.now) text.now result }
 {
     match Job::of(alloc, command, text) {
         Ok(job) => run(desk, &command.names(), job),

@@ -2,10 +2,12 @@ use Rattle.std.proofs.Common.{map, sym, ◌∙◌, subst}
 use Rattle.std.specs.String.{string_bytes}
 use Rattle.pocket_cmd.specs.declared.status.Refusal.TheVariants as refusal
 use Rattle.pocket_cmd.specs.Command.{Restore, names_of, view_command}
-use Rattle.pocket_cmd.specs.Outcome.{AfterRefusal}
+use Rattle.pocket_cmd.specs.Outcome.{AfterCommand, AfterRefusal, IsSideAnswered, IsSideJudged}
 use Rattle.pocket_cmd.proofs.Given.{IsCommand-command_of}
 use Rattle.pocket_cmd.proofs.Granted.{same_command, side_granted, input_granted, output_granted, report_granted, not_both, ends_for}
 use Rattle.pocket_cmd.proofs.Performed.{AfterRefusal-answer, Stands-answer}
+use Rattle.pocket_cmd.proofs.Kept.{Leaves-refused}
+use Rattle.pocket_cmd.proofs.Sided.{IsSideJudged-answer}
 use Rattle.pocket_cmd.proofs.Headline.{Done-whole, HasWritten-restored}
 use Rattle.pocket_cmd.proofs.top.pocket.Goals as goal
 
@@ -70,3 +72,20 @@ pub returns-in-Ok-clause-headline : goal.returns-in-Ok-clause-headline
 returns-in-Ok-clause-headline g c = λ r h copies is played done.
     HasWritten-restored (view_command c.in-Ok.command) r h copies (g.D.Desk.meaning c.args.desk.now) (g.D.Desk.meaning c.perform.new.desk) c.perform.result
     (same_command (sym c.in-Ok.ensures) is) (IsCommand-command_of (map string_bytes c.args.words.now) (Restore r) is).right.1 played c.perform.ensures.after (sym c.into.ensures ∙ done)
+
+pub returns-in-Ok-clause-leaves : goal.returns-in-Ok-clause-leaves
+returns-in-Ok-clause-leaves g c = λ refusal command is given.
+    Leaves-refused command (g.D.Desk.meaning c.args.desk.now) (g.D.Desk.meaning c.perform.new.desk) refusal (returns-in-Ok-clause-refused g c refusal command is given)
+
+pub returns-in-Err-clause-leaves : goal.returns-in-Err-clause-leaves
+returns-in-Err-clause-leaves g c = λ refusal command is given. absurd (not_both given (sym c.in-Err.ensures))
+
+pub returns-in-Ok-clause-side_text : goal.returns-in-Ok-clause-side_text
+returns-in-Ok-clause-side_text g c = λ command text is told memory reads.
+    let old = g.D.Desk.meaning c.args.desk.now in
+    let same = same_command (sym c.in-Ok.ensures) is in
+    subst (IsSideJudged command text) (sym c.into.ensures)
+    (IsSideJudged-answer command text old (g.D.Desk.meaning c.perform.new.desk) (g.D.Desk.counts c.args.desk.now) (g.D.Desk.counts c.perform.new.desk) c.perform.result
+    (subst (λ command. AfterCommand command old (g.D.Desk.meaning c.perform.new.desk) c.perform.result) same c.perform.ensures.after)
+    (subst (λ command. IsSideAnswered command old (g.D.Desk.counts c.args.desk.now) (g.D.Desk.counts c.perform.new.desk) c.perform.result) same c.perform.ensures.side_text)
+    told (λ e. memory (c.into.ensures ∙ e)) reads)

@@ -1,0 +1,44 @@
+-- What a refused command leaves, in plain words.
+use Rattle.std.specs.Prelude.{◌≡◌, ◌⊎◌, None, IsSome}
+use Rattle.std.specs.Option.{option_map}
+use Rattle.desk_ports.specs.declared.desk.Outlet.TheVariants as outlet
+use Rattle.desk_ports.specs.Meanings.{Meanings, kept_after, made}
+use Rattle.pocket_cmd.specs.declared.status.Refusal.{Refusal}
+use Rattle.pocket_cmd.specs.declared.status.Refusal.TheVariants as refusal
+use Rattle.pocket_cmd.specs.Command.{Command, names_of}
+use Rattle.pocket_cmd.specs.Outcome.{Stands}
+
+-- nothing has changed but the side input
+abbrev pub KeepsAllButSide : Meanings → Meanings → Type 0
+KeepsAllButSide old new = new ≡ record old { side = new.side }
+
+-- each name has what it had
+abbrev pub KeepsNames : Meanings → Meanings → Type 0
+KeepsNames old new = new.held ≡ old.held
+
+-- both outputs were made as far as where the command is done
+pub record AreMadeAsDone (command : Command) (old new : Meanings) : Type 0 where
+  pub done : Meanings
+  pub stands : Stands command old done None
+  pub output : made new outlet.Main ≡ made done outlet.Main
+  pub report : made new outlet.Report ≡ made done outlet.Report
+
+-- the command has a report, both outputs were made as far as where it is done, and what the output made is kept under its name;
+-- each other name has what it had
+pub record IsOutputKept (command : Command) (old new : Meanings) : Type 0 where
+  pub report : IsSome (names_of command).report
+  pub made_as_done : AreMadeAsDone command old new
+  pub kept : new.held ≡ kept_after old.held (option_map (λ _. (names_of command).output) old.output.name) (made new outlet.Main)
+
+-- after a refusal
+abbrev pub Leaves : Command → Meanings → Meanings → Refusal → Type 0
+Leaves command old new (refusal.BadWords word) = new ≡ old
+Leaves command old new refusal.SideTooLong = KeepsAllButSide old new
+Leaves command old new (refusal.BadSide row) = KeepsAllButSide old new
+Leaves command old new refusal.NoMemory = KeepsAllButSide old new
+Leaves command old new (refusal.CutRecord t) = KeepsNames old new
+Leaves command old new (refusal.SpareBit t) = KeepsNames old new
+Leaves command old new (refusal.BadStore byte kind) = KeepsNames old new
+Leaves command old new refusal.TooMany = KeepsNames old new
+Leaves command old new refusal.ReadFault = KeepsNames old new
+Leaves command old new refusal.WriteFault = KeepsNames old new ⊎ IsOutputKept command old new
