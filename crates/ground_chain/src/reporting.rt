@@ -4,6 +4,7 @@ ghost use Rattle.std.specs.Prelude.{◌≡◌, ◌≤◌, true, length, IfOk, On
 ghost use Rattle.bit_vectors.specs.Vectors.{byte_count, vector_bytes};
 ghost use Rattle.desk_ports.specs.Meanings.{IsReadyOut, Adds, AddsFront, HasWriteCause};
 ghost use Rattle.packet_decode.specs.Decoding.{latest_content};
+ghost use Rattle.ground_chain.specs.Report.{verdict_rows};
 
 use crate::account::Account;
 use crate::report::{end_row, rows_of};
@@ -49,7 +50,7 @@ impl Account for Reporting {
         verdict: &Verdict,
         decoder: &Decoder,
     ) -> Result<(), Failed> {
-        write_all(desk, Outlet::Report, rows_of(verdict).as_bytes())?;
+        write_rows(desk, verdict)?;
         if verdict.kind.is_written() {
             write_content(desk, decoder, &mut self.line)?;
         }
@@ -59,6 +60,21 @@ impl Account for Reporting {
     fn end<D: Desk>(&self, desk: &mut D, restored: &Restored) -> Result<(), Failed> {
         write_all(desk, Outlet::Report, end_row(restored).as_bytes())
     }
+}
+
+/// Writes the rows of a verdict. A packet that is written after the one before it has none.
+fn write_rows<D: Desk>(desk: &mut D, verdict: &Verdict) -> Result<(), Failed>
+    requires { IsReadyOut (D.meaning desk.old) Outlet.Report }
+    ensures added { OnOk result (Adds (D.meaning desk.old) (D.meaning desk.new) Outlet.Report
+        (verdict_rows verdict.now)) }
+    ensures front { OnErr result (AddsFront (D.meaning desk.old) (D.meaning desk.new) Outlet.Report
+        (verdict_rows verdict.now)) }
+    ensures cause { HasWriteCause (D.counts desk.old) (D.counts desk.new) result }
+{
+    if verdict.lost.is_none() && verdict.kind.is_written() {
+        return Ok(());
+    }
+    write_all(desk, Outlet::Report, rows_of(verdict).as_bytes())
 }
 
 /// Writes the content of the latest written packet.

@@ -1,6 +1,6 @@
 //! Texts of schedules and scripts, with what they must say.
 
-use crate::{CopyRow, FlagRow, Schedule, Script, SideFault};
+use crate::{CopyRow, FlagRow, Lookup, Schedule, Script, SideFault};
 use bit_vectors::Flags;
 use std::alloc::Global;
 use std::test::Fail;
@@ -65,6 +65,21 @@ fn schedules(rt: HostRuntime) -> Result<(), Fail> {
     let schedule = Schedule::with_rows(rt.alloc(), &[row])?;
     assert_eq!(rt; schedule.flags(5), flags);
     assert_eq!(rt; schedule.robust(5), None);
+    Ok(())
+}
+
+/// A lookup gives what its schedule gives, in whatever order it is asked.
+#[test]
+fn lookups(rt: HostRuntime) -> Result<(), Fail> {
+    let text = b"robust,7,9,1,3\n4,30,5,p\n9,9,1,rf";
+    let schedule = Schedule::read(rt.alloc(), text)?;
+    let mut lookup = Lookup::new(Schedule::read(rt.alloc(), text)?);
+    let numbers = [0, 1, 3, 4, 5, 8, 9, 10, 13, 14, 30, 2, 9, 29, u32::MAX];
+    for t in numbers {
+        let given = lookup.at(t);
+        assert_eq!(rt; given.flags, schedule.flags(t));
+        assert_eq!(rt; given.robust, schedule.robust(t));
+    }
     Ok(())
 }
 
