@@ -17,7 +17,7 @@ mod text;
 pub use decimal::number;
 pub use fault::SideFault;
 pub use laws::robustness_of_texts;
-pub use lookup::{Given, Lookup};
+pub use lookup::{Lookup, Planned};
 pub use rows::{CopyRow, FlagRow, TableRow};
 pub use schedule::Schedule;
 pub use script::Script;

@@ -9,7 +9,7 @@ use std::marker::Model;
 
 /// What a schedule gives a packet.
 #[derive(Clone, Copy, Debug, PartialEq, Eq)]
-pub struct Given {
+pub struct Planned {
     /// The flags of all rows of flags that name it, joined.
     pub flags: Flags,
     /// The required robustness, if a row gives it one.
@@ -48,21 +48,21 @@ impl Lookup {
     }
 
     /// What the schedule gives a packet.
-    pub fn at(&mut self, t: u32) -> Given
+    pub fn at(&mut self, t: u32) -> Planned
         ensures flags { result.flags ≡ flags_of self.old.flags t }
         ensures robust { result.robust ≡ robust_of self.old.robust t }
         ensures most { IfSome result.robust (λ robust. robust ≤ 7) }
         ensures same { self.new ≡ self.old }
     {
         if self.idle_from <= t && t < self.idle_until {
-            return Given {
+            return Planned {
                 flags: Flags::default(),
                 robust: None,
             };
         }
         self.idle_until = self.schedule.next_named(t);
         self.idle_from = t;
-        Given {
+        Planned {
             flags: self.schedule.flags(t),
             robust: self.schedule.robust(t),
         }

@@ -19,6 +19,7 @@ impl Span {
     {
         self.first <= t && t <= self.last && (t - self.first) % self.step == 0
     }
+
     /// A number up to which none from `t` on is one of them.
     pub fn next(&self, t: u32) -> u32
         requires { 1 ≤ self.now.step }

@@ -70,6 +70,7 @@ impl<R: TableRow> Table<R> {
         let place = self.naming(t).max()?;
         Some(self.rows[place])
     }
+
     /// A number up to which no row names a packet from `t` on.
     pub(crate) fn next_named(&self, t: u32) -> u32
         ensures { (n : ℕ) → t ≤ n → n < result → ArePlacesNaming R.span_of self.now n [] }
