@@ -30,7 +30,8 @@ pub fn carry(
     requires places { length input.now ≡ length encoder.old.masks.mask }
     requires decoder_places { decoder.old.places ≡ length input.now }
     requires most { encoder.old.masks.taken < 4294967296 }
-    requires later { IfSome (latest_number decoder.old.state) (λ last. last < encoder.old.masks.taken) }
+    requires later { IfSome (latest_number decoder.old.state)
+        (λ last. last < encoder.old.masks.taken) }
     requires later_mask { IfSome (latest_mask_number decoder.old.state)
         (λ last. last < encoder.old.masks.taken) }
     requires empty { pen.old.bits ≡ [] }
@@ -41,7 +42,8 @@ pub fn carry(
     // The decoder then knows the sender's mask and the input, with the number of the packet.
     ensures known { (h : History) (mask content : Option ℕ)
         → AreInStep h mask content input.now encoder.old decoder.old → decoder.new.state
-        ≡ both_known (length h.steps) (mask_at (with_input h input.now) (length h.steps)) input.now }
+        ≡ both_known (length h.steps)
+        (mask_at (with_input h input.now) (length h.steps)) input.now }
     ensures places { decoder.new.places ≡ decoder.old.places }
 {
     let number = encoder.taken();
