@@ -1,6 +1,6 @@
 //! The desk over real files.
 
-ghost use Rattle.std.specs.Prelude.{◌≡◌, ◌≤◌, ◌<◌, ◌+◌, ◌-◌, ◌^◌, false, [], min, length, take, IsTrue, IsErr, IfOk, OnOk, OnErr};
+ghost use Rattle.std.specs.Prelude.{◌≡◌, ◌≤◌, ◌<◌, ◌+◌, ◌-◌, ◌^◌, false, [], min, length, take, IsTrue, IsErr, IfOk, IfSome, OnOk, OnErr};
 ghost use Rattle.std.specs.Io.KnownBytes.{IsAtEnd};
 ghost use Rattle.desk_ports.specs.Meanings.{nothing_told, Adds, Begins, HasReadCause, HasWriteCause, IsReadyIn, IsReadyOut, Keeps, Moves, Opens, left};
 ghost use Rattle.desk_ports.specs.FileDesk.{file_counts, file_meanings, gathered, gathered_at, is_opened_sink, other_sink, other_source, waits_at};
@@ -114,15 +114,16 @@ impl Sink {
         }
     }
 
-    fn write(&mut self, bytes: &[u8]) -> io::Result<usize>
+    // Tells how many bytes were taken. Why the system refuses is not told: an `io::Error` is far larger than a number.
+    fn write(&mut self, bytes: &[u8]) -> Option<usize>
         requires { IsTrue (is_opened_sink self.old) }
-        ensures within { IfOk result (λ n. n ≤ length bytes.now) }
+        ensures within { IfSome result (λ n. n ≤ length bytes.now) }
         ensures opened { IsTrue (is_opened_sink self.new) }
     {
         match self {
             Sink::Nothing => unreachable!(),
-            Sink::StandardOutput(stdout) => stdout.write(bytes),
-            Sink::File(file, _) => file.write(bytes),
+            Sink::StandardOutput(stdout) => stdout.write(bytes).ok(),
+            Sink::File(file, _) => file.write(bytes).ok(),
         }
     }
 
@@ -366,8 +367,8 @@ impl<'a> Desk for FileDesk<'a> {
             Outlet::Report => self.report.write(bytes),
         };
         match taken {
-            Ok(0) => Err(self.write_fault()),
-            taken => self.or_write_fault(taken),
+            None | Some(0) => Err(self.write_fault()),
+            Some(taken) => Ok(taken),
         }
     }
 

@@ -15,6 +15,7 @@ use bit_vectors::{BitEye, BitFault, Bits, NoMemory};
 use run_code::take_runs;
 use std::alloc::Global;
 use std::marker::Model;
+use std::mem::swap;
 
 /// The run word of a vector without a one, in two bits.
 const NO_RUN: u32 = 0b10;
@@ -84,6 +85,20 @@ impl FirstPart {
             &mut self.predictable,
         )?;
         Ok(())
+    }
+
+    /// Becomes `other`, which has as many places, and leaves that any. Where neither has a change, no vector is moved.
+    pub fn take_over(&mut self, other: &mut FirstPart)
+        requires { length self.old.recent ≡ length other.old.recent }
+        ensures same { self.new ≡ other.old }
+        ensures places { length other.new.recent ≡ length other.old.recent }
+    {
+        if self.quiet && other.quiet && other.twice.is_none() {
+            self.level = other.level;
+            self.twice = None;
+            return;
+        }
+        swap(self, other);
     }
 
     /// The recent changes of the mask.

@@ -138,7 +138,7 @@ impl Decoder {
         if !kind.tells_content() {
             return Ok(missed(self.latest.content_number, self.next.level(), true));
         }
-        swap(&mut self.shown, &mut self.next);
+        self.shown.take_over(&mut self.next);
         swap(&mut self.latest.content, &mut self.draft.content);
         self.latest.content_number = Some(t);
         Ok(Reading::Written)

@@ -172,4 +172,4 @@ returns-clause-written c form mask content s =
     let found_as = found at true (sym c.tells_content.ensures ∙ c.if-not-tells_content.false) form mask (Some content) s in
     let places = spelled_places c.args.self.now.places c.args.self.now.state c.args.t (bits_of c.args.bytes.now) form mask (Some content) (spelled_has at) s in
     written_is c.args.self.now c.self.inside.latest c.self.inside.shown c.self.view_is c.self.invariant.latest_vectors _ c.args.t c.new-eye.result c.args.bytes.now c.self.invariant.draft_vectors.content c.new-eye.ensures.bits c.new-eye.ensures.place
-    (record { mask_number = c.keep_mask.new.latest.mask_number; mask = c.keep_mask.new.latest.mask; content_number = Some c.args.t; content = c.swap-2.new.x }) c.swap.new.x c.take_whole_packet.new.next (told at).mask (Some c.take_whole_packet.new.draft.content) refl (ap Some c.swap-2.ensures.x_after) (told at).part c.swap.ensures.x_after form mask content found_as places.1
+    (record { mask_number = c.keep_mask.new.latest.mask_number; mask = c.keep_mask.new.latest.mask; content_number = Some c.args.t; content = c.swap.new.x }) c.take_over.new.self c.take_whole_packet.new.next (told at).mask (Some c.take_whole_packet.new.draft.content) refl (ap Some c.swap.ensures.x_after) (told at).part c.take_over.ensures.same form mask content found_as places.1
