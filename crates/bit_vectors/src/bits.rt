@@ -9,8 +9,8 @@ ghost use Rattle.bit_vectors.specs.Words.{word_count, IsWord, HasNoSpareBit, vec
 use crate::fault::{NoMemory, SpareBit};
 use crate::word_bytes::{has_spare_bit, load_words, store_words};
 use crate::words::{
-    are_zero, bit_in_words, copy_words, drop_words, first_one, last_one, ones_in, or_words,
-    write_bit_in_words, xor_words, zero_words,
+    are_same, are_zero, bit_in_words, copy_words, drop_words, first_one, last_one, ones_in,
+    or_words, write_bit_in_words, xor_words, zero_words,
 };
 use std::alloc::Global;
 use std::marker::Model;
@@ -187,7 +187,7 @@ impl Bits {
         requires { length self.now ≡ length other.now }
         ensures { IsTrue result ↔ (self.now ≡ other.now) }
     {
-        self.words.as_slice() == other.words.as_slice()
+        are_same(&self.words, &other.words)
     }
 
     /// The number of words of 64 bits that the places take.

@@ -112,6 +112,18 @@ pub fn are_zero(words: &[u64]) -> bool
     any == 0
 }
 
+/// Whether the words are the others. No branch hangs on a word, so that several are compared at once.
+pub fn are_same(words: &[u64], others: &[u64]) -> bool
+    requires { length words.now ≡ length others.now }
+    ensures { IsTrue result ↔ (words.now ≡ others.now) }
+{
+    let mut any = 0;
+    for (index, word) in words.iter().enumerate() {
+        any |= word ^ others[index];
+    }
+    any == 0
+}
+
 /// The number of the last one among the bits before `below`.
 pub fn last_one(words: &[u64], below: u32) -> Option<u32>
     requires { below ≤ 64 * length words.now }
