@@ -5,7 +5,7 @@ use Rattle.desk_ports.specs.declared.desk.Inlet.TheVariants as inlet
 use Rattle.desk_ports.specs.declared.desk.Outlet.TheVariants as outlet
 use Rattle.desk_ports.specs.Meanings.{Meanings, Moves, left, made}
 use Rattle.desk_ports.specs.Runs.{Ran}
-use Rattle.desk_ports.specs.Courses.{Outputs, no_outputs, put, Course, by_ending, owed, behind, AreFronts, Went, Ends, IsCutOff}
+use Rattle.desk_ports.specs.Courses.{Outputs, no_outputs, put, Course, by_ending, owed, behind, AreFronts, Went, Ends, IsCutOff, Work, Finishes}
 use Rattle.desk_ports.proofs.Runs.{Ran-then, Ran-moves}
 
 pub put-put : (a b c : Outputs) → put (put a b) c ≡ put a (put b c)
@@ -78,13 +78,22 @@ told_input taken rest input all before (Some left) moved told split is =
     let same : taken ++ left ≡ all = cc in
     sym split ∙ (ap (λ l. taken ++ l) (sym told) ∙ same)
 
--- where the input is told, the run is that of its course
+-- where the input is told, it is the bytes of the run
+Ends-input : {F : Type 0} (course_of : List ℕ → Course F) (a b : Meanings) (ending : Option F) (input : List ℕ) → left a inlet.Main ≡ Some input → (ends : Ends course_of a b ending) → ends.input ≡ input
+Ends-input course_of a b ending input is ends =
+    let went = ends.went in
+    told_input went.taken went.rest ends.input input (left a inlet.Main) (left b inlet.Main) went.ran.input went.told went.split is
+
+-- then the run is that of its course
 pub Ends-told : {F : Type 0} (course_of : List ℕ → Course F) (a b : Meanings) (ending : Option F) (input : List ℕ) → left a inlet.Main ≡ Some input → Ends course_of a b ending
     → (made b outlet.Main ≡ append_known (made a outlet.Main) (owed (course_of input)).output) × (made b outlet.Report ≡ append_known (made a outlet.Report) (owed (course_of input)).report) × ((course_of input).ending ≡ ending)
 Ends-told {F = F} course_of a b ending input is ends =
-    let went = ends.went in
-    let same : ends.input ≡ input = told_input went.taken went.rest ends.input input (left a inlet.Main) (left b inlet.Main) went.ran.input went.told went.split is in (
-      went.ran.output ∙ ap (λ l. append_known (made a outlet.Main) (owed (course_of l)).output) same,
-      went.ran.report ∙ ap (λ l. append_known (made a outlet.Report) (owed (course_of l)).report) same,
+    let same = Ends-input course_of a b ending input is ends in (
+      ends.went.ran.output ∙ ap (λ l. append_known (made a outlet.Main) (owed (course_of l)).output) same,
+      ends.went.ran.report ∙ ap (λ l. append_known (made a outlet.Report) (owed (course_of l)).report) same,
       ap (λ l. (course_of l).ending) (sym same) ∙ ends.ends,
     )
+
+-- and its answer is that of the input
+pub Finishes-told : {A F : Type 0} (work : Work A F) (a b : Meanings) (answer : A) (input : List ℕ) → left a inlet.Main ≡ Some input → Finishes work a b answer → answer ≡ work.answer input
+Finishes-told work a b answer input is done = done.answered ∙ ap work.answer (Ends-input work.course a b None input is done.ends)

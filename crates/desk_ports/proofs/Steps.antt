@@ -1,14 +1,14 @@
 -- How the turns of a run are made and join.
-use Rattle.std.proofs.Common.{◌≡◌, ℕ, Bool, List, [], ◌++◌, Option, Some, None, IfOk, IfSome, Result, Ok, Err, refl, sym, ap, ◌∙◌, subst, append_assoc, append-nil}
-use Rattle.std.specs.Io.KnownBytes.{IsAtEnd, prepend_known}
+use Rattle.std.proofs.Common.{◌≡◌, ℕ, Bool, List, [], ◌++◌, Option, Some, None, Result, Ok, Err, refl, sym, ap, ◌∙◌, subst, append_assoc, append-nil}
+use Rattle.std.specs.Io.KnownBytes.{IsAtEnd}
 use Rattle.desk_ports.specs.declared.desk.Inlet.TheVariants as inlet
 use Rattle.desk_ports.specs.declared.desk.Outlet.{Outlet}
 use Rattle.desk_ports.specs.declared.desk.Outlet.TheVariants as outlet
 use Rattle.desk_ports.specs.Stop.{Stop, Data, ReadFault, WriteFault}
 use Rattle.desk_ports.specs.Meanings.{Meanings, Moves, AddsFront, left}
 use Rattle.desk_ports.specs.Runs.{Ran}
-use Rattle.desk_ports.specs.Courses.{Outputs, no_outputs, to_output, to_report, put, Course, owed, behind, AreFronts, Went, Ends, IsCutOff, IsCutShort, AfterStop, AfterRun}
-use Rattle.desk_ports.specs.Turns.{Work, AreReady, Steps, Reaches, Advances, IsAnswer, Finishes, IsLast, Wrote, WroteFront}
+use Rattle.desk_ports.specs.Courses.{Outputs, no_outputs, to_output, to_report, put, Course, owed, behind, AreFronts, Went, Ends, IsCutOff, IsCutShort, Work, Finishes, AfterStop, AfterRun}
+use Rattle.desk_ports.specs.Turns.{AreReady, Steps, Reaches, Advances, IsLast, Wrote, WroteFront}
 use Rattle.desk_ports.proofs.Runs.{Ran-none, Ran-then, Ran-moves, Ran-adds, Ran-notes, Ran-ready_in, Ran-ready_out}
 use Rattle.desk_ports.proofs.Courses.{owed-behind, behind-behind, AreFronts-then, AreFronts-put, rest_of, Went-ran, Went-then, IfSome-IsAtEnd}
 use Rattle.desk_ports.proofs.Transfers.{prepend_known-none}
@@ -69,33 +69,15 @@ AfterStop-behind work here a b c (Data fault) p q = Ends-behind work here a b c 
 AfterStop-behind work here a b c ReadFault p q = IsCutOff-behind work here a b c p q
 AfterStop-behind work here a b c WriteFault p q = IsCutShort-behind work here a b c p q
 
--- a run behind a part of it that was done before
-pub AfterRun-behind : {T A F : Type 0} (work here : Work A F) (a b c : Meanings) (result : Result T (Stop F)) → Reaches work here a b → AfterRun here.course b c result → AfterRun work.course a c result
-AfterRun-behind work here a b c (Ok done) p q = Ends-behind work here a b c None p q
-AfterRun-behind work here a b c (Err stop) p q = AfterStop-behind work here a b c stop p q
-
-told_behind : {A : Type 0} (f g : List ℕ → A) (x : A) (taken : List ℕ) (a b : Option (List ℕ)) → a ≡ prepend_known taken b → ((rest : List ℕ) → f (taken ++ rest) ≡ g rest) → IfSome b (λ bytes. x ≡ g bytes) → IfSome a (λ bytes. x ≡ f bytes)
-told_behind f g x taken None b moved on told = tt
-told_behind f g x taken (Some bytes) None moved on told = absurd (let e : ◌≡◌ {A = Option (List ℕ)} (Some bytes) None = moved in cc)
-told_behind f g x taken (Some bytes) (Some rest) moved on told =
-    let e : ◌≡◌ {A = Option (List ℕ)} (Some bytes) (Some (taken ++ rest)) = moved in
-    let same : bytes ≡ taken ++ rest = cc in
-    told ∙ sym (ap f same ∙ on rest)
-
-pub IsAnswer-behind : {A F : Type 0} (work here : Work A F) (a b : Meanings) (answer : A) → Reaches work here a b → IsAnswer here b answer → IsAnswer work a answer
-IsAnswer-behind work here a b answer p told = told_behind work.answer here.answer answer p.taken (left a inlet.Main) (left b inlet.Main) p.ran.input p.steps.answer told
-
-untold : (left : Option (List ℕ)) → IfSome left (λ bytes. Unit {0})
-untold None = tt
-untold (Some bytes) = tt
-
-pub answer-behind : {A E F : Type 0} (work here : Work A F) (a b : Meanings) (result : Result A E) → Reaches work here a b → IfSome (left b inlet.Main) (λ input. IfOk result (λ answer. answer ≡ here.answer input))
-    → IfSome (left a inlet.Main) (λ input. IfOk result (λ answer. answer ≡ work.answer input))
-answer-behind work here a b (Ok answer) p told = IsAnswer-behind work here a b answer p told
-answer-behind work here a b (Err fault) p told = untold (left a inlet.Main)
-
+-- the answer of all of the work is that of its last part
 pub Finishes-behind : {A F : Type 0} (work here : Work A F) (a b c : Meanings) (answer : A) → Reaches work here a b → Finishes here b c answer → Finishes work a c answer
-Finishes-behind work here a b c answer p q = record { ends = Ends-behind work here a b c None p q.ends; answered = IsAnswer-behind work here a b answer p q.answered }
+unfolding Ends-behind
+Finishes-behind work here a b c answer p q = record { ends = Ends-behind work here a b c None p q.ends; answered = q.answered ∙ sym (p.steps.answer q.ends.input) }
+
+-- a run behind a part of it that was done before
+pub AfterRun-behind : {A F : Type 0} (work here : Work A F) (a b c : Meanings) (result : Result A (Stop F)) → Reaches work here a b → AfterRun here b c result → AfterRun work a c result
+AfterRun-behind work here a b c (Ok answer) p q = Finishes-behind work here a b c answer p q
+AfterRun-behind work here a b c (Err stop) p q = AfterStop-behind work here a b c stop p q
 
 -- what was opened stays opened
 pub AreReady-ran : (writes : Outlet → Bool) (a b : Meanings) (xs us rs : List ℕ) → Ran a b xs us rs → AreReady writes a → AreReady writes b
@@ -151,10 +133,6 @@ Went-end a b c stand moves at_end wrote =
     let ran = Ran-taken a b c [] stand moves wrote in
     record { taken = []; rest = []; split = refl; told = IfSome-IsAtEnd (left c inlet.Main) (subst IsAtEnd (ran.input ∙ sym (prepend_known-none (left c inlet.Main))) at_end); ran = ran }
 
-told_end : {A : Type 0} (f : List ℕ → A) (x : A) (left : Option (List ℕ)) → IsAtEnd left → f [] ≡ x → IfSome left (λ bytes. x ≡ f bytes)
-told_end f x None at_end is = tt
-told_end f x (Some bytes) at_end is = sym (ap f at_end ∙ is)
-
 -- the input is at its end, and the last part was written
 pub Finishes-end : {A F : Type 0} {work here : Work A F} {a b c : Meanings} {last : Outputs} {answer : A} → work ≡ here → IsLast here last answer → Moves a b inlet.Main [] → IsAtEnd (left a inlet.Main) → Wrote b c last → Finishes work a c answer
 unfolding Went-end
@@ -167,7 +145,7 @@ Finishes-end {A = A} {F = F} {here = here} {a = a} {b = b} {c = c} {last = last}
         ends = ap (λ (k : Course F). k.ending) ends.course;
         read_out = λ whole. went.told;
       };
-      answered = told_end here.answer answer (left a inlet.Main) at_end ends.answer;
+      answered = sym ends.answer;
     })
 
 -- and where a writing failed, a front of it

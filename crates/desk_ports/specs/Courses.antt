@@ -86,10 +86,20 @@ AfterStop course_of old new (Data fault) = Ends course_of old new (Some fault)
 AfterStop course_of old new ReadFault = IsCutOff course_of old new
 AfterStop course_of old new WriteFault = IsCutShort course_of old new
 
+-- the work of a run: what it owes for the bytes of its input, and what it answers where they have no fault
+pub record Work (A F : Type 0) : Type 0 where
+  pub course : List ℕ → Course F
+  pub answer : List ℕ → A
+
+-- all of the work is done: what the input owes stands, and the answer is that of the same bytes, whatever the desk tells
+pub record Finishes {A F : Type 0} (work : Work A F) (old new : Meanings) (answer : A) : Type 0 where
+  pub ends : Ends work.course old new None
+  pub answered : answer ≡ work.answer ends.input
+
 -- after a run, by its answer
-abbrev pub AfterRun : {T F : Type 0} → (List ℕ → Course F) → Meanings → Meanings → Result T (Stop F) → Type 0
-AfterRun course_of old new (Ok done) = Ends course_of old new None
-AfterRun course_of old new (Err stop) = AfterStop course_of old new stop
+abbrev pub AfterRun : {A F : Type 0} → Work A F → Meanings → Meanings → Result A (Stop F) → Type 0
+AfterRun work old new (Ok answer) = Finishes work old new answer
+AfterRun work old new (Err stop) = AfterStop work.course old new stop
 
 -- an answer, its fault as a reason to end a run
 abbrev pub by_stop : {T E F : Type 0} → (E → Stop F) → Result T E → Result T (Stop F)

@@ -1,19 +1,13 @@
 -- What a run over a desk still owes, and what one turn of it does.
-use Rattle.std.specs.Prelude.{◌≡◌, ℕ, Bool, IsTrue, List, [], ◌++◌, None, Result, Ok, Err, IfSome}
+use Rattle.std.specs.Prelude.{◌≡◌, ℕ, Bool, IsTrue, List, [], ◌++◌, None, Result, Ok, Err}
 use Rattle.desk_ports.specs.declared.desk.Inlet.TheVariants as inlet
 use Rattle.desk_ports.specs.declared.desk.Outlet.{Outlet}
 use Rattle.desk_ports.specs.Stop.{Stop}
 use Rattle.desk_ports.specs.declared.turns.Turn.{Turn}
 use Rattle.desk_ports.specs.declared.turns.Turn.TheVariants.{More, Done}
-use Rattle.desk_ports.specs.Meanings.{Meanings, IsReadyIn, IsReadyOut, left}
+use Rattle.desk_ports.specs.Meanings.{Meanings, IsReadyIn, IsReadyOut}
 use Rattle.desk_ports.specs.Runs.{Ran}
-use Rattle.desk_ports.specs.Courses.{Outputs, no_outputs, Course, behind, AreFronts, AfterStop, Ends}
-
--- the work that is still to do: what is owed for the bytes that are left of the input, and what the run answers where they
--- have no fault
-pub record Work (A F : Type 0) : Type 0 where
-  pub course : List ℕ → Course F
-  pub answer : List ℕ → A
+use Rattle.desk_ports.specs.Courses.{Outputs, no_outputs, behind, AreFronts, Work, Finishes, AfterStop}
 
 -- some work is owed
 pub record IsOwed {A F : Type 0} (owes : Work A F → Type 0) : Type 0 where
@@ -42,15 +36,6 @@ pub record Advances {A F : Type 0} (work : Work A F) (owes : Work A F → Type 0
   pub next : Work A F
   pub owed : owes next
   pub reaches : Reaches work next old new
-
--- the answer is that of the input, where the desk tells it
-abbrev pub IsAnswer : {A F : Type 0} → Work A F → Meanings → A → Type 0
-IsAnswer work old answer = IfSome (left old inlet.Main) (λ input. answer ≡ work.answer input)
-
--- all of the work is done
-pub record Finishes {A F : Type 0} (work : Work A F) (old new : Meanings) (answer : A) : Type 0 where
-  pub ends : Ends work.course old new None
-  pub answered : IsAnswer work old answer
 
 -- after a turn of a run, by its answer
 abbrev pub AfterTurn : {A F : Type 0} → Work A F → (Work A F → Type 0) → Meanings → Meanings → Result (Turn A) (Stop F) → Type 0

@@ -6,7 +6,7 @@ ghost use Rattle.desk_ports.specs.declared.desk.Failed.{Failed};
 ghost use Rattle.desk_ports.specs.declared.desk.Inlet.{Inlet};
 ghost use Rattle.desk_ports.specs.declared.desk.Outlet.{Outlet};
 ghost use Rattle.desk_ports.specs.Meanings.{Meanings, Counts, Moves, Adds, AreBelowLast, Fails, Keeps, Opens, Rose, faults, HasReadCause, HasWriteCause, left, made, outgoing};
-ghost use Rattle.desk_ports.specs.Courses.{Course, Ends, owed};
+ghost use Rattle.desk_ports.specs.Courses.{Course, Ends, Finishes, Work, owed};
 ghost use Rattle.desk_ports.specs.QuietState.{QuietState, quiet_meanings, quiet_counts};
 
 /// Two reads are one read of both pieces, and two writes one write.
@@ -29,14 +29,17 @@ pub fn finished_is_held()
 {}
 
 /// Where the desk tells its input, a run to its end has added to the outputs exactly what the course of
-/// that input owes, and it ended as that course does.
-pub fn runs_follow_their_course<F>()
-    ensures { (course_of : List ℕ → Course F) (a b : Meanings) (ending : Option F) (input : List ℕ)
+/// that input owes, and it ended as that course does; the answer of a run that is done is that input's.
+pub fn runs_follow_their_course<A, F>()
+    ensures written { (course_of : List ℕ → Course F) (a b : Meanings) (ending : Option F) (input : List ℕ)
         → left a Inlet.Main ≡ Some input → Ends course_of a b ending
         → (made b Outlet.Main ≡ append_known (made a Outlet.Main) (owed (course_of input)).output)
         × (made b Outlet.Report
         ≡ append_known (made a Outlet.Report) (owed (course_of input)).report)
         × ((course_of input).ending ≡ ending) }
+    ensures answer { (work : Work A F) (a b : Meanings) (answer : A) (input : List ℕ)
+        → left a Inlet.Main ≡ Some input → Finishes work a b answer
+        → answer ≡ work.answer input }
 {}
 
 /// Each fault of a desk is counted once, where neither count stands at its last value. So nothing is done after it: where a

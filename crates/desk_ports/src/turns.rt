@@ -1,14 +1,13 @@
 //! A run over a desk, turn by turn: it reads its input to the end, and writes what that owes.
 
-ghost use Rattle.std.specs.Prelude.{◌≡◌, ◌<◌, ℕ, Bool, Ok, IfOk, IfSome};
+ghost use Rattle.std.specs.Prelude.{◌≡◌, ◌<◌, ℕ, Bool, Ok};
 ghost use Rattle.desk_ports.specs.declared.desk.Outlet.{Outlet};
 ghost use Rattle.desk_ports.specs.Stop.{Stop};
 ghost use Rattle.desk_ports.specs.declared.turns.Turn.TheVariants as turn;
-ghost use Rattle.desk_ports.specs.Meanings.{left};
-ghost use Rattle.desk_ports.specs.Courses.{AfterRun, HasCause, by_stop};
-ghost use Rattle.desk_ports.specs.Turns.{Work, IsOwed, AreReady, AfterTurn};
+ghost use Rattle.desk_ports.specs.Courses.{Work, AfterRun, HasCause, by_stop};
+ghost use Rattle.desk_ports.specs.Turns.{IsOwed, AreReady, AfterTurn};
 
-use crate::desk::{Desk, Inlet};
+use crate::desk::Desk;
 
 /// What a turn of a run tells: the run goes on, or all of it is done, with this answer.
 #[derive(Clone, Copy, Debug, PartialEq, Eq)]
@@ -53,15 +52,11 @@ pub trait Run {
 pub fn drive<R: Run, D: Desk>(run: &mut R, desk: &mut D) -> Result<R::Answer, R::Fault>
     requires owed { IsOwed (R.owes run.old) }
     requires ready { AreReady R.writes (D.meaning desk.old) }
-    // What stands after each answer is what the input owes, all of it or up to where a fault ends the run.
+    // What stands after each answer is what the input owes, all of it or up to where a fault ends the run; a run that is
+    // done answers what belongs to the same bytes.
     ensures ran { (work : Work R.Answer R.Data) → R.owes run.old work
-        → AfterRun work.course (D.meaning desk.old) (D.meaning desk.new)
-        (by_stop R.stop_of result) }
+        → AfterRun work (D.meaning desk.old) (D.meaning desk.new) (by_stop R.stop_of result) }
     ensures cause { HasCause (D.counts desk.old) (D.counts desk.new) (by_stop R.stop_of result) }
-    // Where the desk tells the input, the answer is that of its bytes.
-    ensures answer { (work : Work R.Answer R.Data) → R.owes run.old work
-        → IfSome (left (D.meaning desk.old) Inlet.Main)
-        (λ input. IfOk result (λ answer. answer ≡ work.answer input)) }
 {
     'turns: loop {
         match run.turn(desk) {

@@ -1,11 +1,9 @@
 -- A flight that has read nothing.
-use Rattle.std.proofs.Common.{◌≡◌, ℕ, [], length, sym, ap, ◌∙◌, subst}
-use Rattle.desk_ports.specs.Turns.{Work}
+use Rattle.std.proofs.Common.{◌≡◌, [], length, sym, ap, ◌∙◌, subst}
 use Rattle.mask_update.proofs.StepByStep.{mask_at-zero}
-use Rattle.flight_chain.specs.declared.fault.RecordFault.{RecordFault}
 use Rattle.flight_chain.specs.declared.compressing.Compressing.{Compressing}
 use Rattle.flight_chain.specs.Recordings.{recording_walk}
-use Rattle.flight_chain.specs.Compressing.{Compression, history_by, compression_of, HasTaken, HasTakenNothing, IsCompressing, Owes, compress_course, rest_work}
+use Rattle.flight_chain.specs.Compressing.{Compression, history_by, compression_of, HasTaken, HasTakenNothing, IsCompressing, Owes, compress_work, rest_work}
 use Rattle.flight_chain.proofs.Histories.{rest_course-first}
 
 -- what is kept is what the flight was opened with
@@ -17,11 +15,7 @@ compression_of-none k s places taken =
 pub HasTakenNothing-opened : (k : Compression) (s : Compressing) → length k.mask ≡ k.places → IsCompressing s → s.ahead ≡ [] → HasTaken k [] s → HasTakenNothing s
 HasTakenNothing-opened k s places right ahead taken = record { ahead = ahead; none = subst (λ (l : Compression). HasTaken l [] s) (sym (compression_of-none k s places taken)) taken; right = right }
 
--- the work of compressing a recording
-abbrev pub compress_work : Compression → Work ℕ RecordFault
-compress_work k = record { course = compress_course k; answer = λ recording. length (recording_walk k.places recording).inputs }
-
--- it is owed where nothing is taken
+-- the work of compressing a recording is owed where nothing is taken
 pub Owes-unread : (s : Compressing) → HasTakenNothing s → Owes s (compress_work (compression_of s))
 Owes-unread s unread = record {
   k = compression_of s;

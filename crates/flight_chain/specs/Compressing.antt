@@ -5,8 +5,7 @@ use Rattle.desk_ports.specs.declared.desk.Outlet.{Outlet}
 use Rattle.desk_ports.specs.declared.desk.Outlet.TheVariants as outlet
 use Rattle.desk_ports.specs.Stop.{Stop}
 use Rattle.desk_ports.specs.Stop as stop
-use Rattle.desk_ports.specs.Courses.{Course, no_outputs, to_output}
-use Rattle.desk_ports.specs.Turns.{Work}
+use Rattle.desk_ports.specs.Courses.{Course, Work, no_outputs, to_output}
 use Rattle.mask_update.specs.Histories.{History, history_of}
 use Rattle.side_tables.specs.declared.rows.RobustRow.{RobustRow}
 use Rattle.side_tables.specs.Rows.{ScheduleRows, flags_of, robust_of}
@@ -46,6 +45,10 @@ compress_course k recording = record {
   after = no_outputs;
   ending = (recording_walk k.places recording).ending;
 }
+
+-- the work of compressing a recording, whose answer is the number of its packets
+abbrev pub compress_work : Compression → Work ℕ RecordFault
+compress_work k = record { course = compress_course k; answer = λ recording. length (recording_walk k.places recording).inputs }
 
 -- a fault, as a reason to end a run
 abbrev pub stop_by : FlightFault → Stop RecordFault

@@ -1,10 +1,9 @@
 //! The command `compress`: from a recording to the store of its compressed packets.
 
-ghost use Rattle.std.specs.Prelude.{◌≡◌, ◌≤◌, length, IfOk, IfSome};
-ghost use Rattle.desk_ports.specs.Meanings.{IsReadyIn, IsReadyOut, left};
+ghost use Rattle.std.specs.Prelude.{◌≡◌, ◌≤◌, length, IfOk};
+ghost use Rattle.desk_ports.specs.Meanings.{IsReadyIn, IsReadyOut};
 ghost use Rattle.desk_ports.specs.Courses.{AfterRun, HasCause, by_stop};
-ghost use Rattle.flight_chain.specs.Recordings.{recording_walk};
-ghost use Rattle.flight_chain.specs.Compressing.{compress_course, stop_by};
+ghost use Rattle.flight_chain.specs.Compressing.{compress_work, stop_by};
 
 use crate::compressing::Compressing;
 use crate::fault::FlightFault;
@@ -61,14 +60,11 @@ impl Flight {
     pub fn compress<D: Desk>(self, desk: &mut D) -> Result<u64, FlightFault>
         requires input { IsReadyIn (D.meaning desk.old) Inlet.Main }
         requires output { IsReadyOut (D.meaning desk.old) Outlet.Main }
-        // What stands after each answer is what the recording owes, all of it or up to where its walk or the desk ends it.
-        ensures ran { AfterRun (compress_course self) (D.meaning desk.old) (D.meaning desk.new)
+        // What stands after each answer is what the recording owes, all of it or up to where its walk or the desk ends it;
+        // the number is that of the packets of the same recording, whatever the desk tells.
+        ensures ran { AfterRun (compress_work self) (D.meaning desk.old) (D.meaning desk.new)
             (by_stop stop_by result) }
         ensures cause { HasCause (D.counts desk.old) (D.counts desk.new) (by_stop stop_by result) }
-        // Where the desk tells the recording, the number is that of its packets.
-        ensures packets { IfSome (left (D.meaning desk.old) Inlet.Main) (λ recording.
-            IfOk result (λ packets. packets
-            ≡ length (recording_walk self.places recording).inputs)) }
     {
         let mut compressing = self.compressing;
         drive(&mut compressing, desk)

@@ -1,14 +1,13 @@
 -- What a run over the played store of a history writes.
-use Rattle.std.proofs.Common.{◌≡◌, ℕ, ◌++◌, ◌^◌, ◌<◌, ◌≤◌, ◌⊎◌, List, length, Some, None, Result, Ok, Err, IfSome, IsOk, inl, inr, append-nil, append_assoc, refl, sym, ap, ◌∙◌, subst}
+use Rattle.std.proofs.Common.{◌≡◌, ℕ, ◌++◌, ◌^◌, ◌<◌, ◌≤◌, ◌⊎◌, List, length, Some, None, Result, Ok, Err, IsOk, inl, inr, append-nil, append_assoc, refl, sym, ap, ◌∙◌, subst}
 use Rattle.std.specs.Io.KnownBytes.{append_known}
 use Rattle.std.proofs.lemmas.Bool.{cases_lt}
-use Rattle.desk_ports.specs.declared.desk.Inlet.TheVariants as inlet
 use Rattle.desk_ports.specs.declared.desk.Outlet.TheVariants as outlet
 use Rattle.desk_ports.specs.Stop.{Stop, Data, ReadFault, WriteFault}
-use Rattle.desk_ports.specs.Meanings.{Meanings, Counts, Rose, left, made}
-use Rattle.desk_ports.specs.Courses.{AfterRun, Course, HasCause, Outputs, by_ending, by_stop, owed}
+use Rattle.desk_ports.specs.Meanings.{Meanings, Counts, Rose, made}
+use Rattle.desk_ports.specs.Courses.{AfterRun, Finishes, HasCause, Outputs, Work, by_ending, by_stop, owed}
 use Rattle.desk_ports.proofs.Faults.{Rose-reads, Rose-writes}
-use Rattle.desk_ports.proofs.Courses.{Ends-told}
+use Rattle.desk_ports.proofs.Courses.{Ends-told, Finishes-told}
 use Rattle.mask_update.specs.Histories.{History, IsValid}
 use Rattle.packet_encode.specs.Deliveries.{arrivals}
 use Rattle.packet_store.specs.declared.fault.WalkFault.{WalkFault}
@@ -20,7 +19,7 @@ use Rattle.ground_chain.specs.declared.fault.RestoreFault.{RestoreFault}
 use Rattle.ground_chain.specs.declared.restored.Restored.{Restored}
 use Rattle.ground_chain.specs.Run.{run}
 use Rattle.ground_chain.specs.Report.{end_row, header_row, restored_of, run_bytes, run_report, run_rows}
-use Rattle.ground_chain.specs.Restoring.{restore_course, stop_by, store_run}
+use Rattle.ground_chain.specs.Restoring.{restore_course, restore_work, stop_by, store_run}
 use Rattle.ground_chain.specs.Deliveries.{IsDelivered, IsPlayed, delivered_numbers, report_text, restored_bytes, history_arrivals}
 use Rattle.ground_chain.proofs.HistoryBytes.{bytes-history}
 use Rattle.ground_chain.proofs.HistoryNumbers.{numbers-history}
@@ -62,39 +61,38 @@ module _ (h : History) (copies : ℕ → ℕ) (apid : ℕ) (valid : IsValid h) (
 
 -- what a run writes that is done
 pub IsDelivered-done : (f apid : ℕ) (h : History) (copies : ℕ → ℕ) (restored : Restored) (a b : Meanings) → IsPlayed f apid h copies a
-    → AfterRun (restore_course f apid) a b (Ok restored) → IfSome (left a inlet.Main) (λ store. restored ≡ restored_of (store_run f apid store))
-    → IsDelivered h copies restored a b
-IsDelivered-done f apid h copies restored a b played ran numbers =
+    → Finishes (restore_work f apid) a b restored → IsDelivered h copies restored a b
+IsDelivered-done f apid h copies restored a b played done =
     let store : List ℕ = played_bytes copies apid (store_of h apid) in
-    let told = Ends-told (restore_course f apid) a b None store played.input ran in
+    let told = Ends-told (restore_course f apid) a b None store played.input done.ends in
     let whole = told.2 in
     let owed_is = subst (λ places. owed (restore_course places apid store) ≡ record { output = restored_bytes h copies; report = report_text h copies }) played.places (owed-played h copies apid played.valid played.chosen played.gaps whole) in
     let numbers_are = subst (λ places. restored_of (store_run places apid store) ≡ delivered_numbers h copies) played.places (numbers-played h copies apid played.valid played.chosen played.gaps whole) in
     record {
       output = told.0 ∙ ap (λ (o : Outputs). append_known (made a outlet.Main) o.output) owed_is;
       report = told.1 ∙ ap (λ (o : Outputs). append_known (made a outlet.Report) o.report) owed_is;
-      numbers = subst (λ left. IfSome left (λ store. restored ≡ restored_of (store_run f apid store))) played.input numbers ∙ numbers_are;
+      numbers = Finishes-told (restore_work f apid) a b restored store played.input done ∙ numbers_are;
     }
 
 -- a run over a desk that doesn't fail is done, where the played store is not too long and the course ends as the walk does
-pub IsOk-played : (f apid : ℕ) (course : List ℕ → Course WalkFault) (h : History) (copies : ℕ → ℕ) (a b : Meanings) (old new : Counts) (result : Result Restored (Stop WalkFault)) → ((store : List ℕ) → (course store).ending ≡ (walk (Some apid) store).ending)
-    → IsPlayed f apid h copies a → length (arrivals copies (length h.steps)) ≤ 2 ^ 32 → AfterRun course a b result → HasCause old new result
+pub IsOk-played : (f apid : ℕ) (work : Work Restored WalkFault) (h : History) (copies : ℕ → ℕ) (a b : Meanings) (old new : Counts) (result : Result Restored (Stop WalkFault)) → ((store : List ℕ) → (work.course store).ending ≡ (walk (Some apid) store).ending)
+    → IsPlayed f apid h copies a → length (arrivals copies (length h.steps)) ≤ 2 ^ 32 → AfterRun work a b result → HasCause old new result
     → (Rose old.reads new.reads → ⊥) → (Rose old.writes new.writes → ⊥) → IsOk result
-IsOk-played f apid course h copies a b old new (Ok restored) ends_so played few ran cause reads writes = refl
-IsOk-played f apid course h copies a b old new (Err (Data reason)) ends_so played few ran cause reads writes =
+IsOk-played f apid work h copies a b old new (Ok restored) ends_so played few ran cause reads writes = refl
+IsOk-played f apid work h copies a b old new (Err (Data reason)) ends_so played few ran cause reads writes =
     let store : List ℕ = played_bytes copies apid (store_of h apid) in
-    let ends = (Ends-told course a b (Some reason) store played.input ran).2 in
+    let ends = (Ends-told work.course a b (Some reason) store played.input ran).2 in
     let whole = ends_so store ∙ ap (λ (w : Walk). w.ending) (walk-played h copies apid played.valid played.chosen few) in
     let both = sym whole ∙ ends in absurd cc
-IsOk-played f apid course h copies a b old new (Err ReadFault) ends_so played few ran cause reads writes = absurd (reads (Rose-reads old new cause))
-IsOk-played f apid course h copies a b old new (Err WriteFault) ends_so played few ran cause reads writes = absurd (writes (Rose-writes old new cause))
+IsOk-played f apid work h copies a b old new (Err ReadFault) ends_so played few ran cause reads writes = absurd (reads (Rose-reads old new cause))
+IsOk-played f apid work h copies a b old new (Err WriteFault) ends_so played few ran cause reads writes = absurd (writes (Rose-writes old new cause))
 
 -- the same of an answer with a fault of a run
-pub IsOk-run : (f apid : ℕ) (course : List ℕ → Course WalkFault) (h : History) (copies : ℕ → ℕ) (a b : Meanings) (old new : Counts) (result : Result Restored RestoreFault) → ((store : List ℕ) → (course store).ending ≡ (walk (Some apid) store).ending)
-    → IsPlayed f apid h copies a → length (arrivals copies (length h.steps)) ≤ 2 ^ 32 → AfterRun course a b (by_stop stop_by result) → HasCause old new (by_stop stop_by result)
+pub IsOk-run : (f apid : ℕ) (work : Work Restored WalkFault) (h : History) (copies : ℕ → ℕ) (a b : Meanings) (old new : Counts) (result : Result Restored RestoreFault) → ((store : List ℕ) → (work.course store).ending ≡ (walk (Some apid) store).ending)
+    → IsPlayed f apid h copies a → length (arrivals copies (length h.steps)) ≤ 2 ^ 32 → AfterRun work a b (by_stop stop_by result) → HasCause old new (by_stop stop_by result)
     → (Rose old.reads new.reads → ⊥) → (Rose old.writes new.writes → ⊥) → IsOk result
-IsOk-run f apid course h copies a b old new result ends_so played few ran cause reads writes =
-    of_stop result (IsOk-played f apid course h copies a b old new (by_stop stop_by result) ends_so played few ran cause reads writes) where
+IsOk-run f apid work h copies a b old new result ends_so played few ran cause reads writes =
+    of_stop result (IsOk-played f apid work h copies a b old new (by_stop stop_by result) ends_so played few ran cause reads writes) where
       of_stop : (r : Result Restored RestoreFault) → IsOk (by_stop stop_by r) → IsOk r
       of_stop (Ok restored) ok = refl
       of_stop (Err fault) ok = absurd cc

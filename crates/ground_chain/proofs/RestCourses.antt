@@ -3,8 +3,8 @@ use Rattle.std.proofs.Common.{◌≡◌, ℕ, ◌*◌, ◌^◌, ◌≤◌, Bool,
 use Rattle.std.specs.List.{filter, flat_map}
 use Rattle.std.proofs.lemmas.List.Concat.{flat_map-cons}
 use Rattle.desk_ports.specs.Meanings.{Meanings}
-use Rattle.desk_ports.specs.Courses.{Outputs, Course, no_outputs, to_report, put, behind}
-use Rattle.desk_ports.specs.Turns.{Work, Steps}
+use Rattle.desk_ports.specs.Courses.{Outputs, Course, Work, no_outputs, to_report, put, behind}
+use Rattle.desk_ports.specs.Turns.{Steps}
 use Rattle.packet_store.specs.declared.reader.Taken.{Taken}
 use Rattle.packet_store.specs.declared.fault.WalkFault.{WalkFault}
 use Rattle.packet_store.specs.SpacePackets.{Packet, is_chosen}
@@ -17,7 +17,7 @@ use Rattle.ground_chain.specs.Run.{Arrival, Judged, run_from}
 use Rattle.ground_chain.specs.Report.{header_row, restored_of, restored_by, added}
 use Rattle.ground_chain.specs.Reception.{Reception, known_of, next_judged}
 use Rattle.ground_chain.specs.Accounts.{Texts, all_parts}
-use Rattle.ground_chain.specs.Restoring.{arrival_of, arrivals_of, store_run, restore_course, restored_texts}
+use Rattle.ground_chain.specs.Restoring.{arrival_of, arrivals_of, store_run, store_work, restore_course, restored_texts}
 use Rattle.ground_chain.specs.Receiving.{rest_run, left_to_receive, rest_work, store_course, IsReceiving, Judges, Owes, HasReadNothing}
 use Rattle.ground_chain.specs.Listing.{judged_lines, listing_course, listed_texts}
 use Rattle.ground_chain.proofs.Counted.{restored_of-cons, added-assoc, none-added, added-none}
@@ -107,10 +107,6 @@ IsReceiving-passed has_room s reader a b given right takes =
     }
 
 -- ---- the whole store
-
--- the work of a store with this course
-abbrev pub store_work : (List ℕ → Course WalkFault) → ℕ → ℕ → Work Restored WalkFault
-store_work course f apid = record { course = course; answer = λ store. restored_of (store_run f apid store) }
 
 -- nothing is read, and what the store owes an account is owed from its first packet on
 pub Steps-unread : {A : Type 0} (texts : Texts) (has_room : A → ℕ → Type 0) (f apid : ℕ) (s : Receiving A) (course : List ℕ → Course WalkFault) (first : Outputs) → HasReadNothing has_room f apid s

@@ -4,7 +4,7 @@ use Rattle.std.specs.Fmt.{decimal}
 use Rattle.std.specs.List.{flat_map}
 use Rattle.bit_vectors.specs.declared.fault.BitFault.TheVariants.{Wrong, EndsEarly}
 use Rattle.bit_vectors.specs.Vectors.{byte_count, vector_bytes}
-use Rattle.desk_ports.specs.Courses.{Course, to_output}
+use Rattle.desk_ports.specs.Courses.{Course, Work, to_output}
 use Rattle.hex.specs.Hex.{encode_lower}
 use Rattle.packet_decode.specs.State.{KnownVector, State, Change}
 use Rattle.packet_decode.specs.Decoding.{Decoding, latest_content}
@@ -19,7 +19,7 @@ use Rattle.ground_chain.specs.declared.verdict.Verdict.{Verdict}
 use Rattle.ground_chain.specs.Run.{Judged}
 use Rattle.ground_chain.specs.Report.{number_row, own_row, restored_of}
 use Rattle.ground_chain.specs.Accounts.{Texts}
-use Rattle.ground_chain.specs.Restoring.{store_run}
+use Rattle.ground_chain.specs.Restoring.{store_run, store_work}
 
 -- ---- an arrival
 
@@ -137,6 +137,10 @@ listing_course f apid store = record {
   after = to_output (end_line (restored_of (store_run f apid store)));
   ending = (walk (Some apid) store).ending;
 }
+
+-- the work of listing a store
+abbrev pub listing_work : ℕ → ℕ → Work Restored WalkFault
+listing_work f apid = store_work (listing_course f apid) f apid
 
 -- what is written of the arrivals: their lines
 abbrev pub listed_texts : Texts

@@ -1,7 +1,6 @@
 -- What is owed for the rest of a store, with an account of its arrivals.
 use Rattle.std.specs.Prelude.{◌≡◌, ℕ, ◌*◌, ◌^◌, ◌≤◌, IsTrue, List, [], Some, unwrap_or}
-use Rattle.desk_ports.specs.Courses.{Course}
-use Rattle.desk_ports.specs.Turns.{Work}
+use Rattle.desk_ports.specs.Courses.{Course, Work}
 use Rattle.packet_store.specs.declared.fault.WalkFault.{WalkFault}
 use Rattle.packet_store.specs.Walks.{walk}
 use Rattle.packet_store.specs.SpacePackets.{Packet}

@@ -4,7 +4,7 @@ use Rattle.std.specs.List.{filter}
 use Rattle.bit_vectors.specs.Vectors.{byte_count}
 use Rattle.desk_ports.specs.Stop.{Stop}
 use Rattle.desk_ports.specs.Stop as stop
-use Rattle.desk_ports.specs.Courses.{Course, to_report}
+use Rattle.desk_ports.specs.Courses.{Course, Work, to_report}
 use Rattle.packet_store.specs.declared.fault.WalkFault.{WalkFault}
 use Rattle.packet_store.specs.SpacePackets.{Packet, is_chosen}
 use Rattle.packet_store.specs.Walks.{walk}
@@ -12,6 +12,7 @@ use Rattle.packet_store.specs.Faults.{stop_of}
 use Rattle.ground_chain.specs.declared.fault.RestoreFault.{RestoreFault}
 use Rattle.ground_chain.specs.declared.fault.RestoreFault.TheVariants as restore
 use Rattle.ground_chain.specs.declared.reporting.Reporting.{Reporting}
+use Rattle.ground_chain.specs.declared.restored.Restored.{Restored}
 use Rattle.ground_chain.specs.Run.{Arrival, Judged, run}
 use Rattle.ground_chain.specs.Report.{header_row, verdict_rows, written_bytes, run_bytes, run_rows, end_row, restored_of}
 use Rattle.ground_chain.specs.Accounts.{Texts}
@@ -35,6 +36,14 @@ restore_course f apid store = record {
   after = to_report (end_row (restored_of (store_run f apid store)));
   ending = (walk (Some apid) store).ending;
 }
+
+-- the work over a store that owes this course, whose answer is the numbers of the run
+abbrev pub store_work : (List ℕ → Course WalkFault) → ℕ → ℕ → Work Restored WalkFault
+store_work course f apid = record { course = course; answer = λ store. restored_of (store_run f apid store) }
+
+-- the work of restoring a store
+abbrev pub restore_work : ℕ → ℕ → Work Restored WalkFault
+restore_work f apid = store_work (restore_course f apid) f apid
 
 -- a fault, as a reason to end a run
 abbrev pub stop_by : RestoreFault → Stop WalkFault

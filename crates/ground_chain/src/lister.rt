@@ -1,14 +1,13 @@
 //! The command `show`: from a store to the listing of its arrivals.
 
-ghost use Rattle.std.specs.Prelude.{◌≡◌, ◌≤◌, ◌^◌, ℕ, length, IsOk, IfOk, IfSome};
-ghost use Rattle.desk_ports.specs.Meanings.{IsReadyIn, IsReadyOut, Rose, left};
+ghost use Rattle.std.specs.Prelude.{◌≡◌, ◌≤◌, ◌^◌, ℕ, length, IsOk, IfOk};
+ghost use Rattle.desk_ports.specs.Meanings.{IsReadyIn, IsReadyOut, Rose};
 ghost use Rattle.desk_ports.specs.Courses.{AfterRun, HasCause, by_stop};
 ghost use Rattle.mask_update.specs.Histories.{History};
 ghost use Rattle.packet_encode.specs.Deliveries.{arrivals};
 ghost use Rattle.ground_chain.specs.Deliveries.{IsPlayed};
-ghost use Rattle.ground_chain.specs.Listing.{listing_course};
-ghost use Rattle.ground_chain.specs.Report.{restored_of};
-ghost use Rattle.ground_chain.specs.Restoring.{stop_by, store_run};
+ghost use Rattle.ground_chain.specs.Listing.{listing_work};
+ghost use Rattle.ground_chain.specs.Restoring.{stop_by};
 
 use crate::fault::RestoreFault;
 use crate::listing::Listing;
@@ -56,14 +55,11 @@ impl Lister {
     pub fn list<D: Desk>(self, desk: &mut D) -> Result<Restored, RestoreFault>
         requires input { IsReadyIn (D.meaning desk.old) Inlet.Main }
         requires output { IsReadyOut (D.meaning desk.old) Outlet.Main }
-        // What stands after each answer is what the store owes, all of it or up to where its walk or the desk ends it.
-        ensures ran { AfterRun (listing_course self.places self.apid)
-            (D.meaning desk.old) (D.meaning desk.new) (by_stop stop_by result) }
+        // What stands after each answer is what the store owes, all of it or up to where its walk or the desk ends it; the
+        // numbers are those of the run over the same store, whatever the desk tells.
+        ensures ran { AfterRun (listing_work self.places self.apid) (D.meaning desk.old)
+            (D.meaning desk.new) (by_stop stop_by result) }
         ensures cause { HasCause (D.counts desk.old) (D.counts desk.new) (by_stop stop_by result) }
-        // Where the desk tells the store, the numbers are those of the run over it.
-        ensures numbers { IfSome (left (D.meaning desk.old) Inlet.Main)
-            (λ store. IfOk result (λ restored.
-            restored ≡ restored_of (store_run self.places self.apid store))) }
         // Over a desk that doesn't fail the run of the played store of a valid history is done, with gaps that are shorter than
         // the period of the sequence counts, if it has no more packets than a store may have.
         ensures complete { (h : History) (copies : ℕ → ℕ)

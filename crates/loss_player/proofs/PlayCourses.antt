@@ -3,9 +3,7 @@ use Rattle.std.proofs.Common.{◌≡◌, ℕ, ◌+◌, ◌≤◌, Bool, true, fa
 use Rattle.std.proofs.lemmas.List.Sums.{sum_by-cons}
 use Rattle.std.proofs.lemmas.Grind.{flat_map-append}
 use Rattle.desk_ports.specs.Meanings.{Meanings}
-use Rattle.desk_ports.specs.Courses.{to_output, to_report}
-use Rattle.desk_ports.specs.Turns.{Work}
-use Rattle.side_tables.specs.declared.rows.CopyRow.{CopyRow}
+use Rattle.desk_ports.specs.Courses.{Work, to_output, to_report}
 use Rattle.side_tables.specs.Rows.{copies_of}
 use Rattle.packet_store.specs.declared.reader.Taken.{Taken}
 use Rattle.packet_store.specs.declared.fault.WalkFault.{WalkFault}
@@ -18,7 +16,7 @@ use Rattle.loss_player.specs.declared.played.Tally.{Tally}
 use Rattle.loss_player.specs.declared.playing.Playing.{Playing}
 use Rattle.loss_player.specs.Played.{times_of, number_behind, played_from, repeated, played_of, chosen_count, store_numbers}
 use Rattle.loss_player.specs.Report.{play_report}
-use Rattle.loss_player.specs.Playing.{play_course, nothing_read, player_state, next_copies, all_numbers, left_to_play, rest_work, IsCounted, Counts, Owes, IsPlayer}
+use Rattle.loss_player.specs.Playing.{play_course, play_work, nothing_read, player_state, next_copies, all_numbers, left_to_play, rest_work, IsCounted, Counts, Owes, IsPlayer}
 use Rattle.loss_player.proofs.Copies.{packets_bytes-replicate}
 
 -- ---- one packet
@@ -102,13 +100,9 @@ IsDone-played s work owes =
 
 -- ---- the whole store
 
--- the work of playing a store
-abbrev pub play_work : ℕ → List CopyRow → Work Played WalkFault
-play_work apid rows = record { course = play_course (copies_of rows) apid; answer = store_numbers (copies_of rows) apid }
-
--- it is owed where nothing is read
-pub Owes-unread : (s : Playing) → IsPlayer s → Owes s (play_work (player_state s).apid (player_state s).rows)
-Owes-unread s is = subst (λ (p : Playing). Owes p (play_work (player_state s).apid (player_state s).rows)) (sym is) (record {
+-- the work of playing a store is owed where nothing is read
+pub Owes-unread : (s : Playing) → IsPlayer s → Owes s (play_work (copies_of s.script) (player_state s).apid)
+Owes-unread s is = subst (λ (p : Playing). Owes p (play_work (copies_of s.script) (player_state s).apid)) (sym is) (record {
   work_is = λ i. record { course = λ store. course store i; answer = λ store. numbers store i };
   live = refl;
   packets = omega arith;

@@ -2,8 +2,7 @@
 use Rattle.std.specs.Prelude.{◌≡◌, ℕ, ◌+◌, ◌≤◌, Bool, IsTrue, List, Some, unwrap_or}
 use Rattle.desk_ports.specs.Stop.{Stop}
 use Rattle.desk_ports.specs.Stop as stop
-use Rattle.desk_ports.specs.Courses.{Course, to_output, to_report}
-use Rattle.desk_ports.specs.Turns.{Work}
+use Rattle.desk_ports.specs.Courses.{Course, Work, to_output, to_report}
 use Rattle.side_tables.specs.declared.rows.CopyRow.{CopyRow}
 use Rattle.side_tables.specs.Rows.{copies_of}
 use Rattle.packet_store.specs.declared.fault.WalkFault.{WalkFault}
@@ -28,6 +27,10 @@ play_course copies apid store = record {
   after = to_report (play_report (store_numbers copies apid store));
   ending = (walk (Some apid) store).ending;
 }
+
+-- the work of playing a store, whose answer is the numbers of the played store
+abbrev pub play_work : (ℕ → ℕ) → ℕ → Work Played WalkFault
+play_work copies apid = record { course = play_course copies apid; answer = store_numbers copies apid }
 
 -- a fault, as a reason to end a run
 abbrev pub stop_by : PlayFault → Stop WalkFault

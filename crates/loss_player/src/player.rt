@@ -1,11 +1,10 @@
 //! The command `play`: from a store to the played store and the play report.
 
-ghost use Rattle.std.specs.Prelude.{◌≡◌, ◌≤◌, IfOk, IfSome};
-ghost use Rattle.desk_ports.specs.Meanings.{IsReadyIn, IsReadyOut, left};
+ghost use Rattle.std.specs.Prelude.{◌≡◌, ◌≤◌, IfOk};
+ghost use Rattle.desk_ports.specs.Meanings.{IsReadyIn, IsReadyOut};
 ghost use Rattle.desk_ports.specs.Courses.{AfterRun, HasCause, by_stop};
 ghost use Rattle.side_tables.specs.Rows.{copies_of};
-ghost use Rattle.loss_player.specs.Played.{store_numbers};
-ghost use Rattle.loss_player.specs.Playing.{play_course, stop_by};
+ghost use Rattle.loss_player.specs.Playing.{play_work, stop_by};
 
 use crate::fault::PlayFault;
 use crate::played::Played;
@@ -49,13 +48,11 @@ impl Player {
         requires input { IsReadyIn (D.meaning desk.old) Inlet.Main }
         requires output { IsReadyOut (D.meaning desk.old) Outlet.Main }
         requires report { IsReadyOut (D.meaning desk.old) Outlet.Report }
-        // What stands after each answer is what the store owes, all of it or up to where its walk or the desk ends it.
-        ensures ran { AfterRun (play_course (copies_of self.rows) self.apid) (D.meaning desk.old)
+        // What stands after each answer is what the store owes, all of it or up to where its walk or the desk ends it; the
+        // numbers are those of the packets of the same store and their copies, whatever the desk tells.
+        ensures ran { AfterRun (play_work (copies_of self.rows) self.apid) (D.meaning desk.old)
             (D.meaning desk.new) (by_stop stop_by result) }
         ensures cause { HasCause (D.counts desk.old) (D.counts desk.new) (by_stop stop_by result) }
-        // Where the desk tells the store, the numbers are those of its packets and their copies.
-        ensures numbers { IfSome (left (D.meaning desk.old) Inlet.Main) (λ store.
-            IfOk result (λ played. played ≡ store_numbers (copies_of self.rows) self.apid store)) }
     {
         let mut playing = self.playing;
         drive(&mut playing, desk)

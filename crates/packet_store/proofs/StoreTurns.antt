@@ -3,8 +3,8 @@ use Rattle.std.proofs.Common.{◌≡◌, ℕ, List, [], ◌∷◌, ◌++◌, Som
 use Rattle.std.specs.Io.KnownBytes.{IsAtEnd}
 use Rattle.desk_ports.specs.declared.desk.Inlet.TheVariants as inlet
 use Rattle.desk_ports.specs.Meanings.{Meanings, Moves, left}
-use Rattle.desk_ports.specs.Courses.{Outputs, no_outputs, put, AfterStop, Ends, IsCutShort}
-use Rattle.desk_ports.specs.Turns.{Work, Steps, Advances, Finishes, IsLast, Wrote, WroteFront}
+use Rattle.desk_ports.specs.Courses.{Outputs, no_outputs, put, Work, Finishes, AfterStop, Ends, IsCutShort}
+use Rattle.desk_ports.specs.Turns.{Steps, Advances, IsLast, Wrote, WroteFront}
 use Rattle.desk_ports.proofs.Courses.{Ends-fault, IsCutOff-moves}
 use Rattle.desk_ports.proofs.Steps.{Advances-taken, Finishes-end, IsCutShort-taken, IsCutShort-end}
 use Rattle.packet_store.specs.declared.header.Header.{Header}

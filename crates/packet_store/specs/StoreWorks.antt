@@ -1,7 +1,6 @@
 -- Work over a store, made from the walk over it.
 use Rattle.std.specs.Prelude.{ℕ, List}
-use Rattle.desk_ports.specs.Courses.{Outputs, Course}
-use Rattle.desk_ports.specs.Turns.{Work}
+use Rattle.desk_ports.specs.Courses.{Outputs, Course, Work}
 use Rattle.packet_store.specs.declared.fault.WalkFault.{WalkFault}
 use Rattle.packet_store.specs.SpacePackets.{Packet}
 use Rattle.packet_store.specs.StoreReader.{ReaderState, walk_on}

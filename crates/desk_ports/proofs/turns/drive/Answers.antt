@@ -35,16 +35,7 @@ returns-in-Ok-Done-clause-ran g c = λ work owed.
     let d = g.D.Desk.meaning c.turn.new.desk in
     let told = rw c.in-Ok-Done.field-0-is at c.in-Ok-Done.ensures in
     let behind = c.turns.invariant.advances work owed in
-    (Finishes-behind work behind.next a b d c.in-Ok-Done.answer behind.reaches (told.turned behind.next behind.owed)).ends
-
-pub returns-in-Ok-Done-clause-answer : goal.returns-in-Ok-Done-clause-answer
-returns-in-Ok-Done-clause-answer g c = λ work owed.
-    let a = g.D.Desk.meaning c.args.desk.now in
-    let b = g.D.Desk.meaning c.turns.desk in
-    let d = g.D.Desk.meaning c.turn.new.desk in
-    let told = rw c.in-Ok-Done.field-0-is at c.in-Ok-Done.ensures in
-    let behind = c.turns.invariant.advances work owed in
-    (Finishes-behind work behind.next a b d c.in-Ok-Done.answer behind.reaches (told.turned behind.next behind.owed)).answered
+    Finishes-behind work behind.next a b d c.in-Ok-Done.answer behind.reaches (told.turned behind.next behind.owed)
 
 pub returns-in-Err-clause-ran : goal.returns-in-Err-clause-ran
 returns-in-Err-clause-ran g c = λ work owed.

@@ -10,4 +10,4 @@ pub returns-clause-held : goal.returns-clause-held
 returns-clause-held c =
     ap (λ (d : MemState). d.held) c.into_desk.ensures.desk
     ∙ kept_output c.args.desk c.keep.new.self.desk.held recording_name store_name (compress_course c.args.flight) (run_meanings c.in_ok-run.run') (run_meanings c.compress.new.desk) (run_meanings c.keep.new.self)
-    c.in_ok-run.ensures c.in-Ok.ensures.ran c.in_ok-keep.ensures refl
+    c.in_ok-run.ensures c.in-Ok.ensures.ran.ends c.in_ok-keep.ensures refl

@@ -1,7 +1,9 @@
 use Rattle.std.proofs.Common.{refl, ap, ◌∙◌}
 use Rattle.desk_ports.specs.MemState.{MemState}
+use Rattle.desk_ports.specs.Meanings.{Meanings, kept_at}
+use Rattle.desk_ports.proofs.Courses.{Finishes-told}
 use Rattle.side_tables.specs.Rows.{copies_of}
-use Rattle.loss_player.specs.Playing.{play_course}
+use Rattle.loss_player.specs.Playing.{play_course, play_work}
 use Rattle.trial_chain.specs.RunDesk.{run_meanings}
 use Rattle.trial_chain.specs.Stages.{play_name, played_name, store_name}
 use Rattle.trial_chain.proofs.HeldOutputs.{kept_outputs, run_reported-is}
@@ -12,4 +14,9 @@ returns-clause-held c =
     ap (λ (d : MemState). d.held) c.into_desk.ensures.desk
     ∙ kept_outputs c.args.desk c.keep-2.new.self.desk.held store_name played_name play_name (play_course (copies_of c.args.player.rows) c.args.player.apid) (run_meanings c.begin.new.self) (run_meanings c.play.new.desk)
     (run_meanings c.keep.new.self) (run_meanings c.keep-2.new.self)
-    (run_reported-is c.args.desk store_name played_name play_name (run_meanings c.in_ok-run.run') (run_meanings c.begin.new.self) c.in_ok-run.ensures c.in_ok-begin.ensures) c.in-Ok.ensures.ran c.in_ok-keep.ensures c.in_ok-keep-2.ensures refl
+    (run_reported-is c.args.desk store_name played_name play_name (run_meanings c.in_ok-run.run') (run_meanings c.begin.new.self) c.in_ok-run.ensures c.in_ok-begin.ensures) c.in-Ok.ensures.ran.ends c.in_ok-keep.ensures c.in_ok-keep-2.ensures refl
+
+pub returns-clause-numbers : goal.returns-clause-numbers
+returns-clause-numbers c =
+    let opened = run_reported-is c.args.desk store_name played_name play_name (run_meanings c.in_ok-run.run') (run_meanings c.begin.new.self) c.in_ok-run.ensures c.in_ok-begin.ensures in
+    Finishes-told (play_work (copies_of c.args.player.rows) c.args.player.apid) (run_meanings c.begin.new.self) (run_meanings c.play.new.desk) c.in-Ok.played (kept_at c.args.desk.held store_name) (ap (λ (m : Meanings). m.input.left) opened) c.in-Ok.ensures.ran

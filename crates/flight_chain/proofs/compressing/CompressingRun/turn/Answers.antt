@@ -2,8 +2,7 @@ use Rattle.std.proofs.Common.{List, Bool, [], ◌∷◌, ◌++◌, refl, sym, ap
 use Rattle.std.proofs.lemmas.Result.{err_from_is_err_and}
 use Rattle.desk_ports.specs.declared.desk.Outlet.TheVariants as outlet
 use Rattle.desk_ports.specs.Meanings.{Adds, AddsFront}
-use Rattle.desk_ports.specs.Courses.{AfterStop}
-use Rattle.desk_ports.specs.Turns.{Work}
+use Rattle.desk_ports.specs.Courses.{Work, AfterStop}
 use Rattle.desk_ports.proofs.Runs.{Ran-none, Ran-adds}
 use Rattle.desk_ports.proofs.Steps.{Advances-taken, AreReady-moved, Finishes-end, IsCutShort-taken, WroteFront-output}
 use Rattle.flight_chain.specs.Reading.{fault_by}

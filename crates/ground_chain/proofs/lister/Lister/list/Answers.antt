@@ -1,25 +1,17 @@
-use Rattle.std.proofs.Common.{◌≡◌, ℕ, IfOk, IfSome, refl, subst}
-use Rattle.desk_ports.specs.declared.desk.Inlet.TheVariants as inlet
-use Rattle.desk_ports.specs.Meanings.{Meanings, left}
+use Rattle.std.proofs.Common.{refl, subst}
+use Rattle.desk_ports.specs.Meanings.{Meanings}
 use Rattle.desk_ports.specs.Courses.{AfterRun, by_stop, no_outputs}
-use Rattle.desk_ports.specs.Turns.{Reaches, Work}
+use Rattle.desk_ports.specs.Turns.{Reaches}
 use Rattle.desk_ports.proofs.Runs.{Ran-none}
-use Rattle.desk_ports.proofs.Steps.{AfterRun-behind, Reaches-wrote, answer-behind}
-use Rattle.packet_store.specs.declared.fault.WalkFault.{WalkFault}
+use Rattle.desk_ports.proofs.Steps.{AfterRun-behind, Reaches-wrote}
 use Rattle.ground_chain.specs.declared.listing.Listing.{Listing}
 use Rattle.ground_chain.specs.declared.receiving.Receiving.{Receiving}
-use Rattle.ground_chain.specs.declared.restored.Restored.{Restored}
-use Rattle.ground_chain.specs.Listing.{HasVectorRoom, listed_texts, listing_course}
-use Rattle.ground_chain.specs.Report.{restored_of}
-use Rattle.ground_chain.specs.Restoring.{RestorerState, stop_by, store_run}
+use Rattle.ground_chain.specs.Listing.{HasVectorRoom, listed_texts, listing_course, listing_work}
+use Rattle.ground_chain.specs.Restoring.{RestorerState, stop_by}
 use Rattle.ground_chain.specs.Receiving.{IsUnread, receiving_state, rest_work}
 use Rattle.ground_chain.proofs.DeliveredRuns.{IsOk-run}
-use Rattle.ground_chain.proofs.RestCourses.{Owes-unread, Steps-unread, listing_course-is, store_work}
+use Rattle.ground_chain.proofs.RestCourses.{Owes-unread, Steps-unread, listing_course-is}
 use Rattle.ground_chain.proofs.lister.Lister.list.Goals as goal
-
--- the work of a whole store
-abbrev listing_work : ℕ → ℕ → Work Restored WalkFault
-listing_work f apid = store_work (listing_course f apid) f apid
 
 -- nothing is written before the first arrival
 unread : (s : Receiving Listing) (a : Meanings) → IsUnread HasVectorRoom s → Reaches (listing_work (receiving_state s).places (receiving_state s).apid) (rest_work listed_texts s) a a
@@ -35,17 +27,8 @@ returns-clause-ran g c =
     let s = c.self.inside.receiving in
     let k = receiving_state s in
     let ran = c.drive.ensures.ran (rest_work listed_texts s) (Owes-unread listed_texts HasVectorRoom k.places k.apid s c.self.invariant) in
-    subst (λ (r : RestorerState). AfterRun (listing_course r.places r.apid) a d (by_stop stop_by c.drive.result)) c.self.view_is
+    subst (λ (r : RestorerState). AfterRun (listing_work r.places r.apid) a d (by_stop stop_by c.drive.result)) c.self.view_is
     (AfterRun-behind (listing_work k.places k.apid) (rest_work listed_texts s) a a d (by_stop stop_by c.drive.result) (unread s a c.self.invariant) ran)
-
-pub returns-clause-numbers : goal.returns-clause-numbers
-returns-clause-numbers g c =
-    let a = g.D.Desk.meaning c.args.desk.now in
-    let s = c.self.inside.receiving in
-    let k = receiving_state s in
-    let told = c.drive.ensures.answer (rest_work listed_texts s) (Owes-unread listed_texts HasVectorRoom k.places k.apid s c.self.invariant) in
-    subst (λ (r : RestorerState). IfSome (left a inlet.Main) (λ store. IfOk c.drive.result (λ restored. restored ≡ restored_of (store_run r.places r.apid store)))) c.self.view_is
-    (answer-behind (listing_work k.places k.apid) (rest_work listed_texts s) a a c.drive.result (unread s a c.self.invariant) told)
 
 pub returns-clause-complete : goal.returns-clause-complete
 returns-clause-complete g c = λ h copies played few reads writes.
@@ -53,4 +36,4 @@ returns-clause-complete g c = λ h copies played few reads writes.
     let d = g.D.Desk.meaning c.drive.new.desk in
     let old = g.D.Desk.counts c.args.desk.now in
     let new = g.D.Desk.counts c.drive.new.desk in
-    IsOk-run c.args.self.places c.args.self.apid (listing_course c.args.self.places c.args.self.apid) h copies a d old new c.drive.result (λ store. refl) played few (returns-clause-ran g c) c.drive.ensures.cause reads writes
+    IsOk-run c.args.self.places c.args.self.apid (listing_work c.args.self.places c.args.self.apid) h copies a d old new c.drive.result (λ store. refl) played few (returns-clause-ran g c) c.drive.ensures.cause reads writes

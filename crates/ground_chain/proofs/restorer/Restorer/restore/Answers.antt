@@ -1,29 +1,23 @@
-use Rattle.std.proofs.Common.{◌≡◌, ℕ, List, [], Ok, Err, Result, IfOk, IfSome, refl, subst}
+use Rattle.std.proofs.Common.{◌≡◌, ℕ, List, [], Ok, Err, Result, IfOk, refl, subst}
 use Rattle.std.proofs.lemmas.Result.{err_from_is_err_and}
-use Rattle.desk_ports.specs.declared.desk.Inlet.TheVariants as inlet
 use Rattle.desk_ports.specs.declared.desk.Outlet.TheVariants as outlet
-use Rattle.desk_ports.specs.Meanings.{Meanings, Adds, AddsFront, Counts, left}
+use Rattle.desk_ports.specs.Meanings.{Meanings, Adds, AddsFront, Counts}
 use Rattle.desk_ports.specs.Courses.{AfterRun, HasCause, IsCutShort, by_stop, to_report}
-use Rattle.desk_ports.specs.Turns.{Reaches, Steps, Work}
+use Rattle.desk_ports.specs.Turns.{Reaches, Steps}
 use Rattle.desk_ports.proofs.Runs.{Ran-notes}
-use Rattle.desk_ports.proofs.Steps.{AfterRun-behind, IsCutShort-wrote, Reaches-wrote, WroteFront-report, answer-behind}
+use Rattle.desk_ports.proofs.Steps.{AfterRun-behind, IsCutShort-wrote, Reaches-wrote, WroteFront-report}
 use Rattle.mask_update.specs.Histories.{History}
-use Rattle.packet_store.specs.declared.fault.WalkFault.{WalkFault}
 use Rattle.ground_chain.specs.declared.fault.RestoreFault.{RestoreFault}
 use Rattle.ground_chain.specs.declared.restored.Restored.{Restored}
 use Rattle.ground_chain.specs.declared.receiving.Receiving.{Receiving}
 use Rattle.ground_chain.specs.declared.reporting.Reporting.{Reporting}
 use Rattle.ground_chain.specs.Deliveries.{IsDelivered, IsPlayed}
-use Rattle.ground_chain.specs.Report.{header_row, restored_of}
-use Rattle.ground_chain.specs.Restoring.{HasContentRoom, RestorerState, restore_course, restored_texts, stop_by, store_run}
+use Rattle.ground_chain.specs.Report.{header_row}
+use Rattle.ground_chain.specs.Restoring.{HasContentRoom, RestorerState, restore_course, restore_work, restored_texts, stop_by}
 use Rattle.ground_chain.specs.Receiving.{HasReadNothing, IsUnread, receiving_state, rest_work}
 use Rattle.ground_chain.proofs.DeliveredRuns.{IsDelivered-done, IsOk-run}
-use Rattle.ground_chain.proofs.RestCourses.{Owes-unread, Steps-unread, restore_course-is, store_work}
+use Rattle.ground_chain.proofs.RestCourses.{Owes-unread, Steps-unread, restore_course-is}
 use Rattle.ground_chain.proofs.restorer.Restorer.restore.Goals as goal
-
--- the work of a whole store
-abbrev restore_work : ℕ → ℕ → Work Restored WalkFault
-restore_work f apid = store_work (restore_course f apid) f apid
 
 unread : (f apid : ℕ) (s : Receiving Reporting) → HasReadNothing HasContentRoom f apid s → Steps (restore_work f apid) (rest_work restored_texts s) [] (to_report header_row)
 unread f apid s is = Steps-unread restored_texts HasContentRoom f apid s (restore_course f apid) (to_report header_row) is (restore_course-is f apid)
@@ -54,25 +48,16 @@ returns-clause-ran g c =
     let s = c.self.inside.receiving in
     let k = receiving_state s in
     let ran = c.drive.ensures.ran (rest_work restored_texts s) (Owes-unread restored_texts HasContentRoom k.places k.apid s c.self.invariant) in
-    subst (λ (r : RestorerState). AfterRun (restore_course r.places r.apid) a d (by_stop stop_by c.drive.result)) c.self.view_is (AfterRun-behind (restore_work k.places k.apid) (rest_work restored_texts s) a b d (by_stop stop_by c.drive.result) (header s a b c.as_bytes.result.now c.self.invariant c.as_bytes.ensures.value c.in_ok-write_all.ensures.added) ran)
+    subst (λ (r : RestorerState). AfterRun (restore_work r.places r.apid) a d (by_stop stop_by c.drive.result)) c.self.view_is (AfterRun-behind (restore_work k.places k.apid) (rest_work restored_texts s) a b d (by_stop stop_by c.drive.result) (header s a b c.as_bytes.result.now c.self.invariant c.as_bytes.ensures.value c.in_ok-write_all.ensures.added) ran)
 
-pub returns-clause-numbers : goal.returns-clause-numbers
-returns-clause-numbers g c =
-    let a = g.D.Desk.meaning c.args.desk.now in
-    let b = g.D.Desk.meaning c.write_all.new.desk in
-    let s = c.self.inside.receiving in
-    let k = receiving_state s in
-    let told = c.drive.ensures.answer (rest_work restored_texts s) (Owes-unread restored_texts HasContentRoom k.places k.apid s c.self.invariant) in
-    subst (λ (r : RestorerState). IfSome (left a inlet.Main) (λ store. IfOk c.drive.result (λ restored. restored ≡ restored_of (store_run r.places r.apid store)))) c.self.view_is (answer-behind (restore_work k.places k.apid) (rest_work restored_texts s) a b c.drive.result (header s a b c.as_bytes.result.now c.self.invariant c.as_bytes.ensures.value c.in_ok-write_all.ensures.added) told)
-
-delivered : (f apid : ℕ) (h : History) (copies : ℕ → ℕ) (a b : Meanings) (result : Result Restored RestoreFault) → IsPlayed f apid h copies a → AfterRun (restore_course f apid) a b (by_stop stop_by result)
-    → IfSome (left a inlet.Main) (λ store. IfOk result (λ restored. restored ≡ restored_of (store_run f apid store))) → IfOk result (λ restored. IsDelivered h copies restored a b)
-delivered f apid h copies a b (Ok restored) played ran numbers = IsDelivered-done f apid h copies restored a b played ran numbers
-delivered f apid h copies a b (Err fault) played ran numbers = tt
+delivered : (f apid : ℕ) (h : History) (copies : ℕ → ℕ) (a b : Meanings) (result : Result Restored RestoreFault) → IsPlayed f apid h copies a → AfterRun (restore_work f apid) a b (by_stop stop_by result)
+    → IfOk result (λ restored. IsDelivered h copies restored a b)
+delivered f apid h copies a b (Ok restored) played ran = IsDelivered-done f apid h copies restored a b played ran
+delivered f apid h copies a b (Err fault) played ran = tt
 
 pub returns-clause-headline : goal.returns-clause-headline
 returns-clause-headline g c = λ h copies played.
-    delivered c.args.self.places c.args.self.apid h copies (g.D.Desk.meaning c.args.desk.now) (g.D.Desk.meaning c.drive.new.desk) c.drive.result played (returns-clause-ran g c) (returns-clause-numbers g c)
+    delivered c.args.self.places c.args.self.apid h copies (g.D.Desk.meaning c.args.desk.now) (g.D.Desk.meaning c.drive.new.desk) c.drive.result played (returns-clause-ran g c)
 
 pub returns-clause-complete : goal.returns-clause-complete
 returns-clause-complete g c = λ h copies played few reads writes.
@@ -81,4 +66,4 @@ returns-clause-complete g c = λ h copies played few reads writes.
     let old = g.D.Desk.counts c.args.desk.now in
     let new = g.D.Desk.counts c.drive.new.desk in
     let cause = subst (λ (k : Counts). HasCause k new (by_stop stop_by c.drive.result)) c.in_ok-write_all.ensures.cause c.drive.ensures.cause in
-    IsOk-run c.args.self.places c.args.self.apid (restore_course c.args.self.places c.args.self.apid) h copies a d old new c.drive.result (λ store. refl) played few (returns-clause-ran g c) cause reads writes
+    IsOk-run c.args.self.places c.args.self.apid (restore_work c.args.self.places c.args.self.apid) h copies a d old new c.drive.result (λ store. refl) played few (returns-clause-ran g c) cause reads writes

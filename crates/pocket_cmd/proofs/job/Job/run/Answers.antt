@@ -10,7 +10,7 @@ use Rattle.pocket_cmd.proofs.job.Job.run.Goals as goal
 
 pub returns-in-Ok-clause-ran : goal.returns-in-Ok-clause-ran
 returns-in-Ok-clause-ran g c =
-    rw c.in-Compress.is (IsEnded-done of_recording (compress_course c.in-Compress.flight) _ _ c.in-Ok.ensures.ran)
+    rw c.in-Compress.is (IsEnded-done of_recording (compress_course c.in-Compress.flight) _ _ c.in-Ok.ensures.ran.ends)
 
 pub returns-in-Err-clause-ran : goal.returns-in-Err-clause-ran
 returns-in-Err-clause-ran g c =
@@ -22,7 +22,7 @@ returns-in-Err-clause-cause g c =
 
 pub returns-in-Ok-play-clause-ran : goal.returns-in-Ok-play-clause-ran
 returns-in-Ok-play-clause-ran g c =
-    rw c.in-Play.is (IsEnded-done of_store (play_course (copies_of c.in-Play.player.rows) c.in-Play.player.apid) _ _ c.in-Ok-play.ensures.ran)
+    rw c.in-Play.is (IsEnded-done of_store (play_course (copies_of c.in-Play.player.rows) c.in-Play.player.apid) _ _ c.in-Ok-play.ensures.ran.ends)
 
 pub returns-in-Err-play-clause-ran : goal.returns-in-Err-play-clause-ran
 returns-in-Err-play-clause-ran g c =
@@ -34,7 +34,7 @@ returns-in-Err-play-clause-cause g c =
 
 pub returns-in-Ok-restore-clause-ran : goal.returns-in-Ok-restore-clause-ran
 returns-in-Ok-restore-clause-ran g c =
-    rw c.in-Restore.is (IsEnded-done of_store (restore_course c.in-Restore.restorer.places c.in-Restore.restorer.apid) _ _ c.in-Ok-restore.ensures.ran)
+    rw c.in-Restore.is (IsEnded-done of_store (restore_course c.in-Restore.restorer.places c.in-Restore.restorer.apid) _ _ c.in-Ok-restore.ensures.ran.ends)
 
 pub returns-in-Err-restore-clause-ran : goal.returns-in-Err-restore-clause-ran
 returns-in-Err-restore-clause-ran g c =
@@ -46,7 +46,7 @@ returns-in-Err-restore-clause-cause g c =
 
 pub returns-in-Ok-list-clause-ran : goal.returns-in-Ok-list-clause-ran
 returns-in-Ok-list-clause-ran g c =
-    rw c.in-Show.is (IsEnded-done of_store (listing_course c.in-Show.lister.places c.in-Show.lister.apid) _ _ c.in-Ok-list.ensures.ran)
+    rw c.in-Show.is (IsEnded-done of_store (listing_course c.in-Show.lister.places c.in-Show.lister.apid) _ _ c.in-Ok-list.ensures.ran.ends)
 
 pub returns-in-Err-list-clause-ran : goal.returns-in-Err-list-clause-ran
 returns-in-Err-list-clause-ran g c =
