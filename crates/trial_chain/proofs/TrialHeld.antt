@@ -7,7 +7,6 @@ use Rattle.std.proofs.lemmas.Cmp.{nat_list_cmp_total, nat_list_eq_equiv}
 use Rattle.std.proofs.lemmas.Map.Text.{is_eq-slice_cmp}
 use Rattle.desk_ports.specs.Courses.{Outputs, owed}
 use Rattle.desk_ports.specs.Meanings.{Kept, kept_at}
-use Rattle.desk_ports.specs.MemState.{MemState, empty_desk}
 use Rattle.desk_ports.proofs.Held.{kept_here}
 use Rattle.side_tables.specs.declared.rows.CopyRow.{CopyRow}
 use Rattle.side_tables.specs.Rows.{copies_of}
@@ -38,11 +37,6 @@ kept_latest : (kept before : Kept) (name bytes : List ℕ) → kept ≡ map.inse
 kept_latest kept before name bytes is = ap (λ (k : Kept). kept_at k name) is ∙ kept_here before name bytes name (nat_list_eq_equiv.refl name)
 
 -- ---- the recording
-
-pub held_start : (desk put new : MemState) (bytes items recording : List ℕ) → desk ≡ put → put ≡ record new { held = map.insert new.held recording_name bytes } → new ≡ empty_desk → bytes ≡ items → items ≡ recording
-    → desk.held ≡ map.insert map.empty recording_name recording
-held_start desk put new bytes items recording same ok empty value is =
-    ap (λ (d : MemState). d.held) (same ∙ ok) ∙ λ i. map.insert (ap (λ (d : MemState). d.held) empty i) recording_name ((value ∙ is) i)
 
 pub kept-recording : (seed packets f : ℕ) (held : Kept) → held ≡ held_recording seed packets f → kept_at held recording_name ≡ trial_recording seed packets f
 kept-recording seed packets f held is = kept_latest held map.empty recording_name (trial_recording seed packets f) is
