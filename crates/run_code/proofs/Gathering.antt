@@ -2,8 +2,8 @@
 use Rattle.std.proofs.Common.{◌≡◌, ℕ, zero, suc, ◌+◌, ◌-◌, ◌*◌, ◌/◌, ◌%◌, ◌^◌, ◌<◌, ◌≤◌, Bool, true, false, cond, eqb, List, [], ◌∷◌, ◌++◌, length, get_or, bit_and, w64, refl, sym, ap, ◌∙◌, arith, inl, inr}
 use Rattle.std.specs.Int.{bit_at, trailing_zeros}
 use Rattle.std.proofs.lemmas.Bool.{cases_eq, cases_lt}
-use Rattle.std.proofs.lemmas.Nat.{pow_pos, mod_below, shr_split, pow-add, ones-le, and_le_l}
-use Rattle.std.proofs.Math.Nat.{pow-succ', le-mul_of_pos_right, pow-le-pow_right, mod-eq_of_lt}
+use Rattle.std.proofs.lemmas.Nat.{pow_pos, mod_below, shr_split, pow-add, and_le_l}
+use Rattle.std.proofs.Math.Nat.{pow-succ', le-mul_of_pos_right, mod-eq_of_lt}
 use Rattle.std.specs.Int.RustNames.{count_ones}
 use Rattle.bit_vectors.proofs.WordBits.{count_by-number_bits}
 use Rattle.std.proofs.lemmas.Nat.Bits.{shr_and_one, bit_at_and, bit_at_cat_high, bit_at_cat_low, bit_at_ones_above, bit_at-trailing_zeros, same_from_bits, same_from_bits_below, bit_at-zero, bit_at-lt}
@@ -11,7 +11,7 @@ use Rattle.std.proofs.lemmas.List.{get_or_past, length-append}
 use Rattle.bit_vectors.specs.Vectors.{number_bits, bits_number, NoneIsOne}
 use Rattle.bit_vectors.specs.Words.{IsWord}
 use Rattle.bit_vectors.proofs.NumberBits.{length-number_bits, get_or-number_bits, bits_number_below, number_bits-bits_number}
-use Rattle.bit_vectors.proofs.Numbers.{bit_at_mod}
+use Rattle.bit_vectors.proofs.Numbers.{number_bits-cat, bit_at_mod}
 use Rattle.run_code.specs.Places.{places_down}
 use Rattle.run_code.specs.Extraction.{bits_at, extract}
 use Rattle.run_code.proofs.Ones.{ones_below, ones_below-one, ones_below-none, places_down_is, length-places_down}
@@ -164,29 +164,31 @@ ones-lowest n some below =
 pub word_number_below : (bits at : ℕ) → at < 2 ^ 64 → bits_number (word_extract bits at) < 2 ^ count_ones at
 word_number_below bits at below = rw (← length-word_extract bits at below) (bits_number_below (word_extract bits at))
 
-word_number_fits : (bits at : ℕ) → at < 2 ^ 64 → bits_number (word_extract bits at) < 2 ^ 64
-word_number_fits bits at below =
-    omega (arith, word_number_below bits at below, pow-le-pow_right {n = 2} (omega arith) {i = count_ones at} {j = 64} (ones-le 64 at below))
-
 -- the numbers so far are small
-pub gathered_small : (bits n gathered at : ℕ) → 0 < n → n < 2 ^ 64 → at < 2 ^ 64 → gathered * 2 ^ length (word_extract bits n) + bits_number (word_extract bits n) ≡ bits_number (word_extract bits at)
+pub gathered_small : (bits n gathered total : ℕ) → 0 < n → n < 2 ^ 64 → total < 2 ^ 64 → gathered * 2 ^ length (word_extract bits n) + bits_number (word_extract bits n) ≡ total
     → 2 * gathered + bit_and (bits / 2 ^ trailing_zeros w64 n) 1 < 2 ^ 64
-gathered_small bits n gathered at some below at_below so_far =
-    let more = gathered_more bits n gathered (bits_number (word_extract bits at)) some below so_far in
+gathered_small bits n gathered total some below fits so_far =
+    let more = gathered_more bits n gathered total some below so_far in
     let one : 1 ≤ 2 ^ length (word_extract bits (bit_and n (n - 1))) = pow_pos (length (word_extract bits (bit_and n (n - 1)))) in
-    let next = 2 * gathered + bit_and (bits / 2 ^ trailing_zeros w64 n) 1 in
-    omega (arith, more, le-mul_of_pos_right (2 * gathered + bit_and (bits / 2 ^ trailing_zeros w64 n) 1) one, word_number_fits bits at at_below)
+    omega (arith, more, le-mul_of_pos_right (2 * gathered + bit_and (bits / 2 ^ trailing_zeros w64 n) 1) one, fits)
 
--- with no one left, the number is that of the bits
-pub gathered_all : (bits at gathered : ℕ) → at < 2 ^ 64 → gathered * 2 ^ length (word_extract bits 0) + bits_number (word_extract bits 0) ≡ bits_number (word_extract bits at) → gathered ≡ bits_number (word_extract bits at)
+-- with no one left, the number is that of all bits
+pub gathered_all : (bits n gathered total : ℕ) → n ≡ 0 → gathered * 2 ^ length (word_extract bits n) + bits_number (word_extract bits n) ≡ total → gathered ≡ total
 unfolding bits_number
-gathered_all bits at gathered below so_far =
+gathered_all bits n gathered total zero_is so_far =
     let none = word_extract-none bits in
-    let last : gathered * 2 ^ 0 + 0 ≡ bits_number (word_extract bits at) = rw none at so_far in
+    let last : gathered * 2 ^ 0 + 0 ≡ total = rw (zero_is, none) at so_far in
     omega (arith, last)
 
-pub gathered_bits : (bits at gathered : ℕ) → at < 2 ^ 64 → gathered ≡ bits_number (word_extract bits at) → number_bits (count_ones at) gathered ≡ word_extract bits at
-gathered_bits bits at gathered below is = rw (is, ← length-word_extract bits at below) (number_bits-bits_number (word_extract bits at))
+-- the number that is held and those after it fit
+pub gathered_fits : (held bits at : ℕ) → at < 2 ^ 64 → (held + 1) * 2 ^ count_ones at ≤ 2 ^ 64 → held * 2 ^ count_ones at + bits_number (word_extract bits at) < 2 ^ 64
+gathered_fits held bits at below room = omega (arith, room, word_number_below bits at below)
+
+-- the bits of the number that is held, and then those at the ones
+pub gathered_bits : (count held bits at : ℕ) → at < 2 ^ 64 → number_bits (count + count_ones at) (held * 2 ^ count_ones at + bits_number (word_extract bits at)) ≡ number_bits count held ++ word_extract bits at
+gathered_bits count held bits at below =
+    number_bits-cat count (count_ones at) held (bits_number (word_extract bits at)) (word_number_below bits at below)
+    ∙ ap (λ (more : List Bool). number_bits count held ++ more) (rw (← length-word_extract bits at below) (number_bits-bits_number (word_extract bits at)))
 
 -- ---- words of vectors
 

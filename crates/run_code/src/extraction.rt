@@ -6,7 +6,7 @@ ghost use Rattle.bit_vectors.specs.Reading.{MovesOn, Gives};
 ghost use Rattle.run_code.specs.Places.{places_down};
 ghost use Rattle.run_code.specs.Extraction.{extract, SameOutside, parse_filled};
 
-use crate::words::{put_gathered, spread};
+use crate::words::{gathered, spread};
 use bit_vectors::{BitEye, BitFault, BitPen, Bits};
 
 /// Appends the bits of `a` at the ones of `b`, which has as many places, from the highest place down. The
@@ -17,8 +17,24 @@ pub fn put_extract(pen: &mut BitPen, a: &Bits, b: &Bits)
     ensures bits { pen.new.bits ≡ pen.old.bits ++ extract a.now b.now }
     ensures room { pen.new.room ≡ pen.old.room }
 {
+    let mut held = 0;
+    let mut count = 0;
     for index in (0..b.word_count()).rev() {
-        put_gathered(pen, a.word(index), b.word(index));
+        let at = b.word(index);
+        if at == 0 {
+            continue;
+        }
+        let more = at.count_ones();
+        if count + more > 64 {
+            pen.put_word(held, count);
+            held = 0;
+            count = 0;
+        }
+        held = gathered(held, a.word(index), at);
+        count += more;
+    }
+    if count > 0 {
+        pen.put_word(held, count);
     }
 }
 

@@ -1,33 +1,21 @@
 //! The bits of one word at the ones of another, in either order. Each loop goes from one to one, by the lowest
 //! one that is left of a word, so a word of zeros costs one comparison.
 
-ghost use Rattle.std.specs.Prelude.{◌≡◌, ℕ, ◌+◌, ◌^◌, ◌<◌, ◌≤◌, ◌++◌, length, take};
+ghost use Rattle.std.specs.Prelude.{◌≡◌, ℕ, ◌+◌, ◌*◌, ◌^◌, ◌<◌, ◌≤◌, ◌++◌, length, take};
 ghost use Rattle.std.specs.Int.{bit_at};
 ghost use Rattle.std.specs.Int.RustNames.{count_ones};
-ghost use Rattle.bit_vectors.specs.Vectors.{number_bits};
+ghost use Rattle.bit_vectors.specs.Vectors.{bits_number, number_bits};
 ghost use Rattle.run_code.specs.Extraction.{extract, bits_up};
 
 use bit_vectors::BitPen;
 
-/// Appends the bits of `bits` at the ones of `at`, that of the least weight first.
-pub fn put_gathered(pen: &mut BitPen, bits: u64, at: u64)
-    requires { length pen.old.bits + count_ones at ≤ pen.old.room }
-    ensures bits { pen.new.bits
-        ≡ pen.old.bits ++ extract (number_bits 64 bits) (number_bits 64 at) }
-    ensures room { pen.new.room ≡ pen.old.room }
+/// The number `held`, and then the bits of `bits` at the ones of `at`, that of the least weight first, as one number.
+pub fn gathered(held: u64, bits: u64, at: u64) -> u64
+    requires { (held + 1) * 2 ^ count_ones at ≤ 2 ^ 64 }
+    ensures { result ≡ held * 2 ^ count_ones at
+        + bits_number (extract (number_bits 64 bits) (number_bits 64 at)) }
 {
-    if at != 0 {
-        pen.put_word(gathered(bits, at), at.count_ones());
-    }
-}
-
-/// The bits of `bits` at the ones of `at`, as a number of so many bits, that of the least weight first.
-fn gathered(bits: u64, at: u64) -> u64
-    ensures bits { number_bits (count_ones at) result
-        ≡ extract (number_bits 64 bits) (number_bits 64 at) }
-    ensures fits { result < 2 ^ count_ones at }
-{
-    let mut gathered = 0;
+    let mut gathered = held;
     let mut rest = at;
     while rest != 0 {
         gathered = 2 * gathered + ((bits >> rest.trailing_zeros()) & 1);

@@ -1,12 +1,15 @@
-use Rattle.std.proofs.Common.{◌≡◌, ◌+◌, ◌*◌, ◌≤◌, ◌++◌, length}
+use Rattle.std.proofs.Common.{◌≡◌, ◌+◌, ◌*◌, ◌^◌, ◌<◌, ◌≤◌, ◌++◌, length}
+use Rattle.bit_vectors.specs.Vectors.{number_bits}
 use Rattle.run_code.specs.Extraction.{bits_at, extract}
 use Rattle.run_code.proofs.Ones.{ones_below}
 use Rattle.run_code.proofs.extraction.put_extract.Given as goal
 
--- the bits so far and those at the ones of the words before are all bits
+-- the bits so far, those that are held, and those at the ones of the words before are all bits
 abbrev pub invariant-loop-index : goal.invariant-loop-index
 invariant-loop-index l = record {
   room : l.pen.room ≡ l.initial.pen.room;
-  fits : length l.pen.bits + length (ones_below (64 * l.index) l.b) ≤ l.pen.room;
-  bits : l.pen.bits ++ bits_at l.a (ones_below (64 * l.index) l.b) ≡ l.initial.pen.bits ++ extract l.a l.b;
+  most : l.count ≤ 64;
+  small : l.held < 2 ^ l.count;
+  fits : length l.pen.bits + l.count + length (ones_below (64 * l.index) l.b) ≤ l.pen.room;
+  bits : l.pen.bits ++ (number_bits l.count l.held ++ bits_at l.a (ones_below (64 * l.index) l.b)) ≡ l.initial.pen.bits ++ extract l.a l.b;
 }
