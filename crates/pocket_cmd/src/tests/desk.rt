@@ -20,7 +20,7 @@ pub const LIST: &str = "show in=a out=b bits=8 apid=100";
 pub const HEADER: &str = "first,last,cause,value\n";
 
 /// The words in one line, what the inputs have, whether a call moves one byte at most, and the calls that fail.
-#[derive(Clone, Copy, Debug)]
+#[derive(Clone, Copy)]
 pub struct Case<'a> {
     pub words: &'a str,
     /// What is held as `a`.

@@ -1,255 +1,380 @@
-//! A desk in which some calls fail.
+//! A desk in which some calls fail: what each verb leaves then; and stores that are cut.
 
 use super::desk::{
-    BY_SCRIPT, Case, EIGHT_BITS, Ending, HEADER, LIST, assert_ending, bytes_of_all, done, front,
-    refused, with_both, with_input, words_alone,
+    BY_SCRIPT, Case, EIGHT_BITS, Ending, HEADER, LIST, assert_ending, done, front, refused,
+    with_input, words_alone,
 };
-use super::samples::{LISTING, PLAY_REPORT, PLAYED, RECORDING, STORE};
+use super::samples::{LISTING, PLAY_REPORT, PLAYED, RECORDING, REPORT, RESTORED, STORE};
+use super::trials::{SUMMARY, THREE};
 use crate::Refusal;
 use desk_ports::Call;
+use packet_store::StoreKind;
 use std::process::Abort;
 use std::test::Fail;
 
-pub const OUTPUT: &[u8] = &[0xB0, 0xB1, 0xB3];
+const COMPRESS: &str = "compress in=a out=b bits=8 apid=100 robust=1";
 
-pub const REPORT: &[u8] = b"first,last,cause,value\n2,2,lost,0\nend,3,3,0\n";
+const BY_PLAN: &str = "compress in=a out=b bits=8 apid=100 robust=1 plan=s";
 
-const DROP_THE_THIRD: &[u8] = b"drop,2,2,1";
+/// How a run ends: how many bytes of the output and of the report stand where a reading or a writing failed.
+#[derive(Clone, Copy)]
+enum End {
+    Done,
+    Unread(usize, usize),
+    Unwritten(usize, usize),
+    /// Both outputs stand, and the first alone is kept.
+    HalfKept,
+}
 
 /// The calls that fail, and how the run then ends.
-type Row<'a> = (&'a [(Call, u32)], Ending<'a>);
+type Row = (&'static [(Call, u32)], End);
 
-fn assert_rows(
-    rt: &(impl Abort + AllocGlobal),
-    case: Case<'_>,
-    rows: &[Row<'_>],
-) -> Result<(), Fail> {
-    for (fails, wanted) in rows {
-        let failing = Case { fails, ..case };
-        assert_ending(rt, &failing, wanted)?;
+/// What a verb is given, whether a call moves one byte at most, what it writes where no call fails, and rows of calls that
+/// do.
+struct Table {
+    words: &'static str,
+    input: Option<&'static [u8]>,
+    side: Option<&'static [u8]>,
+    one_byte: bool,
+    output: &'static [u8],
+    report: &'static [u8],
+    rows: &'static [Row],
+}
+
+/// Of the worked restore.
+static RESTORES: [Table; 2] = [
+    // The packets end at the bytes 10, 20 and 29.
+    Table {
+        words: EIGHT_BITS,
+        input: Some(PLAYED),
+        side: None,
+        one_byte: true,
+        output: RESTORED,
+        report: REPORT,
+        rows: &[
+            (&[(Call::OpenIn, 1), (Call::OpenOut, 1)], End::Unread(0, 0)),
+            (&[(Call::OpenIn, 2)], End::Done),
+            (&[(Call::OpenOut, 1)], End::Unwritten(0, 0)),
+            (&[(Call::OpenOut, 2)], End::Unwritten(0, 0)),
+            (&[(Call::OpenOut, 3)], End::Done),
+            (&[(Call::Read, 1)], End::Unread(0, 23)),
+            (&[(Call::Read, 10)], End::Unread(0, 23)),
+            (&[(Call::Read, 11)], End::Unread(1, 23)),
+            (&[(Call::Read, 20)], End::Unread(1, 23)),
+            (&[(Call::Read, 21)], End::Unread(2, 23)),
+            (&[(Call::Read, 30)], End::Unread(3, 34)),
+            (&[(Call::Read, 31)], End::Done),
+            (&[(Call::Finish, 1)], End::Unwritten(3, 44)),
+            (&[(Call::Finish, 2)], End::HalfKept),
+            (&[(Call::Finish, 3)], End::Done),
+        ],
+    },
+    // One reading has the whole input, and the next one meets its end.
+    Table {
+        words: EIGHT_BITS,
+        input: Some(PLAYED),
+        side: None,
+        one_byte: false,
+        output: RESTORED,
+        report: REPORT,
+        rows: &[
+            (&[(Call::Read, 2)], End::Unread(3, 34)),
+            (&[(Call::Read, 3)], End::Done),
+            (&[(Call::Write, 1)], End::Unwritten(0, 0)),
+            (&[(Call::Write, 2)], End::Unwritten(0, 23)),
+            (&[(Call::Write, 3)], End::Unwritten(1, 23)),
+            (&[(Call::Write, 4)], End::Unwritten(2, 23)),
+            (&[(Call::Write, 5)], End::Unwritten(2, 34)),
+            (&[(Call::Write, 6)], End::Unwritten(3, 34)),
+            (&[(Call::Write, 7)], End::Done),
+        ],
+    },
+];
+
+static OTHERS: [Table; 8] = [
+    // Each packet is written at once; the first has ten bytes.
+    Table {
+        words: COMPRESS,
+        input: Some(RECORDING),
+        side: None,
+        one_byte: false,
+        output: STORE,
+        report: &[],
+        rows: &[
+            (&[(Call::OpenIn, 1), (Call::OpenOut, 1)], End::Unread(0, 0)),
+            (&[(Call::OpenIn, 2)], End::Done),
+            (&[(Call::OpenOut, 1)], End::Unwritten(0, 0)),
+            (&[(Call::OpenOut, 2)], End::Done),
+            (&[(Call::Read, 1)], End::Unread(0, 0)),
+            (&[(Call::Read, 2)], End::Unread(37, 0)),
+            (&[(Call::Read, 3)], End::Done),
+            (&[(Call::Write, 1)], End::Unwritten(0, 0)),
+            (&[(Call::Write, 2)], End::Unwritten(10, 0)),
+            (&[(Call::Write, 5)], End::Done),
+            (&[(Call::Finish, 1)], End::Unwritten(37, 0)),
+            (&[(Call::Finish, 2)], End::Done),
+        ],
+    },
+    // A schedule is opened and read before anything else is opened.
+    Table {
+        words: BY_PLAN,
+        input: Some(RECORDING),
+        side: Some(b"9,9,1,p"),
+        one_byte: false,
+        output: STORE,
+        report: &[],
+        rows: &[
+            (&[(Call::OpenIn, 1), (Call::OpenOut, 1)], End::Unread(0, 0)),
+            (&[(Call::OpenIn, 2), (Call::OpenOut, 1)], End::Unread(0, 0)),
+            (&[(Call::Read, 1), (Call::OpenOut, 1)], End::Unread(0, 0)),
+            (&[(Call::OpenIn, 3), (Call::OpenOut, 2)], End::Done),
+        ],
+    },
+    // Ten reads move the script, and one meets its end. The packets end at the bytes 10, 20, 28 and 37.
+    Table {
+        words: BY_SCRIPT,
+        input: Some(STORE),
+        side: Some(b"drop,2,2,1"),
+        one_byte: true,
+        output: PLAYED,
+        report: PLAY_REPORT,
+        rows: &[
+            (&[(Call::OpenIn, 1), (Call::OpenOut, 1)], End::Unread(0, 0)),
+            (&[(Call::OpenIn, 2), (Call::OpenOut, 1)], End::Unread(0, 0)),
+            (&[(Call::OpenOut, 1)], End::Unwritten(0, 0)),
+            (&[(Call::OpenOut, 2)], End::Unwritten(0, 0)),
+            (&[(Call::Read, 11), (Call::OpenOut, 1)], End::Unread(0, 0)),
+            (&[(Call::Read, 21)], End::Unread(0, 0)),
+            (&[(Call::Read, 22)], End::Unread(10, 0)),
+            (&[(Call::Read, 40)], End::Unread(20, 0)),
+            (&[(Call::Read, 48)], End::Unread(20, 0)),
+            (&[(Call::Read, 49)], End::Unread(29, 0)),
+            (&[(Call::Read, 50)], End::Done),
+            (&[(Call::Write, 1)], End::Unwritten(0, 0)),
+            (&[(Call::Write, 2)], End::Unwritten(1, 0)),
+            (&[(Call::Write, 11)], End::Unwritten(10, 0)),
+            (&[(Call::Write, 29)], End::Unwritten(28, 0)),
+            (&[(Call::Write, 30)], End::Unwritten(29, 0)),
+            (&[(Call::Write, 76)], End::Unwritten(29, 46)),
+            (&[(Call::Write, 77)], End::Unwritten(29, 47)),
+            (&[(Call::Write, 88)], End::Unwritten(29, 58)),
+            (&[(Call::Write, 89)], End::Done),
+            (&[(Call::Finish, 1)], End::Unwritten(29, 59)),
+            (&[(Call::Finish, 2)], End::HalfKept),
+        ],
+    },
+    // The script is read by two readings, and then the store.
+    Table {
+        words: BY_SCRIPT,
+        input: Some(STORE),
+        side: Some(b"drop,2,2,1"),
+        one_byte: false,
+        output: PLAYED,
+        report: PLAY_REPORT,
+        rows: &[
+            (&[(Call::Read, 4)], End::Unread(29, 0)),
+            (&[(Call::Read, 5)], End::Done),
+        ],
+    },
+    // The first line has 21 bytes, the last ten.
+    Table {
+        words: LIST,
+        input: Some(PLAYED),
+        side: None,
+        one_byte: true,
+        output: LISTING,
+        report: &[],
+        rows: &[
+            (&[(Call::OpenIn, 1), (Call::OpenOut, 1)], End::Unread(0, 0)),
+            (&[(Call::OpenIn, 2)], End::Done),
+            (&[(Call::OpenOut, 1)], End::Unwritten(0, 0)),
+            (&[(Call::OpenOut, 2)], End::Done),
+            (&[(Call::Read, 1)], End::Unread(0, 0)),
+            (&[(Call::Read, 11)], End::Unread(21, 0)),
+            (&[(Call::Read, 30)], End::Unread(72, 0)),
+            (&[(Call::Read, 31)], End::Done),
+            (&[(Call::Write, 1)], End::Unwritten(0, 0)),
+            (&[(Call::Write, 22)], End::Unwritten(21, 0)),
+            (&[(Call::Write, 82)], End::Unwritten(81, 0)),
+            (&[(Call::Write, 83)], End::Done),
+            (&[(Call::Finish, 1)], End::Unwritten(82, 0)),
+            (&[(Call::Finish, 2)], End::Done),
+        ],
+    },
+    Table {
+        words: LIST,
+        input: Some(PLAYED),
+        side: None,
+        one_byte: false,
+        output: LISTING,
+        report: &[],
+        rows: &[
+            (&[(Call::Read, 2)], End::Unread(72, 0)),
+            (&[(Call::Read, 3)], End::Done),
+        ],
+    },
+    Table {
+        words: THREE,
+        input: None,
+        side: None,
+        one_byte: true,
+        output: SUMMARY,
+        report: &[],
+        rows: &[
+            (&[(Call::OpenOut, 1)], End::Unwritten(0, 0)),
+            (&[(Call::Write, 1)], End::Unwritten(0, 0)),
+            (&[(Call::Write, 11)], End::Unwritten(10, 0)),
+            (&[(Call::Write, 72)], End::Unwritten(71, 0)),
+            (&[(Call::Finish, 1)], End::Unwritten(72, 0)),
+        ],
+    },
+    // Nothing is read, nothing more is opened, and the summary is written in one piece.
+    Table {
+        words: THREE,
+        input: None,
+        side: None,
+        one_byte: false,
+        output: SUMMARY,
+        report: &[],
+        rows: &[(
+            &[
+                (Call::OpenIn, 1),
+                (Call::Read, 1),
+                (Call::OpenOut, 2),
+                (Call::Write, 2),
+                (Call::Finish, 2),
+            ],
+            End::Done,
+        )],
+    },
+];
+
+fn ending<'a>(end: End, output: &'a [u8], report: &'a [u8]) -> Ending<'a> {
+    match end {
+        End::Done => done(output, report),
+        End::Unread(most, noted) => refused(
+            Refusal::ReadFault,
+            front(output, most),
+            front(report, noted),
+        ),
+        End::Unwritten(most, noted) => refused(
+            Refusal::WriteFault,
+            front(output, most),
+            front(report, noted),
+        ),
+        End::HalfKept => Ending {
+            kept_output: output,
+            ..refused(Refusal::WriteFault, output, report)
+        },
+    }
+}
+
+fn assert_table(rt: &(impl Abort + AllocGlobal), table: &Table) -> Result<(), Fail> {
+    for (fails, end) in table.rows {
+        let case = Case {
+            words: table.words,
+            input: table.input,
+            side: table.side,
+            one_byte: table.one_byte,
+            fails,
+        };
+        assert_ending(rt, &case, &ending(*end, table.output, table.report))?;
+    }
+    Ok(())
+}
+
+fn assert_tables(rt: &(impl Abort + AllocGlobal), tables: &[Table]) -> Result<(), Fail> {
+    for table in tables {
+        assert_table(rt, table)?;
+    }
+    Ok(())
+}
+
+/// What `restore` leaves that could write this many bytes of 47: the report's first line, two contents, the lost row, the
+/// third content and the last row come in this order.
+fn restored_until(written: usize) -> End {
+    match written {
+        0..=23 => End::Unwritten(0, written),
+        24..=25 => End::Unwritten(written - 23, 23),
+        26..=36 => End::Unwritten(2, written - 2),
+        37..=46 => End::Unwritten(3, written - 3),
+        _ => End::Done,
+    }
+}
+
+/// The writes of one byte in turn, up to the first number that none has.
+fn assert_writes(rt: &(impl Abort + AllocGlobal)) -> Result<(), Fail> {
+    for written in 0..48u32 {
+        let case = Case {
+            one_byte: true,
+            fails: &[(Call::Write, written + 1)],
+            ..with_input(EIGHT_BITS, PLAYED)
+        };
+        let end = restored_until(written as usize);
+        assert_ending(rt, &case, &ending(end, RESTORED, REPORT))?;
+    }
+    Ok(())
+}
+
+/// How the restoring of a store ends that is cut to this size, in the packet that begins here, before which this is restored.
+fn cut_at(size: usize) -> Ending<'static> {
+    let (begin, output, report): (usize, &[u8], &[u8]) = match size {
+        0..=9 => (0, &[], b"first,last,cause,value\nend,0,0,0\n"),
+        10..=19 => (10, &[0xB0], b"first,last,cause,value\nend,1,1,0\n"),
+        20..=28 => (20, &[0xB0, 0xB1], b"first,last,cause,value\nend,2,2,0\n"),
+        _ => (29, RESTORED, REPORT),
+    };
+    if size == begin {
+        return done(output, report);
+    }
+    let refusal = Refusal::BadStore {
+        byte: begin as u64,
+        kind: StoreKind::Cut,
+    };
+    refused(refusal, output, HEADER.as_bytes())
+}
+
+/// The store cut at each length.
+fn assert_cuts(rt: &(impl Abort + AllocGlobal)) -> Result<(), Fail> {
+    for size in 0..30 {
+        let case = with_input(EIGHT_BITS, front(PLAYED, size));
+        assert_ending(rt, &case, &cut_at(size))?;
     }
     Ok(())
 }
 
 #[test]
-fn calls_of_restore(rt: HostRuntime) -> Result<(), Fail> {
-    let store = bytes_of_all(rt.alloc(), &PLAYED)?;
-    let unread = refused(Refusal::ReadFault, &[], &[]);
-    let none_written = refused(Refusal::ReadFault, &[], HEADER.as_bytes());
-    let one_written = refused(Refusal::ReadFault, &OUTPUT[..1], HEADER.as_bytes());
-    let two_written = refused(Refusal::ReadFault, &OUTPUT[..2], HEADER.as_bytes());
-    let all_written = refused(Refusal::ReadFault, OUTPUT, &REPORT[..34]);
-    let unopened = refused(Refusal::WriteFault, &[], &[]);
-    let unfinished = refused(Refusal::WriteFault, OUTPUT, REPORT);
-    let half_finished = Ending {
-        kept_output: OUTPUT,
-        ..unfinished
-    };
-    let rows: [Row<'_>; 15] = [
-        (&[(Call::OpenIn, 1), (Call::OpenOut, 1)], unread),
-        (&[(Call::OpenIn, 2)], done(OUTPUT, REPORT)),
-        (&[(Call::OpenOut, 1)], unopened),
-        (&[(Call::OpenOut, 2)], unopened),
-        (&[(Call::OpenOut, 3)], done(OUTPUT, REPORT)),
-        (&[(Call::Read, 1)], none_written),
-        (&[(Call::Read, 10)], none_written),
-        (&[(Call::Read, 11)], one_written),
-        (&[(Call::Read, 20)], one_written),
-        (&[(Call::Read, 21)], two_written),
-        (&[(Call::Read, 30)], all_written),
-        (&[(Call::Read, 31)], done(OUTPUT, REPORT)),
-        (&[(Call::Finish, 1)], unfinished),
-        (&[(Call::Finish, 2)], half_finished),
-        (&[(Call::Finish, 3)], done(OUTPUT, REPORT)),
-    ];
-    let case = Case {
-        one_byte: true,
-        ..with_input(EIGHT_BITS, &store)
-    };
-    assert_rows(&rt, case, &rows)
-}
-
-/// What `restore` leaves that could write this many bytes: the report's first line, two contents, the lost row, the third
-/// content and the last row come in this order.
-fn restored_until(written: usize) -> Ending<'static> {
-    let (output, report) = match written {
-        0..=23 => (0, written),
-        24..=25 => (written - 23, 23),
-        26..=36 => (2, written - 2),
-        37 => (3, 34),
-        _ => (3, written - 3),
-    };
-    refused(
-        Refusal::WriteFault,
-        front(OUTPUT, output),
-        front(REPORT, report),
-    )
+fn a_restore_at_each_fault(rt: HostRuntime) -> Result<(), Fail> {
+    assert_tables(&rt, &RESTORES)?;
+    assert_writes(&rt)?;
+    assert_cuts(&rt)
 }
 
 #[test]
-fn writes_of_restore(rt: HostRuntime) -> Result<(), Fail> {
-    let store = bytes_of_all(rt.alloc(), &PLAYED)?;
-    let case = Case {
-        one_byte: true,
-        ..with_input(EIGHT_BITS, &store)
-    };
-    for written in 0..47u32 {
-        let row: Row<'_> = (
-            &[(Call::Write, written + 1)],
-            restored_until(written as usize),
-        );
-        assert_rows(&rt, case, &[row])?;
-    }
-    assert_rows(&rt, case, &[(&[(Call::Write, 48)], done(OUTPUT, REPORT))])
+fn calls_of_other_verbs(rt: HostRuntime) -> Result<(), Fail> {
+    assert_tables(&rt, &OTHERS)
 }
 
-pub const COMPRESS: &str = "compress in=a out=b bits=8 apid=100 robust=1";
-
-const BY_PLAN: &str = "compress in=a out=b bits=8 apid=100 robust=1 plan=s";
-
-#[test]
-fn calls_of_compress(rt: HostRuntime) -> Result<(), Fail> {
-    let store = bytes_of_all(rt.alloc(), &STORE)?;
-    let unread = refused(Refusal::ReadFault, &[], &[]);
-    let unopened = refused(Refusal::WriteFault, &[], &[]);
-    let one_written = refused(Refusal::WriteFault, front(&store, 10), &[]);
-    let unfinished = refused(Refusal::WriteFault, &store, &[]);
-    let whole = done(&store, &[]);
-    // Each packet is written at once; the first has ten bytes.
-    let rows: [Row<'_>; 10] = [
-        (&[(Call::OpenIn, 1), (Call::OpenOut, 1)], unread),
-        (&[(Call::OpenIn, 2)], whole),
-        (&[(Call::OpenOut, 1)], unopened),
-        (&[(Call::OpenOut, 2)], whole),
-        (&[(Call::Read, 1)], unread),
-        (&[(Call::Write, 1)], unopened),
-        (&[(Call::Write, 2)], one_written),
-        (&[(Call::Write, 5)], whole),
-        (&[(Call::Finish, 1)], unfinished),
-        (&[(Call::Finish, 2)], whole),
-    ];
-    assert_rows(&rt, with_input(COMPRESS, RECORDING), &rows)?;
-    // A schedule is opened and read before anything else is opened.
-    let rows: [Row<'_>; 4] = [
-        (&[(Call::OpenIn, 1), (Call::OpenOut, 1)], unread),
-        (&[(Call::OpenIn, 2), (Call::OpenOut, 1)], unread),
-        (&[(Call::Read, 1), (Call::OpenOut, 1)], unread),
-        (&[(Call::OpenIn, 3), (Call::OpenOut, 2)], whole),
-    ];
-    assert_rows(&rt, with_both(BY_PLAN, RECORDING, b"9,9,1,p"), &rows)
-}
+/// Words, the input that is held for them, and no other.
+static NOT_HELD: [(&str, Option<&[u8]>); 7] = [
+    (COMPRESS, None),
+    (BY_PLAN, None),
+    (BY_PLAN, Some(RECORDING)),
+    (BY_SCRIPT, None),
+    (BY_SCRIPT, Some(&[])),
+    (EIGHT_BITS, None),
+    (LIST, None),
+];
 
 #[test]
 fn names_that_are_not_held(rt: HostRuntime) -> Result<(), Fail> {
-    let rows: [Row<'_>; 1] = [(&[(Call::OpenOut, 1)], refused(Refusal::ReadFault, &[], &[]))];
-    for words in [COMPRESS, BY_PLAN, BY_SCRIPT, EIGHT_BITS, LIST] {
-        assert_rows(&rt, words_alone(words), &rows)?;
+    for (words, input) in &NOT_HELD {
+        let case = Case {
+            input: *input,
+            fails: &[(Call::OpenOut, 1)],
+            ..words_alone(words)
+        };
+        assert_ending(&rt, &case, &refused(Refusal::ReadFault, &[], &[]))?;
     }
-    assert_rows(&rt, with_input(BY_PLAN, RECORDING), &rows)?;
-    assert_rows(&rt, with_input(BY_SCRIPT, &[]), &rows)
-}
-
-#[test]
-fn calls_of_play(rt: HostRuntime) -> Result<(), Fail> {
-    let store = bytes_of_all(rt.alloc(), &STORE)?;
-    let played = bytes_of_all(rt.alloc(), &PLAYED)?;
-    let report = PLAY_REPORT.as_bytes();
-    let unread = refused(Refusal::ReadFault, &[], &[]);
-    let one_played = refused(Refusal::ReadFault, front(&played, 10), &[]);
-    let two_played = refused(Refusal::ReadFault, front(&played, 20), &[]);
-    let all_played = refused(Refusal::ReadFault, &played, &[]);
-    let unopened = refused(Refusal::WriteFault, &[], &[]);
-    let unfinished = refused(Refusal::WriteFault, &played, report);
-    let half_finished = Ending {
-        kept_output: &played,
-        ..unfinished
-    };
-    // Ten reads move the script, and one meets its end. The packets end at the bytes 10, 20, 28 and 37.
-    let rows: [Row<'_>; 13] = [
-        (&[(Call::OpenIn, 1), (Call::OpenOut, 1)], unread),
-        (&[(Call::OpenIn, 2), (Call::OpenOut, 1)], unread),
-        (&[(Call::OpenOut, 1)], unopened),
-        (&[(Call::OpenOut, 2)], unopened),
-        (&[(Call::Read, 11), (Call::OpenOut, 1)], unread),
-        (&[(Call::Read, 21)], unread),
-        (&[(Call::Read, 22)], one_played),
-        (&[(Call::Read, 40)], two_played),
-        (&[(Call::Read, 48)], two_played),
-        (&[(Call::Read, 49)], all_played),
-        (&[(Call::Read, 50)], done(&played, report)),
-        (&[(Call::Finish, 1)], unfinished),
-        (&[(Call::Finish, 2)], half_finished),
-    ];
-    let case = Case {
-        one_byte: true,
-        ..with_both(BY_SCRIPT, &store, DROP_THE_THIRD)
-    };
-    assert_rows(&rt, case, &rows)
-}
-
-/// What `play` leaves that could write this many bytes: the report comes behind the whole store.
-fn played_until(store: &[u8], written: usize) -> Ending<'_> {
-    let report = written.saturating_sub(store.len());
-    refused(
-        Refusal::WriteFault,
-        front(store, written),
-        front(PLAY_REPORT.as_bytes(), report),
-    )
-}
-
-#[test]
-fn writes_of_play(rt: HostRuntime) -> Result<(), Fail> {
-    let store = bytes_of_all(rt.alloc(), &STORE)?;
-    let played = bytes_of_all(rt.alloc(), &PLAYED)?;
-    let case = Case {
-        one_byte: true,
-        ..with_both(BY_SCRIPT, &store, DROP_THE_THIRD)
-    };
-    for written in [0, 1, 10, 28, 29, 75, 76, 87u32] {
-        let row: Row<'_> = (
-            &[(Call::Write, written + 1)],
-            played_until(&played, written as usize),
-        );
-        assert_rows(&rt, case, &[row])?;
-    }
-    let whole = done(&played, PLAY_REPORT.as_bytes());
-    assert_rows(&rt, case, &[(&[(Call::Write, 89)], whole)])
-}
-
-/// What `show` leaves that could write this many bytes.
-fn listed_until(written: usize) -> Ending<'static> {
-    refused(Refusal::WriteFault, front(LISTING.as_bytes(), written), &[])
-}
-
-/// What it leaves where a reading failed when this many bytes were written.
-fn listed_unread(written: usize) -> Ending<'static> {
-    refused(Refusal::ReadFault, front(LISTING.as_bytes(), written), &[])
-}
-
-#[test]
-fn calls_of_show(rt: HostRuntime) -> Result<(), Fail> {
-    let store = bytes_of_all(rt.alloc(), &PLAYED)?;
-    let whole = done(LISTING.as_bytes(), &[]);
-    // The first line has 21 bytes, the last ten. The packets end at the bytes 10, 20 and 29.
-    let rows: [Row<'_>; 14] = [
-        (&[(Call::OpenIn, 1), (Call::OpenOut, 1)], listed_unread(0)),
-        (&[(Call::OpenIn, 2)], whole),
-        (&[(Call::OpenOut, 1)], listed_until(0)),
-        (&[(Call::OpenOut, 2)], whole),
-        (&[(Call::Read, 1)], listed_unread(0)),
-        (&[(Call::Read, 11)], listed_unread(21)),
-        (&[(Call::Read, 30)], listed_unread(72)),
-        (&[(Call::Read, 31)], whole),
-        (&[(Call::Write, 1)], listed_until(0)),
-        (&[(Call::Write, 22)], listed_until(21)),
-        (&[(Call::Write, 82)], listed_until(81)),
-        (&[(Call::Write, 83)], whole),
-        (&[(Call::Finish, 1)], listed_until(82)),
-        (&[(Call::Finish, 2)], whole),
-    ];
-    let case = Case {
-        one_byte: true,
-        ..with_input(LIST, &store)
-    };
-    assert_rows(&rt, case, &rows)
+    Ok(())
 }

@@ -1,6 +1,6 @@
 //! Listings of worked stores, in whole reads and writes and in those of one byte.
 
-use super::desk::{LIST, assert_both, bytes_of, bytes_of_all, done, refused, with_input};
+use super::desk::{LIST, assert_both, bytes_of, done, refused, with_input};
 use super::samples::{FIRST, LISTING, PLAYED};
 use crate::Refusal;
 use packet_store::StoreKind;
@@ -109,9 +109,7 @@ static FAULTY: [(&str, u64, StoreKind, &str); 3] = [
 
 #[test]
 fn listings(rt: HostRuntime) -> Result<(), Fail> {
-    let played = bytes_of_all(rt.alloc(), &PLAYED)?;
-    let wanted = done(LISTING.as_bytes(), &[]);
-    assert_both(&rt, with_input(LIST, &played), &wanted)?;
+    assert_both(&rt, with_input(LIST, PLAYED), &done(LISTING, &[]))?;
     for (words, store, listing) in &WHOLE {
         let wanted = done(listing.as_bytes(), &[]);
         let store = bytes_of(rt.alloc(), store)?;

@@ -1,58 +1,10 @@
-//! Inputs that are read ahead: readings that fail, and packets that lie across the end of what is ahead.
+//! Inputs that are read ahead: packets that lie across the end of what is ahead.
 
 use super::chain::{Chain, assert_there_and_back};
-use super::desk::{
-    BY_SCRIPT, Case, EIGHT_BITS, Ending, LIST, assert_both, assert_ending, bytes_of_all, done,
-    refused, with_both, with_input,
-};
-use super::faults::{COMPRESS, OUTPUT, REPORT};
-use super::samples::{FIRST, FOURTH, LISTING, PLAY_REPORT, PLAYED, RECORDING, SECOND, STORE};
-use crate::Refusal;
-use desk_ports::Call;
+use super::desk::{BY_SCRIPT, EIGHT_BITS, assert_both, bytes_of_all, done, with_both, with_input};
+use super::samples::{FIRST, FOURTH, REPORT, RESTORED, SECOND};
 use std::alloc::{AllocError, Global};
-use std::process::Abort;
 use std::test::Fail;
-
-/// A reading that fails, and how the run then ends: where one more than are made fails, and where the last one does, which
-/// meets the input's end.
-fn assert_last_read(
-    rt: &(impl Abort + AllocGlobal),
-    case: Case<'_>,
-    last: u32,
-    wanted: [Ending<'_>; 2],
-) -> Result<(), Fail> {
-    let [whole, cut_off] = wanted;
-    let none = Case {
-        fails: &[(Call::Read, last.saturating_add(1))],
-        ..case
-    };
-    assert_ending(rt, &none, &whole)?;
-    let at_end = Case {
-        fails: &[(Call::Read, last)],
-        ..case
-    };
-    assert_ending(rt, &at_end, &cut_off)
-}
-
-/// Where a call moves as much as there is room for, one reading has the whole input, and the next one meets its end.
-#[test]
-fn last_reads(rt: HostRuntime) -> Result<(), Fail> {
-    let store = bytes_of_all(rt.alloc(), &STORE)?;
-    let played = bytes_of_all(rt.alloc(), &PLAYED)?;
-    let fault = Refusal::ReadFault;
-    let restored = [done(OUTPUT, REPORT), refused(fault, OUTPUT, &REPORT[..34])];
-    assert_last_read(&rt, with_input(EIGHT_BITS, &played), 2, restored)?;
-    let compressed = [done(&store, &[]), refused(fault, &store, &[])];
-    assert_last_read(&rt, with_input(COMPRESS, RECORDING), 2, compressed)?;
-    let listing = LISTING.as_bytes();
-    let listed = [done(listing, &[]), refused(fault, &listing[..72], &[])];
-    assert_last_read(&rt, with_input(LIST, &played), 2, listed)?;
-    // The script is read before, by two readings.
-    let report = PLAY_REPORT.as_bytes();
-    let all = [done(&played, report), refused(fault, &played, &[])];
-    let case = with_both(BY_SCRIPT, &store, b"drop,2,2,1");
-    assert_last_read(&rt, case, 4, all)
-}
 
 /// The header of a packet of another APID with the longest data.
 const LONG_HEADER: &[u8] = &[0x00, 0x05, 0xC0, 0x00, 0xFF, 0xFF];
@@ -84,7 +36,7 @@ fn with_long_packets(alloc: Global) -> Result<Vec<u8>, AllocError> {
 fn packets_of_the_longest_data(rt: HostRuntime) -> Result<(), Fail> {
     let store = with_long_packets(rt.alloc())?;
     assert_eq!(rt; store.len(), 262_197);
-    assert_both(&rt, with_input(EIGHT_BITS, &store), &done(OUTPUT, REPORT))?;
+    assert_both(&rt, with_input(EIGHT_BITS, &store), &done(RESTORED, REPORT))?;
     let report = b"packets,delivered,dropped,repeats,first,widest\n3,3,0,0,0,1\n";
     let case = with_both(BY_SCRIPT, &store, b"");
     assert_both(&rt, case, &done(&store, report))

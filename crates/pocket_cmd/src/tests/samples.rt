@@ -12,18 +12,32 @@ pub const THIRD: &str = "00 64 C0 02 00 01 44 C0";
 
 pub const FOURTH: &str = "00 64 C0 03 00 02 C0 85 C0";
 
-/// Its store, of 37 bytes.
-pub static STORE: [&str; 4] = [FIRST, SECOND, THIRD, FOURTH];
+/// Its store.
+pub const STORE: &[u8] = &[
+    0x00, 0x64, 0xC0, 0x00, 0x00, 0x03, 0x85, 0xB8, 0xD6, 0x00, //
+    0x00, 0x64, 0xC0, 0x01, 0x00, 0x03, 0x42, 0x4B, 0x8D, 0x62, //
+    0x00, 0x64, 0xC0, 0x02, 0x00, 0x01, 0x44, 0xC0, //
+    0x00, 0x64, 0xC0, 0x03, 0x00, 0x02, 0xC0, 0x85, 0xC0,
+];
 
-/// The store without the third packet, of 29 bytes.
-pub static PLAYED: [&str; 3] = [FIRST, SECOND, FOURTH];
+/// The store without the third packet.
+pub const PLAYED: &[u8] = &[
+    0x00, 0x64, 0xC0, 0x00, 0x00, 0x03, 0x85, 0xB8, 0xD6, 0x00, //
+    0x00, 0x64, 0xC0, 0x01, 0x00, 0x03, 0x42, 0x4B, 0x8D, 0x62, //
+    0x00, 0x64, 0xC0, 0x03, 0x00, 0x02, 0xC0, 0x85, 0xC0,
+];
+
+/// What is restored of it, and the report.
+pub const RESTORED: &[u8] = &[0xB0, 0xB1, 0xB3];
+
+pub const REPORT: &[u8] = b"first,last,cause,value\n2,2,lost,0\nend,3,3,0\n";
 
 /// What `play` reports where the third is dropped.
-pub const PLAY_REPORT: &str = "packets,delivered,dropped,repeats,first,widest\n4,3,1,0,0,2\n";
+pub const PLAY_REPORT: &[u8] = b"packets,delivered,dropped,repeats,first,widest\n4,3,1,0,0,2\n";
 
 /// The first line of a play report.
 pub const PLAY_HEADER: &str = "packets,delivered,dropped,repeats,first,widest\n";
 
 /// The listing of the store without the third packet.
-pub const LISTING: &str =
-    "0 written 1 00 00 b0\n1 written 1 01 01 b1\n2-2 lost\n3 written 1 02 03 b3\nend 3 3 0\n";
+pub const LISTING: &[u8] =
+    b"0 written 1 00 00 b0\n1 written 1 01 01 b1\n2-2 lost\n3 written 1 02 03 b3\nend 3 3 0\n";

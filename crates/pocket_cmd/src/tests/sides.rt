@@ -1,8 +1,6 @@
 //! Texts of schedules and scripts, as both commands take them.
 
-use super::desk::{
-    BY_SCRIPT, Case, assert_ending, bytes_of, bytes_of_all, done, refused, with_both,
-};
+use super::desk::{BY_SCRIPT, Case, assert_ending, bytes_of, done, refused, with_both};
 use super::samples::{PLAY_REPORT, PLAYED, STORE};
 use crate::Refusal;
 use desk_ports::Call;
@@ -129,15 +127,13 @@ fn schedules(rt: HostRuntime) -> Result<(), Fail> {
 
 #[test]
 fn scripts(rt: HostRuntime) -> Result<(), Fail> {
-    let store = bytes_of_all(rt.alloc(), &STORE)?;
-    let played = bytes_of_all(rt.alloc(), &PLAYED)?;
-    let wanted = done(&played, PLAY_REPORT.as_bytes());
+    let wanted = done(PLAYED, PLAY_REPORT);
     for text in &SCRIPTS {
-        let case = with_both(BY_SCRIPT, &store, text.as_bytes());
+        let case = with_both(BY_SCRIPT, STORE, text.as_bytes());
         assert_ending(&rt, &case, &wanted)?;
     }
     for (text, row) in &WRONG_SCRIPTS {
-        let case = with_both(BY_SCRIPT, &store, text.as_bytes());
+        let case = with_both(BY_SCRIPT, STORE, text.as_bytes());
         assert_refused(&rt, case, Refusal::BadSide { row: *row })?;
     }
     Ok(())

@@ -1,54 +1,22 @@
-//! Trials: a worked one, one whose calls fail, and many of which the summary is compared with what the trial holds.
+//! Trials: a worked one, and many of which the summary is compared with what the trial holds.
 
-use super::desk::{Case, answer, assert_both, assert_ending, done, front, refused, words_alone};
-use crate::{Refusal, Status};
-use desk_ports::{Call, MemDesk, Outlet};
+use super::desk::{answer, assert_both, done, words_alone};
+use crate::Status;
+use desk_ports::{MemDesk, Outlet};
 use std::alloc::Global;
 use std::process::Abort;
 use std::test::Fail;
 use trial_chain::{Summary, run_trial};
 
 /// Three packets of eight bits, of which the second does not arrive.
-const THREE: &str = "trial seed=0 packets=3 bits=8 robust=1 out=b";
+pub const THREE: &str = "trial seed=0 packets=3 bits=8 robust=1 out=b";
 
-const SUMMARY: &[u8] =
+pub const SUMMARY: &[u8] =
     b"packets 3\nrecording 3\nstore 29\nplayed 19\ndelivered 2\nwritten 2\nlisted 1\n";
 
 #[test]
 fn a_trial(rt: HostRuntime) -> Result<(), Fail> {
     assert_both(&rt, words_alone(THREE), &done(SUMMARY, &[]))
-}
-
-#[test]
-fn calls_of_trial(rt: HostRuntime) -> Result<(), Fail> {
-    let rows: [(Call, u32, usize); 5] = [
-        (Call::OpenOut, 1, 0),
-        (Call::Write, 1, 0),
-        (Call::Write, 11, 10),
-        (Call::Write, 72, 71),
-        (Call::Finish, 1, 72),
-    ];
-    for (call, nth, written) in &rows {
-        let case = Case {
-            one_byte: true,
-            fails: &[(*call, *nth)],
-            ..words_alone(THREE)
-        };
-        let wanted = refused(Refusal::WriteFault, front(SUMMARY, *written), &[]);
-        assert_ending(&rt, &case, &wanted)?;
-    }
-    // Nothing is read, nothing more is opened, and the summary is written in one piece.
-    let case = Case {
-        fails: &[
-            (Call::OpenIn, 1),
-            (Call::Read, 1),
-            (Call::OpenOut, 2),
-            (Call::Write, 2),
-            (Call::Finish, 2),
-        ],
-        ..words_alone(THREE)
-    };
-    assert_ending(&rt, &case, &done(SUMMARY, &[]))
 }
 
 /// What is printed of fifty packets of thirteen bits.
