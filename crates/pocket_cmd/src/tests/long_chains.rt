@@ -169,6 +169,21 @@ fn counters_that_are_written(alloc: Global) -> Result<Vec<u8>, AllocError> {
     Ok(bytes)
 }
 
+/// What they are told and must leave, but for their bytes.
+static COUNTERS: Chain<'static> = Chain {
+    recording: &[],
+    flight: "bits=1024 robust=2",
+    ground: "bits=1024",
+    plan: "20,999,20,p\n50,999,50,f\n100,999,100,r\n",
+    script: "drop,10,10,1\ndrop,50,51,1\ndrop,190,194,1\ndrop,205,207,1\nrepeat,300,309,1,2\n\
+            drop,530,533,1\ndrop,999,999,1\n",
+    played: "1000,984,16,20,0,6\n",
+    restored: &[],
+    report: "10,10,lost,0\n50,51,lost,0\n190,194,lost,0\n195,195,gap,2\n196,196,gap,3\n\
+            197,197,gap,4\n198,198,gap,5\n199,199,gap,6\n205,207,lost,0\n530,533,lost,0\n\
+            end,1004,979,20\n",
+};
+
 #[test]
 fn a_thousand_counters(rt: HostRuntime) -> Result<(), Fail> {
     let recording = counters(rt.alloc())?;
@@ -176,16 +191,8 @@ fn a_thousand_counters(rt: HostRuntime) -> Result<(), Fail> {
     assert_eq!(rt; restored.len(), 125_312);
     let chain = Chain {
         recording: &recording,
-        flight: "bits=1024 robust=2",
-        ground: "bits=1024",
-        plan: "20,999,20,p\n50,999,50,f\n100,999,100,r\n",
-        script: "drop,10,10,1\ndrop,50,51,1\ndrop,190,194,1\ndrop,205,207,1\nrepeat,300,309,1,2\n\
-            drop,530,533,1\ndrop,999,999,1\n",
-        played: "1000,984,16,20,0,6\n",
         restored: &restored,
-        report: "10,10,lost,0\n50,51,lost,0\n190,194,lost,0\n195,195,gap,2\n196,196,gap,3\n\
-            197,197,gap,4\n198,198,gap,5\n199,199,gap,6\n205,207,lost,0\n530,533,lost,0\n\
-            end,1004,979,20\n",
+        ..COUNTERS
     };
     assert_there_and_back(&rt, &chain)
 }

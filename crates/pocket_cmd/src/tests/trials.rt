@@ -35,12 +35,17 @@ fn trial(alloc: Global, seed: u32) -> Result<(Summary, MemDesk), Fail> {
     Ok((summary, desk))
 }
 
+/// How many bytes are held under a name.
+fn size(held: &MemDesk, name: &str) -> usize {
+    held.get(name).len()
+}
+
 /// The lines that a trial must print, by its answer and by the lengths of what it holds.
 fn lines(alloc: Global, summary: &Summary, held: &MemDesk) -> Result<String, Fail> {
-    let recording = held.get("recording").len();
-    let store = held.get("store").len();
-    let played = held.get("played").len();
-    let written = held.get("restored").len() / 2;
+    let recording = size(held, "recording");
+    let store = size(held, "store");
+    let played = size(held, "played");
+    let written = size(held, "restored") / 2;
     let (delivered, listed) = (summary.delivered, summary.listed);
     Ok(format!(in alloc;
         "packets 50\nrecording {recording}\nstore {store}\nplayed {played}\ndelivered {delivered}\n\
@@ -48,18 +53,28 @@ fn lines(alloc: Global, summary: &Summary, held: &MemDesk) -> Result<String, Fai
     )?)
 }
 
+/// The numbers that the call answers are the lengths of what its desk holds.
+fn assert_numbers(rt: &impl Abort, summary: &Summary, held: &MemDesk) {
+    assert_eq!(rt; summary.packets, 50);
+    assert_eq!(rt; summary.recording, size(held, "recording") as u64);
+    assert_eq!(rt; summary.store, size(held, "store") as u64);
+    assert_eq!(rt; summary.played, size(held, "played") as u64);
+    assert_eq!(rt; summary.written, (size(held, "restored") / 2) as u64);
+}
+
+fn assert_trial(rt: &(impl Abort + AllocGlobal), seed: u32) -> Result<(), Fail> {
+    let desk = printed(rt, seed)?;
+    let (summary, held) = trial(rt.alloc(), seed)?;
+    let wanted = lines(rt.alloc(), &summary, &held)?;
+    assert_eq!(rt; desk.seen(Outlet::Main), wanted.as_bytes(), "{seed}");
+    assert_numbers(rt, &summary, &held);
+    Ok(())
+}
+
 #[test]
 fn summaries_of_what_trials_hold(rt: HostRuntime) -> Result<(), Fail> {
     for seed in 0..=20 {
-        let desk = printed(&rt, seed)?;
-        let (summary, held) = trial(rt.alloc(), seed)?;
-        let wanted = lines(rt.alloc(), &summary, &held)?;
-        assert_eq!(rt; desk.seen(Outlet::Main), wanted.as_bytes(), "{seed}");
-        assert_eq!(rt; summary.packets, 50);
-        assert_eq!(rt; summary.recording, held.get("recording").len() as u64);
-        assert_eq!(rt; summary.store, held.get("store").len() as u64);
-        assert_eq!(rt; summary.played, held.get("played").len() as u64);
-        assert_eq!(rt; summary.written, (held.get("restored").len() / 2) as u64);
+        assert_trial(&rt, seed)?;
     }
     Ok(())
 }
