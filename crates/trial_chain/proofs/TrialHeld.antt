@@ -1,8 +1,12 @@
 -- What a trial's desk holds after each of its runs.
-use Rattle.std.proofs.Common.{◌≡◌, ℕ, false, cond, List, [], Option, Some, IsSome, unwrap_or, refl, sym, ap, ◌∙◌, subst}
+use Rattle.std.proofs.Common.{◌≡◌, ℕ, ◌<◌, Bool, true, false, cond, List, [], Option, Some, IsSome, unwrap_or, arith, refl, sym, ap, ◌∙◌, subst}
+use Rattle.std.specs.Prelude.{Contains, slice_index_or}
+use Rattle.std.specs.Cmp.Lexicographic.{bytes_decides, slice_cmp}
+use Rattle.std.specs.Ordering.{nat_cmp}
 use Rattle.std.specs.FinMap as map
 use Rattle.std.specs.Str.{bytes_eq}
 use Rattle.std.proofs.Math.Path.{fun_ext}
+use Rattle.std.proofs.lemmas.Bool.{true≢false}
 use Rattle.std.proofs.lemmas.Cmp.{nat_list_cmp_total, nat_list_eq_equiv}
 use Rattle.std.proofs.lemmas.Map.Text.{is_eq-slice_cmp}
 use Rattle.desk_ports.specs.Courses.{Outputs, owed}
@@ -17,7 +21,7 @@ use Rattle.loss_player.specs.Playing.{PlayerState, play_course}
 use Rattle.loss_player.specs.Report.{play_report}
 use Rattle.ground_chain.specs.Deliveries.{report_text, restored_bytes}
 use Rattle.ground_chain.specs.Restoring.{RestorerState, restore_course}
-use Rattle.trial_chain.specs.Stages.{HoldsTrial, held_played, held_recording, held_restored, held_store, play_name, played_name, played_outputs, recording_name, report_name, restored_name, restored_outputs, store_name, trial_played, trial_store, with_outputs}
+use Rattle.trial_chain.specs.Stages.{HoldsTrial, held_played, held_recording, held_restored, held_store, play_name, played_name, played_outputs, recording_name, report_name, restored_name, restored_outputs, store_name, trial_names, trial_played, trial_store, with_outputs}
 use Rattle.trial_chain.specs.Trials.{IsTrial, trial_copies, trial_history, trial_recording}
 use Rattle.trial_chain.proofs.TrialRuns.{owed-recording, owed-restored, owed-store, trial_flight}
 
@@ -29,6 +33,15 @@ get_here kept name bytes = get_insert kept name bytes name ∙ ap (λ same. cond
 
 get_apart : (kept : Kept) (name bytes sought : List ℕ) → bytes_eq sought name ≡ false → map.get (map.insert kept name bytes) sought ≡ map.get kept sought
 get_apart kept name bytes sought apart = get_insert kept name bytes sought ∙ ap (λ same. cond same (Some bytes) (map.get kept sought)) apart
+
+-- a name that has something is the latest one, which is among the six, or had it before
+one_of : (kept : Kept) (name bytes sought : List ℕ) (place : ℕ) → place < 6 → slice_index_or trial_names place sought ≡ name → (IsSome (map.get kept sought) → Contains trial_names sought)
+    → IsSome (map.get (map.insert kept name bytes) sought) → Contains trial_names sought
+one_of kept name bytes sought place few there before some = by_name (bytes_eq sought name) refl (subst IsSome (get_insert kept name bytes sought) some)
+  where
+    by_name : (same : Bool) → bytes_eq sought name ≡ same → IsSome (cond same (Some bytes) (map.get kept sought)) → Contains trial_names sought
+    by_name true is some = (place, few, there ∙ sym ((bytes_decides sought name).0 is))
+    by_name false is some = before some
 
 pub IsSome-here : (kept before : Kept) (name bytes : List ℕ) → kept ≡ map.insert before name bytes → IsSome (map.get kept name)
 IsSome-here kept before name bytes is = subst IsSome (sym (ap (λ (k : Kept). map.get k name) is ∙ get_here before name bytes)) refl
@@ -84,7 +97,7 @@ held-restored seed packets f robust trial before after restorer started opened i
     is ∙ λ i. with_outputs (started i) restored_name report_name
     (((λ j. owed (restore_course (opened j).places (opened j).apid (kept-played seed packets f robust before started j))) ∙ owed-restored seed packets f robust trial) i)
 
--- all six
+-- all six, and nothing else
 pub HoldsTrial-held : (seed packets f robust : ℕ) (held : Kept) → held ≡ held_restored seed packets f robust → HoldsTrial seed packets f robust held
 HoldsTrial-held seed packets f robust held is =
     let recording = trial_recording seed packets f in
@@ -109,4 +122,9 @@ HoldsTrial-held seed packets f robust held is =
           ∙ (get_apart k4 report_name restored.report play_name refl ∙ (get_apart k3 restored_name restored.output play_name refl ∙ get_here k2 play_name played.report));
       restored = ap (λ (k : Kept). map.get k restored_name) is ∙ (get_apart k4 report_name restored.report restored_name refl ∙ get_here k3 restored_name restored.output);
       report = ap (λ (k : Kept). map.get k report_name) is ∙ get_here k4 report_name restored.report;
+      others = λ name some.
+          one_of k4 report_name restored.report name 5 (omega arith) refl (one_of k3 restored_name restored.output name 4 (omega arith) refl
+          (one_of k2 play_name played.report name 3 (omega arith) refl (one_of k1 played_name played.output name 2 (omega arith) refl
+          (one_of k0 store_name store name 1 (omega arith) refl (one_of map.empty recording_name recording name 0 (omega arith) refl
+          (λ none. absurd (true≢false (sym (subst IsSome (map.get-empty (slice_cmp nat_cmp) name) none))))))))) (subst (λ (k : Kept). IsSome (map.get k name)) is some);
     }

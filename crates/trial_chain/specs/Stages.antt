@@ -1,5 +1,5 @@
 -- The names under which a trial holds what it makes.
-use Rattle.std.specs.Prelude.{◌≡◌, ℕ, List, Some, codes}
+use Rattle.std.specs.Prelude.{◌≡◌, ℕ, List, [], ◌∷◌, Contains, Some, IsSome, codes}
 use Rattle.std.specs.FinMap as map
 use Rattle.desk_ports.specs.Courses.{Outputs}
 use Rattle.desk_ports.specs.Meanings.{Kept}
@@ -26,6 +26,9 @@ restored_name = codes "restored"
 
 abbrev pub report_name : List ℕ
 report_name = codes "report"
+
+abbrev pub trial_names : List (List ℕ)
+trial_names = recording_name ∷ store_name ∷ played_name ∷ play_name ∷ restored_name ∷ report_name ∷ []
 
 -- both outputs of a run, held under these names
 abbrev pub with_outputs : Kept → List ℕ → List ℕ → Outputs → Kept
@@ -63,7 +66,7 @@ held_restored seed packets f robust = with_outputs (held_played seed packets f r
 -- ---- what a trial holds
 
 -- What a trial holds: the recording of its history, the store of that for its APID, the played store of its copies with its
--- report, and what is restored of that with the report.
+-- report, and what is restored of that with the report. Nothing is held under any other name.
 pub record HoldsTrial (seed packets f robust : ℕ) (held : Kept) : Type 0 where
   pub recording : map.get held recording_name ≡ Some (trial_recording seed packets f)
   pub store : map.get held store_name ≡ Some (store_of (trial_history seed packets f robust) trial_apid)
@@ -71,3 +74,4 @@ pub record HoldsTrial (seed packets f robust : ℕ) (held : Kept) : Type 0 where
   pub play : map.get held play_name ≡ Some (play_report (played_of (trial_copies seed packets) packets))
   pub restored : map.get held restored_name ≡ Some (restored_bytes (trial_history seed packets f robust) (trial_copies seed packets))
   pub report : map.get held report_name ≡ Some (report_text (trial_history seed packets f robust) (trial_copies seed packets))
+  pub others : (name : List ℕ) → IsSome (map.get held name) → Contains trial_names name
