@@ -9,20 +9,16 @@ use Rattle.std.proofs.Math.Path.{fun_ext}
 use Rattle.std.proofs.lemmas.Bool.{true≢false}
 use Rattle.std.proofs.lemmas.Cmp.{nat_list_cmp_total, nat_list_eq_equiv}
 use Rattle.std.proofs.lemmas.Map.Text.{is_eq-slice_cmp}
-use Rattle.desk_ports.specs.Courses.{Outputs, owed}
+use Rattle.desk_ports.specs.Courses.{owed}
 use Rattle.desk_ports.specs.Meanings.{Kept, kept_at}
 use Rattle.desk_ports.proofs.Held.{kept_here}
 use Rattle.side_tables.specs.declared.rows.CopyRow.{CopyRow}
 use Rattle.side_tables.specs.Rows.{copies_of}
 use Rattle.flight_chain.specs.Compressing.{Compression, compress_course}
-use Rattle.flight_chain.specs.Stores.{store_of}
-use Rattle.loss_player.specs.Played.{played_of}
 use Rattle.loss_player.specs.Playing.{PlayerState, play_course}
-use Rattle.loss_player.specs.Report.{play_report}
-use Rattle.ground_chain.specs.Deliveries.{report_text, restored_bytes}
 use Rattle.ground_chain.specs.Restoring.{RestorerState, restore_course}
 use Rattle.trial_chain.specs.Stages.{HoldsTrial, held_played, held_recording, held_restored, held_store, play_name, played_name, played_outputs, recording_name, report_name, restored_name, restored_outputs, store_name, trial_names, trial_played, trial_store, with_outputs}
-use Rattle.trial_chain.specs.Trials.{IsTrial, trial_copies, trial_history, trial_recording}
+use Rattle.trial_chain.specs.Trials.{IsTrial, trial_copies, trial_recording}
 use Rattle.trial_chain.proofs.TrialRuns.{owed-recording, owed-restored, owed-store, trial_flight}
 
 get_insert : (kept : Kept) (name bytes sought : List ℕ) → map.get (map.insert kept name bytes) sought ≡ cond (bytes_eq sought name) (Some bytes) (map.get kept sought)

@@ -1,5 +1,5 @@
 -- What the three runs of a trial owe.
-use Rattle.std.proofs.Common.{◌≡◌, ℕ, ◌≤◌, false, List, [], length, replicate, Some, None, ap, ◌∙◌, append-nil, arith}
+use Rattle.std.proofs.Common.{◌≡◌, ℕ, false, [], length, replicate, Some, None, ap, ◌∙◌, append-nil, arith}
 use Rattle.desk_ports.specs.Courses.{by_ending, no_outputs, owed, to_output, to_report}
 use Rattle.mask_update.specs.Histories.{History, IsValid}
 use Rattle.packet_store.specs.Walks.{Walk, walk}

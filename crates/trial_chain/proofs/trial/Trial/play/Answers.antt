@@ -1,11 +1,9 @@
-use Rattle.std.proofs.Common.{◌≡◌, ℕ, Some, ap, ◌∙◌}
+use Rattle.std.proofs.Common.{◌≡◌, Some, ap, ◌∙◌}
 use Rattle.std.proofs.lemmas.Result.{IfOk-weaker}
 use Rattle.desk_ports.specs.Courses.{owed}
 use Rattle.desk_ports.specs.Meanings.{kept_at}
-use Rattle.desk_ports.specs.MemState.{MemState}
 use Rattle.side_tables.specs.Rows.{copies_of}
 use Rattle.packet_store.specs.Walks.{walk}
-use Rattle.loss_player.specs.declared.played.Played.{Played}
 use Rattle.loss_player.specs.Played.{played_of, store_numbers}
 use Rattle.loss_player.specs.Playing.{PlayerState, play_course}
 use Rattle.trial_chain.specs.Stages.{held_played, held_recording, play_name, played_name, store_name, trial_store, with_outputs}
