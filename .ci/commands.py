@@ -10,6 +10,7 @@ import os
 import pty
 import resource
 import shutil
+import signal
 import subprocess
 import sys
 import tempfile
@@ -312,6 +313,20 @@ def wants_memory(runner):
     return None
 
 
+def keeps_name(runner):
+    """Whether an output that can't be written whole as it is finished leaves the name what it had: no file may be longer than
+    eight bytes, and all of it is handed over at the end."""
+    def limit():
+        signal.signal(signal.SIGXFSZ, signal.SIG_IGN)
+        resource.setrlimit(resource.RLIMIT_FSIZE, (8, 8))
+    folder = runner.folder({"x": RECORDING, "y": b"yesterday"})
+    program = runner.start(COMPRESS.split(), cwd=folder, stdout=subprocess.PIPE, stderr=subprocess.PIPE, preexec_fn=limit)
+    found = program.communicate(timeout=120)
+    left = [got(os.path.join(folder, name)) for name in ("y", "y.part")]
+    fits = (program.returncode, *found) == (1, b"", WRITE) and left[0] == b"yesterday" and STORE.startswith(left[1] or b"")
+    return None if fits else f"it ended with {program.returncode}, {found}, and left {left}"
+
+
 def tells_progress(runner):
     """Whether a long run tells on a terminal how far it is, and takes the line away at the end."""
     folder = runner.folder({"x": bytes(1 << 20)})
@@ -339,7 +354,8 @@ def main():
         runner = Runner(sys.argv[1], room)
         tries = [(row["name"], lambda row=row: runner.run(row)) for row in VERBS + REFUSALS + FILES]
         tries += [(f"the range of {row[0]}", lambda row=row: keeps_range(runner, *row)) for row in RANGES]
-        tries += [("help", lambda: helps(runner)), ("no memory", lambda: wants_memory(runner)), ("progress", lambda: tells_progress(runner))]
+        tries += [("help", lambda: helps(runner)), ("no memory", lambda: wants_memory(runner)), ("progress", lambda: tells_progress(runner)),
+                  ("an output that can't be written whole", lambda: keeps_name(runner))]
         tries += documents.tries()
         for name, attempt in tries:
             fault = attempt()

@@ -26,6 +26,10 @@ asked_by (word ∷ next ∷ rest) = None
 abbrev pub seen : {Z : Type 0} → List (String Z) → List (List ℕ)
 seen words = map string_bytes (take 1000 words)
 
+-- nothing is gathered for either output
+abbrev pub GathersNothing : FileDesk → Type 0
+GathersNothing desk = (gathered_at desk outlet.Main ≡ []) × (gathered_at desk outlet.Report ≡ [])
+
 -- nothing is gathered for either output, or a fault of writing was counted
 abbrev pub IsHandedOver : FileDesk → Type 0
-IsHandedOver desk = ((gathered_at desk outlet.Main ≡ []) × (gathered_at desk outlet.Report ≡ [])) ⊎ (1 ≤ (file_counts desk).writes)
+IsHandedOver desk = GathersNothing desk ⊎ (1 ≤ (file_counts desk).writes)

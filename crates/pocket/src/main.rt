@@ -5,7 +5,7 @@ ghost use Rattle.std.specs.Prelude.{◌≡◌, ℕ, ◌≤◌, ◌↔◌, ◌⊎
 ghost use Rattle.std.specs.Process.{exit_status};
 ghost use Rattle.std.specs.String.{string_bytes};
 ghost use Rattle.desk_ports.specs.Meanings.{nothing_told};
-ghost use Rattle.pocket.specs.Program.{IsHandedOver, asked_by, asked_of, seen};
+ghost use Rattle.pocket.specs.Program.{GathersNothing, IsHandedOver, asked_by, asked_of, seen};
 ghost use Rattle.pocket_cmd.specs.Command.{HasCommand, command_of};
 ghost use Rattle.pocket_cmd.specs.Status.{exit_number};
 
@@ -152,6 +152,8 @@ fn run<'a>(rt: &HostRuntime, words: &[String], desk: &mut FileDesk<'a>) -> Statu
         ↔ (command_of (map string_bytes words.now) ≡ Err word) }
     ensures done { result ≡ Status.Done → HasCommand words.now (λ _. Unit {0}) }
     ensures handed { IsHandedOver desk.new }
+    // Where it is done, all that was written was handed over.
+    ensures whole { result ≡ Status.Done → GathersNothing desk.new }
 {
     match pocket(rt.alloc(), words, desk) {
         Status::Done => match desk.hand_over() {
