@@ -1,4 +1,4 @@
--- How the bits of vectors lie in bytes.
+-- How the bits of vectors are placed in bytes.
 use Rattle.std.proofs.Common.{◌≡◌, ℕ, zero, suc, ◌+◌, ◌-◌, ◌*◌, ◌/◌, ◌%◌, ◌<◌, ◌≤◌, Bool, true, false, eqb, List, [], ◌∷◌, ◌++◌, length, get_or, take, drop, replicate, refl, sym, ap, ◌∙◌, arith, inl, inr, append_assoc}
 use Rattle.std.specs.Int.{bit_at}
 use Rattle.std.specs.Prelude.{Contains}
@@ -23,7 +23,7 @@ bits_of-take (suc n) (b ∷ bytes) =
     let next : 8 * suc n ≡ length (number_bits 8 b) + 8 * n = omega (arith, length-number_bits 8 b) in
     rw (next, take-append-add (number_bits 8 b) (bits_of bytes) (8 * n), bits_of-take n bytes) refl
 
--- the bit with a number is one of the byte that it lies in
+-- the bit with a number is a bit of the byte that contains it
 pub get_or-bits_of : (bytes : List ℕ) (i : ℕ) → i < 8 * length bytes → get_or (bits_of bytes) i false ≡ eqb (bit_at (get_or bytes (i / 8) 0) (7 - i % 8)) 1
 get_or-bits_of [] i lt = absurd (omega arith)
 get_or-bits_of (b ∷ bytes) i lt =
@@ -72,7 +72,7 @@ bytes_from-bits_of (b ∷ bytes) rest below =
     let number : bits_number (number_bits 8 b) ≡ b = bits_number-number_bits 8 b ∙ omega arith in
     ap (bytes_from (suc (length bytes))) regrouped ∙ rw (first, others, number, bytes_from-bits_of bytes rest (AreBytes-rest b bytes below)) refl
 
--- bytes are known by their bits
+-- bytes are determined by their bits
 pub bits_of_injective : (a b : List ℕ) → AreBytes a → AreBytes b → bits_of a ≡ bits_of b → a ≡ b
 bits_of_injective a b a_below b_below same =
     let lengths : length a ≡ length b = omega (arith, length-bits_of a, length-bits_of b, ap length same) in
@@ -135,7 +135,7 @@ vector_bytes_is bytes bits below same =
 pub get_or-padded : (bits : List Bool) (i : ℕ) → get_or (padded bits) i false ≡ get_or bits i false
 get_or-padded bits i = get_or-append-zeros bits (8 * byte_count (length bits) - length bits) i
 
--- bits that fill so many whole bytes, and past the vector are all zero, are the padded vector
+-- bits that fill the given number of whole bytes, and are all zero after the vector, are the padded vector
 pub padded_is : (bits : List Bool) (len : ℕ) → length bits ≡ 8 * byte_count len → len ≤ length bits → ((i : ℕ) → get_or (drop len bits) i false ≡ false) → bits ≡ padded (take len bits)
 padded_is bits len whole le none =
     let front : length (take len bits) ≡ len = length-take-le len bits le in
@@ -163,7 +163,7 @@ zero_from_none bits none i =
       | inr le ↦ get_or_past bits i false le
     ]
 
--- bytes that spell a vector of so many places: no bit past them is 1
+-- bytes that spell a vector of the given number of places: no bit after them is 1
 pub stored_is : (bytes : List ℕ) (len : ℕ) → AreBytes bytes → length bytes ≡ byte_count len → (Contains (drop len (bits_of bytes)) true → ⊥) → bytes ≡ vector_bytes (take len (bits_of bytes))
 stored_is bytes len below count none =
     vector_bytes_is bytes (take len (bits_of bytes)) below

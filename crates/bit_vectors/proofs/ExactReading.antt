@@ -1,4 +1,4 @@
--- Exact readers, and how they are put together.
+-- Exact readers, and how they are combined.
 use Rattle.std.proofs.Common.{◌≡◌, ℕ, ◌≤◌, Bool, true, false, cond, List, [], ◌∷◌, ◌++◌, length, take, drop, ◌⊎◌, refl, sym, ap, ◌∙◌, subst, arith, append_assoc, inl, inr}
 use Rattle.std.proofs.lemmas.List.{length-append, take-append-drop}
 use Rattle.std.proofs.lemmas.Bool.{cases_lt, true≢false}
@@ -89,7 +89,7 @@ IsExact-bit_where ok some some_ok = record {
   short_is = bit_short ok some some_ok;
 }
 
--- the same words, said in another way
+-- the same words, described in another way
 pub IsExact-same : {A : Type 0} (W U : A → List Bool → Type 0) (f : List Bool → Parsed A) → ((v : A) (word : List Bool) → W v word → U v word) → ((v : A) (word : List Bool) → U v word → W v word) → IsExact W f → IsExact U f
 IsExact-same W U f to from exact = record {
   reads = λ v word rest u. exact.reads v word rest (from v word u);
@@ -121,7 +121,7 @@ then_short g (Read v mid) e = inr (v, mid, refl, e)
 then_short g (WrongBit mid) e = absurd cc
 then_short g TooShort e = inl refl
 
--- a word of the first, and one of the second for its value
+-- a word of the first, and then one of the second that depends on its value
 abbrev pub IsWordThen : {A B : Type 0} → (A → List Bool → Type 0) → (A → B → List Bool → Type 0) → B → List Bool → Type 0
 IsWordThen {A} {B} W U u word = (v : A) × (a : List Bool) × (b : List Bool) × W v a × U v u b × (word ≡ a ++ b)
 

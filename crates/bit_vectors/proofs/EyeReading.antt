@@ -1,4 +1,4 @@
--- What an eye's reading by an exact reader says.
+-- What follows when an exact reader describes an eye's reading.
 use Rattle.std.proofs.Common.{◌≡◌, ℕ, ◌+◌, ◌-◌, ◌<◌, Bool, List, [], ◌∷◌, ◌++◌, length, take, Result, Ok, Err, refl, sym, ap, ◌∙◌, arith, append_assoc}
 use Rattle.std.specs.Prelude.{IsOk, IfErr}
 use Rattle.std.proofs.lemmas.List.{length-append, length-drop, take_at}
@@ -13,12 +13,12 @@ MovesOn-refl eye = record { bits = refl; forward = omega arith }
 pub MovesOn-then : (a b c : EyeState) → MovesOn a b → MovesOn b c → MovesOn a c
 MovesOn-then a b c p q = record { bits = q.bits ∙ p.bits; forward = omega (arith, p.forward, q.forward) }
 
--- a call that hands on what another one answered
+-- a call that passes on what another call answered
 pub Gives-then_err : {A B C D : Type 0} (view : A → B) (see : C → D) (fault : BitFault) (new : EyeState) (reading : Parsed B) (next : B → List Bool → Parsed D) → Gives view (Err fault) new reading → Gives see (Err fault) new (reading >>= next)
 Gives-then_err view see (Wrong bit) new reading next h = (rw h.0 refl, h.1, h.2)
 Gives-then_err view see (EndsEarly bit) new reading next h = (rw h.0 refl, h.1, h.2)
 
--- ---- by an exact reader
+-- ---- described by an exact reader
 
 pub only_read : {B : Type 0} (v w : B) (rest : List Bool) (new : EyeState) (result : Result (Unit {0}) BitFault) (reading : Parsed B) → Gives (λ (u : Unit {0}). v) result new reading → reading ≡ Read w rest → IsOk result × (v ≡ w)
 only_read v w rest new (Ok u) reading given read = (refl, cc)

@@ -1,10 +1,10 @@
--- So many bits from the front of those that are left.
+-- The given number of bits from the front of those that are left.
 use Rattle.std.proofs.Common.{◌≡◌, ℕ, ◌+◌, ◌-◌, ◌<◌, ◌≤◌, Bool, false, List, ◌++◌, length, get_or, take, drop, replicate, refl, sym, ◌∙◌, arith, inl, inr}
 use Rattle.std.proofs.lemmas.Bool.{cases_lt, le-leb, lt-leb}
 use Rattle.std.proofs.lemmas.List.{ext_get_or, get_or-take, get_or-drop, get_or_append_left, get_or-append_right, length-append, length-take-le, length-drop, length-replicate, take_at, drop_at, take-append-drop}
 use Rattle.bit_vectors.specs.Reading.{Parsed, Read, WrongBit, TooShort, CanBegin, IsWrongBefore, IsExact, parse_front}
 
--- the front of some bits, and the other places of a vector
+-- the first of some bits, and the other places of a vector
 pub front_is : (left v new : List Bool) (count : ℕ) → length new ≡ length v → count ≤ length left → count ≤ length v → ((k : ℕ) → k < count → get_or new k false ≡ get_or left k false) → ((k : ℕ) → count ≤ k → get_or new k false ≡ get_or v k false)
     → new ≡ take count left ++ drop count v
 front_is left v new count len enough within front others =
@@ -27,7 +27,7 @@ parse_front-short count bits lt = rw (lt-leb count (length bits) lt) refl
 
 -- ---- exact
 
--- a list of so many bits, which is its own word
+-- a list of the given number of bits, which is its own word
 abbrev pub IsFront : ℕ → List Bool → List Bool → Type 0
 IsFront count front word = (length front ≡ count) × (word ≡ front)
 

@@ -44,7 +44,7 @@ bits_of-to_be_bytes n = bits_of-bytes_high_first 8 n
 pub Shows-is : (bits : List Bool) (word : ℕ) → ((k : ℕ) → k < 64 → get_or (number_bits 64 word) k false ≡ get_or bits k false) → Shows bits word
 Shows-is bits word same = λ k lt. sym (get_or-number_bits 64 word k lt) ∙ same k lt
 
--- the bit with a number, past the end too
+-- the bit with a number, also after the end
 pub get_or-bits_of_all : (bytes : List ℕ) (i : ℕ) → get_or (bits_of bytes) i false ≡ eqb (bit_at (get_or bytes (i / 8) 0) (7 - i % 8)) 1
 get_or-bits_of_all bytes i =
     elim (cases_lt i (8 * length bytes)) [
@@ -54,7 +54,7 @@ get_or-bits_of_all bytes i =
           get_or_past (bits_of bytes) i false (omega (arith, length-bits_of bytes)) ∙ rw (none, bit_at-zero (7 - i % 8)) refl
     ]
 
--- the word of eight bytes shows them, and zeros where they are zeros past an end
+-- the word of eight bytes shows them, and zeros if they are zeros that fill up after an end
 pub Shows-bytes : (bytes front : List ℕ) (word : ℕ) → length front ≡ 8 → AreBytes front → word ≡ from_be_bytes w64 front
     → ((i : ℕ) → i < 8 → get_or front i 0 ≡ get_or bytes i 0) → Shows (bits_of bytes) word
 Shows-bytes bytes front word len below is same =
@@ -108,7 +108,7 @@ Shows-after bytes word byte s lt below is shows =
           ∙ rw (bit_at_shr byte (8 - s) (s - 1 - (k - (64 - s))), weight, is) (sym (get_or-bits_of_all bytes (s + k) ∙ rw eighth refl))
     ]))
 
--- the word after so many bits, which are whole bytes and fewer than eight bits more
+-- the word after the given number of bits, which are whole bytes and fewer than eight bits more
 pub Shows-from : (bytes : List ℕ) (place word n : ℕ) → length bytes ≤ n + place / 8 → Shows (drop (place % 8) (bits_of (take n (drop (place / 8) bytes)))) word → Shows (drop place (bits_of bytes)) word
 Shows-from bytes place word n all shows =
     let rest : take n (drop (place / 8) bytes) ≡ drop (place / 8) bytes = take_all n (drop (place / 8) bytes) (omega (arith, length-drop (place / 8) bytes)) in
@@ -118,7 +118,7 @@ Shows-from bytes place word n all shows =
     shows k lt ∙ get_or-drop (place % 8) (bits_of (take n (drop (place / 8) bytes))) k false ∙ rw (rest, get_or-bits_of_all (drop (place / 8) bytes) (place % 8 + k), get_or-drop (place / 8) bytes ((place % 8 + k) / 8) 0, byte, weight)
     (sym (get_or-drop place (bits_of bytes) k false ∙ get_or-bits_of_all bytes (place + k)))
 
--- the same from the bytes after so many
+-- the same, from the bytes after the given number of bytes
 pub Shows-drop : (bytes : List ℕ) (n s place word : ℕ) → place ≡ 8 * n + s → Shows (drop s (bits_of (drop n bytes))) word → Shows (drop place (bits_of bytes)) word
 Shows-drop bytes n s place word place_is shows =
     λ k lt.

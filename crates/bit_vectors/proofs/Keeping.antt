@@ -1,4 +1,4 @@
--- What the calls of a vector do, by the words that keep it.
+-- What the calls of a vector do, in terms of the words that keep it.
 use Rattle.std.proofs.Common.{◌≡◌, ◌≢◌, ℕ, zero, suc, ◌+◌, ◌-◌, ◌*◌, ◌/◌, ◌%◌, ◌^◌, ◌<◌, ◌≤◌, ◌⊎◌, ◌↔◌, Bool, true, false, cond, eqb, List, [], ◌∷◌, ◌++◌, length, get_or, set, take, drop, replicate, count_by, Option, Some, None, IfSome, IfNone, IsNone, refl, sym, ap, subst, ◌∙◌, arith, inl, inr}
 use Rattle.std.specs.Int.{bit_at}
 use Rattle.std.specs.Prelude.{Contains}
@@ -28,17 +28,17 @@ holds words places v are view_is = record {
   bits = λ k. sym (ap (λ (bits : List Bool). get_or bits k false) view_is) ∙ get_or-vector_of words places are k;
 }
 
--- the same of words that were read
+-- the same for words that were read
 pub holds_read : (kept words : List ℕ) (places : ℕ) (v : List Bool) → words ≡ kept → AreWords kept places → vector_of kept places ≡ v → Holds words places v
 holds_read kept words places v same are view_is = subst (λ (ws : List ℕ). Holds ws places v) (sym same) (holds kept places v are view_is)
 
--- vectors of as many places are kept in as many words
+-- vectors with the same number of places are kept in the same number of words
 pub same_count : (words others : List ℕ) (places count : ℕ) (v w : List Bool) → Holds words places v → Holds others count w → length v ≡ length w → length words ≡ length others
 same_count words others places count v w h g len = omega (arith, h.len, h.are.count, g.len, g.are.count)
 
 -- ---- a new vector
 
--- the words that now keep another vector, of as many places
+-- the words that now keep another vector, which has the same number of places
 pub record Becomes (old new : List ℕ) (places : ℕ) (v : List Bool) : Type 0 where
   pub same_len : length new ≡ length old
   pub numbers : (i : ℕ) → get_or new i 0 < 2 ^ 64
@@ -57,7 +57,7 @@ AreWords-becomes old new places v h b = record {
 pub vector_of-becomes : (old new : List ℕ) (places : ℕ) (v : List Bool) → AreWords old places → Becomes old new places v → vector_of new places ≡ v
 vector_of-becomes old new places v h b = vector_of_is new places v (AreWords-becomes old new places v h b) b.len b.bits
 
--- what a list of so many words is after it was borrowed whole
+-- a list of the given number of words after it was borrowed as a whole
 refilled : (old new : List ℕ) (n : ℕ) → n ≡ length old → length new ≡ length old → take n (new ++ drop (length new) old) ≡ new
 refilled old new n n_is len = take_at new (drop (length new) old) n (len ∙ sym n_is)
 
@@ -220,7 +220,7 @@ zero_vector words places v h none =
       | inr le ↦ zero_bit words k (get_or_past words (k / 64) 0 le)
     ])
 
--- words are told by their bits
+-- words are determined by their bits
 same_word : (a b : List ℕ) (i : ℕ) → get_or a i 0 < 2 ^ 64 → get_or b i 0 < 2 ^ 64 → ((k : ℕ) → bit_of a k ≡ bit_of b k) → get_or a i 0 ≡ get_or b i 0
 same_word a b i a_below b_below same =
     same_from_bits_below 64 (get_or a i 0) (get_or b i 0) a_below b_below (λ j lt.
@@ -249,7 +249,7 @@ pub same_vectors : (a b : List ℕ) (places count : ℕ) (v w : List Bool) → H
 same_vectors a b places count v w h g len same =
     ext_get_or false v w len (λ k lt. h.bits k ∙ ap (λ (words : List ℕ). bit_of words k) same ∙ sym (g.bits k))
 
--- ---- the nearest one
+-- ---- the nearest 1
 
 pub record IsNextDown (v : List Bool) (below : ℕ) (r : Option ℕ) : Type 0 where
   pub one : IfSome r (λ place. IsOne v place)

@@ -1,4 +1,4 @@
--- The bits of a number, and the number of bits, undo each other.
+-- Writing a number as bits and reading bits as a number undo each other.
 use Rattle.std.proofs.Common.{◌≡◌, ℕ, zero, suc, ◌+◌, ◌-◌, ◌*◌, ◌/◌, ◌%◌, ◌^◌, ◌<◌, ◌≤◌, Bool, true, false, cond, eqb, List, [], ◌∷◌, length, get_or, refl, ap, ◌∙◌, arith}
 use Rattle.std.specs.Int.{bit_at}
 use Rattle.std.proofs.Math.Nat.{pow-succ'}
@@ -20,7 +20,7 @@ get_or-number_bits (suc w) n zero lt = let same : suc w - 1 - 0 ≡ w = omega ar
 get_or-number_bits (suc w) n (suc i) lt =
     let same : suc w - 1 - suc i ≡ w - 1 - i = omega arith in rw same (get_or-number_bits w n i (omega arith))
 
--- the low bits of a number are those of what stands below them
+-- the low bits of a number are those of its low part
 pub number_bits_low : (width a k b : ℕ) → width ≤ k → number_bits width (a * 2 ^ k + b) ≡ number_bits width b
 unfolding number_bits
 number_bits_low zero a k b le = refl

@@ -25,7 +25,7 @@ parse_number-enough width n bits below enough same =
 abbrev pub IsNumberOfWidth : ℕ → ℕ → List Bool → Type 0
 IsNumberOfWidth width n word = (n < 2 ^ width) × (word ≡ number_bits width n)
 
--- the number of a front, and no more bits
+-- the number that these bits spell, and no further bits
 abbrev IsFrontNumber : List Bool → ℕ → List Bool → Type 0
 IsFrontNumber front n word = (n ≡ bits_number front) × (word ≡ [])
 

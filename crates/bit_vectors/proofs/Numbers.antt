@@ -10,7 +10,7 @@ use Rattle.bit_vectors.proofs.NumberBits.{number_bits_low}
 
 -- ---- one bit
 
--- what holds of each two bits
+-- what holds for every two bits
 pub by_digits : (P : ℕ → ℕ → Type 0) → P 0 0 → P 0 1 → P 1 0 → P 1 1 → (x y : ℕ) → x < 2 → y < 2 → P x y
 by_digits P neither second first both zero zero x_lt y_lt = neither
 by_digits P neither second first both zero (suc zero) x_lt y_lt = second
@@ -40,7 +40,7 @@ bit_at_shl_low n s i lt =
     let whole : n * 2 ^ s ≡ n * 2 ^ s + 0 = omega arith in
     ap (λ (m : ℕ). bit_at m i) whole ∙ bit_at_cat_low n s 0 i lt ∙ bit_at-zero i
 
--- the highest one of a number of k bits stands after its leading zeros
+-- the highest 1 of a number of k bits comes after its leading zeros
 pub leading_is_one : (k n : ℕ) → 0 < n → n < 2 ^ k → (count_leading_zeros k n < k) × (bit_at n (k - 1 - count_leading_zeros k n) ≡ 1) × ((i : ℕ) → k - 1 - count_leading_zeros k n < i → bit_at n i ≡ 0)
 leading_is_one k n some below =
     let top = leading_top k n some below in
@@ -63,7 +63,7 @@ number_bits-split (suc i) j n =
     let turned : j + i ≡ i + j = omega arith in
     rw (next, number_bits-split i j n, bit_at_shr n j i, turned) refl
 
--- a number above another, which has j bits
+-- a number in the places above another number, which has j bits
 pub number_bits-cat : (i j a b : ℕ) → b < 2 ^ j → number_bits (i + j) (a * 2 ^ j + b) ≡ number_bits i a ++ number_bits j b
 number_bits-cat i j a b below =
     rw (number_bits-split i j (a * 2 ^ j + b), shr_high a j b below, number_bits_low j a j b (omega arith)) refl
@@ -77,7 +77,7 @@ unfolding number_bits
 number_bits-zero zero = refl
 number_bits-zero (suc width) = rw (bit_at-zero width, number_bits-zero width) refl
 
--- where the low bits are zeros, a word is its high bits and zeros
+-- if the low bits are zeros, a word is its high bits and zeros
 pub high_bits : (width all n : ℕ) → width ≤ all → n % 2 ^ (all - width) ≡ 0 → number_bits all n ≡ number_bits width (n / 2 ^ (all - width)) ++ replicate (all - width) false
 high_bits width all n le none =
     let parts : all ≡ width + (all - width) = omega arith in
@@ -85,8 +85,8 @@ high_bits width all n le none =
     sym (number_bits-mod (all - width) (all - width) n (omega arith)) ∙ rw none (number_bits-zero (all - width)) in
     ap (λ (w : ℕ). number_bits w n) parts ∙ number_bits-split width (all - width) n ∙ ap (λ (bits : List Bool). number_bits width (n / 2 ^ (all - width)) ++ bits) low
 
--- ---- numbers and bits place by place
+-- ---- numbers and bits, place by place
 
--- two bits are equal where their truth values are
+-- two bits are equal if their truth values are
 pub same_bit : (a i b j : ℕ) → eqb (bit_at a i) 1 ≡ eqb (bit_at b j) 1 → bit_at a i ≡ bit_at b j
 same_bit a i b j same = same_digit (bit_at a i) (bit_at b j) (bit_at-lt a i) (bit_at-lt b j) same

@@ -1,4 +1,4 @@
--- What a pen's bytes and its word hold after each number.
+-- What a pen's bytes and its word hold after each number is put.
 use Rattle.std.proofs.Common.{◌≡◌, ℕ, ◌+◌, ◌-◌, ◌*◌, ◌/◌, ◌%◌, ◌^◌, ◌<◌, ◌≤◌, Bool, true, false, List, [], ◌∷◌, ◌++◌, length, take, replicate, w64, refl, sym, ap, ◌∙◌, arith, inl, inr, append_assoc}
 use Rattle.std.specs.Int.{to_be_bytes}
 use mir.Val.{bool_byte}
@@ -27,7 +27,7 @@ number_bits-bit false = refl
 
 -- ---- a word with room for a number
 
--- the number of the bits held, with the number after it
+-- the number that the held bits and the number after them spell
 joined : (word value held width : ℕ) → held + width ≤ 64 → word % 2 ^ (64 - held) ≡ 0 → word + value * 2 ^ (64 - (held + width)) ≡ (word / 2 ^ (64 - held) * 2 ^ width + value) * 2 ^ (64 - (held + width))
 joined word value held width within clean =
     let all : width + (64 - (held + width)) ≡ 64 - held = omega arith in
@@ -35,7 +35,7 @@ joined word value held width within clean =
     let product : word / 2 ^ (64 - held) * 2 ^ (64 - held) ≡ word / 2 ^ (64 - held) * (2 ^ width * 2 ^ (64 - (held + width))) = ap (λ (p : ℕ). word / 2 ^ (64 - held) * p) power in
     omega (arith, shr_split word (64 - held))
 
--- the bits that are held, as a number
+-- the held bits, as a number
 low_below : (word held : ℕ) → held ≤ 64 → word < 2 ^ 64 → word / 2 ^ (64 - held) < 2 ^ held
 low_below word held le small = let all : held + (64 - held) ≡ 64 = omega arith in shr_below word held (64 - held) (rw all small)
 
@@ -60,7 +60,7 @@ module _ (word value held width : ℕ) (within : held + width ≤ 64) (small : w
       let below = shl_below (word / 2 ^ (64 - held) * 2 ^ width + value) (held + width) (64 - (held + width)) (cat_below held width (word / 2 ^ (64 - held)) value (low_below word held (omega arith) small) fits) in
       rw joined_is (rw all at below)
 
--- ---- a word that gets full
+-- ---- a word that becomes full
 
 -- the full word, and the word after it
 abbrev pub full_word : ℕ → ℕ → ℕ → ℕ → ℕ
@@ -102,7 +102,7 @@ module _ (word value held width : ℕ) (short : held < 64) (full : 64 ≤ held +
   pub rest_clean : rest_word word value held width % 2 ^ (64 - (held + width - 64)) ≡ 0
   rest_clean = rw rest_is (mul-mod_left (value % 2 ^ (held + width - 64)) (2 ^ (64 - (held + width - 64))))
 
-  -- together they have the bits held and those of the number
+  -- together they have the held bits and those of the number
   pub both_bits : number_bits 64 (full_word word value held width) ++ number_bits (held + width - 64) (rest_word word value held width / 2 ^ (64 - (held + width - 64))) ≡ number_bits held (word / 2 ^ (64 - held)) ++ number_bits width value
   both_bits =
       let all : width ≡ 64 - held + (held + width - 64) = omega arith in
@@ -111,7 +111,7 @@ module _ (word value held width : ℕ) (short : held < 64) (full : 64 ≤ held +
 
 -- ---- what the bytes hold
 
--- bytes with a word written after so many
+-- bytes with a word written after the given number of bytes
 abbrev pub HasWord : List ℕ → List ℕ → ℕ → ℕ → Type 0
 HasWord bytes new words word = take (8 * words + 8) new ≡ take (8 * words) bytes ++ to_be_bytes w64 word
 
@@ -124,7 +124,7 @@ words_before bytes new words word within has =
     let len : length (take (8 * words) bytes) ≡ 8 * words = length-take-le (8 * words) bytes within in
     sym (take-take (8 * words) (8 * words + 8) new (omega arith)) ∙ ap (take (8 * words)) has ∙ take_at (take (8 * words) bytes) (to_be_bytes w64 word) (8 * words) len
 
--- the bits of the words and of the one after them
+-- the bits of the words and of the word after them
 pub bits_with : (bytes new : List ℕ) (words word : ℕ) → HasWord bytes new words word → bits_of (take (8 * words + 8) new) ≡ bits_of (take (8 * words) bytes) ++ number_bits 64 word
 bits_with bytes new words word has =
     ap (λ (b : List ℕ). bits_of b) has ∙ flat_map-append (number_bits 8) (take (8 * words) bytes) (to_be_bytes w64 word) ∙ rw (bits_of-to_be_bytes word) refl
@@ -133,7 +133,7 @@ pub length-written : (bytes : List ℕ) (capacity words word held room : ℕ) �
 length-written bytes capacity words word held room h =
     omega (arith, length-append (bits_of (take (8 * words) bytes)) (number_bits held (word / 2 ^ (64 - held))), length-bits_of (take (8 * words) bytes), length-take (8 * words) bytes, length-number_bits held (word / 2 ^ (64 - held)), h.within, h.bytes_fit)
 
--- a number after the bits of a word that doesn't get full
+-- a number after the bits of a word that doesn't become full
 module _ (bytes new : List ℕ) (capacity words word held room value width : ℕ) (h : HasRoom bytes capacity words word held room) (lt : held + width < 64) (fits : value < 2 ^ width) (within : 64 * words + held + width ≤ room)
     (same : length new ≡ length bytes) (has : HasWord bytes new words (joined_word word value held width)) where
   pub HasRoom-joined : HasRoom new capacity words (joined_word word value held width) (held + width) room
@@ -153,7 +153,7 @@ module _ (bytes new : List ℕ) (capacity words word held room value width : ℕ
       rw (words_before bytes new words (joined_word word value held width) (omega (arith, h.within, h.bytes_fit)) has, joined_bits word value held width (omega arith) h.small h.clean fits)
       (sym (append_assoc (bits_of (take (8 * words) bytes)) (number_bits held (word / 2 ^ (64 - held))) (number_bits width value)))
 
--- bytes with two words written after so many
+-- bytes with two words written after the given number of bytes
 abbrev pub HasWords : List ℕ → List ℕ → ℕ → ℕ → ℕ → Type 0
 HasWords bytes new words first second = take (8 * words + 16) new ≡ take (8 * words) bytes ++ to_be_bytes w64 first ++ to_be_bytes w64 second
 
@@ -163,7 +163,7 @@ HasWords-both bytes mid new words first second one two =
     let next : 8 * (words + 1) ≡ 8 * words + 8 = omega arith in
     ap (λ (n : ℕ). take n new) end ∙ two ∙ ap (λ (b : List ℕ). b ++ to_be_bytes w64 second) (ap (λ (n : ℕ). take n mid) next ∙ one)
 
--- a number that fills the word, and whose last bits are those of the next
+-- a number that fills the word, and whose last bits are those of the next word
 module _ (bytes new : List ℕ) (capacity words word held room value width : ℕ) (h : HasRoom bytes capacity words word held room) (full : 64 ≤ held + width) (most : width ≤ 64) (fits : value < 2 ^ width) (within : 64 * words + held + width ≤ room)
     (same : length new ≡ length bytes) (has : HasWords bytes new words (full_word word value held width) (rest_word word value held width)) where
   before : take (8 * (words + 1)) new ≡ take (8 * words) bytes ++ to_be_bytes w64 (full_word word value held width)
@@ -195,7 +195,7 @@ module _ (bytes new : List ℕ) (capacity words word held room value width : ℕ
 
 -- ---- the bytes of the bits
 
--- some of the bytes of the words and of the one after them
+-- some of the bytes of the words and of the word after them
 front_bits : (bytes : List ℕ) (words word held count : ℕ) → held < 64 → word % 2 ^ (64 - held) ≡ 0 → 8 * words ≤ length bytes → HasWord bytes bytes words word → count ≤ 8 * words + 8 → 64 * words + held ≤ 8 * count
     → bits_of (take count bytes) ≡ written_bits bytes words word held ++ replicate (8 * count - (64 * words + held)) false
 front_bits bytes words word held count short clean within has most least =
@@ -226,7 +226,7 @@ padded_bits bytes capacity words word held room h =
           rw nothing (whole_bits bytes words word (omega (arith, h.within, h.bytes_fit)))
     ]
 
--- the bytes that the bits lie in are those of the bits
+-- the bytes that contain the bits are those of the bits
 pub pen_bytes_are : (bytes : List ℕ) (capacity words word held room : ℕ) → HasRoom bytes capacity words word held room → AreBytes (take (byte_count (64 * words + held)) bytes)
     → take (byte_count (64 * words + held)) bytes ≡ vector_bytes (written_bits bytes words word held)
 pen_bytes_are bytes capacity words word held room h below =

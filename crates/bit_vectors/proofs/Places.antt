@@ -10,7 +10,7 @@ get_or-zip2 f (x ∷ a) [] k len lt = absurd (omega arith)
 get_or-zip2 f (x ∷ a) (y ∷ b) zero len lt = refl
 get_or-zip2 f (x ∷ a) (y ∷ b) (suc k) len lt = get_or-zip2 f a b k (omega arith) (omega arith)
 
--- where two zeros give a zero, at every number
+-- if two zeros give a zero: at every number, also after the end
 pub get_or-zip2_all : (f : Bool → Bool → Bool) → f false false ≡ false → (a b : List Bool) (k : ℕ) → length a ≡ length b → get_or (zip2 f a b) k false ≡ f (get_or a k false) (get_or b k false)
 get_or-zip2_all f none [] [] k len = sym none
 get_or-zip2_all f none [] (y ∷ b) k len = absurd (omega arith)

@@ -67,7 +67,7 @@ IsExact-same_at (wanted ∷ word) =
     (λ bit w h. IsExact-same_at word)
     (λ bit w h. (tt, word, refl)))
 
--- ---- what a reading says
+-- ---- what follows from a reading
 
 pub matched : (word : List Bool) (old new : EyeState) (result : Result (Unit {0}) BitFault) → Gives (λ (u : Unit {0}). tt) result new (parse_word word (bits_left old)) → OnOk result (bits_left old ≡ word ++ bits_left new)
 matched word old new (Ok u) given =

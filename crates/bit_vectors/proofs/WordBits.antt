@@ -17,7 +17,7 @@ length-word_bits [] = refl
 length-word_bits (w ∷ words) =
     omega (arith, length-append (number_bits 64 w) (word_bits words), length-number_bits 64 w, length-word_bits words)
 
--- the bit with a number is one of the word that it lies in
+-- the bit with a number is a bit of the word that contains it
 pub get_or-word_bits : (words : List ℕ) (k : ℕ) → get_or (word_bits words) k false ≡ bit_of words k
 unfolding bit_of
 get_or-word_bits [] k = rw (bit_at-zero (63 - k % 64)) refl
@@ -41,7 +41,7 @@ pub length-vector_of : (words : List ℕ) (places : ℕ) → AreWords words plac
 unfolding vector_of
 length-vector_of words places h = length-take-le places (word_bits words) (omega (arith, length-word_bits words, h.count))
 
--- at every number, also past the end
+-- at every number, also after the end
 pub get_or-vector_of : (words : List ℕ) (places : ℕ) → AreWords words places → (k : ℕ) → get_or (vector_of words places) k false ≡ bit_of words k
 unfolding vector_of
 get_or-vector_of words places h k =
@@ -91,9 +91,9 @@ bit_of-unwritten words p w value lt h k other =
       | inr apart ↦ rw (get_or-set_other words (p / 64) (k / 64) w 0 apart) refl
     ]
 
--- ---- two lists of words put together word by word
+-- ---- two lists of words combined word by word
 
--- an operation on words that is one on bits
+-- an operation on words that is an operation on each pair of bits
 pub record Bitwise (op : ℕ → ℕ → ℕ) (f : Bool → Bool → Bool) : Type 0 where
   pub none : f false false ≡ false
   pub fits : (a b : ℕ) → a < 2 ^ 64 → b < 2 ^ 64 → op a b < 2 ^ 64
@@ -160,9 +160,9 @@ Bitwise-drop = record {
   bits = λ a b i b_lt i_lt. rw (bit_at_and a (bit_not w64 b) i, bit_at_not w64 b i b_lt i_lt) (drop_digits (bit_at a i) (bit_at b i) (bit_at-lt a i) (bit_at-lt b i));
 }
 
--- ---- the ones of words
+-- ---- the ones in words
 
--- a bit counts as itself
+-- a bit counts as its value
 ones_of_digit : (bit : ℕ) → bit < 2 → (cond (eqb bit 1) 1 0 ≡ bit) × (count_ones bit ≡ bit)
 unfolding lib.Count.ones
 ones_of_digit zero lt = (refl, refl)
@@ -197,9 +197,9 @@ pub ones_most : (words : List ℕ) (i : ℕ) → count_by (λ bit. bit) (word_bi
 ones_most words i =
     omega (arith, count_by-le-length (λ (bit : Bool). bit) (word_bits (take i words)), length-word_bits (take i words), length-take i words)
 
--- ---- the nearest one, in a word that was shifted
+-- ---- the nearest 1, in a word that was shifted
 
--- the bits of a word up to that with this number, and from it on
+-- the bits of a word up to the one with this number, and from it on
 abbrev pub up_to : List ℕ → ℕ → ℕ
 up_to words last = get_or words (last / 64) 0 / 2 ^ (63 - last % 64)
 
@@ -220,7 +220,7 @@ bit_of-on_from words first k from to =
     let place : 63 - (k - first) - first % 64 ≡ 63 - k % 64 = omega arith in
     rw (bit_at_mod (get_or words (first / 64) 0 * 2 ^ (first % 64)) 64 (63 - (k - first)) (omega arith), bit_at_shl (get_or words (first / 64) 0) (first % 64) (63 - (k - first)) (omega arith), word, place) refl
 
--- the last one is before the low zeros
+-- the last 1 is before the low zeros
 pub record IsLast (words : List ℕ) (last zeros : ℕ) : Type 0 where
   pub within : zeros ≤ last % 64
   pub one : bit_of words (last - zeros) ≡ true
@@ -253,7 +253,7 @@ last_is words last below some =
 pub none_up_to : (words : List ℕ) (last : ℕ) → up_to words last ≡ 0 → NoBitIsOne words (last / 64 * 64) (last + 1)
 none_up_to words last zero_is k from to = bit_of-up_to words last k from to ∙ rw (zero_is, bit_at-zero (last - k)) refl
 
--- the first one is after the high zeros
+-- the first 1 is after the high zeros
 pub record IsFirst (words : List ℕ) (first zeros : ℕ) : Type 0 where
   pub within : first % 64 + zeros < 64
   pub one : bit_of words (first + zeros) ≡ true

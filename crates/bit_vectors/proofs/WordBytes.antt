@@ -20,7 +20,7 @@ use Rattle.bit_vectors.proofs.WordBits.{bit_of-past}
 
 -- ---- words from bytes
 
--- the front of the bytes from a word's place on is that word
+-- the first bytes from a word's place on are that word
 pub IsWord-front : (bytes : List ℕ) (i n : ℕ) → Shows (bits_of (drop (8 * i) bytes)) n → IsWord (bits_of bytes) i n
 IsWord-front bytes i n front k lt =
     let byte : 8 * i + k / 8 ≡ (64 * i + k) / 8 = omega arith in
@@ -66,7 +66,7 @@ stored_bit bytes words k stored =
     get_or-bits_of_all bytes k ∙ rw (stored, word, byte, bit) (sym (get_or-bits_of_all (to_be_bytes w64 (get_or words (k / 64) 0)) (k % 64)))
     ∙ ap (λ (bits : List Bool). get_or bits (k % 64) false) (bits_of-to_be_bytes (get_or words (k / 64) 0)) ∙ get_or-number_bits 64 (get_or words (k / 64) 0) (k % 64) (omega arith) ∙ rw place refl
 
--- a list after another was written over a part of it
+-- a list that was written over a part of another list
 pub get_or-put_mid_before : (a k : ℕ) (xs ys : List ℕ) (i : ℕ) → a ≤ length xs → i < a → get_or (put_mid a k xs ys) i 0 ≡ get_or xs i 0
 get_or-put_mid_before a k xs ys i le lt =
     get_or_append_left (take a xs) (ys ++ drop k (drop a xs)) 0 i (omega (arith, length-take a xs)) ∙ get_or-take a xs i 0 lt
@@ -105,7 +105,7 @@ low_one n low le some =
     ] in
     (trailing_zeros w8 (n % 2 ^ low), lt, sym (bit_at_mod n low (trailing_zeros w8 (n % 2 ^ low)) lt) ∙ lowest.1)
 
--- what the low bits of the last byte are, below the last place
+-- the low bits of the last byte, which are after the last place
 spare_is_one : (bytes : List ℕ) (places : ℕ) → 1 ≤ places → length bytes ≡ byte_count places → 0 < get_or bytes ((places - 1) / 8) 0 % 2 ^ (7 - (places - 1) % 8) → Contains (drop places (bits_of bytes)) true
 spare_is_one bytes places some len some_bit =
     let one = low_one (get_or bytes ((places - 1) / 8) 0) (7 - (places - 1) % 8) (omega arith) some_bit in

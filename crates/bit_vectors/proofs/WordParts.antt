@@ -1,4 +1,4 @@
--- Parts of words: the first bits of one, with those of another after them.
+-- Parts of words: the first bits of one word, followed by those of another.
 use Rattle.std.proofs.Common.{◌≡◌, ◌≢◌, ℕ, ◌+◌, ◌-◌, ◌*◌, ◌/◌, ◌%◌, ◌^◌, ◌<◌, ◌≤◌, Bool, false, List, ◌++◌, length, get_or, take, drop, refl, sym, ap, ◌∙◌, arith, inl, inr}
 use Rattle.std.specs.Int.{bit_at}
 use Rattle.std.proofs.lemmas.Bool.{cases_eq}
@@ -25,11 +25,11 @@ word_part v index word width is most within =
     let shows : Shows (drop (64 * index) v) word = λ k lt. is k lt ∙ sym (get_or-drop (64 * index) v k false) in
     rw (shown_front (drop (64 * index) v) word width shows most (omega (arith, length-drop (64 * index) v))) (sym (take-add (64 * index) width v))
 
--- the number of so many first bits of a word
+-- the number that the given number of first bits of a word spell
 pub high_below : (word width : ℕ) → word < 2 ^ 64 → width ≤ 64 → word / 2 ^ (64 - width) < 2 ^ width
 high_below word width small most = let all : width + (64 - width) ≡ 64 = omega arith in shr_below word width (64 - width) (rw all small)
 
--- ---- the first bits of one word, and the others of another
+-- ---- the first bits of one word, and the other bits of another
 
 module _ (word front width : ℕ) (some : 1 ≤ width) (most : width < 64) (below : front < 2 ^ 64) where
   -- what the code computes
@@ -57,7 +57,7 @@ module _ (word front width : ℕ) (some : 1 ≤ width) (most : width < 64) (belo
   mixed_others k le lt =
       rw (mixed_is, bit_at_cat_low (front / 2 ^ (64 - width)) (64 - width) (word % 2 ^ (64 - width)) (63 - k) (omega arith)) (bit_at_mod word (64 - width) (63 - k) (omega arith))
 
--- a vector whose whole words before one have the front of some bits, after that word was written with so many bits more
+-- a vector whose bits before one word are the first of some bits, after that word was written with the next of them
 module _ (left v into new : List Bool) (index width word front mixed : ℕ) (lt : width < 64) (done : (k : ℕ) → k < 64 * index → get_or into k false ≡ get_or left k false) (others : (k : ℕ) → 64 * index ≤ k → get_or into k false ≡ get_or v k false)
     (was : IsWord into index word) (shows : Shows (drop (64 * index) left) front) (first : (k : ℕ) → k < width → bit_at mixed (63 - k) ≡ bit_at front (63 - k)) (last : (k : ℕ) → width ≤ k → k < 64 → bit_at mixed (63 - k) ≡ bit_at word (63 - k))
     (now : IsWord new index mixed) (same : (k : ℕ) → k / 64 ≢ index → get_or new k false ≡ get_or into k false) where

@@ -10,6 +10,6 @@ pub record EyeState : Type 0 where
 abbrev pub bits_left : EyeState → List Bool
 bits_left eye = drop eye.place eye.bits
 
--- the 64 bits of a word are the first of these bits, and zeros past their end
+-- the 64 bits of a word are the first of these bits, and zeros after their end
 abbrev pub Shows : List Bool → ℕ → Type 0
 Shows bits word = (k : ℕ) → k < 64 → (bit_at word (63 - k) == 1) ≡ slice_index_or bits k false

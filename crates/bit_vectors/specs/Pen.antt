@@ -1,4 +1,4 @@
--- What a pen holds: the bits so far, and the room for all.
+-- What a pen holds: the bits so far, and the capacity.
 use Rattle.std.specs.Prelude.{◌≡◌, ℕ, ◌+◌, ◌-◌, ◌*◌, ◌/◌, ◌%◌, ◌^◌, ◌<◌, ◌≤◌, Bool, List, ◌++◌, length, take}
 use Rattle.std.specs.Int.{w64, to_be_bytes}
 use Rattle.bit_vectors.specs.Vectors.{number_bits, bits_of}
@@ -11,12 +11,12 @@ pub record PenState : Type 0 where
 abbrev pub written_bits : List ℕ → ℕ → ℕ → ℕ → List Bool
 written_bits bytes words word held = bits_of (take (8 * words) bytes) ++ number_bits held (word / 2 ^ (64 - held))
 
--- how many bytes the words of so many bits take, with one word more
+-- how many bytes are needed for the words of the given number of bits, and one word more
 abbrev pub pen_bytes : ℕ → ℕ
 pen_bytes room = 8 * ((room + 63) / 64) + 8
 
--- The bytes have the room and are never more, so that no memory is taken. The word that isn't full is zero after its
--- bits, and is in the bytes too where it has any.
+-- The bytes have the capacity and never grow beyond it, so that no memory is allocated. The word that isn't full is
+-- zero after its bits, and is in the bytes too if it has any.
 pub record HasRoom (bytes : List ℕ) (capacity words word held room : ℕ) : Type 0 where
   pub within : 64 * words + held ≤ room
   pub most : room ≤ 524288

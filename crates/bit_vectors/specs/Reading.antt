@@ -1,5 +1,5 @@
 -- Reading a list of bits from its front: the value that its first bits spell and the bits after them, or the first
--- fault. A reader is exact for words where it gives each word's value, and finds each fault at the first bit at which
+-- fault. A reader is exact for words if it gives each word's value, and finds each fault at the first bit at which
 -- it can be seen.
 use Rattle.std.specs.Prelude.{◌≡◌, ℕ, ◌+◌, ◌-◌, ◌<◌, ◌≤◌, nat_le, Bool, true, not, List, [], ◌∷◌, ◌++◌, length, take, drop, Result, Ok, Err, if◌then◌else◌}
 use Rattle.bit_vectors.specs.declared.fault.BitFault.{BitFault}
@@ -13,7 +13,7 @@ pub data Parsed (A : Type 0) : Type 0 where
   WrongBit : List Bool → Parsed A
   TooShort : Parsed A
 
--- one reader after another, which may look at the first one's value
+-- one reader after another; the second may depend on the value of the first
 infixl 10 ◌>>=◌
 abbrev pub ◌>>=◌ : {A B : Type 0} → Parsed A → (A → List Bool → Parsed B) → Parsed B
 (Read value rest) >>= next = next value rest
@@ -25,7 +25,7 @@ abbrev pub bit_where : (Bool → Bool) → List Bool → Parsed Bool
 bit_where ok [] = TooShort
 bit_where ok (bit ∷ rest) = if ok bit then Read bit rest else WrongBit rest
 
--- a test of a bit by which bits may come
+-- a test that accepts some bits
 abbrev pub allowed : Bool → Bool → Bool → Bool
 allowed zero one bit = if bit then one else zero
 
@@ -33,7 +33,7 @@ allowed zero one bit = if bit then one else zero
 abbrev pub any_bit : List Bool → Parsed Bool
 any_bit bits = bit_where (allowed true true) bits
 
--- so many bits, whatever they are
+-- the given number of bits, whatever they are
 unfoldable pub parse_front : ℕ → List Bool → Parsed (List Bool)
 parse_front count bits = if nat_le count (length bits) then Read (take count bits) (drop count bits) else TooShort
 
@@ -50,12 +50,12 @@ parse_word (bit ∷ word) bits =
 
 -- ---- what an eye's reading is
 
--- the eye has moved on over the same bits
+-- the eye has moved on within the same bits
 pub record MovesOn (old new : EyeState) : Type 0 where
   pub bits : new.bits ≡ old.bits
   pub forward : old.place ≤ new.place
 
--- what a call answered, seen by view, and how it left the eye, is what reading the bits left gives
+-- what a call answered, seen through `view`, and how it left the eye, are what reading the bits left gives
 abbrev pub Gives : {A B : Type 0} → (A → B) → Result A BitFault → EyeState → Parsed B → Type 0
 Gives view (Ok x) new reading = reading ≡ Read (view x) (bits_left new)
 Gives view (Err (Wrong bit)) new reading = (reading ≡ WrongBit (bits_left new)) × (bit < length new.bits) × (new.place ≡ bit + 1)
@@ -67,7 +67,7 @@ Gives view (Err (EndsEarly bit)) new reading = (reading ≡ TooShort) × (bit �
 abbrev pub CanBegin : (List Bool → Type 0) → List Bool → Type 0
 CanBegin IsWord front = (rest : List Bool) × IsWord (front ++ rest)
 
--- the bit before rest is the first after which no word can follow
+-- the bit just before `rest` is the first one after which no word can follow
 pub record IsWrongBefore (IsWord : List Bool → Type 0) (bits rest : List Bool) : Type 0 where
   pub front : List Bool
   pub bit : Bool
@@ -75,7 +75,7 @@ pub record IsWrongBefore (IsWord : List Bool → Type 0) (bits rest : List Bool)
   pub hopeful : CanBegin IsWord front
   pub hopeless : CanBegin IsWord (front ++ bit ∷ []) → ⊥
 
--- a reader gives what words of values say, and each fault at the first place
+-- a reader gives the values that the words say, and each fault at the first place
 pub record IsExact {A : Type 0} (IsWordOf : A → List Bool → Type 0) (read : List Bool → Parsed A) : Type 0 where
   pub reads : (value : A) (word rest : List Bool) → IsWordOf value word → read (word ++ rest) ≡ Read value rest
   pub read_is : (bits : List Bool) (value : A) (rest : List Bool) → read bits ≡ Read value rest → (word : List Bool) × IsWordOf value word × (bits ≡ word ++ rest)
@@ -84,14 +84,14 @@ pub record IsExact {A : Type 0} (IsWordOf : A → List Bool → Type 0) (read : 
 
 -- ---- the first fault of an eye's reading
 
--- the bit is the first after which no word can follow, and the eye stands just after it
+-- the bit is the first one after which no word can follow, and the eye is just after it
 pub record IsFirstWrong (IsWord : List Bool → Type 0) (old new : EyeState) (bit : ℕ) : Type 0 where
   pub inside : old.place ≤ bit
   pub after : new.place ≡ bit + 1
   pub hopeful : CanBegin IsWord (take (bit - old.place) (bits_left old))
   pub hopeless : CanBegin IsWord (take (bit + 1 - old.place) (bits_left old)) → ⊥
 
--- all bits are read, a word can still follow, and none is complete
+-- all bits were read, a word could still follow, and none is complete
 pub record IsEarlyEnd (IsWord : List Bool → Type 0) (old new : EyeState) (bit : ℕ) : Type 0 where
   pub all : bit ≡ length old.bits
   pub at_end : new.place ≡ length old.bits

@@ -24,10 +24,10 @@ pub fn byte_len(f: u32) -> u32
     f.div_ceil(8)
 }
 
-/// A vector of 1 to 49,152 bits. Contracts see it as the list of them, place 0 first; in bytes, place 0
-/// is the bit of the greatest weight of the first byte. It is kept in words of 64 bits, place 0 the bit of
-/// the greatest weight of the first; the bits after the last place are 0. The memory is taken when the
-/// vector is made, and there is room for no word more.
+/// A vector of 1 to 49,152 bits. Contracts see it as the list of its bits, place 0 first; in bytes, place 0
+/// is the bit of the greatest weight of the first byte. It is kept in words of 64 bits, and place 0 is the bit of
+/// the greatest weight of the first word; the bits after the last place are 0. The memory is allocated when the
+/// vector is made, with no capacity for another word.
 #[derive(Debug, Drop)]
 pub struct Bits {
     words: Vec<u64>,
@@ -69,7 +69,7 @@ impl Bits {
         bit_in_words(&self.words, place)
     }
 
-    /// Makes the bit at a place `value`.
+    /// Sets the bit at a place to `value`.
     pub fn set(&mut self, place: u32, value: bool)
         requires { place < length self.old }
         ensures { self.new ≡ slice_set self.old place value }
@@ -77,14 +77,14 @@ impl Bits {
         write_bit_in_words(&mut self.words, place, value);
     }
 
-    /// Makes every bit 0.
+    /// Sets every bit to 0.
     pub fn clear(&mut self)
         ensures { self.new ≡ replicate (length self.old) false }
     {
         self.words.fill(0);
     }
 
-    /// Makes this vector that of `other`, which has as many places.
+    /// Makes this vector equal to `other`, which has the same number of places.
     pub fn copy_from(&mut self, other: &Bits)
         requires { length self.old ≡ length other.now }
         ensures { self.new ≡ other.now }
@@ -92,8 +92,8 @@ impl Bits {
         copy_words(&mut self.words, &other.words);
     }
 
-    /// Makes the bits 1 at which exactly one of this vector and `other`, which has as many places, is 1,
-    /// and the others 0.
+    /// Sets to 1 the bits that are 1 in exactly one of this vector and `other`, which has the same number of places,
+    /// and the other bits to 0.
     pub fn xor_in(&mut self, other: &Bits)
         requires { length self.old ≡ length other.now }
         ensures bits { self.new ≡ xor_bits self.old other.now }
@@ -102,7 +102,7 @@ impl Bits {
         xor_words(&mut self.words, &other.words);
     }
 
-    /// Makes the bits 1 at which `other`, which has as many places, is 1.
+    /// Sets to 1 the bits that are 1 in `other`, which has the same number of places.
     pub fn or_in(&mut self, other: &Bits)
         requires { length self.old ≡ length other.now }
         ensures bits { self.new ≡ or_bits self.old other.now }
@@ -111,7 +111,7 @@ impl Bits {
         or_words(&mut self.words, &other.words);
     }
 
-    /// Makes the bits 0 at which `other`, which has as many places, is 1.
+    /// Sets to 0 the bits that are 1 in `other`, which has the same number of places.
     pub fn drop_in(&mut self, other: &Bits)
         requires { length self.old ≡ length other.now }
         ensures bits { self.new ≡ without_bits self.old other.now }
@@ -157,8 +157,8 @@ impl Bits {
         first_one(&self.words, from)
     }
 
-    /// Makes this vector the first bits of `bytes`, which must be as many as the vector takes. The spare
-    /// bits of the last byte must be 0; else the vector stays as it is.
+    /// Makes this vector the first bits of `bytes`, which must be as many as the vector needs. The spare
+    /// bits of the last byte must be 0; otherwise the vector is unchanged.
     pub fn load(&mut self, bytes: &[u8]) -> Result<(), SpareBit>
         requires { length bytes.now ≡ byte_count (length self.old) }
         ensures len { length self.new ≡ length self.old }
@@ -174,7 +174,7 @@ impl Bits {
         Ok(())
     }
 
-    /// Writes the vector to `out`, which must be as many bytes as it takes. The spare bits are 0.
+    /// Writes the vector to `out`, which must have as many bytes as the vector needs. The spare bits are 0.
     pub fn store(&self, out: &mut [u8])
         requires { length out.old ≡ byte_count (length self.now) }
         ensures { out.new ≡ vector_bytes self.now }
@@ -182,7 +182,7 @@ impl Bits {
         store_words(&self.words, out);
     }
 
-    /// Whether the two vectors, which have as many places, are equal.
+    /// Whether the two vectors, which have the same number of places, are equal.
     pub fn same(&self, other: &Bits) -> bool
         requires { length self.now ≡ length other.now }
         ensures { IsTrue result ↔ (self.now ≡ other.now) }
@@ -190,7 +190,7 @@ impl Bits {
         are_same(&self.words, &other.words)
     }
 
-    /// The number of words of 64 bits that the places take.
+    /// The number of words of 64 bits that the places need.
     pub fn word_count(&self) -> u32
         ensures count { result ≡ word_count (length self.now) }
         ensures some { 1 ≤ result }
@@ -198,7 +198,7 @@ impl Bits {
         self.words.len() as u32
     }
 
-    /// The word with this number: its bit of the greatest weight is that of place 64 * `index`, and the bits
+    /// The word with this number: its bit of the greatest weight is the one at place 64 * `index`, and the bits
     /// after the last place are 0.
     pub fn word(&self, index: u32) -> u64
         requires { index < word_count (length self.now) }
@@ -207,7 +207,7 @@ impl Bits {
         self.words[index as usize]
     }
 
-    /// Makes the bits of the word with this number those of `value`, whose bits after the last place must
+    /// Sets the bits of the word with this number to those of `value`, whose bits after the last place must
     /// be 0.
     pub fn set_word(&mut self, index: u32, value: u64)
         requires index { index < word_count (length self.old) }

@@ -13,7 +13,7 @@ use std::marker::Model;
 pub struct BitEye<'a> {
     bytes: &'a [u8],
     place: u32,
-    /// The last eight bytes, or all bytes if they are fewer, and zeros.
+    /// The last eight bytes, or all bytes if they are fewer, with zeros after them.
     last: u64,
 }
 
@@ -31,7 +31,7 @@ impl<'a> Model for BitEye<'a> {
 }
 
 impl<'a> BitEye<'a> {
-    /// Stands at bit 0 of at most 65,536 bytes.
+    /// Starts at bit 0 of at most 65,536 bytes.
     pub fn new(bytes: &'a [u8]) -> BitEye<'a>
         requires { length bytes.now ≤ 65536 }
         ensures bits { result.bits ≡ bits_of bytes.now }
@@ -61,7 +61,7 @@ impl<'a> BitEye<'a> {
         8 * self.bytes.len() as u32
     }
 
-    /// Takes the next bit, and nothing at the end.
+    /// Takes the next bit, or nothing at the end.
     pub fn take(&mut self) -> Option<bool>
         ensures bit { IfSome result (λ bit. bits_left self.old ≡ bit ∷ bits_left self.new) }
         ensures moved { OnSome result (self.new.place ≡ self.old.place + 1) }
@@ -86,8 +86,8 @@ impl<'a> BitEye<'a> {
         self.size() - self.place
     }
 
-    /// The next 64 bits as a word, the next one of the greatest weight, and zeros past the end. The eye
-    /// stays.
+    /// The next 64 bits as a word, the next bit with the greatest weight, and zeros after the end. The eye
+    /// does not move.
     pub fn ahead(&self) -> u64
         ensures { Shows (bits_left self.now) result }
     {
@@ -99,7 +99,7 @@ impl<'a> BitEye<'a> {
         }
     }
 
-    /// Moves on by so many bits, at most those that are left.
+    /// Moves on by the given number of bits, which is at most the number of bits left.
     pub fn pass(&mut self, width: u32)
         requires { width ≤ length (bits_left self.old) }
         ensures left { bits_left self.new ≡ drop width (bits_left self.old) }
@@ -110,7 +110,7 @@ impl<'a> BitEye<'a> {
     }
 }
 
-/// The bit with this number, over all the bytes.
+/// The bit with this number, counted over all the bytes.
 fn bit_in(bytes: &[u8], place: usize) -> bool
     requires { place < 8 * length bytes.now }
     ensures { result ≡ slice_index_or (bits_of bytes.now) place false }
@@ -118,7 +118,7 @@ fn bit_in(bytes: &[u8], place: usize) -> bool
     (bytes[place / 8] >> (7 - place % 8)) & 1 == 1
 }
 
-/// The 64 bits after the first `skipped`, which are fewer than eight, and zeros past the end.
+/// The 64 bits after the first `skipped` bits, which are fewer than eight, with zeros after the end.
 fn word_after(bytes: &[u8], skipped: u32) -> u64
     requires { skipped < 8 }
     ensures { Shows (drop skipped (bits_of bytes.now)) result }
@@ -127,7 +127,7 @@ fn word_after(bytes: &[u8], skipped: u32) -> u64
     (front_word(bytes) << skipped) + (u64::from(next) >> (8 - skipped))
 }
 
-/// What is left of at most 64 bits, which are the first of this word, after so many of them, and zeros.
+/// The bits after the first `passed` of at most 64 bits, which this word begins with, followed by zeros.
 fn word_left(word: u64, passed: u32) -> u64
     requires { passed ≤ 64 }
     ensures { (bits : List Bool) → length bits ≤ 64 → Shows bits word

@@ -1,9 +1,9 @@
-//! The answers of calls that can't give what was asked.
+//! The errors of calls that can't give what was asked for.
 
 use std::alloc::{AllocError, AllocFailed};
 use thiserror::Error;
 
-/// Memory was refused.
+/// Memory could not be allocated.
 #[derive(Clone, Copy, Debug, PartialEq, Eq, Error)]
 #[error("out of memory")]
 pub struct NoMemory;
@@ -20,7 +20,7 @@ impl<T: Drop> From<AllocFailed<T>> for NoMemory {
     }
 }
 
-/// A bit of the last byte that belongs to no place of the vector is 1.
+/// The last byte has a 1 in a bit that belongs to no place of the vector.
 #[derive(Clone, Copy, Debug, PartialEq, Eq, Error)]
 #[error("a spare bit is set")]
 pub struct SpareBit;
@@ -28,10 +28,10 @@ pub struct SpareBit;
 /// Why the bits of an eye could not be read. Bits are numbered from 0, over all bytes of the eye.
 #[derive(Clone, Copy, Debug, PartialEq, Eq, Error)]
 pub enum BitFault {
-    /// The bit with this number is wrong. The eye stands just after it.
+    /// The bit with this number is wrong. The eye is just after it.
     #[error("bit {bit} is wrong")]
     Wrong { bit: u32 },
-    /// The bytes end too early. The number is that of all bits, and the eye stands at the end.
+    /// The bytes end too early. The number is the count of all bits, and the eye is at the end.
     #[error("the bits end early at {bit}")]
     EndsEarly { bit: u32 },
 }

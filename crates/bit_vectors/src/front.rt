@@ -4,7 +4,7 @@ ghost use Rattle.std.specs.Prelude.{◌≡◌, ◌+◌, ◌<◌, length, slice_i
 ghost use Rattle.bit_vectors.specs.Vectors.{bits_of};
 ghost use Rattle.bit_vectors.specs.Eye.{Shows};
 
-/// The first 64 bits, and zeros past the end.
+/// The first 64 bits, with zeros after the end.
 pub fn front_word(bytes: &[u8]) -> u64
     ensures { Shows (bits_of bytes.now) result }
 {
@@ -14,7 +14,7 @@ pub fn front_word(bytes: &[u8]) -> u64
     }
 }
 
-/// The bits of fewer than eight bytes, and zeros.
+/// The bits of fewer than eight bytes, with zeros after them.
 fn short_word(bytes: &[u8]) -> u64
     requires { length bytes.now < 8 }
     ensures { Shows (bits_of bytes.now) result }
@@ -31,7 +31,7 @@ fn short_word(bytes: &[u8]) -> u64
     ])
 }
 
-/// The byte with this number, and 0 past the end.
+/// The byte with this number, or 0 after the end.
 fn byte_or_zero(bytes: &[u8], index: usize) -> u8
     ensures { result ≡ slice_index bytes.now index }
 {

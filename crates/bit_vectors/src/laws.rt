@@ -4,7 +4,7 @@ ghost use Rattle.std.specs.Prelude.{◌≡◌, ℕ, ◌+◌, ◌-◌, ◌*◌, �
 ghost use Rattle.std.specs.Int.{bit_at};
 ghost use Rattle.bit_vectors.specs.Vectors.{number_bits, bits_number, bits_of, AreBytes, padded, vector_bytes};
 
-/// The bits of a number of some width: one for each weight, the greatest first. They tell the number.
+/// The bits of a number in some width: one for each weight, the greatest first. They determine the number.
 pub fn numbers_and_bits()
     ensures width { (width n : ℕ) → length (number_bits width n) ≡ width }
     ensures weights { (width n i : ℕ) → i < width
@@ -13,8 +13,8 @@ pub fn numbers_and_bits()
     ensures bits { (bits : List Bool) → number_bits (length bits) (bits_number bits) ≡ bits }
 {}
 
-/// Bytes have eight bits each and are told by them. The bytes of a vector are the vector and fewer than
-/// eight zeros, and the vector is read from them again.
+/// Bytes have eight bits each and are determined by them. The bytes of a vector are the vector and fewer than
+/// eight zeros after it, and reading them gives the vector again.
 pub fn bytes_and_vectors()
     ensures eight { (bytes : List ℕ) → length (bits_of bytes) ≡ 8 * length bytes }
     ensures place { (bytes : List ℕ) (i : ℕ) → i < 8 * length bytes

@@ -1,4 +1,4 @@
-//! Writing bits one after the other.
+//! Writing bits one after another.
 
 ghost use Rattle.std.specs.Prelude.{◌≡◌, ◌+◌, ◌*◌, ◌^◌, ◌<◌, ◌≤◌, [], ◌∷◌, ◌++◌, length, take, replicate, IfOk};
 ghost use Rattle.std.specs.Int.{w64, to_be_bytes};
@@ -10,9 +10,9 @@ use crate::fault::NoMemory;
 use std::alloc::Global;
 use std::marker::Model;
 
-/// A list of bits with a fixed room, which was taken when the pen was made. Contracts see the bits and
-/// the room. Whole words of 64 bits lie in the bytes; the word after them, which isn't full, lies there too
-/// where it has a bit, and is held so that it need not be read.
+/// A list of bits with a fixed capacity, which is allocated when the pen is made. Contracts see the bits and
+/// the capacity. The whole words of 64 bits are in the bytes. The word after them, which isn't full, is also there
+/// if it has a bit, and is held separately too, so that it need not be read back.
 #[derive(Debug, Drop)]
 pub struct BitPen {
     bytes: Vec<u8>,
@@ -110,7 +110,7 @@ impl BitPen {
         self.put_word(bits.word(last) >> (64 - width), width);
     }
 
-    /// Takes all bits away. The room stays.
+    /// Removes all bits. The capacity is unchanged.
     pub fn clear(&mut self)
         ensures bits { self.new.bits ≡ [] }
         ensures room { self.new.room ≡ self.old.room }
@@ -128,7 +128,7 @@ impl BitPen {
         64 * self.words + self.held
     }
 
-    /// The room: how many bits the pen can hold, at most 524,288.
+    /// The capacity: how many bits the pen can hold, at most 524,288.
     pub fn room(&self) -> u32
         ensures room { result ≡ self.now.room }
         ensures most { result ≤ 524288 }
@@ -136,7 +136,7 @@ impl BitPen {
         self.room
     }
 
-    /// The bits as bytes, with fewer than eight zeros after them.
+    /// The bits as bytes, with fewer than eight zeros after the last bit.
     pub fn bytes(&self) -> &[u8]
         ensures bytes { result.now ≡ vector_bytes self.now.bits }
         ensures len { length result.now ≡ byte_count (length self.now.bits) }
@@ -146,7 +146,7 @@ impl BitPen {
     }
 }
 
-/// So many bytes of zeros, and room for no more.
+/// The given number of zero bytes, with no capacity for more.
 fn zero_bytes(alloc: Global, count: usize) -> Result<Vec<u8>, NoMemory>
     ensures bytes { IfOk result (λ bytes. bytes.items ≡ replicate count 0) }
     ensures full { IfOk result (λ bytes. vec_capacity bytes ≡ count) }
@@ -158,7 +158,7 @@ fn zero_bytes(alloc: Global, count: usize) -> Result<Vec<u8>, NoMemory>
     Ok(bytes)
 }
 
-/// Writes a word into the eight bytes after so many words.
+/// Writes a word into the eight bytes after the given number of words.
 fn write_word(bytes: &mut [u8], words: u32, word: u64)
     requires { 8 * words + 8 ≤ length bytes.old }
     ensures { take (8 * words + 8) bytes.new ≡ take (8 * words) bytes.old ++ to_be_bytes w64 word }
@@ -167,7 +167,7 @@ fn write_word(bytes: &mut [u8], words: u32, word: u64)
     bytes[at..at + 8].copy_from_slice(&word.to_be_bytes());
 }
 
-/// Writes two words into the sixteen bytes after so many words.
+/// Writes two words into the sixteen bytes after the given number of words.
 fn write_two_words(bytes: &mut [u8], words: u32, first: u64, second: u64)
     requires most { words ≤ 8192 }
     requires room { 8 * words + 16 ≤ length bytes.old }
@@ -178,7 +178,7 @@ fn write_two_words(bytes: &mut [u8], words: u32, first: u64, second: u64)
     write_word(bytes, words + 1, second);
 }
 
-/// The first so many of the bytes.
+/// The given number of bytes from the front.
 fn first_bytes(bytes: &[u8], count: u32) -> &[u8]
     requires { count ≤ length bytes.now }
     ensures first { result.now ≡ take count bytes.now }

@@ -1,5 +1,5 @@
-//! Values read by an eye: bits, numbers and vectors, or the first fault. The bits of a known number are looked at
-//! one by one only where they don't come next, to name the first that differs.
+//! Values that an eye, the reader of bits, reads: bits, numbers and vectors, or the first fault. The bits of a known
+//! number are compared one by one only if they don't come next, to name the first one that differs.
 
 ghost use Rattle.std.specs.Prelude.{◌≡◌, ℕ, ◌+◌, ◌-◌, ◌/◌, ◌^◌, ◌<◌, ◌≤◌, ◌↔◌, ◌++◌, Bool, List, length, take, drop, IsOk, IfOk, IsErr, IfErr, OnOk, OnErr, IsTrue};
 ghost use Rattle.std.specs.Bool.{OnTrue};
@@ -13,7 +13,7 @@ use crate::eye::BitEye;
 use crate::fault::BitFault;
 
 impl<'a> BitEye<'a> {
-    /// Takes the next bit, whatever it is, or the early end.
+    /// Takes the next bit, whatever it is, or says that the bits have ended.
     pub fn take_bit(&mut self) -> Result<bool, BitFault>
         ensures moves { MovesOn self.old self.new }
         ensures reading { Gives (λ bit. bit) result self.new (any_bit (bits_left self.old)) }
@@ -21,7 +21,7 @@ impl<'a> BitEye<'a> {
         self.take().ok_or(BitFault::EndsEarly { bit: self.size() })
     }
 
-    /// Takes a bit, which is wrong where it is not allowed.
+    /// Takes a bit, which is wrong if it is not allowed.
     pub fn take_allowed(&mut self, zero: bool, one: bool) -> Result<bool, BitFault>
         ensures moves { MovesOn self.old self.new }
         ensures right { IfOk result (λ bit. IsTrue (allowed zero one bit)) }
@@ -38,8 +38,8 @@ impl<'a> BitEye<'a> {
         }
     }
 
-    /// Takes a number of `width` bits, at most 64, the greatest weight first. No bit is wrong. Where the bits
-    /// end early, the eye stands at the end.
+    /// Takes a number of `width` bits, at most 64, the bit of the greatest weight first. No bit is wrong. If the bits
+    /// end early, the eye is then at the end.
     pub fn take_word(&mut self, width: u32) -> Result<u64, BitFault>
         requires { width ≤ 64 }
         ensures moves { MovesOn self.old self.new }
@@ -61,8 +61,8 @@ impl<'a> BitEye<'a> {
         Ok(word)
     }
 
-    /// Takes a number of `width` bits, at most 32, the greatest weight first. No bit is wrong. Where the bits
-    /// end early, the eye stands at the end.
+    /// Takes a number of `width` bits, at most 32, the bit of the greatest weight first. No bit is wrong. If the bits
+    /// end early, the eye is then at the end.
     pub fn take_number(&mut self, width: u32) -> Result<u32, BitFault>
         requires { width ≤ 32 }
         ensures moves { MovesOn self.old self.new }
@@ -78,8 +78,8 @@ impl<'a> BitEye<'a> {
         Ok(number as u32)
     }
 
-    /// Takes the `width` lowest bits of a number, at most 32, the greatest weight first. The first bit that
-    /// differs from them is wrong, and the bits end early where they are the front of them.
+    /// Takes the `width` lowest bits of a number, at most 32, the bit of the greatest weight first. The first bit that
+    /// differs from them is wrong, and the bits end early if all that are left are a proper prefix of them.
     pub fn match_number(&mut self, value: u32, width: u32) -> Result<(), BitFault>
         requires { width ≤ 32 }
         ensures moves { MovesOn self.old self.new }
@@ -96,7 +96,7 @@ impl<'a> BitEye<'a> {
         self.match_ahead(value, width)
     }
 
-    /// Whether the next bits are the `width` lowest of a number, at most 32, the greatest weight first.
+    /// Whether the next bits are the `width` lowest bits of a number, at most 32, the bit of the greatest weight first.
     pub fn comes_next(&self, value: u32, width: u32) -> bool
         requires { width ≤ 32 }
         ensures next { IsTrue result ↔ (take width (bits_left self.now) ≡ number_bits width value) }
@@ -105,8 +105,8 @@ impl<'a> BitEye<'a> {
         width <= self.left() && high_bits(self.ahead(), width) == u64::from(value) % (1 << width)
     }
 
-    /// Takes as many bits as `into` has places, from place 0 up. No bit is wrong. Where the bits end early,
-    /// those that were left are the first of `into`, its other places stay, and the eye stands at the end.
+    /// Takes as many bits as `into` has places, from place 0 up. No bit is wrong. If the bits end early, those that
+    /// were left are the first bits of `into`, its other places are unchanged, and the eye is at the end.
     pub fn take_bits(&mut self, into: &mut Bits) -> Result<(), BitFault>
         ensures places { length into.new ≡ length into.old }
         ensures bits { let left = bits_left self.old in
@@ -128,7 +128,7 @@ impl<'a> BitEye<'a> {
         Ok(())
     }
 
-    /// Takes so many bits into the first places of `into`. Its other places stay.
+    /// Takes the given number of bits into the first places of `into`. Its other places are unchanged.
     fn take_front(&mut self, into: &mut Bits, count: u32)
         requires left { count ≤ length (bits_left self.old) }
         requires places { count ≤ length into.old }
@@ -151,7 +151,7 @@ impl<'a> BitEye<'a> {
         self.pass(rest);
     }
 
-    /// Takes the bits of a number: at once where they come next, else bit by bit.
+    /// Takes the bits of a number: at once if they come next, else bit by bit.
     fn match_ahead(&mut self, value: u32, width: u32) -> Result<(), BitFault>
         requires { width ≤ 32 }
         ensures moves { MovesOn self.old self.new }
@@ -165,7 +165,7 @@ impl<'a> BitEye<'a> {
         self.match_bits(value, width)
     }
 
-    /// Takes the bits of a number one by one, to name the first that differs.
+    /// Takes the bits of a number one by one, to name the first one that differs.
     fn match_bits(&mut self, value: u32, width: u32) -> Result<(), BitFault>
         requires { width ≤ 32 }
         ensures moves { MovesOn self.old self.new }

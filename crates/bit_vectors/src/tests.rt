@@ -1,5 +1,5 @@
-//! Each call that takes memory, with ample memory, and the texts of the faults. Zeros are put one by one before the
-//! numbers across words, so that `put` is tried at each place too.
+//! Each call that allocates, with ample memory, and the texts of the faults. Zeros are put one by one before the
+//! numbers that cross words, so that `put` is tried at each place too.
 
 ghost use Rattle.std.specs.Prelude.{◌<◌, ◌≤◌};
 
@@ -44,7 +44,7 @@ fn words_of_vectors(rt: HostRuntime) -> Result<(), Fail> {
     Ok(())
 }
 
-/// A vector of so many places with its last place set, found there and nowhere else.
+/// A vector of the given number of places with its last place set, found there and nowhere else.
 fn finds_its_last_place(alloc: Global, places: u32) -> Result<bool, NoMemory>
     requires some { 1 < places }
     requires most { places ≤ 49152 }
@@ -58,7 +58,7 @@ fn finds_its_last_place(alloc: Global, places: u32) -> Result<bool, NoMemory>
     Ok(up & down & word & (vector.ones() == 1))
 }
 
-/// Two vectors of so many places put together, and one of them stored and loaded again.
+/// Two vectors of the given number of places combined, and one of them stored and loaded again.
 fn puts_together(alloc: Global, places: u32) -> Result<bool, NoMemory>
     requires some { 1 < places }
     requires most { places ≤ 49152 }
@@ -102,7 +102,7 @@ fn pen_with_room(rt: HostRuntime) -> Result<(), Fail> {
     Ok(())
 }
 
-/// Ten bits at each place around the edges of words, and what the bytes there are.
+/// Ten bits at each place around the boundaries of words, and the bytes that they give.
 #[test]
 fn numbers_across_words(rt: HostRuntime) -> Result<(), Fail> {
     let rows: [(u32, [u8; 3]); 7] = [

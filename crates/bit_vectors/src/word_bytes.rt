@@ -7,7 +7,7 @@ ghost use Rattle.bit_vectors.specs.Words.{bit_of};
 
 use crate::front::front_word;
 
-/// Fills the words with the bits of the bytes, and with zeros past their end.
+/// Fills the words with the bits of the bytes, and with zeros after the end of the bytes.
 pub fn load_words(bytes: &[u8], words: &mut [u64])
     requires most { length bytes.now ≤ 8 * length words.old }
     requires least { 8 * length words.old < length bytes.now + 8 }
@@ -23,7 +23,7 @@ pub fn load_words(bytes: &[u8], words: &mut [u64])
     }
 }
 
-/// Writes the bits of the words to the bytes, which are as many as the words have, or up to seven fewer.
+/// Writes the bits of the words to the bytes. There are as many bytes as the words have, or up to seven fewer.
 pub fn store_words(words: &[u64], bytes: &mut [u8])
     requires most { length bytes.old ≤ 8 * length words.now }
     requires least { 8 * length words.now < length bytes.old + 8 }
@@ -39,7 +39,7 @@ pub fn store_words(words: &[u64], bytes: &mut [u8])
     }
 }
 
-/// Writes the first bytes of a word, at most eight, one by one: they are too few for a copy.
+/// Writes the first bytes of a word, at most eight, one by one, because they are too few for a copy.
 fn store_short(word: u64, bytes: &mut [u8])
     requires { length bytes.old ≤ 8 }
     ensures { bytes.new ≡ take (length bytes.old) (to_be_bytes w64 word) }
@@ -49,7 +49,7 @@ fn store_short(word: u64, bytes: &mut [u8])
     }
 }
 
-/// Whether a bit of the last byte that belongs to none of so many places is 1.
+/// Whether the last byte has a 1 in a bit that belongs to no place of a vector with this many places.
 pub fn has_spare_bit(bytes: &[u8], places: u32) -> bool
     requires some { 1 ≤ places }
     requires len { length bytes.now ≡ byte_count places }

@@ -7,7 +7,7 @@ ghost use Rattle.bit_vectors.specs.Words.{bit_of, word_bits, NoBitIsOne};
 use crate::fault::NoMemory;
 use std::alloc::Global;
 
-/// So many words of zeros, and room for no more.
+/// The given number of zero words, with no capacity for more.
 pub fn zero_words(alloc: Global, count: usize) -> Result<Vec<u64>, NoMemory>
     ensures words { IfOk result (λ words. words.items ≡ replicate count 0) }
     ensures full { IfOk result (λ words. vec_capacity words ≡ count) }
@@ -19,7 +19,7 @@ pub fn zero_words(alloc: Global, count: usize) -> Result<Vec<u64>, NoMemory>
     Ok(words)
 }
 
-/// The bit with this number, over all the words.
+/// The bit with this number, counted over all the words.
 pub fn bit_in_words(words: &[u64], place: u32) -> bool
     requires { place < 64 * length words.now }
     ensures { result ≡ bit_of words.now place }
@@ -27,7 +27,7 @@ pub fn bit_in_words(words: &[u64], place: u32) -> bool
     (words[(place / 64) as usize] >> (63 - place % 64)) & 1 == 1
 }
 
-/// Makes the bit with this number `value`.
+/// Sets the bit with this number to `value`.
 pub fn write_bit_in_words(words: &mut [u64], place: u32, value: bool)
     requires { place < 64 * length words.old }
     ensures bit { bit_of words.new place ≡ value }
@@ -42,7 +42,7 @@ pub fn write_bit_in_words(words: &mut [u64], place: u32, value: bool)
     }
 }
 
-/// Makes the words the others. A single one is no call of a copy.
+/// Makes the words equal to the others. A single word is assigned without a call to copy it.
 pub fn copy_words(words: &mut [u64], others: &[u64])
     requires { length words.old ≡ length others.now }
     ensures { words.new ≡ others.now }
@@ -54,7 +54,7 @@ pub fn copy_words(words: &mut [u64], others: &[u64])
     }
 }
 
-/// Makes each word the bits that exactly one of it and the other has.
+/// Replaces each word by its exclusive or with the other word.
 pub fn xor_words(words: &mut [u64], others: &[u64])
     requires { length words.old ≡ length others.now }
     ensures bits { (k : ℕ) → bit_of words.new k
@@ -66,7 +66,7 @@ pub fn xor_words(words: &mut [u64], others: &[u64])
     }
 }
 
-/// Adds to each word the bits of the other.
+/// Sets in each word the bits that are 1 in the other word.
 pub fn or_words(words: &mut [u64], others: &[u64])
     requires { length words.old ≡ length others.now }
     ensures bits { (k : ℕ) → bit_of words.new k ≡ (bit_of words.old k || bit_of others.now k) }
@@ -77,7 +77,7 @@ pub fn or_words(words: &mut [u64], others: &[u64])
     }
 }
 
-/// Takes from each word the bits of the other.
+/// Clears in each word the bits that are 1 in the other word.
 pub fn drop_words(words: &mut [u64], others: &[u64])
     requires { length words.old ≡ length others.now }
     ensures bits { (k : ℕ)
@@ -112,7 +112,7 @@ pub fn are_zero(words: &[u64]) -> bool
     any == 0
 }
 
-/// Whether the words are the others. No branch hangs on a word, so that several are compared at once.
+/// Whether the words are equal to the others. No branch depends on a word, so that several are compared at once.
 pub fn are_same(words: &[u64], others: &[u64]) -> bool
     requires { length words.now ≡ length others.now }
     ensures { IsTrue result ↔ (words.now ≡ others.now) }
@@ -124,7 +124,7 @@ pub fn are_same(words: &[u64], others: &[u64]) -> bool
     any == 0
 }
 
-/// The number of the last one among the bits before `below`.
+/// The number of the last 1 among the bits before `below`.
 pub fn last_one(words: &[u64], below: u32) -> Option<u32>
     requires { below ≤ 64 * length words.now }
     ensures one { IfSome result (λ place. bit_of words.now place ≡ true) }
@@ -144,7 +144,7 @@ pub fn last_one(words: &[u64], below: u32) -> Option<u32>
     None
 }
 
-/// The number of the first one among the bits from `from` on, which are at most 49,152.
+/// The number of the first 1 among the bits from `from` on, which are at most 49,152.
 pub fn first_one(words: &[u64], from: u32) -> Option<u32>
     requires { length words.now ≤ 768 }
     ensures one { IfSome result (λ place. bit_of words.now place ≡ true) }

@@ -4,7 +4,7 @@ use Rattle.std.proofs.lemmas.Bool.{cases_lt, cases_eq, cases_order, ne_eqb}
 use Rattle.std.proofs.Math.Nat.{pow-succ', pow-le-pow_right}
 use Rattle.count_code.specs.Code.{halvings, digits}
 
--- powers of 2 rise
+-- powers of 2 increase
 pub power_le : (j k : ℕ) → j ≤ k → 2 ^ j ≤ 2 ^ k
 power_le j k le = pow-le-pow_right {n = 2} (omega arith) {i = j} {j = k} le
 

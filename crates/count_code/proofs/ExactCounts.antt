@@ -43,7 +43,7 @@ bit_of_next so_far false = ne_eqb _ _ (omega arith)
 double : (a width : ℕ) → a * 2 ^ suc width ≡ 2 * a * 2 ^ width
 double a width = rw (power_suc width) (omega arith)
 
--- a number that begins so, and then with this bit
+-- a number that begins like this, and then with this bit
 next_in : (so_far width n : ℕ) (bit : Bool) → next_of so_far bit * 2 ^ width ≤ n → n < (next_of so_far bit + 1) * 2 ^ width → (so_far * 2 ^ suc width ≤ n) × (n < (so_far + 1) * 2 ^ suc width)
 next_in so_far width n true low high = (omega (arith, double so_far width), omega (arith, double (so_far + 1) width))
 next_in so_far width n false low high =
@@ -142,13 +142,13 @@ IsExact-bounded_at most (suc width) so_far fits =
 
 -- ---- numbers after zeros
 
--- a number of six digits or more, after so many of the zeros before it
+-- a number of six digits or more, after the given number of the zeros before it
 pub record IsLongOf (most seen n : ℕ) (word : List Bool) : Type 0 where
   pub low : 2 ^ (seen + 5) ≤ n
   pub fits : n ≤ most
   pub is : word ≡ number_bits (2 * digits n - 6 - seen) n
 
--- with no more zeros, the digits follow
+-- if no more zeros are allowed, the digits follow
 digits_follow : (seen n : ℕ) → 2 ^ (seen + 5) ≤ n → n < 2 ^ (seen + 6) → number_bits (2 * digits n - 6 - seen) n ≡ true ∷ number_bits (seen + 5) n
 digits_follow seen n low high =
     let same_power : seen + 5 + 1 ≡ seen + 6 = omega arith in
@@ -157,7 +157,7 @@ digits_follow seen n low high =
     let first : eqb (bit_at n (seen + 5)) 1 ≡ true = next_bit 0 (seen + 5) n true (omega arith) (omega (arith, power_more (seen + 5), ap (λ (k : ℕ). 2 ^ k) same_power)) in
     rw (width, number_bits-suc (seen + 5) n, first) refl
 
--- else a zero follows
+-- otherwise a zero follows
 zero_follows : (seen n : ℕ) → 2 ^ (seen + 6) ≤ n → number_bits (2 * digits n - 6 - seen) n ≡ false ∷ number_bits (2 * digits n - 6 - (seen + 1)) n
 zero_follows seen n low =
     let d = digits_of n (omega (arith, pow_pos (seen + 6), low)) in
@@ -406,7 +406,7 @@ IsExact-count_at limit =
     (λ bit word w. count_tail_exact limit bit)
     (λ bit word w. some_count limit bit))
 
--- what a reading says of the bits
+-- what follows from a reading about the bits
 pub counted : (limit : ℕ) (old new : EyeState) (result : Result Count BitFault) → Gives (λ (count : Count). count) result new (parse_count limit (bits_left old))
     → IfOk result (λ count. IsWithin limit count × (bits_left old ≡ word_of count ++ bits_left new))
 counted limit old new (Ok count) given =
@@ -414,7 +414,7 @@ counted limit old new (Ok count) given =
     (r.1.0, r.2 ∙ ap (λ (word : List Bool). word ++ bits_left new) r.1.1)
 counted limit old new (Err fault) given = tt
 
--- a limit within which a count is
+-- a count is within a limit
 top_of : Count → ℕ
 top_of (Value a) = a
 top_of End = 0
@@ -427,7 +427,7 @@ within_top End limit is le = tt
 values_same : (a b : Count) (r s : List Bool) → ◌≡◌ {A = Parsed Count} (Read a r) (Read b s) → a ≡ b
 values_same a b r s e = cc
 
--- no word is the front of another
+-- no word is a prefix of another
 pub prefix_free : (a b : Count) (rest others : List Bool) → IsCount a → IsCount b → word_of a ++ rest ≡ word_of b ++ others → a ≡ b
 prefix_free a b rest others a_is b_is same =
     let limit = top_of a + top_of b in
@@ -435,7 +435,7 @@ prefix_free a b rest others a_is b_is same =
     let read_b = (IsExact-count_at (top_of a + top_of b)).reads b (word_of b) others (within_top b (top_of a + top_of b) b_is (omega arith), refl) in
     values_same a b rest others (sym read_a ∙ ap (parse_count (top_of a + top_of b)) same ∙ read_b)
 
--- a small number in a great width
+-- a small number in a large width
 zeros_before : (z width n : ℕ) → n < 2 ^ width → number_bits (z + width) n ≡ replicate z false ++ number_bits width n
 zeros_before zero width n lt = let e : 0 + width ≡ width = omega arith in rw e refl
 zeros_before (suc z) width n lt =
@@ -443,7 +443,7 @@ zeros_before (suc z) width n lt =
     let first : eqb (bit_at n (z + width)) 1 ≡ false = rw (bit_at_above n width (z + width) lt (omega arith)) refl in
     rw (e, number_bits-suc (z + width) n, first, zeros_before z width n lt) refl
 
--- the zeros of a long word tell its digits
+-- the zeros of a long word determine the number of its digits
 pub zeros_tell : (a : ℕ) → 34 ≤ a → (z : ℕ) × (2 ^ (z + 5) ≤ a - 2) × (a - 2 < 2 ^ (z + 6)) × (count_bits a ≡ (true ∷ true ∷ true ∷ []) ++ replicate z false ++ true ∷ number_bits (z + 5) (a - 2))
 zeros_tell a least =
     let d = digits_of (a - 2) (omega arith) in

@@ -13,7 +13,7 @@ read_twice : (count other : Count) (bit : Bool) (rest : List Bool) → ◌≡◌
 read_twice count other bit rest e = cc
 
 module _ (limit : ℕ) (front : List Bool) where
-  -- bits that are read with some left begin no word
+  -- bits that are read with some left over begin no word
   none_left : (count : Count) (bit : Bool) (rest : List Bool) → parse_count limit front ≡ Read count (bit ∷ rest) → CanBegin (IsCode limit) front → ⊥
   none_left count bit rest read (more, (other, code)) =
       let e = IsExact-count_at limit in

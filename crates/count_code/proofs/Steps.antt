@@ -1,4 +1,4 @@
--- What the loops of the reader keep.
+-- What the loops of the reader maintain.
 use Rattle.std.proofs.Common.{◌≡◌, ℕ, zero, suc, ◌+◌, ◌-◌, ◌*◌, ◌%◌, ◌^◌, ◌<◌, ◌≤◌, Bool, true, false, cond, leb, List, Result, Err, refl, ap, ◌∙◌, arith, inl, inr}
 use Rattle.std.proofs.lemmas.Bool.{cases_lt, leb-true}
 use Rattle.std.proofs.Math.Nat.{mod-eq_of_lt}
@@ -9,14 +9,14 @@ use Rattle.bit_vectors.proofs.EyeReading.{MovesOn-then, Gives-then_err}
 use Rattle.count_code.proofs.Digits.{power_le, power_more}
 use Rattle.count_code.specs.Counts.{parse_bounded, parse_long}
 
--- a number so far, with so many bits to come, stands for what is read from the start
+-- a number so far, with the given number of bits to come, represents what is read from the start
 pub record IsNumberSoFar (old eye : EyeState) (most so_far width number weight : ℕ) : Type 0 where
   pub moves : MovesOn old eye
   pub fits : number * 2 ^ weight ≤ most
   pub short : weight ≤ 15
   pub same : parse_bounded most so_far width (bits_left old) ≡ parse_bounded most number weight (bits_left eye)
 
--- the test of a zero, and that of a one, after a number so far
+-- the test for a zero, and the test for a 1, after a number so far
 abbrev pub zero_fits : ℕ → ℕ → ℕ → Bool
 zero_fits most number weight = leb (2 * number * 2 ^ weight) most
 
@@ -65,7 +65,7 @@ pub number_fault : (old eye new : EyeState) (most so_far width number weight : �
 number_fault old eye new most so_far width number weight fault some h given =
     rw (h.same, parse_bounded-more most number weight (bits_left eye) some) (Gives-then_err (λ (bit : Bool). bit) (λ (n : ℕ). n) fault new _ (λ bit rest. parse_bounded most (2 * number + cond bit 1 0) (weight - 1) rest) given)
 
--- zeros so far, which leave so many digits at least, stand for what is read from the start
+-- zeros so far, after which at least this many digits are left, represent what is read from the start
 pub record IsLongSoFar (old eye : EyeState) (most digits : ℕ) : Type 0 where
   pub moves : MovesOn old eye
   pub least : 6 ≤ digits

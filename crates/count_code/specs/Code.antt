@@ -2,12 +2,12 @@
 use Rattle.std.specs.Prelude.{ℕ, zero, suc, ◌-◌, ◌*◌, ◌/◌, ◌==◌, nat_le, Bool, true, false, if◌then◌else◌, List, [], ◌∷◌, ◌++◌}
 use Rattle.bit_vectors.specs.Vectors.{number_bits}
 
--- how many times a number can be halved before it is 0, at most so many times
+-- how many times a number can be halved before it is 0, counted up to a limit
 unfoldable pub halvings : ℕ → ℕ → ℕ
 halvings zero n = 0
 halvings (suc most) n = if n == 0 then 0 else suc (halvings most (n / 2))
 
--- how many binary digits a number has: one more than the whole part of its logarithm to the base 2
+-- how many binary digits a number has: one more than the integer part of its logarithm to base 2
 unfoldable pub digits : ℕ → ℕ
 digits n = halvings n n
 

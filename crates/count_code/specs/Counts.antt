@@ -48,8 +48,8 @@ parse_bounded most so_far (suc width) bits =
     bit_where (allowed (nat_le (2 * so_far * 2 ^ width) most) (nat_le ((2 * so_far + 1) * 2 ^ width) most)) bits
     >>= λ bit rest. parse_bounded most (2 * so_far + (if bit then 1 else 0)) width rest
 
--- a number that is at most `most`, after so many seen zeros and before at most so many more: it has six more digits than
--- there are zeros, and its first digit is the first one
+-- a number that is at most `most`, after `seen` zeros and before at most as many more as given: it has six more
+-- digits than there are zeros, and its first digit is the first 1
 unfoldable pub parse_long : ℕ → ℕ → ℕ → List Bool → Parsed ℕ
 parse_long most seen zero bits =
     bit_where (allowed false true) bits
@@ -64,7 +64,7 @@ parse_above_one limit bits =
     bit_where (allowed true (nat_le 34 limit)) bits
     >>= λ long rest. if long then parse_long (limit - 2) 0 (limit - 2) rest else parse_bounded (limit - 2) 0 5 rest
 
--- what comes after a first bit that is one
+-- what comes after a first bit that is 1
 unfoldable pub parse_after_one : ℕ → List Bool → Parsed Count
 parse_after_one limit bits =
     bit_where (allowed true (nat_le 2 limit)) bits

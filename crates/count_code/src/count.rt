@@ -1,4 +1,4 @@
-//! What stands in a list of counts.
+//! The entries of a list of counts.
 
 /// A count, or the end of a list of counts.
 #[derive(Clone, Copy, Debug, PartialEq, Eq)]

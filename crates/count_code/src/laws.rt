@@ -8,23 +8,23 @@ ghost use Rattle.count_code.specs.Counts.{word_of, IsCode, IsCodeOf, IsCount, Is
 
 use crate::count::Count;
 
-/// No word of a count, and not the word that ends a list of counts, is the front of another.
+/// No word of a count, and not the word that ends a list of counts, is a prefix of another.
 pub fn no_word_begins_another()
     ensures { (a b : Count) (rest others : List Bool) → IsCount a → IsCount b
         → word_of a ++ rest ≡ word_of b ++ others → a ≡ b }
 {}
 
-/// Reading counts within a limit is exact: before the first wrong bit, and where the bits end early, some word within the
-/// limit begins with the bits read. Bits that begin such a word begin the end's word, or that of the least count that they
-/// can begin at all, and no others do: so the least one is within the limit wherever any is.
+/// Reading counts within a limit is exact: before the first wrong bit, and if the bits end early, some word within the
+/// limit begins with the bits read. Bits that begin such a word begin the end's word, or that of the least count whose
+/// word they can begin at all, and no others do: so the least one is within the limit if any is.
 pub fn counts_are_completed()
     ensures exact { (limit : ℕ) → IsExact (IsCodeOf limit) (parse_count limit) }
     ensures least { (limit : ℕ) (front : List Bool) →
         CanBegin (IsCode limit) front ↔ (IsBegunBy front Count.End ⊎ IsLeastWithin limit front) }
 {}
 
-/// After the three ones of a long word, the zeros tell how many digits follow: six more than there are
-/// zeros, and the first of them is the one that ends the zeros.
+/// After the three ones of a long word, the zeros determine how many digits follow: six more than there are
+/// zeros, and the first digit is the 1 that ends the zeros.
 pub fn long_words()
     ensures { (a : ℕ) → 34 ≤ a → (z : ℕ) × (2 ^ (z + 5) ≤ a - 2) × (a - 2 < 2 ^ (z + 6))
         × (count_bits a ≡ (true ∷ true ∷ true ∷ []) ++ replicate z false ++ true

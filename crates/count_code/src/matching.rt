@@ -9,7 +9,7 @@ use crate::word::count_word;
 use bit_vectors::{BitEye, BitFault};
 
 /// Takes the word of a count, which is from 1 to 49,152. The first bit that differs from it is wrong, and
-/// the bits end early where they are the front of it.
+/// the bits end early if all that are left are a proper prefix of it.
 pub fn match_count(eye: &mut BitEye, a: u32) -> Result<(), BitFault>
     requires some { 1 ≤ a }
     requires most { a ≤ 49152 }

@@ -1,4 +1,4 @@
-//! Counts from bits. A count whose word comes whole is read at once; the readers bit by bit are for the faults.
+//! Counts from bits. A count whose whole word comes next is read at once; the readers bit by bit are for the faults.
 
 ghost use Rattle.std.specs.Prelude.{◌≡◌, ◌-◌, ◌*◌, ◌^◌, ◌≤◌, ◌++◌, Bool, List, Ok, IfOk, IfErr};
 ghost use Rattle.bit_vectors.specs.Eye.{bits_left};
@@ -10,9 +10,9 @@ use crate::count::Count;
 use crate::word::count_word;
 use bit_vectors::{BitEye, BitFault};
 
-/// Takes the word of a count from 1 to `limit`, or the word that ends a list of counts. Wrong names the
-/// first bit after which neither can follow, and the eye then stands just after it. EndsEarly comes where
-/// the bits end before such a word is whole, and the eye then stands at the end.
+/// Takes the word of a count from 1 to `limit`, or the word that ends a list of counts. `Wrong` names the
+/// first bit after which neither can follow, and the eye is then just after it. `EndsEarly` comes if
+/// the bits end before such a word is complete, and the eye is then at the end.
 pub fn take_count(eye: &mut BitEye, limit: u32) -> Result<Count, BitFault>
     requires { limit ≤ 49152 }
     ensures moves { MovesOn eye.old eye.new }
@@ -27,7 +27,7 @@ pub fn take_count(eye: &mut BitEye, limit: u32) -> Result<Count, BitFault>
     read_count(eye, limit)
 }
 
-/// Takes a count or the end: at once where its word comes next whole, else bit by bit.
+/// Takes a count or the end: at once if its whole word comes next, else bit by bit.
 fn read_count(eye: &mut BitEye, limit: u32) -> Result<Count, BitFault>
     requires { limit ≤ 49152 }
     ensures moves { MovesOn eye.old eye.new }
@@ -47,8 +47,8 @@ fn read_count(eye: &mut BitEye, limit: u32) -> Result<Count, BitFault>
     read_bits(eye, limit)
 }
 
-/// The count whose word may be the first bits of `ahead`. Whatever it is, the bits are compared with its
-/// word; so only its bounds are known.
+/// The count whose word may be the first bits of `ahead`. Whatever it is, the bits are then compared with its
+/// word, so the contract states only its bounds.
 fn guessed_count(ahead: u64) -> u32
     ensures some { 1 ≤ result }
     ensures most { result ≤ 49152 }

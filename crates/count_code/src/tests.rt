@@ -31,7 +31,7 @@ fn words_of_counts(rt: HostRuntime) -> Result<(), Fail> {
     Ok(())
 }
 
-/// A count and the end after so many zeros, so that the edge of a word is before, in or after them.
+/// A count and the end after the given number of zeros, so that the boundary of a word is before, in or after them.
 #[test]
 fn counts_across_words(rt: HostRuntime) -> Result<(), Fail> {
     let rows: [(u32, u32, u32, u64); 7] = [

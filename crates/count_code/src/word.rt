@@ -4,7 +4,7 @@ ghost use Rattle.std.specs.Prelude.{◌≡◌, ◌-◌, ◌+◌, ◌*◌, ◌^�
 ghost use Rattle.bit_vectors.specs.Vectors.{number_bits};
 ghost use Rattle.count_code.specs.Code.{digits, count_bits};
 
-/// The bits of a number of some width, the greatest weight first.
+/// The bits of a number in some width, the bit of the greatest weight first.
 #[derive(Clone, Copy, Debug)]
 pub struct CountWord {
     pub value: u32,

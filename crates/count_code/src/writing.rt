@@ -1,4 +1,4 @@
-//! Counts to bits (CCSDS 124.0-B-1).
+//! Writing counts as bits (CCSDS 124.0-B-1).
 
 ghost use Rattle.std.specs.Prelude.{◌≡◌, ◌+◌, ◌≤◌, ◌++◌, length};
 ghost use Rattle.count_code.specs.Code.{count_bits, end_bits};

@@ -1,4 +1,4 @@
--- What stands after a run, for every command that reads one input and writes up to two outputs.
+-- What a run has done, for every command that reads one input and writes up to two outputs.
 use Rattle.std.proofs.Common.{◌≡◌, ℕ, List, [], ◌++◌, Option, Some, None, IfSome, unwrap_or, refl, sym, ap, ◌∙◌, subst, append_assoc}
 use Rattle.std.specs.Io.KnownBytes.{IsAtEnd, prepend_known, append_known}
 use Rattle.desk_ports.specs.declared.desk.Inlet.TheVariants as inlet
@@ -21,14 +21,14 @@ owed-behind stand course = by_ending-put course.ending stand course.before cours
 pub behind-behind : {F : Type 0} (a b : Outputs) (course : Course F) → behind a (behind b course) ≡ behind (put a b) course
 behind-behind a b course = ap (λ (before : Outputs). record course { before = before }) (sym (put-put a b course.before))
 
--- a front is a front of more, and behind the same bytes
+-- a prefix is a prefix of more, and also after the same bytes
 pub AreFronts-then : (a b c : Outputs) → AreFronts a b → AreFronts a (put b c)
 AreFronts-then a b c p = record { rest = put p.rest c; joined = sym (put-put a p.rest c) ∙ ap (λ o. put o c) p.joined }
 
 pub AreFronts-put : (stand a b : Outputs) → AreFronts a b → AreFronts (put stand a) (put stand b)
 AreFronts-put stand a b p = record { rest = p.rest; joined = put-put stand a p.rest ∙ ap (put stand) p.joined }
 
--- the bytes that an input has left, none where they are not told
+-- the bytes that an input has left, or none if they are not told
 abbrev pub rest_of : Option (List ℕ) → List ℕ
 rest_of left = unwrap_or left []
 
@@ -50,7 +50,7 @@ Went-then a b c taken input stand more ran went = record {
   ran = Ran-then a b c taken went.taken stand.output more.output stand.report more.report ran went.ran;
 }
 
--- a reading failed, and the bytes that were lost owe nothing
+-- a read failed, and nothing is owed for the bytes that were lost
 pub IsCutOff-moves : {F : Type 0} (here : List ℕ → Course F) (a b : Meanings) (lost : List ℕ) → Moves a b inlet.Main lost → (here lost).before ≡ no_outputs → IsCutOff here a b
 IsCutOff-moves here a b lost moves nothing = record { taken = lost; ran = subst (λ (o : Outputs). Ran a b lost o.output o.report) (sym nothing) (Ran-moves a b lost moves) }
 
@@ -78,7 +78,7 @@ told_input taken rest input all before (Some left) moved told split is =
     let same : taken ++ left ≡ all = cc in
     sym split ∙ (ap (λ l. taken ++ l) (sym told) ∙ same)
 
--- where the input is told, it is the bytes of the run
+-- if the input is told, it is the bytes of the run
 Ends-input : {F : Type 0} (course_of : List ℕ → Course F) (a b : Meanings) (ending : Option F) (input : List ℕ) → left a inlet.Main ≡ Some input → (ends : Ends course_of a b ending) → ends.input ≡ input
 Ends-input course_of a b ending input is ends =
     let went = ends.went in
@@ -94,6 +94,6 @@ Ends-told {F = F} course_of a b ending input is ends =
       ap (λ l. (course_of l).ending) (sym same) ∙ ends.ends,
     )
 
--- and its answer is that of the input
+-- and its answer is the one for the input
 pub Finishes-told : {A F : Type 0} (work : Work A F) (a b : Meanings) (answer : A) (input : List ℕ) → left a inlet.Main ≡ Some input → Finishes work a b answer → answer ≡ work.answer input
 Finishes-told work a b answer input is done = done.answered ∙ ap work.answer (Ends-input work.course a b None input is done.ends)

@@ -1,4 +1,4 @@
--- What a step of an inlet in memory does to what its desk tells.
+-- How a step of an inlet in memory changes what its desk tells.
 use Rattle.std.proofs.Common.{◌≡◌, ℕ, ◌+◌, List, ◌++◌, take, drop, Some, Bool, sym, ap, ◌∙◌}
 use Rattle.std.proofs.lemmas.List.{take-append-drop, drop-drop}
 use Rattle.desk_ports.specs.declared.desk.Inlet.{Inlet}
@@ -13,7 +13,7 @@ use Rattle.desk_ports.specs.Meanings.{Moves, with_incoming}
 rest : (bytes : List ℕ) (place n : ℕ) → drop place bytes ≡ take n (drop place bytes) ++ drop (place + n) bytes
 rest bytes place n = sym (take-append-drop n (drop place bytes)) ∙ ap (λ l. take n (drop place bytes) ++ l) (drop-drop n place bytes)
 
--- an inlet that stands before a place, and then n bytes further on
+-- an inlet that is before a place, and then n bytes further on
 pub Moves_on : (desk : Inside) (i : Inlet) (at place n : ℕ) → cursor_at desk.cursors i ≡ cursor.Entry at place
     → Moves (mem_meanings (state_of desk)) (mem_meanings (state_of (record desk { cursors = with_cursor desk.cursors i (cursor.Entry at (place + n)) }))) i (take n (drop place (bytes_at desk.log.items at)))
 Moves_on desk inlet.Side at place n e =

@@ -1,4 +1,4 @@
--- What the counts of a desk say of its faults.
+-- What the counts of a desk say about its faults.
 use Rattle.std.proofs.Common.{◌≡◌, ℕ, ◌+◌, ◌<◌, ◌^◌, ◌-◌, ap, inl, inr, subst, sym, arith}
 use Rattle.desk_ports.specs.Meanings.{Counts, FailsToRead, FailsToWrite, Fails, Rose, AreBelowLast, faults, next_count}
 
@@ -17,7 +17,7 @@ pub faults-once : (old new : Counts) → AreBelowLast old → Fails old new → 
 faults-once old new below (inl fails) = omega (arith, ap faults fails, counted old.reads below.reads)
 faults-once old new below (inr fails) = omega (arith, ap faults fails, counted old.writes below.writes)
 
--- behind a fault another one is one more, so both are not one
+-- after a fault another one is one more, so that both are not one
 pub faults-twice : (a b c : Counts) → AreBelowLast b → Fails a b → Fails b c → Fails a c → ⊥
 faults-twice a b c below first next both =
     let below_first : AreBelowLast a = earlier first in

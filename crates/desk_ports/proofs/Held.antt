@@ -1,4 +1,4 @@
--- What is kept once an output is finished, and what an input has left that is opened.
+-- What is kept once an output is finished, and what is left of an input that is opened.
 use Rattle.std.proofs.Common.{◌≡◌, ℕ, Bool, true, false, cond, List, [], Option, Some, None, IsSome, IfSome, unwrap_or, refl, sym, ap, subst, ◌∙◌}
 use Rattle.std.specs.Option.{option_map}
 use Rattle.std.specs.FinMap as map

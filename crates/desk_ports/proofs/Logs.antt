@@ -1,4 +1,4 @@
--- What a log keeps, an entry at a time.
+-- What a log keeps, one entry at a time.
 use Rattle.std.proofs.Common.{◌≡◌, ℕ, ◌+◌, ◌<◌, Bool, true, false, cond, List, [], ◌∷◌, ◌++◌, length, take, get_or, Option, Some, None, MatchOption, sym, ap, ◌∙◌, arith}
 use Rattle.std.specs.FinMap as map
 use Rattle.std.specs.Cmp.Lexicographic.{nat_list_cmp_total}
@@ -18,7 +18,7 @@ get-kept_of_push log entry name =
     ∙ map.get-insert nat_list_cmp_total (kept_of log) entry.0 entry.1 name
     ∙ ap (λ b. cond b (Some entry.1) (map.get (kept_of log) name)) (is_eq-slice_cmp name entry.0)
 
--- one more entry of the log, whose name is the one that is sought or another
+-- one more entry of the log, whose name is the one that is searched for or another
 get-kept_of_more : (log : List (List ℕ × List ℕ)) (at : ℕ) (name : List ℕ) (same : Bool) → at < length log → bytes_eq name (get_or log at ([], [])).0 ≡ same
     → map.get (kept_of (take (at + 1) log)) name ≡ cond same (Some (bytes_at log at)) (map.get (kept_of (take at log)) name)
 get-kept_of_more log at name same within e =
@@ -30,7 +30,7 @@ get-kept_of_more log at name same within e =
 abbrev pub IsNewest : List (List ℕ × List ℕ) → ℕ → List ℕ → Option ℕ → Type 0
 IsNewest log at name found = MatchOption found (map.get (kept_of (take at log)) name ≡ None) (λ place. (place < at) × (map.get (kept_of (take at log)) name ≡ Some (bytes_at log place)))
 
--- an entry with another name leaves the newest as it is
+-- an entry with another name does not change the newest
 IsNewest_stays : (log : List (List ℕ × List ℕ)) (at : ℕ) (name : List ℕ) (found : Option ℕ)
     → map.get (kept_of (take (at + 1) log)) name ≡ map.get (kept_of (take at log)) name → IsNewest log at name found → IsNewest log (at + 1) name found
 IsNewest_stays log at name None e is = e ∙ is

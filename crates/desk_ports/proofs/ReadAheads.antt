@@ -1,10 +1,10 @@
--- What a reading ahead leaves in its room.
+-- What a read ahead leaves in its room.
 use Rattle.std.proofs.Common.{◌≡◌, ℕ, ◌+◌, ◌-◌, ◌<◌, ◌≤◌, All, Fits, w8, get_or, List, ◌++◌, length, take, drop, take-take, ap, ◌∙◌, length-append, arith}
 use Rattle.std.proofs.lemmas.List.{take-append-le, length-take-le, get_or_default}
 use borrow.Rule.Slice.PartMut.{put_mid, post_of}
 use Rattle.desk_ports.proofs.Transfers.{take-put_mid-add}
 
--- the front of a room behind whose first bytes others were read
+-- the front of a room in which bytes were read after the first ones
 pub read_behind : (len k n m : ℕ) (items room first buf : List ℕ) → m ≡ k + n → first ≡ room → k ≤ length first → n ≤ length buf → k + length buf ≤ len
     → take m (take len (put_mid k (length first - k) first buf ++ drop (length (put_mid k (length first - k) first buf)) items)) ≡ take k room ++ take n buf
 read_behind len k n m items room first buf sum is within few long =
@@ -17,6 +17,6 @@ read_behind len k n m items room first buf sum is within few long =
     ∙ (take-put_mid-add first buf k (length first - k) n within few
     ∙ ap (λ l. take k l ++ take n buf) is)))
 
--- what fits into bytes is below 256
+-- a number that fits into a byte is below 256
 pub All-fits : (xs : List ℕ) → ((k : ℕ) → Fits w8 (get_or xs k 0)) → All (λ b. b < 256) xs
 All-fits xs fit = λ k d within. rw (get_or_default xs k d 0 within) (omega (arith, fit k))

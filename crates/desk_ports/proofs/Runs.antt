@@ -1,4 +1,4 @@
--- How the parts of a run join.
+-- How the parts of a run are joined.
 use Rattle.std.proofs.Common.{◌≡◌, ℕ, List, [], ◌++◌, refl, sym, ap, ◌∙◌, subst}
 use Rattle.std.specs.Io.KnownBytes.{prepend_known, append_known}
 use Rattle.desk_ports.specs.declared.desk.Inlet.TheVariants as inlet
@@ -62,7 +62,7 @@ Ran-notes a b xs p =
       others = p.others ∙ (ap (λ i. with_bytes a i (made a outlet.Main) (made b outlet.Report)) (sym input) ∙ ap (λ o. with_bytes a (left b inlet.Main) o (made b outlet.Report)) (sym output));
     }
 
--- what was opened stays opened
+-- what was opened stays open
 pub Ran-ready_in : (a b : Meanings) (xs us rs : List ℕ) → Ran a b xs us rs → IsReadyIn a inlet.Main → IsReadyIn b inlet.Main
 Ran-ready_in a b xs us rs p h = subst (λ m. IsReadyIn m inlet.Main) (sym p.others) h
 

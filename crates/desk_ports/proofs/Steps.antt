@@ -1,4 +1,4 @@
--- How the turns of a run are made and join.
+-- How the turns of a run are made and joined.
 use Rattle.std.proofs.Common.{◌≡◌, ℕ, Bool, List, [], ◌++◌, Option, Some, None, Result, Ok, Err, refl, sym, ap, ◌∙◌, subst, append_assoc, append-nil}
 use Rattle.std.specs.Io.KnownBytes.{IsAtEnd}
 use Rattle.desk_ports.specs.declared.desk.Inlet.TheVariants as inlet
@@ -13,7 +13,7 @@ use Rattle.desk_ports.proofs.Runs.{Ran-none, Ran-then, Ran-moves, Ran-adds, Ran-
 use Rattle.desk_ports.proofs.Courses.{owed-behind, behind-behind, AreFronts-then, AreFronts-put, rest_of, Went-ran, Went-then, IfSome-IsAtEnd}
 use Rattle.desk_ports.proofs.Transfers.{prepend_known-none}
 
--- ---- turns join
+-- ---- joined turns
 
 -- no turn was made
 pub Reaches-none : {A F : Type 0} (work : Work A F) (m : Meanings) → Reaches work work m m
@@ -33,7 +33,7 @@ Reaches-then work here next a b c p q = record {
   steps = Steps-then work here next p.taken q.taken p.outputs q.outputs p.steps q.steps;
 }
 
--- one turn more
+-- one more turn
 pub Advances-behind : {A F : Type 0} (work here : Work A F) (owes : Work A F → Type 0) (a b c : Meanings) → Reaches work here a b → Advances here owes b c → Advances work owes a c
 Advances-behind work here owes a b c p q = record { next = q.next; owed = q.owed; reaches = Reaches-then work here q.next a b c p q.reaches }
 
@@ -63,7 +63,7 @@ IsCutShort-behind work here a b c p q = record {
   fronts = subst (AreFronts (put p.outputs q.stand)) (sym (ap owed (p.steps.course q.input) ∙ owed-behind p.outputs (here.course q.input))) (AreFronts-put p.outputs q.stand (owed (here.course q.input)) q.fronts);
 }
 
--- a fault that ended the run, behind the turns before it
+-- a fault that ended the run, after the turns before it
 pub AfterStop-behind : {A F : Type 0} (work here : Work A F) (a b c : Meanings) (stop : Stop F) → Reaches work here a b → AfterStop here.course b c stop → AfterStop work.course a c stop
 AfterStop-behind work here a b c (Data fault) p q = Ends-behind work here a b c (Some fault) p q
 AfterStop-behind work here a b c ReadFault p q = IsCutOff-behind work here a b c p q
@@ -74,12 +74,12 @@ pub Finishes-behind : {A F : Type 0} (work here : Work A F) (a b c : Meanings) (
 unfolding Ends-behind
 Finishes-behind work here a b c answer p q = record { ends = Ends-behind work here a b c None p q.ends; answered = q.answered ∙ sym (p.steps.answer q.ends.input) }
 
--- a run behind a part of it that was done before
+-- a run after a part of it that was done before
 pub AfterRun-behind : {A F : Type 0} (work here : Work A F) (a b c : Meanings) (result : Result A (Stop F)) → Reaches work here a b → AfterRun here b c result → AfterRun work a c result
 AfterRun-behind work here a b c (Ok answer) p q = Finishes-behind work here a b c answer p q
 AfterRun-behind work here a b c (Err stop) p q = AfterStop-behind work here a b c stop p q
 
--- what was opened stays opened
+-- what was opened stays open
 pub AreReady-ran : (writes : Outlet → Bool) (a b : Meanings) (xs us rs : List ℕ) → Ran a b xs us rs → AreReady writes a → AreReady writes b
 AreReady-ran writes a b xs us rs ran ready = record { input = Ran-ready_in a b xs us rs ran ready.input; outputs = λ outlet is. Ran-ready_out a b outlet xs us rs ran (ready.outputs outlet is) }
 
@@ -99,7 +99,7 @@ WroteFront-report a b bytes cut = record { stand = to_report cut.front; wrote = 
 Ran-taken : (a b c : Meanings) (taken : List ℕ) (outputs : Outputs) → Moves a b inlet.Main taken → Wrote b c outputs → Ran a c taken outputs.output outputs.report
 Ran-taken a b c taken outputs moves wrote = subst (λ (l : List ℕ). Ran a c l outputs.output outputs.report) (append-nil taken) (Ran-then a b c taken [] [] outputs.output [] outputs.report (Ran-moves a b taken moves) wrote)
 
--- bytes were taken, and all that they owe was written
+-- bytes were taken, and all that is owed for them was written
 pub Advances-taken : {A F : Type 0} {work here next : Work A F} {owes : Work A F → Type 0} {a b c : Meanings} {taken : List ℕ} {outputs : Outputs} → work ≡ here → Steps here next taken outputs → Moves a b inlet.Main taken → Wrote b c outputs → owes next → Advances work owes a c
 Advances-taken {A = A} {F = F} {next = next} {owes = owes} {a = a} {b = b} {c = c} {taken = taken} {outputs = outputs} is steps moves wrote owed =
     subst (λ (w : Work A F). Advances w owes a c) (sym is) (record { next = next; owed = owed; reaches = record { taken = taken; outputs = outputs; ran = Ran-taken a b c taken outputs moves wrote; steps = steps } })
@@ -114,7 +114,7 @@ IsCutShort-front work next a b taken stand outputs steps fronts ran =
       fronts = subst (AreFronts stand) (sym (ap owed (steps.course rest) ∙ owed-behind outputs (next.course rest))) (AreFronts-then stand outputs (owed (next.course rest)) fronts);
     }
 
--- and where a writing failed, a front of it
+-- and if a write failed, only a prefix of it was written
 pub IsCutShort-taken : {A F : Type 0} {work here next : Work A F} {a b c : Meanings} {taken : List ℕ} {outputs : Outputs} → work ≡ here → Steps here next taken outputs → Moves a b inlet.Main taken → WroteFront b c outputs → IsCutShort work.course a c
 IsCutShort-taken {A = A} {F = F} {here = here} {next = next} {a = a} {b = b} {c = c} {taken = taken} {outputs = outputs} is steps moves front =
     subst (λ (w : Work A F). IsCutShort w.course a c) (sym is) (IsCutShort-front here next a c taken front.stand outputs steps front.fronts (Ran-taken a b c taken front.stand moves front.wrote))
@@ -148,7 +148,7 @@ Finishes-end {A = A} {F = F} {here = here} {a = a} {b = b} {c = c} {last = last}
       answered = sym ends.answer;
     })
 
--- and where a writing failed, a front of it
+-- and if a write failed, only a prefix of it was written
 pub IsCutShort-end : {A F : Type 0} {work here : Work A F} {a b c : Meanings} {last : Outputs} {answer : A} → work ≡ here → IsLast here last answer → Moves a b inlet.Main [] → IsAtEnd (left a inlet.Main) → WroteFront b c last → IsCutShort work.course a c
 IsCutShort-end {A = A} {F = F} {a = a} {b = b} {c = c} {last = last} is ends moves at_end front =
     subst (λ (w : Work A F). IsCutShort w.course a c) (sym is) (record {

@@ -1,4 +1,4 @@
--- How moves from an inlet and additions to an outlet join, for every loop over a desk.
+-- How moves from an inlet and additions to an outlet are joined, for every loop over a desk.
 use Rattle.std.proofs.Common.{◌≡◌, ℕ, ◌+◌, ◌≤◌, List, [], ◌++◌, length, take, drop, take-append-drop, Option, Some, None, refl, sym, ap, ◌∙◌, subst, append_assoc, append-nil}
 use Rattle.std.proofs.lemmas.List.{take-append-le, length-take-le}
 use Rattle.std.proofs.Math.Seq.{take-append-add}
@@ -57,7 +57,7 @@ Moves-then a b c i xs ys p q = record {
   others = q.others ∙ (ap (λ m. with_left m i (left c i)) p.others ∙ with_left-with_left a i (left b i) (left c i));
 }
 
--- an opened inlet stays opened
+-- an opened inlet stays open
 pub Moves-ready : (a b : Meanings) (i : Inlet) (xs : List ℕ) → Moves a b i xs → IsReadyIn a i → IsReadyIn b i
 Moves-ready a b i xs p h = subst (λ m. IsReadyIn m i) (sym p.others) (IsReadyIn-with_left a i (left b i) h)
 
@@ -68,15 +68,15 @@ Adds-then a b c o xs ys p q = record {
   others = q.others ∙ (ap (λ m. with_made m o (made c o)) p.others ∙ with_made-with_made a o (made b o) (made c o));
 }
 
--- an opened outlet stays opened
+-- an opened outlet stays open
 pub Adds-ready : (a b : Meanings) (o : Outlet) (xs : List ℕ) → Adds a b o xs → IsReadyOut a o → IsReadyOut b o
 Adds-ready a b o xs p h = subst (λ m. IsReadyOut m o) (sym p.others) (IsReadyOut-with_made a o (made b o) h)
 
--- a front was added, so far as some bytes go
+-- a prefix was added, as long as a limit allows
 pub AddsFront-take : (a b : Meanings) (o : Outlet) (n : ℕ) (xs : List ℕ) → Adds a b o (take n xs) → AddsFront a b o xs
 AddsFront-take a b o n xs p = record { front = take n xs; rest = drop n xs; joined = take-append-drop n xs; added = p }
 
--- after more bytes were read behind a full front, the front is longer by them
+-- after more bytes were read after a full front, the front is longer by them
 pub take-put_mid-add : (xs ys : List ℕ) (a k n : ℕ) → a ≤ length xs → n ≤ length ys → take (a + n) (put_mid a k xs ys) ≡ take a xs ++ take n ys
 take-put_mid-add xs ys a k n within short =
     let front = take a xs in

@@ -1,5 +1,5 @@
--- What a command owes for its input, and what a run of it leaves of a desk, by its answer. Every command reads one input
--- to its end and writes up to two outputs.
+-- What a command owes for its input, that is, must write, and what a run of it does to a desk, by its answer. Every
+-- command reads one input to its end and writes up to two outputs.
 use Rattle.std.specs.Prelude.{◌≡◌, ℕ, List, [], ◌++◌, Option, Some, None, Result, Ok, Err, IfSome}
 use Rattle.desk_ports.specs.declared.desk.Inlet.TheVariants as inlet
 use Rattle.desk_ports.specs.Stop.{Stop, Data, ReadFault, WriteFault}
@@ -24,8 +24,8 @@ to_report bytes = record { output = []; report = bytes }
 abbrev pub put : Outputs → Outputs → Outputs
 put first more = record { output = first.output ++ more.output; report = first.report ++ more.report }
 
--- What a command owes for an input: what stands when the input's end is met, what a whole input adds to that, and the fault
--- of the data, if there is one.
+-- What a command owes for an input: what must be written when the end of the input is reached, what a complete input
+-- adds to that, and the fault of the data, if there is one.
 pub record Course (F : Type 0) : Type 0 where
   pub before : Outputs
   pub after : Outputs
@@ -35,20 +35,20 @@ abbrev pub by_ending : {F : Type 0} → Option F → Outputs → Outputs → Out
 by_ending None before after = put before after
 by_ending (Some fault) before after = before
 
--- all that is owed: what a whole input adds is not owed where there is a fault
+-- all that is owed: what a complete input adds is not owed if there is a fault
 abbrev pub owed : {F : Type 0} → Course F → Outputs
 owed course = by_ending course.ending course.before course.after
 
--- the same course where this stands already
+-- the same course if these outputs were written already
 abbrev pub behind : {F : Type 0} → Outputs → Course F → Course F
 behind stand course = record course { before = put stand course.before }
 
--- what stands is the front of all that is owed
+-- what was written is a prefix of all that is owed
 pub record AreFronts (stand all : Outputs) : Type 0 where
   pub rest : Outputs
   pub joined : put stand rest ≡ all
 
--- The input is these bytes, where the desk tells it. A front of it was taken, this was added to the outputs, and nothing
+-- The input is these bytes, if the desk tells it. A prefix of it was taken, this was added to the outputs, and nothing
 -- else changed.
 pub record Went (old new : Meanings) (input : List ℕ) (stand : Outputs) : Type 0 where
   pub taken : List ℕ
@@ -57,23 +57,23 @@ pub record Went (old new : Meanings) (input : List ℕ) (stand : Outputs) : Type
   pub told : IfSome (left new inlet.Main) (λ bytes. bytes ≡ rest)
   pub ran : Ran old new taken stand.output stand.report
 
--- nothing is left of the main input, where the desk tells it
+-- nothing is left of the main input, if the desk tells it
 abbrev pub IsReadOut : Meanings → Type 0
 IsReadOut m = IfSome (left m inlet.Main) (λ bytes. bytes ≡ [])
 
--- the course of the input ends so, and all that it owes stands; an input without a fault was read to its end
+-- the course of the input ends like this, and all that it owes was written; an input without a fault was read to its end
 pub record Ends {F : Type 0} (course_of : List ℕ → Course F) (old new : Meanings) (ending : Option F) : Type 0 where
   pub input : List ℕ
   pub went : Went old new input (owed (course_of input))
   pub ends : (course_of input).ending ≡ ending
   pub read_out : ending ≡ None → IsReadOut new
 
--- a reading failed: what stands is what the bytes owe that were taken, with none of what a whole input adds
+-- a read failed: what is owed for the bytes that were taken was written, and nothing of what a complete input adds
 pub record IsCutOff {F : Type 0} (course_of : List ℕ → Course F) (old new : Meanings) : Type 0 where
   pub taken : List ℕ
   pub ran : Ran old new taken (course_of taken).before.output (course_of taken).before.report
 
--- a writing failed: what stands is a front of what the input owes
+-- a write failed: a prefix of what the input owes was written
 pub record IsCutShort {F : Type 0} (course_of : List ℕ → Course F) (old new : Meanings) : Type 0 where
   pub input : List ℕ
   pub stand : Outputs
@@ -86,12 +86,13 @@ AfterStop course_of old new (Data fault) = Ends course_of old new (Some fault)
 AfterStop course_of old new ReadFault = IsCutOff course_of old new
 AfterStop course_of old new WriteFault = IsCutShort course_of old new
 
--- the work of a run: what it owes for the bytes of its input, and what it answers where they have no fault
+-- the work of a run: what it owes for the bytes of its input, and what it answers if they have no fault
 pub record Work (A F : Type 0) : Type 0 where
   pub course : List ℕ → Course F
   pub answer : List ℕ → A
 
--- all of the work is done: what the input owes stands, and the answer is that of the same bytes, whatever the desk tells
+-- all of the work is done: what the input owes was written, and the answer is the one for the same bytes, whatever the
+-- desk tells
 pub record Finishes {A F : Type 0} (work : Work A F) (old new : Meanings) (answer : A) : Type 0 where
   pub ends : Ends work.course old new None
   pub answered : answer ≡ work.answer ends.input
@@ -106,7 +107,7 @@ abbrev pub by_stop : {T E F : Type 0} → (E → Stop F) → Result T E → Resu
 by_stop stop_of (Ok done) = Ok done
 by_stop stop_of (Err fault) = Err (stop_of fault)
 
--- why a run ended: of every answer but a fault of the desk both counts are as before
+-- why a run ended: for every answer but a fault of the desk both counts are as before
 abbrev pub HasCause : {T F : Type 0} → Counts → Counts → Result T (Stop F) → Type 0
 HasCause old new (Ok done) = new ≡ old
 HasCause old new (Err (Data fault)) = new ≡ old

@@ -1,5 +1,5 @@
--- What a desk over real files tells: of each inlet and outlet whether it was opened, and no content. And what it has
--- gathered.
+-- What a desk over real files tells: for each inlet and outlet whether it was opened, and no content. And what it has
+-- collected to write.
 use Rattle.std.specs.Prelude.{Bool, true, false, ℕ, List, [], is_some}
 use Rattle.std.specs.Io.Buffered.{writer_buffer}
 use Rattle.desk_ports.specs.declared.desk.Inlet.{Inlet}
@@ -46,7 +46,7 @@ waits sink.Nothing = false
 waits (sink.StandardOutput stdout) = false
 waits (sink.File file part) = is_some part
 
--- the same of an outlet
+-- the same for an outlet
 abbrev pub waits_at : FileDesk → Outlet → Bool
 waits_at desk outlet.Main = waits desk.output
 waits_at desk outlet.Report = waits desk.report

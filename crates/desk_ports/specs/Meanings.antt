@@ -10,22 +10,23 @@ use Rattle.desk_ports.specs.declared.desk.Inlet.TheVariants as inlet
 use Rattle.desk_ports.specs.declared.desk.Outlet.{Outlet}
 use Rattle.desk_ports.specs.declared.desk.Outlet.TheVariants as outlet
 
--- an input: the bytes still to come, where the desk tells them, and whether it was opened
+-- an input: the bytes still to come, if the desk tells them, and whether it was opened
 pub record Incoming : Type 0 where
   pub left : Option (List ℕ)
   pub ready : Bool
 
--- an output: the bytes written since it was opened and the name that it has, where the desk tells them, and whether it was opened
+-- an output: the bytes written since it was opened and the name that it has, if the desk tells them, and whether it was
+-- opened
 pub record Outgoing : Type 0 where
   pub made : Option (List ℕ)
   pub name : Option (List ℕ)
   pub ready : Bool
 
--- the bytes that are kept under names, a name being the bytes of its text
+-- the bytes that are kept under names; a name is the bytes of its text
 abbrev pub Kept : Type 0
 Kept = map.FinMap (slice_cmp nat_cmp) (List ℕ)
 
--- what is kept under a name, nothing where the name was never kept
+-- what is kept under a name, or nothing if the name was never kept
 abbrev pub kept_at : Kept → List ℕ → List ℕ
 kept_at kept name = unwrap_or (map.get kept name) []
 
@@ -103,14 +104,14 @@ pub record Adds (old new : Meanings) (o : Outlet) (bytes : List ℕ) : Type 0 wh
   pub added : made new o ≡ append_known (made old o) bytes
   pub others : new ≡ with_made old o (made new o)
 
--- a front of these bytes was added to the end of what an outlet made, and nothing else changed
+-- a prefix of these bytes was added to the end of what an outlet made, and nothing else changed
 pub record AddsFront (old new : Meanings) (o : Outlet) (bytes : List ℕ) : Type 0 where
   pub front : List ℕ
   pub rest : List ℕ
   pub joined : front ++ rest ≡ bytes
   pub added : Adds old new o front
 
--- what is kept once an outlet is finished, where the desk tells all three parts
+-- what is kept once an outlet is finished, if the desk tells all three parts
 abbrev pub kept_after : Option Kept → Option (List ℕ) → Option (List ℕ) → Option Kept
 kept_after (Some kept) (Some name) (Some made) = Some (map.insert kept name made)
 kept_after (Some kept) (Some name) None = None
@@ -121,19 +122,19 @@ kept_after None name made = None
 abbrev pub Keeps : Meanings → Meanings → Outlet → Type 0
 Keeps old new o = new ≡ record old { held = kept_after old.held (outgoing old o).name (made old o) }
 
--- the next value of a count, which stands still at its last value
+-- the next value of a count, which stays at its last value
 abbrev pub next_count : ℕ → ℕ
 next_count n = min (n + 1) (2 ^ 64 - 1)
 
--- a count rose, or it stands at its last value
+-- a count rose, or it is at its last value
 abbrev pub Rose : ℕ → ℕ → Type 0
 Rose old new = next_count old ≤ new
 
--- a reading failed: that is counted, once, and nothing else
+-- a read failed: that is counted, once, and nothing else
 abbrev pub FailsToRead : Counts → Counts → Type 0
 FailsToRead old new = new ≡ record old { reads = next_count old.reads }
 
--- a writing failed: that is counted, once, and nothing else
+-- a write failed: that is counted, once, and nothing else
 abbrev pub FailsToWrite : Counts → Counts → Type 0
 FailsToWrite old new = new ≡ record old { writes = next_count old.writes }
 
@@ -145,22 +146,22 @@ Fails old new = FailsToRead old new ⊎ FailsToWrite old new
 abbrev pub faults : Counts → ℕ
 faults counts = counts.reads + counts.writes
 
--- neither count stands at its last value
+-- neither count is at its last value
 pub record AreBelowLast (counts : Counts) : Type 0 where
   pub reads : counts.reads < 2 ^ 64 - 1
   pub writes : counts.writes < 2 ^ 64 - 1
 
--- after a call that reads: Err comes only where a reading failed, and otherwise both counts are as before
+-- after a call that reads: Err comes only if a read failed, and otherwise both counts are as before
 abbrev pub HasReadCause : {T E : Type 0} → Counts → Counts → Result T E → Type 0
 HasReadCause old new (Ok done) = new ≡ old
 HasReadCause old new (Err failed) = FailsToRead old new
 
--- after a call that writes: Err comes only where a writing failed, and otherwise both counts are as before
+-- after a call that writes: Err comes only if a write failed, and otherwise both counts are as before
 abbrev pub HasWriteCause : {T E : Type 0} → Counts → Counts → Result T E → Type 0
 HasWriteCause old new (Ok done) = new ≡ old
 HasWriteCause old new (Err failed) = FailsToWrite old new
 
--- the meanings of a desk that tells no content and grants every name, by what was opened
+-- the meanings of a desk that tells no content and grants every name, in terms of what was opened
 abbrev pub untold : Bool → Bool → Bool → Bool → Meanings
 untold side input output report = record {
   side = record { left = None; ready = side };
@@ -172,6 +173,6 @@ untold side input output report = record {
   grants_out = λ _. true;
 }
 
--- the same where nothing was opened
+-- the same if nothing was opened
 abbrev pub nothing_told : Meanings
 nothing_told = untold false false false false

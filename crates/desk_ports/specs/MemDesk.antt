@@ -22,7 +22,7 @@ abbrev pub incoming_of : List (List ℕ × List ℕ) → Cursor → MemIncoming
 incoming_of log cursor.Nothing = closed_incoming
 incoming_of log (cursor.Entry at place) = record { left = drop place (bytes_at log at); ready = true }
 
--- an inlet stands within an entry
+-- an inlet is within an entry
 abbrev pub IsInEntry : List (List ℕ × List ℕ) → Cursor → Type 0
 IsInEntry log cursor.Nothing = Unit {0}
 IsInEntry log (cursor.Entry at place) = (at < length log) × (place ≤ length (bytes_at log at))
@@ -39,7 +39,7 @@ state_of desk = record {
   faults = record { reads = desk.faults.reads; writes = desk.faults.writes; short = desk.faults.short };
 }
 
--- both inlets stand within entries, and a piece has bytes
+-- both inlets are within entries, and a piece has at least one byte
 pub record IsSound (desk : Inside) : Type 0 where
   pub side : IsInEntry desk.log.items desk.cursors.side
   pub input : IsInEntry desk.log.items desk.cursors.input

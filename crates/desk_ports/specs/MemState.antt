@@ -1,4 +1,4 @@
--- What a desk in memory is seen as, and what each of its calls does to that.
+-- What is seen of a desk in memory, and what each of its calls does to that.
 use Rattle.std.specs.Prelude.{◌≡◌, ℕ, min, Bool, true, false, List, [], Option, Some, None, refl, ◌++◌, ◌∷◌}
 use Rattle.std.specs.List.{Contains}
 use Rattle.std.specs.Coded.{Coded, code_by, coded×, coded_ℕ, coded_bool, coded_list, coded_option}
@@ -22,7 +22,7 @@ pub record MemOutgoing : Type 0 where
   pub name : List ℕ
   pub ready : Bool
 
--- the faults of reading and of writing, and the growths that were refused
+-- the faults of reading and of writing, and the allocations that were refused
 pub record MemFaults : Type 0 where
   pub reads : ℕ
   pub writes : ℕ
@@ -41,8 +41,8 @@ pub record MemPlan : Type 0 where
   pub write : MemCalls
   pub finish : MemCalls
 
--- all of a desk in memory: its inputs and outputs, what it keeps, the most bytes that a call moves where that is set,
--- the calls that were made and that fail, its faults of reading and of writing, and the growths that were refused
+-- all of a desk in memory: its inputs and outputs, what it keeps, the most bytes that a call moves if that is limited,
+-- the calls that were made and that fail, its faults of reading and of writing, and the allocations that were refused
 pub record MemState : Type 0 where
   pub side : MemIncoming
   pub input : MemIncoming
@@ -149,7 +149,7 @@ mem_meanings state = record {
 abbrev pub mem_counts : MemState → Counts
 mem_counts state = record { reads = state.faults.reads; writes = state.faults.writes }
 
--- as many bytes as one call may move
+-- the most bytes that one call may move
 abbrev pub capped : Option ℕ → ℕ → ℕ
 capped None n = n
 capped (Some size) n = min n size
@@ -200,11 +200,11 @@ read_fault faults = record faults { reads = next_count faults.reads }
 abbrev pub write_fault : MemFaults → MemFaults
 write_fault faults = record faults { writes = next_count faults.writes }
 
--- after one more growth that was refused
+-- after one more allocation that was refused
 abbrev pub refusal : MemFaults → MemFaults
 refusal faults = record (write_fault faults) { short = next_count faults.short }
 
--- a call of this kind was made: it has its number, and what the desk was told to do stays
+-- a call of this kind was made: it has its number, and what the desk was told to do is unchanged
 pub record IsCalled (old new : MemState) (call : Call) : Type 0 where
   pub numbered : new.plan ≡ called old.plan call
   pub pieces : new.pieces ≡ old.pieces

@@ -1,4 +1,4 @@
--- What a quiet desk is seen as, and what it tells.
+-- What is seen of a quiet desk, and what it tells.
 use Rattle.std.specs.Prelude.{Bool, true, false, List, ℕ, Option, Some, None, refl}
 use Rattle.std.specs.Coded.{Coded, code_by, coded×, coded_bool, coded_option}
 use Rattle.std.specs.Option.{option_map}
@@ -22,7 +22,7 @@ quiet_code =
     (λ p. record { side = p.0.0; input = p.0.1; output = p.1.0.0; report = p.1.0.1; held = p.1.1 })
     (λ _. refl)
 
--- two named inputs, of which the second stands where both names are equal
+-- two named inputs; if both names are equal, the second one holds
 abbrev pub both_kept : List ℕ → List ℕ → List ℕ → List ℕ → Kept
 both_kept side_name side main_name main = map.insert (map.insert map.empty side_name side) main_name main
 
@@ -30,7 +30,7 @@ both_kept side_name side main_name main = map.insert (map.insert map.empty side_
 abbrev pub quiet_desk : Kept → QuietState
 quiet_desk kept = record { side = closed_incoming; input = closed_incoming; output = false; report = false; held = Some kept }
 
--- the bytes that are kept under a name, where the desk tells them
+-- the bytes that are kept under a name, if the desk tells them
 abbrev pub quiet_held : QuietState → List ℕ → Option (List ℕ)
 quiet_held desk name = option_map (λ kept. kept_at kept name) desk.held
 

@@ -3,7 +3,7 @@ use Rattle.std.specs.Prelude.{◌≡◌, ℕ, ◌≤◌, List, ◌++◌}
 use Rattle.desk_ports.specs.declared.desk.Inlet.TheVariants as inlet
 use Rattle.desk_ports.specs.Meanings.{Meanings, Moves}
 
--- Bytes were moved from the main input: they stand behind those that were ahead, and nothing else changed.
+-- Bytes were moved from the main input: they come after those that were ahead, and nothing else changed.
 pub record ReadsOn (before after : List ℕ) (old new : Meanings) : Type 0 where
   pub bytes : List ℕ
   pub joined : after ≡ before ++ bytes

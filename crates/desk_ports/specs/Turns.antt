@@ -1,4 +1,4 @@
--- What a run over a desk still owes, and what one turn of it does.
+-- What work a run over a desk still has to do, and what one turn of it does.
 use Rattle.std.specs.Prelude.{◌≡◌, ℕ, Bool, IsTrue, List, [], ◌++◌, None, Result, Ok, Err}
 use Rattle.desk_ports.specs.declared.desk.Inlet.TheVariants as inlet
 use Rattle.desk_ports.specs.declared.desk.Outlet.{Outlet}
@@ -9,29 +9,30 @@ use Rattle.desk_ports.specs.Meanings.{Meanings, IsReadyIn, IsReadyOut}
 use Rattle.desk_ports.specs.Runs.{Ran}
 use Rattle.desk_ports.specs.Courses.{Outputs, no_outputs, behind, AreFronts, Work, Finishes, AfterStop}
 
--- some work is owed
+-- there is work that is owed, that is, still to do
 pub record IsOwed {A F : Type 0} (owes : Work A F → Type 0) : Type 0 where
   pub work : Work A F
   pub owed : owes work
 
--- the input was opened, and each output that is written
+-- the input was opened, and so was each output that is written
 pub record AreReady (writes : Outlet → Bool) (m : Meanings) : Type 0 where
   pub input : IsReadyIn m inlet.Main
   pub outputs : (outlet : Outlet) → IsTrue (writes outlet) → IsReadyOut m outlet
 
--- Where the input begins with these bytes, they owe this, and for the bytes behind them the other work is to do.
+-- If the input begins with these bytes, these outputs are owed for them, and for the bytes after them the other work is
+-- to do.
 pub record Steps {A F : Type 0} (work next : Work A F) (taken : List ℕ) (outputs : Outputs) : Type 0 where
   pub course : (rest : List ℕ) → work.course (taken ++ rest) ≡ behind outputs (next.course rest)
   pub answer : (rest : List ℕ) → work.answer (taken ++ rest) ≡ next.answer rest
 
--- Part of the work is done: some bytes were taken, and what they owe stands.
+-- Part of the work is done: some bytes were taken, and what is owed for them was written.
 pub record Reaches {A F : Type 0} (work next : Work A F) (old new : Meanings) : Type 0 where
   pub taken : List ℕ
   pub outputs : Outputs
   pub ran : Ran old new taken outputs.output outputs.report
   pub steps : Steps work next taken outputs
 
--- part of the work is done, and some other work is owed
+-- part of the work is done, and some other work is still to do
 pub record Advances {A F : Type 0} (work : Work A F) (owes : Work A F → Type 0) (old new : Meanings) : Type 0 where
   pub next : Work A F
   pub owed : owes next
@@ -43,7 +44,7 @@ AfterTurn work owes old new (Ok More) = Advances work owes old new
 AfterTurn work owes old new (Ok (Done answer)) = Finishes work old new answer
 AfterTurn work owes old new (Err stop) = AfterStop work.course old new stop
 
--- Nothing is left of the input: this last part is owed, and this is answered.
+-- Nothing is left of the input: this last part is owed, and this is the answer.
 pub record IsLast {A F : Type 0} (work : Work A F) (last : Outputs) (value : A) : Type 0 where
   pub course : work.course [] ≡ record { before = no_outputs; after = last; ending = None }
   pub answer : work.answer [] ≡ value
@@ -52,7 +53,7 @@ pub record IsLast {A F : Type 0} (work : Work A F) (last : Outputs) (value : A) 
 abbrev pub Wrote : Meanings → Meanings → Outputs → Type 0
 Wrote old new all = Ran old new [] all.output all.report
 
--- a front of these bytes was written, and nothing else happened
+-- a prefix of these bytes was written, and nothing else happened
 pub record WroteFront (old new : Meanings) (all : Outputs) : Type 0 where
   pub stand : Outputs
   pub wrote : Wrote old new stand

@@ -9,11 +9,11 @@ use crate::desk::{Desk, Failed, Inlet};
 use std::alloc::{AllocError, Global};
 use std::marker::Model;
 
-/// How many bytes are ahead at most.
+/// The most bytes that can be read ahead.
 pub const MOST_AHEAD: usize = 131_072;
 
 /// Bytes of the main input of a desk that were read and not yet passed. Contracts see these bytes: the rest of the input
-/// is these, and then what the desk has left.
+/// is these bytes, and then what the desk has left.
 #[derive(Debug, Drop)]
 pub struct ReadAhead {
     room: Vec<u8>,
@@ -33,7 +33,7 @@ impl Model for ReadAhead {
 }
 
 impl ReadAhead {
-    /// Nothing is ahead. Takes the room for all bytes.
+    /// Nothing is ahead. Allocates the room for all bytes.
     pub fn open(alloc: Global) -> Result<ReadAhead, AllocError>
         ensures { IfOk result (λ ahead. ahead ≡ []) }
     {
@@ -44,19 +44,19 @@ impl ReadAhead {
         })
     }
 
-    /// Reads until `n` bytes are ahead or the input is at its end, and tells whether so many are. At `Failed` no byte is
-    /// lost that was read before. It takes no memory.
+    /// Reads until `n` bytes are ahead or the input is at its end, and tells whether `n` bytes are ahead. At `Failed` no
+    /// byte that was read before is lost. It allocates no memory.
     pub fn hold<D: Desk>(&mut self, desk: &mut D, n: usize) -> Result<bool, Failed>
         requires open { IsReadyIn (D.meaning desk.old) Inlet.Main }
         requires most { n ≤ 131072 }
-        // What was read stands behind what was ahead.
+        // What was read comes after what was ahead.
         ensures read { ReadsOn self.old self.new (D.meaning desk.old) (D.meaning desk.new) }
         ensures held { result ≡ Ok true → n ≤ length self.new }
         ensures bytes { result ≡ Ok true → All (λ b. b < 256) self.new }
         ensures short { result ≡ Ok false → length self.new < n }
         ensures at_end { result ≡ Ok false → IsAtEnd (left (D.meaning desk.new) Inlet.Main) }
         ensures cut { OnErr result (length self.new < n) }
-        // Where so many bytes are ahead, the desk stays as it is.
+        // If that many bytes were ahead already, the desk is unchanged.
         ensures whole { n ≤ length self.old → desk.new ≡ desk.old }
         ensures cause { HasReadCause (D.counts desk.old) (D.counts desk.new) result }
     {

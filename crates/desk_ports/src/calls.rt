@@ -88,7 +88,7 @@ impl Model for Plan {
 }
 
 impl Plan {
-    /// No call was made, and none fails. It takes no memory.
+    /// No call was made, and none fails. It allocates no memory.
     pub fn none(alloc: Global) -> Plan
         ensures { result ≡ empty_plan }
     {
@@ -115,7 +115,7 @@ impl Plan {
         }
     }
 
-    /// Lets the call of this kind with this number fail.
+    /// Makes the call of this kind with this number fail.
     pub fn fail(&mut self, call: Call, nth: u32) -> Result<(), AllocError>
         ensures ok { OnOk result (self.new ≡ also_failing self.old call nth) }
         ensures err { OnErr result (self.new ≡ self.old) }

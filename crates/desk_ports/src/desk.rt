@@ -1,4 +1,4 @@
-//! The desk: one trait for all that comes in and goes out.
+//! The desk: the one trait for everything that comes in and goes out.
 
 ghost use Rattle.std.specs.Prelude.{◌≡◌, ◌<◌, ◌≤◌, length, take, IsTrue, IfOk, OnOk, OnErr};
 ghost use Rattle.std.specs.Io.KnownBytes.{IsAtEnd};
@@ -6,7 +6,7 @@ ghost use Rattle.desk_ports.specs.Meanings.{Meanings, Counts, Opens, Begins, Mov
 
 use thiserror::Error;
 
-/// A call on the outside failed: the system, or the desk that stands for it, refused.
+/// A call to the outside failed: the system, or the desk that takes its place, refused.
 #[derive(Clone, Copy, Debug, PartialEq, Eq, Error)]
 #[error("the desk failed")]
 pub struct Failed;
@@ -27,8 +27,8 @@ pub enum Outlet {
 
 /// The outside of a command: named inputs are opened and read, named outputs opened, written and finished.
 ///
-/// `meaning` is all that the desk tells of itself, and `counts` its faults of reading and of writing,
-/// which no call lets fall. No call changes a meaning that its clauses do not name.
+/// `meaning` is all that the desk tells about itself, and `counts` are its faults of reading and of writing,
+/// which no call decreases. No call changes a meaning that its clauses do not name.
 pub trait Desk {
     ghost meaning: { Self → Meanings };
 

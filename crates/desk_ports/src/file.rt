@@ -69,14 +69,14 @@ impl Source {
     }
 }
 
-/// How many bytes of an outlet are gathered before they are handed to the system.
+/// How many bytes of an outlet are collected before they are handed to the system.
 const GATHERED: usize = 131_072;
 
 // The names of standard output.
 const STANDARD_OUTPUT: [&str; 4] = ["-", "/dev/stdout", "/dev/fd/1", "/proc/self/fd/1"];
 
-// Where the bytes of an outlet go. They are gathered, and handed to the system when there are enough. A file that is a part
-// waits for its name.
+// Where the bytes of an outlet go. They are collected, and handed to the system when there are enough. An output that is
+// written to a part, a file beside its name, waits for its name.
 #[derive(Drop)]
 enum Sink {
     Nothing,
@@ -87,7 +87,7 @@ enum Sink {
 impl Sink {
     ghost use Rattle.desk_ports.specs.FileDesk.{waits};
 
-    // What stands under the name is not changed.
+    // What exists under the name is not changed.
     fn open(rt: &HostRuntime, name: &str, inputs: &[Option<Node>], other: &Sink) -> io::Result<Sink>
         ensures opened { IfOk result (λ sink. IsTrue (is_opened_sink sink)) }
         ensures none { IfOk result (λ sink. gathered sink ≡ []) }
@@ -101,7 +101,7 @@ impl Sink {
         Ok(Sink::File(file, part))
     }
 
-    // Whether it is standard output, and that a terminal.
+    // Whether it is standard output, and that is a terminal.
     fn is_terminal(&self, rt: &HostRuntime) -> bool {
         matches!(self, Sink::StandardOutput(_)) && rt.stdout().is_terminal()
     }
@@ -114,7 +114,8 @@ impl Sink {
         }
     }
 
-    // Tells how many bytes were taken. Why the system refuses is not told: an `io::Error` is far larger than a number.
+    // Tells how many bytes were taken. The system's reason for a refusal is dropped: an `io::Error` is far larger than a
+    // number.
     fn write(&mut self, bytes: &[u8]) -> Option<usize>
         requires { IsTrue (is_opened_sink self.old) }
         ensures within { IfSome result (λ n. n ≤ length bytes.now) }
@@ -127,7 +128,7 @@ impl Sink {
         }
     }
 
-    // Hands everything to the system that was gathered, if the outlet was opened.
+    // Hands everything that was collected to the system, if the outlet was opened.
     fn flush(&mut self) -> io::Result<()>
         ensures opened { is_opened_sink self.new ≡ is_opened_sink self.old }
         ensures handed { OnOk result (gathered self.new ≡ []) }
@@ -139,7 +140,7 @@ impl Sink {
         }
     }
 
-    // Hands everything to the system that was gathered, and gives a part the name that it waits for.
+    // Hands everything that was collected to the system, and gives a part the name that it waits for.
     fn finish(&mut self, rt: &HostRuntime) -> io::Result<()>
         ensures opened { is_opened_sink self.new ≡ is_opened_sink self.old }
         ensures handed { OnOk result (gathered self.new ≡ []) }
@@ -160,12 +161,13 @@ impl Sink {
 /// The desk over real files. The name `-` is standard input for an inlet and standard output for an outlet.
 ///
 /// It tells no content, since no clause can say what a file holds. Each error of the system is a fault,
-/// and so is a write that takes nothing. Each reading is one call of the system. What is written is gathered, up to
-/// 131,072 bytes for each outlet, and handed to the system when there is no more room, at `finish` and by `hand_over`.
+/// and so is a write that takes nothing. Each read is one call of the system. What is written is collected, up to
+/// 131,072 bytes for each outlet, and handed to the system when it no longer fits, at `finish` and by `hand_over`.
 ///
-/// An output appears under its name when it is whole: it is written to a part beside the name, `NAME.part`, which takes the
-/// name at `finish`. Before that the name has what it had. A name that is there and is no regular file, as a device or a
-/// pipe, is written directly. If standard error is a terminal, a line there tells how far the main input is.
+/// An output appears under its name when it is complete: it is written to a part beside the name, `NAME.part`, which
+/// takes the name at `finish`. Until then the name keeps what it had. If the name is that of something other than a
+/// regular file, such as a device or a pipe, it is written directly. If standard error is a terminal, a line there shows
+/// how far the main input is.
 #[derive(Drop)]
 pub struct FileDesk<'a> {
     rt: &'a HostRuntime,
@@ -179,7 +181,7 @@ pub struct FileDesk<'a> {
 }
 
 impl<'a> FileDesk<'a> {
-    /// A desk at which nothing was opened. It grants every name.
+    /// A desk on which nothing was opened. It grants every name.
     pub fn new(rt: &'a HostRuntime) -> FileDesk<'a>
         ensures untold { ⟦<FileDesk<'a> as Desk>⟧.meaning result ≡ nothing_told }
         ensures no_faults { ⟦<FileDesk<'a> as Desk>⟧.counts result
@@ -197,8 +199,8 @@ impl<'a> FileDesk<'a> {
         }
     }
 
-    /// Hands everything to the system that was gathered for both outlets. A run that was refused leaves its outputs
-    /// unfinished; after this call they have what it wrote.
+    /// Hands everything that was collected for both outlets to the system. A run that was refused leaves its outputs
+    /// unfinished; after this call they contain what it wrote.
     pub fn hand_over(&mut self) -> Result<(), Failed>
         ensures meaning { ⟦<FileDesk<'a> as Desk>⟧.meaning self.new
             ≡ ⟦<FileDesk<'a> as Desk>⟧.meaning self.old }
@@ -309,7 +311,7 @@ impl<'a> Desk for FileDesk<'a> {
         ensures unchanged { OnErr result (file_meanings self.new ≡ file_meanings self.old) }
         ensures cause { HasWriteCause (file_counts self.old) (file_counts self.new) result }
 
-        // Nothing is gathered for the outlet, and the other one is as before.
+        // Nothing is collected for the outlet, and the other one is as before.
         ensures none { OnOk result (gathered_at self.new outlet ≡ []) }
         ensures other { other_sink self.new outlet ≡ other_sink self.old outlet }
     {
@@ -359,7 +361,7 @@ impl<'a> Desk for FileDesk<'a> {
         ensures unchanged { OnErr result (file_meanings self.new ≡ file_meanings self.old) }
         ensures cause { HasWriteCause (file_counts self.old) (file_counts self.new) result }
 
-        // The other outlet is as before, with what it gathered.
+        // The other outlet is as before, with what was collected for it.
         ensures other { other_sink self.new outlet ≡ other_sink self.old outlet }
     {
         let taken = match outlet {
@@ -379,7 +381,8 @@ impl<'a> Desk for FileDesk<'a> {
         ensures unchanged { OnErr result (file_meanings self.new ≡ file_meanings self.old) }
         ensures cause { HasWriteCause (file_counts self.old) (file_counts self.new) result }
 
-        // Nothing is gathered for the outlet any more, its part no longer waits for its name, and the other one is as before.
+        // Nothing is collected for the outlet any more, its part waits for its name no longer, and the other
+        // outlet is as before.
         ensures handed { OnOk result (gathered_at self.new outlet ≡ []) }
         ensures named { OnOk result (waits_at self.new outlet ≡ false) }
         ensures other { other_sink self.new outlet ≡ other_sink self.old outlet }

@@ -9,7 +9,7 @@ ghost use Rattle.desk_ports.specs.Meanings.{Meanings, Counts, Moves, Adds, AreBe
 ghost use Rattle.desk_ports.specs.Courses.{Course, Ends, Finishes, Work, owed};
 ghost use Rattle.desk_ports.specs.QuietState.{QuietState, quiet_meanings, quiet_counts};
 
-/// Two reads are one read of both pieces, and two writes one write.
+/// Two reads are one read of both pieces, and two writes are one write.
 pub fn pieces_join()
     ensures read { (a b c : Meanings) (inlet : Inlet) (xs ys : List ℕ) → Moves a b inlet xs
         → Moves b c inlet ys
@@ -19,7 +19,7 @@ pub fn pieces_join()
         → Adds a c outlet (xs ++ ys) }
 {}
 
-/// What was written to an output that was finished is what an input has left that is opened by its name.
+/// What was written to an output that was finished is what is left of an input that is then opened by the same name.
 pub fn finished_is_held()
     ensures { (a b c : Meanings) (outlet : Outlet) (inlet : Inlet) (name bytes : List ℕ)
         → IsSome a.held
@@ -28,8 +28,8 @@ pub fn finished_is_held()
         → IfSome (left c inlet) (λ rest. rest ≡ bytes) }
 {}
 
-/// Where the desk tells its input, a run to its end has added to the outputs exactly what the course of
-/// that input owes, and it ended as that course does; the answer of a run that is done is that input's.
+/// If the desk tells its input, a run to its end has added to the outputs exactly what the course of
+/// that input owes, and it ended as that course does; the answer of a run that is done is the one for that input.
 pub fn runs_follow_their_course<A, F>()
     ensures written { (course_of : List ℕ → Course F) (a b : Meanings) (ending : Option F) (input : List ℕ)
         → left a Inlet.Main ≡ Some input → Ends course_of a b ending
@@ -42,15 +42,15 @@ pub fn runs_follow_their_course<A, F>()
         → answer ≡ work.answer input }
 {}
 
-/// Each fault of a desk is counted once, where neither count stands at its last value. So nothing is done after it: where a
-/// call failed and another one behind it, the counts are not those of one fault.
+/// Each fault of a desk is counted once, if neither count is at its last value. So nothing is done after it: if a
+/// call failed and another one after it, the counts are not those of one fault.
 pub fn faults_count_once()
     ensures one { (old new : Counts) → AreBelowLast old → Fails old new
         → faults new ≡ faults old + 1 }
     ensures last { (a b c : Counts) → AreBelowLast b → Fails a b → Fails b c → ¬ Fails a c }
 {}
 
-/// At a quiet desk neither count ever rises, so no call fails there; and the bytes still to come at an inlet are told.
+/// On a quiet desk neither count ever rises, so no call fails there; and the bytes still to come at an inlet are told.
 pub fn quiet_desks_never_fail<T>()
     ensures reads { (old new : QuietState) → Rose (quiet_counts old).reads (quiet_counts new).reads
         → ⊥ }

@@ -1,4 +1,4 @@
-//! The one way to the outside: inputs to read, outputs to write, and the desks that bring them.
+//! The one way to the outside: inputs to read, outputs to write, and the desks that provide them.
 #![tactic(auto)]
 
 mod ahead;

@@ -14,7 +14,7 @@ use bit_vectors::NoMemory;
 use std::alloc::Global;
 use std::marker::Model;
 
-// Where an inlet stands: before a place of the bytes of an entry of the log.
+// Where an inlet is: before a place in the bytes of an entry of the log.
 #[derive(Clone, Copy, Debug)]
 enum Cursor {
     Nothing,
@@ -73,7 +73,7 @@ impl Faults {
         Failed
     }
 
-    // A growth was refused.
+    // An allocation was refused.
     fn growth(&mut self) -> Failed
         ensures counted { self.new ≡ record self.old {
           writes = next_count self.old.writes;
@@ -116,7 +116,7 @@ impl Model for MemDesk {
 }
 
 impl MemDesk {
-    /// A desk with nothing held, no faults and no failing calls. It takes no memory.
+    /// A desk with nothing held, no faults and no failing calls. It allocates no memory.
     pub fn new(alloc: Global) -> MemDesk
         ensures { result ≡ empty_desk }
     {
@@ -148,7 +148,7 @@ impl MemDesk {
         Ok(keep(&mut self.log, self.alloc, name.as_bytes(), bytes)?)
     }
 
-    /// What is kept under the name, nothing where the name was never put or finished.
+    /// What is kept under the name, or nothing if the name was never put or finished.
     pub fn get(&self, name: &str) -> &[u8]
         ensures { result.now ≡ kept_at self.now.held name.now }
     {
@@ -168,7 +168,7 @@ impl MemDesk {
         }
     }
 
-    /// Lets each later read and write move at most this many bytes.
+    /// Limits each later read and write to at most this many bytes.
     pub fn pieces(&mut self, size: u32)
         requires { 1 ≤ size }
         ensures { self.new ≡ record self.old { pieces = Some size } }
@@ -176,7 +176,7 @@ impl MemDesk {
         self.pieces = Some(size);
     }
 
-    /// Lets the call of this kind with this number fail. Numbers run from 1 since the desk was made.
+    /// Makes the call of this kind with this number fail. Calls are numbered from 1 since the desk was made.
     pub fn fail(&mut self, call: Call, nth: u32) -> Result<(), NoMemory>
         ensures ok { OnOk result
             (self.new ≡ record self.old { plan = also_failing self.old.plan call nth }) }
@@ -199,7 +199,7 @@ impl MemDesk {
         self.faults.writes
     }
 
-    /// How often a growth was refused in opening an output, writing and finishing.
+    /// How often an allocation was refused in opening an output, writing and finishing.
     pub fn short(&self) -> u64
         ensures { result ≡ self.now.faults.short }
     {
@@ -219,7 +219,7 @@ impl Desk for MemDesk {
         ensures unchanged { OnErr result (mem_meanings self.new ≡ mem_meanings self.old) }
         ensures cause { HasReadCause (mem_counts self.old) (mem_counts self.new) result }
 
-        // It fails exactly where `fail` named it, and where the name was never put or finished.
+        // It fails exactly if `fail` named it, or if the name was never put or finished.
         ensures fails { IsErr result
             ↔ (IsNamed self.old Call.OpenIn ⊎ (map.get self.old.held name.now ≡ None)) }
         ensures still { OnOk result (self.new.faults ≡ self.old.faults) }
@@ -243,7 +243,7 @@ impl Desk for MemDesk {
         ensures unchanged { OnErr result (mem_meanings self.new ≡ mem_meanings self.old) }
         ensures cause { HasWriteCause (mem_counts self.old) (mem_counts self.new) result }
 
-        // It fails where `fail` named it, and otherwise only where a growth was refused.
+        // It fails if `fail` named it, and otherwise only if an allocation was refused.
         ensures named { IsNamed self.old Call.OpenOut
             → IsErr result × (self.new.faults ≡ write_fault self.old.faults) }
         ensures refused { OnErr result
@@ -275,7 +275,7 @@ impl Desk for MemDesk {
         ensures unchanged { OnErr result (mem_meanings self.new ≡ mem_meanings self.old) }
         ensures cause { HasReadCause (mem_counts self.old) (mem_counts self.new) result }
 
-        // It fails exactly where `fail` named it. It moves as many bytes as are left and fit, in the size of a piece.
+        // It fails exactly if `fail` named it. It moves as many bytes as are left and fit, up to the size of a piece.
         ensures fails { IsErr result ↔ IsNamed self.old Call.Read }
         ensures count { IfOk result (λ n. n ≡ capped self.old.pieces
             (min (length buf.old) (length (mem_left self.old inlet)))) }
@@ -307,8 +307,8 @@ impl Desk for MemDesk {
         ensures unchanged { OnErr result (mem_meanings self.new ≡ mem_meanings self.old) }
         ensures cause { HasWriteCause (mem_counts self.old) (mem_counts self.new) result }
 
-        // It takes all the bytes, in the size of a piece.
-        // It fails where `fail` named it, and otherwise only where a growth was refused.
+        // It takes all the bytes, up to the size of a piece.
+        // It fails if `fail` named it, and otherwise only if an allocation was refused.
         ensures count { IfOk result (λ n. n ≡ capped self.old.pieces (length bytes.now)) }
         ensures named { IsNamed self.old Call.Write
             → IsErr result × (self.new.faults ≡ write_fault self.old.faults) }
@@ -337,7 +337,7 @@ impl Desk for MemDesk {
         ensures unchanged { OnErr result (mem_meanings self.new ≡ mem_meanings self.old) }
         ensures cause { HasWriteCause (mem_counts self.old) (mem_counts self.new) result }
 
-        // It fails where `fail` named it, and otherwise only where a growth was refused.
+        // It fails if `fail` named it, and otherwise only if an allocation was refused.
         ensures named { IsNamed self.old Call.Finish
             → IsErr result × (self.new.faults ≡ write_fault self.old.faults) }
         ensures refused { OnErr result
@@ -359,7 +359,7 @@ impl Desk for MemDesk {
     }
 }
 
-// As many bytes as one call may move.
+// The most bytes that one call may move.
 fn capped(pieces: Option<u32>, count: usize) -> usize
     ensures { result ≡ capped pieces count }
 {

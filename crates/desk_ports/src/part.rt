@@ -1,10 +1,10 @@
-//! The part of an output: a file beside a name, which takes the name when the output is whole.
+//! The part of an output: a file beside a name, which takes the name when the output is complete.
 
 use std::fs::{File, Metadata, OpenOptions};
 use std::os::unix::fs::MetadataExt;
 use std::{fs, io};
 
-/// Which file of the system something is: its device, and its number there. Two names of one file have one node.
+/// Which file of the system something is: its device, and its number on it. Two names of one file have one node.
 #[derive(Clone, Copy, Debug, PartialEq, Eq)]
 pub struct Node {
     device: u64,
@@ -12,7 +12,7 @@ pub struct Node {
 }
 
 impl Node {
-    /// The node of the file that this is told of.
+    /// The node of the file that this metadata describes.
     pub fn of(metadata: &Metadata) -> Node {
         Node {
             device: metadata.dev(),
@@ -20,14 +20,14 @@ impl Node {
         }
     }
 
-    /// The node of the file that has this name, or of which a link of this name tells.
+    /// The node of the file that has this name, or of the file that a link of this name points to.
     pub fn named(rt: &HostRuntime, name: &str) -> Option<Node> {
         let metadata = fs::metadata(rt, name).ok()?;
         Some(Node::of(&metadata))
     }
 }
 
-/// A file beside a name, which takes the name when the output is whole.
+/// A file beside a name, which takes the name when the output is complete.
 #[derive(Debug, Drop)]
 pub struct Part {
     /// The name of the file until then.
@@ -38,8 +38,8 @@ pub struct Part {
 }
 
 impl Part {
-    /// Opens what an output is written to: the file that has this name, if it is a device, a pipe or another one that
-    /// is no regular file, and otherwise a part beside the name. Nothing that stands under the name is changed.
+    /// Opens what an output is written to: the file that has this name, if it is a device, a pipe or something else that
+    /// is not a regular file, and otherwise a part beside the name. Nothing that exists under the name is changed.
     ///
     /// It fails if the part would have to replace one of the `inputs`, or the other output or its part.
     pub fn open(
@@ -91,13 +91,13 @@ impl Part {
         Ok((file, Part { own, target, node }))
     }
 
-    /// Gives the part the name that it waits for. What stood under that name is then gone.
+    /// Gives the part the name that it waits for. What existed under that name is then gone.
     pub fn take_name(&self, rt: &HostRuntime) -> io::Result<()> {
         fs::rename(rt, &self.own, &self.target)
     }
 }
 
-/// The file of which a link of this name tells, and the name itself if it is no link.
+/// The file that a link of this name points to, and the name itself if it is not a link.
 fn target_of(rt: &HostRuntime, name: &str) -> io::Result<String> {
     let is_link = fs::symlink_metadata(rt, name).is_ok_and(|found| found.is_symlink());
     if !is_link {
@@ -107,7 +107,7 @@ fn target_of(rt: &HostRuntime, name: &str) -> io::Result<String> {
     Ok(format!(in rt.alloc(); "{}", path.display())?)
 }
 
-/// Removes what stands under the name of a part. It is an earlier part, and no input, no link and no part of the other
+/// Removes what exists under the name of a part. It is an earlier part, and not an input, a link or a part of the other
 /// output.
 fn remove_standing(
     rt: &HostRuntime,

@@ -1,4 +1,4 @@
-//! How far a run is, told on standard error while it goes on.
+//! How far a run is, shown on standard error while it goes on.
 
 use std::io::IsTerminal;
 use std::time::Instant;
@@ -6,11 +6,11 @@ use std::time::Instant;
 /// After how many bytes the clock is looked at.
 const LOOK: u64 = 131_072;
 
-/// How many milliseconds what was told stands at least.
+/// The least number of milliseconds before the line is shown again.
 const PAUSE: u128 = 100;
 
-/// How many bytes of the main input were read. If standard error is a terminal, it is told there in one line, at most ten
-/// times a second. No clause knows of it, and what fails here is no fault.
+/// How many bytes of the main input were read. If standard error is a terminal, this is shown there in one line, at most
+/// ten times a second. No clause speaks of it, and a failure here is not a fault.
 #[derive(Drop)]
 pub struct Progress {
     shown: bool,
@@ -33,19 +33,19 @@ impl Progress {
         }
     }
 
-    /// Begins with an input of this length, if it tells one.
+    /// Begins with an input of this length, if its length is known.
     pub fn begin(&mut self, whole: Option<u64>) {
         self.whole = whole;
         self.read = 0;
         self.looked = 0;
     }
 
-    /// Tells nothing from now on, since the terminal has the output.
+    /// Shows nothing from now on, since the output goes to the terminal.
     pub fn hide(&mut self) {
         self.shown = false;
     }
 
-    /// Counts bytes that were read, and tells how far the run is.
+    /// Counts bytes that were read, and shows how far the run is.
     pub fn count(&mut self, rt: &HostRuntime, bytes: usize) {
         self.read = self.read.saturating_add(bytes as u64);
         if !self.shown || self.read.saturating_sub(self.looked) < LOOK {
@@ -57,7 +57,7 @@ impl Progress {
         }
     }
 
-    /// Tells how far the run is, if the time for it has come.
+    /// Shows how far the run is, if it is time to.
     fn tell(&mut self, rt: &HostRuntime, now: Instant) {
         let soon = self
             .told
@@ -72,7 +72,7 @@ impl Progress {
         };
     }
 
-    /// Takes the line away.
+    /// Removes the line.
     pub fn end(&mut self, rt: &HostRuntime) {
         if self.told.is_some() {
             let _ = eprint!(rt; "\r\x1b[K");

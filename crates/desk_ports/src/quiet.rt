@@ -1,4 +1,4 @@
-//! The quiet desk, at which no call fails.
+//! The quiet desk, on which no call fails.
 
 ghost use Rattle.std.specs.Prelude.{◌≡◌, ◌≢◌, ◌+◌, ◌-◌, ◌^◌, ◌++◌, [], List, ℕ, Some, IfSome, length, min, take};
 ghost use Rattle.desk_ports.specs.Meanings.{kept_at};
@@ -73,7 +73,7 @@ impl Taken {
     }
 }
 
-/// A desk that never fails and takes no memory. It reads two named inputs, and every other name is an empty input.
+/// A desk that never fails and allocates no memory. It reads two named inputs, and every other name is an empty input.
 ///
 /// It tells what its inlets have left and, until an output is finished, what it keeps. Its outlets take every byte
 /// and keep only a count.
@@ -100,7 +100,7 @@ impl<'a> Model for QuietDesk<'a> {
 }
 
 impl<'a> QuietDesk<'a> {
-    /// A desk at which nothing is open, with these two inputs under these names. Where both names are equal
+    /// A desk on which nothing is open, with these two inputs under these names. If both names are equal
     /// it keeps the main input.
     pub fn new(
         side_name: &'a str,

@@ -6,10 +6,10 @@ use arrayvec::ArrayString;
 use itoa::Buffer;
 use std::marker::Model;
 
-/// The bytes that a row has at most.
+/// The most bytes that a row can have.
 pub const ROW_BYTES: usize = 128;
 
-/// A row of a text that is put together before it is written in one piece. It takes no memory.
+/// A row of a text that is assembled before it is written in one piece. It allocates no memory.
 #[derive(Debug, Drop)]
 pub struct Row {
     text: ArrayString<ROW_BYTES>,
@@ -41,7 +41,7 @@ impl Row {
         self.text.push_str(text);
     }
 
-    /// Appends a number in decimal digits, of which it has at most 20.
+    /// Appends a number in decimal digits, at most 20 of them.
     pub fn put_number(&mut self, number: u64)
         requires { length self.old + 20 ≤ ROW_BYTES }
         ensures digits { self.new ≡ self.old ++ decimal number }

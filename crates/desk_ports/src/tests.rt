@@ -1,4 +1,4 @@
-//! What no clause says: that the calls answer with ample memory, and that bytes come and go through real files.
+//! What no clause says: that the calls succeed with ample memory, and that bytes pass through real files.
 
 ghost use Rattle.std.specs.Prelude.{IsTrue};
 
@@ -74,7 +74,7 @@ fn a_copy_of_a_file(rt: HostRuntime) -> Result<(), Fail> {
     Ok(())
 }
 
-// A run that makes so many turns, and then ends with a fault of its data.
+// A run that makes the given number of turns, and then ends with a fault of its data.
 #[derive(Drop)]
 struct Countdown(u8);
 
@@ -106,7 +106,7 @@ impl Run for Countdown {
     }
 }
 
-// Counts down over a desk whose input is opened, where it can be.
+// Counts down over a desk whose input is opened, if it can be.
 fn counted_down<D: Desk>(desk: &mut D, from: &str, count: &mut Countdown) -> Option<Result<u8, u8>>
     requires { IsTrue ((D.meaning desk.old).grants_in from.now) }
 {

@@ -1,4 +1,4 @@
-//! Reading until a buffer is full, and writing all of one.
+//! Reading until a buffer is full, and writing a whole buffer.
 
 ghost use Rattle.std.specs.Prelude.{◌<◌, ◌≤◌, ℕ, List, length, take, IfOk, OnOk, OnErr};
 ghost use Rattle.std.specs.Io.KnownBytes.{IsAtEnd};
@@ -31,7 +31,7 @@ pub fn fill<D: Desk>(desk: &mut D, inlet: Inlet, buf: &mut [u8]) -> Result<usize
     Ok(filled)
 }
 
-/// Writes all the bytes. At `Failed` a front of them was appended.
+/// Writes all the bytes. At `Failed` a prefix of them was appended.
 pub fn write_all<D: Desk>(desk: &mut D, outlet: Outlet, bytes: &[u8]) -> Result<(), Failed>
     requires { IsReadyOut (D.meaning desk.old) outlet }
     ensures added { OnOk result (Adds (D.meaning desk.old) (D.meaning desk.new) outlet bytes.now) }

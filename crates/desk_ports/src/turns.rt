@@ -1,4 +1,4 @@
-//! A run over a desk, turn by turn: it reads its input to the end, and writes what that owes.
+//! A run over a desk, turn by turn: it reads its input to the end, and writes what it owes for that input.
 
 ghost use Rattle.std.specs.Prelude.{◌≡◌, ◌<◌, ℕ, Bool, Ok};
 ghost use Rattle.desk_ports.specs.declared.desk.Outlet.{Outlet};
@@ -18,14 +18,14 @@ pub enum Turn<A> {
 
 /// A run over a desk: what one turn of it does.
 pub trait Run {
-    /// What the run answers to a whole input.
+    /// What the run answers for a complete input.
     type Answer: Copy;
     /// Why it ends before it is done.
     type Fault: Copy;
     /// What may be wrong with the data of its input.
     type Data: Copy;
 
-    /// This work is owed.
+    /// This work is still to do.
     ghost owes: { Self → Work Self.Answer Self.Data → Type 0 };
 
     /// A fault, as a reason to end a run.
@@ -34,10 +34,10 @@ pub trait Run {
     /// The outlets that are written.
     ghost writes: { Outlet → Bool };
 
-    /// How many turns are left at most.
+    /// An upper bound of how many turns are left.
     ghost remaining: { Self → ℕ };
 
-    /// Takes the next part of the input, and writes what it owes; at the end it writes the last part.
+    /// Takes the next part of the input, and writes what is owed for it; at the end it writes the last part.
     fn turn<D: Desk>(&mut self, desk: &mut D) -> Result<Turn<Self::Answer>, Self::Fault>
         requires owed { IsOwed (owes self.old) }
         requires ready { AreReady writes (D.meaning desk.old) }
@@ -52,8 +52,8 @@ pub trait Run {
 pub fn drive<R: Run, D: Desk>(run: &mut R, desk: &mut D) -> Result<R::Answer, R::Fault>
     requires owed { IsOwed (R.owes run.old) }
     requires ready { AreReady R.writes (D.meaning desk.old) }
-    // What stands after each answer is what the input owes, all of it or up to where a fault ends the run; a run that is
-    // done answers what belongs to the same bytes.
+    // What was added to the outputs after each answer is what is owed for the input, all of it or up to where a fault
+    // ends the run; the answer of a run that is done is the one for the same bytes.
     ensures ran { (work : Work R.Answer R.Data) → R.owes run.old work
         → AfterRun work (D.meaning desk.old) (D.meaning desk.new) (by_stop R.stop_of result) }
     ensures cause { HasCause (D.counts desk.old) (D.counts desk.new) (by_stop R.stop_of result) }

@@ -26,7 +26,7 @@ impl Model for Written {
 }
 
 impl Written {
-    /// An output that was never opened. It takes no memory.
+    /// An output that was never opened. It allocates no memory.
     pub fn closed(alloc: Global) -> Written
         ensures { result ≡ closed_outgoing }
     {

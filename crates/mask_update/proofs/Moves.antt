@@ -1,4 +1,4 @@
--- The places of mask and build, by the moves of a place.
+-- The places of mask and build, in terms of the moves of a place.
 use Rattle.std.proofs.Common.{◌≡◌, ◌≢◌, ℕ, zero, suc, ◌+◌, ◌-◌, ◌<◌, ◌≤◌, Bool, true, false, get_or, refl, sym, ap, ◌∙◌, ◌⊎◌, inl, inr, arith, eqb}
 use Rattle.std.specs.Prelude.{◌||◌, ◌&&◌, if◌then◌else◌, not}
 use Rattle.std.proofs.lemmas.Bool.{and_parts, eqb-true, eq-eqb, false≢true, or_cases, or_left, or_right, and_from}

@@ -31,7 +31,7 @@ pub latest_new_mask-zero : (h : History) → latest_new_mask h 0 ≡ 0
 unfolding latest_new_mask
 latest_new_mask-zero h = refl
 
--- one more step is the latest new-mask step where it is one
+-- the added step is the latest new-mask step if it is a new-mask step
 pub latest_new_mask-suc : (h : History) (t : ℕ) → latest_new_mask h (suc t) ≡ cond (new_mask_at h (suc t)) (suc t) (latest_new_mask h t)
 unfolding latest_new_mask
 latest_new_mask-suc h t =
@@ -73,7 +73,7 @@ has_moved_between-suc h from to place le =
     ∙ list_any-append (λ step. has_moved h step place) (steps_between from to) (suc to ∷ [])
     ∙ ap (λ b. has_moved_between h from to place || b) (or_false (has_moved h (suc to) place))
 
--- the latest new-mask step is one, and no later step is
+-- the latest new-mask step is a new-mask step, and no later step is
 pub new_mask_at-latest : (h : History) (t : ℕ) → 0 < latest_new_mask h t → new_mask_at h (latest_new_mask h t) ≡ true
 new_mask_at-latest h zero some = absurd (omega (arith, latest_new_mask-zero h))
 new_mask_at-latest h (suc t) some = latest_in (new_mask_at h (suc t)) refl (new_mask_at-latest h t)

@@ -1,4 +1,4 @@
--- One more step leaves the definitions of the steps before it, and the running vectors follow it.
+-- One more step does not change the definitions for the earlier steps, and the running vectors follow it.
 use Rattle.std.proofs.Common.{◌≡◌, ℕ, zero, suc, ◌+◌, ◌<◌, ◌≤◌, Bool, false, List, [], ◌∷◌, length, replicate, get_or, refl, sym, ap, ◌∙◌, arith}
 use Rattle.std.specs.Prelude.{if◌then◌else◌, not}
 use Rattle.std.proofs.lemmas.List.{get_or_append_left, get_or_at, length_push}
@@ -88,7 +88,7 @@ stands_at h value t at previous build mask change taken =
       taken = taken;
     }
 
--- the first input leaves the running vectors
+-- the first input does not change the running vectors
 pub StandsFor-first : (h : History) (step : Step) (old new : Running) → StandsFor h old → old.taken ≡ 0 → new.previous ≡ step.input → new.build ≡ old.build → new.mask ≡ old.mask → new.change ≡ old.change → new.taken ≡ 1 → StandsFor (with_step h step) new
 StandsFor-first h step old new s start previous build mask change taken =
     let none : length h.steps ≡ 0 = sym s.taken ∙ start in
@@ -101,7 +101,7 @@ StandsFor-first h step old new s start previous build mask change taken =
     (change ∙ s.change ∙ ap (change_at h) at ∙ change_at-zero h ∙ sym (change_at-zero (with_step h step)))
     (taken ∙ omega (arith, length_push h.steps step))
 
--- the later ones take them on by the recurrences
+-- each later input updates them by the recurrences
 pub StandsFor-next : (h : History) (step : Step) (old new : Running) → StandsFor h old → 0 < old.taken → length old.previous ≡ length old.mask → length step.input ≡ length old.mask → new.previous ≡ step.input → new.build ≡ next_build step.flags.p (xor_bits old.previous step.input) old.build → new.mask ≡ next_mask step.flags.p (xor_bits old.previous step.input) old.build old.mask → new.change ≡ xor_bits old.mask new.mask → new.taken ≡ old.taken + 1 → StandsFor (with_step h step) new
 StandsFor-next h step old new s some len input_len previous build mask change taken = next_in (latest_step h) refl
   where

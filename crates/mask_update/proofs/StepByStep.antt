@@ -1,4 +1,4 @@
--- The standard's recurrences hold of the definitions.
+-- The standard's recurrences hold for the definitions.
 use Rattle.std.proofs.Common.{◌≡◌, ℕ, zero, suc, ◌+◌, ◌<◌, Bool, true, false, cond, List, [], ◌∷◌, length, map, replicate, get_or, refl, sym, ap, ◌∙◌, arith, ne_eqb}
 use Rattle.std.specs.Prelude.{◌||◌, ◌&&◌, ◌==◌}
 use Rattle.std.specs.List.{range_with_len}
@@ -77,7 +77,7 @@ or_none : (a x b : Bool) → b ≡ false → (a || (b && x)) ≡ a
 or_none true x b e = refl
 or_none false x b e = ap (λ c. c && x) e
 
--- the place of the mask at a step, by the latest new-mask step
+-- the place of the mask at a step, in terms of the latest new-mask step
 mask_bit : History → ℕ → ℕ → ℕ → ℕ → Bool
 mask_bit h from latest t place = has_moved_between h from t place || ((latest == 0) && get_or h.first_mask place false)
 

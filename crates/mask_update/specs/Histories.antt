@@ -5,7 +5,7 @@ use Rattle.bit_vectors.specs.declared.flags.Flags.{Flags}
 use Rattle.bit_vectors.specs.Vectors.{IsVector}
 
 -- One step of a history makes one packet. It has the input vector, the flags after the schedule, and the
--- required robustness: the number of lost packets in a row that the packet must stand.
+-- required robustness: the number of consecutive lost packets that the packet must tolerate.
 pub record Step : Type 0 where
   pub input : List Bool
   pub flags : Flags
@@ -40,8 +40,8 @@ robust_at h t = (step_at h t).robust
 abbrev pub latest_step : History → ℕ
 latest_step h = length h.steps - 1
 
--- Vectors of one length, at most 4,294,967,296 of them, and a required robustness of at most 7. Up to the
--- required robustness of its step, a packet is forced: the ground then has mask and content from it alone.
+-- Vectors of the same length, at most 4,294,967,296 of them, and a required robustness of at most 7. Up to the
+-- required robustness of its step, a packet is forced: the receiver then has mask and content from it alone.
 pub record IsValid (h : History) : Type 0 where
   pub vector : IsVector h.first_mask
   pub places : length h.first_mask ≡ h.places
@@ -58,7 +58,7 @@ no_steps first_mask = record { places = length first_mask; first_mask = first_ma
 abbrev pub with_step : History → Step → History
 with_step h step = record h { steps = h.steps ++ step ∷ [] }
 
--- the given flags, but those of a forced packet up to the required robustness
+-- the given flags, except for a forced packet, which is one up to the required robustness
 abbrev pub flags_after : ℕ → ℕ → Flags → Flags
 flags_after robust t given = if nat_le t robust then forced_flags else given
 

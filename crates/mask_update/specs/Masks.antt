@@ -9,7 +9,7 @@ use Rattle.mask_update.specs.Histories.{History, input_at, flags_at, latest_step
 abbrev pub input_bit : History → ℕ → ℕ → Bool
 input_bit h t place = slice_index_or (input_at h t) place false
 
--- the place moved at the step: its bit is not that of the input before
+-- the place moved at the step: its bit differs from that of the input before
 abbrev pub Moved : History → ℕ → ℕ → Type 0
 Moved h step place = (1 ≤ step) × (step < length h.steps) × (input_bit h step place ≢ input_bit h (step - 1) place)
 
@@ -17,7 +17,7 @@ Moved h step place = (1 ≤ step) × (step < length h.steps) × (input_bit h ste
 abbrev pub MovedBetween : History → ℕ → ℕ → ℕ → Type 0
 MovedBetween h from to place = (step : ℕ) × (from < step) × (step ≤ to) × Moved h step place
 
--- whether the place's bit is not that of the input before
+-- whether the place's bit differs from that of the input before
 abbrev pub has_moved : History → ℕ → ℕ → Bool
 has_moved h zero place = false
 has_moved h (suc t) place = if input_bit h t place then not (input_bit h (suc t) place) else input_bit h (suc t) place
@@ -30,15 +30,15 @@ steps_between from to = range_with_len (from + 1) (to - from)
 abbrev pub new_mask_at : History → ℕ → Bool
 new_mask_at h t = (flags_at h t).p
 
--- no step up to this one takes a new mask, where step 0 is not looked at
+-- no step up to this one takes a new mask; step 0 is not looked at
 abbrev pub NoNewMask : History → ℕ → Type 0
 NoNewMask h t = (step : ℕ) → 1 ≤ step → step ≤ t → new_mask_at h step ≡ false
 
--- the latest new-mask step up to a step, where step 0 is none; 0 where there is none
+-- the latest new-mask step up to a step, not counting step 0; 0 if there is none
 unfoldable pub latest_new_mask : History → ℕ → ℕ
 latest_new_mask h t = unwrap_or (find (new_mask_at h) (reverse (steps_between 0 t))) 0
 
--- the latest new-mask step before that one; 0 where there is none
+-- the latest new-mask step before that one; 0 if there is none
 unfoldable pub second_latest_new_mask : History → ℕ → ℕ
 second_latest_new_mask h t = latest_new_mask h (latest_new_mask h t - 1)
 
@@ -50,24 +50,24 @@ has_moved_between h from to place = list_any (λ step. has_moved h step place) (
 abbrev pub vector_of : ℕ → (ℕ → Bool) → List Bool
 vector_of f bit = map bit (range_with_len 0 f)
 
--- The mask: one where the place moved since the second latest new mask, and, as long as there was no new mask,
--- also where the first mask is one.
+-- The mask: 1 if the place moved since the second latest new mask, and, as long as there was no new mask,
+-- also if the first mask is 1.
 unfoldable pub mask_at : History → ℕ → List Bool
 mask_at h t =
     vector_of h.places (λ place. has_moved_between h (second_latest_new_mask h t) t place
     || ((latest_new_mask h t == 0) && slice_index_or h.first_mask place false))
 
--- The build vector: one where the place moved since the latest new mask.
+-- The build vector: 1 if the place moved since the latest new mask.
 unfoldable pub build_at : History → ℕ → List Bool
 build_at h t = vector_of h.places (has_moved_between h (latest_new_mask h t) t)
 
--- The change of the mask at the step: one where the mask is not that of the step before.
+-- The change of the mask at the step: 1 if the mask differs from that of the step before.
 unfoldable pub change_at : History → ℕ → List Bool
 change_at h zero = replicate h.places false
 change_at h (suc t) = xor_bits (mask_at h t) (mask_at h (suc t))
 
--- The standard's recurrences, from the places that moved: the build vector gathers them and is emptied at a new
--- mask, and the mask gathers them, at a new mask over the build vector.
+-- The standard's recurrences, in terms of the places that moved: the build vector collects them and is cleared at a new
+-- mask, and the mask collects them, added to the build vector at a new mask.
 abbrev pub next_build : Bool → List Bool → List Bool → List Bool
 next_build new_mask moved build = if new_mask then replicate (length build) false else or_bits build moved
 
@@ -90,8 +90,8 @@ pub record StandsFor (h : History) (value : Running) : Type 0 where
   pub change : value.change ≡ change_at h (latest_step h)
   pub taken : value.taken ≡ length h.steps
 
--- The running vectors have one length, that of a vector, and the number of inputs its bound. Before the first input there
--- is no change.
+-- The running vectors have the same length, which is a valid one, and the number of inputs is within its bound. Before
+-- the first input there is no change.
 pub record AreRunning (previous build mask change : List Bool) (still : Bool) (taken : ℕ) : Type 0 where
   pub vector : IsVector mask
   pub previous_len : length previous ≡ length mask

@@ -1,4 +1,4 @@
--- A worked history of 8 places. The first mask is zero, and nothing is required to be stood. The inputs are
+-- A worked history of 8 places. The first mask is zero, and no robustness is required. The inputs are
 -- 00 01 01 01 01 01 in hexadecimal, and steps 3 and 5 take a new mask.
 use Rattle.std.specs.Prelude.{ℕ, ◌==◌, ◌||◌, Bool, true, false, List, [], ◌∷◌, ◌++◌, replicate}
 use Rattle.bit_vectors.specs.declared.flags.Flags.{Flags}

@@ -20,7 +20,7 @@ pub fn recurrences()
         mask_at h (t + 1) ≡ next_mask (new_mask_at h (t + 1)) moved (build_at h t) (mask_at h t) }
 {}
 
-/// One more step leaves mask, build and change of the steps before it.
+/// One more step leaves mask, build and change of the earlier steps unchanged.
 pub fn earlier_steps_stay()
     ensures mask { (h : History) (step : Step) (t : ℕ) → t ≤ latest_step h →
         mask_at (with_step h step) t ≡ mask_at h t }
@@ -30,7 +30,7 @@ pub fn earlier_steps_stay()
         change_at (with_step h step) t ≡ change_at h t }
 {}
 
-/// Which bits of mask, build and change are one, in terms of the moves of a place.
+/// Which bits of mask, build and change are 1, in terms of the steps at which a place moves.
 pub fn places_of_masks()
     ensures mask { (h : History) (t place : ℕ) → t ≤ latest_step h → place < h.places →
         IsOne (mask_at h t) place ↔ ((MovedBetween h (second_latest_new_mask h t) t place)
@@ -60,7 +60,7 @@ pub fn new_mask_steps()
         second_latest_new_mask h t ≡ 0 }
 {}
 
-/// The history of inputs takes the given flags above the required robustness and the forced ones up to it, and is
+/// The history of inputs has the given flags after the required robustness, the forced flags up to it, and is
 /// valid.
 pub fn histories_of_inputs()
     ensures steps { (inputs : List (List Bool)) (flags : ℕ → Flags) (robust : ℕ → ℕ) (f : ℕ)

@@ -10,15 +10,15 @@ use std::alloc::Global;
 use std::marker::Model;
 
 /// Keeps the running mask and build vectors (CCSDS 124.0-B-1), the latest change of the mask and the latest
-/// input, and not the history. Contracts see them and the number of inputs taken, and say for which histories
-/// they stand.
+/// input, but not the history. Contracts see these and the number of inputs taken, and say which histories
+/// they represent.
 #[derive(Debug, Drop)]
 pub struct Masks {
     previous: Bits,
     build: Bits,
     mask: Bits,
     change: Bits,
-    /// The change has no one. It may also have none if this is false.
+    /// The change has no 1 if this is true. It may also have none if this is false.
     still: bool,
     taken: u64,
 }
@@ -40,7 +40,7 @@ impl Model for Masks {
 }
 
 impl Masks {
-    /// Starts with this mask and no input taken. Takes the memory for every vector that `step` fills.
+    /// Starts with this mask and no input taken. Allocates the memory for every vector that `step` fills.
     pub fn open(alloc: Global, mask: &Bits) -> Result<Masks, NoMemory>
         ensures stands { IfOk result (λ masks. StandsFor (no_steps mask.now) masks) }
         ensures mask { IfOk result (λ masks. masks.mask ≡ mask.now) }
@@ -61,13 +61,13 @@ impl Masks {
         })
     }
 
-    /// Takes the next input, which has as many places as the mask. With `new_mask` the mask takes the build
-    /// vector; the first input can't ask for it.
+    /// Takes the next input, which has as many places as the mask. With `new_mask` the mask becomes the build
+    /// vector; the first input can't ask for that.
     pub fn step(&mut self, input: &Bits, new_mask: bool)
         requires places { length input.now ≡ length self.old.mask }
         requires most { self.old.taken < 4294967296 }
         requires first { self.old.taken ≡ 0 → new_mask ≡ false }
-        // Whatever history it stood for, it now stands for that history with this input and this flag.
+        // If it represented some history, it now represents that history with this input and this flag added.
         ensures stands { (h : History) (step : Step) → StandsFor h self.old
             → step.input ≡ input.now → step.flags.p ≡ new_mask
             → StandsFor (with_step h step) self.new }
@@ -85,7 +85,7 @@ impl Masks {
         self.taken += 1;
     }
 
-    /// The standard's recurrences. An input equal to the previous one, without a new mask, leaves mask and build.
+    /// The standard's recurrences. An input equal to the previous one, with no new mask, keeps mask and build.
     fn advance(&mut self, input: &Bits, new_mask: bool)
         requires places { length input.now ≡ length self.old.mask }
         requires some { 0 < self.old.taken }
@@ -126,7 +126,7 @@ impl Masks {
         }
     }
 
-    /// The mask vector: the places that are not predictable. Before the first input it is the first mask.
+    /// The mask vector: 1 at the places that are not predictable. Before the first input it is the first mask.
     pub fn mask(&self) -> &Bits
         ensures mask { (h : History) → StandsFor h self.now
             → result.now ≡ mask_at h (latest_step h) }
@@ -146,7 +146,7 @@ impl Masks {
         &self.build
     }
 
-    /// The change of the mask at the latest input, which is zero up to the first.
+    /// The change of the mask at the latest input. It is zero before the first input, and at the first.
     pub fn change(&self) -> &Bits
         ensures change { (h : History) → StandsFor h self.now
             → result.now ≡ change_at h (latest_step h) }

@@ -35,7 +35,7 @@ fn take(masks: &mut Masks, input: &Bits, new_mask: bool) {
     }
 }
 
-// Whether the vectors after the row's step are the row's.
+// Whether the vectors after the row's step are those of the row.
 fn follow(masks: &mut Masks, zeros: &Bits, last: &Bits, row: Row) -> bool {
     take(masks, if row.input { last } else { zeros }, row.new_mask);
     is_last_alone(masks.mask(), row.mask)

@@ -44,7 +44,7 @@ direction_bits-most recent None = omega arith
 direction_bits-most recent (Some directions) =
     omega (arith, length-append (bits_up directions.predictable recent) (directions.twice ∷ []), length-bits_up directions.predictable recent, ones_most recent)
 
--- the directions where they are there, and nothing else
+-- the directions if they are there, and nothing otherwise
 directions_most : (there : Bool) (recent : List Bool) (directions : Option Directions) → length (cond there (direction_bits recent directions) []) ≤ length recent + 2
 directions_most true recent directions = direction_bits-most recent directions
 directions_most false recent directions = omega arith
@@ -71,7 +71,7 @@ mask_bits-most : (f : ℕ) (sent : Option (List Bool)) → 1 ≤ f → IfSome se
 mask_bits-most f None some len = omega arith
 mask_bits-most f (Some mask) some len = omega (arith, run_bits_most (edges mask), length-edges mask (omega arith))
 
--- the whole content has so many places, and a part no more
+-- the whole content has as many bits as there are places, and a part no more
 abbrev pub HasMost : ℕ → Content → Type 0
 HasMost f (Whole content) = length content ≡ f
 HasMost f (Part bits) = length bits ≤ f

@@ -26,7 +26,7 @@ IsLatestOr Holds t None = (s : ℕ) → s < t → Holds s → ⊥
 IsLatestOr Holds t (Some latest) = IsLatest Holds t latest
 
 module _ (test : Option ℕ → ℕ → Bool) (Holds : ℕ → Type 0) (from : (t : ℕ) → test (latest_by test t) t ≡ true → Holds t) (to : (t : ℕ) → Holds t → test (latest_by test t) t ≡ true) where
-  -- one number more, which passes or doesn't
+  -- one more number, which passes or doesn't
   latest-more : (t : ℕ) (latest : Option ℕ) → IsLatestOr Holds t latest → (b : Bool) → test (latest_by test t) t ≡ b → IsLatestOr Holds (suc t) (cond b (Some t) latest)
   latest-more t latest is true e = record {
     before = omega arith;
@@ -54,7 +54,7 @@ module _ (test : Option ℕ → ℕ → Bool) (Holds : ℕ → Type 0) (from : (
       subst (IsLatestOr Holds (suc t)) (sym (latest_by-suc test t))
       (latest-more t (latest_by test t) (latest-right t) (test (latest_by test t) t) refl)
 
--- there is one answer
+-- there is only one answer
 pub latest-only : (Holds : ℕ → Type 0) (t : ℕ) (latest other : Option ℕ) → IsLatestOr Holds t latest → IsLatestOr Holds t other → latest ≡ other
 latest-only Holds t None None is was = refl
 latest-only Holds t None (Some other) none was = absurd (none other was.before was.holds)
@@ -76,14 +76,14 @@ reached_later Holds t s level (Some latest) is before holds within = elim (cases
 
 -- ---- masks that become known, and what is written
 
--- a mask becomes known exactly where the packet arrives and carries it or reaches the latest known one
+-- a mask becomes known exactly if the packet arrives and carries it or reaches the latest known one
 pub mask_known-from : (h : History) (copies : ℕ → ℕ) (t : ℕ) → is_mask_known h copies t ≡ true → MaskKnownAt h copies t
 mask_known-from h copies t is = grind (arith, common_steps)
 
 pub mask_known-to : (h : History) (copies : ℕ → ℕ) (t : ℕ) → MaskKnownAt h copies t → is_mask_known h copies t ≡ true
 mask_known-to h copies t known = grind (arith, common_steps)
 
--- it is written exactly where it arrives and is understood
+-- it is written exactly if it arrives and is understood
 pub written-from : (h : History) (copies : ℕ → ℕ) (t : ℕ) → is_written h copies t ≡ true → WrittenAt h copies t
 written-from h copies t is = grind (arith, common_steps, mask_known-from h copies t)
 
@@ -96,7 +96,7 @@ latest_mask-right h copies = latest-right (is_mask_known_behind h copies) (MaskK
 pub latest_written-right : (h : History) (copies : ℕ → ℕ) (t : ℕ) → IsLatestOr (WrittenAt h copies) t (latest_written h copies t)
 latest_written-right h copies = latest-right (is_written_behind h copies) (WrittenAt h copies) (written-from h copies) (written-to h copies)
 
--- ---- nothing is given up
+-- ---- no packet is lost
 
 whole-from : (h : History) (copies : ℕ → ℕ) (t : ℕ) → is_written_whole h copies t ≡ true → WrittenWholeAt h copies t
 whole-from h copies t is = grind (arith, common_steps)
@@ -107,7 +107,7 @@ whole-to h copies t written = grind (arith, common_steps)
 latest_whole-right : (h : History) (copies : ℕ → ℕ) (t : ℕ) → IsLatestOr (WrittenWholeAt h copies) t (latest_written_whole h copies t)
 latest_whole-right h copies = latest-right (is_written_whole_behind h copies) (WrittenWholeAt h copies) (whole-from h copies) (whole-to h copies)
 
--- a packet that reaches one that is written with its mask known is so too
+-- a packet that arrives and reaches one that is written with its mask known is itself written with its mask known
 both_reach : (h : History) (copies : ℕ → ℕ) (t s : ℕ) → 1 ≤ copies t → s < t → t - 1 - s ≤ level_at h t → WrittenAt h copies s × MaskKnownAt h copies s → WrittenAt h copies t × MaskKnownAt h copies t
 both_reach h copies t s arrives before within was =
     let mask : MaskKnownAt h copies t = record { arrives = arrives; known = inr (reached_later (MaskKnownAt h copies) t s (level_at h t) (latest_mask_known h copies t) (latest_mask-right h copies t) before was.1 within) } in (
@@ -128,7 +128,7 @@ kept_below h copies (suc n) t below written =
 
 -- ---- numbers that pass a test
 
--- one number more
+-- one more number
 pub passing_more : (p : ℕ → Bool) (n : ℕ) → filter p (range_with_len 0 (suc n)) ≡ filter p (range_with_len 0 n) ++ cond (p n) (n ∷ []) []
 passing_more p n = ap (filter p) (range_push 0 n n (omega arith)) ∙ filter-append p (range_with_len 0 n) (n ∷ [])
 
@@ -142,7 +142,7 @@ passing-to_more p n t earlier before true e has = by_end (Contains-push_cases ea
 passing-to_more p n t earlier before false e has =
     let (below, passes) = before (subst (λ xs. Contains xs t) (append-nil earlier) has) in (omega (arith, below), passes)
 
--- a number is among those below n that pass exactly where it is below n and passes
+-- a number is among those below n that pass exactly if it is below n and passes
 pub passing-to : (p : ℕ → Bool) (n t : ℕ) → Contains (filter p (range_with_len 0 n)) t → (t < n) × (p t ≡ true)
 passing-to p zero t (place, below, is) = absurd (omega (arith, below))
 passing-to p (suc n) t has =
@@ -169,14 +169,14 @@ last_or-copies o [] zero t = refl
 last_or-copies o [] (suc c) t = last_or-copies (Some t) [] c t
 last_or-copies o (x ∷ numbers) c t = last_or-copies (Some x) numbers c t
 
--- one packet more
+-- one more packet
 pub arrivals-suc : (copies : ℕ → ℕ) (n : ℕ) → arrivals copies (suc n) ≡ arrivals copies n ++ replicate (copies n) n
 arrivals-suc copies n =
     ap (flat_map (λ t. replicate (copies t) t)) (range_push 0 n n (omega arith))
     ∙ flat_map-append (λ t. replicate (copies t) t) (range_with_len 0 n) (n ∷ [])
     ∙ ap (λ xs. arrivals copies n ++ xs) (append-nil (replicate (copies n) n))
 
--- the number of packets up to the last arrival: a packet that arrives is the last one
+-- the number of packets up to the last arrival: if the last packet arrives, it is the last arrival
 pub count_to_last-none : (copies : ℕ → ℕ) (n : ℕ) → copies n ≡ 0 → count_to_last copies (suc n) ≡ count_to_last copies n
 count_to_last-none copies n e =
     ap (λ xs. count_up_to (last_or None xs)) (arrivals-suc copies n ∙ ap (λ c. arrivals copies n ++ replicate c n) e ∙ append-nil (arrivals copies n))

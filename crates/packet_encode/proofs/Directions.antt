@@ -25,7 +25,7 @@ pub has_one-some : (v : List Bool) → Contains v true → has_one v ≡ true
 unfolding has_one
 has_one-some v one = list_any_at (λ (bit : Bool). bit) v one.0 true one.1 one.2
 
--- no one is left where there was none
+-- no 1 is left if there was none
 pub has_one-without : (v mask : List Bool) → has_one v ≡ false → has_one (without_bits v mask) ≡ false
 unfolding has_one
 has_one-without [] mask none = refl
@@ -43,7 +43,7 @@ appended_words bits first second third = simp append_assoc
 pub appended_pair : (bits first second : List Bool) → (bits ++ first) ++ second ≡ bits ++ (first ++ (second ++ []))
 appended_pair bits first second = simp (append_assoc, append-nil)
 
--- what is left of the recent changes without the mask
+-- what is left of the recent changes outside the mask
 pub none_left : (recent mask left : List Bool) → left ≡ without_bits recent mask → left ≡ replicate (length left) false → has_one (without_bits recent mask) ≡ false
 none_left recent mask left is zeros = ap has_one (sym is) ∙ has_one-zeros left zeros
 
@@ -66,7 +66,7 @@ unfolding has_one
 directions-some mask recent level twice above some =
     ap (λ b. cond b (Some (record { predictable = without_bits recent mask; twice = twice })) None) (and_from (nat_lt 0 level) (list_any (λ (bit : Bool). bit) (without_bits recent mask)) (le-leb 1 level (omega arith)) some)
 
--- the first part ends after the level where there is no change or no level
+-- the first part ends after the level if there is no change or the level is 0
 pub change_bits-short : (form : Form) → (has_one form.recent && nat_lt 0 form.level) ≡ false → change_bits form ≡ run_bits form.recent ++ (number_bits 4 form.level ++ [])
 unfolding change_bits has_one
 change_bits-short form none = ap (λ b. run_bits form.recent ++ (number_bits 4 form.level ++ cond b (direction_bits form.recent form.directions) [])) none

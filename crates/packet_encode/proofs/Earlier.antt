@@ -1,4 +1,4 @@
--- Later steps leave the packets of the steps before them.
+-- Later steps do not change the packets of the earlier steps.
 use Rattle.std.proofs.Common.{◌≡◌, ℕ, zero, suc, ◌+◌, ◌-◌, ◌<◌, ◌≤◌, Bool, List, length, take, sym, ap, ◌∙◌, arith}
 use Rattle.std.proofs.lemmas.List.{length-take, take_all, take_more}
 use Rattle.bit_vectors.specs.Vectors.{padded}
@@ -27,7 +27,7 @@ packet_at-before h step t lt = ap (λ form. padded (form_bits form)) (form_at-be
 abbrev with_steps : ℕ → List Bool → List Step → History
 with_steps places first_mask steps = record { places = places; first_mask = first_mask; steps = steps }
 
--- the history of so many first steps
+-- the history of the given number of first steps
 abbrev first_steps : History → ℕ → History
 first_steps h count = with_steps h.places h.first_mask (take count h.steps)
 

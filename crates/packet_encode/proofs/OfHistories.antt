@@ -63,7 +63,7 @@ form_of-most mask recent level twice input flags f some most mask_len recent_len
     (sent_content-most flags.r input (wide_by (directions_of mask recent level twice) recent mask) f input_len
     (length-wide_by (directions_of mask recent level twice) recent mask (recent_len ∙ sym mask_len) ∙ mask_len))
 
--- ---- of a valid history
+-- ---- for a valid history
 
 directions_of-are : (mask recent : List Bool) (level : ℕ) (twice : Bool) (form : Form) → form.recent ≡ recent → form.level ≡ level → length recent ≡ length mask → IfSome (directions_of mask recent level twice) (AreDirections form)
 directions_of-are mask recent level twice form recent_is level_is len = are_in (nat_lt 0 level && list_any (λ bit. bit) left) refl

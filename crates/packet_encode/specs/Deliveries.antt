@@ -1,4 +1,4 @@
--- Which packets of a history can be written, of those that arrive, and why the others can't. How often each packet arrives
+-- Which of the arriving packets of a history can be written, and why the others can't. How often each packet arrives
 -- is a function from the numbers of the packets.
 use Rattle.std.specs.Prelude.{◌≡◌, ℕ, zero, suc, ◌+◌, ◌-◌, ◌<◌, ◌≤◌, nat_lt, nat_le, ◌⊎◌, ◌==◌, Bool, true, false, not, ◌&&◌, ◌||◌, if◌then◌else◌, List, length, replicate, Option, Some, None}
 use Rattle.std.specs.List.{filter, flat_map, last_or, range_with_len}
@@ -7,7 +7,7 @@ use Rattle.robust_window.specs.Histories.{level_at}
 
 -- ---- what arrives
 
--- the numbers of the packets that arrive, of n packets, each as often as it arrives, rising
+-- the numbers of the packets that arrive, of n packets, each as often as it arrives, in ascending order
 abbrev pub arrivals : (ℕ → ℕ) → ℕ → List ℕ
 arrivals copies n = flat_map (λ t. replicate (copies t) t) (range_with_len 0 n)
 
@@ -22,7 +22,7 @@ count_to_last copies n = count_up_to (last_or None (arrivals copies n))
 
 -- ---- what a level reaches
 
--- No more packets lie between this one and the latest one of some kind than the level says. Where there is no latest one,
+-- The number of packets between this one and the latest one of some kind is at most the level. If there is no latest one,
 -- this doesn't hold.
 abbrev pub reaches : Option ℕ → ℕ → ℕ → Bool
 reaches None t level = false
@@ -32,7 +32,8 @@ abbrev pub IsReached : Option ℕ → ℕ → ℕ → Type 0
 IsReached None t level = ⊥
 IsReached (Some latest) t level = t - 1 - latest ≤ level
 
--- the latest of the first t numbers that passes a test, which is asked of each number with the latest one that passed before
+-- the latest of the first t numbers that passes a test, which is asked for each number with the latest one that passed
+-- before
 unfoldable pub latest_by : (Option ℕ → ℕ → Bool) → ℕ → Option ℕ
 latest_by test zero = None
 latest_by test (suc t) =
@@ -47,7 +48,7 @@ pub record IsLatest (Holds : ℕ → Type 0) (t latest : ℕ) : Type 0 where
 
 -- ---- which masks become known
 
--- whether the mask of the packet t becomes known, where this is the latest one before it whose mask did
+-- whether the mask of the packet t becomes known, if this is the latest one before it whose mask did
 abbrev pub is_mask_known_behind : History → (ℕ → ℕ) → Option ℕ → ℕ → Bool
 is_mask_known_behind h copies latest t = nat_lt 0 (copies t) && ((flags_at h t).f || reaches latest t (level_at h t))
 
@@ -59,15 +60,15 @@ latest_mask_known h copies t = latest_by (is_mask_known_behind h copies) t
 abbrev pub is_mask_known : History → (ℕ → ℕ) → ℕ → Bool
 is_mask_known h copies t = is_mask_known_behind h copies (latest_mask_known h copies t) t
 
--- The packet arrives, and either it carries the mask, or no more masks are unknown since the latest known one than its
--- effective robustness level.
+-- The packet arrives, and either it carries the mask, or the number of unknown masks since the latest known one is at
+-- most its effective robustness level.
 pub record MaskKnownAt (h : History) (copies : ℕ → ℕ) (t : ℕ) : Type 0 where
   pub arrives : 1 ≤ copies t
   pub known : ((flags_at h t).f ≡ true) ⊎ IsReached (latest_mask_known h copies t) t (level_at h t)
 
 -- ---- what is written
 
--- whether the packet t is written, where this is the latest one written before it
+-- whether the packet t is written, if this is the latest one written before it
 abbrev pub is_written_behind : History → (ℕ → ℕ) → Option ℕ → ℕ → Bool
 is_written_behind h copies latest t = nat_lt 0 (copies t) && ((flags_at h t).r || is_mask_known h copies t && reaches latest t (level_at h t))
 
@@ -83,19 +84,19 @@ is_written h copies t = is_written_behind h copies (latest_written h copies t) t
 abbrev pub written_numbers : History → (ℕ → ℕ) → List ℕ
 written_numbers h copies = filter (is_written h copies) (range_with_len 0 (length h.steps))
 
--- The packet arrives, and either it carries the whole content, or its mask becomes known and no more packets are unwritten
--- since the latest written one than its effective robustness level.
+-- The packet arrives, and either it carries the whole content, or its mask becomes known and the number of unwritten
+-- packets since the latest written one is at most its effective robustness level.
 pub record WrittenAt (h : History) (copies : ℕ → ℕ) (t : ℕ) : Type 0 where
   pub arrives : 1 ≤ copies t
   pub known : ((flags_at h t).r ≡ true) ⊎ MaskKnownAt h copies t × IsReached (latest_written h copies t) t (level_at h t)
 
--- ---- what would be written if mask and content were known together alone
+-- ---- what would be written if mask and content could be known only together
 
 -- the packet carries the mask and the whole content
 abbrev pub CarriesBoth : History → ℕ → Type 0
 CarriesBoth h t = ((flags_at h t).f ≡ true) × ((flags_at h t).r ≡ true)
 
--- whether the packet t would be written, where this is the latest one before it that would be
+-- whether the packet t would be written, if this is the latest one before it that would be
 abbrev pub is_written_whole_behind : History → (ℕ → ℕ) → Option ℕ → ℕ → Bool
 is_written_whole_behind h copies latest t = nat_lt 0 (copies t) && ((flags_at h t).f && (flags_at h t).r || reaches latest t (level_at h t))
 
@@ -106,8 +107,8 @@ latest_written_whole h copies t = latest_by (is_written_whole_behind h copies) t
 abbrev pub is_written_whole : History → (ℕ → ℕ) → ℕ → Bool
 is_written_whole h copies t = is_written_whole_behind h copies (latest_written_whole h copies t) t
 
--- The packet arrives, and either it carries the mask and the whole content, or no more packets are unwritten since the
--- latest one that would be written than its effective robustness level.
+-- The packet arrives, and either it carries the mask and the whole content, or the number of unwritten packets since the
+-- latest one that would be written is at most its effective robustness level.
 pub record WrittenWholeAt (h : History) (copies : ℕ → ℕ) (t : ℕ) : Type 0 where
   pub arrives : 1 ≤ copies t
   pub known : CarriesBoth h t ⊎ IsReached (latest_written_whole h copies t) t (level_at h t)
@@ -123,8 +124,8 @@ pub record Listed (h : History) (copies : ℕ → ℕ) (t : ℕ) : Type 0 where
 abbrev pub listed_numbers : History → (ℕ → ℕ) → List ℕ
 listed_numbers h copies = filter (λ t. not (is_written h copies t)) (range_with_len 0 (count_to_last copies (length h.steps)))
 
--- why a packet is not written: it did not arrive; the part that is missing was never known before it; or the latest packet
--- with which that part became known is too far back for its effective robustness level
+-- why a packet is not written: it did not arrive; the part that is missing was never known before it; or the latest
+-- packet with which that part became known is too far back for its effective robustness level
 pub data Cause : Type 0 where
   Lost : Cause
   Unsynced : Cause
@@ -134,8 +135,8 @@ abbrev pub cause_behind : Option ℕ → ℕ → Cause
 cause_behind None level = Unsynced
 cause_behind (Some latest) level = Gap level
 
--- The missing part is the mask where it doesn't become known, and else the content: the latest packet before this one with
--- which that part became known.
+-- The missing part is the mask if it doesn't become known, and otherwise the content: the latest packet before this one
+-- with which that part became known.
 abbrev pub latest_of_missing : History → (ℕ → ℕ) → ℕ → Option ℕ
 latest_of_missing h copies t = if is_mask_known h copies t then latest_written h copies t else latest_mask_known h copies t
 

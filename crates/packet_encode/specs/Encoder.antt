@@ -1,4 +1,4 @@
--- What an encoder keeps, and for which history it stands.
+-- What an encoder keeps, and which history it represents.
 use Rattle.std.specs.Prelude.{◌≡◌, Bool, List, length}
 use Rattle.mask_update.specs.Histories.{History}
 use Rattle.mask_update.specs.Masks.{Running}
@@ -17,7 +17,7 @@ pub record StandsFor (h : History) (value : EncoderState) : Type 0 where
   pub masks : MasksStandFor h value.masks
   pub window : WindowStandsFor (mask_steps h) value.window
 
--- masks and window have taken as many steps, of vectors of one length
+-- masks and window have taken the same number of steps, of vectors of the same length
 pub record IsEncoder (masks : Running) (window : WindowState) (spare : List Bool) : Type 0 where
   pub places : length window.recent ≡ length masks.mask
   pub taken : window.taken ≡ masks.taken

@@ -19,7 +19,7 @@ pub data Content : Type 0 where
   Part : List Bool → Content
 
 -- Its parts: the change vector of the recent changes of the mask, the effective robustness level, the directions of
--- those changes where they are sent, the mask where it is sent, and the content.
+-- those changes if they are sent, the mask if it is sent, and the content.
 pub record Form : Type 0 where
   pub recent : List Bool
   pub level : ℕ
@@ -56,12 +56,12 @@ abbrev pub direction_bits : List Bool → Option Directions → List Bool
 direction_bits recent None = false ∷ []
 direction_bits recent (Some directions) = true ∷ (bits_up directions.predictable recent ++ directions.twice ∷ [])
 
--- the first part: the recent changes, the level in four bits, and, where there are changes and a level, directions
+-- the first part: the recent changes, the level in four bits, and, if there are changes and a level above 0, directions
 unfoldable pub change_bits : Form → List Bool
 change_bits form =
     run_bits form.recent ++ (number_bits 4 form.level ++ (if list_any (λ bit. bit) form.recent && nat_lt 0 form.level then direction_bits form.recent form.directions else []))
 
--- the mask by the runs of its edges
+-- the mask as the runs of its edges
 abbrev pub mask_bits : Option (List Bool) → List Bool
 mask_bits None = false ∷ []
 mask_bits (Some mask) = true ∷ run_bits (edges mask)
@@ -71,7 +71,7 @@ abbrev pub content_bits : Content → List Bool
 content_bits (Part bits) = false ∷ bits
 content_bits (Whole content) = true ∷ (count_bits (length content) ++ content)
 
--- the parts after the first: a one where neither the mask nor the whole content is sent, and else a zero and both
+-- the parts after the first: a 1 if neither the mask nor the whole content is sent, and otherwise a 0 and both
 abbrev pub data_bits : Option (List Bool) → Content → List Bool
 data_bits None (Part bits) = true ∷ bits
 data_bits None (Whole content) = false ∷ (mask_bits None ++ content_bits (Whole content))
@@ -82,7 +82,7 @@ form_bits form = change_bits form ++ data_bits form.sent form.content
 
 -- ---- what is extracted
 
--- the places that are extracted: those of the mask, and all recent changes where the directions say so
+-- the places that are extracted: those of the mask, and also all recent changes if the directions say so
 abbrev pub wide_by : Option Directions → List Bool → List Bool → List Bool
 wide_by None recent mask = mask
 wide_by (Some directions) recent mask = if directions.twice then or_bits mask recent else mask

@@ -11,12 +11,12 @@ use Rattle.packet_encode.specs.Forms.{Content, Directions, Form, Part, Whole, fo
 
 -- ---- the form that a sender chooses
 
--- The recent changes that the mask doesn't have, where there are such and the level is above 0: they became predictable.
+-- The recent changes that the mask doesn't have, if there are any and the level is above 0: they became predictable.
 abbrev pub directions_of : List Bool → List Bool → ℕ → Bool → Option Directions
 directions_of mask recent level twice =
     if nat_lt 0 level && list_any (λ bit. bit) (without_bits recent mask) then Some (record { predictable = without_bits recent mask; twice = twice }) else None
 
--- the mask, where it is to be sent
+-- the mask, if it is to be sent
 abbrev pub sent_of : Bool → List Bool → Option (List Bool)
 sent_of send mask = if send then Some mask else None
 
@@ -24,7 +24,7 @@ sent_of send mask = if send then Some mask else None
 abbrev pub sent_content : Bool → List Bool → List Bool → Content
 sent_content whole content places = if whole then Whole content else Part (extract content places)
 
--- the form of a packet of these values and flags
+-- the form of a packet with these values and flags
 abbrev pub form_of : List Bool → List Bool → ℕ → Bool → List Bool → Flags → Form
 form_of mask recent level twice input flags =
     let directions = directions_of mask recent level twice in
@@ -36,7 +36,7 @@ form_of mask recent level twice input flags =
       content = sent_content flags.r input (wide_by directions recent mask);
     }
 
--- ---- of a history
+-- ---- for a history
 
 -- the form of a step
 abbrev pub form_at : History → ℕ → Form
@@ -46,7 +46,7 @@ form_at h t = form_of (mask_at h t) (recent_at h t) (level_at h t) (twice_at h t
 abbrev pub packet_at : History → ℕ → List Bool
 packet_at h t = padded (form_bits (form_at h t))
 
--- The history and one more input, of which this robustness is required. It takes the given flags, but for those of a
+-- The history and one more input, for which this robustness is required. It takes the given flags, except for a
 -- packet that is forced.
 abbrev pub with_next_input : History → ℕ → List Bool → Flags → History
 with_next_input h robust input flags = with_step h (step_of (λ _. flags) (λ _. robust) (length h.steps, input))

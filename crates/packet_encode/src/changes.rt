@@ -13,12 +13,12 @@ use run_code::{put_inverse_up, put_runs};
 /// The width in which an effective robustness level is written.
 const LEVEL_BITS: u32 = 4;
 
-/// The run word of a vector without a one, and then the level 0, in six bits.
+/// The run word of a vector without a 1, and then the level 0, in six bits.
 const NO_CHANGE: u32 = 0b10_0000;
 
-/// Appends the recent changes and the level of a window that has taken a step, and the directions, where there are
-/// changes and a level. Without a change that is one number. Answers whether all recent changes are extracted. `spare`
-/// has any bits then.
+/// Appends the recent changes and the level of a window that has taken a step, and the directions, if there are
+/// changes and a level above 0. Without a change that is one number. Returns whether all recent changes are extracted.
+/// `spare` may then have any bits.
 pub(crate) fn put_changes(pen: &mut BitPen, mask: &Bits, window: &Window, spare: &mut Bits) -> bool
     requires taken { 0 < window.now.taken }
     requires places { length window.now.recent ≡ length mask.now }
@@ -48,8 +48,8 @@ pub(crate) fn put_changes(pen: &mut BitPen, mask: &Bits, window: &Window, spare:
     put_directions(pen, mask, recent, window.twice(), spare)
 }
 
-/// Appends a zero where the mask has all recent changes. Else appends a one, for each of them whether it became
-/// predictable, and whether all are extracted, which it answers.
+/// Appends a 0 if the mask has all recent changes. Otherwise appends a 1, then for each recent change whether it
+/// became predictable, and then whether all are extracted. Returns whether all are extracted.
 fn put_directions(
     pen: &mut BitPen,
     mask: &Bits,

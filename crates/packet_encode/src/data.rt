@@ -11,9 +11,9 @@ use bit_vectors::{BitPen, Bits, Flags};
 use count_code::put_count;
 use run_code::{edges, put_extract, put_runs};
 
-/// Appends a one where neither the mask nor the whole content is sent, and else a zero, the mask where it is sent,
-/// and whether the content is whole; then the content, or its bits at the places of the mask, and of the recent
-/// changes where `wide` says so. `spare` has any bits then.
+/// Appends a 1 if neither the mask nor the whole content is sent, and otherwise a 0, the mask if it is sent,
+/// and whether the content is whole; then the content, or its bits at the places of the mask, and also of the recent
+/// changes if `wide` is true. `spare` may then have any bits.
 pub(crate) fn put_data(
     pen: &mut BitPen,
     input: &Bits,
@@ -46,7 +46,7 @@ pub(crate) fn put_data(
     }
 }
 
-/// Appends whether the mask is sent, and where it is, the runs of its edges.
+/// Appends whether the mask is sent, and if it is, the runs of its edges.
 fn put_mask(pen: &mut BitPen, send: bool, mask: &Bits, spare: &mut Bits)
     requires spare { length spare.old ≡ length mask.now }
     requires room { length pen.old.bits + (4 * length mask.now + 3) ≤ pen.old.room }
@@ -72,7 +72,7 @@ fn put_whole(pen: &mut BitPen, content: &Bits)
     pen.put_bits(content);
 }
 
-/// Appends the bits of the content at the places of the mask, and of the recent changes where `wide` says so.
+/// Appends the bits of the content at the places of the mask, and also of the recent changes if `wide` is true.
 fn put_part(
     pen: &mut BitPen,
     content: &Bits,

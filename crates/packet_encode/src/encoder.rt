@@ -1,4 +1,4 @@
-//! Inputs to packets.
+//! Making packets from inputs.
 
 ghost use Rattle.std.specs.Prelude.{◌≡◌, ◌+◌, ◌*◌, ◌<◌, ◌≤◌, [], length, IfOk};
 ghost use Rattle.bit_vectors.specs.Vectors.{padded};
@@ -32,8 +32,8 @@ pub fn room(f: u32) -> u32
     10 * f + 43
 }
 
-/// Makes the packet of each input (CCSDS 124.0-B-1). It keeps the running vectors and the latest changes, and not the
-/// history. Contracts see them, and say for which histories they stand.
+/// Makes the packet of each input (CCSDS 124.0-B-1). It keeps the running vectors and the latest changes, but not the
+/// history. Contracts see them, and say which histories they represent.
 #[derive(Debug, Drop)]
 pub struct Encoder {
     masks: Masks,
@@ -52,7 +52,7 @@ impl Model for Encoder {
 }
 
 impl Encoder {
-    /// Starts with this mask of `f` places and no input taken. Takes the memory for every vector that `encode` fills.
+    /// Starts with this mask of `f` places and no input taken. Allocates the memory for every vector that `encode` fills.
     pub fn open(alloc: Global, f: u32, mask: &Bits) -> Result<Encoder, NoMemory>
         requires some { 1 ≤ f }
         requires most { f ≤ 49152 }
@@ -77,11 +77,11 @@ impl Encoder {
         requires robust { robust ≤ 7 }
         requires empty { pen.old.bits ≡ [] }
         requires room { 10 * length input.now + 43 ≤ pen.old.room }
-        // Whatever history it stood for, it now stands for that history with this input, these flags, after forcing, and
-        // this required robustness.
+        // If it represented some history, it now represents that history with this input, these flags, after forcing, and
+        // this required robustness added.
         ensures stands { (h : History) → StandsFor h self.old
             → StandsFor (with_next_input h robust input.now flags) self.new }
-        // The pen has exactly the bits of the form of its last step, which are, in whole bytes, the packet.
+        // The pen has exactly the bits of the form of its last step, which are, filled up to whole bytes, the packet.
         ensures bits { (h : History) → StandsFor h self.old
             → pen.new.bits ≡ form_bits
             (form_at (with_next_input h robust input.now flags) (length h.steps)) }
@@ -103,7 +103,7 @@ impl Encoder {
         put_data(pen, input, flags, mask, recent, wide, &mut self.spare);
     }
 
-    /// The flags of the next packet, which is forced where its number is at most its required robustness.
+    /// The flags of the next packet, which is forced if its number is at most its required robustness.
     fn forced(&self, flags: Flags, robust: u8) -> Flags
         ensures { result ≡ flags_after robust self.now.masks.taken flags }
     {

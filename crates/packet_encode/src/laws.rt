@@ -41,9 +41,9 @@ pub fn packets_of_the_past()
         packet_at h t ≡ packet_at other t }
 {}
 
-/// The mask of a packet becomes known exactly where the packet arrives and either carries it, or no more masks are unknown
-/// since the latest known one than its effective robustness level; and the latest known one is the greatest number before
-/// it whose mask became known.
+/// The mask of a packet becomes known exactly if the packet arrives and either carries it, or the number of unknown masks
+/// since the latest known one is at most its effective robustness level; and the latest known one is the greatest number
+/// before it whose mask became known.
 pub fn known_masks()
     ensures is { (h : History) (copies : ℕ → ℕ) (t : ℕ)
         → (is_mask_known h copies t ≡ true) ↔ MaskKnownAt h copies t }
@@ -53,9 +53,9 @@ pub fn known_masks()
         (latest_mask_known h copies t ≡ None) ↔ ((s : ℕ) → s < t → MaskKnownAt h copies s → ⊥) }
 {}
 
-/// A packet is written exactly where it arrives and either it carries the whole content, or its mask becomes known and no
-/// more packets are unwritten since the latest written one than its effective robustness level; and the latest written one
-/// is the greatest number before it that is written.
+/// A packet is written exactly if it arrives and either it carries the whole content, or its mask becomes known and the
+/// number of unwritten packets since the latest written one is at most its effective robustness level; and the latest
+/// written one is the greatest number before it that is written.
 pub fn written_packets()
     ensures is { (h : History) (copies : ℕ → ℕ) (t : ℕ)
         → (is_written h copies t ≡ true) ↔ WrittenAt h copies t }
@@ -65,8 +65,8 @@ pub fn written_packets()
         (latest_written h copies t ≡ None) ↔ ((s : ℕ) → s < t → WrittenAt h copies s → ⊥) }
 {}
 
-/// That mask and content are known apart gives up no packet: each one that would be written if they were known together
-/// alone is written, and its mask becomes known.
+/// Tracking mask and content separately loses no packet: each packet that would be written if they could be known only
+/// together is written, and its mask becomes known.
 pub fn no_packet_is_given_up()
     ensures written { (h : History) (copies : ℕ → ℕ) (t : ℕ)
         → WrittenWholeAt h copies t → WrittenAt h copies t }
@@ -74,8 +74,8 @@ pub fn no_packet_is_given_up()
         → WrittenWholeAt h copies t → MaskKnownAt h copies t }
 {}
 
-/// A packet is listed exactly where it is one up to the last arrival and not written; so each of these is either written
-/// or listed, and no other is either.
+/// A packet is listed exactly if it is one up to the last arrival and not written; so each of these is either written
+/// or listed, and no other packet is either.
 pub fn listed_packets()
     ensures written { (h : History) (copies : ℕ → ℕ) (t : ℕ) →
         Contains (written_numbers h copies) t ↔ ((t < length h.steps) × WrittenAt h copies t) }

@@ -69,7 +69,7 @@ impl Sender {
     }
 }
 
-// Levels above the required robustness, and at it.
+// Levels above the required robustness, and equal to it.
 fn levels(alloc: Global) -> Result<bool, NoMemory> {
     let mut sender = Sender::open(alloc, 8, 1, &[0x00])?;
     Ok(

@@ -1,4 +1,4 @@
--- What stands at the front of bytes, for every reader of them.
+-- What is at the front of bytes, for every reader of them.
 use Rattle.std.proofs.Common.{◌≡◌, refl, [], ◌∷◌, Bool, true, false, ◌==◌, nat_le, ℕ, ◌+◌, ◌*◌, ◌/◌, ◌%◌, ◌^◌, ◌<◌, ◌≤◌, List, ◌++◌, length, take, drop, All, Option, Some, None, sym, ap, subst, ◌∙◌, length-take, length-drop, arith}
 use Rattle.std.proofs.lemmas.List.{length-take-le, take-append-drop, take_at, drop_at}
 use Rattle.std.proofs.lemmas.List.Elements.{All-take, All-drop}
@@ -97,7 +97,7 @@ front-Good chosen (a ∷ b ∷ c ∷ d ∷ e ∷ f ∷ bytes) p rest all read =
     (subst (IsGood chosen) checks.3 good, sym joined ∙ (ap (λ x. packet_bytes x ++ drop size bytes) checks.3 ∙ ap (λ l. packet_bytes p ++ l) checks.4))
 front-Good chosen bytes p rest all read = absurd cc
 
--- behind a good packet fewer bytes are left
+-- after a good packet fewer bytes are left
 pub front-shorter : (chosen : Option ℕ) (bytes : List ℕ) (p : Packet) (rest : List ℕ) → front chosen bytes ≡ Good p rest → length rest < length bytes
 front-shorter chosen (a ∷ b ∷ c ∷ d ∷ e ∷ f ∷ bytes) p rest read =
     let h = header_at a b c d e f in
@@ -118,7 +118,7 @@ plain_shape : (chosen : Option ℕ) (apid count size : ℕ) → is_misshapen cho
 plain_shape None apid count size = refl
 plain_shape (Some other) apid count size = grind (arith, common_steps)
 
--- a packet of the one shape is a good one, whichever APID is chosen
+-- a packet of the one shape is a good one, whatever APID is chosen
 pub IsGood-plain : (chosen : Option ℕ) (apid count : ℕ) (body : List ℕ) → IsPacket apid count body → IsGood chosen (plain_packet apid count body)
 IsGood-plain chosen apid count body packet = record {
   fields = record { version_bits = omega arith; apid_bits = omega (arith, packet.chosen); sequence_bits = omega arith; count_bits = omega (arith, packet.counted); length_bits = omega (arith, packet.most, packet.some) };
@@ -128,7 +128,7 @@ IsGood-plain chosen apid count body packet = record {
   bytes = packet.bytes;
 }
 
--- a packet that stands whole at the front of some bytes
+-- a packet that is whole at the front of some bytes
 pub IsGood-at : (chosen : Option ℕ) (h : Header) (bytes : List ℕ) → IsHeader h → h.version ≡ 0 → is_misshapen chosen h ≡ false → h.length + 7 ≤ length bytes → All (λ b. b < 256) bytes → IsGood chosen (front_packet h bytes)
 IsGood-at chosen h bytes fields version shape long all = record {
   fields = fields;

@@ -1,4 +1,4 @@
--- A packet that is read, or is not: what stands at the front of what is ahead then, and how the walk goes on there.
+-- A packet that is read, or is not: what is then at the front of what is ahead, and how the walk goes on there.
 use Rattle.std.proofs.Common.{◌≡◌, refl, [], ◌∷◌, true, ◌==◌, nat_le, ℕ, ◌+◌, ◌^◌, ◌<◌, ◌≤◌, List, ◌++◌, length, take, drop, Option, IfSome, sym, ap, subst, ◌∙◌, append_assoc, append-nil, length-append, length-drop, arith, inl, inr}
 use Rattle.std.proofs.lemmas.Bool.{cases_lt}
 use Rattle.std.proofs.lemmas.List.{take-append-drop, take-append-le, take-take}
@@ -36,7 +36,7 @@ pub IsEarly-short : (chosen : Option ℕ) (bytes : List ℕ) → length bytes < 
 IsEarly-short chosen [] few = tt
 IsEarly-short chosen (a ∷ bytes) few = subst IsEarly (sym (front-short chosen (a ∷ bytes) (omega arith) few)) tt
 
--- a header and the bytes behind it
+-- a header and the bytes after it
 front-header : (chosen : Option ℕ) (h : Header) (bytes : List ℕ) → IsHeader h → front chosen (header_of h ++ bytes) ≡ front_after chosen h bytes
 front-header chosen h bytes fields = ap (λ h. front_after chosen h bytes) (header_at-header_of h fields)
 
@@ -50,7 +50,7 @@ pub record HasHeader (h : Header) (bytes : List ℕ) : Type 0 where
 whole_header : (h : Header) (bytes : List ℕ) → HasHeader h bytes → bytes ≡ header_of h ++ drop 6 bytes
 whole_header h bytes has = sym (take-append-drop 6 bytes) ∙ ap (λ l. l ++ drop 6 bytes) has.spelled
 
--- ---- where a packet is whole
+-- ---- if a packet is whole
 
 no_packet : (found : Front) (P : Type 0) → IsEarly found → (p : _) (rest : List ℕ) → found ≡ Good p rest → P
 no_packet End P early p rest is = absurd (let e : ◌≡◌ {A = Front} End (Good p rest) = is in cc)
@@ -64,14 +64,14 @@ long_header chosen bytes begins = elim (cases_lt (length bytes) 6) [
   | inr long ↦ long
 ]
 
--- and all that this says
+-- and so is everything that the header announces
 pub long_packet : (chosen : Option ℕ) (h : Header) (bytes : List ℕ) → HasHeader h bytes → BeginsWithPacket chosen bytes → h.length + 7 ≤ length bytes
 long_packet chosen h bytes has begins =
     let here = sym (ap (front chosen) (whole_header h bytes has) ∙ front-header chosen h (drop 6 bytes) has.fields) ∙ begins.is in
     let long = from_long (h.length + 1) (length (drop 6 bytes)) (by_checks-Good (h.version == 0) (is_misshapen chosen h) (nat_le (h.length + 1) (length (drop 6 bytes))) _ begins.packet _ begins.rest here).2 in
     omega (arith, long, length-drop 6 bytes)
 
--- so what depends on nothing but that so many bytes are ahead stays as it is
+-- so what depends only on whether that many bytes are ahead is unchanged
 pub untouched : {X : Type 0} {x y z : X} {h : Header} {before after : List ℕ} {a b : Meanings} (chosen : Option ℕ) → BeginsWithPacket chosen before → ReadsOn before after a b → HasHeader h after → (6 ≤ length before → y ≡ x) → (h.length + 7 ≤ length after → z ≡ y) → z ≡ x
 untouched {h = h} {before = before} chosen begins read has first then =
     let long = long_header chosen before begins in
@@ -101,7 +101,7 @@ Waits-early s ahead a b read early =
     let here = subst (λ bytes. ((walk_from s.chosen s.taken s.offset bytes).packets ≡ []) × IsOnlyCut (walk_from s.chosen s.taken s.offset bytes).ending) read.joined early in
     record { taken = read.bytes; moved = read.moved; kept = read.joined; none = here.0; early = here.1 }
 
--- no good packet stands there
+-- no good packet is there
 pub AfterFault-unread : (s : ReaderState) (ahead : List ℕ) (a b : Meanings) (reason : StoreFault) → s.taken < 2 ^ 32 → ReadsOn s.ahead ahead a b → AfterUnread s.chosen s.offset ahead b reason → AfterFault s ahead a b reason
 AfterFault-unread s ahead a b (Cut byte) few read (place, cut, at_end) = Stops-bad s ahead a b [] byte kind.Cut few read (IfSome-IsAtEnd (left b inlet.Main) at_end) place (ap (front s.chosen) (append-nil ahead) ∙ cut)
 AfterFault-unread s ahead a b (Version byte) few read (place, bad) = Stops-bad s ahead a b (rest_of (left b inlet.Main)) byte kind.Version few read (IfSome-rest_of (left b inlet.Main)) place (bad (rest_of (left b inlet.Main)))
@@ -109,12 +109,12 @@ AfterFault-unread s ahead a b (Shape byte) few read (place, bad) = Stops-bad s a
 AfterFault-unread s ahead a b TooMany few read none = absurd none
 AfterFault-unread s ahead a b ReadFault few read early = Waits-early s ahead a b read (walk_from-early s.chosen s.taken s.offset ahead few early)
 
--- a reading failed where nothing is ahead
+-- a read failed while nothing was ahead
 pub Waits-none : (s : ReaderState) (ahead : List ℕ) (a b : Meanings) → ReadsOn s.ahead ahead a b → length ahead < 1 → Waits s ahead a b
 Waits-none s [] a b read none = Waits-early s [] a b read (subst (λ (w : Walk). (w.packets ≡ []) × IsOnlyCut w.ending) (sym (walk_from-none s.chosen s.taken s.offset)) (refl, tt))
 Waits-none s (x ∷ ahead) a b read none = absurd (omega arith)
 
--- a byte is ahead behind the last packet that may be given
+-- a byte is ahead after the last packet that may be given
 pub Stops-too_many : (s : ReaderState) (ahead : List ℕ) (a b : Meanings) → s.taken ≡ 2 ^ 32 → ReadsOn s.ahead ahead a b → 1 ≤ length ahead → Stops s ahead a b fault.TooMany
 Stops-too_many s [] a b full read some = absurd (omega arith)
 Stops-too_many s (x ∷ ahead) a b full read some =

@@ -1,4 +1,4 @@
--- How a turn over a store is made, for every work that is made from the walk over it.
+-- How a turn over a store is made, for every work that is defined by the walk over it.
 use Rattle.std.proofs.Common.{◌≡◌, ℕ, List, [], ◌∷◌, ◌++◌, Some, sym, ap, ◌∙◌, subst}
 use Rattle.std.specs.Io.KnownBytes.{IsAtEnd}
 use Rattle.desk_ports.specs.declared.desk.Inlet.TheVariants as inlet
@@ -41,13 +41,13 @@ AfterStop-on {A = A} k work s ahead a b reason is nothing after = subst (λ (w :
 abbrev pub packet_of : Header → ReaderState → Packet
 packet_of header reader = record { header = header; body = reader.body }
 
--- a packet owes this, and the packets behind it other work
+-- a packet owes this output, and the packets after it owe other work
 pub record GoesOn {A : Type 0} (k next : StoreWork A) (p : Packet) (outputs : Outputs) : Type 0 where
   pub before : (packets : List Packet) → k.before (p ∷ packets) ≡ put outputs (next.before packets)
   pub answer : (packets : List Packet) → k.answer (p ∷ packets) ≡ next.answer packets
   pub last : k.last ≡ next.last
 
--- A packet was read that owes this, and behind it other work is to do.
+-- A packet was read that owes this output, and after it other work is to do.
 pub record ReadsPacket {A : Type 0} (k next : StoreWork A) (s t : ReaderState) (a b : Meanings) (outputs : Outputs) : Type 0 where
   pub given : Taken
   pub takes : Takes s t a b given
@@ -70,13 +70,13 @@ pub Advances-on : {A : Type 0} {k next : StoreWork A} {work : Work A WalkFault} 
     → ReadsPacket k next s t a b outputs → work ≡ work_on k s → Wrote b d outputs → owes (work_on next t) → Advances work owes a d
 Advances-on reads is wrote owed = Advances-taken is (Steps-on _ _ _ _ _ _ _ reads) reads.takes.moved wrote owed
 
--- and where a writing failed, a front of it
+-- and if a write failed, only a prefix of it was written
 pub IsCutShort-on : {A : Type 0} {k next : StoreWork A} {work : Work A WalkFault} {s t : ReaderState} {a b d : Meanings} {outputs : Outputs} → ReadsPacket k next s t a b outputs → work ≡ work_on k s → WroteFront b d outputs → IsCutShort work.course a d
 IsCutShort-on reads is front = IsCutShort-taken is (Steps-on _ _ _ _ _ _ _ reads) reads.takes.moved front
 
 -- ---- nothing of it is left
 
--- nothing is owed where no packet is, and this is answered
+-- nothing is owed if there is no packet, and this is the answer
 pub record IsDone {A : Type 0} (k : StoreWork A) (answer : A) : Type 0 where
   pub nothing : k.before [] ≡ no_outputs
   pub answer_is : k.answer [] ≡ answer
@@ -92,6 +92,6 @@ IsLast-on k s answer done none =
 pub Finishes-on : {A : Type 0} {k : StoreWork A} {work : Work A WalkFault} (s : ReaderState) {a b d : Meanings} {answer : A} → IsDone k answer → work ≡ work_on k s → s.ahead ≡ [] → Moves a b inlet.Main [] → IsAtEnd (left a inlet.Main) → Wrote b d (k.last answer) → Finishes work a d answer
 Finishes-on s done is none moved at_end wrote = Finishes-end is (IsLast-on _ s _ done none) moved at_end wrote
 
--- and where a writing failed, a front of it
+-- and if a write failed, only a prefix of it was written
 pub IsCutShort-end-on : {A : Type 0} {k : StoreWork A} {work : Work A WalkFault} (s : ReaderState) {a b d : Meanings} {answer : A} → IsDone k answer → work ≡ work_on k s → s.ahead ≡ [] → Moves a b inlet.Main [] → IsAtEnd (left a inlet.Main) → WroteFront b d (k.last answer) → IsCutShort work.course a d
 IsCutShort-end-on s done is none moved at_end front = IsCutShort-end is (IsLast-on _ s _ done none) moved at_end front

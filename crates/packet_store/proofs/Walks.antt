@@ -1,4 +1,4 @@
--- The walk over a store: its equation, whatever the steps that it may take, and what its parts are.
+-- The walk over a store: its equation, whatever the number of steps that it may take, and what its parts are.
 use Rattle.std.proofs.Common.{◌≡◌, refl, [], ◌∷◌, Bool, true, false, ◌==◌, if◌then◌else◌, ℕ, zero, suc, ◌+◌, ◌^◌, ◌<◌, ◌≤◌, List, ◌++◌, length, map, All, Option, Some, None, sym, ap, subst, ◌∙◌, append_assoc, get_or, append-nil, length-append, arith}
 use Rattle.std.proofs.lemmas.List.{drop_at}
 use Rattle.std.proofs.lemmas.List.Elements.{All-drop}
@@ -68,7 +68,7 @@ walk_from-step chosen taken offset (b ∷ bytes) =
 pub not_full : (taken : ℕ) → taken < 2 ^ 32 → (taken == 2 ^ 32) ≡ false
 not_full taken few = grind (arith, common_steps)
 
--- a good packet, and then the walk behind it
+-- a good packet, and then the walk after it
 pub walk_from-good : (chosen : Option ℕ) (taken offset : ℕ) (p : Packet) (rest : List ℕ) → IsGood chosen p → taken < 2 ^ 32
     → walk_from chosen taken offset (packet_bytes p ++ rest) ≡ behind_packet p (walk_from chosen (taken + 1) (offset + length (packet_bytes p)) rest)
 walk_from-good chosen taken offset p rest good few =
@@ -76,7 +76,7 @@ walk_from-good chosen taken offset p rest good few =
     let bytes = packet_bytes p ++ rest in
     walk_from-step chosen taken offset bytes ∙ (λ i. if not_full taken few i then at_limit bytes else by_front on offset bytes (front-good chosen p rest good i))
 
--- where no good packet stands the walk ends
+-- if no good packet is there the walk ends
 pub walk_from-bad : (chosen : Option ℕ) (taken offset : ℕ) (bytes : List ℕ) (why : StoreKind) → front chosen bytes ≡ Bad why → taken < 2 ^ 32
     → walk_from chosen taken offset bytes ≡ stopped_at (fault.Bad offset why) bytes
 walk_from-bad chosen taken offset bytes why bad few =
@@ -91,7 +91,7 @@ walk_from-too_many chosen taken offset b bytes full =
 pub walk_from-none : (chosen : Option ℕ) (taken offset : ℕ) → walk_from chosen taken offset [] ≡ walked
 walk_from-none chosen taken offset = walk_from-step chosen taken offset [] ∙ either_way (taken == 2 ^ 32) walked
 
--- no good packet stands there
+-- no good packet is there
 abbrev IsNoPacket : Front → Type 0
 IsNoPacket End = Unit {0}
 IsNoPacket (Good p rest) = ⊥
@@ -107,7 +107,7 @@ no_packets false on offset bytes End none = refl
 no_packets false on offset bytes (Good p rest) none = absurd none
 no_packets false on offset bytes (Bad why) none = refl
 
--- where no good packet stands none is walked
+-- if no good packet is there none is walked
 walk_from-no_packet : (chosen : Option ℕ) (taken offset : ℕ) (bytes : List ℕ) → IsNoPacket (front chosen bytes) → (walk_from chosen taken offset bytes).packets ≡ []
 walk_from-no_packet chosen taken offset bytes none =
     let on : Packet → List ℕ → Walk = λ q left. walk_from chosen (taken + 1) (offset + length (packet_bytes q)) left in
@@ -120,7 +120,7 @@ early_end on offset bytes (Bad kind.Cut) early = (refl, tt)
 early_end on offset bytes (Bad kind.Version) early = absurd early
 early_end on offset bytes (Bad kind.Shape) early = absurd early
 
--- where nothing is wrong but that bytes are missing, no packet is walked, and nothing is wrong in the walk but that
+-- if nothing is wrong except that bytes are missing, no packet is walked, and nothing else is wrong in the walk
 pub walk_from-early : (chosen : Option ℕ) (taken offset : ℕ) (bytes : List ℕ) → taken < 2 ^ 32 → IsEarly (front chosen bytes)
     → ((walk_from chosen taken offset bytes).packets ≡ []) × IsOnlyCut (walk_from chosen taken offset bytes).ending
 walk_from-early chosen taken offset bytes few early =
@@ -216,7 +216,7 @@ IsWalk-walk_from (suc n) chosen taken offset bytes short few all = subst (IsWalk
 behind_packets : List Packet → Walk → Walk
 behind_packets packets w = record w { packets = packets ++ w.packets }
 
--- packets of the one shape, one after the other, and then the walk behind them
+-- packets of the one shape, one after another, and then the walk after them
 walk_from-store_bytes : (chosen : Option ℕ) (taken offset apid : ℕ) (packets : List (ℕ × List ℕ)) (rest : List ℕ) → All (λ p. IsPacket apid p.0 p.1) packets → taken + length packets ≤ 2 ^ 32
     → walk_from chosen taken offset (store_bytes apid packets ++ rest) ≡ behind_packets (map (λ p. plain_packet apid p.0 p.1) packets) (walk_from chosen (taken + length packets) (offset + length (store_bytes apid packets)) rest)
 unfolding behind_packets
@@ -265,7 +265,7 @@ walk_from-full chosen taken offset bytes full =
     let on : Packet → List ℕ → Walk = λ p rest. walk_from chosen (taken + 1) (offset + length (packet_bytes p)) rest in
     ap (λ (w : Walk). w.packets) (walk_from-step chosen taken offset bytes ∙ ap (λ b. if b then at_limit bytes else by_front on offset bytes (front chosen bytes)) full) ∙ no_packets_at_limit bytes
 
--- the walk of a front of some bytes has a front of their packets
+-- the walk over a prefix of some bytes has a prefix of their packets
 pub IsLonger-walk_from : (n : ℕ) (chosen : Option ℕ) (taken offset : ℕ) (bytes more : List ℕ) → length bytes ≤ n → taken ≤ 2 ^ 32 → All (λ b. b < 256) bytes → IsLonger chosen taken offset bytes more
 IsLonger-walk_from zero chosen taken offset [] more short few all = IsLonger-none chosen taken offset [] more (ap (λ (w : Walk). w.packets) (walk_from-none chosen taken offset))
 IsLonger-walk_from zero chosen taken offset (b ∷ bytes) more short few all = absurd (omega arith)

@@ -1,7 +1,7 @@
 -- A fact for one answer of a call that gives a value, or none at the end, or a fault.
 use Rattle.std.specs.Prelude.{Option, Some, None, Result, Ok, Err, ⊤}
 
--- the fact holds of the value, where there is one
+-- the fact holds for the value, if there is one
 abbrev pub IfGiven : {T E : Type 0} → Result (Option T) E → (T → Type 0) → Type 0
 IfGiven (Ok (Some x)) P = P x
 IfGiven (Ok None) P = ⊤

@@ -17,7 +17,7 @@ stop_of (Shape byte) = stop.Data (fault.Bad byte kind.Shape)
 stop_of TooMany = stop.Data fault.TooMany
 stop_of ReadFault = stop.ReadFault
 
--- after a call that reads a store: ReadFault comes only where a reading failed, and otherwise both counts are as before
+-- after a call that reads a store: ReadFault comes only if a read failed, and otherwise both counts are as before
 abbrev pub HasStoreCause : {T : Type 0} → Counts → Counts → Result T StoreFault → Type 0
 HasStoreCause old new (Ok done) = new ≡ old
 HasStoreCause old new (Err ReadFault) = FailsToRead old new

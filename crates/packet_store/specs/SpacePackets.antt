@@ -4,7 +4,7 @@ use Rattle.std.specs.Prelude.{ℕ, ◌+◌, ◌-◌, ◌*◌, ◌/◌, ◌%◌, 
 use Rattle.std.specs.List.{flat_map}
 use Rattle.packet_store.specs.declared.header.Header.{Header}
 
--- the number of the sequence counts: behind the last count the first comes again
+-- the number of different sequence counts: after the last count the first comes again
 abbrev pub period : ℕ
 period = 16384
 
@@ -76,15 +76,15 @@ pub record IsPacket (apid count : ℕ) (body : List ℕ) : Type 0 where
   pub most : length body ≤ 65536
   pub bytes : All (λ b. b < 256) body
 
--- packets of the one shape and of one APID, one after the other: each has its count and its data bytes
+-- packets of the one shape and of one APID, one after another: each has its count and its data bytes
 abbrev pub store_bytes : ℕ → List (ℕ × List ℕ) → List ℕ
 store_bytes apid packets = flat_map (λ p. space_packet apid p.0 p.1) packets
 
--- the header is of the chosen APID, where one is chosen
+-- the header has the chosen APID, if one is chosen
 abbrev pub is_chosen : Option ℕ → Header → Bool
 is_chosen None h = false
 is_chosen (Some apid) h = h.apid == apid
 
--- the header is of the chosen APID and not of the one shape
+-- the header has the chosen APID and is not of the one shape
 abbrev pub is_misshapen : Option ℕ → Header → Bool
 is_misshapen chosen h = is_chosen chosen h && not (not h.telecommand && not h.secondary && h.sequence == 3)

@@ -1,4 +1,4 @@
--- A reader of a store: what it stands at, and what a call of `next` does to it and to the desk.
+-- A reader of a store: where it is, and what a call of `next` does to it and to the desk.
 use Rattle.std.specs.Prelude.{◌≡◌, ℕ, ◌+◌, ◌*◌, ◌^◌, ◌<◌, ◌≤◌, Bool, true, false, List, [], ◌++◌, length, take, drop, Option, Some, None, IfSome}
 use Rattle.desk_ports.specs.Meanings.{Meanings, Moves, left}
 use Rattle.desk_ports.specs.declared.desk.Inlet.TheVariants as inlet
@@ -12,8 +12,8 @@ use Rattle.packet_store.specs.declared.fault.StoreFault.TheVariants.{Cut, Versio
 use Rattle.packet_store.specs.SpacePackets.{packet_bytes, is_chosen}
 use Rattle.packet_store.specs.Walks.{IsGood, Walk, walk_from, behind_packet, stopped_at}
 
--- the chosen APID, the number of packets given so far and of their bytes, whether the reader goes on, the latest packet with
--- its data, both empty where the latest call gave none, and the bytes behind it that were read ahead
+-- the chosen APID, the number of packets given so far and of their bytes, whether the reader goes on, the latest packet
+-- with its data, both empty if the latest call gave none, and the bytes after it that were read ahead
 pub record ReaderState : Type 0 where
   pub chosen : Option ℕ
   pub taken : ℕ
@@ -31,12 +31,12 @@ opened chosen = record { chosen = chosen; taken = 0; offset = 0; live = true; pa
 abbrev pub stopped : ReaderState → List ℕ → ReaderState
 stopped s ahead = record s { live = false; packet = []; body = []; ahead = ahead }
 
--- the walk from where the reader stands, over the bytes that are ahead and then these, which the desk has left
+-- the walk from where the reader is, over the bytes that are ahead and then these, which the desk has left
 abbrev pub walk_on : ReaderState → List ℕ → Walk
 walk_on s bytes = walk_from s.chosen s.taken s.offset (s.ahead ++ bytes)
 
--- Some bytes were read behind those that were ahead, and nothing else happened to the desk. One packet of the walk was
--- taken, which the reader keeps, and the walk goes on behind it.
+-- Some bytes were read after those that were ahead, and nothing else happened to the desk. One packet of the walk was
+-- taken, which the reader keeps, and the walk goes on after it.
 pub record Takes (old new : ReaderState) (before after : Meanings) (given : Taken) : Type 0 where
   pub header : Header
   pub good : IsGood old.chosen (record { header = header; body = new.body })
@@ -50,7 +50,7 @@ pub record Takes (old new : ReaderState) (before after : Meanings) (given : Take
   pub others : new ≡ record old { taken = old.taken + 1; offset = old.offset + length new.packet; packet = new.packet; body = new.body; ahead = new.ahead }
   pub goes_on : (rest : List ℕ) → walk_on old (taken ++ rest) ≡ behind_packet (record { header = header; body = new.body }) (walk_on new rest)
 
--- The walk ends with this fault: some bytes were read behind those that were ahead, all of which stay there, and nothing
+-- The walk ends with this fault: some bytes were read after those that were ahead, all of which stay there, and nothing
 -- else happened.
 pub record Stops (old : ReaderState) (ahead : List ℕ) (before after : Meanings) (reason : WalkFault) : Type 0 where
   pub taken : List ℕ
@@ -68,8 +68,8 @@ IsOnlyCut (Some (fault.Bad byte kind.Version)) = ⊥
 IsOnlyCut (Some (fault.Bad byte kind.Shape)) = ⊥
 IsOnlyCut (Some fault.TooMany) = ⊥
 
--- A reading failed: what was read before it stands behind what was ahead, and nothing else happened. That is less than a
--- packet of the walk, with nothing wrong in it but its end.
+-- A read failed: what was read before it comes after what was ahead, and nothing else happened. That is less than a
+-- packet of the walk, and the only thing wrong in it is that it ends.
 pub record Waits (old : ReaderState) (ahead : List ℕ) (before after : Meanings) : Type 0 where
   pub taken : List ℕ
   pub moved : Moves before after inlet.Main taken
@@ -85,7 +85,7 @@ AfterFault old ahead before after (Shape byte) = Stops old ahead before after (f
 AfterFault old ahead before after TooMany = Stops old ahead before after fault.TooMany
 AfterFault old ahead before after ReadFault = Waits old ahead before after
 
--- what a reader keeps: the latest packet, so many bytes, stands before what is ahead
+-- what a reader keeps: the latest packet, of the given length, comes before what is ahead
 abbrev pub state_of : Option ℕ → ℕ → ℕ → Bool → ℕ → List ℕ → ReaderState
 state_of chosen taken offset live held input = record {
   chosen = chosen;

@@ -1,17 +1,17 @@
--- Work over a store, made from the walk over it.
+-- Work over a store, defined by the walk over it.
 use Rattle.std.specs.Prelude.{ℕ, List}
 use Rattle.desk_ports.specs.Courses.{Outputs, Course, Work}
 use Rattle.packet_store.specs.declared.fault.WalkFault.{WalkFault}
 use Rattle.packet_store.specs.SpacePackets.{Packet}
 use Rattle.packet_store.specs.StoreReader.{ReaderState, walk_on}
 
--- what packets owe, what is answered behind them where the store is whole, and what is owed last by that answer
+-- what packets owe, the answer after them if the store is whole, and the output that is owed last for that answer
 pub record StoreWork (A : Type 0) : Type 0 where
   pub before : List Packet → Outputs
   pub answer : List Packet → A
   pub last : A → Outputs
 
--- what is owed for what is left of a store
+-- what is owed for the rest of a store
 abbrev pub course_on : {A : Type 0} → StoreWork A → ReaderState → List ℕ → Course WalkFault
 course_on k s bytes = record {
   before = k.before (walk_on s bytes).packets;
@@ -19,6 +19,6 @@ course_on k s bytes = record {
   ending = (walk_on s bytes).ending;
 }
 
--- the work over what is left of a store
+-- the work over the rest of a store
 abbrev pub work_on : {A : Type 0} → StoreWork A → ReaderState → Work A WalkFault
 work_on k s = record { course = course_on k s; answer = λ bytes. k.answer (walk_on s bytes).packets }

@@ -8,7 +8,7 @@ use Rattle.packet_store.specs.declared.fault.WalkFault.{WalkFault}
 use Rattle.packet_store.specs.declared.fault.WalkFault.TheVariants as fault
 use Rattle.packet_store.specs.SpacePackets.{IsHeader, Packet, header_at, packet_bytes, is_misshapen}
 
--- A good packet: version 0, the length that its header says and, on the chosen APID, the one shape.
+-- A good packet: version 0, the length that its header says and, if it has the chosen APID, the one shape.
 pub record IsGood (chosen : Option ℕ) (p : Packet) : Type 0 where
   pub fields : IsHeader p.header
   pub version : p.header.version ≡ 0
@@ -16,21 +16,21 @@ pub record IsGood (chosen : Option ℕ) (p : Packet) : Type 0 where
   pub whole : length p.body ≡ p.header.length + 1
   pub bytes : All (λ b. b < 256) p.body
 
--- what stands at the front of some bytes: nothing, a good packet before the rest, or something else
+-- what is at the front of some bytes: nothing, a good packet before the rest, or something else
 pub data Front : Type 0 where
   End : Front
   Good : Packet → List ℕ → Front
   Bad : StoreKind → Front
 
--- The checks of a packet, the first that fails deciding: it has version 0, it has no other shape on the chosen APID, and
--- its data are as long as it says.
+-- The checks of a packet, of which the first that fails decides: it has version 0, it has no other shape if it has the
+-- chosen APID, and its data are as long as it says.
 abbrev pub by_checks : Bool → Bool → Bool → Front → Front
 by_checks false misshapen long found = Bad kind.Version
 by_checks true true long found = Bad kind.Shape
 by_checks true false false found = Bad kind.Cut
 by_checks true false true found = found
 
--- what a header and the bytes behind it are
+-- what a header and the bytes after it are
 abbrev pub front_after : Option ℕ → Header → List ℕ → Front
 front_after chosen h bytes =
     by_checks (h.version == 0) (is_misshapen chosen h) (nat_le (h.length + 1) (length bytes))
@@ -41,7 +41,7 @@ front chosen [] = End
 front chosen (a ∷ b ∷ c ∷ d ∷ e ∷ f ∷ bytes) = front_after chosen (header_at a b c d e f) bytes
 front chosen (a ∷ bytes) = Bad kind.Cut
 
--- a walk: the good packets in order, the bytes behind them, and why they are not walked, none where nothing is left
+-- a walk: the good packets in order, the bytes after them, and why those are not walked, or none if nothing is left
 pub record Walk : Type 0 where
   pub packets : List Packet
   pub rest : List ℕ
@@ -57,28 +57,28 @@ stopped_at reason bytes = record { packets = []; rest = bytes; ending = Some rea
 abbrev pub behind_packet : Packet → Walk → Walk
 behind_packet p walk = record walk { packets = p ∷ walk.packets }
 
--- no packet is walked behind the 4,294,967,296th
+-- no packet is walked after the 4,294,967,296th
 abbrev pub at_limit : List ℕ → Walk
 at_limit [] = walked
 at_limit (b ∷ bytes) = stopped_at fault.TooMany (b ∷ bytes)
 
--- the walk over bytes, by what stands at their front; the offset is that of their first byte
+-- the walk over bytes, by what is at their front; the offset is that of their first byte
 abbrev pub by_front : (Packet → List ℕ → Walk) → ℕ → List ℕ → Front → Walk
 by_front on offset bytes End = walked
 by_front on offset bytes (Good p rest) = behind_packet p (on p rest)
 by_front on offset bytes (Bad why) = stopped_at (fault.Bad offset why) bytes
 
--- one step of a walk, which goes on behind a good packet
+-- one step of a walk, which goes on after a good packet
 abbrev pub walk_step : Option ℕ → ℕ → ℕ → List ℕ → (Packet → List ℕ → Walk) → Walk
 walk_step chosen taken offset bytes on =
     if taken == 2 ^ 32 then at_limit bytes else by_front on offset bytes (front chosen bytes)
 
--- the walk in at most so many steps
+-- the walk in at most the given number of steps
 unfoldable pub walk_by : ℕ → Option ℕ → ℕ → ℕ → List ℕ → Walk
 walk_by zero chosen taken offset bytes = walked
 walk_by (suc steps) chosen taken offset bytes = walk_step chosen taken offset bytes (λ p rest. walk_by steps chosen (taken + 1) (offset + length (packet_bytes p)) rest)
 
--- The walk over the rest of a store, for a chosen APID or none: so many packets were walked before, and the offset is that
+-- The walk over the rest of a store, for a chosen APID or none, after the given number of packets; the offset is that
 -- of the first byte.
 unfoldable pub walk_from : Option ℕ → ℕ → ℕ → List ℕ → Walk
 walk_from chosen taken offset bytes = walk_by (length bytes) chosen taken offset bytes
@@ -87,7 +87,7 @@ walk_from chosen taken offset bytes = walk_by (length bytes) chosen taken offset
 abbrev pub walk : Option ℕ → List ℕ → Walk
 walk chosen bytes = walk_from chosen 0 0 bytes
 
--- the bytes of packets, one after the other
+-- the bytes of packets, one after another
 abbrev pub packets_bytes : List Packet → List ℕ
 packets_bytes packets = flat_map packet_bytes packets
 
@@ -96,7 +96,7 @@ bad_at offset End = None
 bad_at offset (Good p rest) = None
 bad_at offset (Bad why) = Some (fault.Bad offset why)
 
--- why these bytes are not walked, where so many packets stand before them and the first byte has this offset
+-- why these bytes are not walked, if the given number of packets come before them and the first byte has this offset
 abbrev pub ending_at : Option ℕ → ℕ → ℕ → List ℕ → Option WalkFault
 ending_at chosen taken offset [] = None
 ending_at chosen taken offset (b ∷ bytes) = if taken == 2 ^ 32 then Some fault.TooMany else bad_at offset (front chosen (b ∷ bytes))

@@ -29,13 +29,13 @@ pub enum WalkFault {
     TooMany,
 }
 
-/// Why a store is not read on. A byte is named by its offset in the store.
+/// Why a store is not read on. A byte is identified by its offset in the store.
 #[derive(Clone, Copy, Debug, PartialEq, Eq, Error)]
 pub enum StoreFault {
     /// The store ends inside the packet that begins with this byte.
     #[error("store packet at byte {byte} is cut")]
     Cut { byte: u64 },
-    /// The packet that begins with this byte has another version than 0.
+    /// The packet that begins with this byte has a version other than 0.
     #[error("store packet at byte {byte} has another version")]
     Version { byte: u64 },
     /// The packet of the chosen APID that begins with this byte is a telecommand, has a secondary

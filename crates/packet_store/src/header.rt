@@ -6,7 +6,7 @@ ghost use Rattle.packet_store.specs.SpacePackets.{IsHeader, header_of, header_by
 /// The bytes of a primary header.
 pub const HEADER_BYTES: usize = 6;
 
-/// The period of the sequence counts: they run from 0 to 16,383, and behind the last comes 0 again.
+/// The period of the sequence counts: they run from 0 to 16,383, and after the last comes 0 again.
 pub const PERIOD: u64 = 16_384;
 
 /// The value of the sequence flags for a packet that is not segmented.
@@ -19,7 +19,7 @@ pub struct Header {
     pub version: u8,
     /// The packet type: telecommand or telemetry.
     pub telecommand: bool,
-    /// A secondary header stands at the front of the data.
+    /// A secondary header is at the front of the data.
     pub secondary: bool,
     /// The application process identifier, 11 bits.
     pub apid: u16,
@@ -39,7 +39,7 @@ impl Header {
         usize::from(self.length) + 1
     }
 
-    /// Whether it is of the chosen APID, if one is chosen.
+    /// Whether it has the chosen APID, if one is chosen.
     pub fn is_chosen(&self, chosen: Option<u16>) -> bool
         ensures { result ≡ is_chosen chosen self.now }
     {
@@ -49,7 +49,7 @@ impl Header {
         }
     }
 
-    /// Whether it is of the chosen APID and not that of an unsegmented telemetry packet with no
+    /// Whether it has the chosen APID and is not the header of an unsegmented telemetry packet with no
     /// secondary header.
     pub fn is_misshapen(&self, chosen: Option<u16>) -> bool
         ensures { result ≡ is_misshapen chosen self.now }

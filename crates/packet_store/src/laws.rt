@@ -6,7 +6,7 @@ ghost use Rattle.packet_store.specs.Walks.{IsGood, Good, front, walk, walk_from,
 ghost use Rattle.packet_store.specs.declared.fault.StoreKind.TheVariants.{Cut, Version, Shape};
 ghost use Rattle.packet_store.specs.declared.fault.WalkFault.TheVariants.{Bad};
 
-/// A good packet is read back, whatever follows it, and the walk goes on behind it.
+/// A good packet is read back, whatever follows it, and the walk goes on after it.
 pub fn good_packets_are_walked()
     ensures read { (chosen : Option ℕ) (p : Packet) (rest : List ℕ) → IsGood chosen p
         → front chosen (packet_bytes p ++ rest) ≡ Good p rest }
@@ -23,14 +23,14 @@ pub fn only_good_packets_are_read()
         → front chosen bytes ≡ Good p rest → IsGood chosen p × (bytes ≡ packet_bytes p ++ rest) }
 {}
 
-/// No good packet begins another one: what follows two packets tells nothing of them.
+/// No good packet begins another one: what follows two packets says nothing about them.
 pub fn packets_are_told_apart()
     ensures { (chosen : Option ℕ) (p q : Packet) (rest other_rest : List ℕ) → IsGood chosen p
         → IsGood chosen q
         → packet_bytes p ++ rest ≡ packet_bytes q ++ other_rest → (p ≡ q) × (rest ≡ other_rest) }
 {}
 
-/// A store of packets of the one shape is whole, and its walk has these packets in their order.
+/// A store of packets of this one shape is whole, and its walk has these packets in their order.
 pub fn stores_are_walked()
     ensures { (chosen : Option ℕ) (apid : ℕ) (packets : List (ℕ × List ℕ))
         → All (λ p. IsPacket apid p.0 p.1) packets
@@ -44,7 +44,7 @@ pub fn stores_are_walked()
         } }
 {}
 
-/// The packets of a walk are good ones, and not too many. Joined again, with the rest behind them, they
+/// The packets of a walk are good ones, and not too many. Joined again, with the rest after them, they
 /// are the bytes, and the walk ends as that rest says, at the offset of its first byte.
 pub fn walks_are_exact()
     ensures good { (chosen : Option ℕ) (bytes : List ℕ) → All (λ b. b < 256) bytes
@@ -58,7 +58,7 @@ pub fn walks_are_exact()
         (length (packets_bytes (walk chosen bytes).packets)) (walk chosen bytes).rest }
 {}
 
-/// The walk of a front of some bytes has a front of their packets.
+/// The walk over a prefix of some bytes has a prefix of their packets.
 pub fn walks_of_fronts()
     ensures { (chosen : Option ℕ) (bytes more : List ℕ) → All (λ b. b < 256) bytes
         → (later : List Packet)
@@ -74,7 +74,7 @@ pub fn worked_walks()
         ≡ behind_packet (plain_packet 100 0 (0x85 ∷ 0xB8 ∷ 0xC0 ∷ 0x00 ∷ []))
         (stopped_at (Bad 10 Cut) (0x00 ∷ 0x64 ∷ 0xC0 ∷ [])) }
 
-    // a packet that says one byte more than there is
+    // a packet that claims one byte more than there is
     ensures cut_by_one { walk (Some 100) (0x00 ∷ 0x64 ∷ 0xC0 ∷ 0x00 ∷ 0x00 ∷ 0x01 ∷ 0x85 ∷ [])
         ≡ stopped_at (Bad 0 Cut) (0x00 ∷ 0x64 ∷ 0xC0 ∷ 0x00 ∷ 0x00 ∷ 0x01 ∷ 0x85 ∷ []) }
     ensures version { walk (Some 100) (0x20 ∷ 0x64 ∷ 0xC0 ∷ 0x00 ∷ 0x00 ∷ 0x00 ∷ 0x00 ∷ [])
@@ -84,11 +84,12 @@ pub fn worked_walks()
     ensures shape { walk (Some 100) (0x00 ∷ 0x64 ∷ 0x00 ∷ 0x00 ∷ 0x00 ∷ 0x00 ∷ [])
         ≡ stopped_at (Bad 0 Shape) (0x00 ∷ 0x64 ∷ 0x00 ∷ 0x00 ∷ 0x00 ∷ 0x00 ∷ []) }
 
-    // the same where no APID is chosen
+    // the same if no APID is chosen
     ensures any_shape { walk None (0x00 ∷ 0x64 ∷ 0x00 ∷ 0x00 ∷ 0x00 ∷ 0x00 ∷ [])
         ≡ stopped_at (Bad 0 Cut) (0x00 ∷ 0x64 ∷ 0x00 ∷ 0x00 ∷ 0x00 ∷ 0x00 ∷ []) }
 
-    // a segmented telecommand packet of another APID with a secondary header, an idle packet, and a packet of another version
+    // a segmented telecommand packet of another APID with a secondary header, an idle packet, and a packet of another
+    // version
     ensures passed { (walk (Some 100)
         (0x18 ∷ 0x65 ∷ 0x40 ∷ 0x05 ∷ 0x00 ∷ 0x00 ∷ 0xFF ∷ 0x07 ∷ 0xFF ∷ 0xC0 ∷ 0x00 ∷ 0x00 ∷ 0x00
         ∷ 0x00 ∷ 0x27 ∷ 0xFF ∷ 0xC0 ∷ 0x00 ∷ 0x00 ∷ 0x00 ∷ 0x00 ∷ [])).ending

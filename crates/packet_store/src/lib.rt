@@ -1,4 +1,4 @@
-//! Space Packets (CCSDS 133.0-B-2), and stores of them one after the other.
+//! Space Packets (CCSDS 133.0-B-2), and stores of them one after another.
 #![tactic(auto)]
 
 mod fault;

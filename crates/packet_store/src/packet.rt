@@ -23,7 +23,7 @@ fn first_header(bytes: &[u8]) -> Header
     read_header(&[bytes[0], bytes[1], bytes[2], bytes[3], bytes[4], bytes[5]])
 }
 
-/// Has the packet at this offset ahead as a whole, and tells its header. None: the input is at its end.
+/// Makes sure that the whole packet at this offset is ahead, and tells its header. `None`: the input is at its end.
 pub fn hold_packet<D: Desk>(
     input: &mut ReadAhead,
     desk: &mut D,

@@ -19,7 +19,7 @@ use std::marker::Model;
 /// The bytes of the longest Space Packet: its header, and 65,536 data bytes.
 pub const PACKET_BYTES: usize = HEADER_BYTES + 65_536;
 
-/// The number of packets that one reader gives at most.
+/// The most packets that one reader gives.
 const MOST_PACKETS: u64 = 1 << 32;
 
 /// A packet that a reader gave.
@@ -31,12 +31,12 @@ pub struct Taken {
     pub count: u16,
 }
 
-/// Reads a store packet by packet from the main inlet of a desk: its walk for the chosen APID.
+/// Reads a store packet by packet from the main inlet of a desk, along its walk for the chosen APID.
 ///
 /// A packet of the chosen APID is an unsegmented telemetry packet of version 0 (CCSDS 133.0-B-2) with
 /// no secondary header. Packets of other APIDs may be of any type and shape; they have version 0 too.
 ///
-/// Up to 131,072 bytes are read ahead of the packets that it gave. The rest of the store is these bytes, and then what
+/// Up to 131,072 bytes are read ahead of the packets that were given. The rest of the store is these bytes, and then what
 /// the desk has left.
 #[derive(Debug, Drop)]
 pub struct StoreReader {
@@ -60,7 +60,7 @@ impl Model for StoreReader {
 }
 
 impl StoreReader {
-    /// A reader of a store for a chosen APID, which is no idle one. Takes all memory of the reader.
+    /// A reader of a store for a chosen APID, which is not that of idle packets. Allocates all memory of the reader.
     pub fn open(alloc: Global, apid: u16) -> Result<StoreReader, NoMemory>
         requires { apid ≤ 2046 }
         ensures { IfOk result (λ reader. reader ≡ opened (Some apid)) }
@@ -75,31 +75,31 @@ impl StoreReader {
         })
     }
 
-    /// Takes the next packet from the input. None: the input ends on a packet boundary.
+    /// Takes the next packet from the input. `None`: the input ends on a packet boundary.
     ///
     /// The packets are those of the walk over the store, in order, those of other APIDs too, and a fault
-    /// of the store is how that walk ends. After None or a fault the reader is no longer live. It takes
-    /// no memory. A failed reading loses no byte.
+    /// of the store is how that walk ends. After `None` or a fault the reader is no longer live. It allocates
+    /// no memory. A failed read loses no byte.
     pub fn next<D: Desk>(&mut self, desk: &mut D) -> Result<Option<Taken>, StoreFault>
         requires live { IsTrue self.old.live }
         requires open { IsReadyIn (D.meaning desk.old) Inlet.Main }
 
-        // Some: the next packet of the walk was taken.
+        // `Some`: the next packet of the walk was taken.
         ensures some { IfGiven result
             (Takes self.old self.new (D.meaning desk.old) (D.meaning desk.new)) }
 
-        // None: nothing was left, neither ahead nor at the desk.
+        // `None`: nothing was left, neither ahead nor at the desk.
         ensures ahead { OnEnd result (self.old.ahead ≡ []) }
         ensures none { OnEnd result
             (Moves (D.meaning desk.old) (D.meaning desk.new) Inlet.Main []) }
         ensures at_end { OnEnd result (IsAtEnd (left (D.meaning desk.old) Inlet.Main)) }
 
-        // A fault of the store is how its walk ends. ReadFault comes where the desk failed to read in this call.
+        // A fault of the store is how its walk ends. `ReadFault` comes if the desk failed to read in this call.
         ensures fault { IfErr result
             (AfterFault self.old self.new.ahead (D.meaning desk.old) (D.meaning desk.new)) }
         ensures cause { HasStoreCause (D.counts desk.old) (D.counts desk.new) result }
 
-        // Where a whole packet is ahead, the desk stays as it is.
+        // If a whole packet is ahead, the desk is unchanged.
         ensures whole { BeginsWithPacket self.old.chosen self.old.ahead → desk.new ≡ desk.old }
 
         ensures stopped { OnStop result (self.new ≡ stopped self.old self.new.ahead) }
@@ -133,7 +133,7 @@ impl StoreReader {
         self.live
     }
 
-    /// The latest packet, where the latest call of `next` gave one.
+    /// The latest packet, if the latest call of `next` gave one.
     pub fn packet(&self) -> &[u8]
         requires { 0 < length self.now.body }
         ensures { result.now ≡ self.now.packet }
@@ -141,7 +141,7 @@ impl StoreReader {
         &self.input.bytes()[..self.held]
     }
 
-    /// The data of the latest packet, where the latest call of `next` gave one.
+    /// The data of the latest packet, if the latest call of `next` gave one.
     pub fn body(&self) -> &[u8]
         requires { 0 < length self.now.body }
         ensures { result.now ≡ self.now.body }

@@ -1,4 +1,4 @@
-//! What no clause says: that the calls answer with ample memory.
+//! What no clause says: that the calls succeed with ample memory.
 
 ghost use Rattle.std.specs.Prelude.{◌≤◌, codes, IsTrue};
 ghost use Rattle.desk_ports.specs.Meanings.{IsReadyIn};

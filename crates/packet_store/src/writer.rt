@@ -31,7 +31,7 @@ impl Model for StoreWriter {
 }
 
 impl StoreWriter {
-    /// A writer of the packets of an APID, which is no idle one. It takes the room for every packet.
+    /// A writer of the packets of an APID, which is not that of idle packets. It allocates the room for every packet.
     pub fn open(alloc: Global, apid: u16) -> Result<StoreWriter, NoMemory>
         requires { apid ≤ 2046 }
         ensures { IfOk result (λ writer. writer.apid ≡ apid) }
@@ -40,8 +40,8 @@ impl StoreWriter {
         Ok(StoreWriter { apid, room })
     }
 
-    /// Appends a packet with this sequence count and these data bytes to the output. At `Failed` a front
-    /// of it was appended. It takes no memory.
+    /// Appends a packet with this sequence count and these data bytes to the output. At `Failed` a prefix of it
+    /// was appended. It allocates no memory.
     pub fn put<D: Desk>(&mut self, desk: &mut D, count: u16, body: &[u8]) -> Result<(), Failed>
         requires open { IsReadyOut (D.meaning desk.old) Outlet.Main }
         requires count_bits { count < period }

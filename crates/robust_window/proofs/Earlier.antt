@@ -1,4 +1,4 @@
--- More steps leave the window values of the steps before them.
+-- More steps do not change the window values of the earlier steps.
 use Rattle.std.proofs.Common.{◌≡◌, ℕ, ◌+◌, ◌-◌, ◌<◌, ◌≤◌, Bool, false, List, [], ◌∷◌, ◌++◌, length, map, get_or, refl, sym, ap, ◌∙◌, inl, inr, max, arith}
 use Rattle.std.specs.Prelude.{nat_le, not}
 use Rattle.std.specs.List.{count_by, list_all, list_any, range_with_len}
@@ -58,7 +58,7 @@ twice_of-same steps others t agree =
     ap (λ v. nat_le 2 (count_by (takes_new_mask steps) (steps_from (t - v) (t + 1)))) (level_of-same steps others t agree)
     ∙ ap (nat_le 2) (count_same (takes_new_mask steps) (takes_new_mask others) (t - level_of others t) (t + 1) (λ s lt. ap (λ (m : MaskStep). m.new_mask) (agree s (omega arith))))
 
--- ---- of a history
+-- ---- for a history
 
 mask_step_at-before : (h : History) (step : Step) (s : ℕ) → s < length h.steps → mask_step_at (with_step h step) s ≡ mask_step_at h s
 mask_step_at-before h step s lt =
@@ -86,6 +86,6 @@ level_at-before h step t lt = level_of-same (mask_steps (with_step h step)) (mas
 pub twice_at-before : (h : History) (step : Step) (t : ℕ) → t < length h.steps → twice_at (with_step h step) t ≡ twice_at h t
 twice_at-before h step t lt = twice_of-same (mask_steps (with_step h step)) (mask_steps h) t (agree-before h step t lt)
 
--- the latest of a history's changes is that of its latest step
+-- the latest of a history's changes is the change at its latest step
 pub latest_change-is : (h : History) → latest_change (mask_steps h) ≡ latest_step h
 latest_change-is h = ap (λ n. n - 1) (length-map-range_with_len (mask_step_at h) 0 (length h.steps))

@@ -1,4 +1,4 @@
--- The effective robustness level, from the quiet steps before a step.
+-- The effective robustness level, in terms of the quiet steps before a step.
 use Rattle.std.proofs.Common.{◌≡◌, ℕ, zero, suc, ◌+◌, ◌-◌, ◌<◌, ◌≤◌, Bool, true, false, List, [], ◌∷◌, length, replicate, get_or, refl, sym, ap, ◌∙◌, ◌⊎◌, inl, inr, subst, arith}
 use Rattle.std.specs.Prelude.{Contains, not, ◌||◌, unwrap_or}
 use Rattle.std.specs.List.{list_any}
@@ -18,8 +18,8 @@ is_quiet-zeros steps s zeros =
 pub is_quiet-one : (steps : List MaskStep) (s : ℕ) → Contains (mask_step steps s).change true → is_quiet steps s ≡ false
 is_quiet-one steps s one = ap not (list_any_at (λ (bit : Bool). bit) (mask_step steps s).change one.0 true one.1 one.2)
 
--- the level is the number of steps before the step that are quiet up to the required robustness, where it ends at the most
--- or at a step that isn't
+-- the level reaches back from the required robustness over steps that are quiet, and ends at the greatest that it can be
+-- or at a step that isn't quiet
 pub level_of-is : (steps : List MaskStep) (t robust v : ℕ) → (mask_step steps t).robust ≡ robust → robust ≤ v → v ≤ most_level robust t → ((s : ℕ) → t - v ≤ s → s < t - robust → is_quiet steps s ≡ true) → (v < most_level robust t → is_quiet steps (t - (v + 1)) ≡ false) → level_of steps t ≡ v
 unfolding level_of
 level_of-is steps t robust v robust_is least most quiet stops =
@@ -32,9 +32,9 @@ level_of-is steps t robust v robust_is least most quiet stops =
     own : ℕ
     own = (mask_step steps t).robust
 
--- ---- the level is there
+-- ---- the level exists
 
--- a test that a number passes has a greatest one up to a bound
+-- if a number passes a test, one of the numbers up to a bound is the greatest that passes
 pub record IsGreatest (p : ℕ → Bool) (from to v : ℕ) : Type 0 where
   pub least : from ≤ v
   pub most : v < to
@@ -73,7 +73,7 @@ pub level_of-greatest : (steps : List MaskStep) (t robust : ℕ) → (mask_step 
 level_of-greatest steps t robust robust_is =
     subst (λ r. IsGreatest (is_quiet_back steps t) r (most_level r t + 1) (level_of steps t)) robust_is (level_of-own steps t)
 
--- ---- a change without a one, and one with
+-- ---- a change without a 1, and one with a 1
 
 pub no_ones : (v : List Bool) → list_any (λ (bit : Bool). bit) v ≡ false → v ≡ replicate (length v) false
 no_ones [] none = refl

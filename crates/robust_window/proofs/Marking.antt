@@ -40,7 +40,7 @@ bit_below : (mark : Bool) → cond mark 1 0 < 2 ^ 1
 bit_below true = omega arith
 bit_below false = omega arith
 
--- a mark more, and the oldest is gone
+-- one more mark is added, and the oldest is dropped
 pub marks-pushed : (n : ℕ) (mark : Bool) → marks_of (bit_or (n * 2 % 65536) (cond mark 1 0)) ≡ drop 1 (marks_of n) ++ mark ∷ []
 marks-pushed n mark =
     let low : n * 2 % 65536 ≡ n % 2 ^ 15 * 2 ^ 1 = omega arith in
@@ -110,7 +110,7 @@ ones_shifted n count le =
     ∙ none
     ∙ ones_below n count le
 
--- where a shift leaves nothing, none of the low marks is set
+-- if a shift leaves nothing, none of the low marks is set
 pub clear-shifted : (n count : ℕ) → count ≤ 16 → n * 2 ^ (16 - count) % 65536 ≡ 0 → AreClear n count
 clear-shifted n count le none back lt =
     let k = 16 - count in
@@ -161,7 +161,7 @@ module _ {A : Type 0} where
 pub length-changes_of : (f n : ℕ) (slots : List (List Bool)) → length slots ≡ 16 → length (changes_of f n slots) ≡ 16
 length-changes_of f n slots len = length-where_marked (marks_of n) slots (replicate f false) (length-marks n ∙ sym len) ∙ len
 
--- the change so many steps back
+-- the change the given number of steps back
 pub changes_of-back : (f n : ℕ) (slots : List (List Bool)) (back : ℕ) → length slots ≡ 16 → back < 16 → change_back (changes_of f n slots) back ≡ (if mark_back n back then change_back slots back else replicate f false)
 changes_of-back f n slots back len lt =
     where_marked-at (marks_of n) slots (replicate f false) [] (15 - back) (length-marks n ∙ sym len) (omega arith)
@@ -186,7 +186,7 @@ same_change : (f : ℕ) (change kept : List Bool) (mark : Bool) → (mark ≡ fa
 same_change f change kept true quiet = refl
 same_change f change kept false quiet = sym (quiet refl)
 
--- one change more, and the oldest is gone
+-- one more change is added, and the oldest is dropped
 pub changes_of-pushed : (f old new : ℕ) (slots : List (List Bool)) (change kept : List Bool) (mark : Bool) → length slots ≡ 16 → marks_of new ≡ drop 1 (marks_of old) ++ mark ∷ [] → (mark ≡ false → change ≡ replicate f false)
     → changes_of f new (drop 1 slots ++ (if mark then change else kept) ∷ []) ≡ drop 1 (changes_of f old slots) ++ change ∷ []
 changes_of-pushed f old new slots change kept mark len marks quiet =
@@ -197,7 +197,7 @@ changes_of-pushed f old new slots change kept mark len marks quiet =
     ∙ where_marked-push (drop 1 (marks_of old)) (drop 1 slots) zeros mark slot (omega (arith, length-drop 1 (marks_of old), length-drop 1 slots))
     ∙ (λ i. where_marked-drop (marks_of old) slots zeros same i ++ same_change f change kept mark quiet i ∷ [])
 
--- what is marked has a one
+-- a change that is marked has a 1
 pub marked-pushed : (old new : ℕ) (slots : List (List Bool)) (change kept : List Bool) (mark : Bool) → length slots ≡ 16 → marks_of new ≡ drop 1 (marks_of old) ++ mark ∷ [] → (mark ≡ true → Contains change true)
     → ((back : ℕ) → back < 16 → mark_back old back ≡ true → Contains (change_back slots back) true)
     → (back : ℕ) → back < 16 → mark_back new back ≡ true → Contains (change_back (drop 1 slots ++ (if mark then change else kept) ∷ []) back) true

@@ -1,4 +1,4 @@
--- The window values of a history, by its changes.
+-- The window values of a history, in terms of its changes.
 use Rattle.std.proofs.Common.{◌≡◌, ℕ, ◌+◌, ◌-◌, ◌<◌, ◌≤◌, true, false, length, replicate, get_or, sym, ap, ◌∙◌, inl, inr, max, subst, arith}
 use Rattle.std.specs.Prelude.{Contains, IsTrue}
 use Rattle.std.specs.List.{list_any}

@@ -1,4 +1,4 @@
--- Tests over the numbers from one up to another.
+-- Tests on the numbers from one up to another.
 use Rattle.std.proofs.Common.{max, subst, ◌≡◌, ℕ, zero, suc, ◌+◌, ◌-◌, ◌<◌, ◌≤◌, Bool, true, false, cond, [], ◌∷◌, Some, get_or, refl, sym, ap, ◌∙◌, ◌⊎◌, inl, inr, arith, add-one, map, List}
 use Rattle.std.specs.Prelude.{reverse, find, ◌||◌, ◌&&◌}
 use Rattle.std.specs.List.{count_by, list_all, list_any, range_with_len}
@@ -153,9 +153,9 @@ count-from_TwoPass p from to two =
     let end : to ≡ from + (to - from) = omega (arith, two.from_is, two.apart, two.to_is) in
     passes_two p from (to - from) (subst (λ e. TwoPass p from e) end two)
 
--- ---- from a number back, and up to it
+-- ---- from a number backwards, and up to it
 
--- Two tests, one by how many numbers before `t` and one by the number, that agree up to `t` numbers back; none is farther
+-- Two tests, one by the distance back from `t` and one by the number, that agree up to `t` numbers back; none is farther
 -- back.
 pub record AgreesBack (t count : ℕ) (back_test test : ℕ → Bool) : Type 0 where
   pub same : (back : ℕ) → back < count → back ≤ t → back_test back ≡ test (t - back)
@@ -199,7 +199,7 @@ count_back t (suc count) p q agrees =
         ∙ ap (λ n. count_by q (range_with_len (t - count) n)) (sym more)
         ∙ ap (λ a. count_by q (steps_from a (t + 1))) (sym first)
 
--- where number 0 doesn't pass, it need not be looked at
+-- if number 0 doesn't pass, it need not be looked at
 pub any_back : (t count : ℕ) (p q : ℕ → Bool) → AgreesBack t (count + 1) p q → q 0 ≡ false → list_any p (range_with_len 0 (count + 1)) ≡ list_any q (steps_from (max 1 (t - count)) (t + 1))
 any_back t count p q agrees start = ap (λ n. list_any p (range_with_len 0 n)) all ∙ both_ways _ _ up back
   where
@@ -251,7 +251,7 @@ map_same p q a (suc n) same =
     ap (λ x. x ∷ map p (range_with_len (a + 1) n)) (same a (omega arith))
     ∙ ap (λ xs. q a ∷ xs) (map_same p q (a + 1) n (λ s lt. same s (omega arith)))
 
--- what goes over a list by a test of each element
+-- what carries over to a list by a test of each element
 fold_same : {B : Type 0} (whole : (ℕ → Bool) → List ℕ → B) (next : Bool → B → B) → ((p q : ℕ → Bool) → whole p [] ≡ whole q []) → ((p : ℕ → Bool) (x : ℕ) (xs : List ℕ) → whole p (x ∷ xs) ≡ next (p x) (whole p xs)) → (p q : ℕ → Bool) (a n : ℕ) → ((s : ℕ) → s < a + n → p s ≡ q s) → whole p (range_with_len a n) ≡ whole q (range_with_len a n)
 fold_same whole next none more p q a zero same = none p q
 fold_same whole next none more p q a (suc n) same =

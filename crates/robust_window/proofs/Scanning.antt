@@ -14,7 +14,7 @@ use Rattle.robust_window.specs.Window.{change_back}
 
 -- ---- recent changes
 
--- one at each place that one of so many changes has
+-- 1 at each place that one of the given number of changes has
 abbrev pub gathered : ℕ → List (List Bool) → ℕ → List Bool
 gathered f changes count = vector_of f (λ place. list_any (λ back. get_or (change_back changes back) place false) (range_with_len 0 count))
 
@@ -47,7 +47,7 @@ or_zeros : (v : List Bool) → or_bits v (replicate (length v) false) ≡ v
 or_zeros [] = refl
 or_zeros (bit ∷ v) = λ i. or_false bit i ∷ or_zeros v i
 
--- a change of zeros gives nothing more
+-- a change of zeros adds nothing
 pub gathered-quiet : (f : ℕ) (changes : List (List Bool)) (count : ℕ) → change_back changes count ≡ replicate f false → gathered f changes count ≡ gathered f changes (count + 1)
 gathered-quiet f changes count quiet =
     let len = length-gathered f changes count in
@@ -55,7 +55,7 @@ gathered-quiet f changes count quiet =
     ∙ ap (or_bits (gathered f changes count)) (ap (λ (n : ℕ). replicate n false) len ∙ sym quiet)
     ∙ gathered-more f changes count (ap length quiet ∙ length-replicate f false)
 
--- changes of zeros give nothing
+-- changes of zeros add nothing
 pub gathered-zeros : (f : ℕ) (changes : List (List Bool)) (count : ℕ) → ((back : ℕ) → back < count → change_back changes back ≡ replicate f false) → replicate f false ≡ gathered f changes count
 gathered-zeros f changes zero quiet = gathered-none f changes
 gathered-zeros f changes (suc count) quiet =

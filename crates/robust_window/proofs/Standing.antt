@@ -86,7 +86,7 @@ twice_of-is : (steps : List MaskStep) (t level : ℕ) → level_of steps t ≡ l
 unfolding twice_of
 twice_of-is steps t level level_is = ap (λ v. nat_le 2 (count_by (takes_new_mask steps) (steps_from (t - v) (t + 1)))) (sym level_is)
 
--- What the parts of a window are after a step, from those before it.
+-- The parts of a window after a step, in terms of those before it.
 pub record Moves (old new : WindowState) (step : MaskStep) : Type 0 where
   pub full : length old.changes ≡ 16
   pub flags_full : length old.new_masks ≡ 16
@@ -156,7 +156,7 @@ StandsFor-next steps step old new stands moves =
     first : IsQuiet after 0
     first = quiet_start (cases_eq t 0)
 
-    -- the change so many steps back is that of the step
+    -- the change the given number of steps back is that of the step
     change_is : (back : ℕ) → back < 16 → back ≤ t → change_back new.changes back ≡ change_at (t - back)
     change_is back lt within =
         let same : t + 1 - 1 - back ≡ t - back = omega arith in

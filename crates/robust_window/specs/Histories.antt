@@ -1,4 +1,4 @@
--- The same of a history: recent changes, effective robustness level and 'twice' are those of its changes.
+-- The same for a history: recent changes, effective robustness level and 'twice' are those of its changes.
 use Rattle.std.specs.Prelude.{◌≡◌, ℕ, ◌-◌, ◌<◌, ◌≤◌, Bool, true, false, List, length, map, replicate}
 use Rattle.std.specs.List.{range_with_len}
 use Rattle.mask_update.specs.Histories.{History, robust_at}
@@ -20,18 +20,18 @@ recent_at h t = recent_of (mask_steps h) t
 abbrev pub level_at : History → ℕ → ℕ
 level_at h t = level_of (mask_steps h) t
 
--- whether the extracted bits have those of all recent changes, c
+-- whether the extracted bits include those of all recent changes, c
 abbrev pub twice_at : History → ℕ → Bool
 twice_at h t = twice_of (mask_steps h) t
 
 -- ---- what they mean
 
--- the step leaves the mask
+-- the step does not change the mask
 abbrev pub LeavesMask : History → ℕ → Type 0
 LeavesMask h s = change_at h s ≡ replicate h.places false
 
--- A level that the required robustness of a step and the most allow, so that every step before those of the recent
--- changes and as far back as it says leaves the mask.
+-- A level that the required robustness of a step and `most_level` allow, such that every step before those of the recent
+-- changes, as far back as the level says, does not change the mask.
 pub record IsLevel (h : History) (t level : ℕ) : Type 0 where
   pub least : robust_at h t ≤ level
   pub most : level ≤ most_level (robust_at h t) t

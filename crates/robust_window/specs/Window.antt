@@ -1,4 +1,4 @@
--- What a window keeps, and for which changes it stands.
+-- What a window keeps, and which changes it represents.
 use Rattle.std.specs.Prelude.{◌≡◌, ℕ, ◌-◌, ◌<◌, ◌≤◌, ◌==◌, Bool, true, false, if◌then◌else◌, List, [], ◌∷◌, length, replicate, All, Contains, slice_index_or}
 use Rattle.std.specs.Int.{bit_at}
 use Rattle.circular_buffer.specs.Buffer.{Buffer}
@@ -15,14 +15,14 @@ pub record WindowState : Type 0 where
   pub twice : Bool
   pub taken : ℕ
 
--- the change and the flag so many steps back, which is below sixteen
+-- the change and the flag the given number of steps back, which is below sixteen
 abbrev pub change_back : List (List Bool) → ℕ → List Bool
 change_back changes back = slice_index_or changes (15 - back) []
 
 abbrev pub new_mask_back : List Bool → ℕ → Bool
 new_mask_back new_masks back = slice_index_or new_masks (15 - back) false
 
--- the marks of the latest sixteen steps, the oldest first, and that of so many steps back: the bits of a number
+-- the marks of the latest sixteen steps, the oldest first, and the mark a number of steps back: the bits of a number
 abbrev pub marks_of : ℕ → List Bool
 marks_of marks = number_bits 16 marks
 
@@ -33,18 +33,19 @@ mark_back marks back = bit_at marks back == 1
 abbrev pub AreClear : ℕ → ℕ → Type 0
 AreClear marks count = (back : ℕ) → back < count → mark_back marks back ≡ false
 
--- the slots that are marked, and nothing in place of the others
+-- the slots that are marked, with nothing in place of the others
 abbrev pub where_marked : {A : Type 0} → List Bool → List A → A → List A
 where_marked (mark ∷ marks) (slot ∷ slots) nothing = (if mark then slot else nothing) ∷ where_marked marks slots nothing
 where_marked (mark ∷ marks) [] nothing = []
 where_marked [] slots nothing = []
 
--- the latest sixteen changes of so many places, the oldest first: a slot without a mark stands for zeros, whatever it has
+-- the latest sixteen changes, of the given number of places, the oldest first: a slot without a mark represents zeros,
+-- whatever it has
 abbrev pub changes_of : ℕ → ℕ → List (List Bool) → List (List Bool)
 changes_of f marks slots = where_marked (marks_of marks) slots (replicate f false)
 
--- A value for each of the latest sixteen of so many steps, by how many steps back it is, and a value that stands for none
--- where there are fewer steps.
+-- A value for each of the latest sixteen of the given number of steps, by how many steps back it is, and a value that
+-- means "no step" if there are fewer steps.
 pub record HoldsLatest {A : Type 0} (back_value : ℕ → A) (value : ℕ → A) (none : A) (count : ℕ) : Type 0 where
   pub same : (back : ℕ) → back < 16 → back < count → back_value back ≡ value (count - 1 - back)
   pub past : (back : ℕ) → back < 16 → count ≤ back → back_value back ≡ none
@@ -65,8 +66,8 @@ pub record StandsFor (steps : List MaskStep) (value : WindowState) : Type 0 wher
   pub twice : 0 < length steps → value.twice ≡ twice_of steps (latest_change steps)
   pub taken : value.taken ≡ length steps
 
--- The parts of a window agree: sixteen slots for changes, vectors of one length, and numbers within their bounds. What is
--- marked is a change with a one. Recent changes are those of eight steps at most, so where none of these is marked there
+-- The parts of a window agree: sixteen slots for changes, vectors of the same length, and numbers within their bounds. A
+-- change that is marked has a 1. Recent changes are those of at most eight steps, so if none of these is marked there
 -- are none.
 pub record IsWindow (changes : Buffer (List Bool)) (marks : ℕ) (zeros recent : List Bool) (level taken : ℕ) : Type 0 where
   pub vector : IsVector recent

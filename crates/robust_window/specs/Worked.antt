@@ -1,4 +1,4 @@
--- The worked history of masks, now with one packet in a row to be stood.
+-- The worked history of masks, now with one lost packet that must be tolerated.
 use Rattle.std.specs.Prelude.{[], ◌∷◌}
 use Rattle.mask_update.specs.Histories.{History, history_of}
 use Rattle.mask_update.specs.Worked.{none, last, worked_flags}

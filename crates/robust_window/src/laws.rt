@@ -10,8 +10,8 @@ ghost use Rattle.robust_window.specs.Changes.{most_level};
 ghost use Rattle.robust_window.specs.Histories.{IsLevel, Twice, level_at, recent_at, twice_at};
 ghost use Rattle.robust_window.specs.Worked.{worked};
 
-/// The recent changes of a step are the places that it changes in the mask, or one of the steps before it, as many as
-/// its required robustness says.
+/// The recent changes of a step are the places of the mask that it changes, or one of the steps before it, of which
+/// its required robustness says how many.
 pub fn recent_changes()
     ensures recent { (h : History) (t place : ℕ) → t < length h.steps → place < h.places →
         IsOne (recent_at h t) place
@@ -21,12 +21,12 @@ pub fn recent_changes()
 {}
 
 /// The effective robustness level of a step is the greatest level that it can have: the required robustness, and one
-/// more for each step just before those of the recent changes that leaves the mask, up to 15.
+/// more for each step just before those of the recent changes that does not change the mask, up to 15.
 pub fn effective_level()
     ensures level { (h : History) (t : ℕ) → t < length h.steps → IsLevel h t (level_at h t) }
     ensures greatest { (h : History) (t level : ℕ) → t < length h.steps → IsLevel h t level
         → level ≤ level_at h t }
-    // Where it is not the most that it can be, the step before changes the mask.
+    // If it is not the greatest that it can be, the step before changes the mask.
     ensures stops { (h : History) (t : ℕ) → t < length h.steps
         → level_at h t < most_level (robust_at h t) t →
         Contains (change_at h (t - (level_at h t + 1))) true }
@@ -35,12 +35,12 @@ pub fn effective_level()
     ensures most { (h : History) (t : ℕ) → IsValid h → t < length h.steps → level_at h t ≤ 15 }
 {}
 
-/// 'Twice' holds where two steps within the effective robustness level take a new mask.
+/// 'Twice' holds if two steps within the effective robustness level take a new mask.
 pub fn new_mask_twice()
     ensures { (h : History) (t : ℕ) → t < length h.steps → IsTrue (twice_at h t) ↔ Twice h t }
 {}
 
-/// One more step leaves the recent changes, the effective robustness level and 'twice' of the steps before it.
+/// One more step leaves the recent changes, the effective robustness level and 'twice' of the earlier steps unchanged.
 pub fn earlier_steps_stay()
     ensures recent { (h : History) (step : Step) (t : ℕ) → t < length h.steps →
         recent_at (with_step h step) t ≡ recent_at h t }

@@ -1,18 +1,18 @@
-//! Marks of the latest sixteen steps: the bits of a number, that of the latest step lowest.
+//! Marks of the latest sixteen steps: the bits of a number, with the latest step in the lowest bit.
 
 ghost use Rattle.std.specs.Prelude.{◌≡◌, ℕ, ◌+◌, ◌<◌, ◌≤◌, nat_le, false, true, [], ◌∷◌, ◌++◌, drop, max, count_by};
 ghost use Rattle.std.specs.Bool.{OnTrue};
 ghost use Rattle.std.specs.List.{range_with_len};
 ghost use Rattle.robust_window.specs.Window.{AreClear, mark_back, marks_of, new_mask_back};
 
-/// The marks with that of one step more, without the oldest.
+/// The marks with that of one more step, without the oldest.
 pub(crate) fn pushed(marks: u16, mark: bool) -> u16
     ensures { marks_of result ≡ drop 1 (marks_of marks) ++ mark ∷ [] }
 {
     marks << 1 | u16::from(mark)
 }
 
-/// The mark so many steps back, at most 15.
+/// The mark the given number of steps back, at most 15.
 pub(crate) fn is_set(marks: u16, back: u8) -> bool
     requires { back ≤ 15 }
     ensures { result ≡ mark_back marks back }
@@ -20,7 +20,7 @@ pub(crate) fn is_set(marks: u16, back: u8) -> bool
     marks >> back & 1 == 1
 }
 
-/// Whether none of the latest `count` marks is set, at least 1 and at most 16.
+/// Whether none of the latest `count` marks is set. `count` is at least 1 and at most 16.
 pub(crate) fn are_clear(marks: u16, count: u8) -> bool
     requires some { 1 ≤ count }
     requires most { count ≤ 16 }
@@ -29,8 +29,8 @@ pub(crate) fn are_clear(marks: u16, count: u8) -> bool
     marks << (16 - count) == 0
 }
 
-/// One less than how many steps back the latest mark is that is more than `robust` steps back, but `robust` or `most`
-/// at most, the greater of the two.
+/// One less than the distance in steps to the latest mark that is more than `robust` steps back, but at most the
+/// greater of `robust` and `most`.
 pub(crate) fn quiet_level(marks: u16, robust: u8, most: u8) -> u8
     requires robust { robust ≤ 7 }
     requires most { most ≤ 15 }
@@ -44,7 +44,7 @@ pub(crate) fn quiet_level(marks: u16, robust: u8, most: u8) -> u8
     level.min(robust.max(most))
 }
 
-/// Whether two or more of the latest `count` marks are set, at least 1 and at most 16.
+/// Whether two or more of the latest `count` marks are set. `count` is at least 1 and at most 16.
 pub(crate) fn has_two(marks: u16, count: u8) -> bool
     requires some { 1 ≤ count }
     requires most { count ≤ 16 }

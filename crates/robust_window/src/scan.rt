@@ -30,8 +30,8 @@ pub(crate) fn zero_changes(alloc: Global, f: u32) -> Result<HeapCircularBuffer<B
     Ok(changes)
 }
 
-/// Puts the latest change in place of the oldest one, which has as many places. Where it is not marked, the slot keeps
-/// what it has.
+/// Puts the latest change in place of the oldest one, which has the same number of places. If it is not marked, the slot
+/// keeps what it has.
 pub(crate) fn push_change(changes: &mut HeapCircularBuffer<Bits>, change: &Bits, marked: bool)
     requires full { length changes.old.items ≡ 16 }
     requires capacity { changes.old.capacity ≡ 16 }
@@ -49,7 +49,7 @@ pub(crate) fn push_change(changes: &mut HeapCircularBuffer<Bits>, change: &Bits,
     changes.push_back(oldest);
 }
 
-/// The change so many steps back, at most 15.
+/// The change the given number of steps back, at most 15.
 pub(crate) fn change_back(changes: &HeapCircularBuffer<Bits>, back: u8) -> &Bits
     requires full { length changes.now.items ≡ 16 }
     requires most { back ≤ 15 }
@@ -61,8 +61,8 @@ pub(crate) fn change_back(changes: &HeapCircularBuffer<Bits>, back: u8) -> &Bits
     }
 }
 
-/// Makes `recent` one at each place that one of the latest `count` changes has, at least 1 and at most 16. Where none of
-/// those that may have been recent was marked before, and none is now, it is zero already.
+/// Makes `recent` 1 at each place that one of the latest `count` changes has. `count` is from 1 to 16. If none of those
+/// that may have been recent was marked before, and none is now, `recent` is zero already.
 pub(crate) fn gather(
     changes: &HeapCircularBuffer<Bits>,
     before: u16,

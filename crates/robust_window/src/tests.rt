@@ -23,7 +23,7 @@ fn worked_history(rt: HostRuntime) -> Result<(), Fail> {
     assert!(rt; window.past(1).same(&none));
     assert!(rt; window.past(4).same(&last));
     assert!(rt; window.past(5).same(&none));
-    // The same changes are recent where more is required, also where they were not before.
+    // The same changes are recent if more is required, also those that were not recent before.
     window.step(&none, false, 0);
     assert!(rt; window.recent().same(&none));
     assert_eq!(rt; window.effective(), 0);

@@ -13,9 +13,9 @@ use std::marker::Model;
 /// The greatest effective robustness level.
 const MOST_LEVEL: u64 = 15;
 
-/// Keeps the latest sixteen changes of a mask and their new-mask flags, and not the history (CCSDS 124.0-B-1). A mark
-/// tells which of the changes are not zero; the others are neither written nor read.
-/// Contracts see them and the values at the latest step, and say for which changes they stand.
+/// Keeps the latest sixteen changes of a mask and their new-mask flags, but not the history (CCSDS 124.0-B-1). A mark
+/// says whether a change is nonzero; the changes without a mark are neither written nor read.
+/// Contracts see these and the values at the latest step, and say which changes they represent.
 #[derive(Debug, Drop)]
 pub struct Window {
     changes: HeapCircularBuffer<Bits>,
@@ -47,7 +47,7 @@ impl Model for Window {
 }
 
 impl Window {
-    /// Starts with no step taken, for vectors of `f` places. Takes the memory for every vector that `step` fills.
+    /// Starts with no step taken, for vectors of `f` places. Allocates the memory for every vector that `step` fills.
     pub fn open(alloc: Global, f: u32) -> Result<Window, NoMemory>
         requires some { 1 ≤ f }
         requires most { f ≤ 49152 }
@@ -68,7 +68,7 @@ impl Window {
     }
 
     /// Takes the change of the mask at the next step, whether it takes a new mask, and the required robustness of its
-    /// packet, at most 7. The first step leaves the mask and takes no new one.
+    /// packet, at most 7. The first step does not change the mask and takes no new one.
     pub fn step(&mut self, change: &Bits, new_mask: bool, robust: u8)
         requires places { length change.now ≡ length self.old.recent }
         requires most { self.old.taken < 4294967296 }
@@ -76,7 +76,7 @@ impl Window {
             → change.now ≡ replicate (length change.now) false }
         requires first_new_mask { self.old.taken ≡ 0 → new_mask ≡ false }
         requires robust { robust ≤ 7 }
-        // Whatever changes it stood for, it now stands for these and one more.
+        // If it represented some changes, it now represents these and one more.
         ensures stands { (steps : List MaskStep) (step : MaskStep) → StandsFor steps self.old
             → step.change ≡ change.now → step.new_mask ≡ new_mask → step.robust ≡ robust
             → StandsFor (steps ++ step ∷ []) self.new }
@@ -101,8 +101,8 @@ impl Window {
         self.taken += 1;
     }
 
-    /// The recent changes: the places that the mask changed at the latest step or at one of those before it, as
-    /// many as its required robustness says. At least one step was taken.
+    /// The recent changes: the places that the mask changed at the latest step or at one of the steps before it, of which
+    /// the required robustness says how many. At least one step was taken.
     pub fn recent(&self) -> &Bits
         requires { 0 < self.now.taken }
         ensures recent { (steps : List MaskStep) → StandsFor steps self.now
@@ -123,7 +123,7 @@ impl Window {
         self.level
     }
 
-    /// Whether two steps or more within the effective robustness level of the latest one took a new mask. At least
+    /// Whether two or more of the steps within the effective robustness level of the latest one took a new mask. At least
     /// one step was taken.
     pub fn twice(&self) -> bool
         requires { 0 < self.now.taken }
@@ -134,7 +134,7 @@ impl Window {
         self.twice
     }
 
-    /// The change of the mask so many steps before the latest one: at most 15, and below the number of steps taken.
+    /// The change of the mask the given number of steps back: at most 15, and below the number of steps taken.
     pub fn past(&self, back: u8) -> &Bits
         requires most { back ≤ 15 }
         requires taken { back < self.now.taken }

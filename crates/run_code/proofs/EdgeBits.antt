@@ -31,7 +31,7 @@ pub edges_are : (mask new : List Bool) → 1 ≤ length mask → length new ≡ 
 edges_are mask new some len same =
     zip2_is xor mask (drop 1 mask ++ false ∷ []) new (length-next mask some) len (λ k lt. rw (get_or-next mask k) (same k lt))
 
--- ---- from edges back
+-- ---- from edges back to the mask
 
 edges-cons : (bit : Bool) (mask : List Bool) → edges (bit ∷ mask) ≡ xor bit (get_or mask 0 false) ∷ edges mask
 edges-cons bit [] = refl

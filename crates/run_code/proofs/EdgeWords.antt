@@ -29,7 +29,7 @@ plus_high s n i high lt =
 pub plus_below : (s n : ℕ) → n < 2 ^ 64 → plus s n < 2 ^ 64
 plus_below s n lt = xor_lt 64 n (n * 2 ^ s % 2 ^ 64) lt (mod_below (n * 2 ^ s) (2 ^ 64) (pow_pos 64))
 
--- twice by so many places is once by twice as many
+-- twice by one distance is once by double the distance
 plus_twice : (s n : ℕ) → n < 2 ^ 64 → plus s (plus s n) ≡ plus (s + s) n
 plus_twice s n lt =
     same_from_bits_below 64 (plus s (plus s n)) (plus (s + s) n) (plus_below s (plus s n) (plus_below s n lt)) (plus_below (s + s) n lt) (λ i i_lt.
@@ -59,7 +59,7 @@ summed_by n a b c d e f lt a_is b_is c_is d_is e_is f_is =
 
 -- ---- the edges of a word
 
--- the bit of the next place: of a smaller weight in the word, or that which follows it
+-- the bit of the next place: of a smaller weight in the word, or the bit that follows the word
 abbrev pub next_bit : ℕ → ℕ → ℕ → ℕ
 next_bit w next zero = next
 next_bit w next (suc i) = bit_at w i
@@ -78,7 +78,7 @@ shifted_bit w next (suc i) next_lt lt =
 edge_word : (w next : ℕ) → next < 2 → AreEdges w next (bit_xor w (w * 2 ^ 1 % 2 ^ 64 + next))
 edge_word w next next_lt i lt = bit_at_xor w (w * 2 ^ 1 % 2 ^ 64 + next) i ∙ rw (shifted_bit w next i next_lt lt) refl
 
--- all bits of y changed where next is one
+-- all bits of y inverted if the next bit is 1
 flipped : (y next i : ℕ) → next < 2 → i < 64 → bit_at (bit_xor y (18446744073709551615 * next)) i ≡ (bit_at y i + next) % 2
 flipped y zero i next_lt lt = bit_at_xor y 0 i ∙ rw (bit_at-zero i) refl
 flipped y (suc zero) i next_lt lt = bit_at_xor y 18446744073709551615 i ∙ rw (bit_at_ones 64 i lt) refl

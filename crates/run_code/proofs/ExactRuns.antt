@@ -44,7 +44,7 @@ vector_at_is f bits = refl
 
 -- ---- words
 
--- the word for the ones of u below a place, where u is v from that place on
+-- the word for the ones of u below a place, if u is v from that place on
 record Completes (below : ℕ) (v u word : List Bool) : Type 0 where
   places : length u ≡ length v
   above : (k : ℕ) → below ≤ k → get_or u k false ≡ get_or v k false
@@ -162,7 +162,7 @@ IsExact-vector_at f =
     IsExact-same (Completes f (replicate f false)) (IsRunWordOf f) (parse_vector f) (run_word_of f) (completes f)
     (IsExact-ones_at (suc f) f (replicate f false) (omega arith) (omega (arith, length-replicate f false)) (λ k from to. zeros_at f k))
 
--- ---- no word begins another
+-- ---- no word is a prefix of another
 
 same_read : (a b r s : List Bool) → ◌≡◌ {A = Parsed (List Bool)} (Read a r) (Read b s) → (a ≡ b) × (r ≡ s)
 same_read a b r s e = (cc, cc)
@@ -172,7 +172,7 @@ one_run_word a b rest others len same =
     let exact = IsExact-vector_at (length a) in
     same_read a b rest others (sym (exact.reads a (run_bits a) rest (refl, refl)) ∙ ap (parse_vector (length a)) same ∙ exact.reads b (run_bits b) others (sym len, refl))
 
--- ---- what a reading says
+-- ---- what follows from a reading
 
 pub run_taken : (f : ℕ) (v : List Bool) (old new : EyeState) (result : Result (Unit {0}) BitFault) → Gives (λ (u : Unit {0}). v) result new (parse_vector f (bits_left old)) → OnOk result (bits_left old ≡ run_bits v ++ bits_left new)
 run_taken f v old new (Ok u) given =
@@ -180,7 +180,7 @@ run_taken f v old new (Ok u) given =
     r.2 ∙ ap (λ (w : List Bool). w ++ bits_left new) r.1.1
 run_taken f v old new (Err fault) given = tt
 
--- a reading that gives a value is an answer Ok
+-- a reading that gives a value corresponds to an answer `Ok`
 pub run_only : (f : ℕ) (v : List Bool) (old new : EyeState) (result : Result (Unit {0}) BitFault) → Gives (λ (u : Unit {0}). v) result new (parse_vector f (bits_left old))
     → (w rest : List Bool) → length w ≡ f → bits_left old ≡ run_bits w ++ rest → IsOk result × (v ≡ w)
 run_only f v old new result given w rest len parts = only_read v w rest new result (parse_vector f (bits_left old)) given (ap (parse_vector f) parts ∙ (IsExact-vector_at f).reads w (run_bits w) rest (len, refl))

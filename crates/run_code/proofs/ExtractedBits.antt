@@ -1,4 +1,4 @@
--- What extracted bits tell.
+-- What extracted bits determine.
 use Rattle.std.proofs.Common.{◌≡◌, ℕ, zero, suc, ◌+◌, ◌<◌, Bool, true, false, List, [], ◌∷◌, length, get_or, refl, sym, ap, ◌∙◌, arith, inl, inr}
 use Rattle.std.specs.Prelude.{not, ◌&&◌, count_by, Contains}
 use Rattle.std.specs.List.Sorted.{IsStrictlyIncreasing}
@@ -25,7 +25,7 @@ ones_from_rise n (false ∷ bits) k lt = ones_from_rise (n + 1) bits k lt
 pub length-extract : (a b : List Bool) → length (extract a b) ≡ count_by (λ bit. bit) b
 length-extract a b = length-bits_at a (places_down b) ∙ length-places_down b
 
--- the extracted bit of a one
+-- the extracted bit of a 1
 extracted : (a b : List Bool) (k : ℕ) (c : Contains (places_down b) k) → get_or (extract a b) c.0 false ≡ get_or a k false
 extracted a b k c = bit_of a (places_down b) c.0 c.1 ∙ ap (λ (p : ℕ). get_or a p false) (get_or_default (places_down b) c.0 0 k c.1 ∙ c.2)
 

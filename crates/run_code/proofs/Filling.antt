@@ -30,7 +30,7 @@ not_in_cons : (place k : ℕ) (places : List ℕ) → place ≢ k → (Contains 
 not_in_cons place k places ne out (zero, lt, is) = ne is
 not_in_cons place k places ne out (suc i, lt, is) = out (i, omega arith, is)
 
--- a bit more
+-- one bit more
 OnlyAt-later : (place : ℕ) (places : List ℕ) (old new : List Bool) (bit : Bool) → OnlyAt places (set old place bit) new → OnlyAt (place ∷ places) old new
 OnlyAt-later place places old new bit h = record {
   same_length = h.same_length ∙ length-set old place bit;
@@ -55,7 +55,7 @@ OnlyAt-set place places old new lt h = record {
 AreApart-set : (places : List ℕ) (v : List Bool) (place : ℕ) (bit : Bool) → AreApart places (length v) → AreApart places (length (set v place bit))
 AreApart-set places v place bit apart = rw (length-set v place bit) apart
 
--- the words for the places after the first, by its bit
+-- the words for the places after the first, by the bit of the first
 abbrev IsLaterFilling : ℕ → List ℕ → List Bool → Bool → List Bool → List Bool → Type 0
 IsLaterFilling place places old bit = IsFilling places (set old place bit)
 
@@ -82,7 +82,7 @@ IsExact-filled_at (place ∷ places) v apart =
     (λ bit word w. IsExact-filled_at places (set v place bit) (AreApart-set places v place bit apart.2))
     (λ bit word w. (set v place bit, bits_at (set v place bit) places, (OnlyAt-refl places (set v place bit), refl))))
 
--- ---- when the bits suffice
+-- ---- when there are enough bits
 
 pub parse_filled-short : (places : List ℕ) (v bits : List Bool) → parse_filled places v bits ≡ TooShort → length bits < length places
 unfolding parse_filled

@@ -1,4 +1,4 @@
--- The bits of a word at the ones of another, one after the other.
+-- The bits of a word at the ones of another, one after another.
 use Rattle.std.proofs.Common.{◌≡◌, ℕ, zero, suc, ◌+◌, ◌-◌, ◌*◌, ◌/◌, ◌%◌, ◌^◌, ◌<◌, ◌≤◌, Bool, true, false, cond, eqb, List, [], ◌∷◌, ◌++◌, length, get_or, bit_and, w64, refl, sym, ap, ◌∙◌, arith, inl, inr}
 use Rattle.std.specs.Int.{bit_at, trailing_zeros}
 use Rattle.std.proofs.lemmas.Bool.{cases_eq, cases_lt}
@@ -17,14 +17,14 @@ use Rattle.run_code.specs.Extraction.{bits_at, extract}
 use Rattle.run_code.proofs.Ones.{ones_below, ones_below-one, ones_below-none, places_down_is, length-places_down}
 use Rattle.run_code.proofs.InverseBits.{length-bits_at}
 
--- ---- a number without its lowest one
+-- ---- a number without its lowest 1
 
 no_low_bits : (n t : ℕ) → ((i : ℕ) → i < t → bit_at n i ≡ 0) → n % 2 ^ t ≡ 0
 no_low_bits n t none =
     same_from_bits_below t (n % 2 ^ t) 0 (mod_below n (2 ^ t) (pow_pos t)) (pow_pos t) (λ i lt. bit_at_mod n t i lt ∙ none i lt ∙ sym (bit_at-zero i))
 
 module _ (n t : ℕ) (one : bit_at n t ≡ 1) (none : (i : ℕ) → i < t → bit_at n i ≡ 0) where
-  -- the bits above the lowest one
+  -- the bits above the lowest 1
   abbrev above : ℕ
   above = n / 2 ^ t / 2
 
@@ -69,7 +69,7 @@ module _ (n t : ℕ) (one : bit_at n t ≡ 1) (none : (i : ℕ) → i < t → bi
         without_below i le ∙ sym (bit_at-zero i) ∙ sym (bit_at_cat_low above (t + 1) 0 i (omega arith)) ∙ ap (λ (m : ℕ). bit_at m i) end
   ])
 
-  -- its weight is what is taken away
+  -- its weight is what is subtracted
   pub lowest_weight : n - bit_and n (n - 1) ≡ 2 ^ t
   lowest_weight = omega (arith, without_is, number_is)
 
@@ -95,7 +95,7 @@ places_of_word n = places_down_is (number_bits 64 n) ∙ ap (λ (len : ℕ). one
 pub bit_is : (n k : ℕ) → k < 64 → get_or (number_bits 64 n) k false ≡ eqb (bit_at n (63 - k)) 1
 bit_is n k lt = get_or-number_bits 64 n k lt
 
--- the place of the lowest one, and those of the others
+-- the place of the lowest 1, and those of the others
 pub places-lowest : (n : ℕ) → 0 < n → n < 2 ^ 64 → places_down (number_bits 64 n) ≡ (63 - trailing_zeros w64 n) ∷ places_down (number_bits 64 (bit_and n (n - 1)))
 places-lowest n some below =
     let t = trailing_zeros w64 n in
@@ -172,7 +172,7 @@ gathered_small bits n gathered total some below fits so_far =
     let one : 1 ≤ 2 ^ length (word_extract bits (bit_and n (n - 1))) = pow_pos (length (word_extract bits (bit_and n (n - 1)))) in
     omega (arith, more, le-mul_of_pos_right (2 * gathered + bit_and (bits / 2 ^ trailing_zeros w64 n) 1) one, fits)
 
--- with no one left, the number is that of all bits
+-- if no 1 is left, the number is that of all bits
 pub gathered_all : (bits n gathered total : ℕ) → n ≡ 0 → gathered * 2 ^ length (word_extract bits n) + bits_number (word_extract bits n) ≡ total → gathered ≡ total
 unfolding bits_number
 gathered_all bits n gathered total zero_is so_far =
@@ -180,11 +180,11 @@ gathered_all bits n gathered total zero_is so_far =
     let last : gathered * 2 ^ 0 + 0 ≡ total = rw (zero_is, none) at so_far in
     omega (arith, last)
 
--- the number that is held and those after it fit
+-- the held number and the bits after it fit
 pub gathered_fits : (held bits at : ℕ) → at < 2 ^ 64 → (held + 1) * 2 ^ count_ones at ≤ 2 ^ 64 → held * 2 ^ count_ones at + bits_number (word_extract bits at) < 2 ^ 64
 gathered_fits held bits at below room = omega (arith, room, word_number_below bits at below)
 
--- the bits of the number that is held, and then those at the ones
+-- the bits of the held number, and then those at the ones
 pub gathered_bits : (count held bits at : ℕ) → at < 2 ^ 64 → number_bits (count + count_ones at) (held * 2 ^ count_ones at + bits_number (word_extract bits at)) ≡ number_bits count held ++ word_extract bits at
 gathered_bits count held bits at below =
     number_bits-cat count (count_ones at) held (bits_number (word_extract bits at)) (word_number_below bits at below)
@@ -211,11 +211,11 @@ word_extract-below a b index bits at is_a is_b =
     let end : 64 * (index + 1) ≡ 64 * index + 64 = omega arith in
     rw (end, places_of_word at) (word_below a b (number_bits 64 bits) (number_bits 64 at) (64 * index) 64 (λ k lt. bit_is bits k lt ∙ is_a k lt) (λ k lt. bit_is at k lt ∙ is_b k lt))
 
--- no place past the end has a one
+-- no place after the end has a 1
 pub ones_below-past : (v : List Bool) (n : ℕ) → length v ≤ n → ones_below n v ≡ places_down v
 ones_below-past v n le = ones_below-skip v (length v) n le (λ k from to. get_or_past v k false from) ∙ sym (places_down_is v)
 
--- a word that isn't zero has a one
+-- a word that isn't zero has a 1
 pub some_one : (at : ℕ) → 0 < at → at < 2 ^ 64 → 1 ≤ count_ones at
 some_one at some below = omega (arith, ones-lowest at some below)
 

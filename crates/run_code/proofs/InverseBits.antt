@@ -62,7 +62,7 @@ inverse_filling x y word h = (
   h.bits,
 )
 
--- a vector filled below a place that is past the end, which is zero where x is
+-- a vector filled below a place that is after the end, and zero wherever x is
 pub zeros_filling : (x y : List Bool) (n : ℕ) → length y ≡ length x → length x ≤ n → ((k : ℕ) → k < n → get_or x k false ≡ false → get_or y k false ≡ false) → IsFilling (places_up x) (zeros_like x) y (bits_up y x)
 zeros_filling x y n len all zeros = (
   record {
@@ -94,18 +94,18 @@ filling_inverse x y word h some = record {
 pub length-bits_at : (v : List Bool) (places : List ℕ) → length (bits_at v places) ≡ length places
 length-bits_at v places = length-map places _
 
--- a bit of a word is that of its place
+-- a bit of a word is the one at its place
 pub bit_of : (v : List Bool) (places : List ℕ) (i : ℕ) → i < length places → get_or (bits_at v places) i false ≡ get_or v (get_or places i 0) false
 bit_of v places i lt = get_or-map (λ (place : ℕ). get_or v place false) places i 0 false lt
 
--- the word of a set that is not empty has a one
+-- the word of a set that is not empty has a 1
 word_has_one : (x y word : List Bool) → IsInverseWord x y word → has_one word ≡ true
 word_has_one x y word h =
     let k = one_of y h.some in
     let c = places_up_has x k.0 (h.within k.0 k.1) in
     has_one_by word c.0 (rw h.bits (bit_of y (places_up x) c.0 c.1 ∙ ap (λ (p : ℕ). get_or y p false) (get_or_default (places_up x) c.0 0 k.0 c.1 ∙ c.2) ∙ k.1))
 
--- ---- each word that ends in a one is read
+-- ---- each word that ends in a 1 is read
 
 filled_any : (places : List ℕ) (v word : List Bool) → length word ≡ length places → (u : List Bool) × (parse_filled places v word ≡ Read u [])
 unfolding parse_filled
@@ -221,7 +221,7 @@ IsExact-inverse_at x some = record {
   short_is = λ bits e. short_can_begin x bits (parse_filled-short (places_up x) (zeros_like x) bits (tested_short (parse_filled (places_up x) (zeros_like x) bits) e));
 }
 
--- ---- what a reading says
+-- ---- what follows from a reading
 
 pub inverse_err : {A : Type 0} (x : List Bool) (view : A → List Bool) (old new : EyeState) (fault : BitFault) → Gives view (Err fault) new (parse_filled (places_up x) (zeros_like x) (bits_left old)) → Gives view (Err fault) new (parse_inverse x (bits_left old))
 unfolding parse_inverse

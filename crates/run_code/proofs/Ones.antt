@@ -1,4 +1,4 @@
--- The places of a vector's ones, found one after the other.
+-- The places of a vector's ones, found one after another.
 use Rattle.std.proofs.Common.{◌≡◌, ℕ, zero, suc, ◌+◌, ◌-◌, ◌<◌, ◌≤◌, Bool, true, false, cond, List, [], ◌∷◌, ◌++◌, length, get_or, take, replicate, refl, sym, ap, ◌∙◌, arith, inl, inr, ◌⊎◌, add-one}
 use Rattle.std.specs.Prelude.{reverse, count_by, Contains}
 use Rattle.std.proofs.lemmas.Bool.{cases_eq, cases_lt, true≢false}
@@ -84,7 +84,7 @@ length-ones_from n (false ∷ bits) =
 pub length-places_down : (v : List Bool) → length (places_down v) ≡ count_by (λ bit. bit) v
 length-places_down v = length-reverse (places_up v) ∙ length-ones_from 0 v
 
--- ---- which, and that they differ
+-- ---- which places, and that they are different
 
 Contains-cons : (x y : ℕ) (xs : List ℕ) → Contains (x ∷ xs) y → (x ≡ y) ⊎ Contains xs y
 Contains-cons x y xs (zero, lt, is) = inl is
@@ -187,7 +187,7 @@ ones_below_has (suc n) v k lt one =
 pub places_down_has : (v : List Bool) (k : ℕ) → get_or v k false ≡ true → Contains (places_down v) k
 places_down_has v k one = rw (places_down_is v) (ones_below_has (length v) v k (one_within v k one) one)
 
--- ---- the greatest one
+-- ---- the greatest 1
 
 none_up_to : (n : ℕ) (v : List Bool) (from : ℕ) → NoneIsOne v from n → get_or v n false ≡ false → NoneIsOne v from (suc n)
 none_up_to n v from none zero_here k le lt =

@@ -11,7 +11,7 @@ by_place : (bit : Bool) (start m : ℕ) (ps qs rest : List ℕ) → rest ≡ map
 by_place true start m ps qs rest later = rw later refl
 by_place false start m ps qs rest later = later
 
--- the ones below a place behind another: those between them, and those below the first
+-- the ones below a place that is after another: those between them, and those below the other
 behind : (v y : List Bool) (start m : ℕ) → ((k : ℕ) → k < m → get_or y k false ≡ get_or v (start + k) false) → ones_below (start + m) v ≡ map (λ place. start + place) (ones_below m y) ++ ones_below start v
 unfolding ones_below
 behind v y start zero same = let none : start + 0 ≡ start = omega arith in rw none refl
@@ -36,7 +36,7 @@ all_left v index ones le all is = whole_word v index ones le is ∙ ones_below-p
 pub none_left : (v : List Bool) (index ones : ℕ) → ones ≡ 0 → 64 * index ≤ length v → NoneIsOne v 0 (64 * index) → ones_left v (record { index = index; ones = ones }) ≡ []
 none_left v index ones zero_is le none = rw zero_is (no_ones_left v index le ∙ ones_below-none v (64 * index) none)
 
--- from a word with none left to that of the greatest one before it
+-- from a word with none left to the greatest word before it that has one
 pub same_left : (v : List Bool) (index ones place word : ℕ) → ones ≡ 0 → 64 * index ≤ length v → place < 64 * index → NoneIsOne v (place + 1) (64 * index) → IsWord v (place / 64) word
     → ones_left v (record { index = place / 64; ones = word }) ≡ ones_left v (record { index = index; ones = ones })
 same_left v index ones place word zero_is le lt none is =

@@ -22,7 +22,7 @@ pub runs_from-nil : (place : ℕ) → runs_from place [] ≡ end_bits
 unfolding runs_from
 runs_from-nil place = refl
 
--- ---- without a one
+-- ---- without a 1
 
 no_places : (place f : ℕ) → ones_from place (replicate f false) ≡ []
 unfolding ones_from

@@ -26,7 +26,7 @@ runs_further place (next ∷ places) last =
     ap (λ (bits : List Bool). count_bits (place - next) ++ bits) (runs_further next places last)
     ∙ sym (append_assoc (count_bits (place - next)) (counts_from next places) (count_bits (lowest_from next places - last) ++ end_bits))
 
--- ---- below the lowest one
+-- ---- below the lowest 1
 
 lowest_by : (n : ℕ) (v : List Bool) (places : List ℕ) → ones_below n v ≡ places → NoneIsOne v 0 (lowest_from n places) → get_or v n false ≡ false → NoneIsOne v 0 (lowest_from (suc n) places)
 unfolding lowest_from
@@ -55,7 +55,7 @@ none_set v p none k from to =
     let ne : k ≢ p = omega arith in
     get_or-set_other v p k true false ne ∙ none k from (omega arith)
 
--- a one below all others stands last
+-- a 1 below all others is the last
 set_below : (n : ℕ) (v : List Bool) (p : ℕ) → p < n → p < length v → NoneIsOne v 0 (p + 1) → ones_below n (set v p true) ≡ ones_below n v ++ p ∷ []
 unfolding ones_below
 set_below zero v p lt within none = absurd (omega (arith, lt))

@@ -1,4 +1,4 @@
--- Bits spread over the ones of a word, one after the other.
+-- Bits spread over the ones of a word, one after another.
 use Rattle.std.proofs.Common.{◌≡◌, ◌≢◌, ℕ, zero, suc, ◌+◌, ◌-◌, ◌*◌, ◌/◌, ◌%◌, ◌^◌, ◌<◌, ◌≤◌, Bool, true, false, cond, eqb, List, [], ◌∷◌, ◌++◌, length, get_or, take, drop, append_assoc, bit_and, bit_or, w64, refl, sym, ap, ◌∙◌, arith, inl, inr}
 use Rattle.std.specs.Int.{bit_at, bit_not, trailing_zeros}
 use Rattle.std.specs.Int.RustNames.{count_ones}
@@ -54,7 +54,7 @@ first_bits next m below most =
     ap (number_bits 64) (shl_word next 1 (omega arith) ∙ whole) ∙ number_bits-cat 63 1 (next % 2 ^ 63) 0 (omega arith) ∙ ap (λ (bits : List Bool). bits ++ number_bits 1 0) (number_bits-mod 63 63 next (omega arith)) in
     ap (take (suc m)) (number_bits-more 63 next) ∙ rw (first, later, take-append-le m (number_bits 63 next) (number_bits 1 0) (omega (arith, length-number_bits 63 next))) refl
 
--- a bit at the lowest one of a word
+-- a bit at the lowest 1 of a word
 pub lowest_bit : (bit rest : ℕ) → bit < 2 → 0 < rest → rest < 2 ^ 64 → bit * (rest - bit_and rest (rest - 1)) ≡ bit * 2 ^ trailing_zeros w64 rest % 2 ^ 64
 lowest_bit bit rest lt some small =
     let lowest = bit_at-trailing_zeros w64 rest some small in
@@ -125,7 +125,7 @@ pub step_bits : (next rest : ℕ) (bits later : List Bool) → 0 < rest → rest
 step_bits next rest bits later some small next_small lowest rest_is =
     lowest ∙ rw (rest_is, ones-lowest rest some small) (sym (first_bits next (count_ones (bit_and rest (rest - 1))) next_small (omega (arith, ones-lowest rest some small, ones-le 64 rest small))))
 
--- with no one left
+-- if no 1 is left
 pub none_left : (new bits rest : ℕ) → rest ≡ 0 → word_extract new rest ≡ take (count_ones rest) (number_bits 64 bits)
 none_left new bits rest zero_is =
     let none = word_extract-none new in
@@ -134,7 +134,7 @@ none_left new bits rest zero_is =
 
 -- ---- whole vectors
 
--- the ones from a place on, of so many places, the greatest first
+-- the ones from a place on, of the given number of places, the greatest first
 unfoldable pub ones_span : ℕ → ℕ → List Bool → List ℕ
 ones_span from zero v = []
 ones_span from (suc m) v = cond (get_or v (from + m) false) ((from + m) ∷ ones_span from m v) (ones_span from m v)
@@ -193,7 +193,7 @@ unfolding ones_span
 span_empty v from zero none = refl
 span_empty v from (suc m) none = rw (none m (omega arith)) (span_empty v from m (λ k lt. none k (omega arith)))
 
--- a word of zeros has no place
+-- a word of zeros has no ones
 pub span_skip : (b : List Bool) (index all : ℕ) → 0 < index → 64 * index ≤ all → IsWord b (index - 1) 0 → ones_span (64 * (index - 1)) (all - 64 * (index - 1)) b ≡ ones_span (64 * index) (all - 64 * index) b
 span_skip b index all some within is_b =
     let parts : all - 64 * (index - 1) ≡ 64 + (all - 64 * index) = omega arith in
@@ -201,7 +201,7 @@ span_skip b index all some within is_b =
     let empty : ones_span (64 * (index - 1)) 64 b ≡ [] = span_empty b (64 * (index - 1)) 64 (λ k lt. sym (is_b k lt) ∙ ap (λ (n : ℕ). eqb n 1) (bit_at-zero (63 - k))) in
     rw (parts, span_cat (64 * (index - 1)) 64 (all - 64 * index) b, next, empty) (append-nil (ones_span (64 * index) (all - 64 * index) b))
 
--- so many bits of a word are the first of these bits
+-- the given number of first bits of a word are the first of these bits
 abbrev pub ShowsFirst : ℕ → List Bool → ℕ → Type 0
 ShowsFirst count bits word = (k : ℕ) → k < count → eqb (bit_at word (63 - k)) 1 ≡ get_or bits k false
 
@@ -213,7 +213,7 @@ shown_take bits word width shows most enough =
     let below : k < width = omega (arith, length-take width (number_bits 64 word)) in
     get_or-take width (number_bits 64 word) k false below ∙ bit_is word k (omega arith) ∙ shows k below ∙ sym (get_or-take width bits k false below))
 
--- the bits after so many of those that are shown
+-- the bits after the given number of those that are shown
 pub ShowsFirst-after : (bits : List Bool) (word shown count : ℕ) → shown ≤ 64 → count ≤ shown → ShowsFirst shown bits word → ShowsFirst (shown - count) (drop count bits) (word * 2 ^ (count % 64) % 2 ^ 64)
 ShowsFirst-after bits word shown count most le shows =
     λ k lt.
@@ -235,7 +235,7 @@ spread_more old left a new b index all at word ahead some within small is_b is_n
     rw (parts, span_cat (64 * (index - 1)) 64 (all - 64 * index) b, next) (map-append _ (ones_span (64 * index) (all - 64 * index) b) (ones_span (64 * (index - 1)) 64 b) ∙ ap (λ (last : List Bool). bits_at new (ones_span (64 * index) (all - 64 * index) b) ++ last) here) in
     so_far ∙ rw (kept, split) (ap (λ (rest : List Bool). bits_at new (ones_span (64 * index) (all - 64 * index) b) ++ rest) (sym (take-append-drop (count_ones at) left)) ∙ sym (append_assoc (bits_at new (ones_span (64 * index) (all - 64 * index) b)) (take (count_ones at) left) (drop (count_ones at) left)))
 
--- the bits at the zeros stay
+-- the bits at the zeros are unchanged
 pub spread_others : (a new b : List Bool) (index word at made : ℕ) → IsWord a index word → IsWord b index at → IsWord new index made → ((k : ℕ) → k / 64 ≢ index → get_or new k false ≡ get_or a k false) → ((i : ℕ) → bit_at at i ≡ 0 → bit_at made i ≡ bit_at word i)
     → (k : ℕ) → get_or b k false ≡ false → get_or new k false ≡ get_or a k false
 spread_others a new b index word at made is_a is_b is_new same others k none =

@@ -1,4 +1,4 @@
--- Bits at the ones of a word or a vector from the lowest place up: those from the highest place down, turned round.
+-- Bits at the ones of a word or a vector from the lowest place up: those from the highest place down, reversed.
 use Rattle.std.proofs.Common.{◌≡◌, ◌≢◌, ℕ, zero, suc, ◌+◌, ◌-◌, ◌*◌, ◌/◌, ◌%◌, ◌^◌, ◌<◌, ◌≤◌, Bool, true, false, cond, eqb, List, [], ◌∷◌, ◌++◌, length, get_or, map, not, ◌&&◌, append_assoc, bit_and, w64, refl, sym, ap, ◌∙◌, arith, inl, inr}
 use Rattle.std.specs.Prelude.{reverse, count_by}
 use Rattle.std.specs.Int.{bit_at, bit_not, trailing_zeros}
@@ -58,7 +58,7 @@ module _ (bit t n : ℕ) (digit : bit < 2) (within : t < 64) (below : n < 2 ^ t)
       let whole : bit % 2 ≡ bit = omega arith in
       rw (width, number) (number_bits-cat 1 t bit n below ∙ ap (λ (bits : List Bool). bits ++ number_bits t n) (rw whole at (lowest_digit bit)))
 
--- the last of the bits, turned round
+-- the last of the bits, reversed
 turned : (bit : Bool) (bits later : List Bool) → bits ≡ bit ∷ later → reverse bits ≡ reverse later ++ bit ∷ []
 turned bit bits later first = ap reverse first ∙ reverse-append (bit ∷ []) later
 
@@ -71,7 +71,7 @@ gathered_up_more bits n gathered taken some below within small =
     rw (shr_and_one bits (trailing_zeros w64 n), above_bits (bit_at bits (trailing_zeros w64 n)) taken gathered (bit_at-lt bits (trailing_zeros w64 n)) within small, turned (eqb (bit_at bits (trailing_zeros w64 n)) 1) (word_extract bits n) (word_extract bits (bit_and n (n - 1))) (word_extract-lowest bits n some below))
     (sym (append_assoc (reverse (word_extract bits (bit_and n (n - 1)))) (eqb (bit_at bits (trailing_zeros w64 n)) 1 ∷ []) (number_bits taken gathered)))
 
--- the bits of a number, the last of them apart
+-- the bits of a number, with the last of them apart
 pub spread_up_bits : (next rest : ℕ) (bits later : List Bool) → 0 < rest → rest < 2 ^ 64 → bits ≡ eqb (next % 2) 1 ∷ later → reverse later ≡ number_bits (count_ones (bit_and rest (rest - 1))) (next / 2) → reverse bits ≡ number_bits (count_ones rest) next
 spread_up_bits next rest bits later some small lowest rest_is =
     let width : count_ones rest ≡ count_ones (bit_and rest (rest - 1)) + 1 = omega (arith, ones-lowest rest some small) in
@@ -86,7 +86,7 @@ pub without_word : (x mask : List Bool) (index at word : ℕ) → length mask �
 without_word x mask index at word len small is_x is_mask k lt =
     Bitwise-drop.bits at word (63 - k) small (omega arith) ∙ rw (is_x k lt, is_mask k lt) (sym (get_or-zip2_all (λ a b. a && not b) refl x mask (64 * index + k) (sym len)))
 
--- as many ones below a place as below any later one
+-- no more ones are below a place than below any later place
 ones_below-rise : (v : List Bool) (n d : ℕ) → length (ones_below n v) ≤ length (ones_below (n + d) v)
 unfolding ones_below
 ones_below-rise v n zero = let same : n + zero ≡ n = omega arith in rw same (omega arith)
@@ -112,7 +112,7 @@ pub ones_step_up : (b : List Bool) (index at : ℕ) → at < 2 ^ 64 → IsWord b
 ones_step_up b index at small is_b =
     omega (arith, length-bits_at b (ones_below (64 * (index + 1)) b), length-bits_at b (ones_below (64 * index) b), length-word_extract at at small, length-append (word_extract at at) (bits_at b (ones_below (64 * index) b)), ap (λ (xs : List Bool). length xs) (word_extract-below b b index at at is_b is_b))
 
--- with no one left
+-- if no 1 is left
 no_ones : (rest : ℕ) → rest ≡ 0 → count_ones rest ≡ 0
 no_ones rest zero_is =
     rw zero_is (sym (length-word_extract 0 0 (omega arith)) ∙ ap (λ (bits : List Bool). length bits) (word_extract-none 0))
@@ -144,7 +144,7 @@ below_same a new v zero same = refl
 below_same a new v (suc n) same =
     span_bit (get_or v n false) a new n n (ones_below n v) (ones_below n v) (sym (same n (omega arith))) (below_same a new v n (λ k lt. same k (omega arith)))
 
--- a word set behind those that are done
+-- a word set after those that are done
 pub taken_step : (old left rest a new x : List Bool) (index word at number : ℕ) → IsWord x index at → IsWord new index word → ((k : ℕ) → k / 64 ≢ index → get_or new k false ≡ get_or a k false)
     → bits_up (number_bits 64 word) (number_bits 64 at) ≡ number_bits (count_ones at) number → left ≡ number_bits (count_ones at) number ++ rest
     → old ≡ reverse (bits_at a (ones_below (64 * index) x)) ++ left → old ≡ reverse (bits_at new (ones_below (64 * (index + 1)) x)) ++ rest
@@ -155,7 +155,7 @@ taken_step old left rest a new x index word at number is_x is_new others bits ne
     upward_step new x index word at is_new is_x ∙ ap (λ (last : List Bool). reverse (bits_at new (ones_below (64 * index) x)) ++ last) bits in
     so_far ∙ rw (kept, next, here) (sym (append_assoc (reverse (bits_at new (ones_below (64 * index) x))) (number_bits (count_ones at) number) rest))
 
--- the new word is zero where the vector is
+-- the new word is zero wherever the vector is zero
 pub zeros_step : (a new x : List Bool) (index word at : ℕ) → IsWord x index at → IsWord new index word → ((k : ℕ) → k / 64 ≢ index → get_or new k false ≡ get_or a k false) → ((i : ℕ) → bit_at at i ≡ 0 → bit_at word i ≡ 0)
     → ((k : ℕ) → k < 64 * index → get_or x k false ≡ false → get_or a k false ≡ false) → (k : ℕ) → k < 64 * (index + 1) → get_or x k false ≡ false → get_or new k false ≡ false
 zeros_step a new x index word at is_x is_new others zeros before k lt none =

@@ -26,7 +26,7 @@ abbrev pub SameOutside : List Bool → List Bool → List Bool → Type 0
 SameOutside b old new =
     (place : ℕ) → slice_index_or b place false ≡ false → slice_index_or new place false ≡ slice_index_or old place false
 
--- a set of ones of a vector that is not empty, and its word: for each one of the vector, from the lowest place up,
+-- a set of ones of a vector that is not empty, and its word: for each 1 of the vector, from the lowest place up,
 -- whether it is in the set
 pub record IsInverseWord (x set_of_ones word : List Bool) : Type 0 where
   pub places : length set_of_ones ≡ length x
@@ -43,7 +43,7 @@ parse_filled (place ∷ places) v bits =
     bit_where (λ bit. true) bits
     >>= λ bit rest. parse_filled places (slice_set v place bit) rest
 
--- a set of ones of a vector; where it would be empty the last bit is wrong
+-- a set of ones of a vector; if it would be empty the last bit is wrong
 unfoldable pub parse_inverse : List Bool → List Bool → Parsed (List Bool)
 parse_inverse x bits =
     parse_filled (places_up x) (replicate (length x) false) bits

@@ -1,5 +1,5 @@
--- The word of a vector's runs (CCSDS 124.0-B-1): for each one, from the highest place down, the count of places from the
--- one before it, and then the end of the counts. The first is counted from the number of places.
+-- The word of a vector's runs (CCSDS 124.0-B-1): for each 1, from the highest place down, the count of places from the
+-- 1 before it, and then the end of the counts. The first is counted from the number of places.
 use Rattle.std.specs.Prelude.{◌≡◌, ℕ, zero, suc, ◌-◌, Bool, true, false, List, [], ◌∷◌, ◌++◌, length, replicate, slice_set}
 use Rattle.bit_vectors.specs.Reading.{Parsed, Read, TooShort, ◌>>=◌}
 use Rattle.count_code.specs.declared.count.Count.{Count}
@@ -21,19 +21,19 @@ unfoldable pub counts_from : ℕ → List ℕ → List Bool
 counts_from place [] = []
 counts_from place (next ∷ places) = count_bits (place - next) ++ counts_from next places
 
--- the last of these places, which stand below this one, and this one if there are none
+-- the last of these places, which are all below this one, or this one if there are none
 unfoldable pub lowest_from : ℕ → List ℕ → ℕ
 lowest_from place [] = place
 lowest_from place (next ∷ places) = lowest_from next places
 
--- the run word of a vector without its end, and the place below which all is zero after it
+-- the run word of a vector without its end, and the place below which everything is zero after it
 abbrev pub counts_of : List Bool → List Bool
 counts_of v = counts_from (length v) (places_down v)
 
 abbrev pub lowest_of : List Bool → ℕ
 lowest_of v = lowest_from (length v) (places_down v)
 
--- the run word of a vector with so many places
+-- the run word of a vector with the given number of places
 abbrev pub IsRunWordOf : ℕ → List Bool → List Bool → Type 0
 IsRunWordOf f v word = (length v ≡ f) × (word ≡ run_bits v)
 
@@ -54,6 +54,6 @@ parse_ones (suc most) below v bits =
     parse_count below bits
     >>= λ count rest. at_count count (λ a. parse_ones most (below - a) (slice_set v (below - a) true) rest) (Read v rest)
 
--- a vector with so many places
+-- a vector with the given number of places
 unfoldable pub parse_vector : ℕ → List Bool → Parsed (List Bool)
 parse_vector f bits = parse_ones (suc f) f (replicate f false) bits

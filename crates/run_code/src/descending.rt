@@ -1,5 +1,5 @@
-//! The ones of a vector from the highest place down: within a word by its lowest one, and from there to the next
-//! word that has one.
+//! The ones of a vector from the highest place down: within a word by its lowest 1, and from there to the next
+//! word that has a 1.
 
 ghost use Rattle.std.specs.Prelude.{◌≡◌, ◌*◌, ◌^◌, ◌<◌, ◌≤◌, [], length, IfSome, IfNone};
 ghost use Rattle.std.specs.Iterator.{YieldsFirst, item_count};
@@ -60,7 +60,7 @@ pub fn ones_down(v: &Bits) -> OnesDown<'_>
     }
 }
 
-/// This word where it has ones left, else the last word before it that has one.
+/// This word if it has ones left, else the last word before it that has one.
 fn word_with_ones(v: &Bits, word: WordOnes) -> Option<WordOnes>
     requires { AreWithin v.now word }
     ensures same { IfSome result (λ found. ones_left v.now found ≡ ones_left v.now word) }

@@ -5,8 +5,8 @@ ghost use Rattle.run_code.specs.Edges.{edges, edges as edges_of};
 
 use bit_vectors::Bits;
 
-/// Makes `into`, which has as many places as `mask`, its edges: one where the bit of the mask differs from
-/// that of the next place. After the last place comes a 0.
+/// Makes `into`, which has as many places as `mask`, its edges: 1 at each place at which the bit of the mask
+/// differs from that of the next place. A 0 is taken to follow the last place.
 pub fn edges(mask: &Bits, into: &mut Bits)
     requires { length mask.now ≡ length into.old }
     ensures places { length into.new ≡ length into.old }
@@ -20,7 +20,7 @@ pub fn edges(mask: &Bits, into: &mut Bits)
     }
 }
 
-/// Makes `into`, which has as many places as `edges`, the one mask whose edges these are.
+/// Makes `into`, which has as many places as `edges`, the only mask that has these edges.
 pub fn from_edges(edges: &Bits, into: &mut Bits)
     requires { length edges.now ≡ length into.old }
     ensures places { length into.new ≡ length into.old }
@@ -34,8 +34,8 @@ pub fn from_edges(edges: &Bits, into: &mut Bits)
     }
 }
 
-/// The word that gives `word` when it is added, without carries, to itself shifted by one place. Each step
-/// adds to every bit the sum of twice as many bits below it.
+/// The word that gives `word` when it is added, without carries, to itself shifted by one place. After each
+/// step every bit is the sum of twice as many bits: itself and bits below it.
 fn summed(word: u64) -> u64
     ensures { bit_xor result (result * 2 ^ 1 % 2 ^ 64) ≡ word }
 {
@@ -47,7 +47,7 @@ fn summed(word: u64) -> u64
     with_shifted(sum, 1)
 }
 
-/// A word added, without carries, to itself shifted by so many places.
+/// A word added, without carries, to itself shifted by the given number of places.
 fn with_shifted(word: u64, by: u32) -> u64
     requires { by < 64 }
     ensures { result ≡ bit_xor word (word * 2 ^ by % 2 ^ 64) }

@@ -9,8 +9,8 @@ ghost use Rattle.run_code.specs.Extraction.{extract, SameOutside, parse_filled};
 use crate::words::{gathered, spread};
 use bit_vectors::{BitEye, BitFault, BitPen, Bits};
 
-/// Appends the bits of `a` at the ones of `b`, which has as many places, from the highest place down. The
-/// pen has room for them.
+/// Appends the bits of `a` at the ones of `b`, which has the same number of places, from the highest place down.
+/// The pen has room for them.
 pub fn put_extract(pen: &mut BitPen, a: &Bits, b: &Bits)
     requires places { length a.now ≡ length b.now }
     requires room { length pen.old.bits + count_by (λ bit. bit) b.now ≤ pen.old.room }
@@ -38,9 +38,9 @@ pub fn put_extract(pen: &mut BitPen, a: &Bits, b: &Bits)
     }
 }
 
-/// Takes a bit for each one of `b`, which has as many places as `a`, from the highest place down, and makes
-/// it the bit of `a` at that place. The other bits of `a` stay. Where the bits end early, those at the ones of
-/// `b` are any bits then. No bit is wrong.
+/// Takes a bit for each 1 of `b`, which has as many places as `a`, from the highest place down, and sets
+/// the bit of `a` at that place to it. The other bits of `a` are unchanged. If the bits end early, those at the
+/// ones of `b` may be any bits. No bit is wrong.
 pub fn take_into(eye: &mut BitEye, a: &mut Bits, b: &Bits) -> Result<(), BitFault>
     requires { length a.old ≡ length b.now }
     ensures places { length a.new ≡ length a.old }

@@ -10,8 +10,8 @@ ghost use Rattle.run_code.specs.Extraction.{inverse_up, bits_up, IsInverseWord, 
 use crate::words::{put_gathered_up, spread_up};
 use bit_vectors::{BitEye, BitFault, BitPen, Bits};
 
-/// Appends the inverted bits of `mask` at the ones of `x`, which has as many places, from the lowest place
-/// up. The pen has room for them.
+/// Appends the inverted bits of `mask` at the ones of `x`, which has the same number of places, from the lowest
+/// place up. The pen has room for them.
 pub fn put_inverse_up(pen: &mut BitPen, mask: &Bits, x: &Bits)
     requires places { length mask.now ≡ length x.now }
     requires room { length pen.old.bits + count_by (λ bit. bit) x.now ≤ pen.old.room }
@@ -24,19 +24,19 @@ pub fn put_inverse_up(pen: &mut BitPen, mask: &Bits, x: &Bits)
     }
 }
 
-/// Takes a bit for each one of `x`, which has at least one and as many places as `into`, from the lowest
-/// place up, and makes it the bit of `into` at that place. The other bits of `into` are 0 then. Not all of
-/// the bits may be 0: after zeros alone the last one must be 1. After a fault `into` has any bits.
+/// Takes a bit for each 1 of `x`, which has at least one and as many places as `into`, from the lowest
+/// place up, and sets the bit of `into` at that place to it. The other bits of `into` are then 0. Not all of
+/// the bits may be 0: after zeros alone the last one must be 1. After a fault `into` may have any bits.
 pub fn take_inverse_up(eye: &mut BitEye, x: &Bits, into: &mut Bits) -> Result<(), BitFault>
     requires places { length x.now ≡ length into.old }
     requires some { Contains x.now true }
     ensures places { length into.new ≡ length into.old }
     ensures moves { MovesOn eye.old eye.new }
-    // After Ok, the set of ones of `x` at which a 1 was read, which isn't empty.
+    // After `Ok`, the set of ones of `x` at which a 1 was read, which isn't empty.
     ensures taken { OnOk result (bits_left eye.old ≡ bits_up into.new x.now ++ bits_left eye.new) }
     ensures within { OnOk result ((place : ℕ) → IsOne into.new place → IsOne x.now place) }
     ensures one { OnOk result (Contains into.new true) }
-    // Wrong exactly where the bits at the ones of `x` are there and all are 0; the last of them is wrong.
+    // `Wrong` exactly if the bits at the ones of `x` are there and all are 0; the last of them is wrong.
     ensures wrong { let ones = count_by (λ bit. bit) x.now in
         (result ≡ Err (BitFault.Wrong (eye.old.place + ones - 1)))
         ↔ (take ones (bits_left eye.old) ≡ replicate ones false) }
@@ -51,7 +51,7 @@ pub fn take_inverse_up(eye: &mut BitEye, x: &Bits, into: &mut Bits) -> Result<()
     read_inverse(eye, x, into)
 }
 
-/// Takes a bit for each one of `x`, which has at least one. The last is wrong where all are 0.
+/// Takes a bit for each 1 of `x`, which has at least one. The last bit is wrong if all are 0.
 fn read_inverse(eye: &mut BitEye, x: &Bits, into: &mut Bits) -> Result<(), BitFault>
     requires places { length x.now ≡ length into.old }
     requires some { Contains x.now true }
@@ -67,8 +67,8 @@ fn read_inverse(eye: &mut BitEye, x: &Bits, into: &mut Bits) -> Result<(), BitFa
     Ok(())
 }
 
-/// Takes a bit for each one of `x`, from the lowest place up, and makes it the bit of `into` at that place.
-/// The other bits of `into` are 0 then.
+/// Takes a bit for each 1 of `x`, from the lowest place up, and sets the bit of `into` at that place to it.
+/// The other bits of `into` are then 0.
 fn take_up(eye: &mut BitEye, x: &Bits, into: &mut Bits) -> Result<(), BitFault>
     requires { length x.now ≡ length into.old }
     ensures places { length into.new ≡ length into.old }

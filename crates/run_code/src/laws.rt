@@ -17,8 +17,8 @@ pub fn places_of_ones()
     ensures many { (v : List Bool) → length (places_up v) ≡ count_by (λ bit. bit) v }
 {}
 
-/// A run word has at most 4 bits for each place and 2 more. For two different vectors with as many places
-/// neither word is the front of the other, and whatever follows, the word tells the vector.
+/// A run word has at most 4 bits for each place and 2 more. For two different vectors of one length
+/// neither word is a prefix of the other, and whatever follows, the word determines the vector.
 pub fn run_words()
     ensures most { (v : List Bool) → length (run_bits v) ≤ 4 * length v + 2 }
     ensures apart { (a b rest : List Bool) → length a ≡ length b → a ≢ b
@@ -27,7 +27,7 @@ pub fn run_words()
         → run_bits a ++ rest ≡ run_bits b ++ others → (a ≡ b) × (rest ≡ others) }
 {}
 
-/// Reading run words is exact: before the first wrong bit, and where the bits end early, the run word of some vector begins
+/// Reading run words is exact: before the first wrong bit, and if the bits end early, the run word of some vector begins
 /// with the bits read. The shortest ending is that of the counts read so far, at once (`ended`), or after one more count
 /// within the limit, which is the place of the lowest one so far (`further`).
 pub fn run_words_are_completed()
@@ -38,7 +38,7 @@ pub fn run_words_are_completed()
         ≡ counts_of v ++ (count_bits a ++ end_bits) }
 {}
 
-/// Reading directions is exact: with fewer bits than there are ones, they can still be completed, by zeros and a one in
+/// Reading directions is exact: if there are fewer bits than ones, they can still be completed, by zeros and a 1 in
 /// the last place.
 pub fn directions_are_completed()
     ensures exact { (x : List Bool) → Contains x true
@@ -48,8 +48,8 @@ pub fn directions_are_completed()
         (front ++ (replicate (count_by (λ bit. bit) x - length front - 1) false ++ true ∷ [])) }
 {}
 
-/// As many bits are extracted as there are ones, and with the bits at the zeros they tell the vector. The
-/// inverted bits of a mask are those of the ones that the mask does not have.
+/// As many bits are extracted as there are ones, and with the bits at the zeros they determine the vector. The
+/// inverted bits of a mask are those at the ones that the mask does not have.
 pub fn extracted_bits()
     ensures many { (a b : List Bool) → length (extract a b) ≡ count_by (λ bit. bit) b }
     ensures told { (a b other : List Bool) → length a ≡ length other → extract a b ≡ extract other b
@@ -58,7 +58,7 @@ pub fn extracted_bits()
         → bits_up (without_bits x mask) x ≡ inverse_up mask x }
 {}
 
-/// An edge is one where exactly one of a bit and the next is, and a 0 follows the last bit. Each vector is
+/// An edge is 1 if exactly one of a bit and the next is, and a 0 follows the last bit. Each vector is
 /// the edges of exactly one mask.
 pub fn masks_and_edges()
     ensures neighbour { (mask : List Bool) (place : ℕ) → place < length mask

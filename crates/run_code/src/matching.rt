@@ -9,8 +9,8 @@ use crate::descending::ones_down;
 use bit_vectors::{BitEye, BitFault, Bits};
 use count_code::match_count;
 
-/// Takes the run word of `v`. The first bit that differs from it is wrong, and the bits end early where they
-/// are the front of it.
+/// Takes the run word of `v`. The first bit that differs from it is wrong, and the bits end early if all that
+/// are left are a proper prefix of it.
 pub fn match_runs(eye: &mut BitEye, v: &Bits) -> Result<(), BitFault>
     ensures moves { MovesOn eye.old eye.new }
     ensures word { OnOk result (bits_left eye.old ≡ run_bits v.now ++ bits_left eye.new) }
@@ -23,7 +23,7 @@ pub fn match_runs(eye: &mut BitEye, v: &Bits) -> Result<(), BitFault>
     match_words(eye, v)
 }
 
-/// Takes the word of each one of `v`, from the highest place down, and the end.
+/// Takes the word of each 1 of `v`, from the highest place down, and the end.
 fn match_words(eye: &mut BitEye, v: &Bits) -> Result<(), BitFault>
     ensures moves { MovesOn eye.old eye.new }
     ensures reading { Gives (λ _. tt) result eye.new

@@ -9,8 +9,8 @@ use crate::descending::ones_down;
 use bit_vectors::{BitEye, BitFault, BitPen, Bits};
 use count_code::{Count, put_count, put_end, take_count};
 
-/// Appends the run word of a vector: from its highest place down, for each one the count of places from the
-/// one before it, or from the number of places, and then the end. It has at most 4 bits for each place and
+/// Appends the run word of a vector: from its highest place down, for each 1 the count of places from the
+/// 1 before it, or from the number of places, and then the end. It has at most 4 bits for each place and
 /// 2 more, for which the pen has room.
 pub fn put_runs(pen: &mut BitPen, v: &Bits)
     requires { length pen.old.bits + (4 * length v.now + 2) ≤ pen.old.room }
@@ -26,9 +26,9 @@ pub fn put_runs(pen: &mut BitPen, v: &Bits)
     put_end(pen);
 }
 
-/// Takes the run word of a vector with as many places as `into`, which is that vector then. The first bit
-/// after which no such word can follow is wrong, and the bits end early where they are the front of one.
-/// After a fault `into` has any bits.
+/// Takes the run word of a vector with as many places as `into`, which is then that vector. The first bit
+/// after which no such word can follow is wrong, and the bits end early if they are a proper prefix of one.
+/// After a fault `into` may have any bits.
 pub fn take_runs(eye: &mut BitEye, into: &mut Bits) -> Result<(), BitFault>
     ensures places { length into.new ≡ length into.old }
     ensures moves { MovesOn eye.old eye.new }
@@ -44,7 +44,7 @@ pub fn take_runs(eye: &mut BitEye, into: &mut Bits) -> Result<(), BitFault>
     read_runs(eye, into)
 }
 
-/// Takes counts within the places that are left below, and sets a one at each.
+/// Takes counts within the places that are left below, and sets a 1 at each.
 fn read_runs(eye: &mut BitEye, into: &mut Bits) -> Result<(), BitFault>
     ensures places { length into.new ≡ length into.old }
     ensures moves { MovesOn eye.old eye.new }

@@ -1,5 +1,5 @@
-//! Words worked by hand, each way, and the first wrong bit of others. A loop over places stands in `has_ones` alone,
-//! which looks at each place of a short vector.
+//! Words worked by hand, each way, and the first wrong bit of others. Only `has_ones` has a loop over places; it
+//! looks at each place of a short vector.
 
 use crate::{
     edges, from_edges, match_runs, put_extract, put_inverse_up, put_runs, take_into,
@@ -9,10 +9,10 @@ use bit_vectors::{BitEye, BitFault, BitPen, Bits, NoMemory};
 use std::alloc::Global;
 use std::test::Fail;
 
-/// Ones at both ends of vectors and around the edges of words.
+/// Ones at both ends of vectors and around the boundaries of words.
 const ONES: [u32; 7] = [0, 62, 63, 64, 65, 126, 127];
 
-/// A vector of `f` places with ones at those of these that are places.
+/// A vector of `f` places with ones at those of the given numbers that are places.
 fn vector(alloc: Global, f: u32, ones: &[u32]) -> Result<Bits, NoMemory> {
     if f == 0 || f > 49152 {
         return Err(NoMemory);
@@ -148,8 +148,8 @@ fn inverted_bits_both_ways(rt: HostRuntime) -> Result<(), Fail> {
     Ok(())
 }
 
-/// The bits of a vector at the ones, from the highest place down, and those of it as a mask, inverted, from the
-/// lowest up, each in one byte.
+/// The bits of a vector at the ones, from the highest place down, and the inverted bits of it as a mask, from the
+/// lowest place up, each in one byte.
 #[test]
 fn bits_across_words(rt: HostRuntime) -> Result<(), Fail> {
     let rows: [(u32, u8, u8); 6] = [

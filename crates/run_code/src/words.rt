@@ -1,5 +1,5 @@
-//! The bits of one word at the ones of another, in either order. Each loop goes from one to one, by the lowest
-//! one that is left of a word, so a word of zeros costs one comparison.
+//! The bits of one word at the ones of another, in either order. Each loop visits the ones in turn, always the lowest
+//! that is left in a word, so a word of zeros costs one comparison.
 
 ghost use Rattle.std.specs.Prelude.{◌≡◌, ℕ, ◌+◌, ◌*◌, ◌^◌, ◌<◌, ◌≤◌, ◌++◌, length, take};
 ghost use Rattle.std.specs.Int.{bit_at};
@@ -9,7 +9,7 @@ ghost use Rattle.run_code.specs.Extraction.{extract, bits_up};
 
 use bit_vectors::BitPen;
 
-/// The number `held`, and then the bits of `bits` at the ones of `at`, that of the least weight first, as one number.
+/// The number `held`, followed by the bits of `bits` at the ones of `at`, the least weight first, as one number.
 pub fn gathered(held: u64, bits: u64, at: u64) -> u64
     requires { (held + 1) * 2 ^ count_ones at ≤ 2 ^ 64 }
     ensures { result ≡ held * 2 ^ count_ones at
@@ -24,7 +24,7 @@ pub fn gathered(held: u64, bits: u64, at: u64) -> u64
     gathered
 }
 
-/// `word` with the first bits of `ahead` at the ones of `at`, the first at the one of the least weight.
+/// `word` with the first bits of `ahead` at the ones of `at`, the first bit at the 1 of the least weight.
 pub fn spread(word: u64, at: u64, ahead: u64) -> u64
     ensures bits { extract (number_bits 64 result) (number_bits 64 at)
         ≡ take (count_ones at) (number_bits 64 ahead) }
@@ -43,7 +43,7 @@ pub fn spread(word: u64, at: u64, ahead: u64) -> u64
     made
 }
 
-/// Appends the bits of `bits` at the ones of `at`, that of the greatest weight first.
+/// Appends the bits of `bits` at the ones of `at`, the bit of the greatest weight first.
 pub fn put_gathered_up(pen: &mut BitPen, bits: u64, at: u64)
     requires { length pen.old.bits + count_ones at ≤ pen.old.room }
     ensures bits { pen.new.bits
@@ -55,7 +55,8 @@ pub fn put_gathered_up(pen: &mut BitPen, bits: u64, at: u64)
     }
 }
 
-/// The bits of `bits` at the ones of `at`, as a number of so many bits, that of the greatest weight first.
+/// The bits of `bits` at the ones of `at`, as a number with one bit for each of these ones, the bit of the greatest
+/// weight first.
 fn gathered_up(bits: u64, at: u64) -> u64
     ensures bits { number_bits (count_ones at) result
         ≡ bits_up (number_bits 64 bits) (number_bits 64 at) }
@@ -72,7 +73,7 @@ fn gathered_up(bits: u64, at: u64) -> u64
     gathered
 }
 
-/// The word that has the bits of `number` at the ones of `at`, its lowest bit at the one of the least
+/// The word that has the bits of `number` at the ones of `at`, its lowest bit at the 1 of the least
 /// weight, and zeros elsewhere.
 pub fn spread_up(number: u64, at: u64) -> u64
     ensures bits { bits_up (number_bits 64 result) (number_bits 64 at)

@@ -31,7 +31,7 @@ third_false false b c x e = refl
 leb-false : (m n : ℕ) → n < m → nat_le m n ≡ false
 leb-false m n h = grind (arith, nat_tests)
 
--- where `parse` refuses a plain decimal, it is above every number of 32 bits
+-- if `parse` refuses a plain decimal, it is above every number of 32 bits
 pub number_of-refused : {E : Type 0} (low high : ℕ) (bs : List ℕ) (r : Result ℕ E) → high < 2 ^ 32 → ParsesUnsigned 32 10 bs r → is_plain_decimal bs ≡ true → result_ok r ≡ None → number_of low high bs ≡ None
 number_of-refused low high bs (Ok x) small parses plain none = absurd cc
 number_of-refused low high bs (Err e) small parses plain none =
@@ -47,7 +47,7 @@ ascii [] h i = omega arith
 ascii (c ∷ cs) h zero = below_128 c (both_first _ _ h)
 ascii (c ∷ cs) h (suc i) = ascii cs (both_second _ _ h) i
 
--- a text that is no UTF-8 is no plain decimal
+-- a text that isn't UTF-8 is not a plain decimal
 pub number_of-no_text : (low high : ℕ) (bs : List ℕ) → ¬ IsUtf8 bs → number_of low high bs ≡ None
 number_of-no_text low high bs foreign = go (is_plain_decimal bs) refl where
   go : (plain : Bool) → is_plain_decimal bs ≡ plain → number_of low high bs ≡ None

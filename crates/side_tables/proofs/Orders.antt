@@ -12,7 +12,7 @@ use Rattle.side_tables.specs.Spans.{names, IsSpan}
 use Rattle.side_tables.specs.Tables.{ArePlacesNaming, RowNames}
 use Rattle.side_tables.specs.Order.{IsOrderOf, IsEntryOf, AreEntriesOf, AreOrdered, HaveReaches, IsNextAt, SameButReach, IsSameButReach, entry_at, span_at, places_of, no_entry, places_naming, reach_of, middle_of, before_middle, behind_middle}
 
--- the place of an entry, as one of the places
+-- the place of an entry, as a number among the places
 pub place_among : (entries : List OrderEntry) (k d : ℕ) → k < length entries → get_or (places_of entries) k d ≡ (entry_at entries k).place
 place_among entries k d inside = get_or-map (λ (e : OrderEntry). e.place) entries k no_entry d inside
 
@@ -59,7 +59,7 @@ AreOrdered-behind entries order = record {
 
 -- ---- the next entry
 
--- all begin after the number
+-- all entries begin after the number
 pub none_begun : (entries : List OrderEntry) (start t : ℕ) → AreOrdered entries → t < (entry_at entries 0).span.first → IsNextAt entries start t None
 none_begun entries start t order early = λ k from inside.
     let later = order.rising 0 k no_entry (omega arith) inside in
@@ -72,7 +72,7 @@ none_reaches entries start t order low = λ k from inside.
     let reach = (order.reaches 1).0 (omega arith) in
     not_late (entry_at entries k).span t (omega arith)
 
--- none up to the middle
+-- no entry up to the middle names it
 none_to_middle : (entries : List OrderEntry) (start t : ℕ) → IsNextAt (before_middle entries) start t None → (start ≤ length entries / 2 → names (middle_of entries).span t ≡ false)
     → (j : ℕ) → start ≤ j → j < length entries / 2 + 1 → names (entry_at entries j).span t ≡ false
 none_to_middle entries start t none not j from to =
@@ -87,7 +87,7 @@ behind_at entries j from =
     let same : length entries / 2 + 1 + (j - (length entries / 2 + 1)) ≡ j = omega arith in
     get_or-drop (length entries / 2 + 1) entries (j - (length entries / 2 + 1)) no_entry ∙ rw same refl
 
--- what is next behind the middle is next, where none up to the middle is
+-- the next one after the middle is the next one, if none up to the middle is
 pub next_behind : (entries : List OrderEntry) (start t k : ℕ) → IsNextAt (before_middle entries) start t None → (start ≤ length entries / 2 → names (middle_of entries).span t ≡ false)
     → IsNextAt (behind_middle entries) (start - (length entries / 2 + 1)) t (Some k) → IsNextAt entries start t (Some (length entries / 2 + 1 + k))
 next_behind entries start t k none not next =
@@ -111,7 +111,7 @@ none_behind entries start t none not rest =
       | inr behind ↦ rw (behind_at entries j behind) at (rest (j - (length entries / 2 + 1)) (omega arith) (rw size (omega arith)))
     ]
 
--- ---- those that lie over a number
+-- ---- the entries that name the number
 
 filter_nothing : {X : Type 0} (p : X → Bool) (xs : List X) (d : X) → ((k : ℕ) → k < length xs → p (get_or xs k d) ≡ false) → filter p xs ≡ []
 filter_nothing p [] d none = refl

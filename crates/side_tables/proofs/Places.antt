@@ -1,4 +1,4 @@
--- What the places of the rows that name a number say of the rows.
+-- What the places of the rows that name a number say about the rows.
 use Rattle.std.proofs.Common.{◌≡◌, ℕ, zero, suc, ◌<◌, ◌≤◌, max, Bool, true, false, ◌||◌, cond, List, [], ◌∷◌, ◌++◌, length, fold, get_or, find, reverse, Option, Some, None, All, Contains, refl, sym, ap, ◌∙◌, arith, inl, inr}
 use Rattle.std.specs.List.{list_any, reduce}
 use Rattle.std.proofs.lemmas.Bool.{cases_lt, false_from_ne_true}
@@ -14,7 +14,7 @@ use Rattle.side_tables.specs.Rows.{flag_span, flags_of, gives_flag, last_row}
 use Rattle.side_tables.specs.Tables.{ArePlacesNaming, RowNames}
 use Rattle.side_tables.proofs.Orders.{both}
 
--- a row names what the span at its place names
+-- a row names exactly what the span at its place names
 named : {R : Type 0} (span_of : R → Span) (rows : List R) (t k : ℕ) (d : R) → k < length rows → RowNames span_of rows t k → names (span_of (get_or rows k d)) t ≡ true
 named span_of rows t k d inside is = rw (get_or-map span_of rows k d no_span inside) at is
 
@@ -31,7 +31,7 @@ bool_same false false to from = refl
 abbrev pub no_row : FlagRow
 no_row = record { first = 0; last = 0; step = 0; flags = record { p = false; f = false; r = false } }
 
--- the flags of the rows at places, joined
+-- the flags of the rows at these places, combined
 abbrev pub flags_at : List FlagRow → List ℕ → Flags
 flags_at rows places = record {
   p = list_any (λ place. (get_or rows place no_row).flags.p) places;
@@ -50,7 +50,7 @@ flag_more flag rows places place =
 together : (flags others : Flags) → flags.p ≡ others.p → flags.f ≡ others.f → flags.r ≡ others.r → flags ≡ others
 together flags others p f r = λ i. record { p = p i; f = f i; r = r i }
 
--- one place more
+-- one more place
 pub flags_at-more : (rows : List FlagRow) (places : List ℕ) (place : ℕ) (flags new : Flags) → flags ≡ flags_at rows places
     → new.p ≡ (flags.p || (get_or rows place no_row).flags.p) → new.f ≡ (flags.f || (get_or rows place no_row).flags.f) → new.r ≡ (flags.r || (get_or rows place no_row).flags.r)
     → new ≡ flags_at rows (places ++ place ∷ [])
@@ -79,7 +79,7 @@ flags_of-places rows t places are = rw (flag_at (λ flags. flags.p) rows t place
 
 -- ---- the last row that passes a test
 
--- what was found, or what a last element gives
+-- what was found, or what the last element gives
 abbrev or_last : {X : Type 0} → (X → Bool) → X → Option X → Option X
 or_last p y None = cond (p y) (Some y) None
 or_last p y (Some x) = Some x

@@ -1,4 +1,4 @@
--- The records of a text: each takes some of it, and those read so far are the first.
+-- The records of a text: each uses up some of it, and those read so far are the first ones.
 use Rattle.std.proofs.Common.{◌≡◌, ℕ, zero, suc, ◌+◌, ◌<◌, ◌≤◌, ◌==◌, Bool, true, false, cond, List, [], ◌∷◌, ◌++◌, length, Option, Some, None, refl, ap, arith}
 use Rattle.csv.specs.Machine.{Read, next_record, step, in_field, start_field, start_record, ends_at_end, is_end, fields_after, field_after, ends_with, carriage_return}
 use Rattle.csv.specs.Reading.{Reached, records_from, default_config}
@@ -7,9 +7,9 @@ use Rattle.csv.specs.declared.parser.State.TheVariants as st
 use Rattle.csv.specs.declared.parser.Action.{Action}
 use Rattle.csv.specs.declared.parser.Action.TheVariants as act
 
--- ---- after a record the end of the text ends none
+-- ---- after a record the end of the text ends no further record
 
--- where the action ends the record, the state is one in which the end of the text ends none
+-- if the action ends the record, the end of the text ends no further record in the new state
 record IsQuiet (after : State × Action) : Type 0 where
   open_end : is_end after.1 ≡ true → ends_at_end after.0 ≡ false
 
@@ -45,9 +45,9 @@ step-quiet st.AfterQuote c = IsQuiet-cond _ _ _ (not_end st.InQuoted act.Copy re
 step-quiet st.InComment c = IsQuiet-cond _ _ _ (not_end st.StartRecord act.Skip refl) (not_end st.InComment act.Skip refl)
 step-quiet st.AfterCr c = IsQuiet-cond _ _ _ (not_end st.StartRecord act.Skip refl) (start_record-quiet c)
 
--- ---- a record takes some of the text
+-- ---- a record uses up some of the text
 
--- what is left behind a record, and the state
+-- what is left after a record, and the state
 record Takes (xs : List ℕ) (p : Read) : Type 0 where
   shorter : length p.2 ≤ length xs
   quiet : ends_at_end p.1 ≡ false
@@ -112,7 +112,7 @@ records-reached (suc n) m s s2 xs ys (row ∷ rows) size r =
     let rest = records-reached n m r.0.1 s2 r.0.2 ys rows (omega arith) r.3 in
     rw (r.1, r.2) (ap (λ more. r.0.0 ∷ more) rest)
 
--- behind the last there are none
+-- after the last there are none
 pub records-none : (n : ℕ) (s : State) (xs : List ℕ) → next_record default_config s [] [] xs ≡ None → records_from default_config n s xs ≡ []
 unfolding records_from
 records-none zero s xs none = refl

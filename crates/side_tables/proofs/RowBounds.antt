@@ -57,7 +57,7 @@ robust_row_of-most fields =
 
 -- ---- the rows of records
 
--- what a row says, where it is one of required robustness
+-- what a row says, if it is a row of required robustness
 abbrev IsMost : ScheduleRow → Type 0
 IsMost (row.Flags flags) = Unit {0}
 IsMost (row.Robust robust) = HasMost robust

@@ -14,7 +14,7 @@ pub record AreOfKinds (rows : List ScheduleRow) (flags : List FlagRow) (robust :
   pub flags_are : flags ≡ filter_map flag_row rows
   pub robust_are : robust ≡ filter_map robust_row rows
 
--- one row more
+-- one more row
 pub AreOfKinds-flags : (rows : List ScheduleRow) (flags : List FlagRow) (robust : List RobustRow) (more : FlagRow) → AreOfKinds rows flags robust → AreOfKinds (rows ++ row.Flags more ∷ []) (flags ++ more ∷ []) robust
 AreOfKinds-flags rows flags robust more are = record {
   flags_are = rw (filter_map-append flag_row rows (row.Flags more ∷ []), are.flags_are) refl;
@@ -27,7 +27,7 @@ AreOfKinds-robust rows flags robust more are = record {
   robust_are = rw (filter_map-append robust_row rows (row.Robust more ∷ []), are.robust_are) refl;
 }
 
--- right rows are right of their kinds
+-- right rows are right for their kinds
 pub flags_right : (rows : List ScheduleRow) → All IsScheduleRow rows → All IsFlagRow (filter_map flag_row rows)
 flags_right [] all = All-nil IsFlagRow
 flags_right (row.Flags flags ∷ rows) all =

@@ -1,4 +1,4 @@
--- Records that are rows, and the first that is none.
+-- Records that are rows, and the first record that is not.
 use Rattle.std.proofs.Common.{Bor, ◌≡◌, ℕ, suc, ◌+◌, ◌-◌, ◌<◌, ◌≤◌, Bool, true, false, cond, List, [], ◌∷◌, ◌++◌, length, map, Option, Some, None, is_none, refl, sym, ap, ◌∙◌, arith, append-nil, append_assoc}
 use Rattle.std.specs.List.{filter_map, position_from}
 use Rattle.std.proofs.lemmas.List.{map-append, length-map, length-append}
@@ -75,7 +75,7 @@ AreRowsOf-end row_of text raw rows s ys within good reached none =
     let all : records_of text ≡ raw = records-reached (length (strip_bom text) + 1) (length (strip_bom text) + 1 - length raw) st.StartRecord s (strip_bom text) ys raw left reached ∙ rw (records-none (length (strip_bom text) + 1 - length raw) s ys none) (append-nil raw) in
     record { within = within; right = rw all (good_none row_of raw rows 1 good); are = rw all (sym (good_rows row_of raw rows good)) }
 
--- a record that is no row behind others
+-- a record that is not a row, after others that are
 bad_row-reached : {R : Type 0} (row_of : List (List ℕ) → Option R) (text : List ℕ) (raw : List (List (List ℕ))) (rows : List R) (bad : List (List ℕ)) (s : State) (ys : List ℕ)
     → AreGood row_of raw rows → row_of bad ≡ None → Reached default_config st.StartRecord (strip_bom text) (raw ++ bad ∷ []) s ys
     → (bad_row row_of text ≡ Some (length rows + 1)) × (length rows < length text)
@@ -90,7 +90,7 @@ bad_row-reached row_of text raw rows bad s ys good none reached =
     let number : 1 + length raw ≡ length rows + 1 = omega arith in
     (rw all (bad_at row_of raw rows 1 bad more good none ∙ ap Some number), omega arith)
 
--- the same of a reader that reads it
+-- the same for a reader that reads it
 pub bad_row-read : {R : Type 0} (row_of : List (List ℕ) → Option R) (text : Bor (List ℕ)) (old new : Reader (Bor (List ℕ))) (y : List ℕ) (raw : List (List (List ℕ))) (rows : List R) (bad : List (List ℕ))
     → old.config ≡ default_config → source_of (λ s. Some s.now) old ≡ Some y → Reached default_config st.StartRecord (strip_bom text.now) raw old.state y
     → AreGood row_of raw rows → row_of bad ≡ None → ReadRecord (λ s. Some s.now) old new true bad
@@ -99,7 +99,7 @@ bad_row-read row_of text old new y raw rows bad config source reached good none 
     let m = rows-more (λ (s : Bor (List ℕ)). Some s.now) old new bad default_config st.StartRecord (strip_bom text.now) y raw config source reached read in
     bad_row-reached row_of text.now raw rows bad new.state m.0 good none m.2
 
--- what a reader that takes records of any length can't read has no fault of its own
+-- if a reader that takes records of any length can't read one, the record itself has no fault
 pub CanCome-flexible : {R : Type 0} (rem : R → Option (List ℕ)) (old new : Reader R) (k : ErrorKind) → is_flexible old ≡ true → ExplainsRead rem old new false k → CanCome k
 CanCome-flexible rem old new (kind.Io e) flexible why = tt
 CanCome-flexible rem old new kind.OutOfMemory flexible why = tt

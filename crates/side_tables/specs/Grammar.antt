@@ -32,7 +32,7 @@ span_from fields place = do
   step ← number_at fields (place + 2) 1
   Some (record { first = first; last = last; step = step })
 
--- how often a letter stands in a text
+-- how often a letter occurs in a text
 abbrev pub count_of : List ℕ → ℕ → ℕ
 count_of letters letter = count_by (λ other. other == letter) letters
 
@@ -42,7 +42,7 @@ has letters letter = nat_le 1 (count_of letters letter)
 abbrev pub is_letter : ℕ → Bool
 is_letter letter = (letter == 112) || ((letter == 102) || (letter == 114))
 
--- no letter but `p`, `f` and `r`, each at most once, and one at least
+-- only the letters `p`, `f` and `r`, each at most once, and at least one
 abbrev pub are_letters : List ℕ → Bool
 are_letters letters =
     nat_le 1 (length letters) && (list_all is_letter letters
@@ -95,7 +95,7 @@ repeat_row_of fields =
 abbrev pub copy_row_of : List (List ℕ) → Option CopyRow
 copy_row_of fields = field_at fields 0 >>= λ word. if bytes_eq word (codes "drop") then drop_row_of fields else if bytes_eq word (codes "repeat") then repeat_row_of fields else None
 
--- the rows of a schedule's and of a script's text, and the number of the first record that is none
+-- the rows of a schedule's and of a script's text, and the number of the first record that is not a row
 abbrev pub schedule_rows_of : List ℕ → ScheduleRows
 schedule_rows_of text = by_kind (rows_of schedule_row_of text)
 

@@ -1,4 +1,4 @@
--- Numbers as words give them.
+-- Numbers as texts write them.
 use Rattle.std.specs.Prelude.{ℕ, Bool, false, not, ◌&&◌, ◌==◌, nat_le, List, [], ◌∷◌, Option, Some, None, if◌then◌else◌}
 use Rattle.std.specs.Str.{all_ascii_digits}
 use Rattle.std.specs.Str.Parse.{digits_value}
@@ -9,7 +9,7 @@ is_plain_decimal [] = false
 is_plain_decimal (digit ∷ []) = all_ascii_digits (digit ∷ [])
 is_plain_decimal (digit ∷ next ∷ rest) = not (digit == 48) && all_ascii_digits (digit ∷ next ∷ rest)
 
--- the number that the text says, where it is a plain decimal from low to high
+-- the number that the text says, if it is a plain decimal from low to high
 abbrev pub number_of : ℕ → ℕ → List ℕ → Option ℕ
 number_of low high text =
     if is_plain_decimal text && nat_le low (digits_value 10 text) && nat_le (digits_value 10 text) high

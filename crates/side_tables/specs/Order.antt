@@ -26,7 +26,7 @@ pub record IsEntryOf (spans : List Span) (entry : OrderEntry) : Type 0 where
 abbrev pub places_of : List OrderEntry → List ℕ
 places_of entries = map (λ entry. entry.place) entries
 
--- entries of spans, and one for each
+-- entries of spans, with exactly one for each span
 pub record AreEntriesOf (spans : List Span) (entries : List OrderEntry) : Type 0 where
   pub own : All (IsEntryOf spans) entries
   pub each : (place : ℕ) → place < length spans → Contains (places_of entries) place
@@ -36,7 +36,7 @@ abbrev pub reach_of : List OrderEntry → ℕ
 reach_of [] = 0
 reach_of (entry ∷ entries) = max entry.span.last (reach_of entries)
 
--- the middle one of entries, and the halves before it and behind it
+-- the middle one of the entries, and the halves before it and after it
 abbrev pub middle_of : List OrderEntry → OrderEntry
 middle_of entries = entry_at entries (length entries / 2)
 
@@ -46,7 +46,7 @@ before_middle entries = take (length entries / 2) entries
 abbrev pub behind_middle : List OrderEntry → List OrderEntry
 behind_middle entries = drop (length entries / 2 + 1) entries
 
--- The middle one's reach is that of all, and so it is in the halves before and behind it, and in theirs, down to a depth.
+-- The middle one's reach is that of all, and so it is in the halves before and after it, and in theirs, down to a depth.
 abbrev pub HaveReachesTo : ℕ → List OrderEntry → Type 0
 HaveReachesTo zero entries = Unit {0}
 HaveReachesTo (suc depth) entries = (0 < length entries → (middle_of entries).reach ≡ reach_of entries)

@@ -1,4 +1,4 @@
--- What rows say of a packet number.
+-- What rows say about a packet number.
 use Rattle.std.specs.Prelude.{◌≡◌, ℕ, ◌<◌, ◌≤◌, Bool, false, ◌&&◌, List, find, reverse, Option, Some, None}
 use Rattle.std.specs.List.{filter_map, list_any}
 use Rattle.std.specs.Option.{option_map, option_map_or}
@@ -43,7 +43,7 @@ pub record ScheduleRows : Type 0 where
   pub flags : List FlagRow
   pub robust : List RobustRow
 
--- the row of flags that a row of a schedule is, and the row of required robustness
+-- the flag row that a row of a schedule is, and the row of required robustness that it is
 abbrev pub flag_row : ScheduleRow → Option FlagRow
 flag_row (row.Flags flags) = Some flags
 flag_row (row.Robust robust) = None
@@ -56,11 +56,11 @@ robust_row (row.Robust robust) = Some robust
 abbrev pub by_kind : List ScheduleRow → ScheduleRows
 by_kind rows = record { flags = filter_map flag_row rows; robust = filter_map robust_row rows }
 
--- the flags that a row gives to the number: its own where it names it
+-- the flags that a row gives to the number: its own if it names the number
 abbrev pub gives_flag : (Flags → Bool) → ℕ → FlagRow → Bool
 gives_flag flag t row = names (flag_span row) t && flag row.flags
 
--- the flags of all rows that name the number, joined
+-- the flags of all rows that name the number, combined
 abbrev pub flags_of : List FlagRow → ℕ → Flags
 flags_of rows t = record {
   p = list_any (gives_flag (λ flags. flags.p) t) rows;
@@ -75,11 +75,11 @@ no_flags = record { p = false; f = false; r = false }
 abbrev pub last_row : {R : Type 0} → (R → Span) → List R → ℕ → Option R
 last_row span_of rows t = find (λ row. names (span_of row) t) (reverse rows)
 
--- the required robustness that the last row that names the number gives, and none where none does
+-- the required robustness that the last row that names the number gives, or none if none does
 abbrev pub robust_of : List RobustRow → ℕ → Option ℕ
 robust_of rows t = option_map (λ row. row.value) (last_row robust_span rows t)
 
--- the copies that the last row that names the number gives, and one where none does
+-- the copies that the last row that names the number gives, or one if none does
 abbrev pub copies_of : List CopyRow → ℕ → ℕ
 copies_of rows t = option_map_or (λ row. row.copies) (last_row copy_span rows t) 1
 

@@ -16,7 +16,7 @@ records_of text = records default_config (strip_bom text)
 abbrev pub rows_of : {R : Type 0} → (List (List ℕ) → Option R) → List ℕ → List R
 rows_of row_of text = filter_map row_of (records_of text)
 
--- the number of the first record of a text that is no row, counted from 1
+-- the number of the first record of a text that is not a row, counted from 1
 abbrev pub bad_row : {R : Type 0} → (List (List ℕ) → Option R) → List ℕ → Option ℕ
 bad_row row_of text = position_from (λ fields. is_none (row_of fields)) 1 (records_of text)
 
@@ -26,7 +26,7 @@ pub record AreRowsOf {R : Type 0} (row_of : List (List ℕ) → Option R) (text 
   pub right : bad_row row_of text ≡ None
   pub are : rows ≡ rows_of row_of text
 
--- what can go wrong while the records of a text in memory are read: nothing that a record is
+-- what can go wrong while the records of a text in memory are read: nothing that is due to the records
 abbrev pub CanCome : ErrorKind → Type 0
 CanCome (kind.Io e) = Unit {0}
 CanCome kind.OutOfMemory = Unit {0}
@@ -35,7 +35,7 @@ CanCome (kind.Utf8 pos err) = ⊥
 CanCome (kind.Serialize why) = ⊥
 CanCome (kind.Deserialize pos err) = ⊥
 
--- why a text is none of rows: its length, or, within the limit, the first record that is no row, or want of memory
+-- why a text is not made of rows: its length, or, within the limit, the first record that is not a row or lack of memory
 abbrev pub IsFaultOf : {R : Type 0} → (List (List ℕ) → Option R) → List ℕ → SideFault → Type 0
 IsFaultOf row_of text TooLong = 1048576 < length text
 IsFaultOf row_of text (Row row) = (length text ≤ 1048576) × (bad_row row_of text ≡ Some row)

@@ -4,7 +4,7 @@ ghost use Rattle.std.specs.Prelude.{◌≡◌, ◌<◌, ◌≤◌, IfSome};
 ghost use Rattle.std.specs.Str.{all_ascii_digits};
 ghost use Rattle.side_tables.specs.Numbers.{is_plain_decimal, number_of};
 
-/// Whether there is no byte but ASCII digits.
+/// Whether every byte is an ASCII digit.
 fn has_only_digits(text: &[u8]) -> bool
     ensures { result ≡ all_ascii_digits text.now }
 {

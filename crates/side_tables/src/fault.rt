@@ -1,4 +1,4 @@
-//! Why a text is no table.
+//! Why a text is not a table.
 
 ghost use Rattle.std.specs.Prelude.{◌≡◌};
 ghost use Rattle.side_tables.specs.declared.fault.SideFault.TheVariants as fault;
@@ -13,10 +13,10 @@ pub enum SideFault {
     /// The text has more than 1,048,576 bytes.
     #[error("the text is too long")]
     TooLong,
-    /// The record with this number, counted from 1, is the first that is no row.
+    /// The record with this number, counted from 1, is the first that is not a row.
     #[error("row {row} is wrong")]
     Row { row: u32 },
-    /// Memory was refused.
+    /// Memory could not be allocated.
     #[error("out of memory")]
     NoMemory,
 }

@@ -159,7 +159,7 @@ fn repeat_row(fields: &ByteRecord) -> Option<CopyRow>
     })
 }
 
-/// The first and last number and the step that three fields say.
+/// The first number, the last number and the step that three fields say.
 fn span_from(fields: &ByteRecord, place: usize) -> Option<Span>
     requires { place < 4 }
     ensures span { result ≡ span_from (fields_of fields.now) place }
@@ -171,7 +171,7 @@ fn span_from(fields: &ByteRecord, place: usize) -> Option<Span>
     Some(Span { first, last, step })
 }
 
-/// The number that a field says, where it is not below a least one.
+/// The number that a field says, if it is not below a least one.
 fn number_at(fields: &ByteRecord, place: usize, least: u32) -> Option<u32>
     ensures number { result ≡ number_at (fields_of fields.now) place least }
     ensures least { IfSome result (λ number. least ≤ number) }
@@ -193,7 +193,7 @@ fn flags_named(letters: &[u8]) -> Option<Flags>
     })
 }
 
-/// Whether there are no letters but `p`, `f` and `r`, each at most once, and one at least.
+/// Whether the letters are only `p`, `f` and `r`, each at most once, and at least one.
 fn are_letters(letters: &[u8]) -> bool
     ensures { result ≡ are_letters letters.now }
 {
@@ -204,7 +204,7 @@ fn are_letters(letters: &[u8]) -> bool
         && count_of(letters, b'r') <= 1
 }
 
-/// Whether there is no byte but `p`, `f` and `r`.
+/// Whether every byte is `p`, `f` or `r`.
 fn has_only_letters(letters: &[u8]) -> bool
     ensures { result ≡ list_all is_letter letters.now }
 {
@@ -216,7 +216,7 @@ fn has_only_letters(letters: &[u8]) -> bool
     true
 }
 
-/// How often a letter stands there.
+/// How often a letter occurs.
 fn count_of(letters: &[u8], letter: u8) -> usize
     ensures { result ≡ count_of letters.now letter }
 {

@@ -4,7 +4,7 @@ ghost use Rattle.std.specs.Prelude.{◌≤◌, ℕ, List, IfSome};
 ghost use Rattle.side_tables.specs.Grammar.{schedule_rows_of};
 ghost use Rattle.side_tables.specs.Rows.{robust_of};
 
-/// The rows of a text give no packet a required robustness above 7, also those of a text that has bad rows.
+/// The rows of a text give no packet a required robustness above 7. This holds also for a text with bad rows.
 pub fn robustness_of_texts()
     ensures { (text : List ℕ) (t : ℕ) → IfSome (robust_of (schedule_rows_of text).robust t)
         (λ robust. robust ≤ 7) }

@@ -1,4 +1,4 @@
-//! A schedule that is asked for one packet after the other.
+//! A schedule that is asked about one packet after another.
 
 ghost use Rattle.std.specs.Prelude.{◌≡◌, ◌≤◌, IfSome};
 ghost use Rattle.side_tables.specs.Rows.{flags_of, robust_of};
@@ -10,13 +10,13 @@ use std::marker::Model;
 /// What a schedule gives a packet.
 #[derive(Clone, Copy, Debug, PartialEq, Eq)]
 pub struct Planned {
-    /// The flags of all rows of flags that name it, joined.
+    /// The flags of all flag rows that name it, combined.
     pub flags: Flags,
     /// The required robustness, if a row gives it one.
     pub robust: Option<u8>,
 }
 
-/// A schedule, and numbers of packets that it gives nothing, which are answered without a look at its rows. Contracts
+/// A schedule, and numbers of packets that it gives nothing, which are answered without looking at its rows. Contracts
 /// see the rows.
 #[derive(Debug, Drop)]
 pub struct Lookup {
@@ -36,7 +36,7 @@ impl Model for Lookup {
 }
 
 impl Lookup {
-    /// This schedule.
+    /// A lookup of this schedule.
     pub fn new(schedule: Schedule) -> Lookup
         ensures { result ≡ schedule }
     {

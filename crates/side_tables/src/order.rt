@@ -1,4 +1,4 @@
-//! Rows in the order of their first numbers, so that those that name a number are found without a walk over all.
+//! Rows in the order of their first numbers, so that those that name a number are found without a walk over all rows.
 
 ghost use Rattle.std.specs.Prelude.{◌≡◌, ℕ, ◌<◌, ◌≤◌, [], List, map, All, IfOk};
 ghost use Rattle.std.specs.Iterator.{YieldsFirst, item_count};
@@ -13,8 +13,8 @@ use bit_vectors::NoMemory;
 use std::alloc::Global;
 use std::marker::Model;
 
-/// The numbers that a row names, its place among the rows, and how far the entries reach of the half whose middle this
-/// one is.
+/// The numbers that a row names, its place among the rows, and how far the entries reach in the half that has this one in
+/// the middle.
 #[derive(Clone, Copy, Debug)]
 pub struct OrderEntry {
     pub span: Span,
@@ -22,7 +22,7 @@ pub struct OrderEntry {
     pub place: usize,
 }
 
-/// The places of the rows that name a number, one after the other. Contracts see those that are left.
+/// The places of the rows that name a number, one after another. Contracts see those that are left.
 #[derive(Drop)]
 pub struct PlacesAt<'a> {
     order: &'a [OrderEntry],
@@ -73,7 +73,7 @@ pub fn places_at<'a>(order: &'a [OrderEntry], t: u32) -> PlacesAt<'a>
     PlacesAt { order, start: 0, t }
 }
 
-/// Makes the entries of spans, in any order, their order.
+/// Orders entries of spans, which may be in any order.
 fn put_in_order(entries: &mut [OrderEntry])
     ensures { (spans : List Span) → AreEntriesOf spans entries.old → IsOrderOf spans entries.new }
 {
@@ -81,7 +81,7 @@ fn put_in_order(entries: &mut [OrderEntry])
     set_reaches(entries);
 }
 
-/// An entry for each row, in their order.
+/// An entry for each row, in the order of the rows.
 fn entries_of<R: TableRow>(alloc: Global, rows: &[R]) -> Result<Vec<OrderEntry>, NoMemory>
     requires { All R.is_right rows.now }
     ensures { IfOk result (λ entries. AreEntriesOf (map R.span_of rows.now) entries.items) }
@@ -98,7 +98,7 @@ fn entries_of<R: TableRow>(alloc: Global, rows: &[R]) -> Result<Vec<OrderEntry>,
     Ok(entries)
 }
 
-/// Puts the entries in the order of their first numbers.
+/// Sorts the entries by their first numbers.
 fn sort(entries: &mut [OrderEntry])
     ensures same { (spans : List Span) → AreEntriesOf spans entries.old
         → AreEntriesOf spans entries.new }
@@ -107,7 +107,7 @@ fn sort(entries: &mut [OrderEntry])
     entries.sort_unstable_by_key(|entry| entry.span.first);
 }
 
-/// Gives the middle entry of each half the reach of that half, and says how far all reach.
+/// Stores in the middle entry of each half the reach of that half, and says how far all entries reach.
 fn set_reaches(entries: &mut [OrderEntry]) -> u32
     ensures same { SameButReach entries.old entries.new }
     ensures reaches { HaveReaches entries.new }
@@ -125,7 +125,7 @@ fn set_reaches(entries: &mut [OrderEntry]) -> u32
     reach
 }
 
-/// How many entries are looked at one after the other.
+/// How many entries are looked at one after another.
 const FEW: usize = 8;
 
 /// The first entry of an order, from a place on, that names the number.
@@ -164,7 +164,7 @@ fn next_of_few(order: &[OrderEntry], start: usize, t: u32) -> Option<usize>
     None
 }
 
-/// A number up to which no entry names one from `t` on. Only a few entries are looked at; of more it tells nothing.
+/// A number `result` such that no entry names one in `t..result`. If there are more than a few entries, it is `t`.
 pub fn next_named(order: &[OrderEntry], t: u32) -> u32
     requires { AreOrdered order.now }
     ensures { (n : ℕ) → t ≤ n → n < result → places_naming n order.now ≡ [] }

@@ -45,21 +45,21 @@ pub struct CopyRow {
 
 /// A row of a text: a record of comma-separated values.
 ///
-/// `row_of` is the row that a record's fields are, and `is_right` what holds of each row of a text.
+/// `row_of` gives the row that a record's fields are, and `is_right` says what holds for each row of a text.
 pub trait TextRow: Copy {
     ghost row_of: { List (List ℕ) → Option Self };
 
     ghost is_right: { Self → Type 0 };
 
-    /// The row that the record is, where it is one.
+    /// The row that the record is, if it is one.
     fn from_record(fields: &ByteRecord) -> Option<Self>
         ensures row { result ≡ row_of (fields_of fields.now) }
         ensures right { IfSome result is_right };
 }
 
-/// A row of a table: what it says holds of each packet that it names.
+/// A row of a table: what it says holds for each packet that it names.
 ///
-/// `span_of` is the numbers of the packets that a row names, and `is_right` what holds of each row of a table.
+/// `span_of` gives the numbers of the packets that a row names, and `is_right` says what holds for each row of a table.
 pub trait TableRow: Copy {
     ghost span_of: { Self → Numbers };
 

@@ -12,11 +12,11 @@ use bit_vectors::{Flags, NoMemory};
 use std::alloc::Global;
 use std::marker::Model;
 
-/// Tables of flags and of required robustness by packet number. Contracts see the rows of each, the first one first.
+/// Tables of flags and of required robustness by packet number. Contracts see the rows of each in order.
 ///
 /// A row of its text is first number, last number, step and flags, or `robust` with first number, last number, step and
 /// the required robustness: plain decimals of 32 bits, the first at most the last and the step 1 or more; one to three
-/// letters of `p`, `f` and `r`, none twice; and a robustness of 0 to 7.
+/// of the letters `p`, `f` and `r`, none twice; and a robustness of 0 to 7.
 #[derive(Debug, Drop)]
 pub struct Schedule {
     flags: Table<FlagRow>,
@@ -32,7 +32,7 @@ impl Model for Schedule {
 }
 
 impl Schedule {
-    /// The schedule that a text says, at most 1,048,576 bytes: each record of comma-separated values is a row.
+    /// The schedule that a text describes, at most 1,048,576 bytes: each record of comma-separated values is a row.
     pub fn read(alloc: Global, text: &[u8]) -> Result<Schedule, SideFault>
         ensures rows { IfOk result (λ schedule. schedule ≡ schedule_rows_of text.now) }
         ensures within { OnOk result (length text.now ≤ 1048576) }
@@ -75,7 +75,7 @@ impl Schedule {
         })
     }
 
-    /// The flags of all rows of flags that name the packet, joined.
+    /// The flags of all flag rows that name the packet, combined.
     pub fn flags(&self, t: u32) -> Flags
         ensures { result ≡ flags_of self.now.flags t }
     {
@@ -91,7 +91,7 @@ impl Schedule {
         flags
     }
 
-    /// The required robustness of the packet, at most 7: what the last `robust` row that names it says, and none where
+    /// The required robustness of the packet, at most 7: what the last `robust` row that names it says, or none if
     /// no such row does.
     pub fn robust(&self, t: u32) -> Option<u8>
         ensures robust { result ≡ robust_of self.now.robust t }
@@ -101,7 +101,7 @@ impl Schedule {
         Some(row.value)
     }
 
-    /// A number up to which no packet is given anything from `t` on. If there are many rows, it may be `t`.
+    /// A number `result` such that no packet in `t..result` is given anything. If there are many rows, it may be `t`.
     pub fn next_named(&self, t: u32) -> u32
         ensures { GiveNothing self.now t result }
     {
@@ -110,7 +110,7 @@ impl Schedule {
     }
 }
 
-/// The flags that are set in one or the other.
+/// The flags that are set in at least one of the two.
 fn joined(some: Flags, more: Flags) -> Flags
     ensures p { result.p ≡ (some.p || more.p) }
     ensures f { result.f ≡ (some.f || more.f) }

@@ -17,7 +17,7 @@ use std::alloc::Global;
 pub type Script = Table<CopyRow>;
 
 impl Table<CopyRow> {
-    /// The script that a text says, at most 1,048,576 bytes: each record of comma-separated values is a row.
+    /// The script that a text describes, at most 1,048,576 bytes: each record of comma-separated values is a row.
     pub fn read(alloc: Global, text: &[u8]) -> Result<Script, SideFault>
         ensures rows { IfOk result (λ script. script ≡ copy_rows_of text.now) }
         ensures within { OnOk result (length text.now ≤ 1048576) }
@@ -30,7 +30,7 @@ impl Table<CopyRow> {
         Ok(Table::of_rows(alloc, rows)?)
     }
 
-    /// How many copies of the packet arrive, at most 9: what the last row that names it says, and one where none does.
+    /// How many copies of the packet arrive, at most 9: what the last row that names it says, or one if none does.
     pub fn times(&self, t: u32) -> u8
         ensures copies { result ≡ copies_of self.now t }
         ensures most { result ≤ 9 }

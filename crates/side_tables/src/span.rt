@@ -20,7 +20,7 @@ impl Span {
         self.first <= t && t <= self.last && (t - self.first) % self.step == 0
     }
 
-    /// A number up to which none from `t` on is one of them.
+    /// A number `result` such that none of them is in `t..result`.
     pub fn next(&self, t: u32) -> u32
         requires { 1 ≤ self.now.step }
         ensures { (n : ℕ) → t ≤ n → n < result → names self.now n ≡ false }

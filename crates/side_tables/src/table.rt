@@ -10,7 +10,7 @@ use bit_vectors::NoMemory;
 use std::alloc::Global;
 use std::marker::Model;
 
-/// Rows that name packets by their numbers. Contracts see the rows, the first one first.
+/// Rows that name packets by their numbers. Contracts see the rows in order.
 #[derive(Debug, Drop)]
 pub struct Table<R: TableRow> {
     rows: Vec<R>,
@@ -47,7 +47,7 @@ impl<R: TableRow> Table<R> {
         Ok(Table { rows, order })
     }
 
-    /// The rows, the first one first.
+    /// The rows in order.
     pub(crate) fn rows(&self) -> &[R]
         ensures rows { result.now ≡ self.now }
         ensures right { All R.is_right self.now }
@@ -71,7 +71,7 @@ impl<R: TableRow> Table<R> {
         Some(self.rows[place])
     }
 
-    /// A number up to which no row names a packet from `t` on.
+    /// A number `result` such that no row names a packet in `t..result`.
     pub(crate) fn next_named(&self, t: u32) -> u32
         ensures { (n : ℕ) → t ≤ n → n < result → ArePlacesNaming R.span_of self.now n [] }
     {

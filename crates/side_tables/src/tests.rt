@@ -1,4 +1,4 @@
-//! Texts of schedules and scripts, with what they must say.
+//! Texts of schedules and scripts, with what they must mean.
 
 use crate::{CopyRow, FlagRow, Lookup, Schedule, Script, SideFault};
 use bit_vectors::Flags;

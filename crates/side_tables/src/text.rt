@@ -12,7 +12,7 @@ use std::alloc::Global;
 /// The most bytes of a text.
 pub const MOST_BYTES: usize = 1_048_576;
 
-/// The rows of a text, or why it is not one of rows.
+/// The rows of a text, or why the text is not made of rows.
 pub fn read_rows<R: TextRow>(alloc: Global, text: &[u8]) -> Result<Vec<R>, SideFault>
     ensures rows { IfOk result (λ rows. AreRowsOf R.row_of text.now rows.items) }
     ensures right { IfOk result (λ rows. All R.is_right rows.items) }
@@ -44,8 +44,8 @@ pub fn read_rows<R: TextRow>(alloc: Global, text: &[u8]) -> Result<Vec<R>, SideF
     Ok(rows)
 }
 
-/// What it means that `csv` can't read a record of a text in memory: memory was refused. Each record may have a number
-/// of fields of its own.
+/// What it means if `csv` can't read a record of a text in memory: an allocation was refused. Each record may have a
+/// number of fields of its own.
 fn refused(error: &csv::Error) -> SideFault
     requires { CanCome (error_kind error.now) }
     ensures { result ≡ SideFault.NoMemory }

@@ -15,7 +15,7 @@ returns-in-2-to-33-clause-bits c =
     rw (count_bits-short c.args.a (omega arith) (omega arith))
     (number_bits-cat 3 5 6 (c.args.a - 2) (omega arith) ∙ ap (λ (front : List Bool). front ++ number_bits 5 (c.args.a - 2)) six_in_three)
 
--- three ones above so many bits
+-- three ones above the given number of bits
 three_ones : (width : ℕ) → width ≤ 26 → 7 * 2 ^ width % 2 ^ 32 ≡ 7 * 2 ^ width
 three_ones width most = shl_whole 7 3 width 32 (omega arith) (omega arith)
 

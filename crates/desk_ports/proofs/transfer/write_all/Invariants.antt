@@ -2,7 +2,7 @@ use Rattle.std.proofs.Common.{◌≡◌, length, take, ◌-◌, ◌≤◌}
 use Rattle.desk_ports.specs.Meanings.{Adds, IsReadyOut}
 use Rattle.desk_ports.proofs.transfer.write_all.Given as goal
 
--- a front of the bytes was added, and nothing else happened
+-- a prefix of the bytes was added, and nothing else happened
 abbrev pub invariant-loop-sent : goal.invariant-loop-sent
 invariant-loop-sent g l =
     let meaning = g.D.Desk.meaning in

@@ -8,7 +8,7 @@ use Rattle.robust_window.proofs.Scanning.{gathered-more, gathered-none, gathered
 use Rattle.robust_window.proofs.scan.gather.Goals as goal
 use Rattle.robust_window.proofs.scan.gather.Goals.{then-is_set, else-is_set}
 
--- nothing is marked, and nothing was
+-- nothing is marked, and nothing was marked before
 pub returns-then-are_clear-2 : goal.returns-then-are_clear-2
 returns-then-are_clear-2 c =
     let f = length c.args.recent.now in

@@ -29,7 +29,7 @@ loop-index-init c =
       bits = rw (all, no_number 0) refl;
     }
 
--- words of zeros have no place
+-- words of zeros have no ones
 skip_zeros : (v : List Bool) (from m : ℕ) → ((k : ℕ) → k < m → get_or v (from + k) false ≡ false) → ones_below (from + m) v ≡ ones_below from v
 unfolding ones_below
 skip_zeros v from zero none = let here : from + 0 ≡ from = omega arith in rw here refl
@@ -48,7 +48,7 @@ loop-index-preserved-then-at-eq0 c =
     let skip = skip_word c.args.b.now c.loop-index.index c.word-at.result c.loop-index-test.true c.if-at-eq0.true c.word-at.ensures in
     record { room = i.room; most = i.most; small = i.small; fits = rw (← skip) i.fits; bits = rw (← skip) i.bits }
 
--- ---- the bits that are held, and those of a word
+-- ---- the held bits, and those of a word
 
 fits_word : (held count more : ℕ) → held < 2 ^ count → (held + 1) * 2 ^ more ≤ 2 ^ (count + more)
 fits_word held count more small =
@@ -70,7 +70,7 @@ gathered-held-requires c =
       | else-count-more-gt64 w ↦ rw w.held-is (fits_64 c.loop-index.held c.loop-index.count (count_ones c.word-at.result) i.small w.if-count-more-gt64.false)
     ]
 
--- a pen, and the bits that are held, before a word
+-- a pen, and the held bits, before a word
 record AreHeld (old : List Bool) (room : ℕ) (a b : List Bool) (index : ℕ) (bits : List Bool) (pen_room held count more : ℕ) : Type 0 where
   same_room : pen_room ≡ room
   most : count + more ≤ 64

@@ -4,7 +4,7 @@ use Rattle.run_code.specs.Extraction.{bits_at, extract}
 use Rattle.run_code.proofs.Ones.{ones_below}
 use Rattle.run_code.proofs.extraction.put_extract.Given as goal
 
--- the bits so far, those that are held, and those at the ones of the words before are all bits
+-- the bits so far, the held bits, and the bits at the ones of the words before this one are all bits
 abbrev pub invariant-loop-index : goal.invariant-loop-index
 invariant-loop-index l = record {
   room : l.pen.room ≡ l.initial.pen.room;

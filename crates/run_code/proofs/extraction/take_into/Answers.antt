@@ -35,7 +35,7 @@ so_far : (a b old left : List Bool) (from all : ℕ) → from ≤ all → length
 so_far a b old left from all within past taken =
     omega (arith, ap length taken, length-append (bits_at a (ones_span from (all - from) b)) left, length-bits_at a (ones_span from (all - from) b), places_parts b from all within past, length-places_down b)
 
--- the words that are left are some of all
+-- the words that are left are some of all words
 within : (c : After-word-at) → 64 * c.loop-index.index ≤ 64 * word_count (length c.args.b.now)
 within c = omega (arith, c.word_count-index.ensures.count)
 
@@ -78,7 +78,7 @@ returns-then-shown-count-2-clause-reading c = (
   omega (arith, ones-le 64 c.word-at.result c.word-at.type_inv, c.if-shown-count-2.true, c.min-shown.ensures, c.left.ensures.left, c.left.ensures.rest, c.pass.ensures.place, ap length c.pass.ensures.bits),
 )
 
--- the bits that a word wants are shown
+-- the bits that a word needs are shown
 record AreShown (left : List Bool) (ahead shown count : ℕ) : Type 0 where
   most : shown ≤ 64
   enough : count ≤ shown
@@ -110,7 +110,7 @@ loop-index-preserved c =
       shows = rw c.pass-in-loop-index.ensures.left (ShowsFirst-after (bits_left c.loop-index.eye) c.if-shown-count.ahead c.if-shown-count.shown (count_ones c.word-at.result) here.most here.enough here.shows);
     }
 
--- all is taken
+-- everything was taken
 all_taken : (a b old left : List Bool) (index : ℕ) → index ≡ 0 → old ≡ bits_at a (ones_span (64 * index) (64 * word_count (length b) - 64 * index) b) ++ left → old ≡ extract a b ++ left
 all_taken a b old left index none taken =
     let first : 64 * index ≡ 0 = omega arith in

@@ -6,7 +6,7 @@ use Rattle.run_code.specs.Extraction.{bits_at, SameOutside}
 use Rattle.run_code.proofs.Spreading.{ones_span, ShowsFirst}
 use Rattle.run_code.proofs.extraction.take_into.Given as goal
 
--- the bits at the ones of the words behind are taken, and the next ones are shown
+-- the bits at the ones of the words from this index on were taken, and the next ones are shown
 abbrev pub invariant-loop-index : goal.invariant-loop-index
 invariant-loop-index l = record {
   moves : MovesOn l.initial.eye l.eye;

@@ -5,7 +5,7 @@ use Rattle.run_code.specs.Extraction.{bits_at}
 use Rattle.run_code.proofs.Ones.{ones_below}
 use Rattle.run_code.proofs.inverse.put_inverse_up.Given as goal
 
--- the bits at the ones of the words before are put
+-- the bits at the ones of the words before this one were put
 abbrev pub invariant-loop-index : goal.invariant-loop-index
 invariant-loop-index l = record {
   room : l.pen.room ≡ l.initial.pen.room;

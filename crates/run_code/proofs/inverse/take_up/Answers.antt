@@ -34,7 +34,7 @@ loop-index-preserved c =
           taken_step (bits_left c.args.eye.now) (bits_left c.loop-index.eye) (bits_left c.take_word.new.self) c.loop-index.into c.set_word.new.self c.args.x.now c.loop-index.index c.spread_up.result at c.in_ok-number.number c.word-at.ensures c.set_word.ensures.word c.set_word.ensures.others c.spread_up.ensures.bits c.in_ok-number.ensures.number i.taken;
     }
 
--- too few bits are left for a word's ones
+-- too few bits are left for the ones of a word
 too_few : (old left into x : List Bool) (index at : ℕ) → at < 2 ^ 64 → IsWord x index at → old ≡ reverse (bits_at into (ones_below (64 * index) x)) ++ left → length left < count_ones at → length old < length (places_up x)
 too_few old left into x index at small is_x taken lt =
     let before = bits_at into (ones_below (64 * index) x) in

@@ -6,7 +6,7 @@ use Rattle.run_code.specs.Extraction.{bits_at}
 use Rattle.run_code.proofs.Ones.{ones_below}
 use Rattle.run_code.proofs.inverse.take_up.Given as goal
 
--- the words before have the bits taken at the ones, and zeros elsewhere
+-- the words before this one have the taken bits at the ones, and zeros elsewhere
 abbrev pub invariant-loop-index : goal.invariant-loop-index
 invariant-loop-index l = record {
   moves : MovesOn l.initial.eye l.eye;

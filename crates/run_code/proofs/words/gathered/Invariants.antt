@@ -4,7 +4,7 @@ use Rattle.bit_vectors.specs.Vectors.{bits_number}
 use Rattle.run_code.proofs.Gathering.{word_extract}
 use Rattle.run_code.proofs.words.gathered.Given as goal
 
--- the number so far, with the bits at the ones that are left after it, is the number of all
+-- the number so far, followed by the bits at the ones that are left, is the number of all bits
 abbrev pub invariant-loop-rest : goal.invariant-loop-rest
 invariant-loop-rest l = record {
   small : l.rest < 2 ^ 64;

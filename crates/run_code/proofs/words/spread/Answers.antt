@@ -13,7 +13,7 @@ loop-rest-init c = record {
   right = λ new same bits. bits;
 }
 
--- the weight of the lowest one is below 2 ^ 64
+-- the weight of the lowest 1 is below 2 ^ 64
 pub overflow_mul-made : goal.overflow_mul-made
 overflow_mul-made c = rw (lowest_bit (c.loop-rest.next / 2 ^ 63) c.loop-rest.rest (omega (arith, c.loop-rest.auto.next-fits)) (omega arith) c.loop-rest.invariant.small) (omega arith)
 

@@ -6,7 +6,8 @@ use Rattle.bit_vectors.specs.Vectors.{number_bits}
 use Rattle.run_code.proofs.Gathering.{word_extract}
 use Rattle.run_code.proofs.words.spread_up.Given as goal
 
--- a word that is the one so far but at the ones that are left, and has the bits that are left there, has all bits
+-- a word that agrees with the one so far except at the ones that are left, and has the remaining bits there, has all
+-- bits
 abbrev pub invariant-loop-rest : goal.invariant-loop-rest
 invariant-loop-rest l = record {
   small : l.rest < 2 ^ 64;

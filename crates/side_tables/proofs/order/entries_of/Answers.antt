@@ -7,7 +7,7 @@ use Rattle.side_tables.specs.Order.{IsEntryOf, no_span, span_at, places_of}
 use Rattle.side_tables.specs.Spans.{IsSpan}
 use Rattle.side_tables.proofs.order.entries_of.Goals as goal
 
--- one entry more, with the next place
+-- one more entry, with the next place
 each_more : (entries : List OrderEntry) (entry : OrderEntry) (n : ℕ) → entry.place ≡ n → ((place : ℕ) → place < n → Contains (places_of entries) place)
     → (place : ℕ) → place < n + 1 → Contains (places_of (entries ++ entry ∷ [])) place
 each_more entries entry n next each =

@@ -5,7 +5,7 @@ use Rattle.bit_vectors.specs.Eye.{EyeState}
 use Rattle.bit_vectors.proofs.ByteBits.{length-bits_of}
 use Rattle.bit_vectors.proofs.eye.BitEye.pass.Goals as goal
 
--- the place after them is one of the bytes'
+-- the place after them is within the bytes
 within : (bytes : List ℕ) (place width : ℕ) (eye : EyeState) → record { bits = bits_of bytes; place = place } ≡ eye → place ≤ 8 * length bytes → width ≤ length (drop eye.place eye.bits) → place + width ≤ 8 * length bytes
 within bytes place width eye view inside le =
     omega (arith, length-drop eye.place eye.bits, length-bits_of bytes, ap (λ (e : EyeState). length e.bits) view, ap (λ (e : EyeState). e.place) view)

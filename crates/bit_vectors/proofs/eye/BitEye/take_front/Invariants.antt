@@ -2,7 +2,7 @@ use Rattle.std.proofs.Common.{◌≡◌, ℕ, ◌+◌, ◌*◌, ◌<◌, ◌≤�
 use Rattle.bit_vectors.specs.Eye.{bits_left}
 use Rattle.bit_vectors.proofs.eye.BitEye.take_front.Given as goal
 
--- whole words are taken so far
+-- so far, whole words were taken
 abbrev pub invariant-loop-index : goal.invariant-loop-index
 invariant-loop-index l = record {
   left : bits_left l.self ≡ drop (64 * l.index) (bits_left l.initial.self);

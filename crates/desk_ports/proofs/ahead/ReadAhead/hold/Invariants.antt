@@ -4,7 +4,7 @@ use Rattle.desk_ports.specs.Meanings.{IsReadyIn}
 use Rattle.desk_ports.specs.ReadAhead.{ReadsOn}
 use Rattle.desk_ports.proofs.ahead.ReadAhead.hold.Given as goal
 
--- bytes were read on, and nothing else happened; nothing at all where enough of them were ahead
+-- more bytes were read, and nothing else happened; nothing at all if enough of them were ahead
 abbrev pub invariant-loop-self : goal.invariant-loop-self
 invariant-loop-self g l =
     let meaning = g.D.Desk.meaning in

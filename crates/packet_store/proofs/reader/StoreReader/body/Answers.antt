@@ -3,7 +3,7 @@ use Rattle.std.proofs.lemmas.Slice.{between_is}
 use Rattle.packet_store.specs.StoreReader.{ReaderState}
 use Rattle.packet_store.proofs.reader.StoreReader.body.Goals as goal
 
--- a body that has a byte stands behind a whole header
+-- a body that has a byte comes after a whole header
 pub slice_bounds-result-count : goal.slice_bounds-result-count
 slice_bounds-result-count c =
     let body_length = λ (s : ReaderState). length s.body in

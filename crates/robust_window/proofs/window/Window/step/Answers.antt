@@ -20,7 +20,7 @@ change_len c = c.requires.places ∙ ap (λ (k : WindowState). length k.recent) 
 slots_are : (c : goal.After-self-5-1) → c.push_change.new.changes.items ≡ drop 1 c.self.inside.changes.items ++ (if not c.is_zero-changed.result then c.args.change.now else change_back c.self.inside.changes.items 15) ∷ []
 slots_are c = ap (λ (b : Buffer (List Bool)). b.items) c.push_change.ensures
 
--- a change that isn't marked is zeros
+-- a change that isn't marked is zero
 quiet_change : (c : goal.After-self-5-1) → not c.is_zero-changed.result ≡ false → c.args.change.now ≡ replicate (length c.self.inside.recent) false
 quiet_change c quiet = unmarked_zeros c.is_zero-changed.result c.args.change.now c.is_zero-changed.ensures.zero quiet ∙ ap (λ (n : ℕ). replicate n false) (change_len c)
 
@@ -37,7 +37,7 @@ returns-clause-places c = recent_len c ∙ ap (λ (k : WindowState). length k.re
 slots_len : (c : goal.After-self-5-1) → length c.push_change.new.changes.items ≡ 16
 slots_len c = ap length (slots_are c) ∙ length-pushed c.self.inside.changes.items (if not c.is_zero-changed.result then c.args.change.now else change_back c.self.inside.changes.items 15) c.self.invariant.slots
 
--- what is marked has a one
+-- a change that is marked has a 1
 marked_are : (c : goal.After-self-5-1) → (back : ℕ) → back < 16 → mark_back c.pushed-self-inside.result back ≡ true → Contains (change_back c.push_change.new.changes.items back) true
 marked_are c =
     let slots = c.self.inside.changes.items in
