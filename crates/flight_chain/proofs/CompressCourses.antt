@@ -42,7 +42,7 @@ module _ (k : Compression) (inputs : List (List Bool)) (input : List Bool) (befo
       ap (λ (w : RecordingWalk). inputs ++ w.inputs) (walk_taken rest)
       ∙ sym (append_assoc inputs (input ∷ []) (recording_walk_from k.places (length (inputs ++ input ∷ [])) (after ++ rest)).inputs)
 
--- its Space Packet is owed, and behind it the rest of the recording
+-- its Space Packet is owed, and after it the rest of the recording
 pub Steps-taken : (k : Compression) (inputs : List (List Bool)) (input : List Bool) (before after : List ℕ) (a b : Meanings) (takes : Takes k.places (length inputs) before after a b input)
     → Steps (rest_work k inputs before) (rest_work k (inputs ++ input ∷ []) after) takes.taken (to_output (next_packet k inputs input))
 Steps-taken k inputs input before after a b takes = record {
@@ -80,7 +80,7 @@ AfterStop-unread k inputs before a b unread.ReadFault waits =
 
 -- ---- the histories
 
--- the history of one input more
+-- the history of one more input
 history_by-push : (k : Compression) (inputs : List (List Bool)) (input : List Bool) (t : ℕ) → t ≡ length inputs
     → with_next_input (history_by k inputs) (required_robustness k.rows.robust k.robust t) input (flags_of k.rows.flags t) ≡ history_by k (inputs ++ input ∷ [])
 history_by-push k inputs input t is =

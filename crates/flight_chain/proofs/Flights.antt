@@ -15,7 +15,7 @@ compression_of-none k s places taken =
 pub HasTakenNothing-opened : (k : Compression) (s : Compressing) → length k.mask ≡ k.places → IsCompressing s → s.ahead ≡ [] → HasTaken k [] s → HasTakenNothing s
 HasTakenNothing-opened k s places right ahead taken = record { ahead = ahead; none = subst (λ (l : Compression). HasTaken l [] s) (sym (compression_of-none k s places taken)) taken; right = right }
 
--- the work of compressing a recording is owed where nothing is taken
+-- the work of compressing a recording is owed when nothing is taken
 pub Owes-unread : (s : Compressing) → HasTakenNothing s → Owes s (compress_work (compression_of s))
 Owes-unread s unread = record {
   k = compression_of s;

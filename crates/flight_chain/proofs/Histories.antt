@@ -34,7 +34,7 @@ map_within p q a (suc n) same =
     let rest = map_within p q (a + 1) n (λ k lt. same k (omega arith)) in
     λ i. first i ∷ rest i
 
--- one step more is one packet more
+-- one more step is one more packet
 pub store_of-push : (h : History) (step : Step) (apid : ℕ) → store_of (with_step h step) apid ≡ store_of h apid ++ space_packet apid (length h.steps % period) (data_at (with_step h step) (length h.steps))
 store_of-push h step apid =
     let n = length h.steps in

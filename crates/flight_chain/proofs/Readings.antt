@@ -40,7 +40,7 @@ first_packet-at f packet rest whole = take_at packet rest (byte_count f) whole
 pub has_spare_bit-at : (f : ℕ) (packet rest : List ℕ) → length packet ≡ byte_count f → has_spare_bit f (first_packet f (packet ++ rest)) ≡ list_any (λ (bit : Bool). bit) (drop f (bits_of packet))
 has_spare_bit-at f packet rest whole = ap (λ (bytes : List ℕ). list_any (λ (bit : Bool). bit) (drop f (bits_of bytes))) (first_packet-at f packet rest whole)
 
--- a whole packet with no spare bit, and then the walk behind it
+-- a whole packet with no spare bit, and then the walk after it
 pub recording_walk_from-whole : (f t : ℕ) (packet rest : List ℕ) → 1 ≤ f → t < 2 ^ 32 → length packet ≡ byte_count f → (Contains (drop f (bits_of packet)) true → ⊥)
     → recording_walk_from f t (packet ++ rest) ≡ behind_input (take f (bits_of packet)) (recording_walk_from f (t + 1) rest)
 recording_walk_from-whole f t packet rest some few whole none =

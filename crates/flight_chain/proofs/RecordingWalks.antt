@@ -51,7 +51,7 @@ recording_walk_from-fault f t (b ∷ bytes) fault some nonempty at =
     recording_walk_from-step f t b bytes some
     ∙ ap (λ (found : Option RecordFault). by_fault found (b ∷ bytes) (behind_input (first_input f (b ∷ bytes)) (recording_walk_from f (t + 1) (drop (byte_count f) (b ∷ bytes))))) at
 
--- and goes on behind one
+-- and goes on after one
 pub recording_walk_from-packet : (f t : ℕ) (bytes : List ℕ) → 1 ≤ f → 0 < length bytes → fault_at f t bytes ≡ None
     → recording_walk_from f t bytes ≡ behind_input (first_input f bytes) (recording_walk_from f (t + 1) (drop (byte_count f) bytes))
 recording_walk_from-packet f t [] some nonempty at = absurd (omega arith)

@@ -29,7 +29,7 @@ pub record Compression : Type 0 where
   pub mask : List Bool
   pub rows : ScheduleRows
 
--- the required robustness of a packet: what the rows of the schedule give it, and this one where they give none
+-- the required robustness of a packet: what the rows of the schedule give it, and this one if they give none
 abbrev pub required_robustness : List RobustRow → ℕ → ℕ → ℕ
 required_robustness rows robust t = unwrap_or (robust_of rows t) robust
 
@@ -37,7 +37,7 @@ required_robustness rows robust t = unwrap_or (robust_of rows t) robust
 abbrev pub history_by : Compression → List (List Bool) → History
 history_by k inputs = history_of inputs (flags_of k.rows.flags) (required_robustness k.rows.robust k.robust) k.places k.mask
 
--- What compressing a recording owes: the store of the history of its inputs, and where it is not whole the fault that ends
+-- What compressing a recording owes: the store of the history of its inputs, and if it is not whole, the fault that ends
 -- its walk.
 abbrev pub compress_course : Compression → List ℕ → Course RecordFault
 compress_course k recording = record {
@@ -60,7 +60,7 @@ stop_by WriteFault = stop.WriteFault
 
 -- ---- on the way
 
--- what a flight has been opened with, where nothing is read
+-- what a flight has been opened with, when nothing is read
 abbrev pub compression_of : Compressing → Compression
 compression_of s = record {
   places = length s.encoder.masks.mask;
@@ -86,7 +86,7 @@ pub record HasTaken (k : Compression) (inputs : List (List Bool)) (s : Compressi
 abbrev pub all_inputs : Compression → List (List Bool) → List ℕ → List (List Bool)
 all_inputs k inputs bytes = inputs ++ (recording_walk_from k.places (length inputs) bytes).inputs
 
--- the Space Packet of the next input behind these
+-- the Space Packet of the next input after these
 abbrev pub next_packet : Compression → List (List Bool) → List Bool → List ℕ
 next_packet k inputs input = space_packet k.apid (length inputs % period) (data_at (history_by k (inputs ++ input ∷ [])) (length inputs))
 
@@ -114,7 +114,7 @@ pub record IsCompressing (s : Compressing) : Type 0 where
   pub places : length s.encoder.masks.mask ≡ length s.input
   pub pen : s.pen.room ≡ 10 * length s.input + 43
 
--- this work is owed: that of the rest of the recording, where some inputs are taken
+-- this work is owed: that of the rest of the recording, when some inputs are taken
 pub record Owes (s : Compressing) (work : Work ℕ RecordFault) : Type 0 where
   pub k : Compression
   pub inputs : List (List Bool)

@@ -10,8 +10,8 @@ use Rattle.flight_chain.specs.declared.reading.Unread.{Unread}
 use Rattle.flight_chain.specs.declared.reading.Unread.TheVariants as unread
 use Rattle.flight_chain.specs.Recordings.{recording_walk_from, behind_input, stopped_at}
 
--- Some bytes were read behind those that were ahead, and nothing else happened. The packet t with this input was taken, and
--- the walk goes on behind it.
+-- Some bytes were read after those that were ahead, and nothing else happened. The packet t with this input was taken,
+-- and the walk goes on after it.
 pub record Takes (f t : ℕ) (before after : List ℕ) (old new : Meanings) (input : List Bool) : Type 0 where
   pub taken : List ℕ
   pub moved : Moves old new inlet.Main taken
@@ -19,7 +19,7 @@ pub record Takes (f t : ℕ) (before after : List ℕ) (old new : Meanings) (inp
   pub few : t < 2 ^ 32
   pub goes_on : (rest : List ℕ) → recording_walk_from f t (before ++ (taken ++ rest)) ≡ behind_input input (recording_walk_from f (t + 1) (after ++ rest))
 
--- The walk ends with this fault before the packet t, where these bytes were ahead.
+-- The walk ends with this fault before the packet t, when these bytes were ahead.
 pub record Stops (f t : ℕ) (before : List ℕ) (old new : Meanings) (fault : RecordFault) : Type 0 where
   pub taken : List ℕ
   pub rest : List ℕ
@@ -33,12 +33,12 @@ pub record Waits (f t : ℕ) (before : List ℕ) (old new : Meanings) : Type 0 w
   pub moved : Moves old new inlet.Main taken
   pub none : (recording_walk_from f t (before ++ taken)).inputs ≡ []
 
--- after a packet that was not read, where these bytes were ahead
+-- after a packet that was not read, when these bytes were ahead
 abbrev pub AfterUnread : ℕ → ℕ → List ℕ → Meanings → Meanings → Unread → Type 0
 AfterUnread f t before old new (unread.Data fault) = Stops f t before old new fault
 AfterUnread f t before old new unread.ReadFault = Waits f t before old new
 
--- ReadFault comes only where a reading failed, and otherwise both counts are as before
+-- ReadFault comes only if a reading failed, and otherwise both counts are as before
 abbrev pub HasUnreadCause : {T : Type 0} → Counts → Counts → Result T Unread → Type 0
 HasUnreadCause old new (Ok done) = new ≡ old
 HasUnreadCause old new (Err (unread.Data fault)) = new ≡ old

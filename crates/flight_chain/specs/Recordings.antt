@@ -10,7 +10,7 @@ use Rattle.flight_chain.specs.declared.fault.RecordFault.TheVariants.{CutRecord,
 abbrev pub recording_of : List (List Bool) → List ℕ
 recording_of inputs = flat_map vector_bytes inputs
 
--- the bytes of the first packet, where vectors have f places
+-- the bytes of the first packet, if vectors have f places
 abbrev pub first_packet : ℕ → List ℕ → List ℕ
 first_packet f bytes = take (byte_count f) bytes
 
@@ -18,7 +18,7 @@ first_packet f bytes = take (byte_count f) bytes
 abbrev pub first_input : ℕ → List ℕ → List Bool
 first_input f bytes = take f (bits_of (first_packet f bytes))
 
--- Why these bytes, which are some, don't begin with the packet t, the first reason deciding: no packet may have this
+-- Why these bytes, at least one, don't begin with the packet t; the first reason decides: no packet may have this
 -- number, they end inside it, or a spare bit is one.
 abbrev pub fault_at : ℕ → ℕ → List ℕ → Option RecordFault
 fault_at f t bytes =
@@ -27,7 +27,7 @@ fault_at f t bytes =
     else if has_spare_bit f (first_packet f bytes) then Some (SpareBit t)
     else None
 
--- a walk: the inputs in order, the bytes behind their packets, and why these are not walked, none where nothing is left
+-- a walk: the inputs in order, the bytes after their packets, and why these are not walked, none if nothing is left
 pub record RecordingWalk : Type 0 where
   pub inputs : List (List Bool)
   pub rest : List ℕ
@@ -47,7 +47,7 @@ abbrev pub by_fault : Option RecordFault → List ℕ → RecordingWalk → Reco
 by_fault None bytes walk = walk
 by_fault (Some fault) bytes walk = stopped_at fault bytes
 
--- one step of a walk, which goes on behind the packet t
+-- one step of a walk, which goes on after the packet t
 abbrev pub recording_step : ℕ → ℕ → List ℕ → (List ℕ → RecordingWalk) → RecordingWalk
 recording_step f t [] on = walked
 recording_step f t (b ∷ bytes) on =
@@ -62,11 +62,11 @@ recording_walk_by (suc steps) f t bytes = recording_step f t bytes (λ rest. rec
 unfoldable pub recording_walk_from : ℕ → ℕ → List ℕ → RecordingWalk
 recording_walk_from f t bytes = recording_walk_by (length bytes) f t bytes
 
--- the walk over a recording, where vectors have f places
+-- the walk over a recording, if vectors have f places
 abbrev pub recording_walk : ℕ → List ℕ → RecordingWalk
 recording_walk f bytes = recording_walk_from f 0 bytes
 
--- why these bytes are not walked, where they stand behind t packets
+-- why these bytes are not walked, if they stand after t packets
 abbrev pub ending_at : ℕ → ℕ → List ℕ → Option RecordFault
 ending_at f t [] = None
 ending_at f t (b ∷ bytes) = fault_at f t (b ∷ bytes)

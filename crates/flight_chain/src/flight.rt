@@ -32,8 +32,8 @@ impl Model for Flight {
 }
 
 impl Flight {
-    /// A flight whose vectors have `f` places, for packets of an APID which is no idle one. It starts with this mask and
-    /// gives each packet the flags and the required robustness of the schedule, and where that gives none this one, at
+    /// A flight whose vectors have `f` places, for packets of an APID that is not the idle one. It starts with this mask
+    /// and gives each packet the flags and the required robustness of the schedule, and if that gives none, this one, at
     /// most 7. It takes all memory of the run.
     pub fn open(
         alloc: Global,

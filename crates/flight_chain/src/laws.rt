@@ -21,8 +21,8 @@ pub fn recordings_are_walked()
         ≡ record { inputs = inputs; rest = []; ending = None } }
 {}
 
-/// The inputs of a walk are vectors of `f` places, and not too many. The recording of them, with the rest behind it, is the
-/// bytes, and the walk ends as that rest says.
+/// The inputs of a walk are vectors of `f` places, and not too many. The recording of them, with the rest after it, is
+/// the bytes, and the walk ends as that rest says.
 pub fn recording_walks_are_exact()
     ensures places { (f : ℕ) (bytes : List ℕ) → 1 ≤ f → All (λ b. b < 256) bytes
         → All (λ input. length input ≡ f) (recording_walk f bytes).inputs }
@@ -42,7 +42,7 @@ pub fn walks_of_front_recordings()
         × ((recording_walk f (front ++ rest)).inputs ≡ (recording_walk f front).inputs ++ later) }
 {}
 
-/// One step more is one Space Packet more behind the same store: what comes later changes no packet.
+/// One more step is one more Space Packet after the same store: what comes later changes no packet.
 pub fn stores_grow()
     ensures { (h : History) (step : Step) (apid : ℕ) → store_of (with_step h step) apid
         ≡ store_of h apid ++ space_packet apid (length h.steps % period)
@@ -71,7 +71,7 @@ pub fn whole_recordings_owe_their_store()
         ≡ to_output (store_of (history_by k inputs) k.apid) }
 {}
 
-/// Where no row of the schedule gives a packet a required robustness, that of the command holds for all: the history and
+/// If no row of the schedule gives a packet a required robustness, that of the command holds for all: the history and
 /// the store are those of a schedule without such rows.
 pub fn schedules_without_robustness()
     ensures history { (k : Compression) (inputs : List (List Bool))

@@ -59,7 +59,7 @@ pub fn read_input<D: Desk>(
     ensures at_end { OnEnd result (IsAtEnd (left (D.meaning desk.old) Inlet.Main)) }
     ensures unread { IfErr result (AfterUnread (length input.old) t ahead.old
         (D.meaning desk.old) (D.meaning desk.new)) }
-    // Where the packet is ahead as a whole, the desk stays as it is.
+    // If the packet is ahead as a whole, the desk stays as it is.
     ensures whole { byte_count (length input.old) ≤ length ahead.old → desk.new ≡ desk.old }
     ensures cause { HasUnreadCause (D.counts desk.old) (D.counts desk.new) result }
     ensures places { length input.new ≡ length input.old }

@@ -74,7 +74,7 @@ IsDelivered-done f apid h copies restored a b played done =
       numbers = Finishes-told (restore_work f apid) a b restored store played.input done ∙ numbers_are;
     }
 
--- a run over a desk that doesn't fail is done, where the played store is not too long and the course ends as the walk does
+-- a run over a desk that doesn't fail is done, if the played store is not too long and the course ends as the walk does
 pub IsOk-played : (f apid : ℕ) (work : Work Restored WalkFault) (h : History) (copies : ℕ → ℕ) (a b : Meanings) (old new : Counts) (result : Result Restored (Stop WalkFault)) → ((store : List ℕ) → (work.course store).ending ≡ (walk (Some apid) store).ending)
     → IsPlayed f apid h copies a → length (arrivals copies (length h.steps)) ≤ 2 ^ 32 → AfterRun work a b result → HasCause old new result
     → (Rose old.reads new.reads → ⊥) → (Rose old.writes new.writes → ⊥) → IsOk result

@@ -1,4 +1,4 @@
--- Where the report names a first wrong bit or an early end, the answer does; and what the answer then says of the data.
+-- If the report names a first wrong bit or an early end, the answer does; and what the answer then says of the data.
 use Rattle.std.proofs.Common.{◌≡◌, ℕ, ◌+◌, ◌^◌, ◌<◌, ◌≤◌, Bool, true, codes, List, [], ◌∷◌, ◌++◌, length, take, Option, Some, None, Result, Ok, Err, refl, sym, ap, ◌∙◌, subst, append_assoc, arith}
 use Rattle.std.specs.Fmt.{decimal}
 use Rattle.std.proofs.lemmas.Fmt.{decimal_injective}
@@ -29,7 +29,7 @@ use Rattle.ground_chain.proofs.Sound.{IsState-judged}
 abbrev twice : ℕ → List ℕ
 twice t = decimal t ++ codes "," ++ decimal t ++ codes ","
 
--- what stands behind it
+-- what stands after it
 abbrev behind : List ℕ → ℕ → List ℕ
 behind cause value = cause ++ (codes "," ++ (decimal value ++ codes "\n"))
 

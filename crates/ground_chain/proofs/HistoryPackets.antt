@@ -78,7 +78,7 @@ module _ (h : History) (t : ℕ) (valid : IsValid h) (lt : t < length h.steps) w
     known : IsState h.places (true_state h mask content)
     known = true_state-is h mask content valid (within mask masks) (within content contents)
 
-    -- where it is spelled, what it tells becomes known
+    -- if it is spelled, what it tells becomes known
     spelled_state : (is_mask_told h mask t || (flags_at h t).r) ≡ true
         → state_after h.places (true_state h mask content) t (packet_at h t) ≡ true_state h (if is_mask_told h mask t then Some t else mask) (if is_content_told h mask content t then Some t else content)
     spelled_state some =

@@ -194,7 +194,7 @@ module _ (h : History) (copies : ℕ → ℕ) where
   -- ---- the rows up to the last arrival
 
   module _ (n : ℕ) where
-    -- what is reported where the packet t is the next
+    -- what is reported when the packet t is the next
     abbrev text_behind : Option ℕ → List ℕ
     text_behind latest = text_of (listed_between (expected latest) (count_to_last copies n))
 

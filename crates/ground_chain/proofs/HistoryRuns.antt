@@ -40,11 +40,11 @@ judged_copies h copies t (suc c) = judged_first h copies t ∷ replicate c (repe
 abbrev pub judged_at : History → (ℕ → ℕ) → ℕ → List Judged
 judged_at h copies t = judged_copies h copies t (copies t)
 
--- what is known where this is the latest packet that arrived
+-- what is known if this is the latest packet that arrived
 abbrev pub known_by : History → (ℕ → ℕ) → Option ℕ → Known
 known_by h copies latest = record { latest = latest; state = true_state h (latest_mask_known h copies (count_up_to latest)) (latest_written h copies (count_up_to latest)) }
 
--- Before the packet t, where the latest one that arrived is this, each front of these arrivals leaves what is known at its
+-- Before the packet t, if the latest one that arrived is this, each front of these arrivals leaves what is known at its
 -- end.
 abbrev IsKnownFrom : History → (ℕ → ℕ) → ℕ → Option ℕ → List ℕ → Type 0
 IsKnownFrom h copies t latest numbers = (front rest : List ℕ) → front ++ rest ≡ numbers → known_from h.places (known_at h copies t) (map (arrival_at h) front) ≡ known_by h copies (last_or latest front)
@@ -59,7 +59,7 @@ module _ (h : History) (copies : ℕ → ℕ) where
   written-more t zero is same = latest_written-dropped h copies t is ∙ (same ∙ ap (λ (latest : Option ℕ). latest_written h copies (count_up_to latest)) (sym (last-dropped copies t is)))
   written-more t (suc c) is same = ap (λ (latest : Option ℕ). latest_written h copies (count_up_to latest)) (sym (last-arrived copies t c is))
 
-  -- no packet behind the latest one that arrived is written
+  -- no packet after the latest one that arrived is written
   written-is : (t : ℕ) → latest_written h copies t ≡ latest_written h copies (count_up_to (last_before copies t))
   written-is zero = refl
   written-is (suc t) =

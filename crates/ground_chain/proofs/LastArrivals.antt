@@ -90,7 +90,7 @@ module _ (copies : ℕ → ℕ) where
       ap (λ (d : ℕ). if d == 0 then None else Some (n + d)) distance_is
       ∙ (ap (λ (b : Bool). if b then None else Some (n + (t - n))) (ne_eqb (t - n) 0 some) ∙ ap Some number)
 
-  -- the number of a packet that arrives behind the latest one before it
+  -- the number of a packet that arrives after the latest one before it
   number-by : (n t : ℕ) (latest : Option ℕ) → AreGapsShort copies n → t < n → 1 ≤ copies t → IsLastBefore copies t latest → number_after latest (t % period) ≡ Some t
   number-by n t None short lt arrives is =
       let few = short.first t lt (record { arrives = arrives; none = is.none }) in

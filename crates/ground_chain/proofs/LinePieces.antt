@@ -35,7 +35,7 @@ AddsFront-behind a b c o xs ys adds cut = record {
   added = Adds-then a b c o xs cut.front adds cut.added;
 }
 
--- the vectors of a line, each with what stands behind it
+-- the vectors of a line, each with what stands after it
 pub vectors_text-pieces : (recent : List Bool) (mask : Option (List Bool)) (content : List Bool)
     → (vector_digits recent ++ codes " ") ++ ((mask_text mask ++ codes " ") ++ (vector_digits content ++ codes "\n")) ≡ vectors_text recent mask content
 vectors_text-pieces recent mask content =
@@ -65,7 +65,7 @@ kind_text-level (Refused (EndsEarly bit)) a b same = refl
 shown_level : (judged : Judged) (decoder : Decoding) → Shows decoder judged → judged.verdict.kind ≡ Written → decoder.level ≡ level_of judged.change
 shown_level judged decoder shows written = let packet = shows.written written in packet.level ∙ ap level_of (sym packet.first)
 
--- the vectors come behind the front
+-- the vectors come after the front
 pub lines-are : (judged : Judged) (decoder : Decoding) → Shows decoder judged → front_line judged.verdict decoder.level ++ own_vectors judged ≡ judged_lines judged
 lines-are judged decoder shows =
     let lost = lost_line judged.verdict.lost in

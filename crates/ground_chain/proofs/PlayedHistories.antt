@@ -90,7 +90,7 @@ chosen_arrivals h apid (t ∷ numbers) =
     ap (λ (own : Bool). map arrival_of (cond own (plain_at h apid t ∷ more) more)) (same_apid apid)
     ∙ ap (λ (later : List Arrival). arrival_at h t ∷ later) (chosen_arrivals h apid numbers)
 
--- the walk over the played store, where it is not too long
+-- the walk over the played store, if it is not too long
 pub walk-played : (h : History) (copies : ℕ → ℕ) (apid : ℕ) → IsValid h → apid ≤ 2046 → length (arrivals copies (length h.steps)) ≤ 2 ^ 32
     → walk (Some apid) (played_bytes copies apid (store_of h apid)) ≡ record { packets = map (plain_at h apid) (arrivals copies (length h.steps)); rest = []; ending = None }
 walk-played h copies apid valid chosen few =
@@ -101,7 +101,7 @@ walk-played h copies apid valid chosen few =
     (omega (arith, few, size, ap length is))
     ∙ ap (λ packets. record { packets = packets; rest = []; ending = None }) is
 
--- and where it is
+-- and if it is
 pub walk-too_many : (h : History) (copies : ℕ → ℕ) (apid : ℕ) → IsValid h → apid ≤ 2046 → 2 ^ 32 < length (arrivals copies (length h.steps))
     → (walk (Some apid) (played_bytes copies apid (store_of h apid))).ending ≡ Some fault.TooMany
 walk-too_many h copies apid valid chosen many =

@@ -1,4 +1,4 @@
--- One arrival more: the verdict is the run's, and what is kept stands for the run over it.
+-- One more arrival: the verdict is the run's, and what is kept stands for the run over it.
 use Rattle.std.proofs.Common.{◌≡◌, ℕ, ◌+◌, ◌<◌, ◌≤◌, Bool, true, false, List, [], ◌∷◌, ◌++◌, Option, Some, None, Result, Ok, Err, refl, sym, ap, ◌∙◌, subst, arith}
 use Rattle.std.specs.Prelude.{IfSome}
 use Rattle.bit_vectors.specs.declared.fault.BitFault.{BitFault}
@@ -22,7 +22,7 @@ use Rattle.ground_chain.specs.Reception.{ShowsPacket, Reception, IsReception, Sh
 use Rattle.ground_chain.proofs.Runs.{known_from-append}
 use Rattle.ground_chain.proofs.Sound.{IsState-follows, judged_only, kept_answer}
 
--- what a decoder does where it reads a packet: what becomes known, by its content or by its mask alone
+-- what a decoder does when it reads a packet: what becomes known, by its content or by its mask alone
 abbrev pub Decodes : Decoding → Decoding → ℕ → List Bool → Type 0
 Decodes old new t bits =
     (form : Form) (mask : Option (List Bool)) (content : List Bool) → Spells old.places old.state t bits form mask (Some content)

@@ -31,7 +31,7 @@ filtered chosen p packets own = map arrival_of (if own then p ∷ filter (λ q. 
 same_chosen : (old new : ReaderState) (a b : Meanings) (given : Taken) → Takes old new a b given → old.chosen ≡ new.chosen
 same_chosen old new a b given takes = sym (ap (λ (s : ReaderState). s.chosen) takes.others)
 
--- a packet of another APID: what the packets behind it owe
+-- a packet of another APID: what the packets after it owe
 pub Reads-passed : {A : Type 0} (texts : Texts) (s : Receiving A) (reader : ReaderState) (a b : Meanings) (given : Taken) → Takes s.reader reader a b given → given.chosen ≡ false
     → ReadsPacket (left_to_receive texts s) (left_to_receive texts (record s { reader = reader })) s.reader reader a b no_outputs
 Reads-passed {A = A} texts s reader a b given takes other =
@@ -71,7 +71,7 @@ module _ {A : Type 0} (texts : Texts) (s t : Receiving A) (reader : ReaderState)
       ∙ (sym (added-assoc s.restored (restored_by (next_judged s.arrivals given.count reader.body).verdict) (restored_of (rest_run t packets)))
       ∙ ap (λ (r : Restored). added r (restored_of (rest_run t packets))) (sym is.restored)))
 
--- a packet of the chosen APID: what is written of it is owed, and behind it what the packets behind it owe
+-- a packet of the chosen APID: what is written of it is owed, and after it what the packets after it owe
 pub Reads-judged : {A : Type 0} (texts : Texts) (s t : Receiving A) (reader : ReaderState) (a b : Meanings) (given : Taken) → Takes s.reader reader a b given → given.chosen ≡ true → Judges (record s { reader = reader }) t given.count
     → ReadsPacket (left_to_receive texts s) (left_to_receive texts t) s.reader t.reader a b (texts.parts (next_judged s.arrivals given.count reader.body))
 Reads-judged texts s t reader a b given takes own is =
@@ -85,15 +85,15 @@ Reads-judged texts s t reader a b given takes own is =
       };
     })
 
--- where nothing is left the numbers are those so far
+-- if nothing is left, the numbers are those so far
 pub IsDone-received : {A : Type 0} (texts : Texts) (s : Receiving A) → IsDone (left_to_receive texts s) s.restored
 IsDone-received texts s = record { nothing = refl; answer_is = added-none s.restored }
 
--- behind a packet the rest of the store is to receive
+-- after a packet the rest of the store is still to be received
 pub Owes-next : {A : Type 0} (texts : Texts) (has_room : A → ℕ → Type 0) (s t : Receiving A) (reader : ReaderState) (a b : Meanings) (given : Taken) (work : Work Restored WalkFault) → Owes texts has_room s work → Takes s.reader reader a b given → t.reader ≡ reader → IsReceiving has_room t → Owes texts has_room t (rest_work texts t)
 Owes-next texts has_room s t reader a b given work owes takes reader_is right = record { work_is = refl; live = ap (λ (r : ReaderState). r.live) (reader_is ∙ takes.others) ∙ owes.live; right = right }
 
--- with more packets given the numbers stay within their limits
+-- if more packets are given, the numbers stay within their limits
 pub IsReceiving-passed : {A : Type 0} (has_room : A → ℕ → Type 0) (s : Receiving A) (reader : ReaderState) (a b : Meanings) (given : Taken) → IsReceiving has_room s → Takes s.reader reader a b given → IsReceiving has_room (record s { reader = reader })
 IsReceiving-passed has_room s reader a b given right takes =
     let taken = ap (λ (r : ReaderState). r.taken) takes.others in

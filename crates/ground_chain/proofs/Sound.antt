@@ -1,4 +1,4 @@
--- The run is exact, no other run is, and every sound run is the same but for its faults.
+-- The run is exact, no other run is, and every sound run is the same except for its faults.
 use Rattle.std.proofs.Common.{◌≡◌, ℕ, Bool, true, false, List, [], ◌∷◌, map, Option, Some, None, Result, Ok, Err, refl, sym, ap, ◌∙◌, subst}
 use Rattle.bit_vectors.specs.declared.fault.BitFault.{BitFault}
 use Rattle.bit_vectors.specs.Reading.{Parsed, Read, WrongBit, TooShort}
@@ -124,7 +124,7 @@ module _ (f : ℕ) (state : State) (t : ℕ) (has : IsState f state) where
 
   -- ---- sound answers
 
-  -- a sound answer and the exact one differ in a fault alone, and the states and first parts after them are the same
+  -- a sound answer and the exact one differ only in a fault, and the states and first parts after them are the same
   record Alike (bits : List Bool) (next : State) (kept : Option Change) (answer exact : Result Reading BitFault) (after : State) (first : Option Change) : Type 0 where
     kind : without_fault (kind_of answer) ≡ without_fault (kind_of exact)
     same : next ≡ after

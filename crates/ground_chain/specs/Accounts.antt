@@ -5,7 +5,7 @@ use Rattle.desk_ports.specs.Courses.{Outputs}
 use Rattle.ground_chain.specs.declared.restored.Restored.{Restored}
 use Rattle.ground_chain.specs.Run.{Judged}
 
--- what is written of each judged arrival, and last of the numbers of the run
+-- what is written of each judged arrival, and finally of the numbers of the run
 pub record Texts : Type 0 where
   pub parts : Judged → Outputs
   pub last : Restored → Outputs

@@ -24,7 +24,7 @@ arrival_at h t = record { count = t % period; body = data_at h t }
 abbrev pub history_arrivals : History → (ℕ → ℕ) → List Arrival
 history_arrivals h copies = map (arrival_at h) (arrivals copies (length h.steps))
 
--- the inputs of the written packets, rising
+-- the inputs of the written packets, in rising order
 abbrev pub restored_bytes : History → (ℕ → ℕ) → List ℕ
 restored_bytes h copies = flat_map (λ t. vector_bytes (input_at h t)) (written_numbers h copies)
 
@@ -45,14 +45,14 @@ is_lost (Gap level) = false
 abbrev pub row_numbers : ListedRow → List ℕ
 row_numbers row = range_with_len row.first (row.last - row.first + 1)
 
--- a row before others: neighbouring lost numbers stand as one row
+-- a row in front of others: neighbouring lost numbers stand as one row
 abbrev pub before_rows : ListedRow → List ListedRow → List ListedRow
 before_rows row [] = row ∷ []
 before_rows row (next ∷ rows) =
     if is_lost row.cause && is_lost next.cause && (next.first == row.last + 1) then record next { first = row.first } ∷ rows
     else row ∷ next ∷ rows
 
--- a row for each listed packet, rising, where neighbouring lost numbers stand as one
+-- a row for each listed packet, in rising order, and neighbouring lost numbers stand as one
 abbrev pub rows_of : History → (ℕ → ℕ) → List ℕ → List ListedRow
 rows_of h copies [] = []
 rows_of h copies (t ∷ numbers) = before_rows (record { first = t; last = t; cause = cause_at h copies t }) (rows_of h copies numbers)

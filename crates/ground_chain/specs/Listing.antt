@@ -27,7 +27,7 @@ use Rattle.ground_chain.specs.Restoring.{store_run, store_work}
 abbrev pub vector_digits : List Bool → List ℕ
 vector_digits vector = encode_lower (vector_bytes vector)
 
--- a mask, or a dash where it did not become known
+-- a mask, or a dash if it did not become known
 abbrev pub mask_text : Option (List Bool) → List ℕ
 mask_text None = codes "-"
 mask_text (Some mask) = vector_digits mask
@@ -51,7 +51,7 @@ packet_vectors (Some change) t state (Some known) = vectors_text change.recent (
 packet_vectors (Some change) t state None = []
 packet_vectors None t state content = []
 
--- the mask that became known with the packet t, where that alone did
+-- the mask that became known with the packet t, if that alone did
 abbrev pub mask_line : ℕ → Option KnownVector → List ℕ
 mask_line t part = mask_text (known_with t part) ++ codes "\n"
 
@@ -59,7 +59,7 @@ abbrev pub level_of : Option Change → ℕ
 level_of None = 0
 level_of (Some change) = change.level
 
--- what is said behind the number of an arrival, up to its vectors; of a written packet with its level
+-- what is said after the number of an arrival, up to its vectors; of a written packet with its level
 abbrev pub kind_text : Kind → ℕ → List ℕ
 kind_text Written level = codes " written " ++ (decimal level ++ codes " ")
 kind_text Repeat level = codes " repeat\n"
@@ -70,7 +70,7 @@ kind_text (Gap reached true) level = codes " gap " ++ (decimal reached ++ codes 
 kind_text (Refused (Wrong bit)) level = codes " wrong " ++ (decimal bit ++ codes "\n")
 kind_text (Refused (EndsEarly bit)) level = codes " early " ++ (decimal bit ++ codes "\n")
 
--- its vectors: those of a written packet, or the mask where that alone became known
+-- its vectors: those of a written packet, or the mask if that alone became known
 abbrev pub kind_vectors : Kind → List ℕ → List ℕ → List ℕ
 kind_vectors Written packet mask = packet
 kind_vectors Repeat packet mask = []
@@ -100,7 +100,7 @@ lost_line (Some lost) = decimal lost.first ++ codes "-" ++ decimal lost.last ++ 
 abbrev pub judged_lines : Judged → List ℕ
 judged_lines judged = lost_line judged.verdict.lost ++ own_line judged
 
--- what a line says of a cause, of the value that belongs to it, where there is one, and of a mask that became known
+-- what a line says of a cause, of the value that belongs to it, if there is one, and of a mask that became known
 abbrev pub cause_text : List ℕ → Option ℕ → Option (List ℕ) → List ℕ
 cause_text cause None None = codes " " ++ cause ++ codes "\n"
 cause_text cause (Some value) None = codes " " ++ cause ++ codes " " ++ decimal value ++ codes "\n"
@@ -129,8 +129,8 @@ end_line r = codes "end " ++ decimal r.packets ++ codes " " ++ decimal r.written
 abbrev pub run_listing : List Judged → List ℕ
 run_listing judged = run_lines judged ++ end_line (restored_of judged)
 
--- What listing a store owes: the lines of the arrivals before the end, the last line where the store is whole, and otherwise
--- the fault of its walk.
+-- What listing a store owes: the lines of the arrivals before the end, the last line if the store is whole, and
+-- otherwise the fault of its walk.
 abbrev pub listing_course : ℕ → ℕ → List ℕ → Course WalkFault
 listing_course f apid store = record {
   before = to_output (run_lines (store_run f apid store));
@@ -153,7 +153,7 @@ pub record HasVectorRoom (listing : Listing) (f : ℕ) : Type 0 where
 
 -- ---- a line in pieces
 
--- a word, a number, and what stands behind it
+-- a word, a number, and what stands after it
 abbrev pub line_with : List ℕ → ℕ → List ℕ → List ℕ
 line_with word value behind = word ++ (decimal value ++ behind)
 

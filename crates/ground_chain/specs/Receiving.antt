@@ -15,7 +15,7 @@ use Rattle.ground_chain.specs.Reception.{known_of, next_judged, nothing_arrived}
 use Rattle.ground_chain.specs.Accounts.{Texts, all_parts}
 use Rattle.ground_chain.specs.Restoring.{RestorerState, arrivals_of, store_run}
 
--- what a store owes an account: what is written of the arrivals before the end, the last part where the store is whole, and
+-- what a store owes an account: what is written of the arrivals before the end, the last part if the store is whole, and
 -- otherwise the fault of its walk
 abbrev pub store_course : Texts → ℕ → ℕ → List ℕ → Course WalkFault
 store_course texts f apid store = record {

@@ -54,7 +54,7 @@ pub record ShowsPacket (decoder : Decoding) (judged : Judged) : Type 0 where
   pub level : decoder.level ≡ change.level
   pub first : judged.change ≡ Some change
 
--- the decoder knows what is known after the arrival, and where that is written it has its content and its first part
+-- the decoder knows what is known after the arrival, and if that is written, it has its content and its first part
 pub record Shows (decoder : Decoding) (judged : Judged) : Type 0 where
   pub state : decoder.state ≡ judged.after.state
   pub written : judged.verdict.kind ≡ Written → ShowsPacket decoder judged

@@ -63,7 +63,7 @@ is_untold (Unsynced mask) = not mask
 is_untold (Gap level mask) = not mask
 is_untold (Refused fault) = true
 
--- less than a period above the latest number, or below the period where there is none
+-- less than a period above the latest number, or below the period if there is none
 abbrev pub IsWithinPeriod : Option ℕ → ℕ → Type 0
 IsWithinPeriod None t = t < period
 IsWithinPeriod (Some latest) t = t < latest + period
@@ -74,7 +74,7 @@ abbrev pub IsNearNext : Option ℕ → ℕ → List Arrival → Type 0
 IsNearNext earlier t [] = ⊤
 IsNearNext earlier t (next ∷ more) = (number : ℕ) × (number_after (Some t) next.count ≡ Some number) × IsWithinPeriod earlier number
 
--- Between the arrivals before it and after it, an arrival tells nothing, only repeats of it stand behind it, and the
+-- Between the arrivals before it and after it, an arrival tells nothing, only repeats of it stand after it, and the
 -- next number is still told by its count if these are taken out.
 pub record CanBeTakenOut (f : ℕ) (before : List Arrival) (arrival : Arrival) (repeats after : List Arrival) : Type 0 where
   pub untold : is_untold (judge f (known_after f before) arrival).verdict.kind ≡ true

@@ -29,7 +29,7 @@ abbrev pub store_run : ℕ → ℕ → List ℕ → List Judged
 store_run f apid store = run f (arrivals_of (Some apid) (walk (Some apid) store).packets)
 
 -- What restoring a store owes: the restored packets and the report's header and rows of the arrivals before the end, the
--- report's last row where the store is whole, and otherwise the fault of its walk.
+-- report's last row if the store is whole, and otherwise the fault of its walk.
 abbrev pub restore_course : ℕ → ℕ → List ℕ → Course WalkFault
 restore_course f apid store = record {
   before = record { output = run_bytes (store_run f apid store); report = header_row ++ run_rows (store_run f apid store) };
@@ -50,7 +50,7 @@ abbrev pub stop_by : RestoreFault → Stop WalkFault
 stop_by (restore.Store fault) = stop_of fault
 stop_by restore.WriteFault = stop.WriteFault
 
--- what is written of the arrivals: the rows of each, and its content where it is written
+-- what is written of the arrivals: the rows of each, and its content if it is written
 abbrev pub restored_texts : Texts
 restored_texts = record { parts = λ judged. record { output = written_bytes judged; report = verdict_rows judged.verdict }; last = λ restored. to_report (end_row restored) }
 

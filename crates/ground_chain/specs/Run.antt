@@ -27,7 +27,7 @@ pub record Known : Type 0 where
 abbrev pub nothing_known : Known
 nothing_known = record { latest = None; state = no_vectors }
 
--- an arrival's verdict, the first part of its packet where that is written, and what is known after it
+-- an arrival's verdict, the first part of its packet if that is written, and what is known after it
 pub record Judged : Type 0 where
   pub verdict : Verdict
   pub change : Option Change
@@ -35,7 +35,7 @@ pub record Judged : Type 0 where
 
 -- ---- one arrival
 
--- the numbers from this one up to the one before t, where there are any
+-- the numbers from this one up to the one before t, if there are any
 abbrev pub lost_from : ℕ → ℕ → Option Lost
 lost_from first t = if nat_lt first t then Some (record { first = first; last = t - 1 }) else None
 
@@ -57,8 +57,8 @@ abbrev pub state_with : State → ℕ → Outcome → State
 state_with state t (Spelled mask content) = next_state state t mask content
 state_with state t Opaque = state
 
--- what was read of all bits, as the state after it: with what becomes known by the packet t where one is spelled, else as
--- before
+-- what was read of all bits, as the state after it: with what becomes known by the packet t if one is spelled,
+-- otherwise as before
 abbrev pub state_read : State → ℕ → Parsed Found → State
 state_read state t (Read found rest) = state_with state t found.outcome
 state_read state t (WrongBit rest) = state
@@ -73,7 +73,7 @@ change_with change (Spelled mask (Some content)) = Some change
 change_with change (Spelled mask None) = None
 change_with change Opaque = None
 
--- the first part of what was read of all bits, where a content becomes known
+-- the first part of what was read of all bits, if a content becomes known
 abbrev pub change_read : Parsed Found → Option Change
 change_read (Read found rest) = change_with found.change found.outcome
 change_read (WrongBit rest) = None

@@ -1,5 +1,5 @@
--- Runs whose answers are right: soundly, where the bit of a fault may come later than the first at which it can be seen,
--- or exactly.
+-- Runs whose answers are right: soundly, when the bit of a fault may come later than the first at which it can be
+-- seen, or exactly.
 use Rattle.std.specs.Prelude.{◌≡◌, ℕ, List, [], ◌∷◌, Bool, true, false, Option, Some, None, Result, Ok, Err, ⊤}
 use Rattle.bit_vectors.specs.declared.fault.BitFault.{BitFault}
 use Rattle.bit_vectors.specs.declared.fault.BitFault.TheVariants.{Wrong}
@@ -83,7 +83,7 @@ IsExactRun f arrivals judged = AreJudged IsExactAnswer f nothing_known arrivals 
 
 -- ---- where sound runs differ
 
--- a kind, where all faults of refused packets are taken for one
+-- a kind, when all faults of refused packets are taken for one
 abbrev pub without_fault : Kind → Kind
 without_fault kind.Written = kind.Written
 without_fault kind.Repeat = kind.Repeat

@@ -15,7 +15,7 @@ abbrev pub lost_numbers : Option Lost → List ℕ
 lost_numbers None = []
 lost_numbers (Some lost) = range_with_len lost.first (lost.last - lost.first + 1)
 
--- the numbers that a verdict tells of: the lost ones, and then its own where it is no repeat
+-- the numbers that a verdict tells of: the lost ones, and then its own if it is no repeat
 abbrev pub numbers_of : Verdict → List ℕ
 numbers_of verdict = lost_numbers verdict.lost ++ (if is_repeat verdict.kind then [] else verdict.t ∷ [])
 

@@ -1,4 +1,4 @@
-//! An account of a run over arrivals: what is written of each, and last.
+//! An account of a run over arrivals: what is written of each, and at the end.
 
 ghost use Rattle.std.specs.Prelude.{◌≡◌, ℕ, Bool, OnOk, OnErr};
 ghost use Rattle.desk_ports.specs.declared.desk.Outlet.{Outlet};
@@ -15,8 +15,8 @@ use packet_decode::Decoder;
 
 /// What is written of a run over arrivals.
 ///
-/// `texts` is what is written of each judged arrival, and last of the numbers of the run, `writes` the outlets that are
-/// written, and `has_room` that there is room for vectors of so many places.
+/// `texts` is what is written of each judged arrival, and finally of the numbers of the run, `writes` the outlets that
+/// are written, and `has_room` that there is room for vectors of so many places.
 pub trait Account: Drop {
     ghost texts: { Texts };
 

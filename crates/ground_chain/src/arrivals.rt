@@ -59,14 +59,14 @@ impl Ground {
         ensures known { known_of self.new ≡ (next_judged self.old count bytes.now).after }
         ensures stands { (arrivals : List Arrival) → StandsFor arrivals self.old →
             StandsFor (arrivals ++ record { count = count; body = bytes.now } ∷ []) self.new }
-        // What is no repeat gets the exact answer to its data: a refusal names the first wrong bit.
+        // An arrival that is no repeat gets the exact answer to its data: a refusal names the first wrong bit.
         ensures exact { IfSome (number_after self.old.latest count)
             (IsExactVerdict self.old bytes.now result) }
         // Repeat comes exactly for the count of the latest number.
         ensures repeat { (result.kind ≡ Kind.Repeat) ↔ (number_after self.old.latest count ≡ None) }
         ensures repeated { result.kind ≡ Kind.Repeat → self.new ≡ self.old }
-        // Only a packet whose mask or content becomes known changes the decoder, and one whose mask alone does leaves the
-        // latest written packet.
+        // Only a packet whose mask or content becomes known changes the decoder; if its mask alone does, the latest
+        // written packet stays.
         ensures written { result.kind ≡ Kind.Written
             → HasDecoded self.old.decoder self.new.decoder result.t bytes.now }
         ensures mask_alone { tells_mask_alone result.kind ≡ true
@@ -98,7 +98,7 @@ impl Ground {
     }
 }
 
-/// The numbers from the expected one to the one before `t`, where there are any.
+/// The numbers from the expected one to the one before `t`, if there are any.
 fn lost_from(expected: u64, t: u64) -> Option<Lost>
     requires { t < expected + PERIOD }
     ensures is { result ≡ lost_from expected t }

@@ -64,7 +64,7 @@ pub fn written_packets_are_restored()
         run_bytes (run h.places (history_arrivals h copies)) ≡ restored_bytes h copies }
 {}
 
-/// The report has a row for each packet up to the last arrival that is not written, where neighbouring lost ones stand
+/// The report has a row for each packet up to the last arrival that is not written, and neighbouring lost ones stand
 /// as one row, and its last row has the numbers of the history and its copies.
 pub fn unwritten_packets_are_reported()
     ensures rows { (h : History) (copies : ℕ → ℕ) → IsValid h → AreGapsShort copies (length h.steps)
@@ -79,8 +79,8 @@ pub fn unwritten_packets_are_reported()
         run_report (run h.places (history_arrivals h copies)) ≡ report_text h copies }
 {}
 
-/// The rows tell of each listed packet once, rising, and by its own cause. Lost packets alone share a row, and all that
-/// are neighbours do.
+/// The rows tell of each listed packet once, in rising order, and by its own cause. Only lost packets share a row, and
+/// all that are neighbours do.
 pub fn rows_tell_of_listed_packets()
     ensures numbers { (h : History) (copies : ℕ → ℕ)
         → flat_map row_numbers (listed_rows h copies) ≡ listed_numbers h copies }
@@ -92,7 +92,7 @@ pub fn rows_tell_of_listed_packets()
         → next.first ≡ row.last + 1 → ⊥ }
 {}
 
-/// What the played store of a valid history owes, where it is whole: the inputs of the packets that are written, and the
+/// What the played store of a valid history owes, if it is whole: the inputs of the packets that are written, and the
 /// report of all others up to the last arrival.
 pub fn played_histories_are_restored()
     ensures outputs { (h : History) (copies : ℕ → ℕ) (apid : ℕ) → IsValid h → apid ≤ 2046

@@ -18,8 +18,8 @@ ghost use Rattle.ground_chain.specs.Told.{AreArrivals, run_numbers};
 use crate::verdict::Kind;
 use bit_vectors::BitFault;
 
-/// The first arrival has its count as its number. Any later one is a repeat exactly where it has the
-/// count of the latest number, and has otherwise the least greater number with its count.
+/// The first arrival has its count as its number. Any later one is a repeat exactly if it has the
+/// count of the latest number, and otherwise has the least greater number with its count.
 pub fn numbers_are_the_next_ones()
     ensures first { (count : ℕ) → count < period
         → (number_after None count ≡ Some count) × HasCount count count }
@@ -34,7 +34,7 @@ pub fn numbers_are_the_next_ones()
         → HasCount other count → t ≤ other }
 {}
 
-/// A run over one arrival more is the run and one verdict more. So in any run the verdict on an arrival is the next one
+/// A run over one more arrival is the run and one more verdict. So in any run the verdict on an arrival is the next one
 /// after the arrivals before it.
 pub fn runs_grow()
     ensures place { (f : ℕ) (before after : List Arrival) (arrival : Arrival) →
@@ -56,7 +56,7 @@ pub fn one_exact_run()
         → IsExactRun f arrivals judged → judged ≡ run f arrivals }
 {}
 
-/// All sound runs over one list of arrivals are the same but for the faults of refused packets: they have the same
+/// All sound runs over one list of arrivals are the same except for the faults of refused packets: they have the same
 /// numbers, lost ranges, written packets and states.
 pub fn sound_runs_agree()
     ensures { (f : ℕ) (arrivals : List Arrival) (judged : List Judged)

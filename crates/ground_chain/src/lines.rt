@@ -1,4 +1,4 @@
-//! The lines of the listing but for vectors, each put together before it is written.
+//! The lines of the listing except for their vectors, each put together before it is written.
 
 ghost use Rattle.std.specs.Prelude.{◌≡◌, ◌+◌, ◌≤◌, ◌++◌, [], Some, length};
 ghost use Rattle.ground_chain.specs.Listing.{end_line, front_line, lost_line, own_front, line_with};
@@ -54,7 +54,7 @@ fn put_own(row: &mut Row, t: u64, kind: &Kind, level: u8)
     }
 }
 
-/// Appends a word, a number, and what stands behind it.
+/// Appends a word, a number, and what stands after it.
 fn put_value(row: &mut Row, word: &str, value: u64, behind: &str)
     requires room { length row.old ≤ 67 }
     requires word { length word.now ≤ 9 }

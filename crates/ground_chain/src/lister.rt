@@ -38,8 +38,8 @@ impl Model for Lister {
 }
 
 impl Lister {
-    /// A lister of packets of a chosen APID, which is no idle one, with vectors of `f` places. It takes all memory of
-    /// the run.
+    /// A lister of packets of a chosen APID, which is not the idle one, with vectors of `f` places. It takes all memory
+    /// of the run.
     pub fn open(alloc: Global, f: u32, apid: u16) -> Result<Lister, NoMemory>
         requires some { 1 ≤ f }
         requires most { f ≤ 49152 }

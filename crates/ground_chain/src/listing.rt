@@ -90,8 +90,8 @@ impl Listing {
         }
     }
 
-    /// Writes the vectors of the latest written packet, which end its line. In place of its mask a dash stands if that did
-    /// not become known with the packet `t`.
+    /// Writes the vectors of the latest written packet, which end its line. A dash stands in place of its mask if that
+    /// did not become known with the packet `t`.
     fn write_vectors<D: Desk>(
         &mut self,
         desk: &mut D,
@@ -113,7 +113,7 @@ impl Listing {
         self.write_vector(desk, decoder.content(), "\n")
     }
 
-    /// Writes the mask that became known with the packet `t`, or a dash if none did, and a text behind it.
+    /// Writes the mask that became known with the packet `t`, or a dash if none did, and a text after it.
     fn write_mask<D: Desk>(
         &mut self,
         desk: &mut D,
@@ -138,7 +138,7 @@ impl Listing {
         write_all(desk, Outlet::Main, behind.as_bytes())
     }
 
-    /// Writes the bytes of a vector in hexadecimal digits, and a text behind them.
+    /// Writes the bytes of a vector in hexadecimal digits, and a text after them.
     fn write_vector<D: Desk>(
         &mut self,
         desk: &mut D,

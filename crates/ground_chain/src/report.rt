@@ -12,7 +12,7 @@ use desk_ports::Row;
 /// The report's first line.
 pub const HEADER: &str = "first,last,cause,value\n";
 
-/// The rows of a verdict: the numbers lost before the arrival, and the arrival itself where it is not written.
+/// The rows of a verdict: the numbers lost before the arrival, and the arrival itself if it is not written.
 pub fn rows_of(verdict: &Verdict) -> Row
     ensures { result ≡ verdict_rows verdict.now }
 {

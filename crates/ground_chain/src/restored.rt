@@ -32,7 +32,7 @@ impl Restored {
         }
     }
 
-    /// Counts one arrival more.
+    /// Counts one more arrival.
     pub(crate) fn count(&mut self, verdict: &Verdict)
         requires packets { self.old.packets < 2 ^ 32 }
         requires written { self.old.written ≤ self.old.packets }

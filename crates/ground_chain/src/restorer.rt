@@ -37,7 +37,7 @@ impl Model for Restorer {
 }
 
 impl Restorer {
-    /// A restorer of packets of a chosen APID, which is no idle one, with vectors of `f` places. It takes all
+    /// A restorer of packets of a chosen APID, which is not the idle one, with vectors of `f` places. It takes all
     /// memory of the run.
     pub fn open(alloc: Global, f: u32, apid: u16) -> Result<Restorer, NoMemory>
         requires some { 1 ≤ f }

@@ -33,7 +33,7 @@ record AreTold (copies : ℕ → ℕ) (n : ℕ) (latest first : Option ℕ) (wid
   pub within : (t : ℕ) → t < n → (s : ℕ) → AreNext copies s t → t ≤ s + widest
   pub reached : (widest ≡ 0) ⊎ IsReached copies n widest
 
--- ---- a dropped packet more
+-- ---- one more dropped packet
 
 dropped_more : (copies : ℕ → ℕ) (from n : ℕ) → AreDropped copies from n → copies n ≡ 0 → AreDropped copies from (n + 1)
 dropped_more copies from n all none = below_more (λ t. from ≤ t → copies t ≡ 0) n all (λ le. none)
@@ -58,7 +58,7 @@ told_dropped copies n latest first widest told none = record {
   reached = reached_more copies n widest told.reached;
 }
 
--- ---- a delivered packet more
+-- ---- one more delivered packet
 
 latest_delivered : (copies : ℕ → ℕ) (n : ℕ) → 1 ≤ copies n → IsLatest copies (n + 1) (Some n)
 latest_delivered copies n arrives = (omega arith, arrives, λ t below from. absurd (omega (arith, below, from)))

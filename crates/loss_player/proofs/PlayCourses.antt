@@ -64,7 +64,7 @@ module _ (s t : Playing) (reader : ReaderState) (a b : Meanings) (given : Taken)
   pub taken_numbers : all_numbers s (packet_of takes.header reader ∷ packets) ≡ all_numbers t packets
   taken_numbers = let rows = sym is.script_is in let count = taken_count in λ i. played_of (copies_of (rows i)) (count i)
 
--- a packet that is played: its copies are owed, and behind them what the packets behind it owe
+-- a packet that is played: its copies are owed, and after them what the packets after it owe
 pub Reads-played : (s t : Playing) (reader : ReaderState) (a b : Meanings) (given : Taken) → Takes s.reader reader a b given → Counts (record s { reader = reader }) t given.chosen
     → ReadsPacket (left_to_play s) (left_to_play t) s.reader t.reader a b (to_output (next_copies s given.chosen reader.packet))
 Reads-played s t reader a b given takes is = subst (λ (r : ReaderState). ReadsPacket (left_to_play s) (left_to_play t) s.reader r a b (to_output (next_copies s given.chosen reader.packet))) (sym is.reader_is) (record {
@@ -81,7 +81,7 @@ number_behind-most : (own : Bool) (t : ℕ) → number_behind own t ≤ t + 1
 number_behind-most true t = omega arith
 number_behind-most false t = omega arith
 
--- behind it the rest of the store is to play
+-- after it the rest of the store is still to be played
 pub Owes-played : (s t : Playing) (reader : ReaderState) (a b : Meanings) (given : Taken) (work : Work Played WalkFault) → Owes s work → Takes s.reader reader a b given → Counts (record s { reader = reader }) t given.chosen → IsCounted t → Owes t (rest_work t)
 Owes-played s t reader a b given work owes takes is counted =
     let reader_is = is.reader_is ∙ takes.others in
@@ -92,7 +92,7 @@ Owes-played s t reader a b given work owes takes is counted =
       counted = counted;
     }
 
--- where nothing is left the numbers are those so far
+-- if nothing is left, the numbers are those so far
 pub IsDone-played : (s : Playing) (work : Work Played WalkFault) → Owes s work → IsDone (left_to_play s) s.tally.played
 IsDone-played s work owes =
     let count : s.tally.played.packets + 0 ≡ s.tally.played.packets = omega arith in
@@ -100,7 +100,7 @@ IsDone-played s work owes =
 
 -- ---- the whole store
 
--- the work of playing a store is owed where nothing is read
+-- the work of playing a store is owed when nothing is read
 pub Owes-unread : (s : Playing) → IsPlayer s → Owes s (play_work (copies_of s.script) (player_state s).apid)
 Owes-unread s is = subst (λ (p : Playing). Owes p (play_work (copies_of s.script) (player_state s).apid)) (sym is) (record {
   work_is = λ i. record { course = λ store. course store i; answer = λ store. numbers store i };

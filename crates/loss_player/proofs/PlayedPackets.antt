@@ -64,7 +64,7 @@ played_others chosen copies t (p ∷ packets) =
 
 -- ---- more packets
 
--- the number of the chosen APID's next packet, behind these
+-- the number of the chosen APID's next packet, after these
 abbrev pub number_after : Option ℕ → ℕ → List Packet → ℕ
 number_after chosen t [] = t
 number_after chosen t (p ∷ packets) = number_after chosen (number_behind (is_chosen chosen p.header) t) packets

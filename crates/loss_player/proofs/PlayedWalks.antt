@@ -24,7 +24,7 @@ ending-full : (chosen : Option ℕ) (taken offset : ℕ) (bytes : List ℕ) → 
 ending-full chosen taken offset [] full some = absurd (omega (arith, some))
 ending-full chosen taken offset (b ∷ bytes) full some = ap (λ (w : Walk). w.ending) (walk_from-too_many chosen taken offset b bytes full)
 
--- good packets, one after the other, are too many where they are more than may be walked
+-- good packets, one after the other, are too many if they are more than may be walked
 pub walk_from-many : (chosen : Option ℕ) (taken offset : ℕ) (packets : List Packet) → All (IsGood chosen) packets → taken ≤ 2 ^ 32 → 2 ^ 32 < taken + length packets
     → (walk_from chosen taken offset (packets_bytes packets)).ending ≡ Some fault.TooMany
 walk_from-many chosen taken offset [] all most many = absurd (omega (arith, most, many))

@@ -46,7 +46,7 @@ widest_gap-more (a ∷ []) t = max_comm (t - a) 0
 widest_gap-more (a ∷ b ∷ numbers) t =
     ap (max (b - a)) (widest_gap-more (b ∷ numbers) t) ∙ widest_max b numbers (b - a) (widest_gap (b ∷ numbers)) t
 
--- ---- one packet more
+-- ---- one more packet
 
 delivered_next : (copies : ℕ → ℕ) (n : ℕ) → delivered copies (n + 1) ≡ delivered copies n ++ (if nat_lt 0 (copies n) then n ∷ [] else [])
 delivered_next copies n =
@@ -66,7 +66,7 @@ has_some copies some = grind (arith, common_steps)
 has_none : (copies : ℕ) → (copies == 0) ≡ true → nat_lt 0 copies ≡ false
 has_none copies none = grind (arith, common_steps)
 
--- a packet more that is dropped, or delivered
+-- one more packet, which is dropped or delivered
 tally_by : (copies : ℕ → ℕ) (n : ℕ) (none : Bool) → (copies n == 0) ≡ none → tally_of copies (n + 1) ≡ (if none then with_dropped (tally_of copies n) else with_delivered (tally_of copies n) (copies n))
 tally_by copies n true is =
     let same : delivered copies (n + 1) ≡ delivered copies n =
@@ -95,7 +95,7 @@ tally_by copies n false is =
 pub tally_next : (copies : ℕ → ℕ) (n : ℕ) → tally_of copies (n + 1) ≡ tally_with (tally_of copies n) (copies n)
 tally_next copies n = tally_by copies n (copies n == 0) refl
 
--- the numbers so far with one packet more
+-- the numbers so far with one more packet
 tally_more : (copies : ℕ → ℕ) (old new : Tally) (times : ℕ) → old ≡ tally_of copies old.played.packets → times ≡ copies old.played.packets → new ≡ tally_with old times → new ≡ tally_of copies (old.played.packets + 1)
 tally_more copies old new times before is counted = counted ∙ ((λ i. tally_with (before i) (is i)) ∙ sym (tally_next copies old.played.packets))
 

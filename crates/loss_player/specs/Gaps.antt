@@ -20,7 +20,7 @@ pub record AreNext (copies : ℕ → ℕ) (s t : ℕ) : Type 0 where
   pub none : AreDropped copies (s + 1) t
 
 -- Of n packets, the first that arrives has a number below the period, and each other one that arrives comes less than a
--- period behind the one before.
+-- period after the one before.
 pub record AreGapsShort (copies : ℕ → ℕ) (n : ℕ) : Type 0 where
   pub first : (t : ℕ) → t < n → IsFirst copies t → t < period
   pub between : (s t : ℕ) → t < n → AreNext copies s t → t < s + period

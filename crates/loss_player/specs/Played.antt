@@ -12,11 +12,11 @@ use Rattle.loss_player.specs.declared.played.Played.{Played}
 abbrev pub times_of : Bool → (ℕ → ℕ) → ℕ → ℕ
 times_of own copies t = if own then copies t else 1
 
--- the number of the chosen APID's next packet, behind a packet
+-- the number of the chosen APID's next packet, after a packet
 abbrev pub number_behind : Bool → ℕ → ℕ
 number_behind own t = if own then t + 1 else t
 
--- What arrives of these packets, in order, where t packets of the chosen APID stand before them.
+-- What arrives of these packets, in order, when t packets of the chosen APID stand before them.
 abbrev pub played_from : Option ℕ → (ℕ → ℕ) → ℕ → List Packet → List Packet
 played_from chosen copies t [] = []
 played_from chosen copies t (p ∷ packets) =
@@ -46,7 +46,7 @@ abbrev pub first_of : List ℕ → Option ℕ
 first_of [] = None
 first_of (t ∷ numbers) = Some t
 
--- the greatest difference of two numbers that follow one another, and 0 where fewer than two are
+-- the greatest difference of two numbers that follow one another, and 0 if fewer than two are
 abbrev pub widest_gap : List ℕ → ℕ
 widest_gap [] = 0
 widest_gap (t ∷ []) = 0

@@ -19,7 +19,7 @@ use Rattle.loss_player.specs.Played.{times_of, number_behind, repeated, played_f
 use Rattle.loss_player.specs.Tallies.{IsTally, no_tally, tally_of}
 use Rattle.loss_player.specs.Report.{play_report}
 
--- What playing a store owes: the copies of the packets before the end, the report where the store is whole, and otherwise
+-- What playing a store owes: the copies of the packets before the end, the report if the store is whole, and otherwise
 -- the fault of its walk.
 abbrev pub play_course : (ℕ → ℕ) → ℕ → List ℕ → Course WalkFault
 play_course copies apid store = record {

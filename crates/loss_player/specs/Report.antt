@@ -7,7 +7,7 @@ use Rattle.loss_player.specs.declared.played.Played.{Played}
 abbrev pub header_row : List ℕ
 header_row = codes "packets,delivered,dropped,repeats,first,widest\n"
 
--- the least delivered number, and a dash where none is
+-- the least delivered number, and a dash if there is none
 abbrev pub first_text : Option ℕ → List ℕ
 first_text None = codes "-"
 first_text (Some t) = decimal t

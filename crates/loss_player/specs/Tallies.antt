@@ -16,7 +16,7 @@ abbrev pub first_with : Option ℕ → Option ℕ → ℕ → Option ℕ
 first_with None first t = Some t
 first_with (Some latest) first t = first
 
--- the widest difference, with one number more
+-- the widest difference, with one more number
 abbrev pub widest_with : Option ℕ → ℕ → ℕ → ℕ
 widest_with None widest t = widest
 widest_with (Some latest) widest t = max widest (t - latest)
@@ -37,7 +37,7 @@ with_delivered tally copies = record {
   latest = Some tally.played.packets;
 }
 
--- the numbers, with a packet more of which so many copies arrive
+-- the numbers, with one more packet, of which so many copies arrive
 abbrev pub tally_with : Tally → ℕ → Tally
 tally_with tally copies = if copies == 0 then with_dropped tally else with_delivered tally copies
 

@@ -15,7 +15,7 @@ ghost use Rattle.loss_player.specs.Worked.{copies_from, worked_store};
 
 use packet_store::WalkFault;
 
-/// Where each packet arrives once, the played store is the store, up to where its walk ends. A script without rows
+/// If each packet arrives once, the played store is the store, up to where its walk ends. A script without rows
 /// says so.
 pub fn undisturbed_stores_are_unchanged()
     ensures unchanged { (copies : ℕ → ℕ) (apid : ℕ) (store : List ℕ) → ((t : ℕ) → copies t ≡ 1)

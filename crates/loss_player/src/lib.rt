@@ -1,4 +1,4 @@
-//! The link between both ends: from a store to what arrives of it, where a script drops packets and repeats them.
+//! The link between both ends: from a store to what arrives of it, when a script drops packets and repeats them.
 #![tactic(auto)]
 
 mod fault;

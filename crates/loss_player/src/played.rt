@@ -16,7 +16,7 @@ pub struct Played {
     pub repeats: u64,
     /// The least delivered number. None: no packet is delivered.
     pub first: Option<u64>,
-    /// The greatest difference of two delivered numbers with none between, and 0 where fewer than two are delivered.
+    /// The greatest difference of two delivered numbers with none between, and 0 if fewer than two are delivered.
     pub widest: u64,
 }
 

@@ -34,7 +34,7 @@ impl Model for Player {
 }
 
 impl Player {
-    /// A player of packets of a chosen APID, which is no idle one, by this script. It takes all memory of the run.
+    /// A player of packets of a chosen APID, which is not the idle one, by this script. It takes all memory of the run.
     pub fn open(alloc: Global, apid: u16, script: Script) -> Result<Player, NoMemory>
         requires chosen { apid ≤ 2046 }
         ensures { IfOk result (λ player. player ≡ record { apid = apid; rows = script }) }

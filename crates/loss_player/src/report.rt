@@ -44,7 +44,7 @@ fn numbers_row(played: &Played) -> Row
     row
 }
 
-/// Appends the first delivered number, or a dash where none is.
+/// Appends the first delivered number, or a dash if there is none.
 fn put_first(row: &mut Row, first: Option<u64>)
     requires { length row.old ≤ 84 }
     ensures text { row.new ≡ row.old ++ first_text first }

@@ -136,7 +136,7 @@ module _ (d : Decoding) (latest : Latest) (shown : Change) (view : decoding_of l
 
 -- ---- the mask of a packet that is spelled
 
--- where nothing changed, the mask that is deduced is the known one
+-- if nothing changed, the mask that is deduced is the known one
 stays_by : (within : Bool) (old : List Bool) (next : Change) → mask_after old next ≡ old → IfSome (option_map (λ mask. mask_after mask next) (cond within (Some old) None)) (λ m. old ≡ m)
 stays_by true old next stays = sym stays
 stays_by false old next stays = tt

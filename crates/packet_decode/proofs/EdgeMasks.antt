@@ -7,7 +7,7 @@ use Rattle.run_code.specs.Edges.{edges}
 use Rattle.run_code.proofs.EdgeBits.{xor, one_mask}
 use Rattle.packet_decode.specs.PacketReading.{from_edges}
 
--- edges are as many as the places
+-- there are as many edges as places
 pub length_edges : (mask : List Bool) → length (edges mask) ≡ length mask
 length_edges [] = refl
 length_edges (bit ∷ mask) = length-zip2 (λ (a b : Bool). cond a (not b) b) (bit ∷ mask) (mask ++ false ∷ []) (omega (arith, length-append mask (false ∷ [])))

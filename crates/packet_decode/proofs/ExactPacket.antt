@@ -107,7 +107,7 @@ IsExact-padding_at Opaque used =
 
 -- ---- a packet
 
--- the bits of all parts, padded where a packet is spelled
+-- the bits of all parts, padded if a packet is spelled
 pub record IsPacket (f : ℕ) (state : State) (t : ℕ) (found : Found) (word : List Bool) : Type 0 where
   pub body : List Bool
   pub parts : IsParts f state t found body

@@ -13,7 +13,7 @@ use Rattle.run_code.proofs.Ones.{length-places_down}
 use Rattle.run_code.proofs.Filling.{parse_filled-no_wrong, parse_filled-read, parse_filled-short}
 use Rattle.packet_decode.specs.PacketReading.{Outcome, Tells}
 
--- where the bits suffice, those after them are left
+-- if the bits suffice, those after them are left
 filled_front : (places : List ℕ) (v bits : List Bool) → length places ≤ length bits → (new : List Bool) × (parse_filled places v bits ≡ Read new (drop (length places) bits))
 unfolding parse_filled
 filled_front [] v bits enough = (v, refl)

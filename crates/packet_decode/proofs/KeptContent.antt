@@ -119,7 +119,7 @@ parse_kept-wrong (free ∷ places) (was ∷ known) (bit ∷ bits) (suc p) len pl
 
 -- ---- a content taken at once, over the known one
 
--- The bits that were left, and behind them the known ones. What differs outside the places is the fault.
+-- The bits that were left, and after them the known ones. What differs outside the places is the fault.
 module _ (places known left content : List Bool) (len : length places ≡ length known) (taken : content ≡ take (length known) left ++ drop (length left) known) where
   in_front : (k : ℕ) → k < length known → k < length left → get_or content k false ≡ get_or left k false
   in_front k lt inside =

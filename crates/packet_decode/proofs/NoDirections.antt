@@ -1,4 +1,4 @@
--- Where no directions can be sent.
+-- When no directions can be sent.
 use Rattle.std.proofs.Common.{◌≡◌, ℕ, zero, suc, Bool, true, false, List, length, replicate, None, refl}
 use Rattle.std.specs.Prelude.{◌&&◌}
 use Rattle.std.specs.List.{list_any}

@@ -119,7 +119,7 @@ module _ (f : ℕ) (state : State) (t : ℕ) (has : IsState f state) where
   viable_after : (bits : List Bool) (bit : ℕ) → IsHopeless f state t bits bit → Viable f state t bits → ⊥
   viable_after bits bit h v = h.hopeless (take_viable f state t has (bit + 1) bits v)
 
-  -- all sound answers are alike, but for the places of faults
+  -- all sound answers are alike, except for the places of faults
   pub sound_reading : (bits : List Bool) (reading : Reading) (answer : Result Reading BitFault) → Says f state t bits reading → IsSoundAnswer f state t bits answer → answer ≡ Ok reading
   sound_reading bits reading (Ok other) says sound = ap Ok (one_reading bits other reading sound says)
   sound_reading bits reading (Err (Wrong bit)) says sound = absurd (viable_after bits bit sound (says_viable bits reading says))
@@ -322,7 +322,7 @@ content_places f (Part bits) (Some places) None content has all is = rw is tt
 content_places f (Part bits) (Some places) (Some known) None has all is = absurd is
 content_places f (Part bits) (Some places) (Some known) (Some content) has all is = is.same_length ∙ all
 
--- what becomes known has as many places
+-- what becomes known has the same number of places
 pub spelled_places : (f : ℕ) (state : State) (t : ℕ) (bits : List Bool) (form : Form) (mask content : Option (List Bool)) → IsState f state → Spells f state t bits form mask content → AllPlaces f mask × AllPlaces f content
 spelled_places f state t bits form mask content has s =
     let same : mask ≡ option_or (deduced_by state t (change_of form)) form.sent = s.mask_is in (

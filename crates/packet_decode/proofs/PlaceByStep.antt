@@ -39,7 +39,7 @@ module _ (bit : ℕ → Bool) where
       fall_in true e within before = (to, within, omega arith, (e, none))
       fall_in false e within before = let fall = before e in (fall.0, fall.1, omega (arith, fall.2), fall.3)
 
--- where exactly one of two bits is one, and where not
+-- when exactly one of two bits is one, and when not
 pub same_bit : (a b : Bool) → cond a (not b) b ≡ false → b ≡ a
 same_bit true true none = refl
 same_bit true false none = absurd (true≢false none)
@@ -97,7 +97,7 @@ module _ (h : History) (place : ℕ) where
         let before : second_latest_new_mask h s < s = omega (arith, now.0, latest_new_mask-le h s, latest_new_mask-le h (latest_new_mask h s - 1)) in
         (mask_at-places h s place le within).1 (inl (s, before, omega arith, now))
 
-    -- where the build vector is without a place that moved, it was emptied since the move
+    -- if the build vector is without a place that moved, it was emptied since the move
     pub emptied : (s now : ℕ) → Moved h s place → s ≤ now → now ≤ latest_step h → build_bit now ≡ false → (new : ℕ) × (s ≤ new) × (new ≤ now) × (new_mask_at h new ≡ true)
     emptied s now moved le within_steps none =
         elim (cases_lt (latest_new_mask h now) s) [

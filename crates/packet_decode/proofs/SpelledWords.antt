@@ -153,7 +153,7 @@ module _ (f : ℕ) (change : Change) where
     bits = parts;
   }
 
-  -- the content behind a sent mask
+  -- the content after a sent mask
   after_mask : (mask front back : List Bool) (deduced known : Option (List Bool)) (o : Outcome) → option_or deduced (Some mask) ≡ Some mask → length mask ≡ f → front ≡ run_bits (edges mask) → IsContent f change mask known o back
       → Sent deduced known o (false ∷ true ∷ (front ++ back))
   after_mask mask front [] deduced known o is len runs h = absurd h

@@ -1,4 +1,4 @@
--- Where nothing changed, the mask is the one before.
+-- If nothing changed, the mask is the one before.
 use Rattle.std.proofs.Common.{◌≡◌, ℕ, eqb, Bool, true, false, cond, List, [], ◌∷◌, length, replicate, Option, Some, None, refl, sym, ap, ◌∙◌}
 use Rattle.bit_vectors.specs.Vectors.{xor_bits, or_bits, without_bits}
 use Rattle.packet_decode.specs.State.{mask_after, unpredictable}

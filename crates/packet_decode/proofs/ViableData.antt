@@ -59,7 +59,7 @@ module _ (f : ℕ) (state : State) (t : ℕ) (has : IsState f state) where
     says = subst (λ (b : List Bool). Says f state t b reading) (sym (bits_of-vector_bytes all)) says;
   }
 
-  -- where a packet is spelled, it is whole bytes
+  -- if a packet is spelled, it is whole bytes
   spelled_data : (bits rest : List Bool) → 1 ≤ f → f ≤ 49152 → SpellsPacket f state t (bits ++ rest) → BeginReadable f state t bits
   spelled_data bits rest some most (form, mask, content, s) =
       let word = form_bits form in

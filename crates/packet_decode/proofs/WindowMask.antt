@@ -25,14 +25,14 @@ same_bits true false forth back = sym (forth refl)
 same_bits false true forth back = back refl
 same_bits false false forth back = refl
 
--- a bit turned where another one differs from it is that one
+-- a bit that is turned if another one differs from it is that other one
 turned_back : (a b : Bool) → cond a (not (cond a (not b) b)) (cond a (not b) b) ≡ b
 turned_back true true = refl
 turned_back true false = refl
 turned_back false true = refl
 turned_back false false = refl
 
--- the new bit, where no place became predictable, and where some may have become so
+-- the new bit, if no place became predictable, and if some may have become so
 all_unpredictable : (old recent new : Bool) → (recent ≡ false → new ≡ old) → (recent && not new) ≡ false → ((old && not recent) || recent) ≡ new
 all_unpredictable true true true same none = refl
 all_unpredictable false true true same none = refl
@@ -147,7 +147,7 @@ module _ (h : History) (earlier t : ℕ) (lt : t < length h.steps) (before : ear
   kept_len : length kept ≡ h.places
   kept_len = length-zip2 _ old recent (old_len ∙ sym recent_len) ∙ old_len
 
-  -- what is left of the old mask with the new changes is the new mask, where it is so at each place
+  -- what is left of the old mask with the new changes is the new mask, if it is so at each place
   new_by_places : (changed : List Bool) → length changed ≡ h.places → ((place : ℕ) → place < h.places → ((get_or old place false && not (get_or recent place false)) || get_or changed place false) ≡ get_or new place false)
       → or_bits kept changed ≡ new
   new_by_places changed len bits =

@@ -51,7 +51,7 @@ Says f state t bits (Unsynced false) = IsOpaque f state t bits × IsNone state.m
 Says f state t bits (Gap level true) = SpellsMaskAlone f state t bits level × IsSome state.content
 Says f state t bits (Gap level false) = HasOpaqueFront f state t bits level × IsSome state.mask
 
--- an answer that is right, where the bit of a fault may come later than the first at which it can be seen
+-- an answer that is right, though the bit of a fault may come later than the first at which it can be seen
 abbrev pub IsSoundAnswer : ℕ → State → ℕ → List Bool → Result Reading BitFault → Type 0
 IsSoundAnswer f state t bits (Ok reading) = Says f state t bits reading
 IsSoundAnswer f state t bits (Err (Wrong bit)) = IsHopeless f state t bits bit

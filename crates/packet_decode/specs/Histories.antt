@@ -14,12 +14,12 @@ true_state h mask content = record {
   content = option_map (λ s. record { number = s; vector = input_at h s }) content;
 }
 
--- The packet of a step tells its mask, where the latest known one is of this step: it carries the mask, or its effective
--- robustness level reaches that one.
+-- The packet of a step tells its mask, when the latest known one is that of this step: it carries the mask, or its
+-- effective robustness level reaches that one.
 abbrev pub is_mask_told : History → Option ℕ → ℕ → Bool
 is_mask_told h mask t = (flags_at h t).f || reaches mask t (level_at h t)
 
--- It tells its content, where the latest known mask and content are of these steps: it carries the whole content, or it tells
--- its mask and its effective robustness level reaches that content.
+-- It tells its content, when the latest known mask and content are of these steps: it carries the whole content, or it
+-- tells its mask and its effective robustness level reaches that content.
 abbrev pub is_content_told : History → Option ℕ → Option ℕ → ℕ → Bool
 is_content_told h mask content t = (flags_at h t).r || is_mask_told h mask t && reaches content t (level_at h t)

@@ -53,7 +53,7 @@ parse_named recent bits =
     >>= λ predictable rest. any_bit rest
     >>= λ twice last. Read (record { predictable = predictable; twice = twice }) last
 
--- whether directions are sent, which they can be where there are recent changes and a level above 0
+-- whether directions are sent, which they can be if there are recent changes and a level above 0
 unfoldable pub parse_directions : List Bool → ℕ → List Bool → Parsed (Option Directions)
 parse_directions recent level bits =
     if list_any (λ bit. bit) recent && nat_lt 0 level then
@@ -76,14 +76,14 @@ from_edges (edge ∷ edges) =
     let rest = from_edges edges in
     (if edge then not (slice_index_or rest 0 false) else slice_index_or rest 0 false) ∷ rest
 
--- a sent mask, which is the deduced one where there is one
+-- a sent mask, which is the deduced one if there is one
 unfoldable pub parse_mask : ℕ → Option (List Bool) → List Bool → Parsed (List Bool)
 parse_mask f None bits = parse_vector f bits >>= λ runs rest. Read (from_edges runs) rest
 parse_mask f (Some mask) bits = parse_word (run_bits (edges mask)) bits >>= λ u rest. Read mask rest
 
 -- ---- the content
 
--- the whole content; where it is known, it is that at each place but these
+-- the whole content; if a content is known, it has the bit of that at each place but these
 unfoldable pub parse_whole : ℕ → List Bool → Option (List Bool) → List Bool → Parsed (List Bool)
 parse_whole f places None bits = parse_word (count_bits f) bits >>= λ u rest. parse_front f rest
 parse_whole f places (Some known) bits = parse_word (count_bits f) bits >>= λ u rest. parse_kept places known rest
@@ -100,7 +100,7 @@ parse_whole_alone f bits =
     parse_whole f [] None bits
     >>= λ content rest. Read (Spelled None (Some content)) rest
 
--- the extracted bits, with a mask; where no content is known the other bits of the content can't be told
+-- the extracted bits, with a mask; if no content is known, they are read, but they tell no content
 unfoldable pub parse_part_with : Change → List Bool → Option (List Bool) → List Bool → Parsed Outcome
 parse_part_with change mask None bits =
     parse_front (count_by (λ bit. bit) (wide_by change.directions change.recent mask)) bits
@@ -143,7 +143,7 @@ parse_sent f change deduced known bits =
     any_bit bits
     >>= λ masked rest. if masked then parse_masked f change deduced known rest else parse_maskless f change deduced known rest
 
--- the parts after the first, by the deduced mask and the known content, where there are such
+-- the parts after the first, by the deduced mask and the known content, if there are such
 unfoldable pub parse_data : ℕ → Change → Option (List Bool) → Option (List Bool) → List Bool → Parsed Outcome
 parse_data f change deduced known bits =
     any_bit bits
@@ -151,7 +151,7 @@ parse_data f change deduced known bits =
 
 -- ---- the packet
 
--- all parts; the state is asked behind the first
+-- all parts; the state is consulted after the first
 unfoldable pub parse_parts : ℕ → State → ℕ → List Bool → Parsed Found
 parse_parts f state t bits =
     parse_change f bits

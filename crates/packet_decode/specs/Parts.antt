@@ -11,7 +11,7 @@ use Rattle.packet_decode.specs.declared.draft.Latest.{Latest}
 use Rattle.packet_decode.specs.State.{KnownVector, State, Change, known_if}
 use Rattle.packet_decode.specs.PacketReading.{Outcome, Spelled, Opaque}
 
--- directions, where it was sent whether all recent changes are extracted
+-- directions, if it was sent whether all recent changes are extracted
 abbrev pub sent_directions : Option Bool → List Bool → Option Directions
 sent_directions None predictable = None
 sent_directions (Some twice) predictable = Some (record { predictable = predictable; twice = twice })
@@ -23,7 +23,7 @@ outcome_of (SentKind known) deduced sent content = Spelled (Some sent) (known_if
 outcome_of MasklessKind deduced sent content = Spelled None (Some content)
 outcome_of OpaqueKind deduced sent content = Opaque
 
--- what they say under a mask, where the content is known or is not
+-- what they say under a mask, if the content is known and if it is not
 abbrev pub content_outcome : Bool → List Bool → List Bool → Outcome
 content_outcome known mask content = Spelled (Some mask) (known_if known content)
 
@@ -47,7 +47,7 @@ tells_content (SentKind known) = known
 tells_content MasklessKind = true
 tells_content OpaqueKind = false
 
--- a known vector, where there is a number
+-- a known vector, if there is a number
 abbrev pub part_by : Option ℕ → List Bool → Option KnownVector
 part_by number vector = option_map (λ n. record { number = n; vector = vector }) number
 
@@ -70,8 +70,8 @@ pub record IsDraft (f : ℕ) (draft : Draft) : Type 0 where
 abbrev pub lent : Option (Bor (List Bool)) → Option (List Bool)
 lent vector = option_map (λ v. v.now) vector
 
--- What holds where the parts after the first one are read: the first part, the deduced mask and the known content, if there
--- are such, have the draft's places.
+-- What holds when the parts after the first one are read: the first part, the deduced mask and the known content, if
+-- there are such, have the draft's places.
 pub record IsReady (first : Change) (mask content : Option (List Bool)) (vectors : Draft) : Type 0 where
   pub change : length first.recent ≡ length vectors.content
   pub deduced : IfSome mask (λ v. length v ≡ length vectors.content)

@@ -8,7 +8,7 @@ use Rattle.packet_decode.specs.State.{State, change_of, in_reach, deduced_by, kn
 
 -- ---- what becomes known
 
--- the mask: the deduced one where there is one, else the sent one where there is one
+-- the mask: the deduced one if there is one, else the sent one if there is one
 abbrev pub known_mask : State → ℕ → Form → Option (List Bool)
 known_mask state t form = option_or (deduced_by state t (change_of form)) form.sent
 
@@ -18,7 +18,7 @@ pub record IsFilled (places old bits new : List Bool) : Type 0 where
   pub kept : SameOutside places old new
   pub bits_are : bits ≡ extract new places
 
--- The content, by what is sent of it: the whole one. Where bits are sent, these at the extracted places of the content
+-- The content, by what is sent of it: the whole one. If bits are sent, these at the extracted places of the content
 -- in reach; without the places or such a content none becomes known.
 abbrev pub IsKnownContent : Content → Option (List Bool) → Option (List Bool) → Option (List Bool) → Type 0
 IsKnownContent (Whole whole) places reached content = content ≡ Some whole

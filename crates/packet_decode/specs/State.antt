@@ -10,7 +10,7 @@ pub record KnownVector : Type 0 where
   pub vector : List Bool
 
 -- The mask and the content of packets are known apart: the latest mask that became known and the latest content that did,
--- each where there is one.
+-- each if there is one.
 pub record State : Type 0 where
   pub mask : Option KnownVector
   pub content : Option KnownVector
@@ -23,7 +23,7 @@ no_vectors = record { mask = None; content = None }
 abbrev pub both_known : ℕ → List Bool → List Bool → State
 both_known number mask content = record { mask = Some (record { number = number; vector = mask }); content = Some (record { number = number; vector = content }) }
 
--- a vector, where it is known
+-- a vector, if it is known
 abbrev pub known_if : Bool → List Bool → Option (List Bool)
 known_if true vector = Some vector
 known_if false vector = None
@@ -36,7 +36,7 @@ pub record IsState (f : ℕ) (state : State) : Type 0 where
   pub mask : HasVector f state.mask
   pub content : HasVector f state.content
 
--- What is known, where it is in reach of the packet with the number t and this effective robustness level: at most as many
+-- What is known, if it is in reach of the packet with the number t and this effective robustness level: at most as many
 -- packets as the level says are between the one with which it became known and this one.
 abbrev pub in_reach : Option KnownVector → ℕ → ℕ → Option (List Bool)
 in_reach None t level = None
@@ -55,7 +55,7 @@ next_state state t mask content = record { mask = next_part state.mask t mask; c
 
 -- ---- the first part of a packet
 
--- the recent changes of the mask, the effective robustness level, and the directions where they are sent
+-- the recent changes of the mask, the effective robustness level, and the directions if they are sent
 pub record Change : Type 0 where
   pub recent : List Bool
   pub level : ℕ
@@ -69,8 +69,8 @@ abbrev pub unpredictable : List Bool → Option Directions → List Bool
 unpredictable recent None = recent
 unpredictable recent (Some directions) = without_bits recent directions.predictable
 
--- The mask after another one. At level 0 each change turns a place; above, a change makes its place predictable where
--- the directions say so, and else unpredictable.
+-- The mask after another one. At level 0 each change turns a place; above it, a change makes its place predictable if
+-- the directions say so, and otherwise unpredictable.
 abbrev pub mask_after : List Bool → Change → List Bool
 mask_after mask change =
     if change.level == 0 then xor_bits mask change.recent
@@ -82,10 +82,10 @@ deduced_mask mask form = mask_after mask (change_of form)
 
 -- ---- what is in reach
 
--- the mask that is deduced, where the known mask is in reach
+-- the mask that is deduced, if the known mask is in reach
 abbrev pub deduced_by : State → ℕ → Change → Option (List Bool)
 deduced_by state t change = option_map (λ mask. mask_after mask change) (in_reach state.mask t change.level)
 
--- the known content, where it is in reach
+-- the known content, if it is in reach
 abbrev pub known_by : State → ℕ → Change → Option (List Bool)
 known_by state t change = in_reach state.content t change.level

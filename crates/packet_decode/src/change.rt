@@ -1,5 +1,5 @@
 //! The first part of a packet: the recent changes of the mask, the effective robustness level, and the
-//! directions of the changes where they are sent (CCSDS 124.0-B-1).
+//! directions of the changes if they are sent (CCSDS 124.0-B-1).
 
 ghost use Rattle.std.specs.Prelude.{◌≡◌, ◌<◌, ◌≤◌, ◌↔◌, false, true, Bool, List, length, replicate, None, IfOk, Contains, IsTrue};
 ghost use Rattle.std.specs.Bool.{OnFalse, OnTrue};
@@ -27,9 +27,9 @@ pub struct FirstPart {
     /// There is no recent change.
     quiet: bool,
     level: u8,
-    /// The places that became predictable, where directions are sent.
+    /// The places that became predictable, if directions are sent.
     predictable: Bits,
-    /// Whether all recent changes are extracted, where directions are sent.
+    /// Whether all recent changes are extracted, if directions are sent.
     twice: Option<bool>,
 }
 
@@ -67,7 +67,7 @@ impl FirstPart {
         })
     }
 
-    /// Takes the first part of a packet of as many places. After a fault it is any.
+    /// Takes the first part of a packet of the same number of places. After a fault it may be any.
     #[tactic(auto, unfolding(crate::specs::PacketReading::parse_change))]
     pub fn take(&mut self, eye: &mut BitEye) -> Result<(), BitFault>
         ensures places { length self.new.recent ≡ length self.old.recent }
@@ -87,7 +87,8 @@ impl FirstPart {
         Ok(())
     }
 
-    /// Becomes `other`, which has as many places, and leaves that any. Where neither has a change, no vector is moved.
+    /// Becomes `other`, of the same number of places, which may be any afterwards. If neither has a change, no vector is
+    /// moved.
     pub fn take_over(&mut self, other: &mut FirstPart)
         requires { length self.old.recent ≡ length other.old.recent }
         ensures same { self.new ≡ other.old }
@@ -126,7 +127,7 @@ impl FirstPart {
         self.quiet
     }
 
-    /// Makes `mask` the mask after it. `spare` has any bits then.
+    /// Makes `mask` the mask after it. `spare` may have any bits afterwards.
     pub fn deduce(&self, mask: &mut Bits, spare: &mut Bits)
         requires mask { length mask.old ≡ length self.now.recent }
         requires spare { length spare.old ≡ length self.now.recent }
@@ -146,7 +147,7 @@ impl FirstPart {
         mask.or_in(spare);
     }
 
-    /// Whether all recent changes are extracted. Else only the places of the mask are.
+    /// Whether all recent changes are extracted. If not, only the places of the mask are.
     pub fn is_wide(&self) -> bool
         ensures { OnFalse result
             ((mask : List Bool) → wide_by self.now.directions self.now.recent mask ≡ mask) }
@@ -166,8 +167,8 @@ impl FirstPart {
     }
 }
 
-/// Takes recent changes, and tells in `quiet`, which says so of those before, whether there is none. If there was
-/// none and there is none again, no place is looked at.
+/// Takes recent changes. Before, `quiet` may say that there was none so far; afterwards it tells whether there is none.
+/// If it said so and there is none again, no place is looked at.
 fn take_recent(eye: &mut BitEye, recent: &mut Bits, quiet: &mut bool) -> Result<(), BitFault>
     requires { OnTrue quiet.old (recent.old ≡ replicate (length recent.old) false) }
     ensures none { IsTrue quiet.new ↔ (recent.new ≡ replicate (length recent.new) false) }

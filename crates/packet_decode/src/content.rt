@@ -16,7 +16,7 @@ use count_code::match_count;
 use run_code::take_into;
 
 /// Takes whether the content is whole, and the content into the draft, under a mask. Answers whether it is known then:
-/// if no content is known, extracted bits are too little.
+/// if no content was known, extracted bits are read, as many as the mask and the first part say, and tell no content.
 #[tactic(auto, unfolding(crate::specs::PacketReading::parse_content))]
 pub fn take_content(
     eye: &mut BitEye,
@@ -41,7 +41,7 @@ pub fn take_content(
     }
 }
 
-/// Takes the extracted bits, and answers whether they tell the content, which they do if one is known.
+/// Takes the extracted bits, and answers whether they tell the content, which they do if a content is known.
 #[tactic(auto, unfolding(crate::specs::PacketReading::parse_part_with))]
 pub fn take_part(
     eye: &mut BitEye,
@@ -66,7 +66,7 @@ pub fn take_part(
     Ok(true)
 }
 
-/// Takes the extracted bits, which tell no content, since none is known. The draft has any content then.
+/// Takes the extracted bits, which tell no content, since none is known. The draft may have any content afterwards.
 fn take_untold(
     eye: &mut BitEye,
     change: &FirstPart,
@@ -105,7 +105,7 @@ fn take_extracted(
     }
 }
 
-/// Takes the whole content. Where one is known, it is that outside the extracted places.
+/// Takes the whole content. If a content is known, the whole one agrees with it outside the extracted places.
 #[tactic(auto, unfolding(crate::specs::PacketReading::parse_whole_with, crate::specs::PacketReading::parse_whole))]
 pub fn take_whole(
     eye: &mut BitEye,
@@ -137,7 +137,7 @@ pub fn take_whole(
     )
 }
 
-/// Takes the whole content, any, since no mask is known.
+/// Takes the whole content, which may be any, since no mask is known.
 #[tactic(auto, unfolding(crate::specs::PacketReading::parse_whole_alone, crate::specs::PacketReading::parse_whole))]
 pub fn take_whole_alone(eye: &mut BitEye, draft: &mut Draft) -> Result<(), BitFault>
     requires { IsDraft (length draft.old.content) draft.old }
@@ -151,7 +151,7 @@ pub fn take_whole_alone(eye: &mut BitEye, draft: &mut Draft) -> Result<(), BitFa
 }
 
 /// Takes a content that is the known one outside these places. The first bit that differs is wrong. It is
-/// taken at once, so that the eye may stand behind a wrong bit. `spare` has any bits then.
+/// taken at once, so that the eye may stand after a wrong bit. `spare` may have any bits afterwards.
 fn take_kept(
     eye: &mut BitEye,
     known: &Bits,

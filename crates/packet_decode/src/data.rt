@@ -1,4 +1,4 @@
-//! The parts of a packet after the first one, by a deduced mask and a known content, where there are such
+//! The parts of a packet after the first one, by a deduced mask and a known content, if there are such
 //! (CCSDS 124.0-B-1).
 
 ghost use Rattle.std.specs.Prelude.{◌≡◌, Bool, List, length, IfOk, IsSome};
@@ -44,7 +44,7 @@ pub fn take_data(
     }
 }
 
-/// Takes what follows where neither a mask nor a whole content is sent.
+/// Takes what follows if neither a mask nor a whole content is sent.
 #[tactic(auto, unfolding(crate::specs::PacketReading::parse_unsent))]
 fn take_unsent(
     eye: &mut BitEye,
@@ -94,7 +94,7 @@ fn take_maskless(
     Ok(DataKind::Deduced(true))
 }
 
-/// Takes what follows where a mask is sent, which is the deduced one if there is one.
+/// Takes what follows if a mask is sent, which is the deduced one if there is one.
 #[tactic(auto, unfolding(crate::specs::PacketReading::parse_masked))]
 fn take_masked(
     eye: &mut BitEye,

@@ -89,9 +89,9 @@ impl Decoder {
         requires later { IfSome (latest_number self.old.state) (λ last. last < t) }
         requires later_mask { IfSome (latest_mask_number self.old.state) (λ last. last < t) }
         requires size { length bytes.now ≤ 65536 }
-        // Each answer comes exactly where it is the right one, and a fault names the first bit.
+        // Each answer comes exactly when it is the right one, and a fault names the first bit.
         ensures exact { IsExactAnswer self.old.places self.old.state t (bits_of bytes.now) result }
-        // Written, Unsynced and Gap come exactly where the bits say so.
+        // Written, Unsynced and Gap come exactly when the bits say so.
         ensures says { (reading : Reading) → (result ≡ Ok reading) ↔
             Says self.old.places self.old.state t (bits_of bytes.now) reading }
         // What the bits tell is then known, and the rest stays.
@@ -195,8 +195,8 @@ impl Decoder {
     }
 }
 
-/// Makes the mask that the packet with the number `t` tells the latest one: the sent one, or the deduced one, which is the
-/// latest one itself if nothing changed. If it tells none, nothing changes.
+/// Stores the mask that the packet with the number `t` tells as the latest one: the sent one, or the deduced one, which
+/// is the latest one itself if nothing changed. If it tells none, nothing changes.
 fn keep_mask(
     latest: &mut Latest,
     t: u64,
@@ -227,7 +227,7 @@ fn keep_mask(
     latest.mask_number = Some(t);
 }
 
-/// The answer where a part did not become known that was last known with this packet, if with any. `mask` tells whether
+/// The answer if a part did not become known; it was last known with this packet, if with any. `mask` tells whether
 /// the mask became known.
 fn missed(last: Option<u64>, level: u8, mask: bool) -> Reading
     ensures { (vector : List Bool) → result ≡ missed (part_by last vector) level mask }

@@ -10,9 +10,9 @@ ghost use Rattle.packet_decode.specs.Parts.{sent_directions};
 use bit_vectors::{BitEye, BitFault, Bits};
 use run_code::take_inverse_up;
 
-/// Takes the directions of the recent changes, where they are sent, which they can be where there are changes, of
-/// which `quiet` says that there is none, and a level above 0. `predictable` is then the places that became
-/// predictable, and the answer whether all recent changes are extracted.
+/// Takes the directions of the recent changes, if they are sent. They can be sent if there are changes and the level is
+/// above 0; `quiet` says whether there are none. `predictable` is then the places that became predictable, and the
+/// answer tells whether all recent changes are extracted.
 #[tactic(auto, unfolding(crate::specs::PacketReading::parse_directions))]
 pub fn take_directions(
     eye: &mut BitEye,

@@ -22,7 +22,7 @@ pub struct Latest {
 pub enum DataKind {
     /// They are read under the deduced mask. Whether they tell the content.
     Deduced(bool),
-    /// They have a mask, of which none was deduced. Whether they tell the content.
+    /// They have a mask, and none was deduced. Whether they tell the content.
     Sent(bool),
     /// They have whole content, and no mask is known.
     Maskless,
@@ -41,7 +41,7 @@ pub struct Draft {
 }
 
 impl Latest {
-    /// Nothing, of `f` places.
+    /// Nothing is known yet; the vectors have `f` places.
     pub fn none(alloc: Global, f: u32) -> Result<Latest, NoMemory>
         requires some { 1 ≤ f }
         requires most { f ≤ 49152 }

@@ -39,7 +39,7 @@ pub fn exact_answers_are_sound()
         IsExactAnswer f state t bits answer → IsSoundAnswer f state t bits answer }
 {}
 
-/// Sound answers differ in faults alone: if one of them says that bits are written, unsynced or after a gap, each other
+/// Sound answers differ only in faults: if one of them says that bits are written, unsynced or after a gap, each other
 /// one says the same.
 pub fn sound_answers_agree()
     ensures { (f t : ℕ) (state : State) (bits : List Bool) (reading : Reading)
@@ -125,7 +125,7 @@ pub fn states_keep_their_places()
         IsState f (next_state state t mask content) }
 {}
 
-/// Where bits spell a packet, the first bit after them is wrong, whatever it is and whatever follows.
+/// If bits spell a packet, the first bit after them is wrong, whatever it is and whatever follows.
 pub fn no_further_bit()
     ensures { (f t : ℕ) (state : State) (bits more : List Bool) (bit : Bool) → IsState f state
         → SpellsPacket f state t bits →
@@ -267,7 +267,7 @@ pub fn worked_packets()
         (bits_of (0x81 ∷ 0x60 ∷ 0x4C ∷ [])) ≡ Ok (Reading.Gap 0 true) }
     ensures mask_first { answer_of 8 no_vectors 5 (bits_of (0x85 ∷ 0x60 ∷ 0x44 ∷ []))
         ≡ Ok (Reading.Unsynced true) }
-    // A one in the padding after it, and no whole content where neither a mask is sent nor one is known.
+    // A one in the padding after it, and no whole content when neither a mask is sent nor one is known.
     ensures mask_padding { answer_of 8 no_vectors 5 (bits_of (0x85 ∷ 0x60 ∷ 0x45 ∷ []))
         ≡ Err (BitFault.Wrong 23) }
     ensures not_whole { answer_of 8 no_vectors 5 (bits_of (0x84 ∷ 0x00 ∷ []))

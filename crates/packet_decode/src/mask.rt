@@ -8,7 +8,7 @@ ghost use Rattle.packet_decode.specs.PacketReading.{parse_mask};
 use bit_vectors::{BitEye, BitFault, Bits};
 use run_code::{edges, from_edges, match_runs, take_runs};
 
-/// Takes the runs of the edges of the known mask. `spare` has any bits then.
+/// Takes the runs of the edges of the known mask. `spare` may have any bits afterwards.
 #[tactic(auto, unfolding(crate::specs::PacketReading::parse_mask), using(crate::proofs::EdgeMasks::length_edges))]
 pub fn match_mask(eye: &mut BitEye, known: &Bits, spare: &mut Bits) -> Result<(), BitFault>
     requires { length spare.old ≡ length known.now }
@@ -21,8 +21,8 @@ pub fn match_mask(eye: &mut BitEye, known: &Bits, spare: &mut Bits) -> Result<()
     match_runs(eye, spare)
 }
 
-/// Takes the runs of the edges of a mask, and makes `mask` that one. `spare` has any bits then, and after a fault
-/// `mask` too.
+/// Takes the runs of the edges of a mask, and sets `mask` to it. `spare` may have any bits afterwards; after a fault
+/// so may `mask`.
 #[tactic(auto, unfolding(crate::specs::PacketReading::parse_mask))]
 pub fn read_mask(eye: &mut BitEye, mask: &mut Bits, spare: &mut Bits) -> Result<(), BitFault>
     requires { length spare.old ≡ length mask.old }

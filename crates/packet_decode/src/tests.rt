@@ -1,4 +1,4 @@
-//! Packets of 8 places, with their data and answers worked out by hand, and by a script outside that asks which forms
+//! Packets of 8 places, with their data and answers worked out by hand, and by an external script that asks which forms
 //! and fronts begin with the bits.
 
 use crate::{Decoder, Reading};
@@ -18,7 +18,7 @@ struct Run<'a> {
     level: u8,
 }
 
-/// What the data must be answered.
+/// How the data must be answered.
 #[derive(Clone, Copy)]
 enum Answer {
     Written,
@@ -42,7 +42,7 @@ impl Answer {
     }
 }
 
-/// Whether the data have their answer, where they may be read.
+/// Whether the data have their answer, if they may be read.
 fn answers(decoder: &mut Decoder, t: u64, data: &[u8], answer: Answer) -> bool {
     if let Some(last) = decoder.last() {
         if last >= t {

@@ -9,7 +9,7 @@ use Rattle.desk_ports.specs.FileDesk.{file_counts, gathered_at}
 use Rattle.pocket.specs.declared.Asked.{Asked}
 use Rattle.pocket.specs.declared.Asked.TheVariants as asked
 
--- what a word asks of the program itself
+-- what a word asks about the program itself
 abbrev pub asked_of : List ℕ → Option Asked
 asked_of word =
     if bytes_eq word (codes "--help") then Some asked.Help

@@ -14,10 +14,10 @@ use pocket_cmd::{Refusal, Status, exit_code, pocket};
 use std::process::ExitCode;
 use std::{env, io};
 
-/// No verb has as many words, so that a command line cut here is refused as the whole one is.
+/// No verb has as many words, so a command line that is cut here is refused just as the whole one is.
 const MOST_WORDS: usize = 1000;
 
-/// The exit number where the system refuses the words.
+/// The exit number if the system refuses the words.
 const NO_WORDS: u8 = 7;
 
 const HELP: &str = "\
@@ -53,7 +53,7 @@ Exit numbers:
 
 const VERSION: &str = "pocket 0.1.0";
 
-/// What the program is asked of itself.
+/// What the program is asked about itself.
 #[derive(Clone, Copy, Debug, PartialEq, Eq)]
 enum Asked {
     Help,
@@ -123,12 +123,12 @@ fn words(line: &[String]) -> &[String]
     }
 }
 
-/// Prints what is asked of the program itself, or runs the command.
+/// Prints what is asked about the program itself, or runs the command.
 fn answer(rt: &HostRuntime, words: &[String]) -> ExitCode
     // Words that give no command, and ask nothing of the program, end it with 2.
     ensures no_command { (word : ℕ) → asked_by (map string_bytes words.now) ≡ None
         → command_of (seen words.now) ≡ Err word → exit_status result ≡ 2 }
-    // It ends with 0 only where the words are right or ask something of the program.
+    // It ends with 0 only if the words are right or ask something of the program.
     ensures done { exit_status result ≡ 0
         → IsSome (asked_by (map string_bytes words.now))
         ⊎ HasCommand (take 1000 words.now) (λ _. Unit {0}) }
@@ -152,7 +152,7 @@ fn run<'a>(rt: &HostRuntime, words: &[String], desk: &mut FileDesk<'a>) -> Statu
         ↔ (command_of (map string_bytes words.now) ≡ Err word) }
     ensures done { result ≡ Status.Done → HasCommand words.now (λ _. Unit {0}) }
     ensures handed { IsHandedOver desk.new }
-    // Where it is done, all that was written was handed over.
+    // If it is done, all that was written was handed over.
     ensures whole { result ≡ Status.Done → GathersNothing desk.new }
 {
     match pocket(rt.alloc(), words, desk) {

@@ -34,7 +34,7 @@ made-with_report : (m : Meanings) (report : Option (List ℕ)) → made (with_re
 made-with_report m None = refl
 made-with_report m (Some name) = refl
 
--- an outlet that was opened, to which these bytes were added, has them, where it tells
+-- an outlet that was opened, to which these bytes were added, has them, if it tells
 written-told : (before after : Option (List ℕ)) (bytes : List ℕ) → after ≡ append_known (option_map (λ _. []) before) bytes → IfSome after (λ made. made ≡ bytes)
 written-told None after bytes is = subst (λ o. IfSome o (λ made. made ≡ bytes)) (sym is) tt
 written-told (Some before) after bytes is = subst (λ o. IfSome o (λ made. made ≡ bytes)) (sym is) refl

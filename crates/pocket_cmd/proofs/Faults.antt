@@ -20,7 +20,7 @@ by_ending-named name (Some fault) before after = refl
 pub owed-with_fault : {F G : Type 0} (name : F → G) (course : Course F) → owed course ≡ owed (with_fault name course)
 owed-with_fault name course = by_ending-named name course.ending course.before course.after
 
--- it has a fault where it had one
+-- it has a fault if it had one
 pub unmapped : {A B : Type 0} (f : A → B) (o : Option A) → option_map f o ≡ None → o ≡ None
 unmapped f None e = refl
 unmapped f (Some x) e = absurd cc

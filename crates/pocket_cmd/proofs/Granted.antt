@@ -12,7 +12,7 @@ use Rattle.pocket_cmd.specs.Openings.{AreTold}
 use Rattle.pocket_cmd.specs.Status.{status_by}
 use Rattle.pocket_cmd.specs.Outcome.{IsAnswered, NoneRose, answer_to}
 
--- the names of a command are granted where all that words give to these keys are
+-- the names of a command are granted if all that words give to these keys are
 abbrev AreGranted : List (List ℕ) → List (List ℕ) → (List ℕ → Bool) → Type 0
 AreGranted words keys grants = (name : List ℕ) → (key : List ℕ) × Contains keys key × Assigns words key name → IsTrue (grants name)
 

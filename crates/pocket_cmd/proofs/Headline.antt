@@ -24,7 +24,7 @@ use Rattle.pocket_cmd.proofs.Delivered.{HasWritten-stands}
 use Rattle.pocket_cmd.proofs.Faults.{owed-with_fault, unmapped}
 use Rattle.pocket_cmd.proofs.Performed.{Stands-answer, ending_is}
 
--- what a done restoration of such a store has written
+-- what a completed restoration of such a store has written
 HasWritten-played : (r : RestoreValues) (h : History) (copies : ℕ → ℕ) (old new : Meanings) → IsChosen r.apid → IsPlayedStore r h copies old → Stands (Restore r) old new None
     → HasWritten (names_of (Restore r)) (record { output = restored_bytes h copies; report = report_text h copies }) new
 HasWritten-played r h copies old new chosen played stands =

@@ -109,7 +109,7 @@ name-opened : (names : Names) (m : Meanings) (bytes : List ℕ) → (all_opened 
 name-opened names m bytes =
     name-with_report (with_output (with_input m names.input bytes) names.output) names.report ∙ ap (option_map (λ _. names.output)) (name-with_input m names.input bytes)
 
--- nothing was kept, or the output alone, where a report is
+-- nothing was kept, or the output alone, if there is a report
 half_kept : (report : Option (List ℕ)) (end new : Meanings) → IsHalfKept report end new → (new ≡ end) ⊎ (IsSome report × (new ≡ with_output_kept end))
 half_kept None end new e = inl e
 half_kept (Some name) end new (inl e) = inl e

@@ -70,7 +70,7 @@ status-run names course old new counts after (Err (Data f)) input e cause told r
 status-run names course old new counts after (Err ReadFault) input e cause told reads writes = absurd (reads (Rose-reads counts after cause))
 status-run names course old new counts after (Err WriteFault) input e cause told reads writes = absurd (writes (Rose-writes counts after cause))
 
--- where the side text is a table, the answer is that of the course
+-- if the side text is a table, the answer is that of the course
 pub IsAnsweredBy-run : (command : Command) (text : List ℕ) (old new : Meanings) (counts after : Counts) (answer : Result (Unit {0}) Refusal) → bad_row_of command text ≡ None → IsEnded (AfterNames (names_of command) (course_of command text) old new) answer
     → HasStatusCause counts after (status_by answer) → IsAnsweredBy command text old counts after answer
 IsAnsweredBy-run command text old new counts after answer rows e cause = subst (IsAnsweredBy command text old counts after) (sym e.answered) (λ input told memory reads writes.

@@ -1,4 +1,4 @@
--- A text that is written where there is no input.
+-- A text that is written when there is no input.
 use Rattle.std.proofs.Common.{ℕ, false, List, Ok, Err, refl, ap}
 use Rattle.desk_ports.specs.declared.desk.Outlet.TheVariants as outlet
 use Rattle.desk_ports.specs.Courses.{to_output}

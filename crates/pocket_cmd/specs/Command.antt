@@ -65,8 +65,8 @@ pub data Command : Type 0 where
   Show : ShowValues → Command
   Trial : TrialValues → Command
 
--- the names that a command opens: those of its side input, its input, its output and its report. Only that of an output is one
--- that each has
+-- the names that a command opens: those of its side input, its input, its output and its report. Only the name of an
+-- output is one that every command has
 pub record Names : Type 0 where
   pub side : Option (List ℕ)
   pub input : Option (List ℕ)
@@ -82,7 +82,7 @@ names_of (Trial t) = record { side = None; input = None; output = t.output; repo
 
 -- ---- what is right
 
--- a number of places, and an APID that is no idle one
+-- a number of places, and an APID that is not the idle one
 abbrev pub IsPlaces : ℕ → Type 0
 IsPlaces f = (1 ≤ f) × (f ≤ 49152)
 
@@ -156,13 +156,13 @@ view_result (Err word) = Err word
 
 -- ---- from the words
 
--- the mask that a text says, zero where there is none; where it says none, the place of its word
+-- the mask that a text denotes, zero if there is none; if it denotes none, the place of its word
 abbrev pub mask_given : ℕ → Option (ℕ × List ℕ) → Result (List Bool) ℕ
 mask_given f None = Ok (no_mask f)
 mask_given f (Some (word, text)) = ok_or (mask_of f text) word
 
--- what `compress` is told by what the words give; or the number of all words, where one is missing; or the place of the word
--- with the mask
+-- what `compress` is told by what the words give; or the number of all words, if one is missing; or the place of the
+-- word with the mask
 unfoldable pub compress_values : Given → ℕ → Result CompressValues ℕ
 compress_values g missing = do
   bits ← ok_or g.bits missing
@@ -219,8 +219,8 @@ with_values verb.Restore g missing = restore_values g missing >>= λ r. Ok (Rest
 with_values verb.Show g missing = show_values g missing >>= λ s. Ok (Show s)
 with_values verb.Trial g missing = trial_values g missing >>= λ t. Ok (Trial t)
 
--- the verb with its values; or the place of the first faulty word; or the number of words, where one is missing; or the
--- place of the word with the mask, where its text says none
+-- the verb with its values; or the place of the first faulty word; or the number of words, if one is missing; or the
+-- place of the word with the mask, if its text denotes none
 abbrev pub command_of : List (List ℕ) → Result Command ℕ
 command_of [] = Err 0
 command_of (word ∷ words) = do

@@ -16,7 +16,7 @@ use Rattle.pocket_cmd.specs.Summary.{summary_by}
 abbrev pub with_fault : {F G : Type 0} → (F → G) → Course F → Course G
 with_fault name course = record { before = course.before; after = course.after; ending = option_map name course.ending }
 
--- what `compress` is told, where its schedule has this text
+-- what `compress` is told, if its schedule has this text
 abbrev pub compression_by : CompressValues → List ℕ → Compression
 compression_by c text = record { places = c.bits; robust = c.robust; apid = c.apid; mask = c.mask; rows = schedule_rows_of text }
 

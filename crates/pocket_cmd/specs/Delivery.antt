@@ -16,7 +16,7 @@ use Rattle.pocket_cmd.specs.Command.{Command, Compress, CompressValues, Play, Re
 use Rattle.pocket_cmd.specs.Courses.{compression_by}
 use Rattle.pocket_cmd.specs.Openings.{given}
 
--- the outputs of a command got this, where the desk tells what was written
+-- the outputs of a command got this, if the desk tells what was written
 pub record HasWritten (names : Names) (all : Outputs) (m : Meanings) : Type 0 where
   pub output : IfSome (made m outlet.Main) (λ bytes. bytes ≡ all.output)
   pub report : IfSome names.report (λ name. IfSome (made m outlet.Report) (λ bytes. bytes ≡ all.report))

@@ -16,15 +16,15 @@ KeepsAllButSide old new = new ≡ record old { side = new.side }
 abbrev pub KeepsNames : Meanings → Meanings → Type 0
 KeepsNames old new = new.held ≡ old.held
 
--- both outputs were made as far as where the command is done
+-- both outputs were made as far as they are when the command is done
 pub record AreMadeAsDone (command : Command) (old new : Meanings) : Type 0 where
   pub done : Meanings
   pub stands : Stands command old done None
   pub output : made new outlet.Main ≡ made done outlet.Main
   pub report : made new outlet.Report ≡ made done outlet.Report
 
--- the command has a report, both outputs were made as far as where it is done, and what the output made is kept under its name;
--- each other name has what it had
+-- the command has a report, both outputs were made as far as they are when it is done, and what the output made is kept
+-- under its name; each other name has what it had
 pub record IsOutputKept (command : Command) (old new : Meanings) : Type 0 where
   pub report : IsSome (names_of command).report
   pub made_as_done : AreMadeAsDone command old new

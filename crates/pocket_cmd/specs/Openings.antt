@@ -25,18 +25,18 @@ given_by (Some kept) (Some rest) name = Some (kept_at kept name)
 given_by (Some kept) None name = None
 given_by None rest name = None
 
--- the bytes of an input, where the desk tells what it keeps under the name and what is left of an input
+-- the bytes of an input, if the desk tells what it keeps under the name and what is left of an input
 abbrev pub given : Meanings → Inlet → List ℕ → Option (List ℕ)
 given m i name = given_by m.held (left m i) name
 
 -- ---- the side input
 
--- the text of a side input, where the desk tells it; none is read where there is none
+-- the text of a side input, if the desk tells it; none is read if there is none
 abbrev pub side_given : Meanings → Option (List ℕ) → Option (List ℕ)
 side_given m None = Some []
 side_given m (Some name) = given m inlet.Side name
 
--- the bytes of an input, where the desk tells them; none are read where there is none
+-- the bytes of an input, if the desk tells them; none are read if there is none
 abbrev pub input_given : Meanings → Option (List ℕ) → Option (List ℕ)
 input_given m None = Some []
 input_given m (Some name) = given m inlet.Main name
@@ -45,24 +45,24 @@ input_given m (Some name) = given m inlet.Main name
 abbrev pub AreTold : Names → Meanings → List ℕ → List ℕ → Type 0
 AreTold names m text input = (side_given m names.side ≡ Some text) × (input_given m names.input ≡ Some input)
 
--- the text is that of the side input, where the desk tells it
+-- the text is that of the side input, if the desk tells it
 abbrev pub IsSideText : Meanings → Option (List ℕ) → List ℕ → Type 0
 IsSideText m side text = IfSome (side_given m side) (λ bytes. text ≡ bytes)
 
--- the text of the side input has more than 1,048,576 bytes, where the desk tells it
+-- the text of the side input has more than 1,048,576 bytes, if the desk tells it
 abbrev pub IsSideLong : Meanings → Option (List ℕ) → Type 0
 IsSideLong m side = IfSome (side_given m side) (λ bytes. 1048576 < length bytes)
 
--- the side input of this name has at least so many bytes, where the desk tells it
+-- the side input of this name has at least so many bytes, if the desk tells it
 abbrev pub HasSideBytes : Meanings → List ℕ → ℕ → Type 0
 HasSideBytes m name n = IfSome (given m inlet.Side name) (λ bytes. n ≤ length bytes)
 
--- the side input was opened and read to its end, where there is one
+-- the side input was opened and read to its end, if there is one
 abbrev pub with_side : Meanings → Option (List ℕ) → Meanings
 with_side m None = m
 with_side m (Some name) = with_incoming m inlet.Side (record { left = option_map (λ _. []) (left m inlet.Side); ready = true })
 
--- nothing changed but the side input, where there is one
+-- nothing changed but the side input, if there is one
 abbrev pub KeepsAll : Option (List ℕ) → Meanings → Meanings → Type 0
 KeepsAll None old new = new ≡ old
 KeepsAll (Some name) old new = new ≡ record old { side = new.side }
@@ -76,7 +76,7 @@ HasSideCause old new (Err unread.NoMemory) = new ≡ old
 
 -- ---- opening
 
--- the input is opened, where there is one, and has these bytes
+-- the input is opened, if there is one, and has these bytes
 abbrev pub with_input : Meanings → Option (List ℕ) → List ℕ → Meanings
 with_input m None bytes = m
 with_input m (Some name) bytes = with_incoming m inlet.Main (record { left = option_map (λ _. bytes) (left m inlet.Main); ready = true })
@@ -85,7 +85,7 @@ with_input m (Some name) bytes = with_incoming m inlet.Main (record { left = opt
 abbrev pub with_output : Meanings → List ℕ → Meanings
 with_output m name = with_outgoing m outlet.Main (record { made = option_map (λ _. []) (made m outlet.Main); name = option_map (λ _. name) m.output.name; ready = true })
 
--- the report is opened under a name, where there is one
+-- the report is opened under a name, if there is one
 abbrev pub with_report : Meanings → Option (List ℕ) → Meanings
 with_report m None = m
 with_report m (Some name) =
@@ -95,13 +95,13 @@ with_report m (Some name) =
 abbrev pub all_opened : Names → Meanings → List ℕ → Meanings
 all_opened names old bytes = with_report (with_output (with_input old names.input bytes) names.output) names.report
 
--- the bytes are those that are kept under the input's name, where the desk tells what it keeps, and none where there is no
+-- the bytes are those that are kept under the input's name, if the desk tells what it keeps, and none if there is no
 -- input
 abbrev pub AreKept : Meanings → Option (List ℕ) → List ℕ → Type 0
 AreKept m None bytes = bytes ≡ []
 AreKept m (Some name) bytes = IfSome m.held (λ kept. bytes ≡ kept_at kept name)
 
--- what was opened before the report, where there is one, stands
+-- what was opened before the report, if there is one, stands
 abbrev pub LacksReport : Names → Option (List ℕ) → Meanings → Meanings → List ℕ → Type 0
 LacksReport names None old new bytes = new ≡ with_input old names.input bytes
 LacksReport names (Some report) old new bytes =
@@ -125,7 +125,7 @@ HasOpeningCause old new (Err unopened.Output) = FailsToWrite old new
 
 -- ---- finishing
 
--- what the output made is kept under its name, and what the report made, where there is one
+-- what the output made is kept under its name, and what the report made, if there is one
 abbrev pub with_output_kept : Meanings → Meanings
 with_output_kept m = record m { held = kept_after m.held m.output.name (made m outlet.Main) }
 
@@ -137,7 +137,7 @@ with_report_kept (Some name) m = record m { held = kept_after m.held m.report.na
 abbrev pub all_finished : Option (List ℕ) → Meanings → Meanings
 all_finished report m = with_report_kept report (with_output_kept m)
 
--- nothing was kept, or the output alone where there is a report
+-- nothing was kept, or the output alone if there is a report
 abbrev pub IsHalfKept : Option (List ℕ) → Meanings → Meanings → Type 0
 IsHalfKept None old new = new ≡ old
 IsHalfKept (Some report) old new = (new ≡ old) ⊎ (new ≡ with_output_kept old)

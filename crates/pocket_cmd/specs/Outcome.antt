@@ -16,9 +16,9 @@ use Rattle.pocket_cmd.specs.Unfed.{EndsBy, IsCutOffBy, IsCutShortBy}
 use Rattle.pocket_cmd.specs.Status.{status_of, status_by}
 use Rattle.pocket_cmd.specs.Openings.{AreKept, IsSideText, IsSideLong, KeepsAll, with_side, all_opened, all_finished, IsHalfOpened, IsHalfKept, input_given, side_given}
 
--- ---- behind the side input
+-- ---- after the side input
 
--- the input has these bytes, which are those kept under its name, where the desk tells them, and none where there is no input;
+-- the input has these bytes, which are those kept under its name, if the desk tells them, and none if there is no input;
 -- and this holds of the desk at which all names are opened
 pub record Behind (names : Names) (old : Meanings) (After : Meanings → Type 0) : Type 0 where
   pub input : List ℕ
@@ -31,12 +31,12 @@ pub record AreOpened (names : Names) (old start : Meanings) : Type 0 where
   pub kept : AreKept old names.input input
   pub is : start ≡ all_opened names old input
 
--- where the run has no fault, the outputs are finished
+-- if the run has no fault, the outputs are finished
 abbrev pub finished_where : Option DataFault → Option (List ℕ) → Meanings → Meanings
 finished_where None report m = all_finished report m
 finished_where (Some fault) report m = m
 
--- the run is done, and the outputs are finished where it has no fault
+-- the run is done, and the outputs are finished if it has no fault
 pub record IsRunOut (names : Names) (course : List ℕ → Course DataFault) (ending : Option DataFault) (start new : Meanings) : Type 0 where
   pub end : Meanings
   pub ran : EndsBy (is_some names.input) course start end ending
@@ -54,12 +54,12 @@ pub record IsUnopened (names : Names) (old new : Meanings) : Type 0 where
   pub kept : AreKept old names.input input
   pub is : IsHalfOpened names old new input
 
--- all that the course of the input owes stands, which ends so
+-- the course of the input ends so, and all that it owes stands
 abbrev pub RunStands : Names → (List ℕ → Course DataFault) → Meanings → Meanings → Option DataFault → Type 0
 RunStands names course old new ending = Behind names old (λ start. IsRunOut names course ending start new)
 
--- reading failed: the input was not opened; or what the bytes owe that were moved before the failing read stands, and
--- nothing is kept
+-- reading failed: the input was not opened; or what is owed for the bytes that were moved before the failing read
+-- stands, and nothing is kept
 abbrev pub IsRunUnread : Names → (List ℕ → Course DataFault) → Meanings → Meanings → Type 0
 IsRunUnread names course old new = (IsSome names.input × (new ≡ old)) ⊎ Behind names old (λ start. IsCutOffBy (is_some names.input) course start new)
 
@@ -80,14 +80,14 @@ AfterNames names course old new (Err WriteFault) = IsRunUnwritten names course o
 
 -- ---- from the words on
 
--- the side input has this text, where the desk tells it, and is read; and this holds by the text from there on
+-- the side input has this text, if the desk tells it, and is read; and this holds by the text from there on
 pub record BehindSide (side : Option (List ℕ)) (old : Meanings) (After : List ℕ → Meanings → Type 0) : Type 0 where
   pub text : List ℕ
   pub told : IsSideText old side text
   pub after : After text (with_side old side)
 
--- All that the course of the input owes stands, which ends so; nothing else changed but what reading the side input, opening
--- and finishing change.
+-- The course of the input ends so, and all that it owes stands; nothing else changed but what reading the side input,
+-- opening and finishing change.
 abbrev pub Stands : Command → Meanings → Meanings → Option DataFault → Type 0
 Stands command old new ending =
     BehindSide (names_of command).side old (λ text start. RunStands (names_of command) (course_of command text) start new ending)
@@ -105,8 +105,8 @@ HasBadRow command old new row = BehindSide (names_of command).side old (λ text 
 abbrev pub IsUntouched : Command → Meanings → Meanings → Type 0
 IsUntouched command old new = KeepsAll (names_of command).side old new
 
--- reading failed: nothing changed but the side input, or what the bytes owe that were moved before the failing read stands,
--- and nothing is kept. So a command without an input and a side input has no such answer.
+-- reading failed: nothing changed but the side input, or what is owed for the bytes that were moved before the failing
+-- read stands, and nothing is kept. So a command without an input and a side input has no such answer.
 abbrev pub IsUnread : Command → Meanings → Meanings → Type 0
 IsUnread command old new =
     (IsSome (names_of command).side × IsUntouched command old new)
@@ -170,13 +170,13 @@ answer_to command text input = if nat_lt 1048576 (length text) then Refused refu
 abbrev pub NoneRose : Counts → Counts → Type 0
 NoneRose old new = (¬ Rose old.reads new.reads) × (¬ Rose old.writes new.writes)
 
--- where the input is told, memory was found and no count rose, the answer is this one
+-- if the input is told, memory was found and no count rose, the answer is this one
 abbrev pub IsAnsweredBy : Command → List ℕ → Meanings → Counts → Counts → Result (Unit {0}) Refusal → Type 0
 IsAnsweredBy command text m old new result =
     (input : List ℕ) → input_given m (names_of command).input ≡ Some input → status_by result ≢ Refused refusal.NoMemory
     → ¬ Rose old.reads new.reads → ¬ Rose old.writes new.writes → status_by result ≡ answer_by command text input
 
--- the same where the side text is told, too
+-- the same if the side text is told too
 abbrev pub IsAnswered : Command → Meanings → Counts → Counts → Result (Unit {0}) Refusal → Type 0
 IsAnswered command m old new result =
     (text input : List ℕ) → side_given m (names_of command).side ≡ Some text → input_given m (names_of command).input ≡ Some input
@@ -185,18 +185,18 @@ IsAnswered command m old new result =
 
 -- ---- the side text
 
--- an answer refuses a side text exactly where it is too long, and exactly at its first record that is no row
+-- an answer refuses a side text exactly if it is too long, and exactly at its first record that is no row
 pub record IsSideJudged (command : Command) (text : List ℕ) (status : Status) : Type 0 where
   pub too_long : (status ≡ Refused refusal.SideTooLong) ↔ (1048576 < length text)
   pub bad_row : (row : ℕ) → (status ≡ Refused (refusal.BadSide row)) ↔ ((length text ≤ 1048576) × (bad_row_of command text ≡ Some row))
 
--- where this record of the side text is the first that is no row, and memory was found, that is the answer
+-- if this record of the side text is the first that is no row, and memory was found, that is the answer
 abbrev pub IsRowAnswered : Command → List ℕ → Result (Unit {0}) Refusal → Type 0
 IsRowAnswered command text result =
     (row : ℕ) → bad_row_of command text ≡ Some row → status_by result ≢ Refused refusal.NoMemory → status_by result ≡ Refused (refusal.BadSide row)
 
--- where the side text is told, memory was found and no reading failed, a text that is too long and a record that is no row are
--- answered
+-- if the side text is told, memory was found and no reading failed, a text that is too long and a record that is no row
+-- are answered
 abbrev pub IsSideAnswered : Command → Meanings → Counts → Counts → Result (Unit {0}) Refusal → Type 0
 IsSideAnswered command m old new result =
     (text : List ℕ) → side_given m (names_of command).side ≡ Some text → status_by result ≢ Refused refusal.NoMemory → ¬ Rose old.reads new.reads

@@ -37,7 +37,7 @@ pub record IsEnded (Over : Result (Unit {0}) (Stop DataFault) → Type 0) (answe
   pub over : Over ended
   pub answered : answer ≡ refused_by ended
 
--- the refusal where a side input was not read, and where its text is no table
+-- the refusal if a side input was not read, and if its text is no table
 abbrev pub refusal_at : TextFault → Refusal
 refusal_at unread.TooLong = SideTooLong
 refusal_at unread.ReadFault = ReadFault
@@ -48,7 +48,7 @@ refusal_in table.TooLong = SideTooLong
 refusal_in (table.Row row) = BadSide row
 refusal_in table.NoMemory = NoMemory
 
--- the answer where a course ends so
+-- the answer if a course ends so
 abbrev pub status_of : Option DataFault → Status
 status_of None = Done
 status_of (Some fault) = Refused (refusal_of fault)

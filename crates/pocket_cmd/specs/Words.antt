@@ -136,7 +136,7 @@ abbrev pub ◌>>=◌ : {A B : Type 0} → Result A ℕ → (A → Result B ℕ) 
 (Ok x) >>= f = f x
 (Err e) >>= f = Err e
 
--- what words give, from this place on, behind those that gave this; or the place of the first that is faulty
+-- what words give, from this place on, after those that gave this; or the place of the first that is faulty
 abbrev pub given_by : Verb → Given → ℕ → List (List ℕ) → Result Given ℕ
 given_by verb g place [] = Ok g
 given_by verb g place (word ∷ words) = ok_or (with_word verb g place word) place >>= λ more. given_by verb more (place + 1) words

@@ -82,8 +82,8 @@ pub enum Command<'a> {
 }
 
 impl<'a> Command<'a> {
-    /// The verb with its values; or the place of the first faulty word; or the number of words, where one is missing; or the
-    /// place of the word with the mask, where its text says none.
+    /// The verb with its values; or the place of the first faulty word; or the number of words, if one is missing; or
+    /// the place of the word with the mask, if its text denotes none.
     pub fn of(words: &'a [String]) -> Result<Command<'a>, u32>
         requires { length words.now < 2 ^ 32 }
         ensures { view_result result ≡ command_of (map string_bytes words.now) }
@@ -142,8 +142,8 @@ impl<'a> Command<'a> {
     }
 }
 
-/// What `compress` is told by what the words give; or the number of all words, where one is missing; or the place of the word
-/// with the mask.
+/// What `compress` is told by what the words give; or the number of all words, if one is missing; or the place of the
+/// word with the mask.
 #[tactic(auto, unfolding(crate::specs::Command::compress_values))]
 fn compress_values<'a>(given: &Given<'a>, missing: u32) -> Result<CompressValues<'a>, u32>
     ensures { MatchResult result
@@ -162,7 +162,7 @@ fn compress_values<'a>(given: &Given<'a>, missing: u32) -> Result<CompressValues
     })
 }
 
-/// The digits, where they say a vector of so many places; or else the place of their word.
+/// The digits, if they denote a vector of so many places; or else the place of their word.
 fn digits(bits: Places, mask: Option<(u32, &str)>) -> Result<Option<&str>, u32>
     ensures { MatchResult result
         (λ digits. mask_given bits.value (view_digits mask.entry)
@@ -176,7 +176,7 @@ fn digits(bits: Places, mask: Option<(u32, &str)>) -> Result<Option<&str>, u32>
     }
 }
 
-/// What `play` is told by what the words give, or the number of all words where one is missing.
+/// What `play` is told by what the words give, or the number of all words if one is missing.
 #[tactic(auto, unfolding(crate::specs::Command::play_values))]
 fn play_values<'a>(given: &Given<'a>, missing: u32) -> Result<PlayValues<'a>, u32>
     ensures { MatchResult result
@@ -192,7 +192,7 @@ fn play_values<'a>(given: &Given<'a>, missing: u32) -> Result<PlayValues<'a>, u3
     })
 }
 
-/// What `restore` is told by what the words give, or the number of all words where one is missing.
+/// What `restore` is told by what the words give, or the number of all words if one is missing.
 #[tactic(auto, unfolding(crate::specs::Command::restore_values))]
 fn restore_values<'a>(given: &Given<'a>, missing: u32) -> Result<RestoreValues<'a>, u32>
     ensures { MatchResult result
@@ -208,7 +208,7 @@ fn restore_values<'a>(given: &Given<'a>, missing: u32) -> Result<RestoreValues<'
     })
 }
 
-/// What `show` is told by what the words give, or the number of all words where one is missing.
+/// What `show` is told by what the words give, or the number of all words if one is missing.
 #[tactic(auto, unfolding(crate::specs::Command::show_values))]
 fn show_values<'a>(given: &Given<'a>, missing: u32) -> Result<ShowValues<'a>, u32>
     ensures { MatchResult result
@@ -223,7 +223,7 @@ fn show_values<'a>(given: &Given<'a>, missing: u32) -> Result<ShowValues<'a>, u3
     })
 }
 
-/// What `trial` is told by what the words give, or the number of all words where one is missing.
+/// What `trial` is told by what the words give, or the number of all words if one is missing.
 #[tactic(auto, unfolding(crate::specs::Command::trial_values))]
 fn trial_values<'a>(given: &Given<'a>, missing: u32) -> Result<TrialValues<'a>, u32>
     ensures { MatchResult result

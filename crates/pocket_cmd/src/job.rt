@@ -19,7 +19,7 @@ use loss_player::Player;
 use side_tables::{Schedule, Script, SideFault};
 use std::alloc::Global;
 
-/// What reads the main input to its end, where there is one, and writes the outputs. It owns all memory of its run.
+/// What reads the main input to its end, if there is one, and writes the outputs. It owns all memory of its run.
 #[derive(Drop)]
 pub enum Job {
     Compress(Flight),

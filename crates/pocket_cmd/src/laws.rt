@@ -28,7 +28,7 @@ pub fn commands_are_given()
         → AreGiven words (names_of command) }
 {}
 
-/// Where the desk tells both inputs, a command that is done has written all that it owes for them.
+/// If the desk tells both inputs, a command that is done has written all that it owes for them.
 pub fn done_commands_wrote_all()
     ensures { (command : Command) (old new : Meanings) (text input : List ℕ)
         → Stands command old new None
@@ -37,8 +37,8 @@ pub fn done_commands_wrote_all()
         → HasWritten (names_of command) (owed (course_of command text input)) new }
 {}
 
-/// A trial owes its summary, whatever a side text or an input would be, and reads nothing: it is refused only where a writing
-/// failed, or where memory was wanting.
+/// A trial owes its summary, whatever a side text or an input would be, and reads nothing: it is refused only if a
+/// writing failed, or if there was not enough memory.
 pub fn trials_owe_their_summary()
     ensures summary { (t : TrialValues) (text input : List ℕ)
         → owed (course_of (Trial t) text input) ≡ to_output (summary_by t) }

@@ -1,4 +1,4 @@
-//! The first mask, which hexadecimal digits say.
+//! The first mask, which hexadecimal digits denote.
 ghost use Rattle.std.specs.Prelude.{◌≡◌, ◌≤◌, false, length, take, IfOk, IfSome};
 ghost use Rattle.std.specs.Option.{option_map};
 ghost use Rattle.bit_vectors.specs.Vectors.{byte_count, has_spare_bit};
@@ -11,14 +11,15 @@ use std::alloc::Global;
 /// The bytes of a vector of the most places.
 const MOST_BYTES: usize = 6144;
 
-/// Whether a text says a vector of so many places: two digits of either case for each of its bytes, whose spare bits are 0.
+/// Whether a text denotes a vector of so many places: two digits of either case for each of its bytes, whose spare
+/// bits are 0.
 pub fn is_mask(bits: Places, text: &str) -> bool
     ensures { result ≡ is_mask bits.value text.now }
 {
     mask_bytes(bits, text).is_some()
 }
 
-/// The vector of so many places that a text says, zero where there is no text or it says none.
+/// The vector of so many places that a text denotes, zero if there is no text or it denotes none.
 pub fn first_mask(alloc: Global, bits: Places, text: Option<&str>) -> Result<Bits, NoMemory>
     ensures mask { IfOk result
         (λ mask. mask ≡ first_mask bits.value (option_map (λ text. text.now) text.entry)) }
@@ -34,7 +35,7 @@ pub fn first_mask(alloc: Global, bits: Places, text: Option<&str>) -> Result<Bit
     Ok(mask)
 }
 
-/// The bytes of the vector of so many places that a text says, and zeros behind them.
+/// The bytes of the vector of so many places that a text denotes, and zeros after them.
 fn mask_bytes(bits: Places, text: &str) -> Option<[u8; MOST_BYTES]>
     ensures bytes { option_map (take (byte_count bits.value)) result
         ≡ mask_bytes bits.value text.now }
@@ -50,7 +51,7 @@ fn mask_bytes(bits: Places, text: &str) -> Option<[u8; MOST_BYTES]>
     Some(bytes)
 }
 
-/// Whether a bit behind the first `f` is 1.
+/// Whether a bit after the first `f` is 1.
 fn has_spare_bit(f: u32, bytes: &[u8]) -> bool
     requires few { length bytes.now ≤ 65536 }
     ensures { result ≡ has_spare_bit f bytes.now }

@@ -14,7 +14,7 @@ pub struct Places {
 }
 
 impl Places {
-    /// The number that a plain decimal says.
+    /// The number that a plain decimal denotes.
     pub fn read(text: &str) -> Option<Places>
         ensures { option_map (λ places. places.value) result ≡ number_of 1 49152 text.now }
     {
@@ -32,7 +32,7 @@ pub struct TrialPlaces {
 }
 
 impl TrialPlaces {
-    /// The number that a plain decimal says.
+    /// The number that a plain decimal denotes.
     pub fn read(text: &str) -> Option<TrialPlaces>
         ensures { option_map (λ places. places.value) result ≡ number_of 1 4096 text.now }
     {
@@ -50,7 +50,7 @@ pub struct TrialPackets {
 }
 
 impl TrialPackets {
-    /// The number that a plain decimal says.
+    /// The number that a plain decimal denotes.
     pub fn read(text: &str) -> Option<TrialPackets>
         ensures { option_map (λ packets. packets.value) result ≡ number_of 1 10000 text.now }
     {
@@ -59,14 +59,14 @@ impl TrialPackets {
     }
 }
 
-/// The seed of a trial, which a plain decimal says.
+/// The seed of a trial, which a plain decimal denotes.
 pub fn seed(text: &str) -> Option<u32>
     ensures { result ≡ number_of 0 4294967295 text.now }
 {
     number(text.as_bytes(), 0, u32::MAX)
 }
 
-/// An APID which is no idle one.
+/// An APID which is not the idle one.
 #[derive(Clone, Copy, Debug, PartialEq, Eq)]
 pub struct Apid {
     pub value: u16,
@@ -74,7 +74,7 @@ pub struct Apid {
 }
 
 impl Apid {
-    /// The number that a plain decimal says.
+    /// The number that a plain decimal denotes.
     pub fn read(text: &str) -> Option<Apid>
         ensures { option_map (λ apid. apid.value) result ≡ number_of 0 2046 text.now }
     {
@@ -91,7 +91,7 @@ pub struct Robustness {
 }
 
 impl Robustness {
-    /// The number that a plain decimal says.
+    /// The number that a plain decimal denotes.
     pub fn read(text: &str) -> Option<Robustness>
         ensures { option_map (λ robust. robust.value) result ≡ number_of 0 7 text.now }
     {

@@ -21,11 +21,11 @@ pub fn rehearse(alloc: Global, words: &[String], desk: &mut QuietDesk<'_>) -> St
     // Words that give no command are refused at the first fault.
     ensures bad_words { (word : ℕ) → (result ≡ Status.Refused (Refusal.BadWords word))
         ↔ (command_of (map string_bytes words.now) ≡ Err word) }
-    // Where both inputs are told and memory was found, the answer is that of the side text and of the input's course.
+    // If both inputs are told and memory was found, the answer is that of the side text and of the input's course.
     ensures ends { (command : Told) (text input : List ℕ) → IsCommandOf words.now command
         → AreTold (names_of command) (quiet_meanings desk.old) text input
         → result ≢ Status.Refused Refusal.NoMemory → result ≡ answer_to command text input }
-    // Right words, a right side text and a whole input are done, where memory was found.
+    // Right words, a right side text and a whole input are done if memory was found.
     ensures complete { (command : Told) (text input : List ℕ) → IsCommandOf words.now command
         → AreTold (names_of command) (quiet_meanings desk.old) text input
         → IsSideRight command text → IsWhole command input

@@ -12,7 +12,7 @@ use crate::job::Job;
 use crate::status::Refusal;
 use desk_ports::{Desk, Failed, Inlet, Outlet};
 
-/// The names that a command opens. Only that of an output is one that each has.
+/// The names that a command opens. Only the name of an output is one that every command has.
 #[derive(Clone, Copy, Debug)]
 pub struct Names<'a> {
     pub side: Option<&'a str>,
@@ -80,7 +80,7 @@ fn run_opened<D: Desk>(desk: &mut D, names: &Names<'_>, job: Job) -> Result<(), 
     }
 }
 
-/// Opens the input where there is one, the output, and the report where there is one.
+/// Opens the input if there is one, the output, and the report if there is one.
 fn open_all<D: Desk>(desk: &mut D, names: &Names<'_>) -> Result<(), Unopened>
     requires input { IfSome names.now.input
         (λ name. IsTrue ((D.meaning desk.old).grants_in name.now)) }
@@ -103,7 +103,7 @@ fn open_all<D: Desk>(desk: &mut D, names: &Names<'_>) -> Result<(), Unopened>
     open_report(desk, names.report)
 }
 
-/// Opens the input, where there is one.
+/// Opens the input, if there is one.
 fn open_input<D: Desk>(desk: &mut D, name: Option<&str>) -> Result<(), Unopened>
     requires { IfSome name (λ name. IsTrue ((D.meaning desk.old).grants_in name.now)) }
     ensures opened { let input = option_map (λ name. name.now) name.entry in
@@ -125,7 +125,7 @@ fn open_input<D: Desk>(desk: &mut D, name: Option<&str>) -> Result<(), Unopened>
     }
 }
 
-/// Opens the report, where there is one.
+/// Opens the report, if there is one.
 fn open_report<D: Desk>(desk: &mut D, name: Option<&str>) -> Result<(), Unopened>
     requires { IfSome name (λ name. IsTrue ((D.meaning desk.old).grants_out name.now)) }
     ensures opened { OnOk result
@@ -151,7 +151,7 @@ fn open_report<D: Desk>(desk: &mut D, name: Option<&str>) -> Result<(), Unopened
     }
 }
 
-/// Finishes the output, and then the report, where there is one.
+/// Finishes the output, and then the report, if there is one.
 fn finish_all<D: Desk>(desk: &mut D, report: Option<&str>) -> Result<(), Failed>
     requires output { IsReadyOut (D.meaning desk.old) Outlet.Main }
     requires report { IsSome report → IsReadyOut (D.meaning desk.old) Outlet.Report }

@@ -36,7 +36,7 @@ impl From<AllocError> for TextFault {
     }
 }
 
-/// The text of a side input, which is opened and read. Where there is none, the text is empty.
+/// The text of a side input, which is opened and read. If there is none, the text is empty.
 pub fn side_text<D: Desk>(
     alloc: Global,
     desk: &mut D,
@@ -83,7 +83,7 @@ fn text_of<D: Desk>(alloc: Global, desk: &mut D, name: &str) -> Result<Vec<u8>, 
     Ok(text)
 }
 
-/// Room for a text and one byte more.
+/// Room for a text and one more byte.
 fn room(alloc: Global) -> Result<Vec<u8>, AllocError>
     ensures { IfOk result (λ room. length room.items ≡ 1048577) }
 {

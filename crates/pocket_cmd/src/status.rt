@@ -153,8 +153,8 @@ impl From<Result<(), Refusal>> for Status {
     }
 }
 
-/// The exit number of the program: 0 when done, 1 where the outside failed, 2 for wrong words, 3 for a wrong side input,
-/// 4 for wrong data, 5 for want of memory.
+/// The exit number of the program: 0 when done, 1 if the outside failed, 2 for wrong words, 3 for a wrong side input,
+/// 4 for wrong data, 5 for lack of memory.
 pub fn exit_code(status: &Status) -> u8
     ensures { result ≡ exit_number status.now }
 {

@@ -61,12 +61,13 @@ pub fn pocket<D: Desk>(alloc: Global, words: &[String], desk: &mut D) -> Status
         → AfterRefusal command (D.meaning desk.old) (D.meaning desk.new) refusal }
 
     // The same in plain words. Nothing has changed but the side input, or each name has what it had; or, after a failed
-    // writing of a command with a report, both outputs are made as far as at Done, and the output alone is kept.
+    // writing of a command with a report, both outputs are made as far as they are at Done, and the output alone is
+    // kept.
     ensures leaves { (refusal : Refusal) (command : Told) → result ≡ Status.Refused refusal
         → IsCommandOf words.now command
         → Leaves command (D.meaning desk.old) (D.meaning desk.new) refusal }
 
-    // Where the side text is told, memory was found and no reading failed, it is refused exactly where it is too long, and
+    // If the side text is told, memory was found and no reading failed, it is refused exactly if it is too long, and
     // exactly at its first record that is no row, whatever the main input is.
     ensures side_text { (command : Told) (text : List ℕ) → IsCommandOf words.now command
         → side_given (D.meaning desk.old) (names_of command).side ≡ Some text
@@ -74,16 +75,16 @@ pub fn pocket<D: Desk>(alloc: Global, words: &[String], desk: &mut D) -> Status
         → ¬ Rose (D.counts desk.old).reads (D.counts desk.new).reads
         → IsSideJudged command text result }
 
-    // Where both inputs are told, memory was found and no count rose, the answer is that of the side text and of the input's
-    // course.
+    // If both inputs are told, memory was found and no count rose, the answer is that of the side text and of the
+    // input's course.
     ensures ends { (command : Told) (text input : List ℕ) → IsCommandOf words.now command
         → AreTold (names_of command) (D.meaning desk.old) text input
         → result ≢ Status.Refused Refusal.NoMemory
         → NoneRose (D.counts desk.old) (D.counts desk.new)
         → result ≡ answer_to command text input }
 
-    // Completeness: right words, a right side text and a whole input, at a desk that doesn't fail, are done, where memory was
-    // found.
+    // Completeness: right words, a right side text and a whole input, at a desk that doesn't fail, are done if memory
+    // was found.
     ensures complete { (command : Told) (text input : List ℕ) → IsCommandOf words.now command
         → AreTold (names_of command) (D.meaning desk.old) text input
         → IsSideRight command text → IsWhole command input
@@ -100,7 +101,7 @@ pub fn pocket<D: Desk>(alloc: Global, words: &[String], desk: &mut D) -> Status
         (record { output = restored_bytes h copies; report = report_text h copies })
         (D.meaning desk.new) }
 
-    // A fault of the desk is answered only where the desk failed in this call; after all other answers no count has
+    // A fault of the desk is answered only if the desk failed in this call; after all other answers no count has
     // changed.
     ensures cause { HasStatusCause (D.counts desk.old) (D.counts desk.new) result }
 {

@@ -89,7 +89,7 @@ impl<'a> Given<'a> {
         mask: None,
     };
 
-    /// What the words behind the verb give; or the place of the first that is faulty, the verb's being 0.
+    /// What the words after the verb give; or the place of the first that is faulty, the verb's being 0.
     pub fn by(verb: Verb, words: &'a [String]) -> Result<Given<'a>, u32>
         requires { length words.now + 1 < 2 ^ 32 }
         ensures { MatchResult result
@@ -106,7 +106,7 @@ impl<'a> Given<'a> {
         Ok(given)
     }
 
-    /// Takes a word, which stands at this place; nothing where it is faulty.
+    /// Takes a word, which stands at this place; nothing if it is faulty.
     fn take(&mut self, verb: Verb, place: u32, word: &'a str) -> Option<()>
         ensures { MatchOption result
             (with_word verb (view_given self.old) place word.now ≡ None)
@@ -120,7 +120,7 @@ impl<'a> Given<'a> {
         self.give(verb, place, key, text)
     }
 
-    /// Gives a key the value that a text says, where it is one of the key's and the key had none. The word stands at this
+    /// Gives a key the value that a text denotes, if it is one of the key's and the key had none. The word stands at this
     /// place.
     fn give(&mut self, verb: Verb, place: u32, key: &str, text: &'a str) -> Option<()>
         ensures { MatchOption result
@@ -159,7 +159,7 @@ impl<'a> Given<'a> {
         }
     }
 
-    /// A name to read, which has at least one byte and is none of the names so far; `-` may be one to write.
+    /// A name to read, which has at least one byte and is none of the names so far; `-` may also be a name to write.
     fn name_in(&self, name: &'a str) -> Option<&'a str>
         ensures { option_map (λ name. name.now) result ≡ name_in (view_given self.now) name.now }
     {
@@ -169,7 +169,7 @@ impl<'a> Given<'a> {
         Some(name)
     }
 
-    /// A name to write, alike.
+    /// A name to write, under the same conditions.
     fn name_out(&self, name: &'a str) -> Option<&'a str>
         ensures { option_map (λ name. name.now) result ≡ name_out (view_given self.now) name.now }
     {

@@ -9,6 +9,6 @@ recording-push : (inputs : List (List Bool)) (input : List Bool) → recording_o
 recording-push [] input = append-nil (vector_bytes input)
 recording-push (first ∷ inputs) input = ap (λ bytes. vector_bytes first ++ bytes) (recording-push inputs input) ∙ sym (append_assoc (vector_bytes first) (recording_of inputs) (vector_bytes input))
 
--- one packet more
+-- one more packet
 pub recording-more : (seed f t : ℕ) → recording_of (trial_inputs seed (t + 1) f) ≡ recording_of (trial_inputs seed t f) ++ vector_bytes (trial_input seed f t)
 recording-more seed f t = ap recording_of (map-range_with_len_more (trial_input seed f) 0 t t (omega arith)) ∙ recording-push (trial_inputs seed t f) (trial_input seed f t)

@@ -1,4 +1,4 @@
--- What a call of a desk does is the same where the desk grants other names.
+-- What a call of a desk does is the same if the desk grants other names.
 use Rattle.std.proofs.Common.{◌≡◌, ℕ, Bool, cond, true, false, List, [], Option, Some, IsSome, IfSome, Result, Ok, Err, OnOk, OnErr, ap, subst, sym, ◌∙◌}
 use Rattle.std.specs.FinMap as map
 use Rattle.std.specs.Option.{option_map}
@@ -33,7 +33,7 @@ pub Keeps-granting : (grants : List ℕ → Bool) (a b : Meanings) (o : Outlet) 
 Keeps-granting grants a b outlet.Main e = ap (granting grants) e
 Keeps-granting grants a b outlet.Report e = ap (granting grants) e
 
--- what is held stays held once more is kept
+-- what is held stays held if one more thing is kept
 pub IsSome-insert : (kept : Kept) (name bytes sought : List ℕ) → IsSome (map.get kept sought) → IsSome (map.get (map.insert kept name bytes) sought)
 IsSome-insert kept name bytes sought some =
     subst IsSome (sym (map.get-insert nat_list_cmp_total kept name bytes sought ∙ ap (λ b. cond b (Some bytes) (map.get kept sought)) (is_eq-slice_cmp sought name)))

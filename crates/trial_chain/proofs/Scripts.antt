@@ -28,7 +28,7 @@ names-alone t copies = grind (arith, common_steps)
 names-others : (t copies s : ℕ) → s ≢ t → names (copy_span (alone t copies)) s ≡ false
 names-others t copies s other = grind (arith, common_steps, other)
 
--- what is said of the packet behind the latest one, and of all others
+-- what is said of the packet after the latest one, and of all others
 copies-now : (seed latest : ℕ) → trial_copies seed (suc (suc latest)) (suc latest) ≡ copies_by (second_draw seed latest)
 copies-now seed latest = grind (arith, common_steps)
 
@@ -43,7 +43,7 @@ copies-none : (seed s : ℕ) → trial_copies seed 1 s ≡ 1
 copies-none seed zero = refl
 copies-none seed (suc s) = grind (arith, common_steps)
 
--- one row more, or none where a packet arrives once
+-- one more row, or none if a packet arrives once
 script-row : (seed latest copies : ℕ) (rows : List CopyRow) → copies ≡ copies_by (second_draw seed latest) → ((s : ℕ) → copies_of rows s ≡ trial_copies seed (suc latest) s)
     → (s : ℕ) → copies_of (rows ++ alone (suc latest) copies ∷ []) s ≡ trial_copies seed (suc (suc latest)) s
 script-row seed latest copies rows is so s =
@@ -65,7 +65,7 @@ script-none seed latest copies rows is one so s =
 pub script-start : (seed : ℕ) (rows : List CopyRow) → rows ≡ [] → (s : ℕ) → copies_of rows s ≡ trial_copies seed 1 s
 script-start seed rows none s = ap (λ (r : List CopyRow). copies_of r s) none ∙ sym (copies-none seed s)
 
--- the rows that the packet behind the latest one wants
+-- the rows that the packet after the latest one needs
 pub script-more : (seed latest copies : ℕ) (rows : List CopyRow) → copies ≡ copies_by (second_draw seed latest) → ((s : ℕ) → copies_of rows s ≡ trial_copies seed (suc latest) s)
     → (s : ℕ) → copies_of (rows ++ rows_for (suc latest) copies) s ≡ trial_copies seed (suc (suc latest)) s
 script-more seed latest copies rows is so s = elim (cases_eq copies 1) [

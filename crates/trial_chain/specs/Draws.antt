@@ -1,7 +1,7 @@
 -- The numbers that a trial draws: a linear congruential sequence, of whose numbers a draw gives the high half.
 use Rattle.std.specs.Prelude.{ℕ, zero, suc, ◌+◌, ◌*◌, ◌/◌, ◌%◌}
 
--- the number after a draw
+-- the number that a draw leaves
 abbrev pub next_number : ℕ → ℕ
 next_number s = (1664525 * s + 1013904223) % 4294967296
 
@@ -9,12 +9,12 @@ next_number s = (1664525 * s + 1013904223) % 4294967296
 abbrev pub drawn : ℕ → ℕ
 drawn s = s / 65536
 
--- the number after the draws of the packet t: two for each packet behind the first
+-- the number after the draws of the packet t: two for each packet after the first
 unfoldable pub number_at : ℕ → ℕ → ℕ
 number_at seed zero = seed
 number_at seed (suc t) = next_number (next_number (number_at seed t))
 
--- the two draws of the packet behind the packet t
+-- the two draws of the packet after the packet t
 abbrev pub first_draw : ℕ → ℕ → ℕ
 first_draw seed t = drawn (next_number (number_at seed t))
 

@@ -25,7 +25,7 @@ pub record IsTrial (packets f robust : ℕ) : Type 0 where
 abbrev pub inverted_at : List Bool → ℕ → List Bool
 inverted_at v place = slice_set v place (not (slice_index_or v place false))
 
--- The input behind an input: the last place is inverted, and after that, for one draw in four, the place that it says.
+-- The input after an input: the last place is inverted, and after that, for one draw in four, the place that it says.
 abbrev pub input_behind : ℕ → List Bool → List Bool
 input_behind g v =
     let moved = inverted_at v (length v - 1) in
@@ -65,7 +65,8 @@ trial_plan =
 abbrev pub copies_by : ℕ → ℕ
 copies_by h = if h % 16 == 0 then 0 else if h % 16 == 1 then 2 else 1
 
--- How many copies of the packet t arrive. Of the first there is one, and so says the link of numbers that no packet has.
+-- How many copies of the packet t arrive. Of the first there is one, and of numbers that no packet has the link says
+-- one too.
 abbrev pub trial_copies : ℕ → ℕ → ℕ → ℕ
 trial_copies seed packets zero = 1
 trial_copies seed packets (suc t) = if nat_lt (suc t) packets then copies_by (second_draw seed t) else 1
@@ -74,7 +75,7 @@ trial_copies seed packets (suc t) = if nat_lt (suc t) packets then copies_by (se
 abbrev pub alone : ℕ → ℕ → CopyRow
 alone t copies = record { first = t; last = t; step = 1; copies = copies }
 
--- the rows that they want: none where the packet arrives once
+-- the rows that they need: none if the packet arrives once
 abbrev pub rows_for : ℕ → ℕ → List CopyRow
 rows_for t copies = if copies == 1 then [] else alone t copies ∷ []
 

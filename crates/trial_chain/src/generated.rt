@@ -47,7 +47,7 @@ pub(crate) fn generate(
     Ok(Generated { recording, script })
 }
 
-/// Appends the row that so many copies of a packet want in a script: none where it arrives once.
+/// Appends the row that so many copies of a packet need in a script: none if it arrives once.
 fn note(script: &mut Vec<CopyRow>, t: u32, copies: u8) -> Result<(), NoMemory>
     requires most { copies ≤ 9 }
     requires right { All IsCopyRow script.old.items }

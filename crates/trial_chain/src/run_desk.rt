@@ -10,7 +10,7 @@ use desk_ports::{Desk, Failed, Inlet, MemDesk, Outlet};
 use std::marker::Model;
 
 /// A desk in memory for one run. It holds the run's input and grants its name, and no call is told to fail. So no reading
-/// fails, and a writing only where a growth is refused.
+/// fails, and a writing only if a growth is refused.
 #[derive(Debug, Drop)]
 pub(crate) struct RunDesk {
     desk: MemDesk,
@@ -82,7 +82,7 @@ impl RunDesk {
     }
 }
 
-/// What a failed writing is where no call is told to fail.
+/// What a failed writing is when no call is told to fail.
 fn no_memory(_failed: Failed) -> NoMemory {
     NoMemory
 }

@@ -37,7 +37,7 @@ pub struct Summary {
     pub delivered: u64,
     /// The packets that were restored.
     pub written: u64,
-    /// The packets up to the last arrival that were not.
+    /// The packets up to the last arrival that were not restored.
     pub listed: u64,
 }
 

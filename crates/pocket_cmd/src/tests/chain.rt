@@ -35,7 +35,7 @@ pub struct Chain<'a> {
     /// The second line of the play report.
     pub played: &'a str,
     pub restored: &'a [u8],
-    /// The report behind its first line.
+    /// The report after its first line.
     pub report: &'a str,
 }
 

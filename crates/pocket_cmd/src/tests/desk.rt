@@ -43,7 +43,7 @@ pub struct Ending<'a> {
     pub faults: (u64, u64),
 }
 
-/// The words, at a desk where no input is put.
+/// The words, at a desk without an input.
 pub fn words_alone(words: &str) -> Case<'_> {
     Case {
         words,
@@ -94,7 +94,7 @@ pub fn refused<'a>(refusal: Refusal, output: &'a [u8], report: &'a [u8]) -> Endi
     }
 }
 
-/// How often reading and writing failed, where this is the answer.
+/// How often reading and writing failed, if this is the answer.
 fn faults_of(refusal: Refusal) -> (u64, u64) {
     match refusal {
         Refusal::ReadFault => (1, 0),
@@ -181,7 +181,7 @@ pub fn bytes_of_all(alloc: Global, texts: &[&str]) -> Result<Vec<u8>, AllocError
     Ok(bytes)
 }
 
-/// One text behind another.
+/// One text after another.
 pub fn joined(alloc: Global, front: &str, back: &str) -> Result<String, AllocError> {
     let mut text = String::from_str(alloc, front)?;
     text.push_str(back)?;
@@ -212,7 +212,7 @@ pub fn hold(desk: &mut MemDesk, name: &str, bytes: &[u8]) -> Result<(), NoMemory
     desk.put(name, bytes)
 }
 
-/// Holds the bytes of an input, where it is there.
+/// Holds the bytes of an input, if there is one.
 fn hold_some(desk: &mut MemDesk, name: &str, input: Option<&[u8]>) -> Result<(), NoMemory> {
     match input {
         None => Ok(()),

@@ -16,7 +16,7 @@ const COMPRESS: &str = "compress in=a out=b bits=8 apid=100 robust=1";
 
 const BY_PLAN: &str = "compress in=a out=b bits=8 apid=100 robust=1 plan=s";
 
-/// How a run ends: how many bytes of the output and of the report stand where a reading or a writing failed.
+/// How a run ends: how many bytes of the output and of the report stand when a reading or a writing failed.
 #[derive(Clone, Copy)]
 enum End {
     Done,
@@ -29,7 +29,7 @@ enum End {
 /// The calls that fail, and how the run then ends.
 type Row = (&'static [(Call, u32)], End);
 
-/// What a verb is given, whether a call moves one byte at most, what it writes where no call fails, and rows of calls that
+/// What a verb is given, whether a call moves one byte at most, what it writes if no call fails, and rows of calls that
 /// do.
 struct Table {
     words: &'static str,
@@ -290,8 +290,8 @@ fn assert_tables(rt: &(impl Abort + AllocGlobal), tables: &[Table]) -> Result<()
     Ok(())
 }
 
-/// What `restore` leaves that could write this many bytes of 47: the report's first line, two contents, the lost row, the
-/// third content and the last row come in this order.
+/// What `restore` leaves if it could write this many bytes of 47: the report's first line, two contents, the lost row,
+/// the third content and the last row come in this order.
 fn restored_until(written: usize) -> End {
     match written {
         0..=23 => End::Unwritten(0, written),
@@ -302,7 +302,7 @@ fn restored_until(written: usize) -> End {
     }
 }
 
-/// The writes of one byte in turn, up to the first number that none has.
+/// Makes each write of one byte fail in turn, up to the first number that no write has.
 fn assert_writes(rt: &(impl Abort + AllocGlobal)) -> Result<(), Fail> {
     for written in 0..48u32 {
         let case = Case {
@@ -316,7 +316,8 @@ fn assert_writes(rt: &(impl Abort + AllocGlobal)) -> Result<(), Fail> {
     Ok(())
 }
 
-/// How the restoring of a store ends that is cut to this size, in the packet that begins here, before which this is restored.
+/// How the restoring ends for a store that is cut to this size, in the packet that begins here, before which this is
+/// restored.
 fn cut_at(size: usize) -> Ending<'static> {
     let (begin, output, report): (usize, &[u8], &[u8]) = match size {
         0..=9 => (0, &[], b"first,last,cause,value\nend,0,0,0\n"),

@@ -90,7 +90,7 @@ static WHOLE: [(&str, &str, &str); 14] = [
     ),
 ];
 
-/// Stores in hexadecimal, the packet at which each is wrong and how, and the lines that stand before.
+/// Stores in hexadecimal, the packet at which each is wrong and how, and the lines that stand before it.
 static FAULTY: [(&str, u64, StoreKind, &str); 3] = [
     (
         "00 64 C0 00 00 03 85 B8 D6 00 00 64 C0",

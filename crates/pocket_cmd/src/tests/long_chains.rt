@@ -5,7 +5,7 @@ use std::alloc::{AllocError, Global};
 use std::process::Abort;
 use std::test::Fail;
 
-/// Packets of zeros, as many as these, of which the last stands alone and those before it are lost.
+/// So many packets of zeros, of which the last stands alone and those before it are lost.
 struct Silence {
     packets: usize,
     plan: &'static str,
@@ -157,7 +157,7 @@ fn counters(alloc: Global) -> Result<Vec<u8>, AllocError> {
     Ok(bytes)
 }
 
-/// Those of them that arrive, but for the packets behind a loss that is longer than their level.
+/// Those of them that arrive, except for the packets after a loss that is longer than their level.
 fn counters_that_are_written(alloc: Global) -> Result<Vec<u8>, AllocError> {
     let mut bytes = Vec::new(alloc);
     for t in 0..999 {
@@ -169,7 +169,7 @@ fn counters_that_are_written(alloc: Global) -> Result<Vec<u8>, AllocError> {
     Ok(bytes)
 }
 
-/// What they are told and must leave, but for their bytes.
+/// What they are told and must leave, except for their bytes.
 static COUNTERS: Chain<'static> = Chain {
     recording: &[],
     flight: "bits=1024 robust=2",

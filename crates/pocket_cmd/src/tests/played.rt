@@ -101,7 +101,7 @@ static ROWS: [Row; 17] = [
         copies: &[0, 1, 1, 1],
         report: Ok("4,3,1,0,1,1\n"),
     },
-    // Of a store that is wrong, the packets before are played, and nothing is reported.
+    // Of a store that is wrong, the packets before the fault are played, and nothing is reported.
     Row {
         store: &[FIRST, "00 64 C0"],
         script: "repeat,0,0,1,1",
@@ -142,7 +142,7 @@ static ROWS: [Row; 17] = [
     },
 ];
 
-/// Each packet as often as it is played; those behind the last number are not.
+/// Each packet as often as it is played; those after the last number are not.
 fn played(alloc: Global, store: &[&str], copies: &[u32]) -> Result<Vec<u8>, AllocError> {
     let mut bytes = Vec::new(alloc);
     for (packet, times) in store.iter().zip(copies) {

@@ -19,7 +19,7 @@ fn long_packet(alloc: Global) -> Result<Vec<u8>, AllocError> {
     Ok(bytes)
 }
 
-/// The packets that arrive, with two long ones behind each of the first two.
+/// The packets that arrive, with two long ones after each of the first two.
 fn with_long_packets(alloc: Global) -> Result<Vec<u8>, AllocError> {
     let long = long_packet(alloc)?;
     let mut store = bytes_of_all(alloc, &[FIRST])?;

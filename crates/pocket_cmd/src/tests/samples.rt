@@ -32,7 +32,7 @@ pub const RESTORED: &[u8] = &[0xB0, 0xB1, 0xB3];
 
 pub const REPORT: &[u8] = b"first,last,cause,value\n2,2,lost,0\nend,3,3,0\n";
 
-/// What `play` reports where the third is dropped.
+/// What `play` reports if the third is dropped.
 pub const PLAY_REPORT: &[u8] = b"packets,delivered,dropped,repeats,first,widest\n4,3,1,0,0,2\n";
 
 /// The first line of a play report.

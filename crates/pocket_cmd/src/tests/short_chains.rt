@@ -4,7 +4,7 @@ use super::chain::{Chain, assert_chain, assert_there_and_back};
 use super::samples::RECORDING;
 use std::test::Fail;
 
-/// Ends with a new mask that clears a place, three quiet packets behind the one with the change.
+/// Ends with a new mask that clears a place, three quiet packets after the one with the change.
 const CLEARED: &[u8] = &[0x00, 0x01, 0x01, 0x01, 0x01, 0x01];
 
 /// One packet is lost, which the level of the next reaches over.
@@ -53,7 +53,7 @@ static CHAINS: [Chain<'static>; 16] = [
         restored: RECORDING,
         report: "end,36,4,32\n",
     },
-    // Two lost packets: the level of the next doesn't reach over them, but where it requires more it does.
+    // Two lost packets: the level of the next doesn't reach over them, but if it requires more it does.
     Chain {
         recording: &[0x00, 0x01, 0x03, 0x03],
         flight: "bits=8 robust=0",
@@ -107,7 +107,7 @@ static CHAINS: [Chain<'static>; 16] = [
         restored: &[0x00, 0x01, 0x01, 0x03, 0x03, 0x03],
         report: "3,4,lost,0\nend,6,6,0\n",
     },
-    // A mask is cleared: behind no loss, behind three lost packets, which its level reaches over, and behind four.
+    // A mask is cleared: after no loss, after three lost packets, which its level reaches over, and after four.
     Chain {
         recording: CLEARED,
         flight: "bits=8 robust=1",
@@ -160,7 +160,7 @@ static CHAINS: [Chain<'static>; 16] = [
         restored: &[0xA5, 0xA6],
         report: "end,2,2,0\n",
     },
-    // Level 0, so that a change behind a loss is out of reach.
+    // Level 0, so that a change after a loss is out of reach.
     Chain {
         recording: &[0x00, 0x01, 0x03],
         flight: "bits=8 robust=0",

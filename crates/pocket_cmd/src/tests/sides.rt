@@ -31,7 +31,7 @@ static SCHEDULES: [(&str, &str); 10] = [
     ("\u{feff}3,5,2,p\r\n", RENEWED),
     ("\n5,5,1,p\r\n\r\n3,3,4294967295,p\r3,3,1,p", RENEWED),
     ("\"3\",5,\"2\",\"p\"\r\n", RENEWED),
-    // An open quote runs to the end, and text behind a closing one is kept.
+    // An open quote runs to the end, and text after a closing one is kept.
     ("3,5,2,\"p", RENEWED),
     ("3,\"\"5,2,p", RENEWED),
     // What the rows require is what is required without them.

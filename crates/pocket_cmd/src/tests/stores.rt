@@ -5,7 +5,7 @@ use crate::Refusal;
 use packet_store::StoreKind;
 use std::test::Fail;
 
-/// A store in hexadecimal, the packets that are restored, and the report behind its first line.
+/// A store in hexadecimal, the packets that are restored, and the report after its first line.
 struct Row {
     words: &'static str,
     store: &'static str,
@@ -136,7 +136,7 @@ static WHOLE: [Row; 17] = [
     },
 ];
 
-/// A store in hexadecimal, the packet at which it is wrong and how, and the packets that stand before.
+/// A store in hexadecimal, the packet at which it is wrong and how, and the packets that stand before it.
 static FAULTY: [(&str, u64, StoreKind, &[u8]); 6] = [
     ("00 64 C0 00 00 03 85 B8 D6", 0, StoreKind::Cut, &[]),
     (

@@ -46,7 +46,7 @@ static WRONG: [(&str, u32); 109] = [
     ("compress in=a out=b bits=13 apid=1 robust=2 mask=", 6),
     ("compress in=a out=b bits=8 apid=1 robust=2 mask=0x0f", 6),
     ("compress mask=1234 in=a out=b bits=13 apid=1 robust=2", 1),
-    // A mask is looked at behind all else.
+    // A mask is looked at after all else.
     ("compress mask=1234 in=a out=b bits=13 apid=1 robust=8", 6),
     ("compress mask=1234 in=a out=b bits=13 apid=1", 6),
     (
@@ -172,7 +172,7 @@ fn wrong_words(rt: HostRuntime) -> Result<(), Fail> {
     Ok(())
 }
 
-/// What is answered where these inputs are there, with no bytes.
+/// What is answered if these inputs exist, with no bytes.
 fn answer_with(alloc: Global, line: &str, inputs: &[&str]) -> Result<Status, Fail> {
     let mut desk = MemDesk::new(alloc);
     for name in inputs {

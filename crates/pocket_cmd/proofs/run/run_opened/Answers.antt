@@ -15,7 +15,7 @@ is_some-map : {A B : Type 0} (f : A → B) (o : Option A) → is_some o ≡ is_s
 is_some-map f None = refl
 is_some-map f (Some x) = refl
 
--- the job reads an input where there is a name of one
+-- the job reads an input if there is a name of one
 ran_by : (job : Job) (names : Held) (start end : Meanings) (answer : Result (Unit {0}) Refusal) → reads_input job ≡ is_some names.input → IsEnded (AfterJob (reads_input job) (job_course job) start end) answer
     → IsEnded (AfterJob (is_some (view_names names).input) (job_course job) start end) answer
 ran_by job names start end answer is e =

@@ -92,7 +92,7 @@ told c =
 spelled_has : (c : After-keep_mask) → IsState c.args.self.now.places c.args.self.now.state
 spelled_has c = has_state c.args.self.now c.self.inside.latest c.self.inside.shown c.self.view_is c.self.invariant.latest_vectors
 
--- what was read, where the content becomes known or doesn't
+-- what was read, if the content becomes known and if it doesn't
 read_as : (c : After-keep_mask) (known : Bool) → tells_content c.in_ok-kind.kind ≡ known → parse_whole_packet (length c.self.inside.draft.content) (kept_state c.self.inside.latest) c.args.t (bits_left c.new-eye.result)
     ≡ Read (record { change = c.take_whole_packet.new.next; outcome = Spelled (told c).mask (known_if known c.take_whole_packet.new.draft.content) }) (bits_left c.take_whole_packet.new.eye)
 read_as c known is =
