@@ -9,7 +9,7 @@ use Rattle.bit_vectors.proofs.EyeReading.{MovesOn-then, Gives-then_err}
 use Rattle.count_code.proofs.Digits.{power_le, power_more}
 use Rattle.count_code.specs.Counts.{parse_bounded, parse_long}
 
--- a number so far, with the given number of bits to come, represents what is read from the start
+-- a number so far, with the given number of bits to come, stands for what is read from the start
 pub record IsNumberSoFar (old eye : EyeState) (most so_far width number weight : ℕ) : Type 0 where
   pub moves : MovesOn old eye
   pub fits : number * 2 ^ weight ≤ most
@@ -65,7 +65,7 @@ pub number_fault : (old eye new : EyeState) (most so_far width number weight : �
 number_fault old eye new most so_far width number weight fault some h given =
     rw (h.same, parse_bounded-more most number weight (bits_left eye) some) (Gives-then_err (λ (bit : Bool). bit) (λ (n : ℕ). n) fault new _ (λ bit rest. parse_bounded most (2 * number + cond bit 1 0) (weight - 1) rest) given)
 
--- zeros so far, after which at least this many digits are left, represent what is read from the start
+-- zeros so far, after which at least this many digits are left, stand for what is read from the start
 pub record IsLongSoFar (old eye : EyeState) (most digits : ℕ) : Type 0 where
   pub moves : MovesOn old eye
   pub least : 6 ≤ digits

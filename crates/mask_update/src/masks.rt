@@ -11,7 +11,7 @@ use std::marker::Model;
 
 /// Keeps the running mask and build vectors (CCSDS 124.0-B-1), the latest change of the mask and the latest
 /// input, but not the history. Contracts see these and the number of inputs taken, and say which histories
-/// they represent.
+/// they stand for.
 #[derive(Debug, Drop)]
 pub struct Masks {
     previous: Bits,
@@ -67,7 +67,7 @@ impl Masks {
         requires places { length input.now ≡ length self.old.mask }
         requires most { self.old.taken < 4294967296 }
         requires first { self.old.taken ≡ 0 → new_mask ≡ false }
-        // If it represented some history, it now represents that history with this input and this flag added.
+        // If it stood for some history, it now stands for that history with this input and this flag added.
         ensures stands { (h : History) (step : Step) → StandsFor h self.old
             → step.input ≡ input.now → step.flags.p ≡ new_mask
             → StandsFor (with_step h step) self.new }

@@ -1,4 +1,4 @@
--- What an encoder keeps, and which history it represents.
+-- What an encoder keeps, and which history it stands for.
 use Rattle.std.specs.Prelude.{◌≡◌, Bool, List, length}
 use Rattle.mask_update.specs.Histories.{History}
 use Rattle.mask_update.specs.Masks.{Running}

@@ -33,7 +33,7 @@ pub fn room(f: u32) -> u32
 }
 
 /// Makes the packet of each input (CCSDS 124.0-B-1). It keeps the running vectors and the latest changes, but not the
-/// history. Contracts see them, and say which histories they represent.
+/// history. Contracts see them, and say which histories they stand for.
 #[derive(Debug, Drop)]
 pub struct Encoder {
     masks: Masks,
@@ -77,7 +77,7 @@ impl Encoder {
         requires robust { robust ≤ 7 }
         requires empty { pen.old.bits ≡ [] }
         requires room { 10 * length input.now + 43 ≤ pen.old.room }
-        // If it represented some history, it now represents that history with this input, these flags, after forcing, and
+        // If it stood for some history, it now stands for that history with this input, these flags, after forcing, and
         // this required robustness added.
         ensures stands { (h : History) → StandsFor h self.old
             → StandsFor (with_next_input h robust input.now flags) self.new }

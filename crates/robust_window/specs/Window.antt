@@ -1,4 +1,4 @@
--- What a window keeps, and which changes it represents.
+-- What a window keeps, and which changes it stands for.
 use Rattle.std.specs.Prelude.{◌≡◌, ℕ, ◌-◌, ◌<◌, ◌≤◌, ◌==◌, Bool, true, false, if◌then◌else◌, List, [], ◌∷◌, length, replicate, All, Contains, slice_index_or}
 use Rattle.std.specs.Int.{bit_at}
 use Rattle.circular_buffer.specs.Buffer.{Buffer}
@@ -39,7 +39,7 @@ where_marked (mark ∷ marks) (slot ∷ slots) nothing = (if mark then slot else
 where_marked (mark ∷ marks) [] nothing = []
 where_marked [] slots nothing = []
 
--- the latest sixteen changes, of the given number of places, the oldest first: a slot without a mark represents zeros,
+-- the latest sixteen changes, of the given number of places, the oldest first: a slot without a mark stands for zeros,
 -- whatever it has
 abbrev pub changes_of : ℕ → ℕ → List (List Bool) → List (List Bool)
 changes_of f marks slots = where_marked (marks_of marks) slots (replicate f false)

@@ -15,7 +15,7 @@ const MOST_LEVEL: u64 = 15;
 
 /// Keeps the latest sixteen changes of a mask and their new-mask flags, but not the history (CCSDS 124.0-B-1). A mark
 /// says whether a change is nonzero; the changes without a mark are neither written nor read.
-/// Contracts see these and the values at the latest step, and say which changes they represent.
+/// Contracts see these and the values at the latest step, and say which changes they stand for.
 #[derive(Debug, Drop)]
 pub struct Window {
     changes: HeapCircularBuffer<Bits>,
@@ -76,7 +76,7 @@ impl Window {
             → change.now ≡ replicate (length change.now) false }
         requires first_new_mask { self.old.taken ≡ 0 → new_mask ≡ false }
         requires robust { robust ≤ 7 }
-        // If it represented some changes, it now represents these and one more.
+        // If it stood for some changes, it now stands for these and one more.
         ensures stands { (steps : List MaskStep) (step : MaskStep) → StandsFor steps self.old
             → step.change ≡ change.now → step.new_mask ≡ new_mask → step.robust ≡ robust
             → StandsFor (steps ++ step ∷ []) self.new }

@@ -15,7 +15,7 @@ returns-then-is_set-clause-kept c =
 pub returns-then-is_set-clause-change : goal.returns-then-is_set-clause-change
 returns-then-is_set-clause-change c = λ steps stands. returns-then-is_set-clause-kept c ∙ stands.changes.same c.args.back (omega (arith, c.requires.most)) (omega (arith, c.requires.taken, stands.taken))
 
--- it is not, and represents zeros
+-- it is not, and stands for zeros
 pub returns-else-is_set-clause-kept : goal.returns-else-is_set-clause-kept
 returns-else-is_set-clause-kept c =
     let inside = c.self.inside in
