@@ -3,7 +3,7 @@
 ghost use Rattle.std.specs.Prelude.{◌≡◌, ◌≤◌, ◌<◌, ◌+◌, ◌-◌, ◌^◌, false, [], min, length, take, IsTrue, IsErr, IfOk, IfSome, OnOk, OnErr};
 ghost use Rattle.std.specs.Io.KnownBytes.{IsAtEnd};
 ghost use Rattle.desk_ports.specs.Meanings.{nothing_told, Adds, Begins, HasReadCause, HasWriteCause, IsReadyIn, IsReadyOut, Keeps, Moves, Opens, left};
-ghost use Rattle.desk_ports.specs.FileDesk.{file_counts, file_meanings, gathered, gathered_at, is_opened_sink, other_sink, other_source, waits_at};
+ghost use Rattle.desk_ports.specs.FileDesk.{file_counts, file_meanings, gathered, gathered_at, is_opened_sink, is_standard_input, is_standard_output, names_standard_input, names_standard_output, other_sink, other_source, sink_at, source_at, waits, waits_at, SameInlets, SameOutlets};
 
 use crate::desk::{Desk, Failed, Inlet, Outlet};
 use crate::part::{Node, Part};
@@ -25,7 +25,9 @@ impl Source {
 
     // The name `-` is standard input.
     fn open(rt: &HostRuntime, name: &str) -> io::Result<Source>
-        ensures { IfOk result (λ source. IsTrue (is_opened_source source)) }
+        ensures opened { IfOk result (λ source. IsTrue (is_opened_source source)) }
+        ensures standard { IfOk result
+            (λ source. is_standard_input source ≡ names_standard_input name.now) }
     {
         if name == "-" {
             return Ok(Source::StandardInput(rt.stdin()));
@@ -60,6 +62,7 @@ impl Source {
         requires { IsTrue (is_opened_source self.old) }
         ensures within { IfOk result (λ n. n ≤ length buf.old) }
         ensures opened { IsTrue (is_opened_source self.new) }
+        ensures standard { is_standard_input self.new ≡ is_standard_input self.old }
     {
         match self {
             Source::Nothing => unreachable!(),
@@ -72,8 +75,12 @@ impl Source {
 /// How many bytes of an outlet are gathered before they are handed to the system.
 const GATHERED: usize = 131_072;
 
-// The names of standard output.
-const STANDARD_OUTPUT: [&str; 4] = ["-", "/dev/stdout", "/dev/fd/1", "/proc/self/fd/1"];
+// Whether it is one of the names of standard output.
+fn is_standard_output(name: &str) -> bool
+    ensures { result ≡ names_standard_output name.now }
+{
+    matches!(name, "-" | "/dev/stdout" | "/dev/fd/1" | "/proc/self/fd/1")
+}
 
 // Where the bytes of an outlet go. They are gathered, and handed to the system when there are enough. A file that is a part
 // waits for its name.
@@ -85,14 +92,14 @@ enum Sink {
 }
 
 impl Sink {
-    ghost use Rattle.desk_ports.specs.FileDesk.{waits};
-
     // What stands under the name is not changed.
     fn open(rt: &HostRuntime, name: &str, inputs: &[Option<Node>], other: &Sink) -> io::Result<Sink>
         ensures opened { IfOk result (λ sink. IsTrue (is_opened_sink sink)) }
         ensures none { IfOk result (λ sink. gathered sink ≡ []) }
+        ensures standard { IfOk result
+            (λ sink. is_standard_output sink ≡ names_standard_output name.now) }
     {
-        if STANDARD_OUTPUT.contains(&name) {
+        if is_standard_output(name) {
             let stdout = BufWriter::with_capacity(rt.alloc(), GATHERED, rt.stdout())?;
             return Ok(Sink::StandardOutput(stdout));
         }
@@ -119,6 +126,8 @@ impl Sink {
         requires { IsTrue (is_opened_sink self.old) }
         ensures within { IfSome result (λ n. n ≤ length bytes.now) }
         ensures opened { IsTrue (is_opened_sink self.new) }
+        ensures standard { is_standard_output self.new ≡ is_standard_output self.old }
+        ensures waits { waits self.new ≡ waits self.old }
     {
         match self {
             Sink::Nothing => unreachable!(),
@@ -131,6 +140,8 @@ impl Sink {
     fn flush(&mut self) -> io::Result<()>
         ensures opened { is_opened_sink self.new ≡ is_opened_sink self.old }
         ensures handed { OnOk result (gathered self.new ≡ []) }
+        ensures standard { is_standard_output self.new ≡ is_standard_output self.old }
+        ensures waits { waits self.new ≡ waits self.old }
     {
         match self {
             Sink::Nothing => Ok(()),
@@ -143,7 +154,9 @@ impl Sink {
     fn finish(&mut self, rt: &HostRuntime) -> io::Result<()>
         ensures opened { is_opened_sink self.new ≡ is_opened_sink self.old }
         ensures handed { OnOk result (gathered self.new ≡ []) }
+        ensures standard { is_standard_output self.new ≡ is_standard_output self.old }
         ensures named { OnOk result (waits self.new ≡ false) }
+        ensures waits { OnErr result (waits self.new ≡ waits self.old) }
     {
         self.flush()?;
         if let Sink::File(file, part) = self {
@@ -198,7 +211,7 @@ impl<'a> FileDesk<'a> {
     }
 
     /// Hands everything to the system that was gathered for both outlets. A run that was refused leaves its outputs
-    /// unfinished; after this call they have what it wrote.
+    /// unfinished; after this call they have what it wrote, and their parts wait for their names as before.
     pub fn hand_over(&mut self) -> Result<(), Failed>
         ensures meaning { ⟦<FileDesk<'a> as Desk>⟧.meaning self.new
             ≡ ⟦<FileDesk<'a> as Desk>⟧.meaning self.old }
@@ -206,6 +219,9 @@ impl<'a> FileDesk<'a> {
             (⟦<FileDesk<'a> as Desk>⟧.counts self.new) result }
         ensures main { OnOk result (gathered_at self.new Outlet.Main ≡ []) }
         ensures report { OnOk result (gathered_at self.new Outlet.Report ≡ []) }
+        ensures waits { (outlet : Outlet)
+            → waits_at self.new outlet ≡ waits_at self.old outlet }
+        ensures inlets { SameInlets self.old self.new }
     {
         self.progress.end(self.rt);
         let output = self.output.flush();
@@ -217,6 +233,8 @@ impl<'a> FileDesk<'a> {
     fn open_sink(&self, outlet: Outlet, name: &str) -> io::Result<Sink>
         ensures opened { IfOk result (λ sink. IsTrue (is_opened_sink sink)) }
         ensures none { IfOk result (λ sink. gathered sink ≡ []) }
+        ensures standard { IfOk result
+            (λ sink. is_standard_output sink ≡ names_standard_output name.now) }
     {
         let inputs = [self.side.node(self.rt)?, self.input.node(self.rt)?];
         let other = match outlet {
@@ -287,8 +305,13 @@ impl<'a> Desk for FileDesk<'a> {
         ensures unchanged { OnErr result (file_meanings self.new ≡ file_meanings self.old) }
         ensures cause { HasReadCause (file_counts self.old) (file_counts self.new) result }
 
-        // The other inlet is as before.
+        // The name says whether it is standard input. At `Failed` the inlet is as before. The other one and both outlets
+        // always are.
+        ensures standard { OnOk result
+            (is_standard_input (source_at self.new inlet) ≡ names_standard_input name.now) }
+        ensures same { OnErr result (source_at self.new inlet ≡ source_at self.old inlet) }
         ensures other { other_source self.new inlet ≡ other_source self.old inlet }
+        ensures outlets { SameOutlets self.old self.new }
     {
         let source = Source::open(self.rt, name);
         let source = self.or_read_fault(source)?;
@@ -309,9 +332,14 @@ impl<'a> Desk for FileDesk<'a> {
         ensures unchanged { OnErr result (file_meanings self.new ≡ file_meanings self.old) }
         ensures cause { HasWriteCause (file_counts self.old) (file_counts self.new) result }
 
-        // Nothing is gathered for the outlet, and the other one is as before.
+        // Nothing is gathered for the outlet, and its name says whether it is standard output. At `Failed` it is as before,
+        // with what it gathered. The other one and both inlets always are.
         ensures none { OnOk result (gathered_at self.new outlet ≡ []) }
+        ensures standard { OnOk result
+            (is_standard_output (sink_at self.new outlet) ≡ names_standard_output name.now) }
+        ensures same { OnErr result (sink_at self.new outlet ≡ sink_at self.old outlet) }
         ensures other { other_sink self.new outlet ≡ other_sink self.old outlet }
+        ensures inlets { SameInlets self.old self.new }
     {
         let sink = self.open_sink(outlet, name);
         let sink = self.or_write_fault(sink)?;
@@ -335,8 +363,11 @@ impl<'a> Desk for FileDesk<'a> {
         ensures unchanged { OnErr result (file_meanings self.new ≡ file_meanings self.old) }
         ensures cause { HasReadCause (file_counts self.old) (file_counts self.new) result }
 
-        // The other inlet is as before.
+        // It stays standard input, or a file. The other inlet is as before, and both outlets are.
+        ensures standard { is_standard_input (source_at self.new inlet)
+            ≡ is_standard_input (source_at self.old inlet) }
         ensures other { other_source self.new inlet ≡ other_source self.old inlet }
+        ensures outlets { SameOutlets self.old self.new }
     {
         let moved = match inlet {
             Inlet::Side => self.side.read(buf),
@@ -359,8 +390,13 @@ impl<'a> Desk for FileDesk<'a> {
         ensures unchanged { OnErr result (file_meanings self.new ≡ file_meanings self.old) }
         ensures cause { HasWriteCause (file_counts self.old) (file_counts self.new) result }
 
-        // The other outlet is as before, with what it gathered.
+        // It stays standard output, or a file, and a part waits as before. The other outlet is as before, with what it
+        // gathered, and both inlets are.
+        ensures standard { is_standard_output (sink_at self.new outlet)
+            ≡ is_standard_output (sink_at self.old outlet) }
+        ensures waits { waits_at self.new outlet ≡ waits_at self.old outlet }
         ensures other { other_sink self.new outlet ≡ other_sink self.old outlet }
+        ensures inlets { SameInlets self.old self.new }
     {
         let taken = match outlet {
             Outlet::Main => self.output.write(bytes),
@@ -379,10 +415,15 @@ impl<'a> Desk for FileDesk<'a> {
         ensures unchanged { OnErr result (file_meanings self.new ≡ file_meanings self.old) }
         ensures cause { HasWriteCause (file_counts self.old) (file_counts self.new) result }
 
-        // Nothing is gathered for the outlet any more, its part no longer waits for its name, and the other one is as before.
+        // Nothing is gathered for the outlet any more, and its part no longer waits for its name; at `Failed` it waits as
+        // before. It stays standard output, or a file. The other outlet is as before, and both inlets are.
         ensures handed { OnOk result (gathered_at self.new outlet ≡ []) }
         ensures named { OnOk result (waits_at self.new outlet ≡ false) }
+        ensures waits { OnErr result (waits_at self.new outlet ≡ waits_at self.old outlet) }
+        ensures standard { is_standard_output (sink_at self.new outlet)
+            ≡ is_standard_output (sink_at self.old outlet) }
         ensures other { other_sink self.new outlet ≡ other_sink self.old outlet }
+        ensures inlets { SameInlets self.old self.new }
     {
         self.progress.end(self.rt);
         let finished = match outlet {
