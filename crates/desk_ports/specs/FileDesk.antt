@@ -1,7 +1,8 @@
--- What a desk over real files tells: for each inlet and outlet whether it was opened, and no content. And what it has
--- collected to write.
-use Rattle.std.specs.Prelude.{Bool, true, false, ℕ, List, [], is_some}
+-- What a desk over real files tells: of each inlet and outlet whether it was opened, and no content. And what it has
+-- gathered, and what stands at each inlet and outlet.
+use Rattle.std.specs.Prelude.{◌≡◌, Bool, true, false, ◌||◌, ℕ, List, [], codes, is_some}
 use Rattle.std.specs.Io.Buffered.{writer_buffer}
+use Rattle.std.specs.Str.{bytes_eq}
 use Rattle.desk_ports.specs.declared.desk.Inlet.{Inlet}
 use Rattle.desk_ports.specs.declared.desk.Inlet.TheVariants as inlet
 use Rattle.desk_ports.specs.declared.desk.Outlet.{Outlet}
@@ -51,6 +52,37 @@ abbrev pub waits_at : FileDesk → Outlet → Bool
 waits_at desk outlet.Main = waits desk.output
 waits_at desk outlet.Report = waits desk.report
 
+-- the source is standard input
+abbrev pub is_standard_input : Source → Bool
+is_standard_input source.Nothing = false
+is_standard_input (source.StandardInput stdin) = true
+is_standard_input (source.File file) = false
+
+-- the sink is standard output
+abbrev pub is_standard_output : Sink → Bool
+is_standard_output sink.Nothing = false
+is_standard_output (sink.StandardOutput stdout) = true
+is_standard_output (sink.File file part) = false
+
+-- it is the name of standard input
+abbrev pub names_standard_input : List ℕ → Bool
+names_standard_input name = bytes_eq name (codes "-")
+
+-- it is one of the four names of standard output
+abbrev pub names_standard_output : List ℕ → Bool
+names_standard_output name =
+    bytes_eq name (codes "-") || bytes_eq name (codes "/dev/stdout") || bytes_eq name (codes "/dev/fd/1") || bytes_eq name (codes "/proc/self/fd/1")
+
+-- where the bytes of an inlet come from
+abbrev pub source_at : FileDesk → Inlet → Source
+source_at desk inlet.Side = desk.side
+source_at desk inlet.Main = desk.input
+
+-- where the bytes of an outlet go
+abbrev pub sink_at : FileDesk → Outlet → Sink
+sink_at desk outlet.Main = desk.output
+sink_at desk outlet.Report = desk.report
+
 -- where the bytes of the other inlet come from
 abbrev pub other_source : FileDesk → Inlet → Source
 other_source desk inlet.Side = desk.input
@@ -60,3 +92,11 @@ other_source desk inlet.Main = desk.side
 abbrev pub other_sink : FileDesk → Outlet → Sink
 other_sink desk outlet.Main = desk.report
 other_sink desk outlet.Report = desk.output
+
+-- both inlets are as before
+abbrev pub SameInlets : FileDesk → FileDesk → Type 0
+SameInlets old new = (new.side ≡ old.side) × (new.input ≡ old.input)
+
+-- both outlets are as before
+abbrev pub SameOutlets : FileDesk → FileDesk → Type 0
+SameOutlets old new = (new.output ≡ old.output) × (new.report ≡ old.report)

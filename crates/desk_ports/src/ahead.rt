@@ -6,6 +6,7 @@ ghost use Rattle.desk_ports.specs.Meanings.{IsReadyIn, HasReadCause, left};
 ghost use Rattle.desk_ports.specs.ReadAhead.{ReadsOn};
 
 use crate::desk::{Desk, Failed, Inlet};
+use crate::room::zero_bytes;
 use std::alloc::{AllocError, Global};
 use std::marker::Model;
 
@@ -23,13 +24,14 @@ pub struct ReadAhead {
 
 impl Model for ReadAhead {
     ghost use Rattle.std.specs.Prelude.{ℕ, List, drop, take, vec_len};
+    ghost use Rattle.std.specs.Vec.{vec_capacity};
     ghost use Rattle.desk_ports.specs.ReadAhead.{IsAhead};
 
     ghost Value = { List ℕ };
 
     ghost view = { λ a. drop a.next (take a.filled a.room.items) };
 
-    ghost invariant = { λ a. IsAhead a.next a.filled (vec_len a.room) };
+    ghost invariant = { λ a. IsAhead a.next a.filled (vec_len a.room) (vec_capacity a.room) };
 }
 
 impl ReadAhead {
@@ -38,7 +40,7 @@ impl ReadAhead {
         ensures { IfOk result (λ ahead. ahead ≡ []) }
     {
         Ok(ReadAhead {
-            room: vec![in alloc; 0; MOST_AHEAD]?,
+            room: zero_bytes(alloc, MOST_AHEAD)?,
             next: 0,
             filled: 0,
         })

@@ -3,7 +3,7 @@
 ghost use Rattle.std.specs.Prelude.{◌≡◌, ◌≤◌, ◌<◌, ◌+◌, ◌-◌, ◌^◌, false, [], min, length, take, IsTrue, IsErr, IfOk, IfSome, OnOk, OnErr};
 ghost use Rattle.std.specs.Io.KnownBytes.{IsAtEnd};
 ghost use Rattle.desk_ports.specs.Meanings.{nothing_told, Adds, Begins, HasReadCause, HasWriteCause, IsReadyIn, IsReadyOut, Keeps, Moves, Opens, left};
-ghost use Rattle.desk_ports.specs.FileDesk.{file_counts, file_meanings, gathered, gathered_at, is_opened_sink, other_sink, other_source, waits_at};
+ghost use Rattle.desk_ports.specs.FileDesk.{file_counts, file_meanings, gathered, gathered_at, is_opened_sink, is_standard_input, is_standard_output, names_standard_input, names_standard_output, other_sink, other_source, sink_at, source_at, waits, waits_at, SameInlets, SameOutlets};
 
 use crate::desk::{Desk, Failed, Inlet, Outlet};
 use crate::part::{Node, Part};
@@ -25,7 +25,9 @@ impl Source {
 
     // The name `-` is standard input.
     fn open(rt: &HostRuntime, name: &str) -> io::Result<Source>
-        ensures { IfOk result (λ source. IsTrue (is_opened_source source)) }
+        ensures opened { IfOk result (λ source. IsTrue (is_opened_source source)) }
+        ensures standard { IfOk result
+            (λ source. is_standard_input source ≡ names_standard_input name.now) }
     {
         if name == "-" {
             return Ok(Source::StandardInput(rt.stdin()));
@@ -60,6 +62,7 @@ impl Source {
         requires { IsTrue (is_opened_source self.old) }
         ensures within { IfOk result (λ n. n ≤ length buf.old) }
         ensures opened { IsTrue (is_opened_source self.new) }
+        ensures standard { is_standard_input self.new ≡ is_standard_input self.old }
     {
         match self {
             Source::Nothing => unreachable!(),
@@ -69,13 +72,17 @@ impl Source {
     }
 }
 
-/// How many bytes of an outlet are collected before they are handed to the system.
+/// How many bytes of an outlet are gathered before they are handed to the system.
 const GATHERED: usize = 131_072;
 
-// The names of standard output.
-const STANDARD_OUTPUT: [&str; 4] = ["-", "/dev/stdout", "/dev/fd/1", "/proc/self/fd/1"];
+// Whether it is one of the names of standard output.
+fn is_standard_output(name: &str) -> bool
+    ensures { result ≡ names_standard_output name.now }
+{
+    matches!(name, "-" | "/dev/stdout" | "/dev/fd/1" | "/proc/self/fd/1")
+}
 
-// Where the bytes of an outlet go. They are collected, and handed to the system when there are enough. An output that is
+// Where the bytes of an outlet go. They are gathered, and handed to the system when there are enough. An output that is
 // written to a part, a file beside its name, waits for its name.
 #[derive(Drop)]
 enum Sink {
@@ -85,14 +92,14 @@ enum Sink {
 }
 
 impl Sink {
-    ghost use Rattle.desk_ports.specs.FileDesk.{waits};
-
-    // What exists under the name is not changed.
+    // What stands under the name is not changed.
     fn open(rt: &HostRuntime, name: &str, inputs: &[Option<Node>], other: &Sink) -> io::Result<Sink>
         ensures opened { IfOk result (λ sink. IsTrue (is_opened_sink sink)) }
         ensures none { IfOk result (λ sink. gathered sink ≡ []) }
+        ensures standard { IfOk result
+            (λ sink. is_standard_output sink ≡ names_standard_output name.now) }
     {
-        if STANDARD_OUTPUT.contains(&name) {
+        if is_standard_output(name) {
             let stdout = BufWriter::with_capacity(rt.alloc(), GATHERED, rt.stdout())?;
             return Ok(Sink::StandardOutput(stdout));
         }
@@ -120,6 +127,8 @@ impl Sink {
         requires { IsTrue (is_opened_sink self.old) }
         ensures within { IfSome result (λ n. n ≤ length bytes.now) }
         ensures opened { IsTrue (is_opened_sink self.new) }
+        ensures standard { is_standard_output self.new ≡ is_standard_output self.old }
+        ensures waits { waits self.new ≡ waits self.old }
     {
         match self {
             Sink::Nothing => unreachable!(),
@@ -128,10 +137,12 @@ impl Sink {
         }
     }
 
-    // Hands everything that was collected to the system, if the outlet was opened.
+    // Hands everything that was gathered to the system, if the outlet was opened.
     fn flush(&mut self) -> io::Result<()>
         ensures opened { is_opened_sink self.new ≡ is_opened_sink self.old }
         ensures handed { OnOk result (gathered self.new ≡ []) }
+        ensures standard { is_standard_output self.new ≡ is_standard_output self.old }
+        ensures waits { waits self.new ≡ waits self.old }
     {
         match self {
             Sink::Nothing => Ok(()),
@@ -140,11 +151,13 @@ impl Sink {
         }
     }
 
-    // Hands everything that was collected to the system, and gives a part the name that it waits for.
+    // Hands everything that was gathered to the system, and gives a part the name that it waits for.
     fn finish(&mut self, rt: &HostRuntime) -> io::Result<()>
         ensures opened { is_opened_sink self.new ≡ is_opened_sink self.old }
         ensures handed { OnOk result (gathered self.new ≡ []) }
+        ensures standard { is_standard_output self.new ≡ is_standard_output self.old }
         ensures named { OnOk result (waits self.new ≡ false) }
+        ensures waits { OnErr result (waits self.new ≡ waits self.old) }
     {
         self.flush()?;
         if let Sink::File(file, part) = self {
@@ -161,7 +174,7 @@ impl Sink {
 /// The desk over real files. The name `-` is standard input for an inlet and standard output for an outlet.
 ///
 /// It tells no content, since no clause can say what a file holds. Each error of the system is a fault,
-/// and so is a write that takes nothing. Each read is one call of the system. What is written is collected, up to
+/// and so is a write that takes nothing. Each read is one call of the system. What is written is gathered, up to
 /// 131,072 bytes for each outlet, and handed to the system when it no longer fits, at `finish` and by `hand_over`.
 ///
 /// An output appears under its name when it is complete: it is written to a part beside the name, `NAME.part`, which
@@ -199,8 +212,8 @@ impl<'a> FileDesk<'a> {
         }
     }
 
-    /// Hands everything that was collected for both outlets to the system. A run that was refused leaves its outputs
-    /// unfinished; after this call they contain what it wrote.
+    /// Hands everything to the system that was gathered for both outlets. A run that was refused leaves its outputs
+    /// unfinished; after this call they have what it wrote, and their parts wait for their names as before.
     pub fn hand_over(&mut self) -> Result<(), Failed>
         ensures meaning { ⟦<FileDesk<'a> as Desk>⟧.meaning self.new
             ≡ ⟦<FileDesk<'a> as Desk>⟧.meaning self.old }
@@ -208,6 +221,9 @@ impl<'a> FileDesk<'a> {
             (⟦<FileDesk<'a> as Desk>⟧.counts self.new) result }
         ensures main { OnOk result (gathered_at self.new Outlet.Main ≡ []) }
         ensures report { OnOk result (gathered_at self.new Outlet.Report ≡ []) }
+        ensures waits { (outlet : Outlet)
+            → waits_at self.new outlet ≡ waits_at self.old outlet }
+        ensures inlets { SameInlets self.old self.new }
     {
         self.progress.end(self.rt);
         let output = self.output.flush();
@@ -219,6 +235,8 @@ impl<'a> FileDesk<'a> {
     fn open_sink(&self, outlet: Outlet, name: &str) -> io::Result<Sink>
         ensures opened { IfOk result (λ sink. IsTrue (is_opened_sink sink)) }
         ensures none { IfOk result (λ sink. gathered sink ≡ []) }
+        ensures standard { IfOk result
+            (λ sink. is_standard_output sink ≡ names_standard_output name.now) }
     {
         let inputs = [self.side.node(self.rt)?, self.input.node(self.rt)?];
         let other = match outlet {
@@ -289,8 +307,13 @@ impl<'a> Desk for FileDesk<'a> {
         ensures unchanged { OnErr result (file_meanings self.new ≡ file_meanings self.old) }
         ensures cause { HasReadCause (file_counts self.old) (file_counts self.new) result }
 
-        // The other inlet is as before.
+        // The name says whether it is standard input. At `Failed` the inlet is as before. The other one and both outlets
+        // always are.
+        ensures standard { OnOk result
+            (is_standard_input (source_at self.new inlet) ≡ names_standard_input name.now) }
+        ensures same { OnErr result (source_at self.new inlet ≡ source_at self.old inlet) }
         ensures other { other_source self.new inlet ≡ other_source self.old inlet }
+        ensures outlets { SameOutlets self.old self.new }
     {
         let source = Source::open(self.rt, name);
         let source = self.or_read_fault(source)?;
@@ -311,9 +334,14 @@ impl<'a> Desk for FileDesk<'a> {
         ensures unchanged { OnErr result (file_meanings self.new ≡ file_meanings self.old) }
         ensures cause { HasWriteCause (file_counts self.old) (file_counts self.new) result }
 
-        // Nothing is collected for the outlet, and the other one is as before.
+        // Nothing is gathered for the outlet, and its name says whether it is standard output. At `Failed` it is as before,
+        // with what it gathered. The other one and both inlets always are.
         ensures none { OnOk result (gathered_at self.new outlet ≡ []) }
+        ensures standard { OnOk result
+            (is_standard_output (sink_at self.new outlet) ≡ names_standard_output name.now) }
+        ensures same { OnErr result (sink_at self.new outlet ≡ sink_at self.old outlet) }
         ensures other { other_sink self.new outlet ≡ other_sink self.old outlet }
+        ensures inlets { SameInlets self.old self.new }
     {
         let sink = self.open_sink(outlet, name);
         let sink = self.or_write_fault(sink)?;
@@ -337,8 +365,11 @@ impl<'a> Desk for FileDesk<'a> {
         ensures unchanged { OnErr result (file_meanings self.new ≡ file_meanings self.old) }
         ensures cause { HasReadCause (file_counts self.old) (file_counts self.new) result }
 
-        // The other inlet is as before.
+        // It stays standard input, or a file. The other inlet is as before, and both outlets are.
+        ensures standard { is_standard_input (source_at self.new inlet)
+            ≡ is_standard_input (source_at self.old inlet) }
         ensures other { other_source self.new inlet ≡ other_source self.old inlet }
+        ensures outlets { SameOutlets self.old self.new }
     {
         let moved = match inlet {
             Inlet::Side => self.side.read(buf),
@@ -361,8 +392,13 @@ impl<'a> Desk for FileDesk<'a> {
         ensures unchanged { OnErr result (file_meanings self.new ≡ file_meanings self.old) }
         ensures cause { HasWriteCause (file_counts self.old) (file_counts self.new) result }
 
-        // The other outlet is as before, with what was collected for it.
+        // It stays standard output, or a file, and a part waits as before. The other outlet is as before, with what it
+        // gathered, and both inlets are.
+        ensures standard { is_standard_output (sink_at self.new outlet)
+            ≡ is_standard_output (sink_at self.old outlet) }
+        ensures waits { waits_at self.new outlet ≡ waits_at self.old outlet }
         ensures other { other_sink self.new outlet ≡ other_sink self.old outlet }
+        ensures inlets { SameInlets self.old self.new }
     {
         let taken = match outlet {
             Outlet::Main => self.output.write(bytes),
@@ -381,11 +417,15 @@ impl<'a> Desk for FileDesk<'a> {
         ensures unchanged { OnErr result (file_meanings self.new ≡ file_meanings self.old) }
         ensures cause { HasWriteCause (file_counts self.old) (file_counts self.new) result }
 
-        // Nothing is collected for the outlet any more, its part waits for its name no longer, and the other
-        // outlet is as before.
+        // Nothing is gathered for the outlet any more, and its part no longer waits for its name; at `Failed` it waits as
+        // before. It stays standard output, or a file. The other outlet is as before, and both inlets are.
         ensures handed { OnOk result (gathered_at self.new outlet ≡ []) }
         ensures named { OnOk result (waits_at self.new outlet ≡ false) }
+        ensures waits { OnErr result (waits_at self.new outlet ≡ waits_at self.old outlet) }
+        ensures standard { is_standard_output (sink_at self.new outlet)
+            ≡ is_standard_output (sink_at self.old outlet) }
         ensures other { other_sink self.new outlet ≡ other_sink self.old outlet }
+        ensures inlets { SameInlets self.old self.new }
     {
         self.progress.end(self.rt);
         let finished = match outlet {

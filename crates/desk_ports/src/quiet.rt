@@ -1,8 +1,8 @@
 //! The quiet desk, on which no call fails.
 
-ghost use Rattle.std.specs.Prelude.{◌≡◌, ◌≢◌, ◌+◌, ◌-◌, ◌^◌, ◌++◌, [], List, ℕ, Some, IfSome, length, min, take};
-ghost use Rattle.desk_ports.specs.Meanings.{kept_at};
-ghost use Rattle.desk_ports.specs.QuietState.{both_kept, quiet_desk, quiet_counts, quiet_held};
+ghost use Rattle.std.specs.Prelude.{◌≡◌, ◌≢◌, ◌+◌, ◌-◌, ◌^◌, ◌<◌, ◌≤◌, ◌++◌, [], List, ℕ, Some, IfSome, Ok, IfOk, OnErr, length, min, take};
+ghost use Rattle.desk_ports.specs.Meanings.{Adds, HasWriteCause, IsReadyOut, kept_at};
+ghost use Rattle.desk_ports.specs.QuietState.{both_kept, quiet_desk, quiet_counts, quiet_held, quiet_meanings};
 
 use crate::desk::{Desk, Failed, Inlet, Outlet};
 use std::marker::Model;
@@ -186,7 +186,20 @@ impl<'a> Desk for QuietDesk<'a> {
         })
     }
 
-    fn write(&mut self, outlet: Outlet, bytes: &[u8]) -> Result<usize, Failed> {
+    fn write(&mut self, outlet: Outlet, bytes: &[u8]) -> Result<usize, Failed>
+        requires open { IsReadyOut (quiet_meanings self.old) outlet }
+        requires some { 0 < length bytes.now }
+        ensures within { IfOk result (λ n. n ≤ length bytes.now) }
+        ensures progress { IfOk result (λ n. 0 < n) }
+        ensures added { IfOk result
+            (λ n. Adds (quiet_meanings self.old) (quiet_meanings self.new) outlet
+            (take n bytes.now)) }
+        ensures unchanged { OnErr result (quiet_meanings self.new ≡ quiet_meanings self.old) }
+        ensures cause { HasWriteCause (quiet_counts self.old) (quiet_counts self.new) result }
+
+        // Every byte is taken.
+        ensures all { result ≡ Ok (length bytes.now) }
+    {
         Ok(match outlet {
             Outlet::Main => self.output.write(bytes),
             Outlet::Report => self.report.write(bytes),

@@ -5,7 +5,8 @@ use Rattle.std.specs.Prelude.{◌≡◌, ℕ, ◌≤◌}
 pub record WriterState : Type 0 where
   pub apid : ℕ
 
--- the APID is not that of idle packets, and the room is that of one packet
-pub record IsWriter (apid room : ℕ) : Type 0 where
+-- the APID is no idle one, and the room is that of one packet and never more, so that no memory is taken
+pub record IsWriter (apid room capacity : ℕ) : Type 0 where
   pub chosen : apid ≤ 2046
   pub whole : room ≡ 65542
+  pub taken : capacity ≡ 65542

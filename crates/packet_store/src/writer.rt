@@ -7,7 +7,7 @@ ghost use Rattle.packet_store.specs.SpacePackets.{period, space_packet};
 use crate::header::{HEADER_BYTES, header_bytes};
 use crate::reader::PACKET_BYTES;
 use bit_vectors::NoMemory;
-use desk_ports::{Desk, Failed, Outlet, write_all};
+use desk_ports::{Desk, Failed, Outlet, write_all, zero_bytes};
 use std::alloc::Global;
 use std::marker::Model;
 
@@ -21,13 +21,14 @@ pub struct StoreWriter {
 
 impl Model for StoreWriter {
     ghost use Rattle.std.specs.Prelude.{vec_len};
+    ghost use Rattle.std.specs.Vec.{vec_capacity};
     ghost use Rattle.packet_store.specs.StoreWriter.{WriterState, IsWriter};
 
     ghost Value = { WriterState };
 
     ghost view = { λ w. record { apid = w.apid } };
 
-    ghost invariant = { λ w. IsWriter w.apid (vec_len w.room) };
+    ghost invariant = { λ w. IsWriter w.apid (vec_len w.room) (vec_capacity w.room) };
 }
 
 impl StoreWriter {
@@ -36,7 +37,7 @@ impl StoreWriter {
         requires { apid ≤ 2046 }
         ensures { IfOk result (λ writer. writer.apid ≡ apid) }
     {
-        let room = vec![in alloc; 0; PACKET_BYTES]?;
+        let room = zero_bytes(alloc, PACKET_BYTES)?;
         Ok(StoreWriter { apid, room })
     }
 

@@ -1,0 +1,18 @@
+//! Room that is taken once.
+
+ghost use Rattle.std.specs.Prelude.{◌≡◌, replicate, IfOk};
+ghost use Rattle.std.specs.Vec.{vec_capacity};
+
+use std::alloc::{AllocError, Global};
+
+/// So many bytes of zeros, and room for no more.
+pub fn zero_bytes(alloc: Global, count: usize) -> Result<Vec<u8>, AllocError>
+    ensures bytes { IfOk result (λ bytes. bytes.items ≡ replicate count 0) }
+    ensures full { IfOk result (λ bytes. vec_capacity bytes ≡ count) }
+{
+    let mut bytes = Vec::with_capacity(alloc, count)?;
+    for _ in 0..count {
+        bytes.push_reserved(0);
+    }
+    Ok(bytes)
+}
