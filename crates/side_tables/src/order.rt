@@ -167,7 +167,8 @@ fn next_of_few(order: &[OrderEntry], start: usize, t: u32) -> Option<usize>
 /// A number `result` such that no entry names one in `t..result`. If there are more than a few entries, it is `t`.
 pub fn next_named(order: &[OrderEntry], t: u32) -> u32
     requires { AreOrdered order.now }
-    ensures { (n : ℕ) → t ≤ n → n < result → places_naming n order.now ≡ [] }
+    ensures least { t ≤ result }
+    ensures none { (n : ℕ) → t ≤ n → n < result → places_naming n order.now ≡ [] }
 {
     if order.len() > FEW {
         return t;

@@ -103,7 +103,8 @@ impl Schedule {
 
     /// A number `result` such that no packet in `t..result` is given anything. If there are many rows, it may be `t`.
     pub fn next_named(&self, t: u32) -> u32
-        ensures { GiveNothing self.now t result }
+        ensures least { t ≤ result }
+        ensures nothing { GiveNothing self.now t result }
     {
         let flags = self.flags.next_named(t);
         flags.min(self.robust.next_named(t))

@@ -1,6 +1,6 @@
 //! Packet numbers in steps.
 
-ghost use Rattle.std.specs.Prelude.{◌≡◌, ℕ, ◌<◌, ◌≤◌, false};
+ghost use Rattle.std.specs.Prelude.{◌≡◌, ℕ, ◌<◌, ◌≤◌, true, false};
 ghost use Rattle.side_tables.specs.Spans.{names};
 
 /// Each `step`-th number from `first` to `last`.
@@ -20,21 +20,24 @@ impl Span {
         self.first <= t && t <= self.last && (t - self.first) % self.step == 0
     }
 
-    /// A number `result` such that none of them is in `t..result`.
+    /// The first number from `t` on that is one of them, and 4,294,967,295 if none is.
     pub fn next(&self, t: u32) -> u32
         requires { 1 ≤ self.now.step }
-        ensures { (n : ℕ) → t ≤ n → n < result → names self.now n ≡ false }
+        ensures least { t ≤ result }
+        ensures named { result < 4294967295 → names self.now result ≡ true }
+        ensures none { (n : ℕ) → t ≤ n → n < result → names self.now n ≡ false }
     {
+        if self.last < t.max(self.first) {
+            return u32::MAX;
+        }
         if t <= self.first {
             return self.first;
-        }
-        if self.last < t {
-            return u32::MAX;
         }
         let past = (t - self.first) % self.step;
         if past == 0 {
             return t;
         }
-        t.saturating_add(self.step - past)
+        let next = t.saturating_add(self.step - past);
+        if self.last < next { u32::MAX } else { next }
     }
 }

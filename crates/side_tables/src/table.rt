@@ -73,7 +73,8 @@ impl<R: TableRow> Table<R> {
 
     /// A number `result` such that no row names a packet in `t..result`.
     pub(crate) fn next_named(&self, t: u32) -> u32
-        ensures { (n : ℕ) → t ≤ n → n < result → ArePlacesNaming R.span_of self.now n [] }
+        ensures least { t ≤ result }
+        ensures none { (n : ℕ) → t ≤ n → n < result → ArePlacesNaming R.span_of self.now n [] }
     {
         next_named(&self.order, t)
     }
