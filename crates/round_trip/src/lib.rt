@@ -6,6 +6,7 @@ ghost use Rattle.mask_update.specs.Histories.{History};
 ghost use Rattle.mask_update.specs.Masks.{mask_at};
 ghost use Rattle.packet_decode.specs.Decoding.{latest_mask_number, latest_number};
 ghost use Rattle.packet_decode.specs.State.{both_known};
+ghost use Rattle.packet_encode.specs.Encoder.{StandsFor};
 ghost use Rattle.round_trip.specs.Carrying.{AreInStep, with_input};
 
 use bit_vectors::{BitFault, BitPen, Bits, Flags, NoMemory};
@@ -45,6 +46,9 @@ pub fn carry(
         ≡ both_known (length h.steps)
         (mask_at (with_input h input.now) (length h.steps)) input.now }
     ensures places { decoder.new.places ≡ decoder.old.places }
+    // Whatever history the encoder stood for, it now stands for that history with this input.
+    ensures stands { (h : History) → StandsFor h encoder.old
+        → StandsFor (with_input h input.now) encoder.new }
 {
     let number = encoder.taken();
     encoder.encode(input, WHOLE, 0, pen);
