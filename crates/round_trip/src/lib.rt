@@ -2,11 +2,13 @@
 #![tactic(auto)]
 
 ghost use Rattle.std.specs.Prelude.{◌≡◌, ℕ, ◌+◌, ◌*◌, ◌<◌, ◌≤◌, [], length, Option, Ok, IfSome, IfOk};
+ghost use Rattle.bit_vectors.specs.Vectors.{padded};
 ghost use Rattle.mask_update.specs.Histories.{History};
 ghost use Rattle.mask_update.specs.Masks.{mask_at};
 ghost use Rattle.packet_decode.specs.Decoding.{latest_mask_number, latest_number};
 ghost use Rattle.packet_decode.specs.State.{both_known};
 ghost use Rattle.packet_encode.specs.Encoder.{StandsFor};
+ghost use Rattle.packet_encode.specs.Packets.{packet_at};
 ghost use Rattle.round_trip.specs.Carrying.{AreInStep, with_input};
 
 use bit_vectors::{BitFault, BitPen, Bits, Flags, NoMemory};
@@ -49,6 +51,12 @@ pub fn carry(
     // Whatever history the encoder stood for, it now stands for that history with this input.
     ensures stands { (h : History) → StandsFor h encoder.old
         → StandsFor (with_input h input.now) encoder.new }
+    ensures encoder_places { length encoder.new.masks.mask ≡ length encoder.old.masks.mask }
+    ensures taken { encoder.new.masks.taken ≡ encoder.old.masks.taken + 1 }
+    // The pen has the packet, in whole bytes.
+    ensures packet { (h : History) → StandsFor h encoder.old
+        → padded pen.new.bits ≡ packet_at (with_input h input.now) (length h.steps) }
+    ensures room { pen.new.room ≡ pen.old.room }
 {
     let number = encoder.taken();
     encoder.encode(input, WHOLE, 0, pen);
