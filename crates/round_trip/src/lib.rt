@@ -1,11 +1,15 @@
 //! A small caller of the encoder and the decoder: an input is encoded, and its packet is read back.
 #![tactic(auto)]
 
-ghost use Rattle.std.specs.Prelude.{◌≡◌, ℕ, ◌+◌, ◌*◌, ◌<◌, ◌≤◌, [], length, Option, Ok, IfSome, IfOk};
+ghost use Rattle.std.specs.Prelude.{◌≡◌, ℕ, ◌+◌, ◌*◌, ◌<◌, ◌≤◌, [], length, true, Option, Ok, IfSome, IfOk};
+ghost use Rattle.bit_vectors.specs.Vectors.{padded};
 ghost use Rattle.mask_update.specs.Histories.{History};
 ghost use Rattle.mask_update.specs.Masks.{mask_at};
-ghost use Rattle.packet_decode.specs.Decoding.{latest_mask_number, latest_number};
+ghost use Rattle.packet_decode.specs.Answers.{IsExactAnswer};
+ghost use Rattle.packet_decode.specs.Decoding.{latest_mask_number, latest_number, tells_nothing};
 ghost use Rattle.packet_decode.specs.State.{both_known};
+ghost use Rattle.packet_encode.specs.Encoder.{StandsFor};
+ghost use Rattle.packet_encode.specs.Packets.{packet_at};
 ghost use Rattle.round_trip.specs.Carrying.{AreInStep, with_input};
 
 use bit_vectors::{BitFault, BitPen, Bits, Flags, NoMemory};
@@ -36,6 +40,10 @@ pub fn carry(
         (λ last. last < encoder.old.masks.taken) }
     requires empty { pen.old.bits ≡ [] }
     requires room { 10 * length input.now + 43 ≤ pen.old.room }
+    // Whatever the decoder knows, the answer is the exact one to this packet.
+    ensures exact { (h : History) → StandsFor h encoder.old → let t = length h.steps in
+        IsExactAnswer decoder.old.places decoder.old.state t
+        (packet_at (with_input h input.now) t) result }
     // Whatever was sent before, and whatever arrived of it, the packet is written.
     ensures written { (h : History) (mask content : Option ℕ)
         → AreInStep h mask content input.now encoder.old decoder.old → result ≡ Ok Reading.Written }
@@ -44,7 +52,17 @@ pub fn carry(
         → AreInStep h mask content input.now encoder.old decoder.old → decoder.new.state
         ≡ both_known (length h.steps)
         (mask_at (with_input h input.now) (length h.steps)) input.now }
+    ensures unchanged { tells_nothing result ≡ true → decoder.new ≡ decoder.old }
     ensures places { decoder.new.places ≡ decoder.old.places }
+    // Whatever history the encoder stood for, it now stands for that history with this input.
+    ensures stands { (h : History) → StandsFor h encoder.old
+        → StandsFor (with_input h input.now) encoder.new }
+    ensures encoder_places { length encoder.new.masks.mask ≡ length encoder.old.masks.mask }
+    ensures taken { encoder.new.masks.taken ≡ encoder.old.masks.taken + 1 }
+    // The pen has the packet, in whole bytes.
+    ensures packet { (h : History) → StandsFor h encoder.old
+        → padded pen.new.bits ≡ packet_at (with_input h input.now) (length h.steps) }
+    ensures room { pen.new.room ≡ pen.old.room }
 {
     let number = encoder.taken();
     encoder.encode(input, WHOLE, 0, pen);
