@@ -48,6 +48,7 @@ impl ReadAhead {
 
     /// Reads until `n` bytes are ahead or the input is at its end, and tells whether `n` bytes are ahead. At `Failed` no
     /// byte that was read before is lost. It allocates no memory.
+    #[inline]
     pub fn hold<D: Desk>(&mut self, desk: &mut D, n: usize) -> Result<bool, Failed>
         requires open { IsReadyIn (D.meaning desk.old) Inlet.Main }
         requires most { n ≤ 131072 }
@@ -88,6 +89,7 @@ impl ReadAhead {
     }
 
     // Reads once, into all the room that is left, and tells how many bytes were added: 0 exactly at the end.
+    #[cold]
     fn read<D: Desk>(&mut self, desk: &mut D) -> Result<usize, Failed>
         requires open { IsReadyIn (D.meaning desk.old) Inlet.Main }
         requires room { length self.old < 131072 }

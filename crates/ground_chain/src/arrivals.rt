@@ -50,6 +50,7 @@ impl Ground {
 
     /// Takes the next arrival, with this sequence count and these data bytes, at most 65,536. A repeat changes
     /// nothing, and its data are not read. It takes no memory.
+    #[inline(always)]
     pub fn arrive(&mut self, count: u16, bytes: &[u8]) -> Verdict
         requires count_bits { count < PERIOD }
         requires latest { IfSome self.old.latest (λ latest. latest < 2 ^ 61) }

@@ -74,6 +74,19 @@ fn write_rows<D: Desk>(desk: &mut D, verdict: &Verdict) -> Result<(), Failed>
     if verdict.lost.is_none() && verdict.kind.is_written() {
         return Ok(());
     }
+    write_some_rows(desk, verdict)
+}
+
+/// Writes the rows of a verdict, apart from the packets that have none: they would pay for the room of the rows.
+#[cold]
+fn write_some_rows<D: Desk>(desk: &mut D, verdict: &Verdict) -> Result<(), Failed>
+    requires { IsReadyOut (D.meaning desk.old) Outlet.Report }
+    ensures added { OnOk result (Adds (D.meaning desk.old) (D.meaning desk.new) Outlet.Report
+        (verdict_rows verdict.now)) }
+    ensures front { OnErr result (AddsFront (D.meaning desk.old) (D.meaning desk.new) Outlet.Report
+        (verdict_rows verdict.now)) }
+    ensures cause { HasWriteCause (D.counts desk.old) (D.counts desk.new) result }
+{
     write_all(desk, Outlet::Report, rows_of(verdict).as_bytes())
 }
 

@@ -20,3 +20,5 @@ pub mod PlaceByStep
 pub mod WindowMask
 pub mod WindowContent
 pub mod OfHistories
+pub mod PredictablePlaces
+pub mod RecentChanges

@@ -1,8 +1,8 @@
 -- What the values stand for by which packets are read.
-use Rattle.std.specs.Prelude.{◌≡◌, ℕ, ⊤, List, Bool, true, false, replicate, IfNone, IfSome, length, Option, None, Some}
+use Rattle.std.specs.Prelude.{◌≡◌, ℕ, ⊤, List, Bool, true, false, replicate, IfNone, IfSome, IsSome, length, Option, None, Some}
 use Rattle.std.specs.Borrow.{Bor}
 use Rattle.std.specs.Option.{option_map}
-use Rattle.bit_vectors.specs.Vectors.{IsVector}
+use Rattle.bit_vectors.specs.Vectors.{IsOne, IsVector}
 use Rattle.packet_encode.specs.Forms.{Directions}
 use Rattle.packet_decode.specs.declared.draft.DataKind.{DataKind}
 use Rattle.packet_decode.specs.declared.draft.DataKind.TheVariants.{Deduced as DeducedKind, Sent as SentKind, Maskless as MasklessKind, Opaque as OpaqueKind}
@@ -15,6 +15,10 @@ use Rattle.packet_decode.specs.PacketReading.{Outcome, Spelled, Opaque}
 abbrev pub sent_directions : Option Bool → List Bool → Option Directions
 sent_directions None predictable = None
 sent_directions (Some twice) predictable = Some (record { predictable = predictable; twice = twice })
+
+-- if directions are sent, what became predictable are recent changes
+abbrev pub AreRecent : Option Bool → List Bool → List Bool → Type 0
+AreRecent twice predictable recent = IsSome twice → (place : ℕ) → IsOne predictable place → IsOne recent place
 
 -- what the parts after the first one say, by the deduced mask, if there is one, the sent mask and the content
 abbrev pub outcome_of : DataKind → Option (List Bool) → List Bool → List Bool → Outcome

@@ -37,7 +37,7 @@ impl Model for FirstPart {
     ghost use Rattle.std.specs.Prelude.{◌≡◌, ◌<◌, ◌↔◌, false, true, length, replicate, Contains, IsTrue};
     ghost use Rattle.std.specs.Bool.{OnFalse};
     ghost use Rattle.packet_decode.specs.State.{Change};
-    ghost use Rattle.packet_decode.specs.Parts.{sent_directions};
+    ghost use Rattle.packet_decode.specs.Parts.{AreRecent, sent_directions};
 
     ghost Value = { Change };
 
@@ -45,7 +45,7 @@ impl Model for FirstPart {
 
     ghost invariant = { λ p. (length p.predictable ≡ length p.recent) × (p.level < 16)
         × (IsTrue p.quiet ↔ (p.recent ≡ replicate (length p.recent) false))
-        × OnFalse p.quiet (Contains p.recent true) };
+        × OnFalse p.quiet (Contains p.recent true) × AreRecent p.twice p.predictable p.recent };
 }
 
 impl FirstPart {
@@ -75,6 +75,7 @@ impl FirstPart {
         ensures reading { Gives (λ _. self.new) result eye.new
             (parse_change (length self.old.recent) (bits_left eye.old)) }
     {
+        self.twice = None;
         take_recent(eye, &mut self.recent, &mut self.quiet)?;
         self.level = eye.take_number(4)? as u8;
         self.twice = take_directions(
@@ -127,24 +128,20 @@ impl FirstPart {
         self.quiet
     }
 
-    /// Makes `mask` the mask after it. `spare` may have any bits afterwards.
-    pub fn deduce(&self, mask: &mut Bits, spare: &mut Bits)
-        requires mask { length mask.old ≡ length self.now.recent }
-        requires spare { length spare.old ≡ length self.now.recent }
+    /// Makes `mask` the mask after it. What became predictable is among the changes, so that it can be taken away last.
+    pub fn deduce(&self, mask: &mut Bits)
+        requires { length mask.old ≡ length self.now.recent }
         ensures mask { mask.new ≡ mask_after mask.old self.now }
-        ensures mask_places { length mask.new ≡ length mask.old }
-        ensures spare_places { length spare.new ≡ length spare.old }
+        ensures places { length mask.new ≡ length mask.old }
     {
         if self.level == 0 {
             mask.xor_in(&self.recent);
             return;
         }
-        spare.copy_from(&self.recent);
+        mask.or_in(&self.recent);
         if self.twice.is_some() {
-            spare.drop_in(&self.predictable);
+            mask.drop_in(&self.predictable);
         }
-        mask.drop_in(&self.recent);
-        mask.or_in(spare);
     }
 
     /// Whether all recent changes are extracted. If not, only the places of the mask are.
@@ -178,11 +175,22 @@ fn take_recent(eye: &mut BitEye, recent: &mut Bits, quiet: &mut bool) -> Result<
     ensures reading { Gives (λ _. recent.new) result eye.new
         (parse_vector (length recent.old) (bits_left eye.old)) }
 {
-    if *quiet && eye.comes_next(NO_RUN, 2) {
+    if eye.comes_next(NO_RUN, 2) {
         eye.pass(2);
+        if !*quiet {
+            recent.clear();
+            *quiet = true;
+        }
         return Ok(());
     }
-    let taken = take_runs(eye, recent);
-    *quiet = recent.is_zero();
-    taken
+    match take_runs(eye, recent) {
+        Ok(()) => {
+            *quiet = false;
+            Ok(())
+        }
+        Err(fault) => {
+            *quiet = recent.is_zero();
+            Err(fault)
+        }
+    }
 }

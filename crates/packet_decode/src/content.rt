@@ -18,6 +18,7 @@ use run_code::take_into;
 /// Takes whether the content is whole, and the content into the draft, under a mask. Answers whether it is known then:
 /// if no content was known, extracted bits are read, as many as the mask and the first part say, and tell no content.
 #[tactic(auto, unfolding(crate::specs::PacketReading::parse_content))]
+#[cold]
 pub fn take_content(
     eye: &mut BitEye,
     change: &FirstPart,
@@ -43,6 +44,7 @@ pub fn take_content(
 
 /// Takes the extracted bits, and answers whether they tell the content, which they do if a content is known.
 #[tactic(auto, unfolding(crate::specs::PacketReading::parse_part_with))]
+#[inline(always)]
 pub fn take_part(
     eye: &mut BitEye,
     change: &FirstPart,
@@ -67,6 +69,7 @@ pub fn take_part(
 }
 
 /// Takes the extracted bits, which tell no content, since none is known. The draft may have any content afterwards.
+#[cold]
 fn take_untold(
     eye: &mut BitEye,
     change: &FirstPart,
@@ -83,6 +86,7 @@ fn take_untold(
 }
 
 /// Takes the extracted bits into the content of the draft.
+#[inline(always)]
 fn take_extracted(
     eye: &mut BitEye,
     change: &FirstPart,
@@ -107,6 +111,7 @@ fn take_extracted(
 
 /// Takes the whole content. If a content is known, the whole one agrees with it outside the extracted places.
 #[tactic(auto, unfolding(crate::specs::PacketReading::parse_whole_with, crate::specs::PacketReading::parse_whole))]
+#[cold]
 pub fn take_whole(
     eye: &mut BitEye,
     change: &FirstPart,

@@ -16,6 +16,7 @@ use bit_vectors::{BitEye, BitFault, Bits};
 /// Takes the parts after the first one: a mask that is sent and can't be deduced into `sent`, and the content into
 /// the draft.
 #[tactic(auto, unfolding(crate::specs::PacketReading::parse_data, crate::specs::PacketReading::parse_sent))]
+#[inline(always)]
 pub fn take_data(
     eye: &mut BitEye,
     change: &FirstPart,
@@ -69,6 +70,7 @@ fn take_unsent(
 
 /// Takes whole content, which follows if no mask is sent here.
 #[tactic(auto, unfolding(crate::specs::PacketReading::parse_maskless))]
+#[cold]
 fn take_maskless(
     eye: &mut BitEye,
     change: &FirstPart,
@@ -96,6 +98,7 @@ fn take_maskless(
 
 /// Takes what follows if a mask is sent, which is the deduced one if there is one.
 #[tactic(auto, unfolding(crate::specs::PacketReading::parse_masked))]
+#[cold]
 fn take_masked(
     eye: &mut BitEye,
     change: &FirstPart,

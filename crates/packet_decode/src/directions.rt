@@ -1,11 +1,12 @@
 //! The directions of the recent changes of the mask (CCSDS 124.0-B-1).
 
-ghost use Rattle.std.specs.Prelude.{◌≡◌, length, false, true, replicate, Contains};
+ghost use Rattle.std.specs.Prelude.{◌≡◌, ℕ, length, false, true, replicate, Contains, IfOk, OnOk};
 ghost use Rattle.std.specs.Bool.{OnFalse, OnTrue};
 ghost use Rattle.bit_vectors.specs.Eye.{bits_left};
+ghost use Rattle.bit_vectors.specs.Vectors.{IsOne};
 ghost use Rattle.bit_vectors.specs.Reading.{MovesOn, Gives};
 ghost use Rattle.packet_decode.specs.PacketReading.{parse_directions, parse_named};
-ghost use Rattle.packet_decode.specs.Parts.{sent_directions};
+ghost use Rattle.packet_decode.specs.Parts.{AreRecent, sent_directions};
 
 use bit_vectors::{BitEye, BitFault, Bits};
 use run_code::take_inverse_up;
@@ -26,6 +27,7 @@ pub fn take_directions(
     requires some { OnFalse quiet (Contains recent.now true) }
     ensures places { length predictable.new ≡ length predictable.old }
     ensures moves { MovesOn eye.old eye.new }
+    ensures within { IfOk result (λ twice. AreRecent twice predictable.new recent.now) }
     ensures reading { Gives (λ twice. sent_directions twice predictable.new) result eye.new
         (parse_directions recent.now level (bits_left eye.old)) }
 {
@@ -47,6 +49,8 @@ fn take_named(eye: &mut BitEye, recent: &Bits, predictable: &mut Bits) -> Result
     requires some { Contains recent.now true }
     ensures places { length predictable.new ≡ length predictable.old }
     ensures moves { MovesOn eye.old eye.new }
+    ensures within { OnOk result
+        ((place : ℕ) → IsOne predictable.new place → IsOne recent.now place) }
     ensures reading { Gives
         (λ twice. record { predictable = predictable.new; twice = twice }) result eye.new
         (parse_named recent.now (bits_left eye.old)) }

@@ -104,7 +104,7 @@ fn take_parts(
         return take_data(eye, next, Some(mask), known, sent, draft);
     }
     deduced.copy_from(mask);
-    next.deduce(deduced, &mut draft.spare);
+    next.deduce(deduced);
     take_data(eye, next, Some(&*deduced), known, sent, draft)
 }
 

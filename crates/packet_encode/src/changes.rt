@@ -36,7 +36,7 @@ pub(crate) fn put_changes(pen: &mut BitPen, mask: &Bits, window: &Window, spare:
 {
     let recent = window.recent();
     let level = window.effective();
-    if recent.is_zero() {
+    if window.is_quiet() {
         pen.put_number(NO_CHANGE + u32::from(level), 2 + LEVEL_BITS);
         return false;
     }

@@ -47,6 +47,7 @@ pub(crate) fn put_data(
 }
 
 /// Appends whether the mask is sent, and if it is, the runs of its edges.
+#[cold]
 fn put_mask(pen: &mut BitPen, send: bool, mask: &Bits, spare: &mut Bits)
     requires spare { length spare.old ≡ length mask.now }
     requires room { length pen.old.bits + (4 * length mask.now + 3) ≤ pen.old.room }
@@ -63,6 +64,7 @@ fn put_mask(pen: &mut BitPen, send: bool, mask: &Bits, spare: &mut Bits)
 }
 
 /// Appends the number of places and all bits of the content.
+#[cold]
 fn put_whole(pen: &mut BitPen, content: &Bits)
     requires { length pen.old.bits + (length content.now + 29) ≤ pen.old.room }
     ensures bits { pen.new.bits ≡ pen.old.bits ++ (count_bits (length content.now) ++ content.now) }

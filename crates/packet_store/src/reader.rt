@@ -80,6 +80,7 @@ impl StoreReader {
     /// The packets are those of the walk over the store, in order, those of other APIDs too, and a fault
     /// of the store is how that walk ends. After `None` or a fault the reader is no longer live. It allocates
     /// no memory. A failed read loses no byte.
+    #[inline(always)]
     pub fn next<D: Desk>(&mut self, desk: &mut D) -> Result<Option<Taken>, StoreFault>
         requires live { IsTrue self.old.live }
         requires open { IsReadyIn (D.meaning desk.old) Inlet.Main }

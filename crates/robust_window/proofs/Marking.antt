@@ -13,7 +13,7 @@ use Rattle.std.proofs.lemmas.Nat.Bits.{bit_at_cat_high, bit_at-zero, bit_at-lt, 
 use Rattle.bit_vectors.specs.Vectors.{number_bits}
 use Rattle.bit_vectors.proofs.NumberBits.{length-number_bits, get_or-number_bits}
 use Rattle.bit_vectors.proofs.Numbers.{bit_at_mod, bit_at_shr, number_bits-cat, number_bits-mod}
-use Rattle.robust_window.specs.Window.{AreClear, change_back, changes_of, mark_back, marks_of, new_mask_back, where_marked}
+use Rattle.robust_window.specs.Window.{AreClear, AreMarked, change_back, changes_of, mark_back, marks_of, new_mask_back, where_marked}
 use Rattle.robust_window.proofs.Ranges.{count_push}
 use Rattle.robust_window.proofs.Standing.{earlier_pushed, latest_pushed}
 
@@ -199,8 +199,7 @@ changes_of-pushed f old new slots change kept mark len marks quiet =
 
 -- a change that is marked has a 1
 pub marked-pushed : (old new : ℕ) (slots : List (List Bool)) (change kept : List Bool) (mark : Bool) → length slots ≡ 16 → marks_of new ≡ drop 1 (marks_of old) ++ mark ∷ [] → (mark ≡ true → Contains change true)
-    → ((back : ℕ) → back < 16 → mark_back old back ≡ true → Contains (change_back slots back) true)
-    → (back : ℕ) → back < 16 → mark_back new back ≡ true → Contains (change_back (drop 1 slots ++ (if mark then change else kept) ∷ []) back) true
+    → AreMarked old slots → AreMarked new (drop 1 slots ++ (if mark then change else kept) ∷ [])
 marked-pushed old new slots change kept mark len marks one marked zero lt set =
     let is : mark ≡ true = sym (latest_pushed (marks_of old) mark false (length-marks old)) ∙ ap (λ (l : List Bool). new_mask_back l 0) (sym marks) ∙ (marks-back new 0 lt ∙ set) in
     let slot : (if mark then change else kept) ≡ change = ap (λ (b : Bool). if b then change else kept) is in
@@ -208,3 +207,9 @@ marked-pushed old new slots change kept mark len marks one marked zero lt set =
 marked-pushed old new slots change kept mark len marks one marked (suc back) lt set =
     let was : mark_back old back ≡ true = sym (marks-back old back (omega arith)) ∙ (sym (earlier_pushed (marks_of old) mark false back (length-marks old) (omega arith)) ∙ (ap (λ (l : List Bool). new_mask_back l (suc back)) (sym marks) ∙ (marks-back new (suc back) lt ∙ set))) in
     subst (λ (v : List Bool). Contains v true) (sym (earlier_pushed slots (if mark then change else kept) [] back len (omega arith))) (marked back (omega arith) was)
+
+-- the same of the slots after a step, whose change is marked if it isn't zero
+pub marked-after : (old new : ℕ) (slots after : List (List Bool)) (change : List Bool) (none : Bool) → after ≡ drop 1 slots ++ (if not none then change else change_back slots 15) ∷ [] → length slots ≡ 16
+    → marks_of new ≡ drop 1 (marks_of old) ++ not none ∷ [] → OnFalse none (Contains change true) → AreMarked old slots → AreMarked new after
+marked-after old new slots after change none is len marks one marked =
+    subst (AreMarked new) (sym is) (marked-pushed old new slots change (change_back slots 15) (not none) len marks (marked_one none change one) marked)

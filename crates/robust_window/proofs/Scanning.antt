@@ -1,9 +1,10 @@
 -- The latest changes and flags, from the latest back.
 use Rattle.std.proofs.Common.{◌≡◌, ℕ, zero, suc, ◌+◌, ◌<◌, Bool, true, false, List, [], ◌∷◌, length, map, replicate, get_or, refl, sym, ap, ◌∙◌, arith, add-one}
-use Rattle.std.specs.Prelude.{◌||◌}
+use Rattle.std.specs.Prelude.{◌||◌, Contains}
 use Rattle.std.specs.List.{list_any, range_with_len}
 use Rattle.std.proofs.lemmas.List.{length-replicate}
-use Rattle.std.proofs.lemmas.List.Folds.{list_any-append}
+use Rattle.std.proofs.lemmas.List.Folds.{list_any-append, list_any_at}
+use Rattle.std.proofs.lemmas.Bool.{false≢true}
 use Rattle.std.proofs.lemmas.List.FromFn.{fill_by_all, length-map-range_with_len}
 use Rattle.std.proofs.lemmas.Simd.{zip2-map}
 use Rattle.bit_vectors.specs.Vectors.{or_bits}
@@ -11,6 +12,7 @@ use Rattle.mask_update.specs.Masks.{vector_of}
 use Rattle.mask_update.proofs.NewMasks.{range_push}
 use Rattle.mask_update.proofs.StepByStep.{vector_of_same}
 use Rattle.robust_window.specs.Window.{change_back}
+use Rattle.robust_window.proofs.Levels.{some_one}
 
 -- ---- recent changes
 
@@ -62,3 +64,14 @@ gathered-zeros f changes (suc count) quiet =
     gathered-zeros f changes count (λ back lt. quiet back (omega arith))
     ∙ gathered-quiet f changes count (quiet count (omega arith))
     ∙ ap (gathered f changes) (add-one count)
+
+-- a change with a 1 among those that are gathered
+any_of_both : (gathered change : List Bool) → length change ≡ length gathered → list_any (λ bit. bit) change ≡ true → list_any (λ bit. bit) (or_bits gathered change) ≡ true
+any_of_both gathered [] len any = absurd (false≢true any)
+any_of_both [] (bit ∷ change) len any = absurd (omega (arith, len))
+any_of_both (true ∷ gathered) (bit ∷ change) len any = refl
+any_of_both (false ∷ gathered) (true ∷ change) len any = refl
+any_of_both (false ∷ gathered) (false ∷ change) len any = any_of_both gathered change (omega (arith, len)) any
+
+pub gathered-some : (gathered change : List Bool) → length change ≡ length gathered → Contains change true → Contains (or_bits gathered change) true
+gathered-some gathered change len one = some_one (or_bits gathered change) (any_of_both gathered change len (list_any_at (λ (bit : Bool). bit) change one.0 true one.1 one.2))

@@ -1,5 +1,6 @@
 -- What a window keeps, and which changes it stands for.
 use Rattle.std.specs.Prelude.{◌≡◌, ℕ, ◌-◌, ◌<◌, ◌≤◌, ◌==◌, Bool, true, false, if◌then◌else◌, List, [], ◌∷◌, length, replicate, All, Contains, slice_index_or}
+use Rattle.std.specs.Bool.{OnFalse, OnTrue}
 use Rattle.std.specs.Int.{bit_at}
 use Rattle.circular_buffer.specs.Buffer.{Buffer}
 use Rattle.bit_vectors.specs.Vectors.{IsVector, number_bits}
@@ -66,16 +67,20 @@ pub record StandsFor (steps : List MaskStep) (value : WindowState) : Type 0 wher
   pub twice : 0 < length steps → value.twice ≡ twice_of steps (latest_change steps)
   pub taken : value.taken ≡ length steps
 
--- The parts of a window agree: sixteen slots for changes, vectors of the same length, and numbers within their bounds. A
--- change that is marked has a 1. Recent changes are those of at most eight steps, so if none of these is marked there
--- are none.
-pub record IsWindow (changes : Buffer (List Bool)) (marks : ℕ) (zeros recent : List Bool) (level taken : ℕ) : Type 0 where
+-- what is marked is a change with a 1
+abbrev pub AreMarked : ℕ → List (List Bool) → Type 0
+AreMarked marks slots = (back : ℕ) → back < 16 → mark_back marks back ≡ true → Contains (change_back slots back) true
+
+-- The parts of a window agree: sixteen slots for changes, vectors of the same length, and numbers within their bounds. It is
+-- known whether there is a recent change.
+pub record IsWindow (changes : Buffer (List Bool)) (marks : ℕ) (zeros recent : List Bool) (quiet : Bool) (level taken : ℕ) : Type 0 where
   pub vector : IsVector recent
   pub full : changes.capacity ≡ 16
   pub slots : length changes.items ≡ 16
   pub places : All (λ change. length change ≡ length recent) changes.items
-  pub marked : (back : ℕ) → back < 16 → mark_back marks back ≡ true → Contains (change_back changes.items back) true
+  pub marked : AreMarked marks changes.items
   pub zeros_are : zeros ≡ replicate (length recent) false
-  pub quiet : AreClear marks 8 → recent ≡ replicate (length recent) false
+  pub zero : OnTrue quiet (recent ≡ replicate (length recent) false)
+  pub some : OnFalse quiet (Contains recent true)
   pub level_most : level ≤ 15
   pub taken_most : taken ≤ 4294967296

@@ -1,10 +1,11 @@
 //! The latest sixteen changes, from the latest back: only those that are marked are written and read.
 
-ghost use Rattle.std.specs.Prelude.{◌≡◌, ◌≤◌, All, false, [], ◌∷◌, ◌++◌, if◌then◌else◌, length, drop, replicate, slice_index_or, IfOk};
+ghost use Rattle.std.specs.Prelude.{◌≡◌, ◌≤◌, All, Contains, true, false, [], ◌∷◌, ◌++◌, if◌then◌else◌, length, drop, replicate, slice_index_or, IfOk};
+ghost use Rattle.std.specs.Bool.{OnFalse, OnTrue};
 ghost use Rattle.std.specs.List.{list_any, range_with_len};
 ghost use Rattle.circular_buffer.specs.Buffer.{buffer};
 ghost use Rattle.mask_update.specs.Masks.{vector_of};
-ghost use Rattle.robust_window.specs.Window.{AreClear, change_back, changes_of};
+ghost use Rattle.robust_window.specs.Window.{AreMarked, change_back, changes_of};
 
 use crate::marks;
 use bit_vectors::{Bits, NoMemory};
@@ -13,9 +14,6 @@ use std::alloc::Global;
 
 /// How many of the latest changes are kept.
 const KEPT: usize = 16;
-
-/// The most steps whose changes are recent: the latest one, and seven before it.
-const MOST_RECENT: u8 = 8;
 
 /// Sixteen changes of `f` zeros.
 pub(crate) fn zero_changes(alloc: Global, f: u32) -> Result<HeapCircularBuffer<Bits>, NoMemory>
@@ -61,32 +59,38 @@ pub(crate) fn change_back(changes: &HeapCircularBuffer<Bits>, back: u8) -> &Bits
     }
 }
 
-/// Makes `recent` 1 at each place that one of the latest `count` changes has. `count` is from 1 to 16. If none of those
-/// that may have been recent was marked before, and none is now, `recent` is zero already.
+/// Makes `recent` 1 at each place that one of the latest `count` changes has, from 1 to 16 of them, and tells whether it is
+/// zero then. `quiet` tells that it is zero before: if it is, and no such change is marked, it stays as it is.
 pub(crate) fn gather(
     changes: &HeapCircularBuffer<Bits>,
-    before: u16,
     marks: u16,
     count: u8,
     recent: &mut Bits,
-)
+    quiet: bool,
+) -> bool
     requires full { length changes.now.items ≡ 16 }
     requires places { All (λ change. length change ≡ length recent.old) changes.now.items }
     requires some { 1 ≤ count }
     requires most { count ≤ 16 }
-    requires quiet { AreClear before 8 → recent.old ≡ replicate (length recent.old) false }
-    ensures { let latest = changes_of (length recent.old) marks changes.now.items in
+    requires marked { AreMarked marks changes.now.items }
+    requires quiet { OnTrue quiet (recent.old ≡ replicate (length recent.old) false) }
+    ensures recent { let latest = changes_of (length recent.old) marks changes.now.items in
         recent.new ≡ vector_of (length recent.old) (λ place.
         list_any (λ back. slice_index_or (change_back latest back) place false)
         (range_with_len 0 count)) }
+    ensures zero { OnTrue result (recent.new ≡ replicate (length recent.old) false) }
+    ensures some { OnFalse result (Contains recent.new true) }
 {
-    if marks::are_clear(before, MOST_RECENT) && marks::are_clear(marks, count) {
-        return;
+    if quiet && marks::are_clear(marks, count) {
+        return true;
     }
     recent.clear();
+    let mut is_zero = true;
     for back in 0..count {
         if marks::is_set(marks, back) {
             recent.or_in(change_back(changes, back));
+            is_zero = false;
         }
     }
+    is_zero
 }

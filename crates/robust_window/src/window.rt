@@ -1,6 +1,7 @@
 //! The window over the latest changes of a mask.
 
-ghost use Rattle.std.specs.Prelude.{◌≡◌, ◌+◌, ◌-◌, ◌<◌, ◌≤◌, List, [], ◌∷◌, ◌++◌, length, replicate, false, IfOk};
+ghost use Rattle.std.specs.Prelude.{◌≡◌, ◌+◌, ◌-◌, ◌<◌, ◌≤◌, List, [], ◌∷◌, ◌++◌, length, replicate, true, false, Contains, IfOk};
+ghost use Rattle.std.specs.Bool.{OnFalse, OnTrue};
 ghost use Rattle.robust_window.specs.Changes.{MaskStep, latest_change, level_of, mask_step, recent_of, twice_of};
 ghost use Rattle.robust_window.specs.Window.{StandsFor, change_back};
 
@@ -23,6 +24,8 @@ pub struct Window {
     new_masks: u16,
     zeros: Bits,
     recent: Bits,
+    /// There is no recent change.
+    quiet: bool,
     level: u8,
     twice: bool,
     taken: u64,
@@ -43,7 +46,7 @@ impl Model for Window {
       taken = w.taken;
     } };
 
-    ghost invariant = { λ w. IsWindow w.changes w.changed w.zeros w.recent w.level w.taken };
+    ghost invariant = { λ w. IsWindow w.changes w.changed w.zeros w.recent w.quiet w.level w.taken };
 }
 
 impl Window {
@@ -61,6 +64,7 @@ impl Window {
             new_masks: 0,
             zeros: Bits::zeros(alloc, f)?,
             recent: Bits::zeros(alloc, f)?,
+            quiet: true,
             level: 0,
             twice: false,
             taken: 0,
@@ -85,16 +89,15 @@ impl Window {
     {
         let most = self.taken.min(MOST_LEVEL) as u8;
         let changed = !change.is_zero();
-        let before = self.changed;
         scan::push_change(&mut self.changes, change, changed);
         self.changed = marks::pushed(self.changed, changed);
         self.new_masks = marks::pushed(self.new_masks, new_mask);
-        scan::gather(
+        self.quiet = scan::gather(
             &self.changes,
-            before,
             self.changed,
             robust + 1,
             &mut self.recent,
+            self.quiet,
         );
         self.level = marks::quiet_level(self.changed, robust, most);
         self.twice = marks::has_two(self.new_masks, self.level + 1);
@@ -110,6 +113,15 @@ impl Window {
         ensures kept { result.now ≡ self.now.recent }
     {
         &self.recent
+    }
+
+    /// Whether there is no recent change.
+    pub fn is_quiet(&self) -> bool
+        ensures zero { OnTrue result
+            (self.now.recent ≡ replicate (length self.now.recent) false) }
+        ensures some { OnFalse result (Contains self.now.recent true) }
+    {
+        self.quiet
     }
 
     /// The effective robustness level, at most 15. At least one step was taken.

@@ -1,10 +1,11 @@
 -- Bits spread over the ones of a word, one after another.
 use Rattle.std.proofs.Common.{◌≡◌, ◌≢◌, ℕ, zero, suc, ◌+◌, ◌-◌, ◌*◌, ◌/◌, ◌%◌, ◌^◌, ◌<◌, ◌≤◌, Bool, true, false, cond, eqb, List, [], ◌∷◌, ◌++◌, length, get_or, take, drop, append_assoc, bit_and, bit_or, w64, refl, sym, ap, ◌∙◌, arith, inl, inr}
 use Rattle.std.specs.Int.{bit_at, bit_not, trailing_zeros}
+use Rattle.std.specs.Int.Bits.{or_zero_r}
 use Rattle.std.specs.Int.RustNames.{count_ones}
 use Rattle.std.proofs.lemmas.Bool.{cases_lt, cases_eq}
 use Rattle.std.proofs.lemmas.List.{ext_get_or, get_or-take, get_or-drop, length-take, length-take-le, take-append-le, take-append-drop, map-append, append-nil, length-append}
-use Rattle.std.proofs.lemmas.Nat.{one_shl, ones-le}
+use Rattle.std.proofs.lemmas.Nat.{and_le_l, and_le_r, one_shl, ones-le}
 use Rattle.std.proofs.lemmas.Nat.Bits.{bit_at_and, bit_at_or, bit_at_not, bit_at_above, bit_at-lt, bit_at-zero, bit_at-pow_same, bit_at-pow_other, bit_at-trailing_zeros}
 use Rattle.bit_vectors.specs.Vectors.{number_bits}
 use Rattle.bit_vectors.proofs.NumberBits.{length-number_bits, number_bits-more}
@@ -131,6 +132,61 @@ none_left new bits rest zero_is =
     let none = word_extract-none new in
     let count : count_ones 0 ≡ 0 = sym (length-word_extract new 0 (omega arith)) ∙ ap (λ (b : List Bool). length b) none in
     rw (zero_is, none, count) refl
+
+-- A word that agrees with the one so far except at the ones that are left, and has the remaining bits there, has all
+-- bits.
+pub record IsSpread (word at ahead made next rest : ℕ) : Type 0 where
+  pub small : rest < 2 ^ 64
+  pub inside : (weight : ℕ) → bit_at at weight ≡ 0 → bit_at rest weight ≡ 0
+  pub clear : (weight : ℕ) → bit_at rest weight ≡ 1 → bit_at made weight ≡ 0
+  pub others : (weight : ℕ) → bit_at at weight ≡ 0 → bit_at made weight ≡ bit_at word weight
+  pub right : (new : ℕ) → ((weight : ℕ) → bit_at rest weight ≡ 0 → bit_at new weight ≡ bit_at made weight) → word_extract new rest ≡ take (count_ones rest) (number_bits 64 next) → word_extract new at ≡ take (count_ones at) (number_bits 64 ahead)
+
+-- one more
+spread_one : (word at ahead made next rest : ℕ) → next < 2 ^ 64 → 0 < rest → IsSpread word at ahead made next rest
+    → IsSpread word at ahead (bit_or made (next / 2 ^ 63 * (rest - bit_and rest (rest - 1)))) (next * 2 ^ 1 % 2 ^ 64) (bit_and rest (rest - 1))
+spread_one word at ahead made next rest fits some i =
+    let bit : next / 2 ^ 63 < 2 = omega (arith, fits) in
+    rw (lowest_bit (next / 2 ^ 63) rest bit some i.small) (record {
+      small = omega (arith, and_le_r rest (rest - 1), i.small);
+      inside = λ w none. step_inside made (next / 2 ^ 63) rest some i.small bit i.clear at w (i.inside w) none;
+      clear = step_clear made (next / 2 ^ 63) rest some i.small bit i.clear;
+      others = step_others made (next / 2 ^ 63) rest some i.small bit i.clear word at i.inside i.others;
+      right = λ new same bits. i.right new
+          (λ w none. step_off made (next / 2 ^ 63) rest some i.small bit i.clear new w same none)
+          (step_bits next rest (word_extract new rest) (word_extract new (bit_and rest (rest - 1))) some i.small fits
+          (step_bit made (next / 2 ^ 63) rest some i.small bit i.clear new same) bits);
+    })
+
+-- with no 1 left nothing changes
+spread_none : (word at ahead made next rest : ℕ) → rest ≡ 0 → IsSpread word at ahead made next rest
+    → IsSpread word at ahead (bit_or made (next / 2 ^ 63 * (rest - bit_and rest (rest - 1)))) (next * 2 ^ 1 % 2 ^ 64) (bit_and rest (rest - 1))
+spread_none word at ahead made next rest none i =
+    let left : bit_and rest (rest - 1) ≡ rest = omega (arith, and_le_r rest (rest - 1), none) in
+    let nothing : next / 2 ^ 63 * (rest - rest) ≡ 0 = let zero_is : rest - rest ≡ 0 = omega arith in rw zero_is (omega arith) in
+    rw (left, nothing, or_zero_r made) (record {
+      small = i.small;
+      inside = i.inside;
+      clear = i.clear;
+      others = i.others;
+      right = λ new same bits. i.right new same (none_left new next rest none);
+    })
+
+pub spread_more_or_none : (word at ahead made next rest : ℕ) → next < 2 ^ 64 → IsSpread word at ahead made next rest
+    → IsSpread word at ahead (bit_or made (next / 2 ^ 63 * (rest - bit_and rest (rest - 1)))) (next * 2 ^ 1 % 2 ^ 64) (bit_and rest (rest - 1))
+spread_more_or_none word at ahead made next rest fits i =
+    elim (cases_eq rest 0) [
+      | inl none ↦ spread_none word at ahead made next rest none i
+      | inr some ↦ spread_one word at ahead made next rest fits (omega arith) i
+    ]
+
+-- a number less one, as the machine takes it away: of 0 it makes a number with which 0 has no 1 in common either
+pub less_one : (m : ℕ) → m < 2 ^ 64 → bit_and m ((m + 18446744073709551615) % 18446744073709551616) ≡ bit_and m (m - 1)
+less_one m small =
+    elim (cases_eq m 0) [
+      | inl none ↦ omega (arith, none, and_le_l m ((m + 18446744073709551615) % 18446744073709551616), and_le_l m (m - 1))
+      | inr some ↦ let same : (m + 18446744073709551615) % 18446744073709551616 ≡ m - 1 = omega arith in ap (bit_and m) same
+    ]
 
 -- ---- whole vectors
 

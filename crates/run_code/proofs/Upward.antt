@@ -122,6 +122,14 @@ unfolding number_bits
 none_left_up new number rest zero_is =
     rw (no_ones rest zero_is) (rw zero_is (ap reverse (word_extract-none new)))
 
+-- where a word has no one, nothing is taken
+pub no_bits_up : (at : ℕ) → at ≡ 0 → bits_up (number_bits 64 0) (number_bits 64 at) ≡ number_bits (count_ones at) 0
+no_bits_up at zero_is = sym (bits_up_is (number_bits 64 0) (number_bits 64 at)) ∙ none_left_up 0 0 at zero_is
+
+pub nothing_taken : (at : ℕ) (left : List Bool) → at ≡ 0 → left ≡ number_bits (count_ones at) 0 ++ left
+unfolding number_bits
+nothing_taken at left zero_is = ap (λ (n : ℕ). number_bits n 0 ++ left) (sym (no_ones at zero_is))
+
 pub gathered_up_all : (bits rest taken gathered at : ℕ) → rest ≡ 0 → taken + count_ones rest ≡ count_ones at → reverse (word_extract bits rest) ++ number_bits taken gathered ≡ reverse (word_extract bits at)
     → number_bits (count_ones at) gathered ≡ bits_up (number_bits 64 bits) (number_bits 64 at)
 gathered_up_all bits rest taken gathered at zero_is count so_far =

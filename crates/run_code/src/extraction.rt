@@ -41,6 +41,7 @@ pub fn put_extract(pen: &mut BitPen, a: &Bits, b: &Bits)
 /// Takes a bit for each 1 of `b`, which has as many places as `a`, from the highest place down, and sets
 /// the bit of `a` at that place to it. The other bits of `a` are unchanged. If the bits end early, those at the
 /// ones of `b` may be any bits. No bit is wrong.
+#[inline(never)]
 pub fn take_into(eye: &mut BitEye, a: &mut Bits, b: &Bits) -> Result<(), BitFault>
     requires { length a.old ≡ length b.now }
     ensures places { length a.new ≡ length a.old }

@@ -78,6 +78,10 @@ fn take_up(eye: &mut BitEye, x: &Bits, into: &mut Bits) -> Result<(), BitFault>
 {
     for index in 0..x.word_count() {
         let at = x.word(index);
+        if at == 0 {
+            into.set_word(index, 0);
+            continue;
+        }
         let number = eye.take_word(at.count_ones())?;
         into.set_word(index, spread_up(number, at));
     }

@@ -38,7 +38,9 @@ pub fn spread(word: u64, at: u64, ahead: u64) -> u64
         let later = rest & (rest - 1);
         made |= (next >> 63) * (rest - later);
         next <<= 1;
-        rest = later;
+        rest = later & later.wrapping_sub(1);
+        made |= (next >> 63) * (later - rest);
+        next <<= 1;
     }
     made
 }

@@ -48,6 +48,7 @@ impl Lookup {
     }
 
     /// What the schedule gives a packet.
+    #[inline]
     pub fn at(&mut self, t: u32) -> Planned
         ensures flags { result.flags ≡ flags_of self.old.flags t }
         ensures robust { result.robust ≡ robust_of self.old.robust t }
@@ -60,6 +61,17 @@ impl Lookup {
                 robust: None,
             };
         }
+        self.look_up(t)
+    }
+
+    /// What the rows give a packet, and from there on up to which number nothing.
+    #[cold]
+    fn look_up(&mut self, t: u32) -> Planned
+        ensures flags { result.flags ≡ flags_of self.old.flags t }
+        ensures robust { result.robust ≡ robust_of self.old.robust t }
+        ensures most { IfSome result.robust (λ robust. robust ≤ 7) }
+        ensures same { self.new ≡ self.old }
+    {
         self.idle_until = self.schedule.next_named(t);
         self.idle_from = t;
         Planned {

@@ -11,7 +11,8 @@ use Rattle.run_code.specs.Extraction.{bits_at, bits_up, parse_filled}
 use Rattle.run_code.proofs.Ones.{ones_below, length-ones_from}
 use Rattle.run_code.proofs.Filling.{parse_filled-few}
 use Rattle.run_code.proofs.InverseBits.{length-bits_at, filling_exact, zeros_filling}
-use Rattle.run_code.proofs.Upward.{no_ones_below, ones_below-most, ones_step_up, upward_all, taken_step, zeros_step}
+use Rattle.std.proofs.lemmas.Nat.Bits.{bit_at-zero}
+use Rattle.run_code.proofs.Upward.{no_bits_up, no_ones_below, nothing_taken, ones_below-most, ones_step_up, upward_all, taken_step, zeros_step}
 use Rattle.run_code.proofs.inverse.take_up.Goals as goal
 
 pub loop-index-init : goal.loop-index-init
@@ -22,16 +23,30 @@ loop-index-init c = record {
   taken = rw (no_ones_below c.args.x.now) refl;
 }
 
+-- a word without a one takes nothing
+pub loop-index-preserved-then-at-eq0 : goal.loop-index-preserved-then-at-eq0
+loop-index-preserved-then-at-eq0 c =
+    let i = c.loop-index.invariant in
+    let at = c.word-at.result in
+    let none = c.if-at-eq0.true in
+    let left = bits_left c.loop-index.eye in
+    record {
+      moves = i.moves;
+      places = c.set_word.ensures.len ∙ i.places;
+      zeros = zeros_step c.loop-index.into c.set_word.new.self c.args.x.now c.loop-index.index 0 at c.word-at.ensures c.set_word.ensures.word c.set_word.ensures.others (λ weight lt. bit_at-zero weight) i.zeros;
+      taken = taken_step (bits_left c.args.eye.now) left left c.loop-index.into c.set_word.new.self c.args.x.now c.loop-index.index 0 at 0 c.word-at.ensures c.set_word.ensures.word c.set_word.ensures.others (no_bits_up at none) (nothing_taken at left none) i.taken;
+    }
+
 pub loop-index-preserved : goal.loop-index-preserved
 loop-index-preserved c =
     let i = c.loop-index.invariant in
     let at = c.word-at.result in
     record {
       moves = MovesOn-then c.args.eye.now c.loop-index.eye c.take_word.new.self i.moves c.in_ok-number.ensures.moves;
-      places = c.set_word.ensures.len ∙ i.places;
-      zeros = zeros_step c.loop-index.into c.set_word.new.self c.args.x.now c.loop-index.index c.spread_up.result at c.word-at.ensures c.set_word.ensures.word c.set_word.ensures.others c.spread_up.ensures.others i.zeros;
+      places = c.set_word-in-loop-index.ensures.len ∙ i.places;
+      zeros = zeros_step c.loop-index.into c.set_word-in-loop-index.new.self c.args.x.now c.loop-index.index c.spread_up.result at c.word-at.ensures c.set_word-in-loop-index.ensures.word c.set_word-in-loop-index.ensures.others c.spread_up.ensures.others i.zeros;
       taken =
-          taken_step (bits_left c.args.eye.now) (bits_left c.loop-index.eye) (bits_left c.take_word.new.self) c.loop-index.into c.set_word.new.self c.args.x.now c.loop-index.index c.spread_up.result at c.in_ok-number.number c.word-at.ensures c.set_word.ensures.word c.set_word.ensures.others c.spread_up.ensures.bits c.in_ok-number.ensures.number i.taken;
+          taken_step (bits_left c.args.eye.now) (bits_left c.loop-index.eye) (bits_left c.take_word.new.self) c.loop-index.into c.set_word-in-loop-index.new.self c.args.x.now c.loop-index.index c.spread_up.result at c.in_ok-number.number c.word-at.ensures c.set_word-in-loop-index.ensures.word c.set_word-in-loop-index.ensures.others c.spread_up.ensures.bits c.in_ok-number.ensures.number i.taken;
     }
 
 -- too few bits are left for the ones of a word

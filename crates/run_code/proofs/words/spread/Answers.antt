@@ -1,6 +1,6 @@
-use Rattle.std.proofs.Common.{◌-◌, ◌/◌, ◌^◌, bit_and, arith, refl}
+use Rattle.std.proofs.Common.{◌-◌, ◌*◌, ◌%◌, ◌/◌, ◌^◌, bit_and, bit_or, arith, refl}
 use Rattle.std.proofs.lemmas.Nat.{and_le_r}
-use Rattle.run_code.proofs.Spreading.{without_ones, without_others, lowest_bit, step_inside, step_clear, step_others, step_off, step_bit, step_bits, none_left}
+use Rattle.run_code.proofs.Spreading.{less_one, lowest_bit, none_left, spread_more_or_none, without_ones, without_others}
 use Rattle.run_code.proofs.Gathering.{word_extract}
 use Rattle.run_code.proofs.words.spread.Goals as goal
 
@@ -19,17 +19,11 @@ overflow_mul-made c = rw (lowest_bit (c.loop-rest.next / 2 ^ 63) c.loop-rest.res
 
 pub loop-rest-preserved : goal.loop-rest-preserved
 loop-rest-preserved c =
-    let i = c.loop-rest.invariant in
-    rw (lowest_bit (c.loop-rest.next / 2 ^ 63) c.loop-rest.rest (omega (arith, c.loop-rest.auto.next-fits)) (omega arith) i.small) (record {
-      small = omega (arith, and_le_r c.loop-rest.rest (c.loop-rest.rest - 1), i.small);
-      inside = λ w none. step_inside c.loop-rest.made (c.loop-rest.next / 2 ^ 63) c.loop-rest.rest (omega arith) i.small (omega (arith, c.loop-rest.auto.next-fits)) i.clear c.args.at w (i.inside w) none;
-      clear = step_clear c.loop-rest.made (c.loop-rest.next / 2 ^ 63) c.loop-rest.rest (omega arith) i.small (omega (arith, c.loop-rest.auto.next-fits)) i.clear;
-      others = step_others c.loop-rest.made (c.loop-rest.next / 2 ^ 63) c.loop-rest.rest (omega arith) i.small (omega (arith, c.loop-rest.auto.next-fits)) i.clear c.args.word c.args.at i.inside i.others;
-      right = λ new same bits. i.right new
-          (λ w none. step_off c.loop-rest.made (c.loop-rest.next / 2 ^ 63) c.loop-rest.rest (omega arith) i.small (omega (arith, c.loop-rest.auto.next-fits)) i.clear new w same none)
-          (step_bits c.loop-rest.next c.loop-rest.rest (word_extract new c.loop-rest.rest) (word_extract new (bit_and c.loop-rest.rest (c.loop-rest.rest - 1))) (omega arith) i.small (omega (arith, c.loop-rest.auto.next-fits))
-          (step_bit c.loop-rest.made (c.loop-rest.next / 2 ^ 63) c.loop-rest.rest (omega arith) i.small (omega (arith, c.loop-rest.auto.next-fits)) i.clear new same) bits);
-    })
+    let l = c.loop-rest in
+    let later = bit_and l.rest (l.rest - 1) in
+    let one = spread_more_or_none c.args.word c.args.at c.args.ahead l.made l.next l.rest (omega (arith, l.auto.next-fits)) l.invariant in
+    rw (less_one later one.small)
+    (spread_more_or_none c.args.word c.args.at c.args.ahead (bit_or l.made (l.next / 2 ^ 63 * (l.rest - later))) (l.next * 2 ^ 1 % 2 ^ 64) later (omega arith) one)
 
 pub returns-clause-bits : goal.returns-clause-bits
 returns-clause-bits c = c.loop-rest.invariant.right c.loop-rest.made (λ w none. refl) (none_left c.loop-rest.made c.loop-rest.next c.loop-rest.rest (omega arith))

@@ -1,30 +1,31 @@
 use Rattle.std.proofs.Common.{◌≡◌, ℕ, ◌+◌, ◌-◌, ◌<◌, ◌≤◌, List, [], ◌∷◌, ◌++◌, length, Bool, true, false, if◌then◌else◌, drop, replicate, subst, sym, ap, ◌∙◌, arith}
 use Rattle.std.specs.Prelude.{All, Contains, not}
+use Rattle.std.specs.Bool.{OnTrue}
 use Rattle.std.proofs.lemmas.List.{length-replicate}
 use Rattle.std.proofs.lemmas.List.Elements.{All-get_or}
 use Rattle.circular_buffer.specs.Buffer.{Buffer}
-use Rattle.robust_window.specs.Window.{WindowState, change_back, changes_of, mark_back}
-use Rattle.robust_window.proofs.Marking.{changes_of-marked, changes_of-pushed, changes_of-quiet, length-changes_of, length-marks, marked-pushed, marked_one, unmarked_zeros}
-use Rattle.robust_window.proofs.Scanning.{gathered, gathered-zeros, length-gathered}
+use Rattle.robust_window.specs.Window.{AreMarked, WindowState, change_back, changes_of}
+use Rattle.robust_window.proofs.Marking.{changes_of-marked, changes_of-pushed, changes_of-quiet, length-changes_of, length-marks, marked-after, unmarked_zeros}
+use Rattle.robust_window.proofs.Scanning.{gathered, length-gathered}
 use Rattle.robust_window.proofs.Standing.{All-pushed, StandsFor-next, length-pushed}
 use Rattle.robust_window.proofs.window.Window.step.Goals as goal
 
-recent_len : (c : goal.After-self-5-1) → length c.gather.new.recent ≡ length c.self.inside.recent
+recent_len : (c : goal.After-self-6-1) → length c.gather-self-inside.new.recent ≡ length c.self.inside.recent
 recent_len c =
     let f = length c.self.inside.recent in
-    ap length c.gather.ensures ∙ length-gathered f (changes_of f c.pushed-self-inside.result c.push_change.new.changes.items) (c.args.robust + 1)
+    ap length c.gather-self-inside.ensures.recent ∙ length-gathered f (changes_of f c.pushed-self-inside.result c.push_change.new.changes.items) (c.args.robust + 1)
 
-change_len : (c : goal.After-self-5-1) → length c.args.change.now ≡ length c.self.inside.recent
+change_len : (c : goal.After-self-6-1) → length c.args.change.now ≡ length c.self.inside.recent
 change_len c = c.requires.places ∙ ap (λ (k : WindowState). length k.recent) (sym c.self.view_is)
 
-slots_are : (c : goal.After-self-5-1) → c.push_change.new.changes.items ≡ drop 1 c.self.inside.changes.items ++ (if not c.is_zero-changed.result then c.args.change.now else change_back c.self.inside.changes.items 15) ∷ []
+slots_are : (c : goal.After-self-6-1) → c.push_change.new.changes.items ≡ drop 1 c.self.inside.changes.items ++ (if not c.is_zero-changed.result then c.args.change.now else change_back c.self.inside.changes.items 15) ∷ []
 slots_are c = ap (λ (b : Buffer (List Bool)). b.items) c.push_change.ensures
 
 -- a change that isn't marked is zero
-quiet_change : (c : goal.After-self-5-1) → not c.is_zero-changed.result ≡ false → c.args.change.now ≡ replicate (length c.self.inside.recent) false
+quiet_change : (c : goal.After-self-6-1) → not c.is_zero-changed.result ≡ false → c.args.change.now ≡ replicate (length c.self.inside.recent) false
 quiet_change c quiet = unmarked_zeros c.is_zero-changed.result c.args.change.now c.is_zero-changed.ensures.zero quiet ∙ ap (λ (n : ℕ). replicate n false) (change_len c)
 
-changes_are : (c : goal.After-self-5-1) → let f = length c.self.inside.recent in changes_of f c.pushed-self-inside.result c.push_change.new.changes.items ≡ drop 1 (changes_of f c.self.inside.changed c.self.inside.changes.items) ++ c.args.change.now ∷ []
+changes_are : (c : goal.After-self-6-1) → let f = length c.self.inside.recent in changes_of f c.pushed-self-inside.result c.push_change.new.changes.items ≡ drop 1 (changes_of f c.self.inside.changed c.self.inside.changes.items) ++ c.args.change.now ∷ []
 changes_are c =
     let f = length c.self.inside.recent in
     let slots = c.self.inside.changes.items in
@@ -34,16 +35,18 @@ changes_are c =
 pub returns-clause-places : goal.returns-clause-places
 returns-clause-places c = recent_len c ∙ ap (λ (k : WindowState). length k.recent) c.self.view_is
 
-slots_len : (c : goal.After-self-5-1) → length c.push_change.new.changes.items ≡ 16
+slots_len : (c : goal.After-self-6-1) → length c.push_change.new.changes.items ≡ 16
 slots_len c = ap length (slots_are c) ∙ length-pushed c.self.inside.changes.items (if not c.is_zero-changed.result then c.args.change.now else change_back c.self.inside.changes.items 15) c.self.invariant.slots
 
 -- a change that is marked has a 1
-marked_are : (c : goal.After-self-5-1) → (back : ℕ) → back < 16 → mark_back c.pushed-self-inside.result back ≡ true → Contains (change_back c.push_change.new.changes.items back) true
-marked_are c =
-    let slots = c.self.inside.changes.items in
-    subst (λ (xs : List (List Bool)). (back : ℕ) → back < 16 → mark_back c.pushed-self-inside.result back ≡ true → Contains (change_back xs back) true) (sym (slots_are c))
-    (marked-pushed c.self.inside.changed c.pushed-self-inside.result slots c.args.change.now (change_back slots 15) (not c.is_zero-changed.result) c.self.invariant.slots c.pushed-self-inside.ensures
-    (marked_one c.is_zero-changed.result c.args.change.now c.is_zero-changed.ensures.some) c.self.invariant.marked)
+pub gather-self-inside-requires-clause-marked : goal.gather-self-inside-requires-clause-marked
+gather-self-inside-requires-clause-marked c =
+    marked-after c.self.inside.changed c.pushed-self-inside.result c.self.inside.changes.items c.push_change.new.changes.items c.args.change.now c.is_zero-changed.result (ap (λ (b : Buffer (List Bool)). b.items) c.push_change.ensures)
+    c.self.invariant.slots c.pushed-self-inside.ensures c.is_zero-changed.ensures.some c.self.invariant.marked
+
+marked_are : (c : goal.After-self-6-1) → AreMarked c.pushed-self-inside.result c.push_change.new.changes.items
+marked_are c = marked-after c.self.inside.changed c.pushed-self-inside.result c.self.inside.changes.items c.push_change.new.changes.items c.args.change.now c.is_zero-changed.result (slots_are c) c.self.invariant.slots c.pushed-self-inside.ensures
+    c.is_zero-changed.ensures.some c.self.invariant.marked
 
 slot_len : (mark : Bool) (change kept : List Bool) (f : ℕ) → length change ≡ f → length kept ≡ f → length (if mark then change else kept) ≡ f
 slot_len true change kept f one other = one
@@ -51,13 +54,13 @@ slot_len false change kept f one other = other
 
 pub invariant_of-self : goal.invariant_of-self
 invariant_of-self c =
-    let same : length c.gather.new.recent ≡ length c.self.inside.recent = recent_len c in
+    let same : length c.gather-self-inside.new.recent ≡ length c.self.inside.recent = recent_len c in
     let taken : c.self.inside.taken ≡ c.args.self.now.taken = ap (λ (k : WindowState). k.taken) c.self.view_is in
     let slots = c.self.inside.changes.items in
     let kept = change_back slots 15 in
-    let fits = λ (v : List Bool). length v ≡ length c.gather.new.recent in
+    let fits = λ (v : List Bool). length v ≡ length c.gather-self-inside.new.recent in
     let places : All fits slots = λ k d lt. c.self.invariant.places k d lt ∙ sym same in
-    let last : length kept ≡ length c.gather.new.recent = All-get_or fits slots (15 - 15) [] (omega (arith, c.self.invariant.slots)) places in
+    let last : length kept ≡ length c.gather-self-inside.new.recent = All-get_or fits slots (15 - 15) [] (omega (arith, c.self.invariant.slots)) places in
     record {
       vector = (omega (arith, c.self.invariant.vector.0), omega (arith, c.self.invariant.vector.1));
       full = ap (λ (b : Buffer (List Bool)). b.capacity) c.push_change.ensures;
@@ -65,15 +68,11 @@ invariant_of-self c =
       places =
           subst (All fits) (sym (slots_are c))
           (All-pushed fits slots (if not c.is_zero-changed.result then c.args.change.now else kept) places
-          (slot_len (not c.is_zero-changed.result) c.args.change.now kept (length c.gather.new.recent) (change_len c ∙ sym same) last));
+          (slot_len (not c.is_zero-changed.result) c.args.change.now kept (length c.gather-self-inside.new.recent) (change_len c ∙ sym same) last));
       marked = marked_are c;
       zeros_are = c.self.invariant.zeros_are ∙ ap (λ (n : ℕ). replicate n false) (sym same);
-      quiet = λ clear.
-          let f = length c.self.inside.recent in
-          let marks = c.pushed-self-inside.result in
-          let count = c.args.robust + 1 in
-          let zeros = gathered-zeros f (changes_of f marks c.push_change.new.changes.items) count (λ back lt. changes_of-quiet f marks c.push_change.new.changes.items back (slots_len c) (omega (arith, lt, c.requires.robust)) (clear back (omega (arith, lt, c.requires.robust)))) in
-          c.gather.ensures ∙ (sym zeros ∙ ap (λ (n : ℕ). replicate n false) (sym same));
+      zero = subst (λ (n : ℕ). OnTrue c.gather-self-inside.result (c.gather-self-inside.new.recent ≡ replicate n false)) (sym same) c.gather-self-inside.ensures.zero;
+      some = c.gather-self-inside.ensures.some;
       level_most = omega (arith, c.requires.robust, c.quiet_level-self-inside.ensures.most);
       taken_most = omega arith;
     }
@@ -84,7 +83,7 @@ returns-clause-stands c = λ steps step stands change new_mask robust.
     let robust_is : step.robust ≡ c.args.robust = robust in
     let taken_is : c.args.self.now.taken ≡ c.self.inside.taken = ap (λ (k : WindowState). k.taken) was in
     let f = length c.self.inside.recent in
-    let places = length c.gather.new.recent in
+    let places = length c.gather-self-inside.new.recent in
     let marks = c.pushed-self-inside.result in
     let slots = c.push_change.new.changes.items in
     let level = c.quiet_level-self-inside.result in
@@ -102,7 +101,7 @@ returns-clause-stands c = λ steps step stands change new_mask robust.
           ∙ ap (λ v. drop 1 c.args.self.now.changes ++ v ∷ []) (sym change);
       new_masks = c.pushed-self-inside-2.ensures ∙ ap (λ (k : WindowState). drop 1 k.new_masks ++ c.args.new_mask ∷ []) c.self.view_is ∙ ap (λ b. drop 1 c.args.self.now.new_masks ++ b ∷ []) (sym new_mask);
       recent =
-          c.gather.ensures
+          c.gather-self-inside.ensures.recent
           ∙ ap (λ (n : ℕ). gathered f (changes_of n marks slots) (c.args.robust + 1)) (sym (recent_len c))
           ∙ ap (λ (k : WindowState). gathered (length k.recent) (changes_of places marks slots) (c.args.robust + 1)) c.self.view_is
           ∙ ap (λ r. gathered (length c.args.self.now.recent) (changes_of places marks slots) (r + 1)) (sym robust_is);
