@@ -9,6 +9,7 @@ mod front;
 mod laws;
 mod pen;
 mod reading;
+mod room;
 mod word_bytes;
 mod words;
 
@@ -18,6 +19,7 @@ pub use fault::{BitFault, NoMemory, SpareBit};
 pub use flags::Flags;
 pub use laws::{bytes_and_vectors, numbers_and_bits};
 pub use pen::BitPen;
+pub use room::zero_bytes;
 
 #[cfg(test)]
 mod tests;

@@ -1,12 +1,12 @@
 //! Writing bits one after another.
 
-ghost use Rattle.std.specs.Prelude.{◌≡◌, ◌+◌, ◌*◌, ◌^◌, ◌<◌, ◌≤◌, [], ◌∷◌, ◌++◌, length, take, replicate, IfOk};
+ghost use Rattle.std.specs.Prelude.{◌≡◌, ◌+◌, ◌*◌, ◌^◌, ◌<◌, ◌≤◌, [], ◌∷◌, ◌++◌, length, take, IfOk};
 ghost use Rattle.std.specs.Int.{w64, to_be_bytes};
-ghost use Rattle.std.specs.Vec.{vec_capacity};
 ghost use Rattle.bit_vectors.specs.Vectors.{number_bits, AreBytes, byte_count, vector_bytes};
 
 use crate::bits::Bits;
 use crate::fault::NoMemory;
+use crate::room::zero_bytes;
 use std::alloc::Global;
 use std::marker::Model;
 
@@ -144,18 +144,6 @@ impl BitPen {
     {
         first_bytes(&self.bytes, self.len().div_ceil(8))
     }
-}
-
-/// The given number of zero bytes, with no capacity for more.
-fn zero_bytes(alloc: Global, count: usize) -> Result<Vec<u8>, NoMemory>
-    ensures bytes { IfOk result (λ bytes. bytes.items ≡ replicate count 0) }
-    ensures full { IfOk result (λ bytes. vec_capacity bytes ≡ count) }
-{
-    let mut bytes = Vec::with_capacity(alloc, count)?;
-    for _ in 0..count {
-        bytes.push_reserved(0);
-    }
-    Ok(bytes)
 }
 
 /// Writes a word into the eight bytes after the given number of words.

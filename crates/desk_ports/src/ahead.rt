@@ -6,7 +6,7 @@ ghost use Rattle.desk_ports.specs.Meanings.{IsReadyIn, HasReadCause, left};
 ghost use Rattle.desk_ports.specs.ReadAhead.{ReadsOn};
 
 use crate::desk::{Desk, Failed, Inlet};
-use crate::room::zero_bytes;
+use bit_vectors::zero_bytes;
 use std::alloc::{AllocError, Global};
 use std::marker::Model;
 

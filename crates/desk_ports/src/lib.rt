@@ -11,7 +11,6 @@ mod memory;
 mod part;
 mod progress;
 mod quiet;
-mod room;
 mod row;
 mod transfer;
 mod turns;
@@ -27,7 +26,6 @@ pub use laws::{
 };
 pub use memory::MemDesk;
 pub use quiet::QuietDesk;
-pub use room::zero_bytes;
 pub use row::{ROW_BYTES, Row};
 pub use transfer::{fill, write_all};
 pub use turns::{Run, Turn, drive};

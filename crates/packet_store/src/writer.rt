@@ -6,8 +6,8 @@ ghost use Rattle.packet_store.specs.SpacePackets.{period, space_packet};
 
 use crate::header::{HEADER_BYTES, header_bytes};
 use crate::reader::PACKET_BYTES;
-use bit_vectors::NoMemory;
-use desk_ports::{Desk, Failed, Outlet, write_all, zero_bytes};
+use bit_vectors::{NoMemory, zero_bytes};
+use desk_ports::{Desk, Failed, Outlet, write_all};
 use std::alloc::Global;
 use std::marker::Model;
 

@@ -25,6 +25,7 @@ pub fn gathered(held: u64, bits: u64, at: u64) -> u64
 }
 
 /// `word` with the first bits of `ahead` at the ones of `at`, the first bit at the 1 of the least weight.
+/// Each turn takes two ones: a word has mostly one or two. If the second is missing, taking it changes nothing.
 pub fn spread(word: u64, at: u64, ahead: u64) -> u64
     ensures bits { extract (number_bits 64 result) (number_bits 64 at)
         ≡ take (count_ones at) (number_bits 64 ahead) }

@@ -45,8 +45,8 @@ loop-back-preserved c =
                 ∙ gathered-more f latest back (ap length same ∙ places);
             zero = OnTrue_from _ _ (λ is. absurd (false≢true (sym w.is_zero-is ∙ is)));
             some = OnFalse_from _ _ (λ _.
-            subst (λ (v : List Bool). Contains v true) (sym (w.recent-is ∙ w.or_in.ensures.bits ∙ ap (or_bits c.loop-back.recent) w.change_back.ensures))
-            (gathered-some c.loop-back.recent (change_back slots back) (places ∙ sym c.loop-back.invariant.places) (c.requires.marked back lt set)));
+                subst (λ (v : List Bool). Contains v true) (sym (w.recent-is ∙ w.or_in.ensures.bits ∙ ap (or_bits c.loop-back.recent) w.change_back.ensures))
+                (gathered-some c.loop-back.recent (change_back slots back) (places ∙ sym c.loop-back.invariant.places) (c.requires.marked back lt set)));
           }
       | else-is_set w ↦
           let unset : mark_back c.args.marks back ≡ false = sym c.is_set.ensures ∙ w.if-is_set.false in

@@ -1,5 +1,5 @@
 use Rattle.std.proofs.Common.{◌≡◌, replicate, vec_capacity}
-use Rattle.bit_vectors.proofs.pen.zero_bytes.Given as goal
+use Rattle.bit_vectors.proofs.room.zero_bytes.Given as goal
 
 -- the bytes so far, and the capacity for all
 abbrev pub invariant-loop : goal.invariant-loop
