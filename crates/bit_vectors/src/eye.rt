@@ -88,6 +88,7 @@ impl<'a> BitEye<'a> {
 
     /// The next 64 bits as a word, the next bit with the greatest weight, and zeros after the end. The eye
     /// does not move.
+    #[inline(always)]
     pub fn ahead(&self) -> u64
         ensures { Shows (bits_left self.now) result }
     {

@@ -97,6 +97,7 @@ impl<'a> BitEye<'a> {
     }
 
     /// Whether the next bits are the `width` lowest bits of a number, at most 32, the bit of the greatest weight first.
+    #[inline(always)]
     pub fn comes_next(&self, value: u32, width: u32) -> bool
         requires { width ≤ 32 }
         ensures next { IsTrue result ↔ (take width (bits_left self.now) ≡ number_bits width value) }

@@ -47,6 +47,7 @@ pub fn take_data(
 
 /// Takes what follows if neither a mask nor a whole content is sent.
 #[tactic(auto, unfolding(crate::specs::PacketReading::parse_unsent))]
+#[inline(always)]
 fn take_unsent(
     eye: &mut BitEye,
     change: &FirstPart,

@@ -24,6 +24,7 @@ fn first_header(bytes: &[u8]) -> Header
 }
 
 /// Makes sure that the whole packet at this offset is ahead, and tells its header. `None`: the input is at its end.
+#[inline(always)]
 pub fn hold_packet<D: Desk>(
     input: &mut ReadAhead,
     desk: &mut D,
