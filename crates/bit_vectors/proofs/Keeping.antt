@@ -1,19 +1,19 @@
 -- What the calls of a vector do, in terms of the words that keep it.
-use Rattle.std.proofs.Common.{◌≡◌, ◌≢◌, ℕ, zero, suc, ◌+◌, ◌-◌, ◌*◌, ◌/◌, ◌%◌, ◌^◌, ◌<◌, ◌≤◌, ◌⊎◌, ◌↔◌, Bool, true, false, cond, eqb, List, [], ◌∷◌, ◌++◌, length, get_or, set, take, drop, replicate, count_by, Option, Some, None, IfSome, IfNone, IsNone, refl, sym, ap, subst, ◌∙◌, arith, inl, inr}
-use Rattle.std.specs.Int.{bit_at}
-use Rattle.std.specs.Prelude.{Contains}
+use Rattle.std.proofs.Common.{bit_and, ◌≡◌, ◌≢◌, ℕ, zero, suc, ◌+◌, ◌-◌, ◌*◌, ◌/◌, ◌%◌, ◌^◌, ◌<◌, ◌≤◌, ◌⊎◌, ◌↔◌, Bool, true, false, cond, eqb, List, [], ◌∷◌, ◌++◌, length, get_or, set, take, drop, replicate, count_by, Option, Some, None, IfSome, IfNone, IsNone, refl, sym, ap, subst, ◌∙◌, arith, inl, inr}
+use Rattle.std.specs.Int.{bit_at, bit_not, w64}
+use Rattle.std.specs.Prelude.{Contains, not, ◌&&◌}
 use Rattle.std.specs.Simd.Lanes.{zip2}
 use Rattle.std.proofs.lemmas.Bool.{cases_lt, cases_eq, true≢false}
 use Rattle.std.proofs.lemmas.List.{take_at, length-take-le, length-set, length-replicate, get_or-take, get_or-drop, get_or_past, get_or-replicate, get_or-set_same, get_or-set_other, ext_get_or}
 use Rattle.std.proofs.lemmas.List.Sums.{sum_by-cons, sum_by-take-drop}
-use Rattle.std.proofs.lemmas.Simd.{length-zip2}
+use Rattle.std.proofs.lemmas.Simd.{get_or-zip2, length-zip2}
 use Rattle.std.proofs.lemmas.Nat.Bits.{bit_at-zero, same_from_bits_below}
-use Rattle.bit_vectors.specs.Vectors.{IsOne, NoneIsOne, bits_of, byte_count, padded, vector_bytes}
+use Rattle.bit_vectors.specs.Vectors.{IsOne, NoneIsOne, bits_of, byte_count, padded, vector_bytes, without_bits}
 use Rattle.bit_vectors.specs.Words.{word_count, word_bits, bit_of, vector_of, AreWords, NoBitIsOne, IsWord, HasNoSpareBit}
 use Rattle.bit_vectors.proofs.Numbers.{same_bit}
 use Rattle.bit_vectors.proofs.ByteBits.{length-bits_of, length-padded, get_or-padded, zeros_is, zero_from_none, vector_bytes_is}
 use Rattle.bit_vectors.proofs.Places.{get_or-zip2_all}
-use Rattle.bit_vectors.proofs.WordBits.{get_or-word_bits, length-vector_of, get_or-vector_of, vector_of_is, bit_of-set_in, bit_of-set_out, numbers-set}
+use Rattle.bit_vectors.proofs.WordBits.{Bitwise-drop, Zips, zipped_bits, zipped_numbers, get_or-word_bits, length-vector_of, get_or-vector_of, vector_of_is, bit_of-set_in, bit_of-set_out, numbers-set}
 
 -- a vector and the words that keep it
 pub record Holds (words : List ℕ) (places : ℕ) (v : List Bool) : Type 0 where
@@ -238,6 +238,57 @@ some_one words places v h some =
       | inl none ↦ absurd (some (zero_words_of words places v h none))
       | inr one ↦ one
     ]
+
+-- ---- the ones of a vector that another doesn't have
+
+abbrev dropped : List ℕ → List ℕ → List ℕ
+dropped words others = zip2 (λ a b. bit_and a (bit_not w64 b)) words others
+
+module _ (words others : List ℕ) (places count : ℕ) (v w : List Bool) (h : Holds words places v) (g : Holds others count w) (len : length v ≡ length w) where
+  dropped_at : (i : ℕ) → i < length words → get_or (dropped words others) i 0 ≡ bit_and (get_or words i 0) (bit_not w64 (get_or others i 0))
+  dropped_at i lt = get_or-zip2 (λ a b. bit_and a (bit_not w64 b)) words others i 0 0 0 lt (omega (arith, lt, same_count words others places count v w h g len))
+
+  dropped_len : length (dropped words others) ≡ length words
+  dropped_len = length-zip2 (λ a b. bit_and a (bit_not w64 b)) words others (same_count words others places count v w h g len)
+
+  dropped_zips : Zips (λ a b. bit_and a (bit_not w64 b)) words others (dropped words others)
+  dropped_zips = record {
+    len = same_count words others places count v w h g len;
+    same_len = dropped_len;
+    old_numbers = h.are.numbers;
+    other_numbers = g.are.numbers;
+    words = dropped_at;
+  }
+
+  dropped_becomes : Becomes words (dropped words others) places (without_bits v w)
+  dropped_becomes =
+      Becomes-zip (λ a b. a && not b) refl words (dropped words others) others places count v w h g len dropped_len
+      (zipped_bits (λ a b. bit_and a (bit_not w64 b)) (λ a b. a && not b) words others (dropped words others) Bitwise-drop dropped_zips)
+      (zipped_numbers (λ a b. bit_and a (bit_not w64 b)) (λ a b. a && not b) words others (dropped words others) Bitwise-drop dropped_zips)
+
+  dropped_holds : Holds (dropped words others) places (without_bits v w)
+  dropped_holds = record {
+    are = AreWords-becomes words (dropped words others) places (without_bits v w) h.are dropped_becomes;
+    len = dropped_becomes.len;
+    bits = λ k. sym (dropped_becomes.bits k);
+  }
+
+  without_len : length (without_bits v w) ≡ length v
+  without_len = length-zip2 (λ a b. a && not b) v w len
+
+  pub none_dropped : ((i : ℕ) → i < length words → bit_and (get_or words i 0) (bit_not w64 (get_or others i 0)) ≡ 0) → without_bits v w ≡ replicate (length v) false
+  none_dropped none =
+      zero_vector (dropped words others) places (without_bits v w) dropped_holds (λ i lt. dropped_at i (omega (arith, lt, dropped_len)) ∙ none i (omega (arith, lt, dropped_len)))
+      ∙ ap (λ (n : ℕ). replicate n false) without_len
+
+  pub dropped_none : without_bits v w ≡ replicate (length v) false → (i : ℕ) → i < length words → bit_and (get_or words i 0) (bit_not w64 (get_or others i 0)) ≡ 0
+  dropped_none zeros i lt =
+      sym (dropped_at i lt)
+      ∙ zero_words_of (dropped words others) places (without_bits v w) dropped_holds (zeros ∙ ap (λ (n : ℕ). replicate n false) (sym without_len)) i (omega (arith, lt, dropped_len))
+
+  pub some_dropped : (((i : ℕ) → i < length words → bit_and (get_or words i 0) (bit_not w64 (get_or others i 0)) ≡ 0) → ⊥) → Contains (without_bits v w) true
+  some_dropped some =
+      some_one (dropped words others) places (without_bits v w) dropped_holds (λ zeros. some (λ i lt. sym (dropped_at i lt) ∙ zeros i (omega (arith, lt, dropped_len))))
 
 pub same_words : (a b : List ℕ) (places count : ℕ) (v w : List Bool) → Holds a places v → Holds b count w → v ≡ w → a ≡ b
 same_words a b places count v w h g same =

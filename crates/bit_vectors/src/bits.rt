@@ -9,8 +9,8 @@ ghost use Rattle.bit_vectors.specs.Words.{word_count, IsWord, HasNoSpareBit, vec
 use crate::fault::{NoMemory, SpareBit};
 use crate::word_bytes::{has_spare_bit, load_words, store_words};
 use crate::words::{
-    are_same, are_zero, bit_in_words, copy_words, drop_words, first_one, last_one, ones_in,
-    or_words, write_bit_in_words, xor_words, zero_words,
+    are_same, are_within, are_zero, bit_in_words, copy_words, drop_words, first_one, last_one,
+    ones_in, or_words, write_bit_in_words, xor_words, zero_words,
 };
 use std::alloc::Global;
 use std::marker::Model;
@@ -133,6 +133,16 @@ impl Bits {
         ensures some { OnFalse result (Contains self.now true) }
     {
         are_zero(&self.words)
+    }
+
+    /// Whether every bit that is 1 is 1 in `other` too, which has the same number of places.
+    pub fn is_within(&self, other: &Bits) -> bool
+        requires { length self.now ≡ length other.now }
+        ensures within { IsTrue result
+            ↔ (without_bits self.now other.now ≡ replicate (length self.now) false) }
+        ensures some { OnFalse result (Contains (without_bits self.now other.now) true) }
+    {
+        are_within(&self.words, &other.words)
     }
 
     /// The greatest place below `below` at which the bit is 1. `below` is at most the number of places.

@@ -1,6 +1,7 @@
 //! Words of 64 bits that keep the bits of a vector. Place 0 is the bit of the greatest weight of word 0.
 
-ghost use Rattle.std.specs.Prelude.{◌≡◌, ◌≢◌, ℕ, ◌+◌, ◌*◌, ◌^◌, ◌<◌, ◌≤◌, ◌↔◌, ◌&&◌, ◌||◌, Bool, true, not, if◌then◌else◌, length, replicate, slice_index, EachIndex, IsTrue, IfSome, IfNone, IfOk, count_by};
+ghost use Rattle.std.specs.Prelude.{bit_and, ◌≡◌, ◌≢◌, ℕ, ◌+◌, ◌*◌, ◌^◌, ◌<◌, ◌≤◌, ◌↔◌, ◌&&◌, ◌||◌, Bool, true, not, if◌then◌else◌, length, replicate, slice_index, EachIndex, IsTrue, IfSome, IfNone, IfOk, count_by};
+ghost use Rattle.std.specs.Int.{bit_not, w64};
 ghost use Rattle.std.specs.Vec.{vec_capacity};
 ghost use Rattle.bit_vectors.specs.Words.{bit_of, word_bits, NoBitIsOne};
 
@@ -120,6 +121,20 @@ pub fn are_same(words: &[u64], others: &[u64]) -> bool
     let mut any = 0;
     for (index, word) in words.iter().enumerate() {
         any |= word ^ others[index];
+    }
+    any == 0
+}
+
+/// Whether every bit that is 1 in the words is 1 in the others too. No branch depends on a word, so that several are
+/// compared at once.
+pub fn are_within(words: &[u64], others: &[u64]) -> bool
+    requires { length words.now ≡ length others.now }
+    ensures { IsTrue result ↔ EachIndex words.now (λ i.
+        bit_and (slice_index words.now i) (bit_not w64 (slice_index others.now i)) ≡ 0) }
+{
+    let mut any = 0;
+    for (index, word) in words.iter().enumerate() {
+        any |= word & !others[index];
     }
     any == 0
 }

@@ -3,7 +3,7 @@ use Rattle.std.proofs.Common.{◌≡◌, ℕ, ◌+◌, ◌*◌, ◌<◌, ◌≤�
 use Rattle.std.specs.Prelude.{Contains, nat_lt, ◌&&◌}
 use Rattle.std.specs.List.{list_any}
 use Rattle.std.proofs.lemmas.Bool.{and_from, le-leb}
-use Rattle.std.proofs.lemmas.List.{append-nil, length-append}
+use Rattle.std.proofs.lemmas.List.{append-nil, length-append, length-replicate}
 use Rattle.std.proofs.lemmas.List.Folds.{list_any_at}
 use Rattle.bit_vectors.specs.Vectors.{number_bits, without_bits}
 use Rattle.bit_vectors.proofs.NumberBits.{length-number_bits}
@@ -43,12 +43,10 @@ appended_words bits first second third = simp append_assoc
 pub appended_pair : (bits first second : List Bool) → (bits ++ first) ++ second ≡ bits ++ (first ++ (second ++ []))
 appended_pair bits first second = simp (append_assoc, append-nil)
 
--- what is left of the recent changes outside the mask
-pub none_left : (recent mask left : List Bool) → left ≡ without_bits recent mask → left ≡ replicate (length left) false → has_one (without_bits recent mask) ≡ false
-none_left recent mask left is zeros = ap has_one (sym is) ∙ has_one-zeros left zeros
-
-pub some_left : (recent mask left : List Bool) → left ≡ without_bits recent mask → Contains left true → has_one (without_bits recent mask) ≡ true
-some_left recent mask left is one = ap has_one (sym is) ∙ has_one-some left one
+-- no recent change is outside the mask
+pub none_left : (recent mask : List Bool) → without_bits recent mask ≡ replicate (length recent) false → has_one (without_bits recent mask) ≡ false
+none_left recent mask zeros =
+    has_one-zeros (without_bits recent mask) (zeros ∙ ap (λ (n : ℕ). replicate n false) (sym (ap length zeros ∙ length-replicate (length recent) false)))
 
 no_choice : {A : Type 0} (a b : Bool) (some : Option A) → b ≡ false → cond (a && b) some None ≡ None
 no_choice true b some none = ap (λ c. cond c some None) none

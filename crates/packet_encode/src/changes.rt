@@ -18,11 +18,9 @@ const NO_CHANGE: u32 = 0b10_0000;
 
 /// Appends the recent changes and the level of a window that has taken a step, and the directions, if there are
 /// changes and a level above 0. Without a change that is one number. Returns whether all recent changes are extracted.
-/// `spare` may then have any bits.
-pub(crate) fn put_changes(pen: &mut BitPen, mask: &Bits, window: &Window, spare: &mut Bits) -> bool
+pub(crate) fn put_changes(pen: &mut BitPen, mask: &Bits, window: &Window) -> bool
     requires taken { 0 < window.now.taken }
     requires places { length window.now.recent ≡ length mask.now }
-    requires spare { length spare.old ≡ length mask.now }
     requires room { length pen.old.bits + (5 * length mask.now + 8) ≤ pen.old.room }
     ensures bits { (form : Form) → form.recent ≡ window.now.recent → form.level ≡ window.now.level
         → form.directions ≡ directions_of mask.now form.recent form.level window.now.twice
@@ -32,7 +30,6 @@ pub(crate) fn put_changes(pen: &mut BitPen, mask: &Bits, window: &Window, spare:
         ≡ (if result then or_bits mask.now recent else mask.now) }
     ensures most { length pen.new.bits ≤ length pen.old.bits + (5 * length mask.now + 8) }
     ensures room { pen.new.room ≡ pen.old.room }
-    ensures spare { length spare.new ≡ length spare.old }
 {
     let recent = window.recent();
     let level = window.effective();
@@ -45,20 +42,13 @@ pub(crate) fn put_changes(pen: &mut BitPen, mask: &Bits, window: &Window, spare:
     if level == 0 {
         return false;
     }
-    put_directions(pen, mask, recent, window.twice(), spare)
+    put_directions(pen, mask, recent, window.twice())
 }
 
 /// Appends a 0 if the mask has all recent changes. Otherwise appends a 1, then for each recent change whether it
 /// became predictable, and then whether all are extracted. Returns whether all are extracted.
-fn put_directions(
-    pen: &mut BitPen,
-    mask: &Bits,
-    recent: &Bits,
-    twice: bool,
-    spare: &mut Bits,
-) -> bool
+fn put_directions(pen: &mut BitPen, mask: &Bits, recent: &Bits, twice: bool) -> bool
     requires places { length recent.now ≡ length mask.now }
-    requires spare { length spare.old ≡ length mask.now }
     requires room { length pen.old.bits + (length mask.now + 2) ≤ pen.old.room }
     ensures bits { (level : ℕ) → 0 < level → pen.new.bits
         ≡ pen.old.bits ++ direction_bits recent.now
@@ -68,11 +58,8 @@ fn put_directions(
         ≡ (if result then or_bits mask.now recent.now else mask.now) }
     ensures most { length pen.new.bits ≤ length pen.old.bits + (length mask.now + 2) }
     ensures room { pen.new.room ≡ pen.old.room }
-    ensures spare { length spare.new ≡ length spare.old }
 {
-    spare.copy_from(recent);
-    spare.drop_in(mask);
-    if spare.is_zero() {
+    if recent.is_within(mask) {
         pen.put(false);
         return false;
     }

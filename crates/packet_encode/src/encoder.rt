@@ -98,7 +98,7 @@ impl Encoder {
         self.masks.step(input, flags.p);
         self.window.step(self.masks.change(), flags.p, robust);
         let mask = self.masks.mask();
-        let wide = put_changes(pen, mask, &self.window, &mut self.spare);
+        let wide = put_changes(pen, mask, &self.window);
         let recent = self.window.recent();
         put_data(pen, input, flags, mask, recent, wide, &mut self.spare);
     }

@@ -5,21 +5,21 @@ use Rattle.run_code.specs.Extraction.{inverse_up}
 use Rattle.run_code.proofs.ExtractedBits.{inverse_is}
 use Rattle.packet_encode.specs.Forms.{direction_bits, wide_by}
 use Rattle.packet_encode.proofs.Bounds.{length-inverse_up, ones_most}
-use Rattle.packet_encode.proofs.Directions.{appended, directions-none, directions-some, none_left, some_left}
+use Rattle.packet_encode.proofs.Directions.{appended, directions-none, directions-some, has_one-some, none_left}
 use Rattle.packet_encode.proofs.changes.put_directions.Goals as goal
 
-pub returns-then-is_zero-clause-bits : goal.returns-then-is_zero-clause-bits
-returns-then-is_zero-clause-bits c = λ level above.
+pub returns-then-is_within-clause-bits : goal.returns-then-is_within-clause-bits
+returns-then-is_within-clause-bits c = λ level above.
     c.put.ensures.bits
     ∙ ap (λ d. c.args.pen.now.bits ++ direction_bits c.args.recent.now d)
     (sym (directions-none c.args.mask.now c.args.recent.now level c.args.twice
-    (none_left c.args.recent.now c.args.mask.now c.drop_in.new.self (c.drop_in.ensures.bits ∙ ap (λ v. without_bits v c.args.mask.now) c.copy_from.ensures) (c.is_zero.ensures.zero.0 c.if-is_zero.true))))
+    (none_left c.args.recent.now c.args.mask.now (c.is_within.ensures.within.0 c.if-is_within.true))))
 
-pub returns-then-is_zero-clause-wide : goal.returns-then-is_zero-clause-wide
-returns-then-is_zero-clause-wide c = λ level above.
+pub returns-then-is_within-clause-wide : goal.returns-then-is_within-clause-wide
+returns-then-is_within-clause-wide c = λ level above.
     ap (λ d. wide_by d c.args.recent.now c.args.mask.now)
     (directions-none c.args.mask.now c.args.recent.now level c.args.twice
-    (none_left c.args.recent.now c.args.mask.now c.drop_in.new.self (c.drop_in.ensures.bits ∙ ap (λ v. without_bits v c.args.mask.now) c.copy_from.ensures) (c.is_zero.ensures.zero.0 c.if-is_zero.true)))
+    (none_left c.args.recent.now c.args.mask.now (c.is_within.ensures.within.0 c.if-is_within.true)))
 
 pub put-requires-3 : goal.put-requires-3
 put-requires-3 c =
@@ -35,7 +35,7 @@ put-requires-3 c =
 
 pub returns-clause-bits : goal.returns-clause-bits
 returns-clause-bits c = λ level above.
-    let some = some_left c.args.recent.now c.args.mask.now c.drop_in.new.self (c.drop_in.ensures.bits ∙ ap (λ v. without_bits v c.args.mask.now) c.copy_from.ensures) c.if-is_zero.ensures.some in
+    let some = has_one-some (without_bits c.args.recent.now c.args.mask.now) c.if-is_within.ensures.some in
     c.put-3.ensures.bits
     ∙ ap (λ bits. bits ++ c.args.twice ∷ []) (c.put_inverse_up.ensures.bits ∙ ap (λ bits. bits ++ inverse_up c.args.mask.now c.args.recent.now) c.put-2.ensures.bits)
     ∙ appended c.args.pen.now.bits true (inverse_up c.args.mask.now c.args.recent.now) c.args.twice
@@ -44,7 +44,7 @@ returns-clause-bits c = λ level above.
 
 pub returns-clause-wide : goal.returns-clause-wide
 returns-clause-wide c = λ level above.
-    let some = some_left c.args.recent.now c.args.mask.now c.drop_in.new.self (c.drop_in.ensures.bits ∙ ap (λ v. without_bits v c.args.mask.now) c.copy_from.ensures) c.if-is_zero.ensures.some in
+    let some = has_one-some (without_bits c.args.recent.now c.args.mask.now) c.if-is_within.ensures.some in
     ap (λ d. wide_by d c.args.recent.now c.args.mask.now) (directions-some c.args.mask.now c.args.recent.now level c.args.twice above some)
 
 pub returns-clause-most : goal.returns-clause-most
