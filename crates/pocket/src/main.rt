@@ -4,6 +4,7 @@
 ghost use Rattle.std.specs.Prelude.{◌≡◌, ℕ, ◌≤◌, ◌↔◌, ◌⊎◌, drop, length, map, take, Err, IsSome, None};
 ghost use Rattle.std.specs.Process.{exit_status};
 ghost use Rattle.std.specs.String.{string_bytes};
+ghost use Rattle.desk_ports.specs.FileDesk.{file_counts};
 ghost use Rattle.desk_ports.specs.Meanings.{nothing_told};
 ghost use Rattle.pocket.specs.Program.{GathersNothing, IsHandedOver, asked_by, asked_of, seen};
 ghost use Rattle.pocket_cmd.specs.Command.{HasCommand, command_of};
@@ -152,6 +153,11 @@ fn run<'a>(rt: &HostRuntime, words: &[String], desk: &mut FileDesk<'a>) -> Statu
         ↔ (command_of (map string_bytes words.now) ≡ Err word) }
     ensures done { result ≡ Status.Done → HasCommand words.now (λ _. Unit {0}) }
     ensures handed { IsHandedOver desk.new }
+    // A fault of reading or writing is the answer only if one was counted.
+    ensures read_fault { result ≡ Status.Refused Refusal.ReadFault
+        → 1 ≤ (file_counts desk.new).reads }
+    ensures write_fault { result ≡ Status.Refused Refusal.WriteFault
+        → 1 ≤ (file_counts desk.new).writes }
     // If it is done, all that was written was handed over.
     ensures whole { result ≡ Status.Done → GathersNothing desk.new }
 {
