@@ -9,7 +9,7 @@ use Rattle.mask_update.specs.Histories.{History, IsValid, flags_at, input_at}
 use Rattle.mask_update.specs.Masks.{mask_at}
 use Rattle.mask_update.proofs.StepByStep.{length-mask_at}
 use Rattle.robust_window.specs.Histories.{level_at}
-use Rattle.packet_encode.specs.Forms.{Whole, change_bits, data_bits, form_bits, wide}
+use Rattle.packet_encode.specs.Forms.{change_bits, data_bits, form_bits, wide}
 use Rattle.packet_encode.specs.Packets.{sent_content, form_at, packet_at, sent_of}
 use Rattle.packet_encode.specs.Deliveries.{reaches}
 use Rattle.packet_encode.proofs.OfHistories.{form_at-fits, form_at-is_form, form_bits-is}

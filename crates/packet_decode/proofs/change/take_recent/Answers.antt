@@ -1,4 +1,4 @@
-use Rattle.std.proofs.Common.{◌≡◌, Bool, List, length, replicate, refl, sym, ap, ◌∙◌, false, true, get_or}
+use Rattle.std.proofs.Common.{◌≡◌, Bool, List, length, replicate, sym, ap, ◌∙◌, false, true}
 use Rattle.std.specs.Prelude.{Contains}
 use Rattle.std.proofs.lemmas.Bool.{OnTrue_at, false≢true}
 use Rattle.bit_vectors.specs.Eye.{bits_left}
