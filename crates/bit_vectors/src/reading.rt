@@ -40,6 +40,7 @@ impl<'a> BitEye<'a> {
 
     /// Takes a number of `width` bits, at most 64, the bit of the greatest weight first. No bit is wrong. If the bits
     /// end early, the eye is then at the end.
+    #[inline(always)]
     pub fn take_word(&mut self, width: u32) -> Result<u64, BitFault>
         requires { width ≤ 64 }
         ensures moves { MovesOn self.old self.new }
@@ -63,6 +64,7 @@ impl<'a> BitEye<'a> {
 
     /// Takes a number of `width` bits, at most 32, the bit of the greatest weight first. No bit is wrong. If the bits
     /// end early, the eye is then at the end.
+    #[inline(always)]
     pub fn take_number(&mut self, width: u32) -> Result<u32, BitFault>
         requires { width ≤ 32 }
         ensures moves { MovesOn self.old self.new }
@@ -80,6 +82,7 @@ impl<'a> BitEye<'a> {
 
     /// Takes the `width` lowest bits of a number, at most 32, the bit of the greatest weight first. The first bit that
     /// differs from them is wrong, and the bits end early if all that are left are a proper prefix of them.
+    #[inline(always)]
     pub fn match_number(&mut self, value: u32, width: u32) -> Result<(), BitFault>
         requires { width ≤ 32 }
         ensures moves { MovesOn self.old self.new }
@@ -153,6 +156,7 @@ impl<'a> BitEye<'a> {
     }
 
     /// Takes the bits of a number: at once if they come next, else bit by bit.
+    #[inline(always)]
     fn match_ahead(&mut self, value: u32, width: u32) -> Result<(), BitFault>
         requires { width ≤ 32 }
         ensures moves { MovesOn self.old self.new }
@@ -167,6 +171,7 @@ impl<'a> BitEye<'a> {
     }
 
     /// Takes the bits of a number one by one, to name the first one that differs.
+    #[cold]
     fn match_bits(&mut self, value: u32, width: u32) -> Result<(), BitFault>
         requires { width ≤ 32 }
         ensures moves { MovesOn self.old self.new }
