@@ -106,6 +106,7 @@ fn main(rt: HostRuntime) -> ExitCode {
 }
 
 /// All words of the command line, the program's name first.
+#[inline(never)]
 fn command_line(rt: &HostRuntime) -> io::Result<Vec<String>> {
     let mut line = Vec::new(rt.alloc());
     for word in env::args(rt)? {
