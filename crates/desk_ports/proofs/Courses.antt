@@ -5,7 +5,7 @@ use Rattle.desk_ports.specs.declared.desk.Inlet.TheVariants as inlet
 use Rattle.desk_ports.specs.declared.desk.Outlet.TheVariants as outlet
 use Rattle.desk_ports.specs.Meanings.{Meanings, Moves, left, made}
 use Rattle.desk_ports.specs.Runs.{Ran}
-use Rattle.desk_ports.specs.Courses.{Outputs, no_outputs, put, Course, by_ending, owed, behind, AreFronts, Went, Ends, IsCutOff, Work, Finishes}
+use Rattle.desk_ports.specs.Courses.{Outputs, no_outputs, put, Course, by_ending, owed, written_first, AreFronts, Went, Ends, IsCutOff, Work, Finishes}
 use Rattle.desk_ports.proofs.Runs.{Ran-then, Ran-moves}
 
 pub put-put : (a b c : Outputs) → put (put a b) c ≡ put a (put b c)
@@ -15,11 +15,11 @@ by_ending-put : {F : Type 0} (ending : Option F) (stand before after : Outputs) 
 by_ending-put None stand before after = put-put stand before after
 by_ending-put (Some fault) stand before after = refl
 
-pub owed-behind : {F : Type 0} (stand : Outputs) (course : Course F) → owed (behind stand course) ≡ put stand (owed course)
-owed-behind stand course = by_ending-put course.ending stand course.before course.after
+pub owed-written_first : {F : Type 0} (stand : Outputs) (course : Course F) → owed (written_first stand course) ≡ put stand (owed course)
+owed-written_first stand course = by_ending-put course.ending stand course.before course.after
 
-pub behind-behind : {F : Type 0} (a b : Outputs) (course : Course F) → behind a (behind b course) ≡ behind (put a b) course
-behind-behind a b course = ap (λ (before : Outputs). record course { before = before }) (sym (put-put a b course.before))
+pub written_first-twice : {F : Type 0} (a b : Outputs) (course : Course F) → written_first a (written_first b course) ≡ written_first (put a b) course
+written_first-twice a b course = ap (λ (before : Outputs). record course { before = before }) (sym (put-put a b course.before))
 
 -- a prefix is a prefix of more, and also after the same bytes
 pub AreFronts-then : (a b c : Outputs) → AreFronts a b → AreFronts a (put b c)

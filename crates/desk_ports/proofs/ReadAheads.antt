@@ -5,9 +5,9 @@ use borrow.Rule.Slice.PartMut.{put_mid, post_of}
 use Rattle.desk_ports.proofs.Transfers.{take-put_mid-add}
 
 -- the front of a room in which bytes were read after the first ones
-pub read_behind : (len k n m : ℕ) (items room first buf : List ℕ) → m ≡ k + n → first ≡ room → k ≤ length first → n ≤ length buf → k + length buf ≤ len
+pub read_after : (len k n m : ℕ) (items room first buf : List ℕ) → m ≡ k + n → first ≡ room → k ≤ length first → n ≤ length buf → k + length buf ≤ len
     → take m (take len (put_mid k (length first - k) first buf ++ drop (length (put_mid k (length first - k) first buf)) items)) ≡ take k room ++ take n buf
-read_behind len k n m items room first buf sum is within few long =
+read_after len k n m items room first buf sum is within few long =
     let part = put_mid k (length first - k) first buf in
     let rest = post_of k (length first - k) first in
     let size : k + length buf ≤ length part = omega (arith, length-append (take k first) (buf ++ rest), length-append buf rest, length-take-le k first within) in

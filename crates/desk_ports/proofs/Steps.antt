@@ -7,10 +7,10 @@ use Rattle.desk_ports.specs.declared.desk.Outlet.TheVariants as outlet
 use Rattle.desk_ports.specs.Stop.{Stop, Data, ReadFault, WriteFault}
 use Rattle.desk_ports.specs.Meanings.{Meanings, Moves, AddsFront, left}
 use Rattle.desk_ports.specs.Runs.{Ran}
-use Rattle.desk_ports.specs.Courses.{Outputs, no_outputs, to_output, to_report, put, Course, owed, behind, AreFronts, Went, Ends, IsCutOff, IsCutShort, Work, Finishes, AfterStop, AfterRun}
+use Rattle.desk_ports.specs.Courses.{Outputs, no_outputs, to_output, to_report, put, Course, owed, written_first, AreFronts, Went, Ends, IsCutOff, IsCutShort, Work, Finishes, AfterStop, AfterRun}
 use Rattle.desk_ports.specs.Turns.{AreReady, Steps, Reaches, Advances, IsLast, Wrote, WroteFront}
 use Rattle.desk_ports.proofs.Runs.{Ran-none, Ran-then, Ran-moves, Ran-adds, Ran-notes, Ran-ready_in, Ran-ready_out}
-use Rattle.desk_ports.proofs.Courses.{owed-behind, behind-behind, AreFronts-then, AreFronts-put, rest_of, Went-ran, Went-then, IfSome-IsAtEnd}
+use Rattle.desk_ports.proofs.Courses.{owed-written_first, written_first-twice, AreFronts-then, AreFronts-put, rest_of, Went-ran, Went-then, IfSome-IsAtEnd}
 use Rattle.desk_ports.proofs.Transfers.{prepend_known-none}
 
 -- ---- joined turns
@@ -21,7 +21,7 @@ Reaches-none work m = record { taken = []; outputs = no_outputs; ran = Ran-none 
 
 Steps-then : {A F : Type 0} (work here next : Work A F) (xs ys : List ℕ) (a b : Outputs) → Steps work here xs a → Steps here next ys b → Steps work next (xs ++ ys) (put a b)
 Steps-then work here next xs ys a b p q = record {
-  course = λ rest. ap work.course (append_assoc xs ys rest) ∙ (p.course (ys ++ rest) ∙ (ap (behind a) (q.course rest) ∙ behind-behind a b (next.course rest)));
+  course = λ rest. ap work.course (append_assoc xs ys rest) ∙ (p.course (ys ++ rest) ∙ (ap (written_first a) (q.course rest) ∙ written_first-twice a b (next.course rest)));
   answer = λ rest. ap work.answer (append_assoc xs ys rest) ∙ (p.answer (ys ++ rest) ∙ q.answer rest);
 }
 
@@ -34,50 +34,50 @@ Reaches-then work here next a b c p q = record {
 }
 
 -- one more turn
-pub Advances-behind : {A F : Type 0} (work here : Work A F) (owes : Work A F → Type 0) (a b c : Meanings) → Reaches work here a b → Advances here owes b c → Advances work owes a c
-Advances-behind work here owes a b c p q = record { next = q.next; owed = q.owed; reaches = Reaches-then work here q.next a b c p q.reaches }
+pub Advances-after : {A F : Type 0} (work here : Work A F) (owes : Work A F → Type 0) (a b c : Meanings) → Reaches work here a b → Advances here owes b c → Advances work owes a c
+Advances-after work here owes a b c p q = record { next = q.next; owed = q.owed; reaches = Reaches-then work here q.next a b c p q.reaches }
 
-Ends-behind : {A F : Type 0} (work here : Work A F) (a b c : Meanings) (ending : Option F) → Reaches work here a b → Ends here.course b c ending → Ends work.course a c ending
-Ends-behind {F = F} work here a b c ending p q =
+Ends-after : {A F : Type 0} (work here : Work A F) (a b c : Meanings) (ending : Option F) → Reaches work here a b → Ends here.course b c ending → Ends work.course a c ending
+Ends-after {F = F} work here a b c ending p q =
     let course = p.steps.course q.input in
     record {
       input = p.taken ++ q.input;
-      went = subst (Went a c (p.taken ++ q.input)) (sym (ap owed course ∙ owed-behind p.outputs (here.course q.input))) (Went-then a b c p.taken q.input p.outputs (owed (here.course q.input)) p.ran q.went);
+      went = subst (Went a c (p.taken ++ q.input)) (sym (ap owed course ∙ owed-written_first p.outputs (here.course q.input))) (Went-then a b c p.taken q.input p.outputs (owed (here.course q.input)) p.ran q.went);
       ends = ap (λ (k : Course F). k.ending) course ∙ q.ends;
       read_out = q.read_out;
     }
 
-IsCutOff-behind : {A F : Type 0} (work here : Work A F) (a b c : Meanings) → Reaches work here a b → IsCutOff here.course b c → IsCutOff work.course a c
-IsCutOff-behind {F = F} work here a b c p q =
+IsCutOff-after : {A F : Type 0} (work here : Work A F) (a b c : Meanings) → Reaches work here a b → IsCutOff here.course b c → IsCutOff work.course a c
+IsCutOff-after {F = F} work here a b c p q =
     let stand = (here.course q.taken).before in
     record {
       taken = p.taken ++ q.taken;
       ran = subst (λ (o : Outputs). Ran a c (p.taken ++ q.taken) o.output o.report) (sym (ap (λ (k : Course F). k.before) (p.steps.course q.taken))) (Ran-then a b c p.taken q.taken p.outputs.output stand.output p.outputs.report stand.report p.ran q.ran);
     }
 
-IsCutShort-behind : {A F : Type 0} (work here : Work A F) (a b c : Meanings) → Reaches work here a b → IsCutShort here.course b c → IsCutShort work.course a c
-IsCutShort-behind work here a b c p q = record {
+IsCutShort-after : {A F : Type 0} (work here : Work A F) (a b c : Meanings) → Reaches work here a b → IsCutShort here.course b c → IsCutShort work.course a c
+IsCutShort-after work here a b c p q = record {
   input = p.taken ++ q.input;
   stand = put p.outputs q.stand;
   went = Went-then a b c p.taken q.input p.outputs q.stand p.ran q.went;
-  fronts = subst (AreFronts (put p.outputs q.stand)) (sym (ap owed (p.steps.course q.input) ∙ owed-behind p.outputs (here.course q.input))) (AreFronts-put p.outputs q.stand (owed (here.course q.input)) q.fronts);
+  fronts = subst (AreFronts (put p.outputs q.stand)) (sym (ap owed (p.steps.course q.input) ∙ owed-written_first p.outputs (here.course q.input))) (AreFronts-put p.outputs q.stand (owed (here.course q.input)) q.fronts);
 }
 
 -- a fault that ended the run, after the turns before it
-pub AfterStop-behind : {A F : Type 0} (work here : Work A F) (a b c : Meanings) (stop : Stop F) → Reaches work here a b → AfterStop here.course b c stop → AfterStop work.course a c stop
-AfterStop-behind work here a b c (Data fault) p q = Ends-behind work here a b c (Some fault) p q
-AfterStop-behind work here a b c ReadFault p q = IsCutOff-behind work here a b c p q
-AfterStop-behind work here a b c WriteFault p q = IsCutShort-behind work here a b c p q
+pub AfterStop-after : {A F : Type 0} (work here : Work A F) (a b c : Meanings) (stop : Stop F) → Reaches work here a b → AfterStop here.course b c stop → AfterStop work.course a c stop
+AfterStop-after work here a b c (Data fault) p q = Ends-after work here a b c (Some fault) p q
+AfterStop-after work here a b c ReadFault p q = IsCutOff-after work here a b c p q
+AfterStop-after work here a b c WriteFault p q = IsCutShort-after work here a b c p q
 
 -- the answer of all of the work is that of its last part
-pub Finishes-behind : {A F : Type 0} (work here : Work A F) (a b c : Meanings) (answer : A) → Reaches work here a b → Finishes here b c answer → Finishes work a c answer
-unfolding Ends-behind
-Finishes-behind work here a b c answer p q = record { ends = Ends-behind work here a b c None p q.ends; answered = q.answered ∙ sym (p.steps.answer q.ends.input) }
+pub Finishes-after : {A F : Type 0} (work here : Work A F) (a b c : Meanings) (answer : A) → Reaches work here a b → Finishes here b c answer → Finishes work a c answer
+unfolding Ends-after
+Finishes-after work here a b c answer p q = record { ends = Ends-after work here a b c None p q.ends; answered = q.answered ∙ sym (p.steps.answer q.ends.input) }
 
 -- a run after a part of it that was done before
-pub AfterRun-behind : {A F : Type 0} (work here : Work A F) (a b c : Meanings) (result : Result A (Stop F)) → Reaches work here a b → AfterRun here b c result → AfterRun work a c result
-AfterRun-behind work here a b c (Ok answer) p q = Finishes-behind work here a b c answer p q
-AfterRun-behind work here a b c (Err stop) p q = AfterStop-behind work here a b c stop p q
+pub AfterRun-after : {A F : Type 0} (work here : Work A F) (a b c : Meanings) (result : Result A (Stop F)) → Reaches work here a b → AfterRun here b c result → AfterRun work a c result
+AfterRun-after work here a b c (Ok answer) p q = Finishes-after work here a b c answer p q
+AfterRun-after work here a b c (Err stop) p q = AfterStop-after work here a b c stop p q
 
 -- what was opened stays open
 pub AreReady-ran : (writes : Outlet → Bool) (a b : Meanings) (xs us rs : List ℕ) → Ran a b xs us rs → AreReady writes a → AreReady writes b
@@ -111,7 +111,7 @@ IsCutShort-front work next a b taken stand outputs steps fronts ran =
       input = taken ++ rest;
       stand = stand;
       went = Went-ran a b taken stand ran;
-      fronts = subst (AreFronts stand) (sym (ap owed (steps.course rest) ∙ owed-behind outputs (next.course rest))) (AreFronts-then stand outputs (owed (next.course rest)) fronts);
+      fronts = subst (AreFronts stand) (sym (ap owed (steps.course rest) ∙ owed-written_first outputs (next.course rest))) (AreFronts-then stand outputs (owed (next.course rest)) fronts);
     }
 
 -- and if a write failed, only a prefix of it was written

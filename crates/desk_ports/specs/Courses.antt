@@ -40,8 +40,8 @@ abbrev pub owed : {F : Type 0} → Course F → Outputs
 owed course = by_ending course.ending course.before course.after
 
 -- the same course if these outputs were written already
-abbrev pub behind : {F : Type 0} → Outputs → Course F → Course F
-behind stand course = record course { before = put stand course.before }
+abbrev pub written_first : {F : Type 0} → Outputs → Course F → Course F
+written_first stand course = record course { before = put stand course.before }
 
 -- what was written is a prefix of all that is owed
 pub record AreFronts (stand all : Outputs) : Type 0 where

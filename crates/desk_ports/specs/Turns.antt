@@ -7,7 +7,7 @@ use Rattle.desk_ports.specs.declared.turns.Turn.{Turn}
 use Rattle.desk_ports.specs.declared.turns.Turn.TheVariants.{More, Done}
 use Rattle.desk_ports.specs.Meanings.{Meanings, IsReadyIn, IsReadyOut}
 use Rattle.desk_ports.specs.Runs.{Ran}
-use Rattle.desk_ports.specs.Courses.{Outputs, no_outputs, behind, AreFronts, Work, Finishes, AfterStop}
+use Rattle.desk_ports.specs.Courses.{Outputs, no_outputs, written_first, AreFronts, Work, Finishes, AfterStop}
 
 -- there is work that is owed, that is, still to do
 pub record IsOwed {A F : Type 0} (owes : Work A F → Type 0) : Type 0 where
@@ -22,7 +22,7 @@ pub record AreReady (writes : Outlet → Bool) (m : Meanings) : Type 0 where
 -- If the input begins with these bytes, these outputs are owed for them, and for the bytes after them the other work is
 -- to do.
 pub record Steps {A F : Type 0} (work next : Work A F) (taken : List ℕ) (outputs : Outputs) : Type 0 where
-  pub course : (rest : List ℕ) → work.course (taken ++ rest) ≡ behind outputs (next.course rest)
+  pub course : (rest : List ℕ) → work.course (taken ++ rest) ≡ written_first outputs (next.course rest)
   pub answer : (rest : List ℕ) → work.answer (taken ++ rest) ≡ next.answer rest
 
 -- Part of the work is done: some bytes were taken, and what is owed for them was written.

@@ -1,7 +1,7 @@
 -- What is owed for the rest of a recording, packet by packet.
 use Rattle.std.proofs.Common.{length-append, ◌≡◌, ℕ, ◌+◌, ◌%◌, Bool, List, [], ◌∷◌, ◌++◌, length, Some, sym, ap, ◌∙◌, subst, append_assoc, append-nil, arith}
 use Rattle.desk_ports.specs.Meanings.{Meanings}
-use Rattle.desk_ports.specs.Courses.{Course, no_outputs, to_output, behind, AfterStop, Ends}
+use Rattle.desk_ports.specs.Courses.{Course, no_outputs, to_output, written_first, AfterStop, Ends}
 use Rattle.desk_ports.specs.Turns.{Steps, IsLast}
 use Rattle.desk_ports.proofs.Courses.{Ends-fault, IsCutOff-moves}
 use Rattle.side_tables.specs.Rows.{flags_of}
@@ -15,7 +15,7 @@ use Rattle.flight_chain.specs.declared.fault.RecordFault.{RecordFault}
 use Rattle.flight_chain.specs.declared.fault.RecordFault.TheVariants.{CutRecord, SpareBit, TooMany}
 use Rattle.flight_chain.specs.declared.reading.Unread.{Unread}
 use Rattle.flight_chain.specs.declared.reading.Unread.TheVariants as unread
-use Rattle.flight_chain.specs.Recordings.{RecordingWalk, recording_walk_from, behind_input}
+use Rattle.flight_chain.specs.Recordings.{RecordingWalk, recording_walk_from, input_first}
 use Rattle.flight_chain.specs.Reading.{Takes, Stops, AfterUnread, fault_by}
 use Rattle.flight_chain.specs.Stores.{data_at}
 use Rattle.flight_chain.specs.Compressing.{Compression, history_by, HasTaken, all_inputs, next_packet, further_packets, required_robustness, rest_course, rest_work, stop_by, with_packet}
@@ -31,10 +31,10 @@ length-push inputs input = omega (arith, length-append inputs (input ∷ []))
 -- ---- a packet that was taken
 
 module _ (k : Compression) (inputs : List (List Bool)) (input : List Bool) (before after : List ℕ) (a b : Meanings) (takes : Takes k.places (length inputs) before after a b input) where
-  walk_taken : (rest : List ℕ) → recording_walk_from k.places (length inputs) (before ++ (takes.taken ++ rest)) ≡ behind_input input (recording_walk_from k.places (length (inputs ++ input ∷ [])) (after ++ rest))
-  walk_taken rest = takes.goes_on rest ∙ ap (λ (t : ℕ). behind_input input (recording_walk_from k.places t (after ++ rest))) (sym (length-push inputs input))
+  walk_taken : (rest : List ℕ) → recording_walk_from k.places (length inputs) (before ++ (takes.taken ++ rest)) ≡ input_first input (recording_walk_from k.places (length (inputs ++ input ∷ [])) (after ++ rest))
+  walk_taken rest = takes.goes_on rest ∙ ap (λ (t : ℕ). input_first input (recording_walk_from k.places t (after ++ rest))) (sym (length-push inputs input))
 
-  pub taken_course : (rest : List ℕ) → rest_course k inputs (before ++ (takes.taken ++ rest)) ≡ behind (to_output (next_packet k inputs input)) (rest_course k (inputs ++ input ∷ []) (after ++ rest))
+  pub taken_course : (rest : List ℕ) → rest_course k inputs (before ++ (takes.taken ++ rest)) ≡ written_first (to_output (next_packet k inputs input)) (rest_course k (inputs ++ input ∷ []) (after ++ rest))
   taken_course rest = ap (course_by k inputs) (walk_taken rest)
 
   all_taken : (rest : List ℕ) → all_inputs k inputs (before ++ (takes.taken ++ rest)) ≡ all_inputs k (inputs ++ input ∷ []) (after ++ rest)
@@ -62,21 +62,21 @@ IsLast-compressed k inputs ahead n none number =
 -- ---- a packet that was not taken
 
 -- the course of what is ahead and then these bytes
-abbrev course_behind : Compression → List (List Bool) → List ℕ → List ℕ → Course RecordFault
-course_behind k inputs before bytes = rest_course k inputs (before ++ bytes)
+abbrev course_after : Compression → List (List Bool) → List ℕ → List ℕ → Course RecordFault
+course_after k inputs before bytes = rest_course k inputs (before ++ bytes)
 
-Ends-stops : (k : Compression) (inputs : List (List Bool)) (before : List ℕ) (a b : Meanings) (fault : RecordFault) → Stops k.places (length inputs) before a b fault → Ends (course_behind k inputs before) a b (Some fault)
+Ends-stops : (k : Compression) (inputs : List (List Bool)) (before : List ℕ) (a b : Meanings) (fault : RecordFault) → Stops k.places (length inputs) before a b fault → Ends (course_after k inputs before) a b (Some fault)
 Ends-stops k inputs before a b fault stops =
     let course = ap (course_by k inputs) stops.ends in
-    Ends-fault (course_behind k inputs before) a b stops.taken stops.rest fault stops.moved stops.told (ap (λ (l : Course RecordFault). l.before) course) (ap (λ (l : Course RecordFault). l.ending) course)
+    Ends-fault (course_after k inputs before) a b stops.taken stops.rest fault stops.moved stops.told (ap (λ (l : Course RecordFault). l.before) course) (ap (λ (l : Course RecordFault). l.ending) course)
 
 -- a fault of the recording, or of the desk, ends the run
-AfterStop-unread : (k : Compression) (inputs : List (List Bool)) (before : List ℕ) (a b : Meanings) (u : Unread) → AfterUnread k.places (length inputs) before a b u → AfterStop (course_behind k inputs before) a b (stop_by (fault_by u))
+AfterStop-unread : (k : Compression) (inputs : List (List Bool)) (before : List ℕ) (a b : Meanings) (u : Unread) → AfterUnread k.places (length inputs) before a b u → AfterStop (course_after k inputs before) a b (stop_by (fault_by u))
 AfterStop-unread k inputs before a b (unread.Data (CutRecord t)) stops = Ends-stops k inputs before a b (CutRecord t) stops
 AfterStop-unread k inputs before a b (unread.Data (SpareBit t)) stops = Ends-stops k inputs before a b (SpareBit t) stops
 AfterStop-unread k inputs before a b (unread.Data TooMany) stops = Ends-stops k inputs before a b TooMany stops
 AfterStop-unread k inputs before a b unread.ReadFault waits =
-    IsCutOff-moves (course_behind k inputs before) a b waits.taken waits.moved (ap (λ (l : List (List Bool)). to_output (further_packets k inputs l)) waits.none)
+    IsCutOff-moves (course_after k inputs before) a b waits.taken waits.moved (ap (λ (l : List (List Bool)). to_output (further_packets k inputs l)) waits.none)
 
 -- ---- the histories
 

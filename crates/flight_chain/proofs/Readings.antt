@@ -12,7 +12,7 @@ use Rattle.desk_ports.specs.ReadAhead.{ReadsOn}
 use Rattle.desk_ports.proofs.Courses.{rest_of, IfSome-rest_of, IfSome-IsAtEnd}
 use Rattle.flight_chain.specs.declared.fault.RecordFault.{RecordFault}
 use Rattle.flight_chain.specs.declared.fault.RecordFault.TheVariants.{CutRecord, SpareBit, TooMany}
-use Rattle.flight_chain.specs.Recordings.{first_packet, fault_at, RecordingWalk, recording_walk_from, behind_input, stopped_at}
+use Rattle.flight_chain.specs.Recordings.{first_packet, fault_at, RecordingWalk, recording_walk_from, input_first, stopped_at}
 use Rattle.flight_chain.specs.Reading.{Takes, Stops, Waits}
 use Rattle.flight_chain.proofs.RecordingWalks.{recording_walk_from-none, recording_walk_from-fault, recording_walk_from-packet, fault_at-too_many, fault_at-cut, fault_at-spare, fault_at-none}
 
@@ -42,15 +42,15 @@ has_spare_bit-at f packet rest whole = ap (λ (bytes : List ℕ). list_any (λ (
 
 -- a whole packet with no spare bit, and then the walk after it
 pub recording_walk_from-whole : (f t : ℕ) (packet rest : List ℕ) → 1 ≤ f → t < 2 ^ 32 → length packet ≡ byte_count f → (Contains (drop f (bits_of packet)) true → ⊥)
-    → recording_walk_from f t (packet ++ rest) ≡ behind_input (take f (bits_of packet)) (recording_walk_from f (t + 1) rest)
+    → recording_walk_from f t (packet ++ rest) ≡ input_first (take f (bits_of packet)) (recording_walk_from f (t + 1) rest)
 recording_walk_from-whole f t packet rest some few whole none =
     let nonempty : 0 < length (packet ++ rest) = omega (arith, length-append packet rest) in
     let long : byte_count f ≤ length (packet ++ rest) = omega (arith, length-append packet rest) in
     let spare = has_spare_bit-at f packet rest whole ∙ none_one (drop f (bits_of packet)) none in
     let front = ap (λ (bytes : List ℕ). take f (bits_of bytes)) (first_packet-at f packet rest whole) in
-    let behind = drop_at packet rest (byte_count f) whole in
+    let written_first = drop_at packet rest (byte_count f) whole in
     recording_walk_from-packet f t (packet ++ rest) some nonempty (fault_at-none f t (packet ++ rest) few long spare)
-    ∙ λ i. behind_input (front i) (recording_walk_from f (t + 1) (behind i))
+    ∙ λ i. input_first (front i) (recording_walk_from f (t + 1) (written_first i))
 
 -- what is ahead and left is as before
 same_input : (before held : List ℕ) (a b : Meanings) (read : ReadsOn before held a b) (rest : List ℕ) → before ++ (read.bytes ++ rest) ≡ held ++ rest
@@ -68,7 +68,7 @@ Takes-whole f t n before held a b input some few size long none is places read =
       few = few;
       goes_on = λ rest.
           ap (recording_walk_from f t) (same_input before held a b read rest ∙ (ap (λ l. l ++ rest) (sym (take-append-drop n held)) ∙ append_assoc packet (drop n held) rest))
-          ∙ (recording_walk_from-whole f t packet (drop n held ++ rest) some few whole none ∙ ap (λ (v : List Bool). behind_input v (recording_walk_from f (t + 1) (drop n held ++ rest))) (sym is));
+          ∙ (recording_walk_from-whole f t packet (drop n held ++ rest) some few whole none ∙ ap (λ (v : List Bool). input_first v (recording_walk_from f (t + 1) (drop n held ++ rest))) (sym is));
     }
 
 -- a packet that is ahead begins no packet of the walk

@@ -6,7 +6,7 @@ use Rattle.std.proofs.lemmas.Grind.{common_steps}
 use Rattle.bit_vectors.specs.Vectors.{byte_count, has_spare_bit}
 use Rattle.flight_chain.specs.declared.fault.RecordFault.{RecordFault}
 use Rattle.flight_chain.specs.declared.fault.RecordFault.TheVariants.{CutRecord, SpareBit, TooMany}
-use Rattle.flight_chain.specs.Recordings.{first_packet, first_input, fault_at, RecordingWalk, walked, stopped_at, behind_input, by_fault, recording_step, recording_walk_by, recording_walk_from}
+use Rattle.flight_chain.specs.Recordings.{first_packet, first_input, fault_at, RecordingWalk, walked, stopped_at, input_first, by_fault, recording_step, recording_walk_by, recording_walk_from}
 
 recording_walk_by-end : (steps f t : ℕ) → recording_walk_by steps f t [] ≡ walked
 unfolding recording_walk_by
@@ -26,7 +26,7 @@ recording_walk_by-more (suc m) (suc n) f t (b ∷ bytes) some few less =
     let rest = drop (byte_count f) (b ∷ bytes) in
     let shorter : length rest ≤ length bytes = omega (arith, length-drop (byte_count f) (b ∷ bytes)) in
     recording_walk_by-suc m f t (b ∷ bytes)
-    ∙ (ap (λ (w : RecordingWalk). by_fault (fault_at f t (b ∷ bytes)) (b ∷ bytes) (behind_input (first_input f (b ∷ bytes)) w)) (recording_walk_by-more m n f (t + 1) rest some (omega arith) (omega arith))
+    ∙ (ap (λ (w : RecordingWalk). by_fault (fault_at f t (b ∷ bytes)) (b ∷ bytes) (input_first (first_input f (b ∷ bytes)) w)) (recording_walk_by-more m n f (t + 1) rest some (omega arith) (omega arith))
     ∙ sym (recording_walk_by-suc n f t (b ∷ bytes)))
 
 -- nothing is left
@@ -36,28 +36,28 @@ recording_walk_from-none f t = recording_walk_by-end 0 f t
 
 -- the walk goes step by step
 pub recording_walk_from-step : (f t b : ℕ) (bytes : List ℕ) → 1 ≤ f
-    → recording_walk_from f t (b ∷ bytes) ≡ by_fault (fault_at f t (b ∷ bytes)) (b ∷ bytes) (behind_input (first_input f (b ∷ bytes)) (recording_walk_from f (t + 1) (drop (byte_count f) (b ∷ bytes))))
+    → recording_walk_from f t (b ∷ bytes) ≡ by_fault (fault_at f t (b ∷ bytes)) (b ∷ bytes) (input_first (first_input f (b ∷ bytes)) (recording_walk_from f (t + 1) (drop (byte_count f) (b ∷ bytes))))
 unfolding recording_walk_from
 recording_walk_from-step f t b bytes some =
     let rest = drop (byte_count f) (b ∷ bytes) in
     let shorter : length rest ≤ length bytes = omega (arith, length-drop (byte_count f) (b ∷ bytes)) in
     recording_walk_by-suc (length bytes) f t (b ∷ bytes)
-    ∙ ap (λ (w : RecordingWalk). by_fault (fault_at f t (b ∷ bytes)) (b ∷ bytes) (behind_input (first_input f (b ∷ bytes)) w)) (recording_walk_by-more (length bytes) (length rest) f (t + 1) rest some shorter (omega arith))
+    ∙ ap (λ (w : RecordingWalk). by_fault (fault_at f t (b ∷ bytes)) (b ∷ bytes) (input_first (first_input f (b ∷ bytes)) w)) (recording_walk_by-more (length bytes) (length rest) f (t + 1) rest some shorter (omega arith))
 
 -- the walk ends before bytes that don't begin with a packet
 pub recording_walk_from-fault : (f t : ℕ) (bytes : List ℕ) (fault : RecordFault) → 1 ≤ f → 0 < length bytes → fault_at f t bytes ≡ Some fault → recording_walk_from f t bytes ≡ stopped_at fault bytes
 recording_walk_from-fault f t [] fault some nonempty at = absurd (omega arith)
 recording_walk_from-fault f t (b ∷ bytes) fault some nonempty at =
     recording_walk_from-step f t b bytes some
-    ∙ ap (λ (found : Option RecordFault). by_fault found (b ∷ bytes) (behind_input (first_input f (b ∷ bytes)) (recording_walk_from f (t + 1) (drop (byte_count f) (b ∷ bytes))))) at
+    ∙ ap (λ (found : Option RecordFault). by_fault found (b ∷ bytes) (input_first (first_input f (b ∷ bytes)) (recording_walk_from f (t + 1) (drop (byte_count f) (b ∷ bytes))))) at
 
 -- and goes on after one
 pub recording_walk_from-packet : (f t : ℕ) (bytes : List ℕ) → 1 ≤ f → 0 < length bytes → fault_at f t bytes ≡ None
-    → recording_walk_from f t bytes ≡ behind_input (first_input f bytes) (recording_walk_from f (t + 1) (drop (byte_count f) bytes))
+    → recording_walk_from f t bytes ≡ input_first (first_input f bytes) (recording_walk_from f (t + 1) (drop (byte_count f) bytes))
 recording_walk_from-packet f t [] some nonempty at = absurd (omega arith)
 recording_walk_from-packet f t (b ∷ bytes) some nonempty at =
     recording_walk_from-step f t b bytes some
-    ∙ ap (λ (found : Option RecordFault). by_fault found (b ∷ bytes) (behind_input (first_input f (b ∷ bytes)) (recording_walk_from f (t + 1) (drop (byte_count f) (b ∷ bytes))))) at
+    ∙ ap (λ (found : Option RecordFault). by_fault found (b ∷ bytes) (input_first (first_input f (b ∷ bytes)) (recording_walk_from f (t + 1) (drop (byte_count f) (b ∷ bytes))))) at
 
 -- ---- the checks of a packet
 

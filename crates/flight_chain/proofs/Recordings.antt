@@ -7,7 +7,7 @@ use Rattle.std.proofs.lemmas.List.Elements.{All-nil, All-tail, All-drop, All-tak
 use Rattle.bit_vectors.specs.Vectors.{AreBytes, bits_of, byte_count, vector_bytes}
 use Rattle.bit_vectors.proofs.ByteBits.{length-bits_of, length-vector_bytes, bits_of-vector_bytes, take-bits_of-vector_bytes, stored_is}
 use Rattle.flight_chain.specs.declared.fault.RecordFault.{RecordFault}
-use Rattle.flight_chain.specs.Recordings.{recording_of, first_packet, first_input, fault_at, RecordingWalk, walked, stopped_at, behind_input, recording_walk_from, ending_at}
+use Rattle.flight_chain.specs.Recordings.{recording_of, first_packet, first_input, fault_at, RecordingWalk, walked, stopped_at, input_first, recording_walk_from, ending_at}
 use Rattle.flight_chain.proofs.RecordingWalks.{recording_walk_from-none, recording_walk_from-fault, recording_walk_from-packet, BeginWithPacket, fault_at-told}
 use Rattle.flight_chain.proofs.Readings.{any_one, recording_walk_from-whole}
 
@@ -34,8 +34,8 @@ recording_walk_from-recording_of f t (input ∷ inputs) some all few =
     let whole : length (vector_bytes input) ≡ byte_count f = length-vector_bytes input ∙ ap byte_count places in
     let same : take f (bits_of (vector_bytes input)) ≡ input = ap (λ (n : ℕ). take n (bits_of (vector_bytes input))) (sym places) ∙ take-bits_of-vector_bytes input in
     recording_walk_from-whole f t (vector_bytes input) (recording_of inputs) some (omega arith) whole (no_spare f input places)
-    ∙ ((λ i. behind_input (same i) (recording_walk_from f (t + 1) (recording_of inputs)))
-    ∙ ap (behind_input input) (recording_walk_from-recording_of f (t + 1) inputs some more (omega arith)))
+    ∙ ((λ i. input_first (same i) (recording_walk_from f (t + 1) (recording_of inputs)))
+    ∙ ap (input_first input) (recording_walk_from-recording_of f (t + 1) inputs some more (omega arith)))
 
 -- ---- the parts of a walk
 
@@ -81,7 +81,7 @@ All-more {X = X} P x xs here all = λ k d within. at k d within where
   at zero d within = here
   at (suc k) d within = all k d (omega arith)
 
-IsWalk-more : (f t : ℕ) (bytes : List ℕ) (w : RecordingWalk) → All (λ b. b < 256) bytes → BeginWithPacket f t bytes → IsWalk f (t + 1) (drop (byte_count f) bytes) w → IsWalk f t bytes (behind_input (first_input f bytes) w)
+IsWalk-more : (f t : ℕ) (bytes : List ℕ) (w : RecordingWalk) → All (λ b. b < 256) bytes → BeginWithPacket f t bytes → IsWalk f (t + 1) (drop (byte_count f) bytes) w → IsWalk f t bytes (input_first (first_input f bytes) w)
 IsWalk-more f t bytes w all begin is =
     let packet = first_packet f bytes in
     let below = AreBytes-All packet (All-take (λ b. b < 256) (byte_count f) bytes all) in

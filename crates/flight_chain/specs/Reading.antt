@@ -8,7 +8,7 @@ use Rattle.flight_chain.specs.declared.fault.FlightFault.{FlightFault}
 use Rattle.flight_chain.specs.declared.fault.FlightFault.TheVariants.{CutRecord, SpareBit, TooMany, ReadFault}
 use Rattle.flight_chain.specs.declared.reading.Unread.{Unread}
 use Rattle.flight_chain.specs.declared.reading.Unread.TheVariants as unread
-use Rattle.flight_chain.specs.Recordings.{recording_walk_from, behind_input, stopped_at}
+use Rattle.flight_chain.specs.Recordings.{recording_walk_from, input_first, stopped_at}
 
 -- Some bytes were read after those that were ahead, and nothing else happened. The packet t with this input was taken,
 -- and the walk goes on after it.
@@ -17,7 +17,7 @@ pub record Takes (f t : ℕ) (before after : List ℕ) (old new : Meanings) (inp
   pub moved : Moves old new inlet.Main taken
   pub places : length input ≡ f
   pub few : t < 2 ^ 32
-  pub goes_on : (rest : List ℕ) → recording_walk_from f t (before ++ (taken ++ rest)) ≡ behind_input input (recording_walk_from f (t + 1) (after ++ rest))
+  pub goes_on : (rest : List ℕ) → recording_walk_from f t (before ++ (taken ++ rest)) ≡ input_first input (recording_walk_from f (t + 1) (after ++ rest))
 
 -- The walk ends with this fault before the packet t, when these bytes were ahead.
 pub record Stops (f t : ℕ) (before : List ℕ) (old new : Meanings) (fault : RecordFault) : Type 0 where

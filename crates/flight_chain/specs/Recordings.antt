@@ -40,8 +40,8 @@ abbrev pub stopped_at : RecordFault → List ℕ → RecordingWalk
 stopped_at fault bytes = record { inputs = []; rest = bytes; ending = Some fault }
 
 -- one input, and then a walk
-abbrev pub behind_input : List Bool → RecordingWalk → RecordingWalk
-behind_input input walk = record walk { inputs = input ∷ walk.inputs }
+abbrev pub input_first : List Bool → RecordingWalk → RecordingWalk
+input_first input walk = record walk { inputs = input ∷ walk.inputs }
 
 abbrev pub by_fault : Option RecordFault → List ℕ → RecordingWalk → RecordingWalk
 by_fault None bytes walk = walk
@@ -51,7 +51,7 @@ by_fault (Some fault) bytes walk = stopped_at fault bytes
 abbrev pub recording_step : ℕ → ℕ → List ℕ → (List ℕ → RecordingWalk) → RecordingWalk
 recording_step f t [] on = walked
 recording_step f t (b ∷ bytes) on =
-    by_fault (fault_at f t (b ∷ bytes)) (b ∷ bytes) (behind_input (first_input f (b ∷ bytes)) (on (drop (byte_count f) (b ∷ bytes))))
+    by_fault (fault_at f t (b ∷ bytes)) (b ∷ bytes) (input_first (first_input f (b ∷ bytes)) (on (drop (byte_count f) (b ∷ bytes))))
 
 -- the walk in at most so many steps
 unfoldable pub recording_walk_by : ℕ → ℕ → ℕ → List ℕ → RecordingWalk

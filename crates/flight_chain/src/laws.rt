@@ -8,7 +8,7 @@ ghost use Rattle.mask_update.specs.Histories.{History, IsValid, Step, history_of
 ghost use Rattle.side_tables.specs.Rows.{flags_of, robust_of};
 ghost use Rattle.packet_store.specs.SpacePackets.{period, plain_packet, space_packet};
 ghost use Rattle.packet_store.specs.Walks.{walk};
-ghost use Rattle.flight_chain.specs.Recordings.{ending_at, recording_of, recording_walk, walked, behind_input, stopped_at};
+ghost use Rattle.flight_chain.specs.Recordings.{ending_at, recording_of, recording_walk, walked, input_first, stopped_at};
 ghost use Rattle.flight_chain.specs.Stores.{data_at, store_of};
 ghost use Rattle.flight_chain.specs.Compressing.{Compression, compress_course, history_by};
 ghost use Rattle.flight_chain.specs.declared.fault.RecordFault.TheVariants.{CutRecord, SpareBit};
@@ -94,11 +94,11 @@ pub fn fronts_owe_fronts()
 /// Walks over worked recordings.
 pub fn worked_recordings()
     ensures whole { recording_walk 8 (0xB0 ∷ 0xB1 ∷ [])
-        ≡ behind_input (bits_of (0xB0 ∷ [])) (behind_input (bits_of (0xB1 ∷ [])) walked) }
+        ≡ input_first (bits_of (0xB0 ∷ [])) (input_first (bits_of (0xB1 ∷ [])) walked) }
     ensures empty { recording_walk 13 [] ≡ walked }
     // 13 places have two bytes, whose last three bits are spare.
     ensures cut { recording_walk 13 (0x12 ∷ 0x38 ∷ 0x12 ∷ [])
-        ≡ behind_input (take 13 (bits_of (0x12 ∷ 0x38 ∷ [])))
+        ≡ input_first (take 13 (bits_of (0x12 ∷ 0x38 ∷ [])))
         (stopped_at (CutRecord 1) (0x12 ∷ [])) }
     ensures spare { recording_walk 13 (0x12 ∷ 0x39 ∷ 0x12 ∷ [])
         ≡ stopped_at (SpareBit 0) (0x12 ∷ 0x39 ∷ 0x12 ∷ []) }

@@ -30,17 +30,17 @@ abbrev twice : ℕ → List ℕ
 twice t = decimal t ++ codes "," ++ decimal t ++ codes ","
 
 -- what stands after it
-abbrev behind : List ℕ → ℕ → List ℕ
-behind cause value = cause ++ (codes "," ++ (decimal value ++ codes "\n"))
+abbrev cause_and_value : List ℕ → ℕ → List ℕ
+cause_and_value cause value = cause ++ (codes "," ++ (decimal value ++ codes "\n"))
 
-row_is : (t : ℕ) (cause : List ℕ) (value : ℕ) → number_row t cause value ≡ twice t ++ behind cause value
+row_is : (t : ℕ) (cause : List ℕ) (value : ℕ) → number_row t cause value ≡ twice t ++ cause_and_value cause value
 row_is t cause value =
     append_assoc (twice t ++ cause ++ codes ",") (decimal value) (codes "\n")
     ∙ append_assoc (twice t ++ cause) (codes ",") (decimal value ++ codes "\n")
     ∙ append_assoc (twice t) cause (codes "," ++ (decimal value ++ codes "\n"))
 
-row_tails : (t : ℕ) (cause other : List ℕ) (value bit : ℕ) → number_row t cause value ≡ number_row t other bit → behind cause value ≡ behind other bit
-row_tails t cause other value bit same = append_cancel_left (twice t) (behind cause value) (behind other bit) (sym (row_is t cause value) ∙ same ∙ row_is t other bit)
+row_tails : (t : ℕ) (cause other : List ℕ) (value bit : ℕ) → number_row t cause value ≡ number_row t other bit → cause_and_value cause value ≡ cause_and_value other bit
+row_tails t cause other value bit same = append_cancel_left (twice t) (cause_and_value cause value) (cause_and_value other bit) (sym (row_is t cause value) ∙ same ∙ row_is t other bit)
 
 not_empty : (front : List ℕ) (last : ℕ) → [] ≡ front ++ last ∷ [] → ⊥
 not_empty [] last same = absurd cc
@@ -54,7 +54,7 @@ abbrev first_code : List ℕ → ℕ
 first_code [] = 0
 first_code (code ∷ text) = code
 
-causes_apart : (t : ℕ) (cause other : List ℕ) (value bit a b : ℕ) → first_code (behind cause value) ≡ a → first_code (behind other bit) ≡ b → (a ≡ b → ⊥) → number_row t cause value ≡ number_row t other bit → ⊥
+causes_apart : (t : ℕ) (cause other : List ℕ) (value bit a b : ℕ) → first_code (cause_and_value cause value) ≡ a → first_code (cause_and_value other bit) ≡ b → (a ≡ b → ⊥) → number_row t cause value ≡ number_row t other bit → ⊥
 causes_apart t cause other value bit a b mine others apart same =
     apart (sym mine ∙ ap (λ (l : List ℕ). first_code l) (row_tails t cause other value bit same) ∙ others)
 

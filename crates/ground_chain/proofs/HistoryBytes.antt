@@ -13,7 +13,7 @@ use Rattle.ground_chain.specs.Run.{Judged, run}
 use Rattle.ground_chain.specs.Report.{is_written_kind as is_kind_written, content_bytes, written_bytes, run_bytes}
 use Rattle.ground_chain.specs.Deliveries.{history_arrivals, restored_bytes}
 use Rattle.ground_chain.specs.Run.{repeat_judged, Known}
-use Rattle.ground_chain.proofs.HistoryPackets.{missed_behind, is_written-dropped, latest_written-more}
+use Rattle.ground_chain.proofs.HistoryPackets.{missed_kind, is_written-dropped, latest_written-more}
 use Rattle.ground_chain.proofs.HistoryRuns.{known_at, judged_first, judged_copies, judged_at, run-packets}
 
 -- ---- lists
@@ -32,11 +32,11 @@ flat_map-filter g test (x ∷ xs) = flat_map-cond g (test x) x (filter test xs) 
 
 -- ---- one packet
 
-is_kind-missed : (latest : Option ℕ) (level : ℕ) (mask : Bool) → is_kind_written (missed_behind latest level mask) ≡ false
+is_kind-missed : (latest : Option ℕ) (level : ℕ) (mask : Bool) → is_kind_written (missed_kind latest level mask) ≡ false
 is_kind-missed None level mask = refl
 is_kind-missed (Some s) level mask = refl
 
-pub kind-written : (written : Bool) (latest : Option ℕ) (level : ℕ) (mask : Bool) → is_kind_written (if written then Written else missed_behind latest level mask) ≡ written
+pub kind-written : (written : Bool) (latest : Option ℕ) (level : ℕ) (mask : Bool) → is_kind_written (if written then Written else missed_kind latest level mask) ≡ written
 kind-written true latest level mask = refl
 kind-written false latest level mask = is_kind-missed latest level mask
 
@@ -46,7 +46,7 @@ repeats-nothing known (suc n) = repeats-nothing known n
 
 module _ (h : History) (copies : ℕ → ℕ) where
   bytes-by : (t : ℕ) (written mask : Bool) (missing : Option ℕ) (level : ℕ) (latest masks next : Option ℕ) → next ≡ (if written then Some t else latest)
-      → (if is_kind_written (if written then Written else missed_behind missing level mask) then content_bytes (true_state h masks next) else []) ≡ cond written (vector_bytes (input_at h t)) []
+      → (if is_kind_written (if written then Written else missed_kind missing level mask) then content_bytes (true_state h masks next) else []) ≡ cond written (vector_bytes (input_at h t)) []
   bytes-by t true mask missing level latest masks next is = ap (λ (o : Option ℕ). content_bytes (true_state h masks o)) is
   bytes-by t false mask missing level latest masks next is = ap (λ (b : Bool). if b then content_bytes (true_state h masks next) else []) (is_kind-missed missing level mask)
 

@@ -20,7 +20,7 @@ use Rattle.ground_chain.specs.Deliveries.{arrival_at, history_arrivals, delivere
 use Rattle.ground_chain.proofs.Told.{ranges}
 use Rattle.ground_chain.proofs.Counted.{run_counts, run_packets}
 use Rattle.ground_chain.proofs.LastArrivals.{last_before, last_before-is, expected-below}
-use Rattle.ground_chain.proofs.HistoryPackets.{missed_behind, is_written-dropped}
+use Rattle.ground_chain.proofs.HistoryPackets.{missed_kind, is_written-dropped}
 use Rattle.ground_chain.proofs.HistoryRuns.{known_at, judged_first, judged_copies, judged_at, known-history, run-packets}
 use Rattle.ground_chain.proofs.HistoryBytes.{kind-written}
 
@@ -48,7 +48,7 @@ filter-none test (suc k) first none =
 
 -- ---- one packet
 
-kind-repeat : (written : Bool) (latest : Option ℕ) (level : ℕ) (mask : Bool) → is_repeat (if written then Written else missed_behind latest level mask) ≡ false
+kind-repeat : (written : Bool) (latest : Option ℕ) (level : ℕ) (mask : Bool) → is_repeat (if written then Written else missed_kind latest level mask) ≡ false
 kind-repeat true latest level mask = refl
 kind-repeat false None level mask = refl
 kind-repeat false (Some s) level mask = refl

@@ -10,7 +10,7 @@ use Rattle.mask_update.specs.Masks.{mask_at}
 use Rattle.robust_window.specs.Histories.{level_at}
 use Rattle.packet_encode.specs.Forms.{form_bits}
 use Rattle.packet_encode.specs.Packets.{form_at, packet_at}
-use Rattle.packet_encode.specs.Deliveries.{latest_by, reaches, is_mask_known, is_mask_known_behind, is_written, is_written_behind, latest_mask_known, latest_of_missing, latest_written}
+use Rattle.packet_encode.specs.Deliveries.{latest_by, reaches, is_mask_known, is_mask_known_from, is_written, is_written_from, latest_mask_known, latest_of_missing, latest_written}
 use Rattle.packet_encode.proofs.Deliveries.{latest_by-suc, latest_by-zero}
 use Rattle.packet_decode.specs.State.{KnownVector, IsState, known_if, next_part, next_state}
 use Rattle.packet_decode.specs.Histories.{is_content_told, is_mask_told, true_state}
@@ -24,18 +24,18 @@ use Rattle.ground_chain.specs.Run.{kind_of, state_read, state_after}
 
 -- a packet that arrives and is not written, by the latest one with which the part that is missing became known, and whether
 -- its mask became known
-abbrev pub missed_behind : Option ℕ → ℕ → Bool → Kind
-missed_behind None level mask = Unsynced mask
-missed_behind (Some latest) level mask = Gap level mask
+abbrev pub missed_kind : Option ℕ → ℕ → Bool → Kind
+missed_kind None level mask = Unsynced mask
+missed_kind (Some latest) level mask = Gap level mask
 
 -- the kind of the first copy of a packet
 abbrev pub kind_at : History → (ℕ → ℕ) → ℕ → Kind
-kind_at h copies t = if is_written h copies t then Written else missed_behind (latest_of_missing h copies t) (level_at h t) (is_mask_known h copies t)
+kind_at h copies t = if is_written h copies t then Written else missed_kind (latest_of_missing h copies t) (level_at h t) (is_mask_known h copies t)
 
 -- ---- what is read of it
 
 abbrev kind_by : Option ℕ → Option ℕ → ℕ → Bool → Bool → Kind
-kind_by mask content level masked written = if written then Written else missed_behind (if masked then content else mask) level masked
+kind_by mask content level masked written = if written then Written else missed_kind (if masked then content else mask) level masked
 
 -- the verdict's kind, and the state after it, by what it tells
 record IsReadOf (h : History) (mask content : Option ℕ) (t : ℕ) (bits : List Bool) (masked written : Bool) : Type 0 where
@@ -45,7 +45,7 @@ record IsReadOf (h : History) (mask content : Option ℕ) (t : ℕ) (bits : List
 abbrev part_at : (ℕ → List Bool) → Option ℕ → Option KnownVector
 part_at vectors latest = option_map (λ s. record { number = s; vector = vectors s }) latest
 
-missed-kind : (vectors : ℕ → List Bool) (latest : Option ℕ) (level : ℕ) (mask : Bool) → kind_of (Ok (missed (part_at vectors latest) level mask)) ≡ missed_behind latest level mask
+missed-kind : (vectors : ℕ → List Bool) (latest : Option ℕ) (level : ℕ) (mask : Bool) → kind_of (Ok (missed (part_at vectors latest) level mask)) ≡ missed_kind latest level mask
 missed-kind vectors None level mask = refl
 missed-kind vectors (Some s) level mask = refl
 
@@ -130,10 +130,10 @@ module _ (test : Option ℕ → ℕ → Bool) where
 
 module _ (h : History) (copies : ℕ → ℕ) where
   pub latest_written-more : (t : ℕ) → latest_written h copies (t + 1) ≡ (if is_written h copies t then Some t else latest_written h copies t)
-  latest_written-more t = latest-more (is_written_behind h copies) t
+  latest_written-more t = latest-more (is_written_from h copies) t
 
   pub latest_mask_known-more : (t : ℕ) → latest_mask_known h copies (t + 1) ≡ (if is_mask_known h copies t then Some t else latest_mask_known h copies t)
-  latest_mask_known-more t = latest-more (is_mask_known_behind h copies) t
+  latest_mask_known-more t = latest-more (is_mask_known_from h copies) t
 
   -- of a packet that does not arrive nothing becomes known
   pub is_written-dropped : (t : ℕ) → copies t ≡ 0 → is_written h copies t ≡ false
@@ -162,7 +162,7 @@ module _ (h : History) (copies : ℕ → ℕ) where
 
   module _ (t c : ℕ) (valid : IsValid h) (lt : t < length h.steps) (arrived : copies t ≡ suc c) where
     read_arrived : IsReadOf h (latest_mask_known h copies t) (latest_written h copies t) t (bits_of (data_at h t)) (is_mask_told h (latest_mask_known h copies t) t) (is_content_told h (latest_mask_known h copies t) (latest_written h copies t) t)
-    read_arrived = read_data h t valid lt (latest_mask_known h copies t) (latest_written h copies t) (latest-before (is_mask_known_behind h copies) t) (latest-before (is_written_behind h copies) t)
+    read_arrived = read_data h t valid lt (latest_mask_known h copies t) (latest_written h copies t) (latest-before (is_mask_known_from h copies) t) (latest-before (is_written_from h copies) t)
 
     -- the verdict's kind is that of the packet
     pub kind_read : kind_of (answer_of h.places (true_state h (latest_mask_known h copies t) (latest_written h copies t)) t (bits_of (data_at h t))) ≡ kind_at h copies t

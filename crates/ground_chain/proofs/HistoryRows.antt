@@ -9,7 +9,7 @@ use Rattle.std.proofs.lemmas.Grind.{flat_map-append}
 use Rattle.std.proofs.lemmas.List.Elements.{filter-append}
 use Rattle.mask_update.specs.Histories.{History, IsValid}
 use Rattle.robust_window.specs.Histories.{level_at}
-use Rattle.packet_encode.specs.Deliveries.{Cause, Lost, cause_behind, cause_at, count_to_last, is_mask_known, is_written, latest_of_missing}
+use Rattle.packet_encode.specs.Deliveries.{Cause, Lost, cause_from, cause_at, count_to_last, is_mask_known, is_written, latest_of_missing}
 use Rattle.loss_player.specs.Gaps.{AreDropped, AreGapsShort}
 use Rattle.ground_chain.specs.declared.verdict.Kind.TheVariants as kind
 use Rattle.ground_chain.specs.Numbers.{expected}
@@ -18,7 +18,7 @@ use Rattle.ground_chain.specs.Report.{lost_row, own_row, verdict_rows, run_rows}
 use Rattle.ground_chain.specs.Deliveries.{ListedRow, history_arrivals, is_lost, before_rows, rows_of, listed_rows, row_text}
 use Rattle.ground_chain.proofs.Told.{range_then}
 use Rattle.ground_chain.proofs.LastArrivals.{last_before, last-dropped, last-arrived, last_before-is, expected-below}
-use Rattle.ground_chain.proofs.HistoryPackets.{missed_behind, kind_at, is_written-dropped}
+use Rattle.ground_chain.proofs.HistoryPackets.{missed_kind, kind_at, is_written-dropped}
 use Rattle.ground_chain.proofs.HistoryRuns.{known_at, judged_first, judged_copies, judged_at, run-packets}
 
 -- ---- one row before others
@@ -42,19 +42,19 @@ lost-joins first last rows = by (first + 1 == first + 1) (eq-eqb (first + 1) (fi
   by true is = refl
   by false is = absurd cc
 
-missed-before : (t : ℕ) (latest : Option ℕ) (level : ℕ) (rows : List ListedRow) → before_rows (record { first = t; last = t; cause = cause_behind latest level }) rows ≡ record { first = t; last = t; cause = cause_behind latest level } ∷ rows
+missed-before : (t : ℕ) (latest : Option ℕ) (level : ℕ) (rows : List ListedRow) → before_rows (record { first = t; last = t; cause = cause_from latest level }) rows ≡ record { first = t; last = t; cause = cause_from latest level } ∷ rows
 missed-before t latest level [] = refl
 missed-before t None level (next ∷ rows) = refl
 missed-before t (Some s) level (next ∷ rows) = refl
 
-missed-apart : (last t : ℕ) (latest : Option ℕ) (level : ℕ) (rows : List ListedRow) → joins last (record { first = t; last = t; cause = cause_behind latest level } ∷ rows) ≡ false
+missed-apart : (last t : ℕ) (latest : Option ℕ) (level : ℕ) (rows : List ListedRow) → joins last (record { first = t; last = t; cause = cause_from latest level } ∷ rows) ≡ false
 missed-apart last t None level rows = refl
 missed-apart last t (Some s) level rows = refl
 
 three-texts : (a b c d : List ℕ) → a ++ b ++ c ++ d ≡ a ++ (b ++ c ++ d)
 three-texts a b c d = ap (λ (l : List ℕ). l ++ d) (append_assoc a b c) ∙ append_assoc a (b ++ c) d
 
-missed-text : (t : ℕ) (latest : Option ℕ) (level : ℕ) (mask : Bool) → row_text (record { first = t; last = t; cause = cause_behind latest level }) ≡ own_row t (missed_behind latest level mask)
+missed-text : (t : ℕ) (latest : Option ℕ) (level : ℕ) (mask : Bool) → row_text (record { first = t; last = t; cause = cause_from latest level }) ≡ own_row t (missed_kind latest level mask)
 missed-text t None level mask =
     let before = decimal t ++ codes "," ++ decimal t ++ codes "," in
     ap (λ (zero_text : List ℕ). before ++ (codes "unsynced" ++ codes "," ++ zero_text) ++ codes "\n") (sym (decimal_digit 0 (omega arith)))
@@ -118,12 +118,12 @@ module _ (h : History) (copies : ℕ → ℕ) where
   listed_between first last = filter is_unwritten_at (range_with_len first (last - first))
 
   row-lost : (t : ℕ) → copies t ≡ 0 → cause_at h copies t ≡ Lost
-  row-lost t none = ap (λ (n : ℕ). if n == 0 then Lost else cause_behind (latest_of_missing h copies t) (level_at h t)) none
+  row-lost t none = ap (λ (n : ℕ). if n == 0 then Lost else cause_from (latest_of_missing h copies t) (level_at h t)) none
 
-  row-missed : (t c : ℕ) → copies t ≡ suc c → cause_at h copies t ≡ cause_behind (latest_of_missing h copies t) (level_at h t)
+  row-missed : (t c : ℕ) → copies t ≡ suc c → cause_at h copies t ≡ cause_from (latest_of_missing h copies t) (level_at h t)
   row-missed t c is =
       let some : copies t ≡ 0 → ⊥ = λ e. omega (arith, e, is) in
-      ap (λ (b : Bool). if b then Lost else cause_behind (latest_of_missing h copies t) (level_at h t)) (ne_eqb (copies t) 0 some)
+      ap (λ (b : Bool). if b then Lost else cause_from (latest_of_missing h copies t) (level_at h t)) (ne_eqb (copies t) 0 some)
 
   -- lost numbers in a row stand as one
   lost-rows : (m first : ℕ) (more : List ℕ) → ((s : ℕ) → first ≤ s → s < first + suc m → copies s ≡ 0) → joins (first + m) (rows_from more) ≡ false
@@ -155,13 +155,13 @@ module _ (h : History) (copies : ℕ → ℕ) where
 
   -- ---- the row of an arrival
 
-  own-rows : (t c : ℕ) → copies t ≡ suc c → (more : List ℕ) → rows_from (t ∷ more) ≡ record { first = t; last = t; cause = cause_behind (latest_of_missing h copies t) (level_at h t) } ∷ rows_from more
+  own-rows : (t c : ℕ) → copies t ≡ suc c → (more : List ℕ) → rows_from (t ∷ more) ≡ record { first = t; last = t; cause = cause_from (latest_of_missing h copies t) (level_at h t) } ∷ rows_from more
   own-rows t c is more =
       ap (λ (cause : Cause). before_rows (record { first = t; last = t; cause = cause }) (rows_from more)) (row-missed t c is)
       ∙ missed-before t (latest_of_missing h copies t) (level_at h t) (rows_from more)
 
   own-text : (t c : ℕ) → copies t ≡ suc c → (more : List ℕ) (written : Bool)
-      → text_of (cond (not written) (t ∷ more) more) ≡ own_row t (if written then kind.Written else missed_behind (latest_of_missing h copies t) (level_at h t) (is_mask_known h copies t)) ++ text_of more
+      → text_of (cond (not written) (t ∷ more) more) ≡ own_row t (if written then kind.Written else missed_kind (latest_of_missing h copies t) (level_at h t) (is_mask_known h copies t)) ++ text_of more
   own-text t c is more true = refl
   own-text t c is more false =
       ap (λ (rows : List ListedRow). flat_map row_text rows) (own-rows t c is more)
@@ -195,8 +195,8 @@ module _ (h : History) (copies : ℕ → ℕ) where
 
   module _ (n : ℕ) where
     -- what is reported when the packet t is the next
-    abbrev text_behind : Option ℕ → List ℕ
-    text_behind latest = text_of (listed_between (expected latest) (count_to_last copies n))
+    abbrev text_after : Option ℕ → List ℕ
+    text_after latest = text_of (listed_between (expected latest) (count_to_last copies n))
 
     is_heard : (t c : ℕ) → t < n → copies t ≡ suc c → t < count_to_last copies n
     is_heard t c lt is = by (cases_lt t (count_to_last copies n)) where
@@ -205,7 +205,7 @@ module _ (h : History) (copies : ℕ → ℕ) where
       by (inr le) = let none = (last_before-is copies n).none t lt le in absurd (omega (arith, none, is))
 
     next-text : (t c : ℕ) → t < n → copies t ≡ suc c
-        → text_behind (last_before copies t) ≡ (lost_row (lost_from (expected (last_before copies t)) t) ++ own_row t (kind_at h copies t)) ++ text_behind (Some t)
+        → text_after (last_before copies t) ≡ (lost_row (lost_from (expected (last_before copies t)) t) ++ own_row t (kind_at h copies t)) ++ text_after (Some t)
     next-text t c lt is =
         let first = expected (last_before copies t) in
         let last = count_to_last copies n in
@@ -220,21 +220,21 @@ module _ (h : History) (copies : ℕ → ℕ) where
         let apart = λ (s : ℕ) (e : s + 1 ≡ t). own-apart s t c is more (is_written h copies t) (later-rows (last - (t + 1)) s (t + 1) (omega (arith, e))) in
         ap (λ (l : List ℕ). flat_map row_text (rows_of h copies l)) numbers
         ∙ (lost-then (t - first) first t refl le dropped own apart
-        ∙ (ap (λ (l : List ℕ). lost_row (lost_from first t) ++ l) (own-text t c is more (is_written h copies t)) ∙ sym (append_assoc (lost_row (lost_from first t)) (own_row t (kind_at h copies t)) (text_behind (Some t)))))
+        ∙ (ap (λ (l : List ℕ). lost_row (lost_from first t) ++ l) (own-text t c is more (is_written h copies t)) ∙ sym (append_assoc (lost_row (lost_from first t)) (own_row t (kind_at h copies t)) (text_after (Some t)))))
 
-    packet-text : (t c : ℕ) → t < n → copies t ≡ c → (rest : List Judged) → run_rows rest ≡ text_behind (last_before copies (t + 1)) → run_rows (judged_copies h copies t c ++ rest) ≡ text_behind (last_before copies t)
-    packet-text t zero lt is rest same = same ∙ ap text_behind (last-dropped copies t is)
+    packet-text : (t c : ℕ) → t < n → copies t ≡ c → (rest : List Judged) → run_rows rest ≡ text_after (last_before copies (t + 1)) → run_rows (judged_copies h copies t c ++ rest) ≡ text_after (last_before copies t)
+    packet-text t zero lt is rest same = same ∙ ap text_after (last-dropped copies t is)
     packet-text t (suc c) lt is rest same =
         let here = lost_row (lost_from (expected (last_before copies t)) t) ++ own_row t (kind_at h copies t) in
         flat_map-append (λ (j : Judged). verdict_rows j.verdict) (judged_copies h copies t (suc c)) rest
         ∙ (ap (λ (l : List ℕ). l ++ run_rows rest) (arrived-text t c)
-        ∙ (ap (λ (l : List ℕ). here ++ l) (same ∙ ap text_behind (last-arrived copies t c is)) ∙ sym (next-text t c lt is)))
+        ∙ (ap (λ (l : List ℕ). here ++ l) (same ∙ ap text_after (last-arrived copies t c is)) ∙ sym (next-text t c lt is)))
 
-    packets-text : (k t : ℕ) → t + k ≡ n → run_rows (flat_map (judged_at h copies) (range_with_len t k)) ≡ text_behind (last_before copies t)
+    packets-text : (k t : ℕ) → t + k ≡ n → run_rows (flat_map (judged_at h copies) (range_with_len t k)) ≡ text_after (last_before copies t)
     packets-text zero t is =
         let end : n ≡ t = omega (arith, is) in
         let none : 0 ≡ count_to_last copies n - count_to_last copies n = omega arith in
-        ap (λ (k : ℕ). text_of (filter is_unwritten_at (range_with_len (count_to_last copies n) k))) none ∙ ap (λ (s : ℕ). text_behind (last_before copies s)) end
+        ap (λ (k : ℕ). text_of (filter is_unwritten_at (range_with_len (count_to_last copies n) k))) none ∙ ap (λ (s : ℕ). text_after (last_before copies s)) end
     packets-text (suc k) t is =
         let lt : t < n = omega (arith, is) in
         let more : t + 1 + k ≡ n = omega (arith, is) in

@@ -17,7 +17,7 @@ use Rattle.ground_chain.specs.Numbers.{number_after, expected}
 use Rattle.ground_chain.specs.Run.{Known, Judged, nothing_known, change_after, lost_from, judged_by, judge, repeat_judged, run_from, known_from, known_after, run}
 use Rattle.ground_chain.specs.Deliveries.{arrival_at, history_arrivals}
 use Rattle.ground_chain.proofs.LastArrivals.{copies_of, last_before, last-dropped, last-arrived, number-arrived, number-repeated}
-use Rattle.ground_chain.proofs.HistoryPackets.{missed_behind, kind_at, kind_read, state_next, latest_mask_known-dropped, latest_written-dropped}
+use Rattle.ground_chain.proofs.HistoryPackets.{missed_kind, kind_at, kind_read, state_next, latest_mask_known-dropped, latest_written-dropped}
 
 -- what is known before the packet t: the latest packet that arrived, and the state of the latest written one
 abbrev pub known_at : History → (ℕ → ℕ) → ℕ → Known
@@ -187,7 +187,7 @@ module _ (h : History) (copies : ℕ → ℕ) (valid : IsValid h) (short : AreGa
 abbrev pub IsUnrefused : Judged → Type 0
 IsUnrefused j = (fault : BitFault) → j.verdict.kind ≡ Refused fault → ⊥
 
-unrefused-by : (written mask : Bool) (latest : Option ℕ) (level : ℕ) (fault : BitFault) → (if written then Written else missed_behind latest level mask) ≡ Refused fault → ⊥
+unrefused-by : (written mask : Bool) (latest : Option ℕ) (level : ℕ) (fault : BitFault) → (if written then Written else missed_kind latest level mask) ≡ Refused fault → ⊥
 unrefused-by true mask latest level fault is = cc
 unrefused-by false mask None level fault is = cc
 unrefused-by false mask (Some s) level fault is = cc

@@ -12,7 +12,7 @@ use Rattle.packet_decode.specs.Decoding.{Decoding, latest_content, number_of, ve
 use Rattle.ground_chain.specs.declared.verdict.Kind.{Kind}
 use Rattle.ground_chain.specs.declared.verdict.Kind.TheVariants.{Written, Repeat, Unsynced, Gap, Refused}
 use Rattle.ground_chain.specs.Run.{Judged}
-use Rattle.ground_chain.specs.Reception.{Shows}
+use Rattle.ground_chain.specs.Reception.{AgreesWith}
 use Rattle.ground_chain.specs.Listing.{front_line, judged_lines, kind_text, kind_vectors, known_with, latest_vectors, level_of, lost_line, shown_vectors, mask_line, mask_text, own_vectors, packet_vectors, vector_digits, vectors_text}
 
 -- ---- pieces
@@ -27,8 +27,8 @@ AddsFront-then a b o xs ys cut = record {
 }
 
 -- some bytes, and a front of others
-pub AddsFront-behind : (a b c : Meanings) (o : Outlet) (xs ys : List ℕ) → Adds a b o xs → AddsFront b c o ys → AddsFront a c o (xs ++ ys)
-AddsFront-behind a b c o xs ys adds cut = record {
+pub AddsFront-after : (a b c : Meanings) (o : Outlet) (xs ys : List ℕ) → Adds a b o xs → AddsFront b c o ys → AddsFront a c o (xs ++ ys)
+AddsFront-after a b c o xs ys adds cut = record {
   front = xs ++ cut.front;
   rest = cut.rest;
   joined = append_assoc xs cut.front cut.rest ∙ ap (λ (l : List ℕ). xs ++ l) cut.joined;
@@ -62,11 +62,11 @@ kind_text-level (Refused (Wrong bit)) a b same = refl
 kind_text-level (Refused (EndsEarly bit)) a b same = refl
 
 -- the level of a written packet is the decoder's
-shown_level : (judged : Judged) (decoder : Decoding) → Shows decoder judged → judged.verdict.kind ≡ Written → decoder.level ≡ level_of judged.change
+shown_level : (judged : Judged) (decoder : Decoding) → AgreesWith decoder judged → judged.verdict.kind ≡ Written → decoder.level ≡ level_of judged.change
 shown_level judged decoder shows written = let packet = shows.written written in packet.level ∙ ap level_of (sym packet.first)
 
 -- the vectors come after the front
-pub lines-are : (judged : Judged) (decoder : Decoding) → Shows decoder judged → front_line judged.verdict decoder.level ++ own_vectors judged ≡ judged_lines judged
+pub lines-are : (judged : Judged) (decoder : Decoding) → AgreesWith decoder judged → front_line judged.verdict decoder.level ++ own_vectors judged ≡ judged_lines judged
 lines-are judged decoder shows =
     let lost = lost_line judged.verdict.lost in
     let number = decimal judged.verdict.t in
@@ -76,7 +76,7 @@ lines-are judged decoder shows =
     ∙ ap (λ (l : List ℕ). lost ++ (number ++ (l ++ own_vectors judged))) level
 
 -- the vectors that the decoder has are those of the line
-pub vectors-written : (judged : Judged) (decoder : Decoding) → judged.verdict.kind ≡ Written → Shows decoder judged → latest_vectors judged.verdict.t decoder ≡ packet_vectors judged.change judged.verdict.t judged.after.state judged.after.state.content
+pub vectors-written : (judged : Judged) (decoder : Decoding) → judged.verdict.kind ≡ Written → AgreesWith decoder judged → latest_vectors judged.verdict.t decoder ≡ packet_vectors judged.change judged.verdict.t judged.after.state judged.after.state.content
 vectors-written judged decoder written shows =
     let packet = shows.written written in
     let t = judged.verdict.t in
@@ -86,7 +86,7 @@ vectors-written judged decoder written shows =
     ∙ sym (λ i. packet_vectors (packet.first i) t judged.after.state (packet.content i))
 
 -- what the decoder has is what the line shows
-pub shown-are : (judged : Judged) (decoder : Decoding) → Shows decoder judged → shown_vectors judged.verdict decoder ≡ own_vectors judged
+pub shown-are : (judged : Judged) (decoder : Decoding) → AgreesWith decoder judged → shown_vectors judged.verdict decoder ≡ own_vectors judged
 shown-are judged decoder shows = by_kind judged.verdict.kind refl
   where
     packet : List ℕ
@@ -105,6 +105,6 @@ shown-are judged decoder shows = by_kind judged.verdict.kind refl
     by_kind (Refused fault) is = refl
 
 -- a front of the front of the lines is one of the lines
-pub front_front : (a b : Meanings) (judged : Judged) (decoder : Decoding) → Shows decoder judged → AddsFront a b outlet.Main (front_line judged.verdict decoder.level) → AddsFront a b outlet.Main (judged_lines judged)
+pub front_front : (a b : Meanings) (judged : Judged) (decoder : Decoding) → AgreesWith decoder judged → AddsFront a b outlet.Main (front_line judged.verdict decoder.level) → AddsFront a b outlet.Main (judged_lines judged)
 front_front a b judged decoder shows cut =
     subst (AddsFront a b outlet.Main) (lines-are judged decoder shows) (AddsFront-then a b outlet.Main (front_line judged.verdict decoder.level) (own_vectors judged) cut)

@@ -15,7 +15,7 @@ use Rattle.packet_store.specs.Walks.{IsGood, Walk, walk}
 use Rattle.packet_store.proofs.Packets.{IsGood-plain}
 use Rattle.flight_chain.specs.Stores.{data_at, numbered_data, store_of}
 use Rattle.flight_chain.proofs.GoodStores.{IsPacket-at, walk-store_of}
-use Rattle.loss_player.specs.Played.{chosen_count, times_of, number_behind, played_bytes, played_from, played_packets}
+use Rattle.loss_player.specs.Played.{chosen_count, times_of, place_after, played_bytes, played_from, played_packets}
 use Rattle.loss_player.proofs.PlayedWalks.{good_played, walk_from-many, walk_from-packets}
 use Rattle.ground_chain.specs.Run.{Arrival}
 use Rattle.ground_chain.specs.Deliveries.{arrival_at, history_arrivals}
@@ -39,7 +39,7 @@ played-plain h copies apid t zero = refl
 played-plain h copies apid t (suc n) =
     let more : List Packet = map (plain_at h apid) (range_with_len (t + 1) n) in
     let numbers : List ℕ = flat_map (λ s. replicate (copies s) s) (range_with_len (t + 1) n) in
-    ap (λ (own : Bool). replicate (times_of own copies t) (plain_at h apid t) ++ played_from (Some apid) copies (number_behind own t) more) (same_apid apid)
+    ap (λ (own : Bool). replicate (times_of own copies t) (plain_at h apid t) ++ played_from (Some apid) copies (place_after own t) more) (same_apid apid)
     ∙ (ap (λ (later : List Packet). replicate (copies t) (plain_at h apid t) ++ later) (played-plain h copies apid (t + 1) n)
     ∙ (ap (λ (first : List Packet). first ++ map (plain_at h apid) numbers) (sym (map-replicate (plain_at h apid) (copies t) t))
     ∙ (sym (map-append (plain_at h apid) (replicate (copies t) t) numbers)

@@ -18,7 +18,7 @@ use Rattle.ground_chain.specs.declared.verdict.Verdict.{Verdict}
 use Rattle.ground_chain.specs.Numbers.{number_after, expected}
 use Rattle.ground_chain.specs.Run.{Arrival, Known, Judged, nothing_known, change_after, change_read, state_read, lost_from, kind_of, judge_as, judged_by, judge, repeat_judged, known_after}
 use Rattle.ground_chain.specs.Sound.{IsChangeAfter, IsSpelled, IsStateAfter, IsJudgedBy}
-use Rattle.ground_chain.specs.Reception.{ShowsPacket, Reception, IsReception, Shows, StandsFor, known_of, next_judged}
+use Rattle.ground_chain.specs.Reception.{ShowsPacket, Reception, IsReception, AgreesWith, StandsFor, known_of, next_judged}
 use Rattle.ground_chain.proofs.Runs.{known_from-append}
 use Rattle.ground_chain.proofs.Sound.{IsState-follows, judged_only, kept_answer}
 
@@ -145,7 +145,7 @@ module _ (r : Reception) (new : Decoding) (t : ℕ) (body : List ℕ) (has : IsS
   shows_by (Err fault) exact written = absurd cc
 
   -- after an arrival that is read the decoder shows it
-  pub shows_read : (count : ℕ) → number_after r.latest count ≡ Some t → new.state ≡ (next_judged r count body).after.state → Shows new (next_judged r count body)
+  pub shows_read : (count : ℕ) → number_after r.latest count ≡ Some t → new.state ≡ (next_judged r count body).after.state → AgreesWith new (next_judged r count body)
   shows_read count number state = record {
     state = state;
     written = subst (λ (j : Judged). j.verdict.kind ≡ kind.Written → ShowsPacket new j) (ap (judged_by r.decoder.places (known_of r) body) (sym number))
@@ -153,7 +153,7 @@ module _ (r : Reception) (new : Decoding) (t : ℕ) (body : List ℕ) (has : IsS
   }
 
 -- a repeat is not written
-pub shows_repeat : (r : Reception) (count : ℕ) (body : List ℕ) → number_after r.latest count ≡ None → Shows r.decoder (next_judged r count body)
+pub shows_repeat : (r : Reception) (count : ℕ) (body : List ℕ) → number_after r.latest count ≡ None → AgreesWith r.decoder (next_judged r count body)
 shows_repeat r count body number = record {
   state = ap (λ (j : Judged). j.after.state) (judged_repeat r count body number);
   written = λ written. absurd (not_written (ap (λ (j : Judged). j.verdict.kind) (judged_repeat r count body number) ∙ written));

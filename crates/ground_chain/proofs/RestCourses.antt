@@ -3,7 +3,7 @@ use Rattle.std.proofs.Common.{◌≡◌, ℕ, ◌*◌, ◌^◌, ◌≤◌, Bool,
 use Rattle.std.specs.List.{filter, flat_map}
 use Rattle.std.proofs.lemmas.List.Concat.{flat_map-cons}
 use Rattle.desk_ports.specs.Meanings.{Meanings}
-use Rattle.desk_ports.specs.Courses.{Outputs, Course, Work, no_outputs, to_report, put, behind}
+use Rattle.desk_ports.specs.Courses.{Outputs, Course, Work, no_outputs, to_report, put, written_first}
 use Rattle.desk_ports.specs.Turns.{Steps}
 use Rattle.packet_store.specs.declared.reader.Taken.{Taken}
 use Rattle.packet_store.specs.declared.fault.WalkFault.{WalkFault}
@@ -110,7 +110,7 @@ IsReceiving-passed has_room s reader a b given right takes =
 
 -- nothing is read, and what the store owes an account is owed from its first packet on
 pub Steps-unread : {A : Type 0} (texts : Texts) (has_room : A → ℕ → Type 0) (f apid : ℕ) (s : Receiving A) (course : List ℕ → Course WalkFault) (first : Outputs) → HasReadNothing has_room f apid s
-    → ((store : List ℕ) → course store ≡ behind first (store_course texts f apid store)) → Steps (store_work course f apid) (rest_work texts s) [] first
+    → ((store : List ℕ) → course store ≡ written_first first (store_course texts f apid store)) → Steps (store_work course f apid) (rest_work texts s) [] first
 Steps-unread texts has_room f apid s course first is same = record { course = course_is; answer = numbers } where
   run : (store : List ℕ) → store_run f apid store ≡ rest_run s (walk_on s.reader store).packets
   run store =
@@ -124,15 +124,15 @@ Steps-unread texts has_room f apid s course first is same = record { course = co
       let same_run = run store in
       sym (none-added (restored_of (store_run f apid store))) ∙ λ i. added (restored i) (restored_of (same_run i))
 
-  course_is : (store : List ℕ) → course store ≡ behind first ((rest_work texts s).course store)
+  course_is : (store : List ℕ) → course store ≡ written_first first ((rest_work texts s).course store)
   course_is store =
       let same_run = run store in
       let counted = numbers store in
       let reader = sym is.reader in
-      same store ∙ λ i. behind first (record { before = all_parts texts (same_run i); after = texts.last (counted i); ending = (walk_on (reader i) store).ending })
+      same store ∙ λ i. written_first first (record { before = all_parts texts (same_run i); after = texts.last (counted i); ending = (walk_on (reader i) store).ending })
 
 -- the report's first line stands before the rows
-pub restore_course-is : (f apid : ℕ) (store : List ℕ) → restore_course f apid store ≡ behind (to_report header_row) (store_course restored_texts f apid store)
+pub restore_course-is : (f apid : ℕ) (store : List ℕ) → restore_course f apid store ≡ written_first (to_report header_row) (store_course restored_texts f apid store)
 restore_course-is f apid store = refl
 
 no_report : (judged : List Judged) → flat_map (λ (j : Judged). (listed_texts.parts j).report) judged ≡ []

@@ -13,7 +13,7 @@ use Rattle.ground_chain.specs.declared.verdict.Kind.{Kind}
 use Rattle.ground_chain.specs.declared.verdict.Kind.TheVariants.{Written, Repeat, Unsynced, Gap, Refused}
 use Rattle.ground_chain.specs.Run.{Judged}
 use Rattle.ground_chain.specs.Report.{is_written_kind, content_bytes, known_bytes, verdict_rows, written_bytes}
-use Rattle.ground_chain.specs.Reception.{Shows}
+use Rattle.ground_chain.specs.Reception.{AgreesWith}
 use Rattle.ground_chain.specs.Restoring.{restored_texts}
 
 pub OnErr-always : {T E : Type 0} (r : Result T E) (P : Type 0) → P → OnErr r P
@@ -36,7 +36,7 @@ kind_written (Gap level mask) is = absurd cc
 kind_written (Refused fault) is = absurd cc
 
 -- the content of a written packet is that of the latest one
-pub content_written : (j : Judged) (decoder : Decoding) → is_written_kind j.verdict.kind ≡ true → Shows decoder j → vector_bytes (latest_content decoder.places decoder.state) ≡ written_bytes j
+pub content_written : (j : Judged) (decoder : Decoding) → is_written_kind j.verdict.kind ≡ true → AgreesWith decoder j → vector_bytes (latest_content decoder.places decoder.state) ≡ written_bytes j
 content_written j decoder written shows =
     let packet = shows.written (kind_written j.verdict.kind written) in
     ap (λ (s : State). vector_bytes (latest_content decoder.places s)) shows.state

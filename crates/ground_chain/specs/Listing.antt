@@ -155,7 +155,7 @@ pub record HasVectorRoom (listing : Listing) (f : ℕ) : Type 0 where
 
 -- a word, a number, and what stands after it
 abbrev pub line_with : List ℕ → ℕ → List ℕ → List ℕ
-line_with word value behind = word ++ (decimal value ++ behind)
+line_with word value after = word ++ (decimal value ++ after)
 
 -- the line of an arrival up to its vectors
 abbrev pub own_front : ℕ → Kind → ℕ → List ℕ

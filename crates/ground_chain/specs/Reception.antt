@@ -55,7 +55,7 @@ pub record ShowsPacket (decoder : Decoding) (judged : Judged) : Type 0 where
   pub first : judged.change ≡ Some change
 
 -- the decoder knows what is known after the arrival, and if that is written, it has its content and its first part
-pub record Shows (decoder : Decoding) (judged : Judged) : Type 0 where
+pub record AgreesWith (decoder : Decoding) (judged : Judged) : Type 0 where
   pub state : decoder.state ≡ judged.after.state
   pub written : judged.verdict.kind ≡ Written → ShowsPacket decoder judged
 

@@ -5,7 +5,7 @@ ghost use Rattle.desk_ports.specs.declared.desk.Outlet.{Outlet};
 ghost use Rattle.desk_ports.specs.Meanings.{HasWriteCause};
 ghost use Rattle.desk_ports.specs.Turns.{AreReady, Wrote, WroteFront};
 ghost use Rattle.ground_chain.specs.Accounts.{Texts};
-ghost use Rattle.ground_chain.specs.Reception.{Shows};
+ghost use Rattle.ground_chain.specs.Reception.{AgreesWith};
 ghost use Rattle.ground_chain.specs.Run.{Judged};
 
 use crate::restored::Restored;
@@ -33,9 +33,9 @@ pub trait Account: Drop {
     ) -> Result<(), Failed>
         requires room { has_room self.old decoder.now.places }
         requires ready { AreReady writes (D.meaning desk.old) }
-        ensures wrote { (judged : Judged) → judged.verdict ≡ verdict.now → Shows decoder.now judged
+        ensures wrote { (judged : Judged) → judged.verdict ≡ verdict.now → AgreesWith decoder.now judged
             → OnOk result (Wrote (D.meaning desk.old) (D.meaning desk.new) (texts.parts judged)) }
-        ensures front { (judged : Judged) → judged.verdict ≡ verdict.now → Shows decoder.now judged
+        ensures front { (judged : Judged) → judged.verdict ≡ verdict.now → AgreesWith decoder.now judged
             → OnErr result
             (WroteFront (D.meaning desk.old) (D.meaning desk.new) (texts.parts judged)) }
         ensures room { has_room self.new decoder.now.places }

@@ -5,7 +5,7 @@ ghost use Rattle.ground_chain.specs.Numbers.{expected, number_after};
 ghost use Rattle.ground_chain.specs.Run.{Arrival, kind_of, lost_from};
 ghost use Rattle.ground_chain.specs.Refusals.{IsExactVerdict};
 ghost use Rattle.ground_chain.specs.Report.{is_told, tells_mask_alone};
-ghost use Rattle.ground_chain.specs.Reception.{AreLost, HasDecoded, HasMasked, Shows, StandsFor, known_of, next_judged, nothing_arrived};
+ghost use Rattle.ground_chain.specs.Reception.{AreLost, HasDecoded, HasMasked, AgreesWith, StandsFor, known_of, next_judged, nothing_arrived};
 
 use crate::unwrap::Unwrap;
 use crate::verdict::{Kind, Lost, Verdict};
@@ -72,7 +72,7 @@ impl Ground {
             → HasDecoded self.old.decoder self.new.decoder result.t bytes.now }
         ensures mask_alone { tells_mask_alone result.kind ≡ true
             → HasMasked self.old.decoder self.new.decoder result.t bytes.now }
-        ensures shows { Shows self.new.decoder (next_judged self.old count bytes.now) }
+        ensures shows { AgreesWith self.new.decoder (next_judged self.old count bytes.now) }
         ensures unchanged { is_told result.kind ≡ false → self.new.decoder ≡ self.old.decoder }
         ensures places { self.new.decoder.places ≡ self.old.decoder.places }
         ensures lost { IfSome result.lost AreLost }

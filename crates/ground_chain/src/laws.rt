@@ -11,7 +11,7 @@ ghost use Rattle.ground_chain.specs.Report.{header_row, is_repeat, is_unwritten,
 ghost use Rattle.ground_chain.specs.Sound.{IsExactRun, IsSoundRun, but_for_faults};
 ghost use Rattle.ground_chain.specs.Restoring.{restore_course, restored_texts, store_run};
 ghost use Rattle.ground_chain.specs.Worked.{arrival, written_verdict};
-ghost use Rattle.desk_ports.specs.Courses.{AreFronts, behind, owed, to_output, to_report};
+ghost use Rattle.desk_ports.specs.Courses.{AreFronts, written_first, owed, to_output, to_report};
 ghost use Rattle.packet_store.specs.Walks.{walk};
 ghost use Rattle.ground_chain.specs.Told.{AreArrivals, run_numbers};
 
@@ -129,7 +129,7 @@ pub fn fronts_owe_fronts()
 /// became known.
 pub fn report_and_listing_agree()
     ensures report { (f apid : ℕ) (store : List ℕ) → restore_course f apid store
-        ≡ behind (to_report header_row) (store_course restored_texts f apid store) }
+        ≡ written_first (to_report header_row) (store_course restored_texts f apid store) }
     ensures listing { (f apid : ℕ) (store : List ℕ) →
         listing_course f apid store ≡ store_course listed_texts f apid store }
     ensures unwritten { (judged : Judged) →

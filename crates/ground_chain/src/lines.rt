@@ -55,15 +55,15 @@ fn put_own(row: &mut Row, t: u64, kind: &Kind, level: u8)
 }
 
 /// Appends a word, a number, and what stands after it.
-fn put_value(row: &mut Row, word: &str, value: u64, behind: &str)
+fn put_value(row: &mut Row, word: &str, value: u64, after: &str)
     requires room { length row.old ≤ 67 }
     requires word { length word.now ≤ 9 }
-    requires behind { length behind.now ≤ 6 }
-    ensures { row.new ≡ row.old ++ line_with word.now value behind.now }
+    requires after { length after.now ≤ 6 }
+    ensures { row.new ≡ row.old ++ line_with word.now value after.now }
 {
     row.put_text(word);
     row.put_number(value);
-    row.put_text(behind);
+    row.put_text(after);
 }
 
 /// The listing's last line.

@@ -119,23 +119,23 @@ impl Listing {
         desk: &mut D,
         t: u64,
         decoder: &Decoder,
-        behind: &str,
+        after: &str,
     ) -> Result<(), Failed>
         requires room { HasVectorRoom self.old decoder.now.places }
         requires output { IsReadyOut (D.meaning desk.old) Outlet.Main }
         ensures room { HasVectorRoom self.new decoder.now.places }
         ensures added { OnOk result (Adds (D.meaning desk.old) (D.meaning desk.new) Outlet.Main
-            (mask_text (known_with t decoder.now.state.mask) ++ behind.now)) }
+            (mask_text (known_with t decoder.now.state.mask) ++ after.now)) }
         ensures front { OnErr result
             (AddsFront (D.meaning desk.old) (D.meaning desk.new) Outlet.Main
-            (mask_text (known_with t decoder.now.state.mask) ++ behind.now)) }
+            (mask_text (known_with t decoder.now.state.mask) ++ after.now)) }
         ensures cause { HasWriteCause (D.counts desk.old) (D.counts desk.new) result }
     {
         if decoder.last_mask() == Some(t) {
-            return self.write_vector(desk, decoder.mask(), behind);
+            return self.write_vector(desk, decoder.mask(), after);
         }
         write_all(desk, Outlet::Main, "-".as_bytes())?;
-        write_all(desk, Outlet::Main, behind.as_bytes())
+        write_all(desk, Outlet::Main, after.as_bytes())
     }
 
     /// Writes the bytes of a vector in hexadecimal digits, and a text after them.
@@ -143,21 +143,21 @@ impl Listing {
         &mut self,
         desk: &mut D,
         vector: &Bits,
-        behind: &str,
+        after: &str,
     ) -> Result<(), Failed>
         requires room { HasVectorRoom self.old (length vector.now) }
         requires output { IsReadyOut (D.meaning desk.old) Outlet.Main }
         ensures room { HasVectorRoom self.new (length vector.now) }
         ensures added { OnOk result (Adds (D.meaning desk.old) (D.meaning desk.new) Outlet.Main
-            (vector_digits vector.now ++ behind.now)) }
+            (vector_digits vector.now ++ after.now)) }
         ensures front { OnErr result
             (AddsFront (D.meaning desk.old) (D.meaning desk.new) Outlet.Main
-            (vector_digits vector.now ++ behind.now)) }
+            (vector_digits vector.now ++ after.now)) }
         ensures cause { HasWriteCause (D.counts desk.old) (D.counts desk.new) result }
     {
         self.spell(vector);
         write_all(desk, Outlet::Main, &self.digits)?;
-        write_all(desk, Outlet::Main, behind.as_bytes())
+        write_all(desk, Outlet::Main, after.as_bytes())
     }
 
     /// Spells the bytes of a vector in hexadecimal digits.

@@ -25,8 +25,8 @@ packets_bytes-replicate zero p = refl
 packets_bytes-replicate (suc n) p = flat_map-cons packet_bytes p (replicate n p) ∙ ap (λ (l : List ℕ). packet_bytes p ++ l) (packets_bytes-replicate n p)
 
 -- bytes and then a front of more bytes were added
-pub AddsFront-behind : (a b c : Meanings) (o : Outlet) (xs ys : List ℕ) → Adds a b o xs → AddsFront b c o ys → AddsFront a c o (xs ++ ys)
-AddsFront-behind a b c o xs ys first cut = record {
+pub AddsFront-after : (a b c : Meanings) (o : Outlet) (xs ys : List ℕ) → Adds a b o xs → AddsFront b c o ys → AddsFront a c o (xs ++ ys)
+AddsFront-after a b c o xs ys first cut = record {
   front = xs ++ cut.front;
   rest = cut.rest;
   joined = append_assoc xs cut.front cut.rest ∙ ap (λ (l : List ℕ). xs ++ l) cut.joined;

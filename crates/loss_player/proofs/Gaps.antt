@@ -9,9 +9,9 @@ use Rattle.loss_player.specs.Gaps.{AreDropped, IsFirst, AreNext, AreGapsShort, T
 use Rattle.loss_player.proofs.Tallies.{tally_next}
 
 -- the latest number that arrives, of n packets
-abbrev IsLatest : (ℕ → ℕ) → ℕ → Option ℕ → Type 0
-IsLatest copies n None = AreDropped copies 0 n
-IsLatest copies n (Some t) = (t < n) × (1 ≤ copies t) × AreDropped copies (t + 1) n
+abbrev IsLatestDelivered : (ℕ → ℕ) → ℕ → Option ℕ → Type 0
+IsLatestDelivered copies n None = AreDropped copies 0 n
+IsLatestDelivered copies n (Some t) = (t < n) × (1 ≤ copies t) × AreDropped copies (t + 1) n
 
 -- the first
 abbrev IsFirstOf : (ℕ → ℕ) → ℕ → Option ℕ → Type 0
@@ -28,7 +28,7 @@ record IsReached (copies : ℕ → ℕ) (n widest : ℕ) : Type 0 where
 
 -- what the numbers of n packets say of them
 record AreTold (copies : ℕ → ℕ) (n : ℕ) (latest first : Option ℕ) (widest : ℕ) : Type 0 where
-  pub latest_is : IsLatest copies n latest
+  pub latest_is : IsLatestDelivered copies n latest
   pub first_is : IsFirstOf copies n first
   pub within : (t : ℕ) → t < n → (s : ℕ) → AreNext copies s t → t ≤ s + widest
   pub reached : (widest ≡ 0) ⊎ IsReached copies n widest
@@ -38,7 +38,7 @@ record AreTold (copies : ℕ → ℕ) (n : ℕ) (latest first : Option ℕ) (wid
 dropped_more : (copies : ℕ → ℕ) (from n : ℕ) → AreDropped copies from n → copies n ≡ 0 → AreDropped copies from (n + 1)
 dropped_more copies from n all none = below_more (λ t. from ≤ t → copies t ≡ 0) n all (λ le. none)
 
-latest_more : (copies : ℕ → ℕ) (n : ℕ) (latest : Option ℕ) → IsLatest copies n latest → copies n ≡ 0 → IsLatest copies (n + 1) latest
+latest_more : (copies : ℕ → ℕ) (n : ℕ) (latest : Option ℕ) → IsLatestDelivered copies n latest → copies n ≡ 0 → IsLatestDelivered copies (n + 1) latest
 latest_more copies n None is none = dropped_more copies 0 n is none
 latest_more copies n (Some t) (below, arrives, dropped) none = (omega (arith, below), arrives, dropped_more copies (t + 1) n dropped none)
 
@@ -60,16 +60,16 @@ told_dropped copies n latest first widest told none = record {
 
 -- ---- one more delivered packet
 
-latest_delivered : (copies : ℕ → ℕ) (n : ℕ) → 1 ≤ copies n → IsLatest copies (n + 1) (Some n)
+latest_delivered : (copies : ℕ → ℕ) (n : ℕ) → 1 ≤ copies n → IsLatestDelivered copies (n + 1) (Some n)
 latest_delivered copies n arrives = (omega arith, arrives, λ t below from. absurd (omega (arith, below, from)))
 
-first_delivered : (copies : ℕ → ℕ) (n : ℕ) (latest first : Option ℕ) → IsLatest copies n latest → IsFirstOf copies n first → 1 ≤ copies n → IsFirstOf copies (n + 1) (first_with latest first n)
+first_delivered : (copies : ℕ → ℕ) (n : ℕ) (latest first : Option ℕ) → IsLatestDelivered copies n latest → IsFirstOf copies n first → 1 ≤ copies n → IsFirstOf copies (n + 1) (first_with latest first n)
 first_delivered copies n None first is was arrives = (omega arith, record { arrives = arrives; none = is })
 first_delivered copies n (Some s) None (below, earlier, dropped) was arrives = let none = was s below (omega arith) in absurd (omega (arith, earlier, none))
 first_delivered copies n (Some s) (Some t) is (below, was) arrives = (omega (arith, below), was)
 
 -- the number before is the latest one
-same_latest : (copies : ℕ → ℕ) (n latest s : ℕ) → IsLatest copies n (Some latest) → AreNext copies s n → (less more : Bool) → ltb s latest ≡ less → ltb latest s ≡ more → s ≡ latest
+same_latest : (copies : ℕ → ℕ) (n latest s : ℕ) → IsLatestDelivered copies n (Some latest) → AreNext copies s n → (less more : Bool) → ltb s latest ≡ less → ltb latest s ≡ more → s ≡ latest
 same_latest copies n latest s (below, arrives, dropped) next true more less_is more_is =
     let less : s < latest = grind (arith, common_steps) in
     let none = next.none latest below (omega (arith, less)) in
@@ -82,7 +82,7 @@ same_latest copies n latest s (below, arrives, dropped) next false true less_is 
     absurd (omega (arith, earlier, none))
 same_latest copies n latest s is next false false less_is more_is = grind (arith, common_steps)
 
-within_delivered : (copies : ℕ → ℕ) (n : ℕ) (latest : Option ℕ) (widest : ℕ) → IsLatest copies n latest → ((t : ℕ) → t < n → (s : ℕ) → AreNext copies s t → t ≤ s + widest)
+within_delivered : (copies : ℕ → ℕ) (n : ℕ) (latest : Option ℕ) (widest : ℕ) → IsLatestDelivered copies n latest → ((t : ℕ) → t < n → (s : ℕ) → AreNext copies s t → t ≤ s + widest)
     → (t : ℕ) → t < n + 1 → (s : ℕ) → AreNext copies s t → t ≤ s + widest_with latest widest n
 within_delivered copies n None widest is all =
     below_more (λ t. (s : ℕ) → AreNext copies s t → t ≤ s + widest) n all (λ s next.
@@ -94,7 +94,7 @@ within_delivered copies n (Some latest) widest is all =
     (λ t below s next. let le = all t below s next in omega (arith, le))
     (λ s next. let same = same_latest copies n latest s is next (ltb s latest) (ltb latest s) refl refl in omega (arith, same))
 
-reached_delivered : (copies : ℕ → ℕ) (n : ℕ) (latest : Option ℕ) (widest : ℕ) → IsLatest copies n latest → 1 ≤ copies n → (widest ≡ 0) ⊎ IsReached copies n widest
+reached_delivered : (copies : ℕ → ℕ) (n : ℕ) (latest : Option ℕ) (widest : ℕ) → IsLatestDelivered copies n latest → 1 ≤ copies n → (widest ≡ 0) ⊎ IsReached copies n widest
     → (less : Bool) → ltb widest (n - unwrap_or latest 0) ≡ less → (widest_with latest widest n ≡ 0) ⊎ IsReached copies (n + 1) (widest_with latest widest n)
 reached_delivered copies n None widest is arrives was less less_is = reached_more copies n widest was
 reached_delivered copies n (Some latest) widest is arrives was false less_is =

@@ -14,14 +14,14 @@ use Rattle.packet_store.proofs.StoreTurns.{packet_of, ReadsPacket, IsDone}
 use Rattle.loss_player.specs.declared.played.Played.{Played}
 use Rattle.loss_player.specs.declared.played.Tally.{Tally}
 use Rattle.loss_player.specs.declared.playing.Playing.{Playing}
-use Rattle.loss_player.specs.Played.{times_of, number_behind, played_from, repeated, played_of, chosen_count, store_numbers}
+use Rattle.loss_player.specs.Played.{times_of, place_after, played_from, repeated, played_of, chosen_count, store_numbers}
 use Rattle.loss_player.specs.Report.{play_report}
-use Rattle.loss_player.specs.Playing.{play_course, play_work, nothing_read, player_state, next_copies, all_numbers, left_to_play, rest_work, IsCounted, Counts, Owes, IsPlayer}
+use Rattle.loss_player.specs.Playing.{play_course, play_work, nothing_read, player_state, next_copies, all_numbers, left_to_play, rest_work, IsCounted, HasCounted, Owes, IsPlayer}
 use Rattle.loss_player.proofs.Copies.{packets_bytes-replicate}
 
 -- ---- one packet
 
-number_with : (own : Bool) (t more : ℕ) → t + ((if own then 1 else 0) + more) ≡ number_behind own t + more
+number_with : (own : Bool) (t more : ℕ) → t + ((if own then 1 else 0) + more) ≡ place_after own t + more
 number_with true t more = omega arith
 number_with false t more = omega arith
 
@@ -38,13 +38,13 @@ times_at s own = times_of own (copies_of s.script) s.tally.played.packets
 abbrev rest_packets : Playing → List Packet → List Packet
 rest_packets s packets = played_from s.reader.chosen (copies_of s.script) s.tally.played.packets packets
 
-module _ (s t : Playing) (reader : ReaderState) (a b : Meanings) (given : Taken) (takes : Takes s.reader reader a b given) (is : Counts (record s { reader = reader }) t given.chosen) (packets : List Packet) where
+module _ (s t : Playing) (reader : ReaderState) (a b : Meanings) (given : Taken) (takes : Takes s.reader reader a b given) (is : HasCounted (record s { reader = reader }) t given.chosen) (packets : List Packet) where
   same_chosen : s.reader.chosen ≡ t.reader.chosen
   same_chosen = sym (ap (λ (r : ReaderState). r.chosen) is.reader_is ∙ ap (λ (r : ReaderState). r.chosen) takes.others)
 
   taken_packets : rest_packets s (packet_of takes.header reader ∷ packets) ≡ replicate (times_at s given.chosen) (packet_of takes.header reader) ++ rest_packets t packets
   taken_packets =
-      ap (λ (own : Bool). replicate (times_at s own) (packet_of takes.header reader) ++ played_from s.reader.chosen (copies_of s.script) (number_behind own s.tally.played.packets) packets) (sym takes.is_chosen)
+      ap (λ (own : Bool). replicate (times_at s own) (packet_of takes.header reader) ++ played_from s.reader.chosen (copies_of s.script) (place_after own s.tally.played.packets) packets) (sym takes.is_chosen)
       ∙ (let chosen = same_chosen in let rows = sym is.script_is in let number = sym is.packets in
       λ i. replicate (times_at s given.chosen) (packet_of takes.header reader) ++ played_from (chosen i) (copies_of (rows i)) (number i) packets)
 
@@ -65,7 +65,7 @@ module _ (s t : Playing) (reader : ReaderState) (a b : Meanings) (given : Taken)
   taken_numbers = let rows = sym is.script_is in let count = taken_count in λ i. played_of (copies_of (rows i)) (count i)
 
 -- a packet that is played: its copies are owed, and after them what the packets after it owe
-pub Reads-played : (s t : Playing) (reader : ReaderState) (a b : Meanings) (given : Taken) → Takes s.reader reader a b given → Counts (record s { reader = reader }) t given.chosen
+pub Reads-played : (s t : Playing) (reader : ReaderState) (a b : Meanings) (given : Taken) → Takes s.reader reader a b given → HasCounted (record s { reader = reader }) t given.chosen
     → ReadsPacket (left_to_play s) (left_to_play t) s.reader t.reader a b (to_output (next_copies s given.chosen reader.packet))
 Reads-played s t reader a b given takes is = subst (λ (r : ReaderState). ReadsPacket (left_to_play s) (left_to_play t) s.reader r a b (to_output (next_copies s given.chosen reader.packet))) (sym is.reader_is) (record {
   given = given;
@@ -77,18 +77,18 @@ Reads-played s t reader a b given takes is = subst (λ (r : ReaderState). ReadsP
   };
 })
 
-number_behind-most : (own : Bool) (t : ℕ) → number_behind own t ≤ t + 1
-number_behind-most true t = omega arith
-number_behind-most false t = omega arith
+place_after-most : (own : Bool) (t : ℕ) → place_after own t ≤ t + 1
+place_after-most true t = omega arith
+place_after-most false t = omega arith
 
 -- after it the rest of the store is still to be played
-pub Owes-played : (s t : Playing) (reader : ReaderState) (a b : Meanings) (given : Taken) (work : Work Played WalkFault) → Owes s work → Takes s.reader reader a b given → Counts (record s { reader = reader }) t given.chosen → IsCounted t → Owes t (rest_work t)
+pub Owes-played : (s t : Playing) (reader : ReaderState) (a b : Meanings) (given : Taken) (work : Work Played WalkFault) → Owes s work → Takes s.reader reader a b given → HasCounted (record s { reader = reader }) t given.chosen → IsCounted t → Owes t (rest_work t)
 Owes-played s t reader a b given work owes takes is counted =
     let reader_is = is.reader_is ∙ takes.others in
     record {
       work_is = refl;
       live = ap (λ (r : ReaderState). r.live) reader_is ∙ owes.live;
-      packets = omega (arith, number_behind-most given.chosen s.tally.played.packets, is.packets, owes.packets, ap (λ (r : ReaderState). r.taken) reader_is);
+      packets = omega (arith, place_after-most given.chosen s.tally.played.packets, is.packets, owes.packets, ap (λ (r : ReaderState). r.taken) reader_is);
       counted = counted;
     }
 

@@ -3,7 +3,7 @@ use Rattle.std.proofs.Common.{◌≡◌, ℕ, zero, suc, ◌+◌, Bool, true, fa
 use Rattle.std.specs.List.{filter}
 use Rattle.std.proofs.lemmas.List.Elements.{filter-append}
 use Rattle.packet_store.specs.SpacePackets.{Packet, is_chosen}
-use Rattle.loss_player.specs.Played.{times_of, number_behind, played_from}
+use Rattle.loss_player.specs.Played.{times_of, place_after, played_from}
 use Rattle.loss_player.specs.Copied.{copied_from}
 
 -- ---- each packet once
@@ -15,8 +15,8 @@ once false copies t all = refl
 pub played_from-once : (chosen : Option ℕ) (copies : ℕ → ℕ) (t : ℕ) (packets : List Packet) → ((n : ℕ) → copies n ≡ 1) → played_from chosen copies t packets ≡ packets
 played_from-once chosen copies t [] all = refl
 played_from-once chosen copies t (p ∷ packets) all =
-    ap (λ (n : ℕ). replicate n p ++ played_from chosen copies (number_behind (is_chosen chosen p.header) t) packets) (once (is_chosen chosen p.header) copies t all)
-    ∙ ap (λ (l : List Packet). p ∷ l) (played_from-once chosen copies (number_behind (is_chosen chosen p.header) t) packets all)
+    ap (λ (n : ℕ). replicate n p ++ played_from chosen copies (place_after (is_chosen chosen p.header) t) packets) (once (is_chosen chosen p.header) copies t all)
+    ∙ ap (λ (l : List Packet). p ∷ l) (played_from-once chosen copies (place_after (is_chosen chosen p.header) t) packets all)
 
 -- ---- the packets that pass a test, and those that don't
 
@@ -37,15 +37,15 @@ other_of chosen p = not (is_chosen chosen p.header)
 -- ---- those of the chosen APID
 
 own_step : (chosen : Option ℕ) (copies : ℕ → ℕ) (t : ℕ) (p : Packet) (own : Bool) (later : List Packet) → own_of chosen p ≡ own
-    → filter (own_of chosen) (replicate (times_of own copies t) p) ++ copied_from copies (number_behind own t) later ≡ copied_from copies t (cond own (p ∷ later) later)
+    → filter (own_of chosen) (replicate (times_of own copies t) p) ++ copied_from copies (place_after own t) later ≡ copied_from copies t (cond own (p ∷ later) later)
 own_step chosen copies t p true later is = ap (λ (l : List Packet). l ++ copied_from copies (t + 1) later) (filter-kept (own_of chosen) (copies t) p is)
 own_step chosen copies t p false later is = ap (λ (l : List Packet). l ++ copied_from copies t later) (filter-none (own_of chosen) 1 p is)
 
 pub played_own : (chosen : Option ℕ) (copies : ℕ → ℕ) (t : ℕ) (packets : List Packet) → filter (own_of chosen) (played_from chosen copies t packets) ≡ copied_from copies t (filter (own_of chosen) packets)
 played_own chosen copies t [] = refl
 played_own chosen copies t (p ∷ packets) =
-    filter-append (own_of chosen) (replicate (times_of (own_of chosen p) copies t) p) (played_from chosen copies (number_behind (own_of chosen p) t) packets)
-    ∙ (ap (λ (l : List Packet). filter (own_of chosen) (replicate (times_of (own_of chosen p) copies t) p) ++ l) (played_own chosen copies (number_behind (own_of chosen p) t) packets)
+    filter-append (own_of chosen) (replicate (times_of (own_of chosen p) copies t) p) (played_from chosen copies (place_after (own_of chosen p) t) packets)
+    ∙ (ap (λ (l : List Packet). filter (own_of chosen) (replicate (times_of (own_of chosen p) copies t) p) ++ l) (played_own chosen copies (place_after (own_of chosen p) t) packets)
     ∙ own_step chosen copies t p (own_of chosen p) (filter (own_of chosen) packets) refl)
 
 -- ---- all others
@@ -58,8 +58,8 @@ others_step chosen copies t p false later is = ap (λ (l : List Packet). l ++ la
 pub played_others : (chosen : Option ℕ) (copies : ℕ → ℕ) (t : ℕ) (packets : List Packet) → filter (other_of chosen) (played_from chosen copies t packets) ≡ filter (other_of chosen) packets
 played_others chosen copies t [] = refl
 played_others chosen copies t (p ∷ packets) =
-    filter-append (other_of chosen) (replicate (times_of (own_of chosen p) copies t) p) (played_from chosen copies (number_behind (own_of chosen p) t) packets)
-    ∙ (ap (λ (l : List Packet). filter (other_of chosen) (replicate (times_of (own_of chosen p) copies t) p) ++ l) (played_others chosen copies (number_behind (own_of chosen p) t) packets)
+    filter-append (other_of chosen) (replicate (times_of (own_of chosen p) copies t) p) (played_from chosen copies (place_after (own_of chosen p) t) packets)
+    ∙ (ap (λ (l : List Packet). filter (other_of chosen) (replicate (times_of (own_of chosen p) copies t) p) ++ l) (played_others chosen copies (place_after (own_of chosen p) t) packets)
     ∙ others_step chosen copies t p (own_of chosen p) (filter (other_of chosen) packets) refl)
 
 -- ---- more packets
@@ -67,10 +67,10 @@ played_others chosen copies t (p ∷ packets) =
 -- the number of the chosen APID's next packet, after these
 abbrev pub number_after : Option ℕ → ℕ → List Packet → ℕ
 number_after chosen t [] = t
-number_after chosen t (p ∷ packets) = number_after chosen (number_behind (is_chosen chosen p.header) t) packets
+number_after chosen t (p ∷ packets) = number_after chosen (place_after (is_chosen chosen p.header) t) packets
 
 pub played_from-append : (chosen : Option ℕ) (copies : ℕ → ℕ) (t : ℕ) (xs ys : List Packet) → played_from chosen copies t (xs ++ ys) ≡ played_from chosen copies t xs ++ played_from chosen copies (number_after chosen t xs) ys
 played_from-append chosen copies t [] ys = refl
 played_from-append chosen copies t (p ∷ xs) ys =
-    ap (λ (l : List Packet). replicate (times_of (is_chosen chosen p.header) copies t) p ++ l) (played_from-append chosen copies (number_behind (is_chosen chosen p.header) t) xs ys)
-    ∙ sym (append_assoc (replicate (times_of (is_chosen chosen p.header) copies t) p) (played_from chosen copies (number_behind (is_chosen chosen p.header) t) xs) (played_from chosen copies (number_after chosen (number_behind (is_chosen chosen p.header) t) xs) ys))
+    ap (λ (l : List Packet). replicate (times_of (is_chosen chosen p.header) copies t) p ++ l) (played_from-append chosen copies (place_after (is_chosen chosen p.header) t) xs ys)
+    ∙ sym (append_assoc (replicate (times_of (is_chosen chosen p.header) copies t) p) (played_from chosen copies (place_after (is_chosen chosen p.header) t) xs) (played_from chosen copies (number_after chosen (place_after (is_chosen chosen p.header) t) xs) ys))

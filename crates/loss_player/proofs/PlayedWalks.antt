@@ -5,9 +5,9 @@ use Rattle.std.proofs.lemmas.List.Concat.{flat_map-cons}
 use Rattle.std.proofs.lemmas.List.Elements.{All-append, All-replicate}
 use Rattle.packet_store.specs.SpacePackets.{Packet, packet_bytes, is_chosen}
 use Rattle.packet_store.specs.declared.fault.WalkFault.TheVariants as fault
-use Rattle.packet_store.specs.Walks.{IsGood, Walk, walk_from, behind_packet, packets_bytes}
+use Rattle.packet_store.specs.Walks.{IsGood, Walk, walk_from, packet_first, packets_bytes}
 use Rattle.packet_store.proofs.Walks.{walk_from-good, walk_from-none, walk_from-too_many}
-use Rattle.loss_player.specs.Played.{times_of, number_behind, played_from}
+use Rattle.loss_player.specs.Played.{times_of, place_after, played_from}
 
 -- good packets, one after the other, are walked
 pub walk_from-packets : (chosen : Option ℕ) (taken offset : ℕ) (packets : List Packet) → All (IsGood chosen) packets → taken + length packets ≤ 2 ^ 32
@@ -18,7 +18,7 @@ walk_from-packets chosen taken offset (p ∷ packets) all few =
     let more : All (IsGood chosen) packets = λ k d within. all (suc k) d (omega arith) in
     ap (walk_from chosen taken offset) (flat_map-cons packet_bytes p packets)
     ∙ (walk_from-good chosen taken offset p (packets_bytes packets) here (omega arith)
-    ∙ ap (behind_packet p) (walk_from-packets chosen (taken + 1) (offset + length (packet_bytes p)) packets more (omega arith)))
+    ∙ ap (packet_first p) (walk_from-packets chosen (taken + 1) (offset + length (packet_bytes p)) packets more (omega arith)))
 
 ending-full : (chosen : Option ℕ) (taken offset : ℕ) (bytes : List ℕ) → taken ≡ 2 ^ 32 → 0 < length bytes → (walk_from chosen taken offset bytes).ending ≡ Some fault.TooMany
 ending-full chosen taken offset [] full some = absurd (omega (arith, some))
@@ -49,6 +49,6 @@ good_played chosen copies t [] all = all
 good_played chosen copies t (p ∷ packets) all =
     let here : IsGood chosen p = all 0 p (omega arith) in
     let more : All (IsGood chosen) packets = λ k d within. all (suc k) d (omega arith) in
-    All-append (IsGood chosen) (replicate (times_of (is_chosen chosen p.header) copies t) p) (played_from chosen copies (number_behind (is_chosen chosen p.header) t) packets)
+    All-append (IsGood chosen) (replicate (times_of (is_chosen chosen p.header) copies t) p) (played_from chosen copies (place_after (is_chosen chosen p.header) t) packets)
     (All-replicate (IsGood chosen) (times_of (is_chosen chosen p.header) copies t) p here)
-    (good_played chosen copies (number_behind (is_chosen chosen p.header) t) packets more)
+    (good_played chosen copies (place_after (is_chosen chosen p.header) t) packets more)

@@ -13,15 +13,15 @@ abbrev pub times_of : Bool → (ℕ → ℕ) → ℕ → ℕ
 times_of own copies t = if own then copies t else 1
 
 -- the number of the chosen APID's next packet, after a packet
-abbrev pub number_behind : Bool → ℕ → ℕ
-number_behind own t = if own then t + 1 else t
+abbrev pub place_after : Bool → ℕ → ℕ
+place_after own t = if own then t + 1 else t
 
 -- What arrives of these packets, in order, when t packets of the chosen APID stand before them.
 abbrev pub played_from : Option ℕ → (ℕ → ℕ) → ℕ → List Packet → List Packet
 played_from chosen copies t [] = []
 played_from chosen copies t (p ∷ packets) =
     let own = is_chosen chosen p.header in
-    replicate (times_of own copies t) p ++ played_from chosen copies (number_behind own t) packets
+    replicate (times_of own copies t) p ++ played_from chosen copies (place_after own t) packets
 
 -- the packets of the walk over a store that arrive, for a chosen APID
 abbrev pub played_packets : (ℕ → ℕ) → ℕ → List ℕ → List Packet

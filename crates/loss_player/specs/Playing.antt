@@ -15,7 +15,7 @@ use Rattle.loss_player.specs.declared.played.Played.{Played}
 use Rattle.loss_player.specs.declared.playing.Playing.{Playing}
 use Rattle.loss_player.specs.declared.fault.PlayFault.{PlayFault}
 use Rattle.loss_player.specs.declared.fault.PlayFault.TheVariants as play
-use Rattle.loss_player.specs.Played.{times_of, number_behind, repeated, played_from, played_bytes, played_of, chosen_count, store_numbers}
+use Rattle.loss_player.specs.Played.{times_of, place_after, repeated, played_from, played_bytes, played_of, chosen_count, store_numbers}
 use Rattle.loss_player.specs.Tallies.{IsTally, no_tally, tally_of}
 use Rattle.loss_player.specs.Report.{play_report}
 
@@ -77,10 +77,10 @@ pub record IsCounted (s : Playing) : Type 0 where
   pub right : IsTally s.tally
 
 -- a packet was counted, which is of the chosen APID or of another one, and nothing else changed
-pub record Counts (old new : Playing) (own : Bool) : Type 0 where
+pub record HasCounted (old new : Playing) (own : Bool) : Type 0 where
   pub reader_is : new.reader ≡ old.reader
   pub script_is : new.script ≡ old.script
-  pub packets : new.tally.played.packets ≡ number_behind own old.tally.played.packets
+  pub packets : new.tally.played.packets ≡ place_after own old.tally.played.packets
 
 -- this work is owed: that of the rest of the store
 pub record Owes (s : Playing) (work : Work Played WalkFault) : Type 0 where

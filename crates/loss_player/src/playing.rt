@@ -50,7 +50,7 @@ impl Run for Playing {
 }
 
 impl Playing {
-    ghost use Rattle.loss_player.specs.Playing.{Counts, IsCounted, next_copies, nothing_read};
+    ghost use Rattle.loss_player.specs.Playing.{HasCounted, IsCounted, next_copies, nothing_read};
 
     /// Nothing is read. Takes all memory of the run.
     pub fn open(alloc: Global, apid: u16, script: Script) -> Result<Playing, NoMemory>
@@ -71,7 +71,7 @@ impl Playing {
         requires few { self.old.tally.played.packets < 2 ^ 32 }
         requires counted { IsCounted self.old }
         requires output { IsReadyOut (D.meaning desk.old) Outlet.Main }
-        ensures counts { Counts self.old self.new chosen }
+        ensures counts { HasCounted self.old self.new chosen }
         ensures counted { IsCounted self.new }
         ensures added { OnOk result (Adds (D.meaning desk.old) (D.meaning desk.new) Outlet.Main
             (next_copies self.old chosen self.old.reader.packet)) }
@@ -89,7 +89,7 @@ impl Playing {
         requires few { self.old.tally.played.packets < 2 ^ 32 }
         requires counted { IsCounted self.old }
         ensures copies { result ≡ copies_of self.old.script self.old.tally.played.packets }
-        ensures counts { Counts self.old self.new true }
+        ensures counts { HasCounted self.old self.new true }
         ensures counted { IsCounted self.new }
     {
         let copies = self.script.times(self.tally.played.packets as u32);

@@ -125,8 +125,8 @@ module _ (places known left content : List Bool) (len : length places ≡ length
   in_front k lt inside =
       rw taken (get_or_append_left (take (length known) left) (drop (length left) known) false k (omega (arith, length-take (length known) left)) ∙ get_or-take (length known) left k false lt)
 
-  behind : (k : ℕ) → length left < length known → length left ≤ k → get_or content k false ≡ get_or known k false
-  behind k less past =
+  past_the_end : (k : ℕ) → length left < length known → length left ≤ k → get_or content k false ≡ get_or known k false
+  past_the_end k less past =
       let place : length left + (k - length left) ≡ k = omega arith in
       rw taken (get_or-append_right (take (length known) left) (drop (length left) known) (length left) k false (omega (arith, length-take (length known) left)) past ∙ rw place at (get_or-drop (length left) known (k - length left) false))
 
@@ -140,7 +140,7 @@ module _ (places known left content : List Bool) (len : length places ≡ length
   kept_early less same = parse_kept-short places known left len less (λ k lt bound. sym (in_front k (omega arith) lt) ∙ same k bound)
 
   inside : (p : ℕ) → p < length known → (get_or content p false ≡ get_or known p false → ⊥) → p < length left
-  inside p place differs = elim (cases_lt p (length left)) [ inl lt ↦ lt | inr past ↦ absurd (differs (behind p (omega arith) past)) ]
+  inside p place differs = elim (cases_lt p (length left)) [ inl lt ↦ lt | inr past ↦ absurd (differs (past_the_end p (omega arith) past)) ]
 
   pub kept_wrong : (p : ℕ) → p < length known → get_or places p false ≡ false → (get_or content p false ≡ get_or known p false → ⊥) → ((k : ℕ) → k < p → get_or places k false ≡ false → get_or content k false ≡ get_or known k false)
       → (p < length left) × (parse_kept places known left ≡ WrongBit (drop (p + 1) left))

@@ -60,7 +60,7 @@ abbrev pub kept_state : Latest → State
 kept_state latest = record { mask = part_by latest.mask_number latest.mask; content = part_by latest.content_number latest.content }
 
 -- the latest vectors have so many places
-pub record IsLatest (f : ℕ) (latest : Latest) : Type 0 where
+pub record HasPlaces (f : ℕ) (latest : Latest) : Type 0 where
   pub mask : length latest.mask ≡ f
   pub content : length latest.content ≡ f
 
@@ -86,7 +86,7 @@ pub record IsReady (first : Change) (mask content : Option (List Bool)) (vectors
 -- as the next packet is read.
 pub record IsDecoder (latest : Latest) (shown next : Change) (deduced sent : List Bool) (draft : Draft) : Type 0 where
   pub vector : IsVector latest.content
-  pub latest_vectors : IsLatest (length latest.content) latest
+  pub latest_vectors : HasPlaces (length latest.content) latest
   pub shown_places : length shown.recent ≡ length latest.content
   pub next_places : length next.recent ≡ length latest.content
   pub deduced_places : length deduced ≡ length latest.content

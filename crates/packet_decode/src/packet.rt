@@ -4,7 +4,7 @@ ghost use Rattle.std.specs.Prelude.{◌≡◌, ◌≢◌, ◌<◌, false, length
 ghost use Rattle.bit_vectors.specs.Eye.{bits_left};
 ghost use Rattle.bit_vectors.specs.Reading.{MovesOn};
 ghost use Rattle.packet_decode.specs.PacketReading.{Tells, parse_parts, parse_whole_packet};
-ghost use Rattle.packet_decode.specs.Parts.{IsDeduced, IsLatest, IsDraft, lent, outcome_of, kept_state, part_by};
+ghost use Rattle.packet_decode.specs.Parts.{IsDeduced, HasPlaces, IsDraft, lent, outcome_of, kept_state, part_by};
 ghost use Rattle.packet_decode.specs.State.{deduced_by, in_reach};
 
 use crate::change::FirstPart;
@@ -28,7 +28,7 @@ pub fn take_whole_packet(
     requires start { eye.old.place ≡ 0 }
     requires later { IfSome latest.now.content_number (λ last. last < t) }
     requires later_mask { IfSome latest.now.mask_number (λ last. last < t) }
-    requires latest { IsLatest (length draft.old.content) latest.now }
+    requires latest { HasPlaces (length draft.old.content) latest.now }
     requires next { length next.old.recent ≡ length draft.old.content }
     requires deduced { length deduced.old ≡ length draft.old.content }
     requires sent { length sent.old ≡ length draft.old.content }
@@ -71,7 +71,7 @@ fn take_parts(
 ) -> Result<DataKind, BitFault>
     requires later { IfSome latest.now.content_number (λ last. last < t) }
     requires later_mask { IfSome latest.now.mask_number (λ last. last < t) }
-    requires latest { IsLatest (length draft.old.content) latest.now }
+    requires latest { HasPlaces (length draft.old.content) latest.now }
     requires next { length next.old.recent ≡ length draft.old.content }
     requires deduced { length deduced.old ≡ length draft.old.content }
     requires sent { length sent.old ≡ length draft.old.content }

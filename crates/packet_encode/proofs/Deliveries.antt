@@ -8,7 +8,7 @@ use Rattle.std.proofs.lemmas.List.Elements.{filter-append, Contains-append_left,
 use Rattle.mask_update.proofs.NewMasks.{range_push}
 use Rattle.mask_update.specs.Histories.{History}
 use Rattle.robust_window.specs.Histories.{level_at}
-use Rattle.packet_encode.specs.Deliveries.{arrivals, count_to_last, count_up_to, latest_by, is_mask_known_behind, is_mask_known, latest_mask_known, is_written_behind, is_written, latest_written, is_written_whole_behind, is_written_whole, latest_written_whole, CarriesBoth, IsReached, IsLatest, Listed, MaskKnownAt, WrittenAt, WrittenWholeAt}
+use Rattle.packet_encode.specs.Deliveries.{arrivals, count_to_last, count_up_to, latest_by, is_mask_known_from, is_mask_known, latest_mask_known, is_written_from, is_written, latest_written, is_written_whole_from, is_written_whole, latest_written_whole, CarriesBoth, IsReached, IsLatest, Listed, MaskKnownAt, WrittenAt, WrittenWholeAt}
 
 -- ---- the latest one that passes a test
 
@@ -91,10 +91,10 @@ pub written-to : (h : History) (copies : ℕ → ℕ) (t : ℕ) → WrittenAt h 
 written-to h copies t written = grind (arith, common_steps, mask_known-to h copies t)
 
 pub latest_mask-right : (h : History) (copies : ℕ → ℕ) (t : ℕ) → IsLatestOr (MaskKnownAt h copies) t (latest_mask_known h copies t)
-latest_mask-right h copies = latest-right (is_mask_known_behind h copies) (MaskKnownAt h copies) (mask_known-from h copies) (mask_known-to h copies)
+latest_mask-right h copies = latest-right (is_mask_known_from h copies) (MaskKnownAt h copies) (mask_known-from h copies) (mask_known-to h copies)
 
 pub latest_written-right : (h : History) (copies : ℕ → ℕ) (t : ℕ) → IsLatestOr (WrittenAt h copies) t (latest_written h copies t)
-latest_written-right h copies = latest-right (is_written_behind h copies) (WrittenAt h copies) (written-from h copies) (written-to h copies)
+latest_written-right h copies = latest-right (is_written_from h copies) (WrittenAt h copies) (written-from h copies) (written-to h copies)
 
 -- ---- no packet is lost
 
@@ -105,7 +105,7 @@ whole-to : (h : History) (copies : ℕ → ℕ) (t : ℕ) → WrittenWholeAt h c
 whole-to h copies t written = grind (arith, common_steps)
 
 latest_whole-right : (h : History) (copies : ℕ → ℕ) (t : ℕ) → IsLatestOr (WrittenWholeAt h copies) t (latest_written_whole h copies t)
-latest_whole-right h copies = latest-right (is_written_whole_behind h copies) (WrittenWholeAt h copies) (whole-from h copies) (whole-to h copies)
+latest_whole-right h copies = latest-right (is_written_whole_from h copies) (WrittenWholeAt h copies) (whole-from h copies) (whole-to h copies)
 
 -- a packet that arrives and reaches one that is written with its mask known is itself written with its mask known
 both_reach : (h : History) (copies : ℕ → ℕ) (t s : ℕ) → 1 ≤ copies t → s < t → t - 1 - s ≤ level_at h t → WrittenAt h copies s × MaskKnownAt h copies s → WrittenAt h copies t × MaskKnownAt h copies t

@@ -49,16 +49,16 @@ pub record IsLatest (Holds : ℕ → Type 0) (t latest : ℕ) : Type 0 where
 -- ---- which masks become known
 
 -- whether the mask of the packet t becomes known, if this is the latest one before it whose mask did
-abbrev pub is_mask_known_behind : History → (ℕ → ℕ) → Option ℕ → ℕ → Bool
-is_mask_known_behind h copies latest t = nat_lt 0 (copies t) && ((flags_at h t).f || reaches latest t (level_at h t))
+abbrev pub is_mask_known_from : History → (ℕ → ℕ) → Option ℕ → ℕ → Bool
+is_mask_known_from h copies latest t = nat_lt 0 (copies t) && ((flags_at h t).f || reaches latest t (level_at h t))
 
 -- the latest of the first t packets whose mask becomes known
 abbrev pub latest_mask_known : History → (ℕ → ℕ) → ℕ → Option ℕ
-latest_mask_known h copies t = latest_by (is_mask_known_behind h copies) t
+latest_mask_known h copies t = latest_by (is_mask_known_from h copies) t
 
 -- whether the mask of the packet t becomes known
 abbrev pub is_mask_known : History → (ℕ → ℕ) → ℕ → Bool
-is_mask_known h copies t = is_mask_known_behind h copies (latest_mask_known h copies t) t
+is_mask_known h copies t = is_mask_known_from h copies (latest_mask_known h copies t) t
 
 -- The packet arrives, and either it carries the mask, or the number of unknown masks since the latest known one is at
 -- most its effective robustness level.
@@ -69,16 +69,16 @@ pub record MaskKnownAt (h : History) (copies : ℕ → ℕ) (t : ℕ) : Type 0 w
 -- ---- what is written
 
 -- whether the packet t is written, if this is the latest one written before it
-abbrev pub is_written_behind : History → (ℕ → ℕ) → Option ℕ → ℕ → Bool
-is_written_behind h copies latest t = nat_lt 0 (copies t) && ((flags_at h t).r || is_mask_known h copies t && reaches latest t (level_at h t))
+abbrev pub is_written_from : History → (ℕ → ℕ) → Option ℕ → ℕ → Bool
+is_written_from h copies latest t = nat_lt 0 (copies t) && ((flags_at h t).r || is_mask_known h copies t && reaches latest t (level_at h t))
 
 -- the latest written one of the first t packets
 abbrev pub latest_written : History → (ℕ → ℕ) → ℕ → Option ℕ
-latest_written h copies t = latest_by (is_written_behind h copies) t
+latest_written h copies t = latest_by (is_written_from h copies) t
 
 -- whether the packet t is written
 abbrev pub is_written : History → (ℕ → ℕ) → ℕ → Bool
-is_written h copies t = is_written_behind h copies (latest_written h copies t) t
+is_written h copies t = is_written_from h copies (latest_written h copies t) t
 
 -- the numbers of the written packets
 abbrev pub written_numbers : History → (ℕ → ℕ) → List ℕ
@@ -97,15 +97,15 @@ abbrev pub CarriesBoth : History → ℕ → Type 0
 CarriesBoth h t = ((flags_at h t).f ≡ true) × ((flags_at h t).r ≡ true)
 
 -- whether the packet t would be written, if this is the latest one before it that would be
-abbrev pub is_written_whole_behind : History → (ℕ → ℕ) → Option ℕ → ℕ → Bool
-is_written_whole_behind h copies latest t = nat_lt 0 (copies t) && ((flags_at h t).f && (flags_at h t).r || reaches latest t (level_at h t))
+abbrev pub is_written_whole_from : History → (ℕ → ℕ) → Option ℕ → ℕ → Bool
+is_written_whole_from h copies latest t = nat_lt 0 (copies t) && ((flags_at h t).f && (flags_at h t).r || reaches latest t (level_at h t))
 
 -- the latest of the first t packets that would be written
 abbrev pub latest_written_whole : History → (ℕ → ℕ) → ℕ → Option ℕ
-latest_written_whole h copies t = latest_by (is_written_whole_behind h copies) t
+latest_written_whole h copies t = latest_by (is_written_whole_from h copies) t
 
 abbrev pub is_written_whole : History → (ℕ → ℕ) → ℕ → Bool
-is_written_whole h copies t = is_written_whole_behind h copies (latest_written_whole h copies t) t
+is_written_whole h copies t = is_written_whole_from h copies (latest_written_whole h copies t) t
 
 -- The packet arrives, and either it carries the mask and the whole content, or the number of unwritten packets since the
 -- latest one that would be written is at most its effective robustness level.
@@ -131,9 +131,9 @@ pub data Cause : Type 0 where
   Unsynced : Cause
   Gap : ℕ → Cause
 
-abbrev pub cause_behind : Option ℕ → ℕ → Cause
-cause_behind None level = Unsynced
-cause_behind (Some latest) level = Gap level
+abbrev pub cause_from : Option ℕ → ℕ → Cause
+cause_from None level = Unsynced
+cause_from (Some latest) level = Gap level
 
 -- The missing part is the mask if it doesn't become known, and otherwise the content: the latest packet before this one
 -- with which that part became known.
@@ -141,4 +141,4 @@ abbrev pub latest_of_missing : History → (ℕ → ℕ) → ℕ → Option ℕ
 latest_of_missing h copies t = if is_mask_known h copies t then latest_written h copies t else latest_mask_known h copies t
 
 abbrev pub cause_at : History → (ℕ → ℕ) → ℕ → Cause
-cause_at h copies t = if copies t == 0 then Lost else cause_behind (latest_of_missing h copies t) (level_at h t)
+cause_at h copies t = if copies t == 0 then Lost else cause_from (latest_of_missing h copies t) (level_at h t)

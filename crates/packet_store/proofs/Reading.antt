@@ -16,7 +16,7 @@ use Rattle.packet_store.specs.declared.fault.StoreFault.{StoreFault}
 use Rattle.packet_store.specs.declared.fault.StoreFault.TheVariants.{Cut, Version, Shape, ReadFault, TooMany}
 use Rattle.packet_store.specs.declared.reader.Taken.{Taken}
 use Rattle.packet_store.specs.SpacePackets.{IsHeader, header_of, packet_bytes, is_chosen, is_misshapen}
-use Rattle.packet_store.specs.Walks.{IsGood, Front, End, Good, Bad, front_after, front, Walk, behind_packet, stopped_at, walk_from}
+use Rattle.packet_store.specs.Walks.{IsGood, Front, End, Good, Bad, front_after, front, Walk, packet_first, stopped_at, walk_from}
 use Rattle.packet_store.specs.StoreReader.{ReaderState, state_of, Takes, Stops, IsOnlyCut, Waits, AfterFault}
 use Rattle.packet_store.specs.Reading.{front_packet, BeginsWithPacket, IsEarly, AfterUnread}
 use Rattle.packet_store.proofs.Packets.{header_at-header_of, by_checks-Good, from_long}
@@ -176,6 +176,6 @@ Takes-read s h held input given a b live few size good header read chosen count 
       others = λ i. record s { taken = s.taken + 1; offset = s.offset + (long ∙ ap length (sym spelled)) i; live = sym live i; packet = take n input; body = p.body; ahead = drop n input };
       goes_on = λ rest.
           ap (walk_from s.chosen s.taken s.offset) (same_input s input a b read rest ∙ (ap (λ l. l ++ rest) split ∙ (append_assoc (take n input) (drop n input) rest ∙ ap (λ l. l ++ (drop n input ++ rest)) spelled)))
-          ∙ (walk_from-good s.chosen s.taken s.offset p (drop n input ++ rest) good few ∙ ap (λ k. behind_packet p (walk_from s.chosen (s.taken + 1) k (drop n input ++ rest))) place);
+          ∙ (walk_from-good s.chosen s.taken s.offset p (drop n input ++ rest) good few ∙ ap (λ k. packet_first p (walk_from s.chosen (s.taken + 1) k (drop n input ++ rest))) place);
     } in
     subst (λ k. Takes s (state_of s.chosen (s.taken + 1) (s.offset + k) true k input) a b given) size all

@@ -8,7 +8,7 @@ use Rattle.packet_store.specs.declared.fault.StoreKind.TheVariants as kind
 use Rattle.packet_store.specs.declared.fault.WalkFault.{WalkFault}
 use Rattle.packet_store.specs.declared.fault.WalkFault.TheVariants as fault
 use Rattle.packet_store.specs.SpacePackets.{IsPacket, Packet, packet_bytes, plain_packet, store_bytes}
-use Rattle.packet_store.specs.Walks.{IsGood, Front, End, Good, Bad, front, Walk, walked, stopped_at, behind_packet, at_limit, by_front, walk_step, walk_by, walk_from, packets_bytes, by_checks, bad_at, ending_at}
+use Rattle.packet_store.specs.Walks.{IsGood, Front, End, Good, Bad, front, Walk, walked, stopped_at, packet_first, at_limit, by_front, walk_step, walk_by, walk_from, packets_bytes, by_checks, bad_at, ending_at}
 use Rattle.packet_store.specs.StoreReader.{IsOnlyCut}
 use Rattle.packet_store.specs.Reading.{IsEarly}
 use Rattle.packet_store.proofs.Packets.{front-good, front-Good, front-shorter, IsGood-plain}
@@ -29,7 +29,7 @@ walk_by-suc steps chosen taken offset bytes = refl
 
 by_front-same : (on more : Packet → List ℕ → Walk) (offset : ℕ) (bytes : List ℕ) (found : Front) → ((p : Packet) (rest : List ℕ) → found ≡ Good p rest → on p rest ≡ more p rest) → by_front on offset bytes found ≡ by_front more offset bytes found
 by_front-same on more offset bytes End same = refl
-by_front-same on more offset bytes (Good p rest) same = ap (behind_packet p) (same p rest refl)
+by_front-same on more offset bytes (Good p rest) same = ap (packet_first p) (same p rest refl)
 by_front-same on more offset bytes (Bad why) same = refl
 
 walk_step-same : (chosen : Option ℕ) (taken offset : ℕ) (bytes : List ℕ) (on more : Packet → List ℕ → Walk) → ((p : Packet) (rest : List ℕ) → front chosen bytes ≡ Good p rest → on p rest ≡ more p rest) → walk_step chosen taken offset bytes on ≡ walk_step chosen taken offset bytes more
@@ -70,7 +70,7 @@ not_full taken few = grind (arith, common_steps)
 
 -- a good packet, and then the walk after it
 pub walk_from-good : (chosen : Option ℕ) (taken offset : ℕ) (p : Packet) (rest : List ℕ) → IsGood chosen p → taken < 2 ^ 32
-    → walk_from chosen taken offset (packet_bytes p ++ rest) ≡ behind_packet p (walk_from chosen (taken + 1) (offset + length (packet_bytes p)) rest)
+    → walk_from chosen taken offset (packet_bytes p ++ rest) ≡ packet_first p (walk_from chosen (taken + 1) (offset + length (packet_bytes p)) rest)
 walk_from-good chosen taken offset p rest good few =
     let on : Packet → List ℕ → Walk = λ q left. walk_from chosen (taken + 1) (offset + length (packet_bytes q)) left in
     let bytes = packet_bytes p ++ rest in
@@ -144,8 +144,8 @@ All-more {X = X} P x xs here all = λ k d within. at k d within where
   at zero d within = here
   at (suc k) d within = all k d (omega arith)
 
-All-behind : (xs ys : List ℕ) → All (λ b. b < 256) (xs ++ ys) → All (λ b. b < 256) ys
-All-behind xs ys all = subst (All (λ b. b < 256)) (drop_at xs ys (length xs) refl) (All-drop (λ b. b < 256) (length xs) (xs ++ ys) all)
+All-rest : (xs ys : List ℕ) → All (λ b. b < 256) (xs ++ ys) → All (λ b. b < 256) ys
+All-rest xs ys all = subst (All (λ b. b < 256)) (drop_at xs ys (length xs) refl) (All-drop (λ b. b < 256) (length xs) (xs ++ ys) all)
 
 from_full : (taken : ℕ) → (taken == 2 ^ 32) ≡ true → taken ≡ 2 ^ 32
 from_full taken e = grind (arith, common_steps)
@@ -179,7 +179,7 @@ front-End chosen (b ∷ bytes) e = absurd (front_more chosen b bytes e) where
   front_more chosen a (b ∷ c ∷ d ∷ e ∷ f ∷ bytes) none = by_checks-found _ _ _ _ _ none
   front_more chosen a bytes none = cc
 
-IsWalk-more : (chosen : Option ℕ) (taken offset : ℕ) (p : Packet) (rest : List ℕ) (w : Walk) → IsGood chosen p → IsWalk chosen (taken + 1) (offset + length (packet_bytes p)) rest w → IsWalk chosen taken offset (packet_bytes p ++ rest) (behind_packet p w)
+IsWalk-more : (chosen : Option ℕ) (taken offset : ℕ) (p : Packet) (rest : List ℕ) (w : Walk) → IsGood chosen p → IsWalk chosen (taken + 1) (offset + length (packet_bytes p)) rest w → IsWalk chosen taken offset (packet_bytes p ++ rest) (packet_first p w)
 IsWalk-more chosen taken offset p rest w good is =
     let count : taken + 1 + length w.packets ≡ taken + suc (length w.packets) = omega arith in
     let place : offset + length (packet_bytes p) + length (packets_bytes w.packets) ≡ offset + length (packet_bytes p ++ packets_bytes w.packets) = omega (arith, length-append (packet_bytes p) (packets_bytes w.packets)) in
@@ -208,18 +208,18 @@ IsWalk-walk_from (suc n) chosen taken offset bytes short few all = subst (IsWalk
   parts later false full (Good p rest) e =
       let read = front-Good chosen bytes p rest all e in
       let shorter = front-shorter chosen bytes p rest e in
-      let left : All (λ b. b < 256) rest = All-behind (packet_bytes p) rest (subst (All (λ b. b < 256)) read.1 all) in
+      let left : All (λ b. b < 256) rest = All-rest (packet_bytes p) rest (subst (All (λ b. b < 256)) read.1 all) in
       let more = later p rest (omega arith) (from_not_full taken full few) left in
-      subst (λ l. IsWalk chosen taken offset l (behind_packet p (on p rest))) (sym read.1) (IsWalk-more chosen taken offset p rest (on p rest) read.0 more)
+      subst (λ l. IsWalk chosen taken offset l (packet_first p (on p rest))) (sym read.1) (IsWalk-more chosen taken offset p rest (on p rest) read.0 more)
   parts later false full (Bad why) e = stopped bytes why full e
 
-behind_packets : List Packet → Walk → Walk
-behind_packets packets w = record w { packets = packets ++ w.packets }
+packets_first : List Packet → Walk → Walk
+packets_first packets w = record w { packets = packets ++ w.packets }
 
 -- packets of the one shape, one after another, and then the walk after them
 walk_from-store_bytes : (chosen : Option ℕ) (taken offset apid : ℕ) (packets : List (ℕ × List ℕ)) (rest : List ℕ) → All (λ p. IsPacket apid p.0 p.1) packets → taken + length packets ≤ 2 ^ 32
-    → walk_from chosen taken offset (store_bytes apid packets ++ rest) ≡ behind_packets (map (λ p. plain_packet apid p.0 p.1) packets) (walk_from chosen (taken + length packets) (offset + length (store_bytes apid packets)) rest)
-unfolding behind_packets
+    → walk_from chosen taken offset (store_bytes apid packets ++ rest) ≡ packets_first (map (λ p. plain_packet apid p.0 p.1) packets) (walk_from chosen (taken + length packets) (offset + length (store_bytes apid packets)) rest)
+unfolding packets_first
 walk_from-store_bytes chosen taken offset apid [] rest all few =
     let same_taken : taken ≡ taken + 0 = omega arith in
     let same_offset : offset ≡ offset + 0 = omega arith in λ i.
@@ -232,18 +232,18 @@ walk_from-store_bytes chosen taken offset apid (p ∷ packets) rest all few =
     let place : offset + length (packet_bytes packet) + length (store_bytes apid packets) ≡ offset + length (packet_bytes packet ++ store_bytes apid packets) = omega (arith, length-append (packet_bytes packet) (store_bytes apid packets)) in
     ap (walk_from chosen taken offset) (append_assoc (packet_bytes packet) (store_bytes apid packets) rest)
     ∙ walk_from-good chosen taken offset packet (store_bytes apid packets ++ rest) (IsGood-plain chosen apid p.0 p.1 here) (omega arith)
-    ∙ ap (behind_packet packet) (walk_from-store_bytes chosen (taken + 1) (offset + length (packet_bytes packet)) apid packets rest more (omega arith))
-    ∙ (λ i. behind_packets (packet ∷ map (λ q. plain_packet apid q.0 q.1) packets) (walk_from chosen (count i) (place i) rest))
+    ∙ ap (packet_first packet) (walk_from-store_bytes chosen (taken + 1) (offset + length (packet_bytes packet)) apid packets rest more (omega arith))
+    ∙ (λ i. packets_first (packet ∷ map (λ q. plain_packet apid q.0 q.1) packets) (walk_from chosen (count i) (place i) rest))
 
 -- a store of packets of the one shape is whole, and its walk has these packets
 pub walk-store_bytes : (chosen : Option ℕ) (apid : ℕ) (packets : List (ℕ × List ℕ)) → All (λ p. IsPacket apid p.0 p.1) packets → length packets ≤ 2 ^ 32
     → walk_from chosen 0 0 (store_bytes apid packets) ≡ record { packets = map (λ p. plain_packet apid p.0 p.1) packets; rest = []; ending = None }
-unfolding behind_packets
+unfolding packets_first
 walk-store_bytes chosen apid packets all few =
     let plain = map (λ (p : ℕ × List ℕ). plain_packet apid p.0 p.1) packets in
     ap (walk_from chosen 0 0) (sym (append-nil (store_bytes apid packets)))
     ∙ walk_from-store_bytes chosen 0 0 apid packets [] all (omega arith)
-    ∙ ap (behind_packets plain) (walk_from-none chosen (0 + length packets) (0 + length (store_bytes apid packets)))
+    ∙ ap (packets_first plain) (walk_from-none chosen (0 + length packets) (0 + length (store_bytes apid packets)))
     ∙ ap (λ (l : List Packet). record walked { packets = l }) (append-nil plain)
 
 -- the walk of some bytes and more has the packets of the walk of those, and later ones
@@ -278,5 +278,5 @@ IsLonger-walk_from (suc n) chosen taken offset bytes more short few all = by_ste
       let read = front-Good chosen bytes p rest all e in
       let shorter = front-shorter chosen bytes p rest e in
       let fewer : taken < 2 ^ 32 = omega (arith, from_not_full taken full few) in
-      let longer = later p rest (omega arith) (omega arith) (All-behind (packet_bytes p) rest (subst (All (λ b. b < 256)) read.1 all)) in
+      let longer = later p rest (omega arith) (omega arith) (All-rest (packet_bytes p) rest (subst (All (λ b. b < 256)) read.1 all)) in
       IsLonger-more chosen taken offset p bytes rest more read.0 fewer read.1 longer

@@ -10,7 +10,7 @@ use Rattle.packet_store.specs.declared.fault.WalkFault.TheVariants as fault
 use Rattle.packet_store.specs.declared.fault.StoreFault.{StoreFault}
 use Rattle.packet_store.specs.declared.fault.StoreFault.TheVariants.{Cut, Version, Shape, ReadFault, TooMany}
 use Rattle.packet_store.specs.SpacePackets.{packet_bytes, is_chosen}
-use Rattle.packet_store.specs.Walks.{IsGood, Walk, walk_from, behind_packet, stopped_at}
+use Rattle.packet_store.specs.Walks.{IsGood, Walk, walk_from, packet_first, stopped_at}
 
 -- the chosen APID, the number of packets given so far and of their bytes, whether the reader goes on, the latest packet
 -- with its data, both empty if the latest call gave none, and the bytes after it that were read ahead
@@ -48,7 +48,7 @@ pub record Takes (old new : ReaderState) (before after : Meanings) (given : Take
   pub count : given.count ≡ header.count
   pub few : old.taken < 2 ^ 32
   pub others : new ≡ record old { taken = old.taken + 1; offset = old.offset + length new.packet; packet = new.packet; body = new.body; ahead = new.ahead }
-  pub goes_on : (rest : List ℕ) → walk_on old (taken ++ rest) ≡ behind_packet (record { header = header; body = new.body }) (walk_on new rest)
+  pub goes_on : (rest : List ℕ) → walk_on old (taken ++ rest) ≡ packet_first (record { header = header; body = new.body }) (walk_on new rest)
 
 -- The walk ends with this fault: some bytes were read after those that were ahead, all of which stay there, and nothing
 -- else happened.

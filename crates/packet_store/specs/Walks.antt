@@ -54,8 +54,8 @@ abbrev pub stopped_at : WalkFault → List ℕ → Walk
 stopped_at reason bytes = record { packets = []; rest = bytes; ending = Some reason }
 
 -- one good packet, and then a walk
-abbrev pub behind_packet : Packet → Walk → Walk
-behind_packet p walk = record walk { packets = p ∷ walk.packets }
+abbrev pub packet_first : Packet → Walk → Walk
+packet_first p walk = record walk { packets = p ∷ walk.packets }
 
 -- no packet is walked after the 4,294,967,296th
 abbrev pub at_limit : List ℕ → Walk
@@ -65,7 +65,7 @@ at_limit (b ∷ bytes) = stopped_at fault.TooMany (b ∷ bytes)
 -- the walk over bytes, by what is at their front; the offset is that of their first byte
 abbrev pub by_front : (Packet → List ℕ → Walk) → ℕ → List ℕ → Front → Walk
 by_front on offset bytes End = walked
-by_front on offset bytes (Good p rest) = behind_packet p (on p rest)
+by_front on offset bytes (Good p rest) = packet_first p (on p rest)
 by_front on offset bytes (Bad why) = stopped_at (fault.Bad offset why) bytes
 
 -- one step of a walk, which goes on after a good packet

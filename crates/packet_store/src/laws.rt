@@ -2,7 +2,7 @@
 
 ghost use Rattle.std.specs.Prelude.{◌≡◌, ◌+◌, ◌^◌, ◌<◌, ◌≤◌, ◌∷◌, [], ◌++◌, ℕ, List, Option, Some, None, All, length, map};
 ghost use Rattle.packet_store.specs.SpacePackets.{Packet, IsPacket, packet_bytes, plain_packet, store_bytes};
-ghost use Rattle.packet_store.specs.Walks.{IsGood, Good, front, walk, walk_from, behind_packet, stopped_at, packets_bytes, ending_at};
+ghost use Rattle.packet_store.specs.Walks.{IsGood, Good, front, walk, walk_from, packet_first, stopped_at, packets_bytes, ending_at};
 ghost use Rattle.packet_store.specs.declared.fault.StoreKind.TheVariants.{Cut, Version, Shape};
 ghost use Rattle.packet_store.specs.declared.fault.WalkFault.TheVariants.{Bad};
 
@@ -13,7 +13,7 @@ pub fn good_packets_are_walked()
     ensures walked { (chosen : Option ℕ) (taken offset : ℕ) (p : Packet) (rest : List ℕ)
         → IsGood chosen p → taken < 2 ^ 32
         → walk_from chosen taken offset (packet_bytes p ++ rest)
-        ≡ behind_packet p (walk_from chosen (taken + 1) (offset + length (packet_bytes p)) rest) }
+        ≡ packet_first p (walk_from chosen (taken + 1) (offset + length (packet_bytes p)) rest) }
 {}
 
 /// Bytes that are read as a good packet begin with that packet.
@@ -71,7 +71,7 @@ pub fn worked_walks()
     ensures cut { walk (Some 100)
         (0x00 ∷ 0x64 ∷ 0xC0 ∷ 0x00 ∷ 0x00 ∷ 0x03 ∷ 0x85 ∷ 0xB8 ∷ 0xC0 ∷ 0x00 ∷ 0x00 ∷ 0x64 ∷ 0xC0
         ∷ [])
-        ≡ behind_packet (plain_packet 100 0 (0x85 ∷ 0xB8 ∷ 0xC0 ∷ 0x00 ∷ []))
+        ≡ packet_first (plain_packet 100 0 (0x85 ∷ 0xB8 ∷ 0xC0 ∷ 0x00 ∷ []))
         (stopped_at (Bad 10 Cut) (0x00 ∷ 0x64 ∷ 0xC0 ∷ [])) }
 
     // a packet that claims one byte more than there is

@@ -12,18 +12,18 @@ by_place true start m ps qs rest later = rw later refl
 by_place false start m ps qs rest later = later
 
 -- the ones below a place that is after another: those between them, and those below the other
-behind : (v y : List Bool) (start m : ℕ) → ((k : ℕ) → k < m → get_or y k false ≡ get_or v (start + k) false) → ones_below (start + m) v ≡ map (λ place. start + place) (ones_below m y) ++ ones_below start v
+ones_below_joined : (v y : List Bool) (start m : ℕ) → ((k : ℕ) → k < m → get_or y k false ≡ get_or v (start + k) false) → ones_below (start + m) v ≡ map (λ place. start + place) (ones_below m y) ++ ones_below start v
 unfolding ones_below
-behind v y start zero same = let none : start + 0 ≡ start = omega arith in rw none refl
-behind v y start (suc m) same =
+ones_below_joined v y start zero same = let none : start + 0 ≡ start = omega arith in rw none refl
+ones_below_joined v y start (suc m) same =
     let next : start + suc m ≡ suc (start + m) = omega arith in
-    rw (next, same m (omega arith)) (by_place (get_or v (start + m) false) start m (ones_below m y) (ones_below start v) (ones_below (start + m) v) (behind v y start m (λ k lt. same k (omega arith))))
+    rw (next, same m (omega arith)) (by_place (get_or v (start + m) false) start m (ones_below m y) (ones_below start v) (ones_below (start + m) v) (ones_below_joined v y start m (λ k lt. same k (omega arith))))
 
 -- those of a whole word
 whole_word : (v : List Bool) (index ones : ℕ) → 64 * index ≤ length v → IsWord v index ones → ones_left v (record { index = index; ones = ones }) ≡ ones_below (64 * index + 64) v
 unfolding ones_left
 whole_word v index ones le is =
-    rw (places_of_word ones, below_is (64 * index) v le) (sym (behind v (number_bits 64 ones) (64 * index) 64 (λ k lt. bit_is ones k lt ∙ is k lt)))
+    rw (places_of_word ones, below_is (64 * index) v le) (sym (ones_below_joined v (number_bits 64 ones) (64 * index) 64 (λ k lt. bit_is ones k lt ∙ is k lt)))
 
 no_ones_left : (v : List Bool) (index : ℕ) → 64 * index ≤ length v → ones_left v (record { index = index; ones = 0 }) ≡ ones_below (64 * index) v
 unfolding ones_left

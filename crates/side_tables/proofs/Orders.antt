@@ -10,7 +10,7 @@ use Rattle.side_tables.specs.declared.order.OrderEntry.{OrderEntry}
 use Rattle.side_tables.specs.declared.span.Span.{Span}
 use Rattle.side_tables.specs.Spans.{names, IsSpan}
 use Rattle.side_tables.specs.Tables.{ArePlacesNaming, RowNames}
-use Rattle.side_tables.specs.Order.{IsOrderOf, IsEntryOf, AreEntriesOf, AreOrdered, HaveReaches, IsNextAt, SameButReach, IsSameButReach, entry_at, span_at, places_of, no_entry, places_naming, reach_of, middle_of, before_middle, behind_middle}
+use Rattle.side_tables.specs.Order.{IsOrderOf, IsEntryOf, AreEntriesOf, AreOrdered, HaveReaches, IsNextAt, SameButReach, IsSameButReach, entry_at, span_at, places_of, no_entry, places_naming, reach_of, middle_of, before_middle, after_middle}
 
 -- the place of an entry, as a number among the places
 pub place_among : (entries : List OrderEntry) (k d : ℕ) → k < length entries → get_or (places_of entries) k d ≡ (entry_at entries k).place
@@ -50,8 +50,8 @@ AreOrdered-before entries order = record {
   reaches = λ depth. (order.reaches (suc depth)).1;
 }
 
-pub AreOrdered-behind : (entries : List OrderEntry) → AreOrdered entries → AreOrdered (behind_middle entries)
-AreOrdered-behind entries order = record {
+pub AreOrdered-after : (entries : List OrderEntry) → AreOrdered entries → AreOrdered (after_middle entries)
+AreOrdered-after entries order = record {
   right = All-drop (λ (e : OrderEntry). IsSpan e.span) (length entries / 2 + 1) entries order.right;
   rising = IsNonDecreasingBy-drop (λ (e : OrderEntry). e.span.first) (length entries / 2 + 1) entries order.rising;
   reaches = λ depth. (order.reaches (suc depth)).2;
@@ -82,33 +82,33 @@ none_to_middle entries start t none not j from to =
       | inr from_middle ↦ let is : j ≡ length entries / 2 = omega arith in rw is (not (omega arith))
     ]
 
-behind_at : (entries : List OrderEntry) (j : ℕ) → length entries / 2 + 1 ≤ j → entry_at (behind_middle entries) (j - (length entries / 2 + 1)) ≡ entry_at entries j
-behind_at entries j from =
+after_middle_at : (entries : List OrderEntry) (j : ℕ) → length entries / 2 + 1 ≤ j → entry_at (after_middle entries) (j - (length entries / 2 + 1)) ≡ entry_at entries j
+after_middle_at entries j from =
     let same : length entries / 2 + 1 + (j - (length entries / 2 + 1)) ≡ j = omega arith in
     get_or-drop (length entries / 2 + 1) entries (j - (length entries / 2 + 1)) no_entry ∙ rw same refl
 
 -- the next one after the middle is the next one, if none up to the middle is
-pub next_behind : (entries : List OrderEntry) (start t k : ℕ) → IsNextAt (before_middle entries) start t None → (start ≤ length entries / 2 → names (middle_of entries).span t ≡ false)
-    → IsNextAt (behind_middle entries) (start - (length entries / 2 + 1)) t (Some k) → IsNextAt entries start t (Some (length entries / 2 + 1 + k))
-next_behind entries start t k none not next =
-    let size : length (behind_middle entries) ≡ length entries - (length entries / 2 + 1) = length-drop (length entries / 2 + 1) entries in
+pub next_after_middle : (entries : List OrderEntry) (start t k : ℕ) → IsNextAt (before_middle entries) start t None → (start ≤ length entries / 2 → names (middle_of entries).span t ≡ false)
+    → IsNextAt (after_middle entries) (start - (length entries / 2 + 1)) t (Some k) → IsNextAt entries start t (Some (length entries / 2 + 1 + k))
+next_after_middle entries start t k none not next =
+    let size : length (after_middle entries) ≡ length entries - (length entries / 2 + 1) = length-drop (length entries / 2 + 1) entries in
     let within : k < length entries - (length entries / 2 + 1) = rw size at next.1 in (
       omega arith,
       omega arith,
       rw (get_or-drop (length entries / 2 + 1) entries k no_entry) at next.2,
       λ j from below. elim (cases_lt j (length entries / 2 + 1)) [
         | inl less ↦ none_to_middle entries start t none not j from less
-        | inr behind ↦ rw (behind_at entries j behind) at (next.3 (j - (length entries / 2 + 1)) (omega arith) (omega arith))
+        | inr after ↦ rw (after_middle_at entries j after) at (next.3 (j - (length entries / 2 + 1)) (omega arith) (omega arith))
       ],
     )
 
-pub none_behind : (entries : List OrderEntry) (start t : ℕ) → IsNextAt (before_middle entries) start t None → (start ≤ length entries / 2 → names (middle_of entries).span t ≡ false)
-    → IsNextAt (behind_middle entries) (start - (length entries / 2 + 1)) t None → IsNextAt entries start t None
-none_behind entries start t none not rest =
-    let size : length (behind_middle entries) ≡ length entries - (length entries / 2 + 1) = length-drop (length entries / 2 + 1) entries in
+pub none_after_middle : (entries : List OrderEntry) (start t : ℕ) → IsNextAt (before_middle entries) start t None → (start ≤ length entries / 2 → names (middle_of entries).span t ≡ false)
+    → IsNextAt (after_middle entries) (start - (length entries / 2 + 1)) t None → IsNextAt entries start t None
+none_after_middle entries start t none not rest =
+    let size : length (after_middle entries) ≡ length entries - (length entries / 2 + 1) = length-drop (length entries / 2 + 1) entries in
     λ j from inside. elim (cases_lt j (length entries / 2 + 1)) [
       | inl less ↦ none_to_middle entries start t none not j from less
-      | inr behind ↦ rw (behind_at entries j behind) at (rest (j - (length entries / 2 + 1)) (omega arith) (rw size (omega arith)))
+      | inr after ↦ rw (after_middle_at entries j after) at (rest (j - (length entries / 2 + 1)) (omega arith) (rw size (omega arith)))
     ]
 
 -- ---- the entries that name the number
@@ -176,36 +176,36 @@ pub HaveReaches-none : HaveReaches []
 HaveReaches-none zero = tt
 HaveReaches-none (suc depth) = (λ some. absurd (omega arith), HaveReaches-none depth, HaveReaches-none depth)
 
-pub reach_of-joined : (before behind : List OrderEntry) (entry : OrderEntry) → reach_of (before ++ entry ∷ behind) ≡ max (max (reach_of before) entry.span.last) (reach_of behind)
-reach_of-joined [] behind entry = omega arith
-reach_of-joined (e ∷ before) behind entry = rw (reach_of-joined before behind entry) (omega arith)
+pub reach_of-joined : (before after : List OrderEntry) (entry : OrderEntry) → reach_of (before ++ entry ∷ after) ≡ max (max (reach_of before) entry.span.last) (reach_of after)
+reach_of-joined [] after entry = omega arith
+reach_of-joined (e ∷ before) after entry = rw (reach_of-joined before after entry) (omega arith)
 
-drop_joined : (before behind : List OrderEntry) (entry : OrderEntry) (n : ℕ) → length before ≡ n → drop (n + 1) (before ++ entry ∷ behind) ≡ behind
-drop_joined before behind entry n size =
-    rw (append_assoc before (entry ∷ []) behind) at (drop_at (before ++ entry ∷ []) behind (n + 1) (rw (length_push before entry) (omega arith)))
+drop_joined : (before after : List OrderEntry) (entry : OrderEntry) (n : ℕ) → length before ≡ n → drop (n + 1) (before ++ entry ∷ after) ≡ after
+drop_joined before after entry n size =
+    rw (append_assoc before (entry ∷ []) after) at (drop_at (before ++ entry ∷ []) after (n + 1) (rw (length_push before entry) (omega arith)))
 
-pub HaveReaches-joined : (before behind : List OrderEntry) (entry : OrderEntry) → length before ≡ length (before ++ entry ∷ behind) / 2 → HaveReaches before → HaveReaches behind
-    → entry.reach ≡ reach_of (before ++ entry ∷ behind) → HaveReaches (before ++ entry ∷ behind)
-HaveReaches-joined before behind entry half front back reach zero = tt
-HaveReaches-joined before behind entry half front back reach (suc depth) =
-    let middle : middle_of (before ++ entry ∷ behind) ≡ entry = get_or_at before entry behind no_entry (length (before ++ entry ∷ behind) / 2) half in
-    let first : before_middle (before ++ entry ∷ behind) ≡ before = take_at before (entry ∷ behind) (length (before ++ entry ∷ behind) / 2) half in
-    let last : behind_middle (before ++ entry ∷ behind) ≡ behind = drop_joined before behind entry (length (before ++ entry ∷ behind) / 2) half in
+pub HaveReaches-joined : (before after : List OrderEntry) (entry : OrderEntry) → length before ≡ length (before ++ entry ∷ after) / 2 → HaveReaches before → HaveReaches after
+    → entry.reach ≡ reach_of (before ++ entry ∷ after) → HaveReaches (before ++ entry ∷ after)
+HaveReaches-joined before after entry half front back reach zero = tt
+HaveReaches-joined before after entry half front back reach (suc depth) =
+    let middle : middle_of (before ++ entry ∷ after) ≡ entry = get_or_at before entry after no_entry (length (before ++ entry ∷ after) / 2) half in
+    let first : before_middle (before ++ entry ∷ after) ≡ before = take_at before (entry ∷ after) (length (before ++ entry ∷ after) / 2) half in
+    let last : after_middle (before ++ entry ∷ after) ≡ after = drop_joined before after entry (length (before ++ entry ∷ after) / 2) half in
     (λ some. rw middle reach, rw first (front depth), rw last (back depth))
 
-pub SameButReach-joined : (before behind others rest : List OrderEntry) (entry other : OrderEntry) → SameButReach before others → SameButReach behind rest → IsSameButReach entry other
-    → SameButReach (before ++ entry ∷ behind) (others ++ other ∷ rest)
-SameButReach-joined before behind others rest entry other front back same = record {
-  len = rw (length-append before (entry ∷ behind), length-append others (other ∷ rest)) (omega (arith, front.len, back.len));
+pub SameButReach-joined : (before after others rest : List OrderEntry) (entry other : OrderEntry) → SameButReach before others → SameButReach after rest → IsSameButReach entry other
+    → SameButReach (before ++ entry ∷ after) (others ++ other ∷ rest)
+SameButReach-joined before after others rest entry other front back same = record {
+  len = rw (length-append before (entry ∷ after), length-append others (other ∷ rest)) (omega (arith, front.len, back.len));
   each = λ k. elim (cases_lt k (length before)) [
-    | inl less ↦ rw (get_or_append_left before (entry ∷ behind) no_entry k less, get_or_append_left others (other ∷ rest) no_entry k (rw front.len less)) (front.each k)
+    | inl less ↦ rw (get_or_append_left before (entry ∷ after) no_entry k less, get_or_append_left others (other ∷ rest) no_entry k (rw front.len less)) (front.each k)
     | inr from ↦ elim (cases_lt (length before) k) [
       | inl past ↦
           let place : k - length before ≡ suc (k - (length before + 1)) = omega arith in
-          rw (get_or-append_right before (entry ∷ behind) (length before) k no_entry refl from, get_or-append_right others (other ∷ rest) (length before) k no_entry front.len from, place) (back.each (k - (length before + 1)))
+          rw (get_or-append_right before (entry ∷ after) (length before) k no_entry refl from, get_or-append_right others (other ∷ rest) (length before) k no_entry front.len from, place) (back.each (k - (length before + 1)))
       | inr to ↦
           let here : k ≡ length before = omega arith in
-          rw (here, get_or_at before entry behind no_entry (length before) refl, get_or_at others other rest no_entry (length before) front.len) same
+          rw (here, get_or_at before entry after no_entry (length before) refl, get_or_at others other rest no_entry (length before) front.len) same
     ]
   ];
 }

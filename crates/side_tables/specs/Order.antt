@@ -43,14 +43,14 @@ middle_of entries = entry_at entries (length entries / 2)
 abbrev pub before_middle : List OrderEntry → List OrderEntry
 before_middle entries = take (length entries / 2) entries
 
-abbrev pub behind_middle : List OrderEntry → List OrderEntry
-behind_middle entries = drop (length entries / 2 + 1) entries
+abbrev pub after_middle : List OrderEntry → List OrderEntry
+after_middle entries = drop (length entries / 2 + 1) entries
 
 -- The middle one's reach is that of all, and so it is in the halves before and after it, and in theirs, down to a depth.
 abbrev pub HaveReachesTo : ℕ → List OrderEntry → Type 0
 HaveReachesTo zero entries = Unit {0}
 HaveReachesTo (suc depth) entries = (0 < length entries → (middle_of entries).reach ≡ reach_of entries)
-    × HaveReachesTo depth (before_middle entries) × HaveReachesTo depth (behind_middle entries)
+    × HaveReachesTo depth (before_middle entries) × HaveReachesTo depth (after_middle entries)
 
 -- in each half, and half of a half, the middle one's reach is that of the half
 abbrev pub HaveReaches : List OrderEntry → Type 0

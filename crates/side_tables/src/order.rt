@@ -115,12 +115,12 @@ fn set_reaches(entries: &mut [OrderEntry]) -> u32
 {
     let middle = entries.len() / 2;
     let (before, from) = entries.split_at_mut(middle);
-    let Some((entry, behind)) = from.split_first_mut() else {
+    let Some((entry, after)) = from.split_first_mut() else {
         return 0;
     };
     let reach = set_reaches(before)
         .max(entry.span.last)
-        .max(set_reaches(behind));
+        .max(set_reaches(after));
     entry.reach = reach;
     reach
 }

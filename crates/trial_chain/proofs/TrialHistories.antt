@@ -14,12 +14,12 @@ use Rattle.side_tables.specs.Spans.{names}
 use Rattle.packet_encode.specs.Deliveries.{arrivals}
 use Rattle.loss_player.specs.Gaps.{AreGapsShort}
 use Rattle.trial_chain.specs.Draws.{first_draw}
-use Rattle.trial_chain.specs.Trials.{input_behind, inverted_at, is_every, trial_copies, trial_flags, trial_history, trial_input, trial_inputs, trial_plan}
+use Rattle.trial_chain.specs.Trials.{next_input, inverted_at, is_every, trial_copies, trial_flags, trial_history, trial_input, trial_inputs, trial_plan}
 
 -- ---- inputs
 
-length-behind : (g : ℕ) (v : List Bool) → length (input_behind g v) ≡ length v
-length-behind g v = either (g % 4 == 0)
+length-next_input : (g : ℕ) (v : List Bool) → length (next_input g v) ≡ length v
+length-next_input g v = either (g % 4 == 0)
   where
     moved : List Bool
     moved = inverted_at v (length v - 1)
@@ -31,7 +31,7 @@ length-behind g v = either (g % 4 == 0)
 length-input : (seed f t : ℕ) → length (trial_input seed f t) ≡ f
 unfolding trial_input
 length-input seed f zero = length-replicate f false
-length-input seed f (suc t) = length-behind (first_draw seed t) (trial_input seed f t) ∙ length-input seed f t
+length-input seed f (suc t) = length-next_input (first_draw seed t) (trial_input seed f t) ∙ length-input seed f t
 
 pub length-inputs : (seed packets f : ℕ) → length (trial_inputs seed packets f) ≡ packets
 length-inputs seed packets f = length-map-range_with_len (trial_input seed f) 0 packets

@@ -26,15 +26,15 @@ abbrev pub inverted_at : List Bool → ℕ → List Bool
 inverted_at v place = slice_set v place (not (slice_index_or v place false))
 
 -- The input after an input: the last place is inverted, and after that, for one draw in four, the place that it says.
-abbrev pub input_behind : ℕ → List Bool → List Bool
-input_behind g v =
+abbrev pub next_input : ℕ → List Bool → List Bool
+next_input g v =
     let moved = inverted_at v (length v - 1) in
     if g % 4 == 0 then inverted_at moved (g / 4 % length v) else moved
 
 -- the input of the packet t
 unfoldable pub trial_input : ℕ → ℕ → ℕ → List Bool
 trial_input seed f zero = replicate f false
-trial_input seed f (suc t) = input_behind (first_draw seed t) (trial_input seed f t)
+trial_input seed f (suc t) = next_input (first_draw seed t) (trial_input seed f t)
 
 abbrev pub trial_inputs : ℕ → ℕ → ℕ → List (List Bool)
 trial_inputs seed packets f = map (trial_input seed f) (range_with_len 0 packets)

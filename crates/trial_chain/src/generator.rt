@@ -2,7 +2,7 @@
 
 ghost use Rattle.std.specs.Prelude.{◌≡◌, ◌<◌, ◌≤◌, length, replicate, false, IfOk};
 ghost use Rattle.trial_chain.specs.Draws.{next_number, drawn};
-ghost use Rattle.trial_chain.specs.Trials.{copies_by, inverted_at, input_behind};
+ghost use Rattle.trial_chain.specs.Trials.{copies_by, inverted_at, next_input};
 
 use bit_vectors::{Bits, NoMemory};
 use std::alloc::Global;
@@ -33,7 +33,7 @@ impl Generator {
     pub fn advance(&mut self) -> u8
         ensures number { self.new.number ≡ next_number (next_number self.old.number) }
         ensures input { self.new.input
-            ≡ input_behind (drawn (next_number self.old.number)) self.old.input }
+            ≡ next_input (drawn (next_number self.old.number)) self.old.input }
         ensures places { length self.new.input ≡ length self.old.input }
         ensures copies { result ≡ copies_by (drawn (next_number (next_number self.old.number))) }
         ensures most { result ≤ 2 }

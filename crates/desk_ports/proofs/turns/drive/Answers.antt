@@ -1,5 +1,5 @@
 use Rattle.std.proofs.Common.{refl, ◌∙◌}
-use Rattle.desk_ports.proofs.Steps.{Reaches-none, Advances-behind, Finishes-behind, AfterStop-behind, AreReady-ran}
+use Rattle.desk_ports.proofs.Steps.{Reaches-none, Advances-after, Finishes-after, AfterStop-after, AreReady-ran}
 use Rattle.desk_ports.proofs.turns.drive.Goals as goal
 
 pub turns-init : goal.turns-init
@@ -23,7 +23,7 @@ turns-preserved g c =
       owed = record { work = some.next; owed = some.owed };
       advances = λ work owed.
           let behind = kept.advances work owed in
-          Advances-behind work behind.next owes a b d behind.reaches (told.turned behind.next behind.owed);
+          Advances-after work behind.next owes a b d behind.reaches (told.turned behind.next behind.owed);
       ready = AreReady-ran g.R.Run.writes b d some.reaches.taken some.reaches.outputs.output some.reaches.outputs.report some.reaches.ran kept.ready;
       steady = told.cause ∙ kept.steady;
     }
@@ -35,7 +35,7 @@ returns-in-Ok-Done-clause-ran g c = λ work owed.
     let d = g.D.Desk.meaning c.turn.new.desk in
     let told = rw c.in-Ok-Done.field-0-is at c.in-Ok-Done.ensures in
     let behind = c.turns.invariant.advances work owed in
-    Finishes-behind work behind.next a b d c.in-Ok-Done.answer behind.reaches (told.turned behind.next behind.owed)
+    Finishes-after work behind.next a b d c.in-Ok-Done.answer behind.reaches (told.turned behind.next behind.owed)
 
 pub returns-in-Err-clause-ran : goal.returns-in-Err-clause-ran
 returns-in-Err-clause-ran g c = λ work owed.
@@ -43,4 +43,4 @@ returns-in-Err-clause-ran g c = λ work owed.
     let b = g.D.Desk.meaning c.turns.desk in
     let d = g.D.Desk.meaning c.turn.new.desk in
     let behind = c.turns.invariant.advances work owed in
-    AfterStop-behind work behind.next a b d (g.R.Run.stop_of c.in-Err.fault) behind.reaches (c.in-Err.ensures.turned behind.next behind.owed)
+    AfterStop-after work behind.next a b d (g.R.Run.stop_of c.in-Err.fault) behind.reaches (c.in-Err.ensures.turned behind.next behind.owed)

@@ -3,7 +3,7 @@ use Rattle.desk_ports.specs.declared.desk.Outlet.TheVariants as outlet
 use Rattle.desk_ports.specs.Meanings.{Adds, AddsFront}
 use Rattle.desk_ports.proofs.Transfers.{Adds-then, Adds-ready}
 use Rattle.loss_player.specs.Played.{repeated}
-use Rattle.loss_player.proofs.Copies.{AddsFront-behind, AddsFront-before, OnErr-always, repeated-more, repeated-then}
+use Rattle.loss_player.proofs.Copies.{AddsFront-after, AddsFront-before, OnErr-always, repeated-more, repeated-then}
 use Rattle.loss_player.proofs.playing.write_copies.Goals as goal
 
 pub loop-preserved : goal.loop-preserved
@@ -25,7 +25,7 @@ returns-in_err-write_all-clause-front g c =
     let b = g.D.Desk.meaning c.loop.desk in
     let d = g.D.Desk.meaning c.write_all.new.desk in
     let count : c.loop.counter + 1 + (c.args.times - c.loop.counter - 1) ≡ c.args.times = omega (arith, c.loop-test.true) in
-    let cut = AddsFront-behind a b d outlet.Main (repeated c.loop.counter c.args.packet.now) c.args.packet.now c.loop.invariant.added c.in_err-write_all.ensures.front in
+    let cut = AddsFront-after a b d outlet.Main (repeated c.loop.counter c.args.packet.now) c.args.packet.now c.loop.invariant.added c.in_err-write_all.ensures.front in
     let one = subst (AddsFront a d outlet.Main) (repeated-more c.loop.counter c.args.packet.now) cut in
     let all = AddsFront-before a d outlet.Main (repeated (c.loop.counter + 1) c.args.packet.now) (repeated (c.args.times - c.loop.counter - 1) c.args.packet.now) one in
     let joined = repeated-then (c.loop.counter + 1) (c.args.times - c.loop.counter - 1) c.args.packet.now ∙ ap (λ (k : ℕ). repeated k c.args.packet.now) count in

@@ -3,7 +3,7 @@ use Rattle.desk_ports.specs.declared.desk.Outlet.TheVariants as outlet
 use Rattle.desk_ports.specs.Meanings.{Adds, AddsFront}
 use Rattle.desk_ports.proofs.Transfers.{Adds-then}
 use Rattle.loss_player.specs.Report.{header_row, numbers_row, play_report}
-use Rattle.loss_player.proofs.Copies.{AddsFront-behind, AddsFront-before, OnErr-always, OnErr-then, OnOk-then}
+use Rattle.loss_player.proofs.Copies.{AddsFront-after, AddsFront-before, OnErr-always, OnErr-then, OnOk-then}
 use Rattle.loss_player.proofs.report.write_report.Goals as goal
 
 pub returns-in_err-write_all-clause-front : goal.returns-in_err-write_all-clause-front
@@ -31,4 +31,4 @@ returns-clause-front g c =
     let row = c.as_bytes-2.ensures ∙ c.numbers_row.ensures in
     let first = subst (Adds a b outlet.Report) c.as_bytes.ensures.value c.in_ok-write_all.ensures.added in
     OnErr-then c.write_all-2.result (AddsFront b d outlet.Report c.as_bytes-2.result.now) (AddsFront a d outlet.Report (play_report c.args.played.now))
-    (λ cut. AddsFront-behind a b d outlet.Report header_row (numbers_row c.args.played.now) first (subst (AddsFront b d outlet.Report) row cut)) c.write_all-2.ensures.front
+    (λ cut. AddsFront-after a b d outlet.Report header_row (numbers_row c.args.played.now) first (subst (AddsFront b d outlet.Report) row cut)) c.write_all-2.ensures.front

@@ -14,8 +14,8 @@ pub returns-clause-same : goal.returns-clause-same
 returns-clause-same t c =
     let split = c.split_at_mut-before.ensures in
     let some = c.in-Some.ensures.cases in
-    let all : c.args.entries.now ≡ c.split_at_mut-before.result.0.now ++ c.in-Some.entry.now ∷ c.in-Some.behind.now = split.value ∙ rw some.0 refl in
-    rw all (SameButReach-joined c.split_at_mut-before.result.0.now c.in-Some.behind.now c.set_reaches.new.entries c.set_reaches-2.new.entries c.in-Some.entry.now _
+    let all : c.args.entries.now ≡ c.split_at_mut-before.result.0.now ++ c.in-Some.entry.now ∷ c.in-Some.after.now = split.value ∙ rw some.0 refl in
+    rw all (SameButReach-joined c.split_at_mut-before.result.0.now c.in-Some.after.now c.set_reaches.new.entries c.set_reaches-2.new.entries c.in-Some.entry.now _
     c.set_reaches.ensures.same c.set_reaches-2.ensures.same (record { span = refl; place = refl }))
 
 pub returns-clause-reach : goal.returns-clause-reach

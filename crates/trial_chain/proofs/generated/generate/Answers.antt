@@ -6,7 +6,7 @@ use Rattle.side_tables.specs.declared.rows.CopyRow.{CopyRow}
 use Rattle.side_tables.specs.Rows.{IsCopyRow, copies_of}
 use Rattle.flight_chain.specs.Recordings.{recording_of}
 use Rattle.trial_chain.specs.Draws.{drawn, next_number, number_at}
-use Rattle.trial_chain.specs.Trials.{copies_by, input_behind, rows_for, trial_copies, trial_input, trial_inputs}
+use Rattle.trial_chain.specs.Trials.{copies_by, next_input, rows_for, trial_copies, trial_input, trial_inputs}
 use Rattle.trial_chain.proofs.Recordings.{recording-more}
 use Rattle.trial_chain.proofs.Scripts.{script-more, script-start}
 use Rattle.trial_chain.proofs.generated.generate.Goals as goal
@@ -31,7 +31,7 @@ pub packets-preserved : goal.packets-preserved
 unfolding number_at trial_input
 packets-preserved c =
     let i = c.packets.invariant in
-    let input = c.advance-copies.ensures.input ∙ λ k. input_behind (drawn (next_number (i.number k))) (i.input k) in
+    let input = c.advance-copies.ensures.input ∙ λ k. next_input (drawn (next_number (i.number k))) (i.input k) in
     let copies = c.advance-copies.ensures.copies ∙ ap (λ n. copies_by (drawn (next_number (next_number n)))) i.number in
     let t : c.packets.t + 1 ≡ suc (suc i.latest) = omega (arith, i.next) in
     let so : (s : ℕ) → copies_of c.packets.script.items s ≡ trial_copies c.args.seed (suc i.latest) s = λ s. i.script s ∙ ap (λ n. trial_copies c.args.seed n s) i.next in

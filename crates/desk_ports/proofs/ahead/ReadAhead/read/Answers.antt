@@ -3,7 +3,7 @@ use Rattle.std.proofs.lemmas.List.{with_items_is}
 use Rattle.desk_ports.specs.declared.desk.Inlet.TheVariants as inlet
 use Rattle.desk_ports.specs.Meanings.{Moves}
 use Rattle.desk_ports.proofs.Transfers.{Moves-none}
-use Rattle.desk_ports.proofs.ReadAheads.{read_behind}
+use Rattle.desk_ports.proofs.ReadAheads.{read_after}
 use Rattle.desk_ports.proofs.ahead.ReadAhead.read.Goals as goal
 
 pub returns-in_err-moved-clause-read : goal.returns-in_err-moved-clause-read
@@ -20,7 +20,7 @@ returns-in_err-moved-clause-read g c =
     let few : 0 ≤ length c.read.new.buf = omega arith in
     let long : k + length c.read.new.buf ≤ inside.room.len = search rules in
     let front = c.move_to_front.ensures.moved ∙ (ap (λ l. drop inside.next (take inside.filled l)) c.deref_mut.ensures.value ∙ c.self.view_is) in
-    let seen = read_behind inside.room.len k 0 k _ room c.deref_mut-2.result.now c.read.new.buf (omega arith) first within few long ∙ ap (λ l. l ++ []) front in
+    let seen = read_after inside.room.len k 0 k _ room c.deref_mut-2.result.now c.read.new.buf (omega arith) first within few long ∙ ap (λ l. l ++ []) front in
     let nothing : Moves (meaning c.args.desk.now) (meaning c.read.new.self) inlet.Main [] = subst (λ m. Moves (meaning c.args.desk.now) m inlet.Main []) (sym c.in_err-moved.ensures.unchanged) (Moves-none (meaning c.args.desk.now) inlet.Main) in
     record { bytes = []; joined = seen; moved = nothing }
 
@@ -38,5 +38,5 @@ returns-clause-read g c =
     let few : n ≤ length c.read.new.buf = search rules in
     let long : k + length c.read.new.buf ≤ inside.room.len = search rules in
     let front = c.move_to_front.ensures.moved ∙ (ap (λ l. drop inside.next (take inside.filled l)) c.deref_mut.ensures.value ∙ c.self.view_is) in
-    let seen = read_behind inside.room.len k n (k + n) _ room c.deref_mut-2.result.now c.read.new.buf refl first within few long ∙ ap (λ l. l ++ take n c.read.new.buf) front in
+    let seen = read_after inside.room.len k n (k + n) _ room c.deref_mut-2.result.now c.read.new.buf refl first within few long ∙ ap (λ l. l ++ take n c.read.new.buf) front in
     record { bytes = take n c.read.new.buf; joined = seen; moved = c.in_ok-moved.ensures.moved }

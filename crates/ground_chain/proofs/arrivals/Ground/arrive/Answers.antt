@@ -4,7 +4,7 @@ use Rattle.ground_chain.specs.declared.verdict.Verdict.{Verdict}
 use Rattle.ground_chain.specs.Numbers.{number_after, latest_after, expected}
 use Rattle.ground_chain.specs.Run.{Judged, Known, lost_from, kind_of, verdict_of}
 use Rattle.ground_chain.specs.Refusals.{IsExactVerdict}
-use Rattle.ground_chain.specs.Reception.{Reception, Shows, StandsFor, known_of, next_judged}
+use Rattle.ground_chain.specs.Reception.{Reception, AgreesWith, StandsFor, known_of, next_judged}
 use Rattle.ground_chain.proofs.Receptions.{judged_read, kept_read, judged_repeat, shows_read, shows_repeat, stands_next}
 use Rattle.bit_vectors.specs.Vectors.{bits_of}
 use Rattle.ground_chain.proofs.Told.{IsLater, number_later}
@@ -71,7 +71,7 @@ pub returns-in_default-clause-shows : goal.returns-in_default-clause-shows
 returns-in_default-clause-shows c =
     let old : Reception = record { latest = c.self.inside.numbers; decoder = c.self.inside.decoder } in
     let none : number_after c.self.inside.numbers c.args.count ≡ None = search rules in
-    subst (λ (r : Reception). Shows c.self.inside.decoder (next_judged r c.args.count c.args.bytes.now)) c.self.view_is (shows_repeat old c.args.count c.args.bytes.now none)
+    subst (λ (r : Reception). AgreesWith c.self.inside.decoder (next_judged r c.args.count c.args.bytes.now)) c.self.view_is (shows_repeat old c.args.count c.args.bytes.now none)
 
 pub returns-clause-shows : goal.returns-clause-shows
 returns-clause-shows c =
@@ -79,7 +79,7 @@ returns-clause-shows c =
     let number : number_after c.self.inside.numbers c.args.count ≡ Some c.in-Some.t = sym c.next.ensures.number ∙ c.in-Some.is in
     let state = ap (λ (k : Known). k.state) (returns-clause-known c) ∙ ap (λ (r : Reception). (next_judged r c.args.count c.args.bytes.now).after.state) (sym c.self.view_is) in
     let shows = shows_read old c.read.new.self c.in-Some.t c.args.bytes.now c.self.invariant.places c.read.ensures.written c.args.count number state in
-    subst (λ (r : Reception). Shows c.read.new.self (next_judged r c.args.count c.args.bytes.now)) c.self.view_is shows
+    subst (λ (r : Reception). AgreesWith c.read.new.self (next_judged r c.args.count c.args.bytes.now)) c.self.view_is shows
 
 pub invariant_of-self-2 : goal.invariant_of-self-2
 invariant_of-self-2 c =

@@ -3,7 +3,7 @@ use Rattle.desk_ports.specs.Meanings.{Meanings}
 use Rattle.desk_ports.specs.Courses.{AfterRun, by_stop, no_outputs}
 use Rattle.desk_ports.specs.Turns.{Reaches}
 use Rattle.desk_ports.proofs.Runs.{Ran-none}
-use Rattle.desk_ports.proofs.Steps.{AfterRun-behind, Reaches-wrote}
+use Rattle.desk_ports.proofs.Steps.{AfterRun-after, Reaches-wrote}
 use Rattle.ground_chain.specs.declared.listing.Listing.{Listing}
 use Rattle.ground_chain.specs.declared.receiving.Receiving.{Receiving}
 use Rattle.ground_chain.specs.Listing.{HasVectorRoom, listed_texts, listing_course, listing_work}
@@ -28,7 +28,7 @@ returns-clause-ran g c =
     let k = receiving_state s in
     let ran = c.drive.ensures.ran (rest_work listed_texts s) (Owes-unread listed_texts HasVectorRoom k.places k.apid s c.self.invariant) in
     subst (λ (r : RestorerState). AfterRun (listing_work r.places r.apid) a d (by_stop stop_by c.drive.result)) c.self.view_is
-    (AfterRun-behind (listing_work k.places k.apid) (rest_work listed_texts s) a a d (by_stop stop_by c.drive.result) (unread s a c.self.invariant) ran)
+    (AfterRun-after (listing_work k.places k.apid) (rest_work listed_texts s) a a d (by_stop stop_by c.drive.result) (unread s a c.self.invariant) ran)
 
 pub returns-clause-complete : goal.returns-clause-complete
 returns-clause-complete g c = λ h copies played few reads writes.

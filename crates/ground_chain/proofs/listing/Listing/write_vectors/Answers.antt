@@ -4,7 +4,7 @@ use Rattle.desk_ports.specs.Meanings.{Adds, AddsFront}
 use Rattle.packet_decode.specs.Decoding.{latest_content}
 use Rattle.ground_chain.specs.Listing.{known_with, mask_text, vector_digits, vectors_text}
 use Rattle.ground_chain.proofs.Writings.{OnErr-always, OnErr-map}
-use Rattle.ground_chain.proofs.LinePieces.{AddsFront-then, AddsFront-behind, vectors_text-pieces}
+use Rattle.ground_chain.proofs.LinePieces.{AddsFront-then, AddsFront-after, vectors_text-pieces}
 use Rattle.ground_chain.proofs.listing.Listing.write_vectors.Goals as goal
 
 pub returns-in_err-write_mask-clause-front : goal.returns-in_err-write_mask-clause-front
@@ -18,7 +18,7 @@ returns-in_err-write_mask-clause-front g c =
     let first = subst (λ x. Adds a b outlet.Main (vector_digits x ++ codes " ")) c.recent.ensures.recent c.in_ok-write_vector.ensures.added in
     let cut = c.in_err-write_mask.ensures.front in
     let rest = AddsFront-then b d outlet.Main (mask_text mask ++ codes " ") (vector_digits content ++ codes "\n") cut in
-    let all = AddsFront-behind a b d outlet.Main (vector_digits decoder.recent ++ codes " ") ((mask_text mask ++ codes " ") ++ (vector_digits content ++ codes "\n")) first rest in
+    let all = AddsFront-after a b d outlet.Main (vector_digits decoder.recent ++ codes " ") ((mask_text mask ++ codes " ") ++ (vector_digits content ++ codes "\n")) first rest in
     OnErr-always c.from_residual-in_err-write_mask.result (AddsFront a d outlet.Main (vectors_text decoder.recent mask content)) (subst (AddsFront a d outlet.Main) (vectors_text-pieces decoder.recent mask content) all)
 
 pub returns-clause-front : goal.returns-clause-front
@@ -34,7 +34,7 @@ returns-clause-front g c =
     let second = c.in_ok-write_mask.ensures.added in
     OnErr-map c.write_vector-2.result
     (λ cut. let third = subst (λ x. AddsFront d e outlet.Main (vector_digits x ++ codes "\n")) c.content.ensures.content cut in
-    let rest = AddsFront-behind b d e outlet.Main (mask_text mask ++ codes " ") (vector_digits content ++ codes "\n") second third in
-    let all = AddsFront-behind a b e outlet.Main (vector_digits decoder.recent ++ codes " ") ((mask_text mask ++ codes " ") ++ (vector_digits content ++ codes "\n")) first rest in
+    let rest = AddsFront-after b d e outlet.Main (mask_text mask ++ codes " ") (vector_digits content ++ codes "\n") second third in
+    let all = AddsFront-after a b e outlet.Main (vector_digits decoder.recent ++ codes " ") ((mask_text mask ++ codes " ") ++ (vector_digits content ++ codes "\n")) first rest in
     subst (AddsFront a e outlet.Main) (vectors_text-pieces decoder.recent mask content) all)
     c.write_vector-2.ensures.front

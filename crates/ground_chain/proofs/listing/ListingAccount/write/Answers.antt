@@ -8,7 +8,7 @@ use Rattle.desk_ports.proofs.Transfers.{Adds-ready, Adds-then}
 use Rattle.ground_chain.specs.declared.verdict.Verdict.{Verdict}
 use Rattle.ground_chain.specs.Listing.{front_line, judged_lines, listed_texts, shown_vectors}
 use Rattle.ground_chain.proofs.Writings.{OnErr-always, OnErr-map, OnOk-map}
-use Rattle.ground_chain.proofs.LinePieces.{AddsFront-behind, front_front, lines-are, shown-are}
+use Rattle.ground_chain.proofs.LinePieces.{AddsFront-after, front_front, lines-are, shown-are}
 use Rattle.ground_chain.proofs.listing.ListingAccount.write.Goals as goal
 
 pub write_all-requires : goal.write_all-requires
@@ -43,7 +43,7 @@ returns-clause-front g c = λ judged verdict shows.
     let lines = ap (λ (x : Verdict). shown_vectors x decoder) v ∙ shown-are judged decoder shows in
     OnErr-map c.write_own.result
     (λ cut. WroteFront-output a d (judged_lines judged) (subst (AddsFront a d outlet.Main) (lines-are judged decoder shows)
-    (AddsFront-behind a b d outlet.Main (front_line judged.verdict decoder.level) _ adds (subst (AddsFront b d outlet.Main) lines cut))))
+    (AddsFront-after a b d outlet.Main (front_line judged.verdict decoder.level) _ adds (subst (AddsFront b d outlet.Main) lines cut))))
     c.write_own.ensures.front
 
 pub returns-clause-wrote : goal.returns-clause-wrote

@@ -5,7 +5,7 @@ use Rattle.desk_ports.specs.Meanings.{Meanings, Adds, AddsFront, Counts}
 use Rattle.desk_ports.specs.Courses.{AfterRun, HasCause, IsCutShort, by_stop, to_report}
 use Rattle.desk_ports.specs.Turns.{Reaches, Steps}
 use Rattle.desk_ports.proofs.Runs.{Ran-notes}
-use Rattle.desk_ports.proofs.Steps.{AfterRun-behind, IsCutShort-wrote, Reaches-wrote, WroteFront-report}
+use Rattle.desk_ports.proofs.Steps.{AfterRun-after, IsCutShort-wrote, Reaches-wrote, WroteFront-report}
 use Rattle.mask_update.specs.Histories.{History}
 use Rattle.ground_chain.specs.declared.fault.RestoreFault.{RestoreFault}
 use Rattle.ground_chain.specs.declared.restored.Restored.{Restored}
@@ -48,7 +48,7 @@ returns-clause-ran g c =
     let s = c.self.inside.receiving in
     let k = receiving_state s in
     let ran = c.drive.ensures.ran (rest_work restored_texts s) (Owes-unread restored_texts HasContentRoom k.places k.apid s c.self.invariant) in
-    subst (λ (r : RestorerState). AfterRun (restore_work r.places r.apid) a d (by_stop stop_by c.drive.result)) c.self.view_is (AfterRun-behind (restore_work k.places k.apid) (rest_work restored_texts s) a b d (by_stop stop_by c.drive.result) (header s a b c.as_bytes.result.now c.self.invariant c.as_bytes.ensures.value c.in_ok-write_all.ensures.added) ran)
+    subst (λ (r : RestorerState). AfterRun (restore_work r.places r.apid) a d (by_stop stop_by c.drive.result)) c.self.view_is (AfterRun-after (restore_work k.places k.apid) (rest_work restored_texts s) a b d (by_stop stop_by c.drive.result) (header s a b c.as_bytes.result.now c.self.invariant c.as_bytes.ensures.value c.in_ok-write_all.ensures.added) ran)
 
 delivered : (f apid : ℕ) (h : History) (copies : ℕ → ℕ) (a b : Meanings) (result : Result Restored RestoreFault) → IsPlayed f apid h copies a → AfterRun (restore_work f apid) a b (by_stop stop_by result)
     → IfOk result (λ restored. IsDelivered h copies restored a b)
