@@ -45,7 +45,7 @@ Reads-passed {A = A} texts s reader a b given takes other =
       goes_on = record {
         before = λ packets. ap (all_parts texts) (run packets);
         answer = λ packets. ap (λ (l : List Judged). added s.restored (restored_of l)) (run packets);
-        last = refl;
+        after = λ packets. ap (λ (l : List Judged). texts.last (added s.restored (restored_of l))) (run packets);
       };
     }
 
@@ -81,13 +81,13 @@ Reads-judged texts s t reader a b given takes own is =
       goes_on = record {
         before = λ packets. judged_parts texts s t reader a b given takes own is packets;
         answer = λ packets. judged_numbers texts s t reader a b given takes own is packets;
-        last = refl;
+        after = λ packets. ap texts.last (judged_numbers texts s t reader a b given takes own is packets);
       };
     })
 
--- if nothing is left, the numbers are those so far
-pub IsDone-received : {A : Type 0} (texts : Texts) (s : Receiving A) → IsDone (left_to_receive texts s) s.restored
-IsDone-received texts s = record { nothing = refl; answer_is = added-none s.restored }
+-- if nothing is left, the last part of the numbers so far is owed
+pub IsDone-received : {A : Type 0} (texts : Texts) (s : Receiving A) → IsDone (left_to_receive texts s) (texts.last s.restored) s.restored
+IsDone-received texts s = record { nothing = refl; last_is = ap texts.last (added-none s.restored); answer_is = added-none s.restored }
 
 -- after a packet the rest of the store is still to be received
 pub Owes-next : {A : Type 0} (texts : Texts) (has_room : A → ℕ → Type 0) (s t : Receiving A) (reader : ReaderState) (a b : Meanings) (given : Taken) (work : Work Restored WalkFault) → Owes texts has_room s work → Takes s.reader reader a b given → t.reader ≡ reader → IsReceiving has_room t → Owes texts has_room t (rest_work texts t)

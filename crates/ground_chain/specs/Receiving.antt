@@ -39,7 +39,7 @@ abbrev pub left_to_receive : {A : Type 0} → Texts → Receiving A → StoreWor
 left_to_receive texts s = record {
   before = λ packets. all_parts texts (rest_run s packets);
   answer = λ packets. added s.restored (restored_of (rest_run s packets));
-  last = texts.last;
+  after = λ packets. texts.last (added s.restored (restored_of (rest_run s packets)));
 }
 
 -- the work of receiving what is left of the store
