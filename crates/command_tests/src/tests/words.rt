@@ -1,7 +1,7 @@
 //! Words, and what is answered to them at a desk with nothing or with empty inputs.
 
 use super::desk::{answer, assert_ending, hold, refused, words_alone};
-use crate::{Refusal, Status};
+use pocket_cmd::{Refusal, Status};
 use desk_ports::MemDesk;
 use std::alloc::Global;
 use std::test::Fail;

@@ -1,7 +1,7 @@
 //! Worked recordings with their stores, and recordings that are refused.
 
 use super::desk::{Case, Ending, assert_both, bytes_of, done, refused, with_both};
-use crate::Refusal;
+use pocket_cmd::Refusal;
 use std::test::Fail;
 
 /// The words, the text of the schedule, a recording in hexadecimal, what is wrong with it, and the store of its packets up

@@ -2,7 +2,7 @@
 
 use super::desk::{HEADER, answer, hold, joined};
 use super::samples::PLAY_HEADER;
-use crate::Status;
+use pocket_cmd::Status;
 use desk_ports::MemDesk;
 use std::alloc::Global;
 use std::process::Abort;

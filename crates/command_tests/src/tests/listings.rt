@@ -2,7 +2,7 @@
 
 use super::desk::{LIST, assert_both, bytes_of, done, refused, with_input};
 use super::samples::{FIRST, LISTING, PLAYED};
-use crate::Refusal;
+use pocket_cmd::Refusal;
 use packet_store::StoreKind;
 use std::test::Fail;
 

@@ -1,6 +1,6 @@
 //! The texts of the refusals, and the exit numbers.
 
-use crate::{Refusal, Status, exit_code};
+use pocket_cmd::{Refusal, Status, exit_code};
 use packet_store::StoreKind;
 use std::test::Fail;
 

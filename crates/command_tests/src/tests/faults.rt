@@ -6,7 +6,7 @@ use super::desk::{
 };
 use super::samples::{LISTING, PLAY_REPORT, PLAYED, RECORDING, REPORT, RESTORED, STORE};
 use super::trials::{SUMMARY, THREE};
-use crate::Refusal;
+use pocket_cmd::Refusal;
 use desk_ports::Call;
 use packet_store::StoreKind;
 use std::process::Abort;

@@ -4,7 +4,7 @@ use super::desk::{
     BY_SCRIPT, Ending, assert_ending, bytes_of, bytes_of_all, done, joined, refused, with_both,
 };
 use super::samples::{FIRST, FOURTH, PLAY_HEADER, SECOND, THIRD};
-use crate::Refusal;
+use pocket_cmd::Refusal;
 use packet_store::StoreKind;
 use std::alloc::{AllocError, Global};
 use std::test::Fail;

@@ -1,7 +1,7 @@
 //! Worked stores, in whole reads and writes and in those of one byte.
 
 use super::desk::{EIGHT_BITS, HEADER, assert_both, bytes_of, done, refused, with_input};
-use crate::Refusal;
+use pocket_cmd::Refusal;
 use packet_store::StoreKind;
 use std::test::Fail;
 

@@ -1,7 +1,7 @@
 //! A rehearsal over a quiet desk, which finds its memory.
 
 use super::desk::words_of;
-use crate::{Status, rehearse};
+use pocket_cmd::{Status, rehearse};
 use desk_ports::QuietDesk;
 use std::alloc::{AllocError, Global};
 use std::process::Abort;

@@ -1,6 +1,6 @@
 //! A run over a desk in memory, and what it leaves there.
 
-use crate::{Refusal, Status, pocket};
+use pocket_cmd::{Refusal, Status, pocket};
 use bit_vectors::NoMemory;
 use desk_ports::{Call, MemDesk, Outlet};
 use std::alloc::{AllocError, Global};

@@ -2,7 +2,7 @@
 
 use super::desk::{BY_SCRIPT, Case, assert_ending, bytes_of, done, refused, with_both};
 use super::samples::{PLAY_REPORT, PLAYED, STORE};
-use crate::Refusal;
+use pocket_cmd::Refusal;
 use desk_ports::Call;
 use std::process::Abort;
 use std::test::Fail;

@@ -1,7 +1,7 @@
 //! Trials: a worked one, and many of which the summary is compared with what the trial holds.
 
 use super::desk::{answer, assert_both, done, words_alone};
-use crate::Status;
+use pocket_cmd::Status;
 use desk_ports::{MemDesk, Outlet};
 use std::alloc::Global;
 use std::process::Abort;
