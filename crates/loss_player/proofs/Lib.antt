@@ -1,5 +1,5 @@
-mod Tallies
-mod Copies
+pub mod Tallies
+pub mod Copies
 mod PlayCourses
 mod PlayedPackets
 mod Gaps
