@@ -15,7 +15,7 @@ pub mod Receptions
 pub mod Reckonings
 mod FirstWrong
 mod TakenOut
-mod Writings
+pub mod Writings
 mod LinePieces
 pub mod RestCourses
 pub mod PlayedHistories

@@ -3,8 +3,9 @@ use Rattle.std.specs.Option.{option_eq}
 use Rattle.std.proofs.lemmas.Result.{on_err_weaker}
 use Rattle.desk_ports.specs.declared.desk.Outlet.TheVariants as outlet
 use Rattle.desk_ports.specs.Meanings.{Adds, AddsFront}
+use Rattle.desk_ports.proofs.Transfers.{AddsFront-after}
 use Rattle.ground_chain.specs.Listing.{mask_text, known_with}
-use Rattle.ground_chain.proofs.LinePieces.{AddsFront-after, not_known}
+use Rattle.ground_chain.proofs.LinePieces.{not_known}
 use Rattle.ground_chain.proofs.listing.Listing.write_mask.Goals as goal
 
 pub returns-clause-front : goal.returns-clause-front

@@ -2,8 +2,8 @@ use Rattle.std.proofs.Common.{◌∙◌, subst}
 use Rattle.std.proofs.lemmas.Result.{on_err_weaker}
 use Rattle.desk_ports.specs.declared.desk.Outlet.TheVariants as outlet
 use Rattle.desk_ports.specs.Meanings.{Adds, AddsFront}
+use Rattle.desk_ports.proofs.Transfers.{AddsFront-after}
 use Rattle.ground_chain.specs.Listing.{vector_digits}
-use Rattle.ground_chain.proofs.LinePieces.{AddsFront-after}
 use Rattle.ground_chain.proofs.listing.Listing.write_vector.Goals as goal
 
 pub returns-clause-front : goal.returns-clause-front

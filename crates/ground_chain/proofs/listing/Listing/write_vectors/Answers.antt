@@ -2,10 +2,10 @@ use Rattle.std.proofs.Common.{codes, ◌++◌, subst}
 use Rattle.std.proofs.lemmas.Result.{on_err_weaker}
 use Rattle.desk_ports.specs.declared.desk.Outlet.TheVariants as outlet
 use Rattle.desk_ports.specs.Meanings.{Adds, AddsFront}
+use Rattle.desk_ports.proofs.Transfers.{AddsFront-after, AddsFront-then, OnErr-always}
 use Rattle.packet_decode.specs.Decoding.{latest_content}
 use Rattle.ground_chain.specs.Listing.{known_with, mask_text, vector_digits, vectors_text}
-use Rattle.ground_chain.proofs.Writings.{OnErr-always}
-use Rattle.ground_chain.proofs.LinePieces.{AddsFront-then, AddsFront-after, vectors_text-pieces}
+use Rattle.ground_chain.proofs.LinePieces.{vectors_text-pieces}
 use Rattle.ground_chain.proofs.listing.Listing.write_vectors.Goals as goal
 
 pub returns-in_err-write_mask-clause-front : goal.returns-in_err-write_mask-clause-front

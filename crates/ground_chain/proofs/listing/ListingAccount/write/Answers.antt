@@ -5,11 +5,10 @@ use Rattle.desk_ports.specs.Meanings.{Adds, AddsFront}
 use Rattle.desk_ports.specs.Turns.{WroteFront}
 use Rattle.desk_ports.proofs.Runs.{Ran-adds}
 use Rattle.desk_ports.proofs.Steps.{WroteFront-output}
-use Rattle.desk_ports.proofs.Transfers.{Adds-ready, Adds-then}
+use Rattle.desk_ports.proofs.Transfers.{Adds-ready, Adds-then, AddsFront-after, OnErr-always}
 use Rattle.ground_chain.specs.declared.verdict.Verdict.{Verdict}
 use Rattle.ground_chain.specs.Listing.{front_line, judged_lines, listed_texts, shown_vectors}
-use Rattle.ground_chain.proofs.Writings.{OnErr-always}
-use Rattle.ground_chain.proofs.LinePieces.{AddsFront-after, front_front, lines-are, shown-are}
+use Rattle.ground_chain.proofs.LinePieces.{front_front, lines-are, shown-are}
 use Rattle.ground_chain.proofs.listing.ListingAccount.write.Goals as goal
 
 pub write_all-requires : goal.write_all-requires
