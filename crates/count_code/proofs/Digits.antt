@@ -58,6 +58,11 @@ pub digits_of : (n : ℕ) → 0 < n → (k : ℕ) × (digits n ≡ k + 1) × Has
 unfolding digits
 digits_of n some = halvings_bounds n n some (omega arith)
 
+-- a greater number has no fewer digits
+pub digits_grow : (m n j k : ℕ) → HasDigits m j → HasDigits n k → m ≤ n → j ≤ k
+digits_grow m n j k p q le =
+    elim (cases_lt k j) [ inl lt ↦ absurd (omega (arith, p.low, q.high, power_le (k + 1) j (omega arith))) | inr ge ↦ ge ]
+
 -- the numbers of long words
 pub digits_long : (n k : ℕ) → HasDigits n k → 32 ≤ n → 5 ≤ k
 digits_long n k h le =

@@ -2,4 +2,4 @@ pub mod Digits
 pub mod CountWords
 pub mod Steps
 pub mod ExactCounts
-mod LeastCounts
+pub mod LeastCounts

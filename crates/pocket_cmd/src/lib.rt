@@ -22,6 +22,3 @@ pub use packet_store::StoreKind;
 pub use rehearsal::rehearse;
 pub use status::{Refusal, Status, exit_code};
 pub use top::pocket;
-
-#[cfg(test)]
-mod tests;

@@ -1,15 +1,14 @@
 -- The marks of the latest sixteen steps, and the changes that are marked.
 use Rattle.std.proofs.Common.{◌≡◌, ℕ, zero, suc, ◌+◌, ◌-◌, ◌*◌, ◌/◌, ◌%◌, ◌^◌, ◌<◌, ◌≤◌, Bool, true, false, cond, eqb, if◌then◌else◌, List, [], ◌∷◌, ◌++◌, length, drop, replicate, get_or, bit_or, count_ones, w16, refl, sym, ap, ◌∙◌, inl, inr, arith, add-one, subst}
 use Rattle.std.specs.Prelude.{Contains, IsTrue, not, ◌↔◌}
-use Rattle.std.specs.Bool.{OnFalse, OnTrue}
+use Rattle.std.specs.Bool.{OnFalse}
 use Rattle.std.specs.Int.{bit_at, trailing_zeros}
 use Rattle.std.specs.Int.Count.{trailing_of_zero}
 use Rattle.std.specs.List.{count_by, range_with_len}
 use Rattle.std.proofs.lemmas.Bool.{cases_eq}
-use Rattle.std.proofs.lemmas.Grind.{common_steps}
 use Rattle.std.proofs.lemmas.List.{length-drop}
 use Rattle.std.proofs.lemmas.Nat.{or_shifted, ones_cat, mod_low, mod-pow-add, mod_below, pow_pos, shr_high, shr_le}
-use Rattle.std.proofs.lemmas.Nat.Bits.{bit_at_cat_high, bit_at-zero, bit_at-lt, bit_at-trailing_zeros}
+use Rattle.std.proofs.lemmas.Nat.Bits.{bit_at_cat_high, bit_at-zero, bit_at-lt, bit_at-trailing_zeros, same_from_bits_below}
 use Rattle.bit_vectors.specs.Vectors.{number_bits}
 use Rattle.bit_vectors.proofs.NumberBits.{length-number_bits, get_or-number_bits}
 use Rattle.bit_vectors.proofs.Numbers.{bit_at_mod, bit_at_shr, number_bits-cat, number_bits-mod}
@@ -124,12 +123,24 @@ clear-shifted n count le none back lt =
     ∙ (ap (λ (m : ℕ). bit_at m (back + k)) low ∙ bit_at-zero (back + k)))) in
     ap (λ (b : ℕ). eqb b 1) bit
 
-on_true : (b : Bool) (P : Type 0) → (b ≡ true → P) → OnTrue b P
-on_true true P given = given refl
-on_true false P given = tt
+-- a bit that is not 1 is 0
+no_bit : (b : ℕ) → b < 2 → eqb b 1 ≡ false → b ≡ 0
+no_bit zero lt unset = refl
+no_bit (suc zero) lt unset = let other : true ≡ false = unset in cc
+no_bit (suc (suc b)) lt unset = absurd (omega arith)
 
-pub on_zero : (n : ℕ) (P : Type 0) → (n ≡ 0 → P) → OnTrue (eqb n 0) P
-on_zero n P given = on_true (eqb n 0) P (λ same. given (grind (arith, common_steps)))
+-- and if none of them is set, it leaves nothing
+pub shifted-clear : (n count : ℕ) → count ≤ 16 → AreClear n count → n * 2 ^ (16 - count) % 65536 ≡ 0
+shifted-clear n count le clear =
+    let parts : 16 ≡ count + (16 - count) = omega arith in
+    let low : n % 2 ^ count ≡ 0 = same_from_bits_below count (n % 2 ^ count) 0 (mod_below n (2 ^ count) (pow_pos count)) (pow_pos count) (λ back lt.
+    let unset : eqb (bit_at n back) 1 ≡ false = clear back lt in
+    bit_at_mod n count back lt ∙ no_bit (bit_at n back) (bit_at-lt n back) unset ∙ sym (bit_at-zero back)) in
+    let none : 0 * 2 ^ (16 - count) + 0 ≡ 0 = omega arith in
+    ap (λ (j : ℕ). n * 2 ^ (16 - count) % 2 ^ j) parts
+    ∙ low_shifted n count (16 - count)
+    ∙ ap (λ (m : ℕ). m * 2 ^ (16 - count) + 0) low
+    ∙ none
 
 -- ---- what is marked
 

@@ -1,7 +1,6 @@
 //! Marks of the latest sixteen steps: the bits of a number, with the latest step in the lowest bit.
 
-ghost use Rattle.std.specs.Prelude.{◌≡◌, ℕ, ◌+◌, ◌<◌, ◌≤◌, nat_le, false, true, [], ◌∷◌, ◌++◌, drop, max, count_by};
-ghost use Rattle.std.specs.Bool.{OnTrue};
+ghost use Rattle.std.specs.Prelude.{◌≡◌, ℕ, ◌+◌, ◌<◌, ◌≤◌, ◌↔◌, IsTrue, nat_le, false, true, [], ◌∷◌, ◌++◌, drop, max, count_by};
 ghost use Rattle.std.specs.List.{range_with_len};
 ghost use Rattle.robust_window.specs.Window.{AreClear, mark_back, marks_of, new_mask_back};
 
@@ -24,7 +23,7 @@ pub(crate) fn is_set(marks: u16, back: u8) -> bool
 pub(crate) fn are_clear(marks: u16, count: u8) -> bool
     requires some { 1 ≤ count }
     requires most { count ≤ 16 }
-    ensures { OnTrue result (AreClear marks count) }
+    ensures { IsTrue result ↔ AreClear marks count }
 {
     marks << (16 - count) == 0
 }

@@ -3,7 +3,7 @@
 ghost use Rattle.std.specs.Prelude.{◌≡◌, ◌+◌, ◌-◌, ◌<◌, ◌≤◌, List, [], ◌∷◌, ◌++◌, length, replicate, true, false, Contains, IfOk};
 ghost use Rattle.std.specs.Bool.{OnFalse, OnTrue};
 ghost use Rattle.robust_window.specs.Changes.{MaskStep, latest_change, level_of, mask_step, recent_of, twice_of};
-ghost use Rattle.robust_window.specs.Window.{StandsFor, change_back};
+ghost use Rattle.robust_window.specs.Window.{StandsFor};
 
 use crate::{marks, scan};
 use bit_vectors::{Bits, NoMemory};
@@ -55,7 +55,7 @@ impl Window {
         requires some { 1 ≤ f }
         requires most { f ≤ 49152 }
         ensures stands { IfOk result (λ window. StandsFor [] window) }
-        ensures places { IfOk result (λ window. length window.recent ≡ f) }
+        ensures recent { IfOk result (λ window. window.recent ≡ replicate f false) }
         ensures taken { IfOk result (λ window. window.taken ≡ 0) }
     {
         Ok(Window {
@@ -152,7 +152,6 @@ impl Window {
         requires taken { back < self.now.taken }
         ensures change { (steps : List MaskStep) → StandsFor steps self.now
             → result.now ≡ (mask_step steps (latest_change steps - back)).change }
-        ensures kept { result.now ≡ change_back self.now.changes back }
         ensures places { length result.now ≡ length self.now.recent }
     {
         if marks::is_set(self.changed, back) {

@@ -11,3 +11,4 @@ pub mod Spreading
 mod Upward
 mod OnesLeft
 mod ShortEndings
+mod RunFronts

@@ -13,7 +13,7 @@ use Rattle.run_code.proofs.InverseBits.{a_word}
 
 -- ---- words from places
 
-runs_end : (place : ℕ) (places : List ℕ) → runs_from place places ≡ counts_from place places ++ end_bits
+pub runs_end : (place : ℕ) (places : List ℕ) → runs_from place places ≡ counts_from place places ++ end_bits
 unfolding runs_from counts_from
 runs_end place [] = refl
 runs_end place (next ∷ places) =
@@ -88,20 +88,23 @@ lowest_most place (suc n) v le =
       | inr none ↦ rw none (lowest_most place n v (omega (arith, le)))
     ]
 
-pub run_further : (v : List Bool) (a : ℕ) → 1 ≤ a → a ≤ lowest_of v → run_bits (set v (lowest_of v - a) true) ≡ counts_of v ++ (count_bits a ++ end_bits)
-unfolding run_bits
-run_further v a some le =
+-- below the lowest 1 one more place comes last
+pub places_further : (v : List Bool) (p : ℕ) → p < lowest_of v → places_down (set v p true) ≡ places_down v ++ p ∷ []
+places_further v p lt =
     let low : lowest_from (length v) (ones_below (length v) v) ≡ lowest_of v = ap (lowest_from (length v)) (sym (places_down_is v)) in
     let top : lowest_from (length v) (ones_below (length v) v) ≤ length v = lowest_most (length v) (length v) v (omega arith) in
     let none : NoneIsOne v 0 (lowest_of v) = rw low at (none_lowest (length v) v) in
-    let places : length (set v (lowest_of v - a) true) ≡ length v = length-set v (lowest_of v - a) true in
-    let within : lowest_of v - a < length v = omega (arith, low, top, some, le) in
-    let down : places_down (set v (lowest_of v - a) true) ≡ places_down v ++ (lowest_of v - a) ∷ [] =
-    places_down_is (set v (lowest_of v - a) true) ∙ ap (λ (n : ℕ). ones_below n (set v (lowest_of v - a) true)) places
-    ∙ set_below (length v) v (lowest_of v - a) within within (λ k from to. none k from (omega (arith, to, some, le)))
-    ∙ ap (λ (l : List ℕ). l ++ (lowest_of v - a) ∷ []) (sym (places_down_is v)) in
+    let within : p < length v = omega (arith, low, top, lt) in
+    places_down_is (set v p true) ∙ ap (λ (n : ℕ). ones_below n (set v p true)) (length-set v p true)
+    ∙ set_below (length v) v p within within (λ k from to. none k from (omega (arith, to, lt)))
+    ∙ ap (λ (l : List ℕ). l ++ p ∷ []) (sym (places_down_is v))
+
+pub run_further : (v : List Bool) (a : ℕ) → 1 ≤ a → a ≤ lowest_of v → run_bits (set v (lowest_of v - a) true) ≡ counts_of v ++ (count_bits a ++ end_bits)
+unfolding run_bits
+run_further v a some le =
     let back : lowest_of v - (lowest_of v - a) ≡ a = omega (arith, le) in
-    ap (λ (n : ℕ). runs_from n (places_down (set v (lowest_of v - a) true))) places ∙ ap (runs_from (length v)) down
+    ap (λ (n : ℕ). runs_from n (places_down (set v (lowest_of v - a) true))) (length-set v (lowest_of v - a) true)
+    ∙ ap (runs_from (length v)) (places_further v (lowest_of v - a) (omega (arith, some, le)))
     ∙ runs_further (length v) (places_down v) (lowest_of v - a)
     ∙ ap (λ (n : ℕ). counts_of v ++ (count_bits n ++ end_bits)) back
 

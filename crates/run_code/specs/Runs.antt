@@ -1,11 +1,11 @@
 -- The word of a vector's runs (CCSDS 124.0-B-1): for each 1, from the highest place down, the count of places from the
 -- 1 before it, and then the end of the counts. The first is counted from the number of places.
-use Rattle.std.specs.Prelude.{◌≡◌, ℕ, zero, suc, ◌-◌, Bool, true, false, List, [], ◌∷◌, ◌++◌, length, replicate, slice_set}
+use Rattle.std.specs.Prelude.{◌≡◌, ℕ, zero, suc, ◌-◌, ◌⊎◌, Bool, true, false, List, [], ◌∷◌, ◌++◌, length, replicate, slice_set}
 use Rattle.bit_vectors.specs.Reading.{Parsed, Read, TooShort, ◌>>=◌}
 use Rattle.count_code.specs.declared.count.Count.{Count}
 use Rattle.count_code.specs.declared.count.Count.TheVariants.{Value, End}
 use Rattle.count_code.specs.Code.{count_bits, end_bits}
-use Rattle.count_code.specs.Counts.{parse_count}
+use Rattle.count_code.specs.Counts.{IsBegunBy, IsLeastWithin, parse_count}
 use Rattle.run_code.specs.Places.{places_down}
 
 -- the counts from a place down to the first of these, and from each to the next, and the end
@@ -39,6 +39,17 @@ IsRunWordOf f v word = (length v ≡ f) × (word ≡ run_bits v)
 
 abbrev pub IsRunWord : ℕ → List Bool → Type 0
 IsRunWord f word = (v : List Bool) × IsRunWordOf f v word
+
+-- ---- completions
+
+-- The bits are the counts of a vector with the given number of places, and then some that begin the end, or that begin a
+-- count, the least of which is within the place of the lowest 1.
+pub record IsRunFront (f : ℕ) (bits : List Bool) : Type 0 where
+  pub vector : List Bool
+  pub places : length vector ≡ f
+  pub front : List Bool
+  pub parts : bits ≡ counts_of vector ++ front
+  pub next : IsBegunBy front End ⊎ IsLeastWithin (lowest_of vector) front
 
 -- ---- reading
 

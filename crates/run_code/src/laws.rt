@@ -1,14 +1,17 @@
 //! What the definitions of places, run words, extraction and edges mean.
 
-ghost use Rattle.std.specs.Prelude.{◌≡◌, ◌≢◌, ℕ, ◌+◌, ◌-◌, ◌*◌, ◌<◌, ◌≤◌, ◌↔◌, ◌++◌, Bool, true, false, not, if◌then◌else◌, List, [], ◌∷◌, length, count_by, replicate, slice_index_or, slice_set, Contains};
+ghost use Rattle.std.specs.Prelude.{◌≡◌, ◌≢◌, ℕ, ◌+◌, ◌-◌, ◌*◌, ◌<◌, ◌≤◌, ◌↔◌, ◌⊎◌, ◌++◌, Bool, true, false, not, if◌then◌else◌, List, [], ◌∷◌, length, count_by, replicate, slice_index_or, slice_set, Contains};
 ghost use Rattle.std.specs.List.Sorted.{IsStrictlyIncreasing};
-ghost use Rattle.bit_vectors.specs.Reading.{IsExact};
+ghost use Rattle.bit_vectors.specs.Reading.{CanBegin, IsExact};
 ghost use Rattle.bit_vectors.specs.Vectors.{IsOne, without_bits};
 ghost use Rattle.count_code.specs.Code.{count_bits, end_bits};
+ghost use Rattle.count_code.specs.Counts.{IsBegunBy, IsCount, IsLeastWithin};
 ghost use Rattle.run_code.specs.Places.{places_up};
-ghost use Rattle.run_code.specs.Runs.{IsRunWordOf, counts_of, lowest_of, parse_vector, run_bits};
+ghost use Rattle.run_code.specs.Runs.{IsRunFront, IsRunWord, IsRunWordOf, counts_of, lowest_of, parse_vector, run_bits};
 ghost use Rattle.run_code.specs.Extraction.{IsInverseWord, SameOutside, bits_up, extract, inverse_up, parse_inverse};
 ghost use Rattle.run_code.specs.Edges.{edges};
+
+use count_code::Count;
 
 /// The places of a vector's ones are those at which it is 1, in order, and as many as it has ones.
 pub fn places_of_ones()
@@ -28,14 +31,26 @@ pub fn run_words()
 {}
 
 /// Reading run words is exact: before the first wrong bit, and if the bits end early, the run word of some vector begins
-/// with the bits read. The shortest ending is that of the counts read so far, at once (`ended`), or after one more count
-/// within the limit, which is the place of the lowest one so far (`further`).
+/// with the bits read. The counts read so far can end at once (`ended`), or after one more count within the limit, which
+/// is the place of the lowest 1 so far (`further`).
 pub fn run_words_are_completed()
     ensures exact { (f : ℕ) → IsExact (IsRunWordOf f) (parse_vector f) }
     ensures ended { (v : List Bool) → run_bits v ≡ counts_of v ++ end_bits }
     ensures further { (v : List Bool) (a : ℕ) → 1 ≤ a → a ≤ lowest_of v →
         run_bits (slice_set v (lowest_of v - a) true)
         ≡ counts_of v ++ (count_bits a ++ end_bits) }
+    // Which bits begin a run word; and after the counts of a vector, which bits in the middle of a count can go on.
+    ensures fronts { (f : ℕ) (bits : List Bool) → CanBegin (IsRunWord f) bits ↔ IsRunFront f bits }
+    ensures next { (v front : List Bool) (count : Count) → IsCount count → IsBegunBy front count →
+        CanBegin (IsRunWord (length v)) (counts_of v ++ front)
+        ↔ (IsBegunBy front Count.End ⊎ IsLeastWithin (lowest_of v) front) }
+    // No ending is shorter than at once; and in the middle of a count, none is shorter than after the least count.
+    ensures shortest_ended { (v w rest : List Bool) → length w ≡ length v
+        → run_bits w ≡ counts_of v ++ rest → length (run_bits v) ≤ length (run_bits w) }
+    ensures shortest_further { (v w front rest : List Bool)
+        (next : IsLeastWithin (lowest_of v) front) → (IsBegunBy front Count.End → ⊥)
+        → length w ≡ length v → run_bits w ≡ counts_of v ++ (front ++ rest) →
+        length (run_bits (slice_set v (lowest_of v - next.least) true)) ≤ length (run_bits w) }
 {}
 
 /// Reading directions is exact: if there are fewer bits than ones, they can still be completed, by zeros and a 1 in

@@ -17,7 +17,7 @@ returns-then-are_clear-clause-recent c =
     let slots = c.args.changes.now.items in
     OnTrue_at c.if-quiet.true c.requires.quiet
     ∙ gathered-zeros f (changes_of f c.args.marks slots) c.args.count
-    (λ back lt. changes_of-quiet f c.args.marks slots back c.requires.full (omega (arith, lt, c.requires.most)) (OnTrue_at c.if-are_clear.true c.are_clear.ensures back lt))
+    (λ back lt. changes_of-quiet f c.args.marks slots back c.requires.full (omega (arith, lt, c.requires.most)) (c.are_clear.ensures.0 c.if-are_clear.true back lt))
 
 pub loop-back-init : goal.loop-back-init
 loop-back-init c =

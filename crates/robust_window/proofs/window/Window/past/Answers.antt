@@ -4,25 +4,21 @@ use Rattle.robust_window.proofs.Marking.{changes_of-marked, changes_of-quiet}
 use Rattle.robust_window.proofs.window.Window.past.Goals as goal
 
 -- the slot is marked
-pub returns-then-is_set-clause-kept : goal.returns-then-is_set-clause-kept
-returns-then-is_set-clause-kept c =
+pub returns-then-is_set-clause-change : goal.returns-then-is_set-clause-change
+returns-then-is_set-clause-change c = λ steps stands.
     let inside = c.self.inside in
     let back = c.args.back in
     c.change_back.ensures
     ∙ (sym (changes_of-marked (length inside.recent) inside.changed inside.changes.items back c.self.invariant.slots (omega (arith, c.requires.most)) (sym c.is_set.ensures ∙ c.if-is_set.true))
     ∙ ap (λ (k : WindowState). change_back k.changes back) c.self.view_is)
-
-pub returns-then-is_set-clause-change : goal.returns-then-is_set-clause-change
-returns-then-is_set-clause-change c = λ steps stands. returns-then-is_set-clause-kept c ∙ stands.changes.same c.args.back (omega (arith, c.requires.most)) (omega (arith, c.requires.taken, stands.taken))
+    ∙ stands.changes.same back (omega (arith, c.requires.most)) (omega (arith, c.requires.taken, stands.taken))
 
 -- it is not, and stands for zeros
-pub returns-else-is_set-clause-kept : goal.returns-else-is_set-clause-kept
-returns-else-is_set-clause-kept c =
+pub returns-else-is_set-clause-change : goal.returns-else-is_set-clause-change
+returns-else-is_set-clause-change c = λ steps stands.
     let inside = c.self.inside in
     let back = c.args.back in
     c.self.invariant.zeros_are
     ∙ (sym (changes_of-quiet (length inside.recent) inside.changed inside.changes.items back c.self.invariant.slots (omega (arith, c.requires.most)) (sym c.is_set.ensures ∙ c.if-is_set.false))
     ∙ ap (λ (k : WindowState). change_back k.changes back) c.self.view_is)
-
-pub returns-else-is_set-clause-change : goal.returns-else-is_set-clause-change
-returns-else-is_set-clause-change c = λ steps stands. returns-else-is_set-clause-kept c ∙ stands.changes.same c.args.back (omega (arith, c.requires.most)) (omega (arith, c.requires.taken, stands.taken))
+    ∙ stands.changes.same back (omega (arith, c.requires.most)) (omega (arith, c.requires.taken, stands.taken))
