@@ -1,5 +1,5 @@
 pub mod Tallies
-pub mod Copies
+mod Copies
 mod PlayCourses
 mod PlayedPackets
 mod Gaps

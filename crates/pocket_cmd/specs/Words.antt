@@ -153,5 +153,5 @@ abbrev pub Assigns : List (List ℕ) → List ℕ → List ℕ → Type 0
 Assigns words key value = Contains words (key ++ 61 ∷ value)
 
 -- one of the words gives this name to one of the keys
-abbrev pub Gives : {Z : Type 0} → List (String Z) → List (List ℕ) → List ℕ → Type 0
-Gives words keys name = (key : List ℕ) × Contains keys key × Assigns (map string_bytes words) key name
+abbrev pub AssignsOneOf : {Z : Type 0} → List (String Z) → List (List ℕ) → List ℕ → Type 0
+AssignsOneOf words keys name = (key : List ℕ) × Contains keys key × Assigns (map string_bytes words) key name

@@ -2,7 +2,7 @@ use Rattle.std.proofs.Common.{◌≡◌, ℕ, zero, suc, ◌+◌, ◌<◌, ◌�
 use Rattle.desk_ports.specs.declared.desk.Outlet.TheVariants as outlet
 use Rattle.desk_ports.specs.Meanings.{Adds, AddsFront, Meanings}
 use Rattle.desk_ports.proofs.Transfers.{Adds-then, Adds-ready}
-use Rattle.loss_player.proofs.Copies.{AddsFront-after, AddsFront-before, OnErr-always}
+use Rattle.desk_ports.proofs.Transfers.{AddsFront-after, AddsFront-then, OnErr-always}
 use Rattle.forecast.specs.declared.fate.Fate.{Fate}
 use Rattle.forecast.specs.declared.running.Running.{Running}
 use Rattle.forecast.specs.declared.stretch.Stretch.{Stretch}
@@ -17,7 +17,7 @@ front-next : (a b d : Meanings) (fate : ℕ → Fate) (n t : ℕ) → t < n → 
 front-next a b d fate n t below added cut =
     let rows = first_rows-at fate n t below in
     let here = subst (AddsFront a d outlet.Main) (sym (rows-next fate t)) (AddsFront-after a b d outlet.Main (rows_at fate t) (row_of (ended_before fate t)) added cut) in
-    subst (AddsFront a d outlet.Main) rows.joined (AddsFront-before a d outlet.Main (rows_at fate (t + 1)) rows.rest here)
+    subst (AddsFront a d outlet.Main) rows.joined (AddsFront-then a d outlet.Main (rows_at fate (t + 1)) rows.rest here)
 
 -- the lines so far and the line of the last stretch are all
 all_rows : (fate : ℕ → Fate) (n : ℕ) → 1 ≤ n → rows_at fate n ++ row_of (stretch_at fate n) ≡ stretch_rows fate n

@@ -2,7 +2,7 @@ use Rattle.std.proofs.Common.{◌++◌, subst}
 use Rattle.desk_ports.specs.declared.desk.Outlet.TheVariants as outlet
 use Rattle.desk_ports.specs.Meanings.{Adds, AddsFront}
 use Rattle.desk_ports.proofs.Transfers.{Adds-then}
-use Rattle.loss_player.proofs.Copies.{AddsFront-after, AddsFront-before, OnErr-always}
+use Rattle.desk_ports.proofs.Transfers.{AddsFront-after, AddsFront-then, OnErr-always}
 use Rattle.loss_player.specs.Played.{played_of}
 use Rattle.forecast.specs.declared.running.Running.{Running}
 use Rattle.forecast.specs.Prospects.{fate_of}
@@ -18,8 +18,8 @@ returns-in_err-write_all-clause-front g c =
     let n = c.args.packets in
     let rows = stretch_rows (fate_of p) n in
     let last = closing_rows (played_of p.copies n) n (sure_count p n) in
-    let cut = AddsFront-before a b outlet.Main header_row rows (subst (AddsFront a b outlet.Main) c.as_bytes.ensures.value c.in_err-write_all.ensures.front) in
-    OnErr-always c.from_residual.result (AddsFront a b outlet.Main (forecast_text p n)) (AddsFront-before a b outlet.Main (header_row ++ rows) last cut)
+    let cut = AddsFront-then a b outlet.Main header_row rows (subst (AddsFront a b outlet.Main) c.as_bytes.ensures.value c.in_err-write_all.ensures.front) in
+    OnErr-always c.from_residual.result (AddsFront a b outlet.Main (forecast_text p n)) (AddsFront-then a b outlet.Main (header_row ++ rows) last cut)
 
 pub returns-in_err-running-clause-front : goal.returns-in_err-running-clause-front
 returns-in_err-running-clause-front g c =
@@ -32,7 +32,7 @@ returns-in_err-running-clause-front g c =
     let last = closing_rows (played_of p.copies n) n (sure_count p n) in
     let first = subst (Adds a b outlet.Main) c.as_bytes.ensures.value c.in_ok-write_all.ensures.added in
     let cut = AddsFront-after a b d outlet.Main header_row rows first c.in_err-running.ensures.front in
-    OnErr-always c.from_residual-in_err-running.result (AddsFront a d outlet.Main (forecast_text p n)) (AddsFront-before a d outlet.Main (header_row ++ rows) last cut)
+    OnErr-always c.from_residual-in_err-running.result (AddsFront a d outlet.Main (forecast_text p n)) (AddsFront-then a d outlet.Main (header_row ++ rows) last cut)
 
 pub returns-in_err-write_closing-clause-front : goal.returns-in_err-write_closing-clause-front
 returns-in_err-write_closing-clause-front g c =
