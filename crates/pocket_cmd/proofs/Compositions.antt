@@ -22,8 +22,9 @@ use Rattle.ground_chain.proofs.PlayedHistories.{count-chosen, walk-played, whole
 use Rattle.ground_chain.proofs.DeliveredRuns.{owed-played}
 use Rattle.ground_chain.specs.Deliveries.{report_text, restored_bytes}
 use Rattle.ground_chain.specs.Restoring.{restore_course}
-use Rattle.pocket_cmd.specs.Command.{AreRight, Compress, CompressValues, IsChosen, IsPlaces, Play, PlayValues, Restore, RestoreValues}
+use Rattle.pocket_cmd.specs.Command.{AreRight, Compress, CompressValues, IsChosen, Play, PlayValues, Restore, RestoreValues}
 use Rattle.pocket_cmd.specs.Courses.{compression_by, course_of}
+use Rattle.pocket_cmd.specs.Masks.{IsPlaces}
 use Rattle.pocket_cmd.specs.Faults.{of_recording, of_store}
 use Rattle.pocket_cmd.specs.Delivery.{IsInputWhole, recorded_history}
 use Rattle.pocket_cmd.proofs.Faults.{owed-with_fault}
