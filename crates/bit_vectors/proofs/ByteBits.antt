@@ -7,6 +7,7 @@ use Rattle.std.proofs.lemmas.List.{length-append, length-take, length-drop, leng
 use Rattle.std.proofs.Math.Nat.{pow-le-pow_right}
 use Rattle.std.proofs.Math.Seq.{take-append-add}
 use Rattle.bit_vectors.specs.Vectors.{number_bits, bits_number, bits_of, AreBytes, byte_count, padded, bytes_from, vector_bytes}
+use Rattle.bit_vectors.proofs.Lists.{get_or-replicate_same}
 use Rattle.bit_vectors.proofs.NumberBits.{length-number_bits, get_or-number_bits, bits_number-number_bits, bits_number_below, number_bits-bits_number}
 
 -- ---- the bits of bytes
@@ -87,13 +88,8 @@ AreBytes-bytes_from (suc n) bits (suc i) = AreBytes-bytes_from n (drop 8 bits) i
 
 -- ---- bits that are all zero
 
-get_or-zeros : (n i : ℕ) → get_or (replicate n false) i false ≡ false
-get_or-zeros zero i = refl
-get_or-zeros (suc n) zero = refl
-get_or-zeros (suc n) (suc i) = get_or-zeros n i
-
 pub get_or-append-zeros : (bits : List Bool) (n i : ℕ) → get_or (bits ++ replicate n false) i false ≡ get_or bits i false
-get_or-append-zeros [] n i = get_or-zeros n i
+get_or-append-zeros [] n i = get_or-replicate_same n i false
 get_or-append-zeros (b ∷ bits) n zero = refl
 get_or-append-zeros (b ∷ bits) n (suc i) = get_or-append-zeros bits n i
 

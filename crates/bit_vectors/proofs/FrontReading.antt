@@ -31,7 +31,8 @@ parse_front-short count bits lt = rw (lt-leb count (length bits) lt) refl
 abbrev pub IsFront : ℕ → List Bool → List Bool → Type 0
 IsFront count front word = (length front ≡ count) × (word ≡ front)
 
-same_read : (a b r s : List Bool) → ◌≡◌ {A = Parsed (List Bool)} (Read a r) (Read b s) → (a ≡ b) × (r ≡ s)
+-- equal readings give equal bits and leave equal rests
+pub same_read : (a b r s : List Bool) → ◌≡◌ {A = Parsed (List Bool)} (Read a r) (Read b s) → (a ≡ b) × (r ≡ s)
 same_read a b r s e = (cc, cc)
 
 front_read_is : (count : ℕ) (bits front rest : List Bool) → parse_front count bits ≡ Read front rest → (word : List Bool) × IsFront count front word × (bits ≡ word ++ rest)

@@ -4,12 +4,13 @@ use Rattle.std.specs.Int.{bit_at, bit_not, w64}
 use Rattle.std.specs.Prelude.{Contains, not, ◌&&◌}
 use Rattle.std.specs.Simd.Lanes.{zip2}
 use Rattle.std.proofs.lemmas.Bool.{cases_lt, cases_eq, true≢false}
-use Rattle.std.proofs.lemmas.List.{take_at, length-take-le, length-set, length-replicate, get_or-take, get_or-drop, get_or_past, get_or-replicate, get_or-set_same, get_or-set_other, ext_get_or}
+use Rattle.std.proofs.lemmas.List.{take_at, length-take-le, length-set, length-replicate, get_or-take, get_or-drop, get_or_past, get_or-set_same, get_or-set_other, ext_get_or}
 use Rattle.std.proofs.lemmas.List.Sums.{sum_by-cons, sum_by-take-drop}
 use Rattle.std.proofs.lemmas.Simd.{get_or-zip2, length-zip2}
 use Rattle.std.proofs.lemmas.Nat.Bits.{bit_at-zero, same_from_bits_below}
 use Rattle.bit_vectors.specs.Vectors.{IsOne, NoneIsOne, bits_of, byte_count, padded, vector_bytes, without_bits}
 use Rattle.bit_vectors.specs.Words.{word_count, word_bits, bit_of, vector_of, AreWords, NoBitIsOne, IsWord, HasNoSpareBit}
+use Rattle.bit_vectors.proofs.Lists.{get_or-replicate_same}
 use Rattle.bit_vectors.proofs.Numbers.{same_bit}
 use Rattle.bit_vectors.proofs.ByteBits.{length-bits_of, length-padded, get_or-padded, zeros_is, zero_from_none, vector_bytes_is}
 use Rattle.bit_vectors.proofs.Places.{get_or-zip2_all}
@@ -80,30 +81,16 @@ Becomes-set old new places place bit v h lt same_len here others numbers = recor
   ];
 }
 
-get_or-zeros : (n k : ℕ) → get_or (replicate n false) k false ≡ false
-get_or-zeros n k =
-    elim (cases_lt k n) [
-      | inl lt ↦ get_or-replicate {A = Bool} n k false false lt
-      | inr le ↦ get_or_past (replicate n false) k false (omega (arith, length-replicate {A = Bool} n false))
-    ]
-
-zero_words : (n i : ℕ) → get_or (replicate {A = ℕ} n 0) i 0 ≡ 0
-zero_words n i =
-    elim (cases_lt i n) [
-      | inl lt ↦ get_or-replicate {A = ℕ} n i 0 0 lt
-      | inr le ↦ get_or_past (replicate n 0) i 0 (omega (arith, length-replicate {A = ℕ} n 0))
-    ]
-
 bit_of-zeros : (n k : ℕ) → bit_of (replicate n 0) k ≡ false
 unfolding bit_of
-bit_of-zeros n k = rw (zero_words n (k / 64), bit_at-zero (63 - k % 64)) refl
+bit_of-zeros n k = rw (get_or-replicate_same {A = ℕ} n (k / 64) 0, bit_at-zero (63 - k % 64)) refl
 
 pub Becomes-clear : (old new : List ℕ) (places : ℕ) (v : List Bool) → Holds old places v → new ≡ replicate (length old) 0 → Becomes old new places (replicate (length v) false)
 Becomes-clear old new places v h new_is = rw new_is (record {
   same_len = length-replicate {A = ℕ} (length old) 0;
-  numbers = λ i. rw (zero_words (length old) i) (omega arith);
+  numbers = λ i. rw (get_or-replicate_same {A = ℕ} (length old) i 0) (omega arith);
   len = length-replicate {A = Bool} (length v) false ∙ h.len;
-  bits = λ k. bit_of-zeros (length old) k ∙ sym (get_or-zeros (length v) k);
+  bits = λ k. bit_of-zeros (length old) k ∙ sym (get_or-replicate_same (length v) k false);
 })
 
 pub Becomes-copy : (old new : List ℕ) (places others : ℕ) (v w : List Bool) → Holds old places v → Holds new others w → length v ≡ length w → Becomes old new places w
@@ -144,13 +131,13 @@ AreWords-zeros words count places words_is count_is some most = rw words_is (rec
   some = some;
   most = most;
   count = length-replicate {A = ℕ} count 0 ∙ count_is;
-  numbers = λ i. rw (zero_words count i) (omega arith);
+  numbers = λ i. rw (get_or-replicate_same {A = ℕ} count i 0) (omega arith);
   spare = λ k le. bit_of-zeros count k;
 })
 
 pub vector_of-zeros : (words : List ℕ) (count places : ℕ) → words ≡ replicate count 0 → AreWords words places → vector_of words places ≡ replicate places false
 vector_of-zeros words count places words_is are =
-    vector_of_is words places (replicate places false) are (length-replicate {A = Bool} places false) (λ k. rw words_is (bit_of-zeros count k ∙ sym (get_or-zeros places k)))
+    vector_of_is words places (replicate places false) are (length-replicate {A = Bool} places false) (λ k. rw words_is (bit_of-zeros count k ∙ sym (get_or-replicate_same places k false)))
 
 -- ---- one word
 
@@ -230,7 +217,7 @@ same_word a b i a_below b_below same =
 
 pub zero_words_of : (words : List ℕ) (places : ℕ) (v : List Bool) → Holds words places v → v ≡ replicate (length v) false → (i : ℕ) → i < length words → get_or words i 0 ≡ 0
 zero_words_of words places v h zero_is i lt =
-    same_word words (replicate (length words) 0) i (h.are.numbers i) (rw (zero_words (length words) i) (omega arith)) (λ k. sym (h.bits k) ∙ ap (λ (bits : List Bool). get_or bits k false) zero_is ∙ get_or-zeros (length v) k ∙ sym (bit_of-zeros (length words) k)) ∙ zero_words (length words) i
+    same_word words (replicate (length words) 0) i (h.are.numbers i) (rw (get_or-replicate_same {A = ℕ} (length words) i 0) (omega arith)) (λ k. sym (h.bits k) ∙ ap (λ (bits : List Bool). get_or bits k false) zero_is ∙ get_or-replicate_same (length v) k false ∙ sym (bit_of-zeros (length words) k)) ∙ get_or-replicate_same {A = ℕ} (length words) i 0
 
 pub some_one : (words : List ℕ) (places : ℕ) (v : List Bool) → Holds words places v → (((i : ℕ) → i < length words → get_or words i 0 ≡ 0) → ⊥) → Contains v true
 some_one words places v h some =

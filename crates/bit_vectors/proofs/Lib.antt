@@ -1,3 +1,4 @@
+pub mod Lists
 pub mod NumberBits
 pub mod Numbers
 pub mod ByteBits

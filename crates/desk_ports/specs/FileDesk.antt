@@ -28,7 +28,7 @@ abbrev pub file_meanings : FileDesk → Meanings
 file_meanings desk = untold (is_opened_source desk.side) (is_opened_source desk.input) (is_opened_sink desk.output) (is_opened_sink desk.report)
 
 abbrev pub file_counts : FileDesk → Counts
-file_counts desk = record { reads = desk.read_faults; writes = desk.write_faults }
+file_counts desk = record { reads = desk.read_faults.count; writes = desk.write_faults }
 
 -- the bytes that were written to a sink and not yet handed to the system
 abbrev pub gathered : Sink → List ℕ

@@ -8,6 +8,7 @@ ghost use Rattle.desk_ports.specs.FileDesk.{file_counts, file_meanings, gathered
 use crate::desk::{Desk, Failed, Inlet, Outlet};
 use crate::part::{Node, Part};
 use crate::progress::Progress;
+use crate::read_faults::ReadFaults;
 use std::fs::File;
 use std::io::{BufWriter, IsTerminal, Read, Stdin, Stdout, Write};
 use std::{fs, io};
@@ -188,7 +189,7 @@ pub struct FileDesk<'a> {
     input: Source,
     output: Sink,
     report: Sink,
-    read_faults: u64,
+    read_faults: ReadFaults,
     write_faults: u64,
     progress: Progress,
 }
@@ -206,7 +207,7 @@ impl<'a> FileDesk<'a> {
             input: Source::Nothing,
             output: Sink::Nothing,
             report: Sink::Nothing,
-            read_faults: 0,
+            read_faults: ReadFaults::none(),
             write_faults: 0,
             progress: Progress::new(rt),
         }
@@ -244,27 +245,6 @@ impl<'a> FileDesk<'a> {
             Outlet::Report => &self.output,
         };
         Sink::open(self.rt, name, &inputs, other)
-    }
-
-    // The answer of a call that reads. An error of the system is a fault.
-    fn or_read_fault<T>(&mut self, answer: io::Result<T>) -> Result<T, Failed>
-        ensures given { IfOk answer (λ given. result ≡ Ok given) }
-        ensures steady { OnOk answer (self.new ≡ self.old) }
-        ensures failed { OnErr answer (IsErr result) }
-        ensures counted { OnErr answer
-            (self.new ≡ record self.old {
-              read_faults = min (self.old.read_faults + 1)
-                  (2 ^ 64 - 1);
-            }) }
-        ensures rises { self.old.read_faults ≤ self.new.read_faults }
-    {
-        match answer {
-            Ok(given) => Ok(given),
-            Err(_) => {
-                self.read_faults = self.read_faults.saturating_add(1);
-                Err(Failed)
-            }
-        }
     }
 
     fn write_fault(&mut self) -> Failed
@@ -316,7 +296,7 @@ impl<'a> Desk for FileDesk<'a> {
         ensures outlets { SameOutlets self.old self.new }
     {
         let source = Source::open(self.rt, name);
-        let source = self.or_read_fault(source)?;
+        let source = self.read_faults.answer(source)?;
         match inlet {
             Inlet::Side => self.side = source,
             Inlet::Main => {
@@ -378,7 +358,7 @@ impl<'a> Desk for FileDesk<'a> {
         if let (Inlet::Main, Ok(bytes)) = (inlet, &moved) {
             self.progress.count(self.rt, *bytes);
         }
-        self.or_read_fault(moved)
+        self.read_faults.answer(moved)
     }
 
     fn write(&mut self, outlet: Outlet, bytes: &[u8]) -> Result<usize, Failed>

@@ -11,6 +11,7 @@ mod memory;
 mod part;
 mod progress;
 mod quiet;
+mod read_faults;
 mod row;
 mod transfer;
 mod turns;

@@ -1,5 +1,5 @@
 -- The store of a history, packet by packet.
-use Rattle.std.proofs.Common.{◌≡◌, ℕ, zero, suc, ◌+◌, ◌%◌, ◌<◌, Bool, List, [], ◌∷◌, ◌++◌, length, map, refl, sym, ap, ◌∙◌, append_assoc, append-nil, length-append, arith}
+use Rattle.std.proofs.Common.{◌≡◌, ℕ, ◌+◌, ◌%◌, ◌<◌, Bool, List, [], ◌∷◌, ◌++◌, length, map, refl, sym, ap, ◌∙◌, append_assoc, append-nil, length-append, arith}
 use Rattle.std.specs.Prelude.{Option, None, unwrap_or}
 use Rattle.std.specs.List.{enumerate_from, range_with_len}
 use Rattle.std.proofs.lemmas.List.{flat_map_more}
@@ -7,6 +7,7 @@ use Rattle.std.proofs.lemmas.List.FromFn.{map-range_with_len_more}
 use Rattle.bit_vectors.specs.declared.flags.Flags.{Flags}
 use Rattle.bit_vectors.specs.Vectors.{padded, vector_bytes}
 use Rattle.bit_vectors.proofs.ByteBits.{bits_of_injective, AreBytes-vector_bytes, bits_of-vector_bytes}
+use Rattle.bit_vectors.proofs.Lists.{map_same}
 use Rattle.mask_update.specs.Histories.{History, Step, flags_after, history_of, step_of, with_step}
 use Rattle.mask_update.proofs.HistoriesOf.{length-history_of, history_of-push}
 use Rattle.packet_encode.specs.Forms.{form_bits}
@@ -27,13 +28,6 @@ vector_bytes-same a b same = bits_of_injective (vector_bytes a) (vector_bytes b)
 data_at-before : (h : History) (step : Step) (t : ℕ) → t < length h.steps → data_at (with_step h step) t ≡ data_at h t
 data_at-before h step t lt = vector_bytes-same (form_bits (form_at (with_step h step) t)) (form_bits (form_at h t)) (packet_at-before h step t lt)
 
-map_within : {A : Type 0} (p q : ℕ → A) (a n : ℕ) → ((k : ℕ) → k < a + n → p k ≡ q k) → map p (range_with_len a n) ≡ map q (range_with_len a n)
-map_within p q a zero same = refl
-map_within p q a (suc n) same =
-    let first = same a (omega arith) in
-    let rest = map_within p q (a + 1) n (λ k lt. same k (omega arith)) in
-    λ i. first i ∷ rest i
-
 -- one more step is one more packet
 pub store_of-push : (h : History) (step : Step) (apid : ℕ) → store_of (with_step h step) apid ≡ store_of h apid ++ space_packet apid (length h.steps % period) (data_at (with_step h step) (length h.steps))
 store_of-push h step apid =
@@ -41,7 +35,7 @@ store_of-push h step apid =
     let all : length (h.steps ++ step ∷ []) ≡ n + 1 = omega (arith, length-append h.steps (step ∷ [])) in
     let first : n ≡ 0 + n = omega arith in
     let earlier : map (numbered_data (with_step h step)) (range_with_len 0 (length h.steps)) ≡ map (numbered_data h) (range_with_len 0 (length h.steps)) =
-    map_within (numbered_data (with_step h step)) (numbered_data h) 0 (length h.steps) (λ k lt. ap (λ (bytes : List ℕ). (k % period, bytes)) (data_at-before h step k (omega arith))) in
+    map_same (numbered_data (with_step h step)) (numbered_data h) 0 (length h.steps) (λ k lt. ap (λ (bytes : List ℕ). (k % period, bytes)) (data_at-before h step k (omega arith))) in
     ap (λ (m : ℕ). store_bytes apid (map (numbered_data (with_step h step)) (range_with_len 0 m))) all
     ∙ (ap (store_bytes apid) (map-range_with_len_more (numbered_data (with_step h step)) 0 n n (omega arith))
     ∙ (ap (λ (packets : List (ℕ × List ℕ)). store_bytes apid (packets ++ numbered_data (with_step h step) n ∷ [])) earlier

@@ -6,6 +6,7 @@ use Rattle.std.specs.List.{list_any}
 use Rattle.std.proofs.lemmas.Bool.{cases_Bool, cases_lt}
 use Rattle.std.proofs.lemmas.List.{take_at, drop_at, take-append-drop, length-take-le}
 use Rattle.bit_vectors.specs.Vectors.{bits_of, byte_count, has_spare_bit}
+use Rattle.bit_vectors.proofs.Lists.{one_in}
 use Rattle.desk_ports.specs.declared.desk.Inlet.TheVariants as inlet
 use Rattle.desk_ports.specs.Meanings.{Meanings, left}
 use Rattle.desk_ports.specs.ReadAhead.{ReadsOn}
@@ -22,14 +23,9 @@ any_one (true ∷ bits) one = refl
 any_one (false ∷ bits) (zero, within, is) = absurd cc
 any_one (false ∷ bits) (suc k, within, is) = any_one bits (k, omega arith, is)
 
-one_of : (bits : List Bool) → list_any (λ (bit : Bool). bit) bits ≡ true → Contains bits true
-one_of [] any = absurd cc
-one_of (true ∷ bits) any = (0, omega arith, refl)
-one_of (false ∷ bits) any = let one = one_of bits any in (suc one.0, omega (arith, one.1), one.2)
-
 none_one : (bits : List Bool) → (Contains bits true → ⊥) → list_any (λ (bit : Bool). bit) bits ≡ false
 none_one bits none = elim (cases_Bool (list_any (λ (bit : Bool). bit) bits)) [
-  | inl any ↦ absurd (none (one_of bits any))
+  | inl any ↦ absurd (none (one_in bits any))
   | inr other ↦ other
 ]
 

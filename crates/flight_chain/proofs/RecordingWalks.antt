@@ -4,6 +4,7 @@ use Rattle.std.specs.Prelude.{nat_lt, ◌≢◌}
 use Rattle.std.proofs.lemmas.Bool.{lt-ltb, le-ltb, ltb-false, false≢true}
 use Rattle.std.proofs.lemmas.Grind.{common_steps}
 use Rattle.bit_vectors.specs.Vectors.{byte_count, has_spare_bit}
+use Rattle.packet_store.proofs.Walks.{not_full}
 use Rattle.flight_chain.specs.declared.fault.RecordFault.{RecordFault}
 use Rattle.flight_chain.specs.declared.fault.RecordFault.TheVariants.{CutRecord, SpareBit, TooMany}
 use Rattle.flight_chain.specs.Recordings.{first_packet, first_input, fault_at, RecordingWalk, walked, stopped_at, input_first, by_fault, recording_step, recording_walk_by, recording_walk_from}
@@ -67,9 +68,6 @@ by_checks t full short spare = if full then Some TooMany else if short then Some
 checked : (f t : ℕ) (bytes : List ℕ) (full short spare : Bool) → (t == 2 ^ 32) ≡ full → nat_lt (length bytes) (byte_count f) ≡ short → has_spare_bit f (first_packet f bytes) ≡ spare → fault_at f t bytes ≡ by_checks t full short spare
 unfolding by_checks
 checked f t bytes full short spare is_full is_short is_spare = λ i. by_checks t (is_full i) (is_short i) (is_spare i)
-
-not_full : (t : ℕ) → t < 2 ^ 32 → (t == 2 ^ 32) ≡ false
-not_full t few = grind (arith, common_steps)
 
 is_full : (t : ℕ) → t ≡ 2 ^ 32 → (t == 2 ^ 32) ≡ true
 is_full t full = grind (arith, common_steps)

@@ -1,9 +1,9 @@
 -- What the walk over a recording means.
-use Rattle.std.proofs.Common.{◌≡◌, ℕ, zero, suc, ◌+◌, ◌-◌, ◌^◌, ◌<◌, ◌≤◌, Bool, List, [], ◌∷◌, ◌++◌, length, take, drop, Option, Some, None, refl, sym, ap, ◌∙◌, subst, append_assoc, length-drop, take-append-drop, replicate, get_or, inl, inr, true, false, ◌*◌, arith}
+use Rattle.std.proofs.Common.{◌≡◌, ℕ, zero, suc, ◌+◌, ◌-◌, ◌^◌, ◌<◌, ◌≤◌, Bool, List, [], ◌∷◌, ◌++◌, length, take, drop, Option, Some, None, refl, sym, ap, ◌∙◌, subst, append_assoc, length-drop, take-append-drop, replicate, inl, inr, true, false, ◌*◌, arith}
 use Rattle.std.specs.Prelude.{All, Contains}
 use Rattle.std.proofs.lemmas.Bool.{cases_lt, false≢true, true≢false}
 use Rattle.std.proofs.lemmas.List.{length-take-le, length-replicate, drop_at, get_or_past, get_or-replicate}
-use Rattle.std.proofs.lemmas.List.Elements.{All-nil, All-tail, All-drop, All-take}
+use Rattle.std.proofs.lemmas.List.Elements.{All-cons, All-nil, All-tail, All-drop, All-take}
 use Rattle.bit_vectors.specs.Vectors.{AreBytes, bits_of, byte_count, vector_bytes}
 use Rattle.bit_vectors.proofs.ByteBits.{length-bits_of, length-vector_bytes, bits_of-vector_bytes, take-bits_of-vector_bytes, stored_is}
 use Rattle.flight_chain.specs.declared.fault.RecordFault.{RecordFault}
@@ -75,12 +75,6 @@ IsWalk-stopped f t b bytes fault few at =
       ends = sym at ∙ ap (λ (n : ℕ). fault_at f n (b ∷ bytes)) same;
     }
 
-All-more : {X : Type 0} (P : X → Type 0) (x : X) (xs : List X) → P x → All P xs → All P (x ∷ xs)
-All-more {X = X} P x xs here all = λ k d within. at k d within where
-  at : (k : ℕ) (d : X) → k < length (x ∷ xs) → P (get_or (x ∷ xs) k d)
-  at zero d within = here
-  at (suc k) d within = all k d (omega arith)
-
 IsWalk-more : (f t : ℕ) (bytes : List ℕ) (w : RecordingWalk) → All (λ b. b < 256) bytes → BeginWithPacket f t bytes → IsWalk f (t + 1) (drop (byte_count f) bytes) w → IsWalk f t bytes (input_first (first_input f bytes) w)
 IsWalk-more f t bytes w all begin is =
     let packet = first_packet f bytes in
@@ -88,7 +82,7 @@ IsWalk-more f t bytes w all begin is =
     let stored : packet ≡ vector_bytes (first_input f bytes) = stored_is packet f below (whole_packet f t bytes begin) (clear_packet f t bytes begin) in
     let number : t + 1 + length w.inputs ≡ t + suc (length w.inputs) = omega arith in
     record {
-      places = All-more (λ (v : List Bool). length v ≡ f) (first_input f bytes) w.inputs (length-first_input f t bytes begin) is.places;
+      places = All-cons (λ (v : List Bool). length v ≡ f) (first_input f bytes) w.inputs (length-first_input f t bytes begin) is.places;
       joined = append_assoc (vector_bytes (first_input f bytes)) (recording_of w.inputs) w.rest ∙ ((let unstored = sym stored in λ i. unstored i ++ is.joined i) ∙ take-append-drop (byte_count f) bytes);
       few = omega (arith, is.few);
       ends = is.ends ∙ ap (λ (n : ℕ). ending_at f n w.rest) number;

@@ -1,5 +1,5 @@
 -- The numbers of a run, arrival by arrival.
-use Rattle.std.proofs.Common.{◌≡◌, ℕ, suc, ◌+◌, ◌-◌, ◌<◌, ◌≤◌, ltb, Bool, true, false, if◌then◌else◌, List, [], ◌∷◌, length, Option, Some, None, Result, Ok, Err, refl, ap, arith}
+use Rattle.std.proofs.Common.{◌≡◌, ℕ, suc, ◌+◌, ◌-◌, ◌<◌, ◌≤◌, ltb, Bool, true, false, if◌then◌else◌, List, [], ◌∷◌, ◌++◌, length, Option, Some, None, Result, Ok, Err, refl, sym, ap, ◌∙◌, arith}
 use Rattle.std.proofs.lemmas.List.Sums.{sum_by-cons}
 use Rattle.std.proofs.lemmas.Grind.{common_steps}
 use Rattle.bit_vectors.specs.declared.fault.BitFault.{BitFault}
@@ -46,6 +46,14 @@ added-none a =
     let repeats : a.repeats + 0 ≡ a.repeats = omega arith in
     let listed : a.listed + 0 ≡ a.listed = omega arith in
     λ i. record { packets = packets i; written = written i; repeats = repeats i; listed = listed i }
+
+-- one part of a run and then another
+pub restored_of-append : (xs ys : List Judged) → restored_of (xs ++ ys) ≡ added (restored_of xs) (restored_of ys)
+restored_of-append [] ys = sym (none-added (restored_of ys))
+restored_of-append (x ∷ xs) ys =
+    restored_of-cons x (xs ++ ys)
+    ∙ (ap (added (restored_by x.verdict)) (restored_of-append xs ys)
+    ∙ (sym (added-assoc (restored_by x.verdict) (restored_of xs) (restored_of ys)) ∙ ap (λ (r : Restored). added r (restored_of ys)) (sym (restored_of-cons x xs))))
 
 -- ---- what the numbers say together
 

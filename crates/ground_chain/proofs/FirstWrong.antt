@@ -1,5 +1,6 @@
--- If the report names a first wrong bit or an early end, the answer does; and what the answer then says of the data.
-use Rattle.std.proofs.Common.{◌≡◌, ℕ, ◌+◌, ◌^◌, ◌<◌, ◌≤◌, Bool, true, codes, List, [], ◌∷◌, ◌++◌, length, take, Option, Some, None, Result, Ok, Err, refl, sym, ap, ◌∙◌, subst, append_assoc, arith}
+-- If the report or the listing names a first wrong bit or an early end, the answer does; and what the answer then says of
+-- the data.
+use Rattle.std.proofs.Common.{◌≡◌, ℕ, ◌+◌, ◌^◌, ◌<◌, ◌≤◌, Bool, true, false, codes, List, [], ◌∷◌, ◌++◌, length, take, Option, Some, None, Result, Ok, Err, refl, sym, ap, ◌∙◌, subst, append_assoc, append-nil, get_or, arith}
 use Rattle.std.specs.Fmt.{decimal}
 use Rattle.std.proofs.lemmas.Fmt.{decimal_injective}
 use Rattle.std.proofs.lemmas.List.{append_cancel_left, append_cancel_right, length-take-le}
@@ -9,7 +10,7 @@ use Rattle.bit_vectors.specs.Vectors.{bits_of}
 use Rattle.bit_vectors.proofs.ByteBits.{length-bits_of}
 use Rattle.packet_decode.specs.declared.decoder.Reading.{Reading}
 use Rattle.packet_decode.specs.declared.decoder.Reading.TheVariants as answer
-use Rattle.packet_decode.specs.State.{State, IsState}
+use Rattle.packet_decode.specs.State.{IsState}
 use Rattle.packet_decode.specs.Answers.{Viable, Says, BeginReadable, IsExactAnswer}
 use Rattle.packet_decode.specs.PacketReading.{answer_of}
 use Rattle.packet_decode.proofs.ExactAnswers.{answer_of-exact}
@@ -19,8 +20,10 @@ use Rattle.ground_chain.specs.declared.verdict.Kind.{Kind}
 use Rattle.ground_chain.specs.declared.verdict.Kind.TheVariants.{Written, Repeat, Unsynced, Gap, Refused}
 use Rattle.ground_chain.specs.Numbers.{number_after}
 use Rattle.ground_chain.specs.Run.{Arrival, Known, Judged, nothing_known, kind_of, judged_by, judge, known_from, known_after}
-use Rattle.ground_chain.specs.Report.{number_row, own_row}
-use Rattle.ground_chain.specs.Refusals.{is_taken_or_listed, BeginData, SaysRow}
+use Rattle.ground_chain.specs.Report.{number_row, own_row, value_of}
+use Rattle.ground_chain.specs.Listing.{kind_text, kind_vectors, level_of, mask_line, packet_vectors}
+use Rattle.ground_chain.specs.Refusals.{is_taken_or_listed, BeginData, SaysLine, SaysRow}
+use Rattle.ground_chain.proofs.EveryRun.{value_judged}
 use Rattle.ground_chain.proofs.Sound.{IsState-judged}
 
 -- ---- what a row says
@@ -61,16 +64,7 @@ causes_apart t cause other value bit a b mine others apart same =
 numbers_same : (a b : ℕ) → a < 2 ^ 64 → b < 2 ^ 64 → decimal a ++ codes "\n" ≡ decimal b ++ codes "\n" → a ≡ b
 numbers_same a b few most same = decimal_injective a b few most (append_cancel_right (decimal a) (decimal b) (codes "\n") same)
 
--- a fault's bit is a number of 64 bits
-abbrev IsSmall : Kind → Type 0
-IsSmall Written = Unit {0}
-IsSmall Repeat = Unit {0}
-IsSmall (Unsynced mask) = Unit {0}
-IsSmall (Gap level mask) = Unit {0}
-IsSmall (Refused (Wrong bit)) = bit < 2 ^ 64
-IsSmall (Refused (EndsEarly bit)) = bit < 2 ^ 64
-
-wrong_kind : (t bit : ℕ) (kind : Kind) → bit < 2 ^ 64 → IsSmall kind → own_row t kind ≡ number_row t (codes "wrong") bit → kind ≡ Refused (Wrong bit)
+wrong_kind : (t bit : ℕ) (kind : Kind) → bit < 2 ^ 64 → value_of kind < 2 ^ 64 → own_row t kind ≡ number_row t (codes "wrong") bit → kind ≡ Refused (Wrong bit)
 wrong_kind t bit Written few small same = absurd (empty_row t (codes "wrong") bit same)
 wrong_kind t bit Repeat few small same = absurd (empty_row t (codes "wrong") bit same)
 wrong_kind t bit (Unsynced mask) few small same = absurd (causes_apart t (codes "unsynced") (codes "wrong") 0 bit 117 119 refl refl (λ e. omega (arith, e)) same)
@@ -80,7 +74,7 @@ wrong_kind t bit (Refused (Wrong at)) few small same =
     ap (λ (n : ℕ). Refused (Wrong n)) (numbers_same at bit small few (append_cancel_left (codes "wrong,") (decimal at ++ codes "\n") (decimal bit ++ codes "\n") tails))
 wrong_kind t bit (Refused (EndsEarly at)) few small same = absurd (causes_apart t (codes "early") (codes "wrong") at bit 101 119 refl refl (λ e. omega (arith, e)) same)
 
-early_kind : (t bit : ℕ) (kind : Kind) → bit < 2 ^ 64 → IsSmall kind → own_row t kind ≡ number_row t (codes "early") bit → kind ≡ Refused (EndsEarly bit)
+early_kind : (t bit : ℕ) (kind : Kind) → bit < 2 ^ 64 → value_of kind < 2 ^ 64 → own_row t kind ≡ number_row t (codes "early") bit → kind ≡ Refused (EndsEarly bit)
 early_kind t bit Written few small same = absurd (empty_row t (codes "early") bit same)
 early_kind t bit Repeat few small same = absurd (empty_row t (codes "early") bit same)
 early_kind t bit (Unsynced mask) few small same = absurd (causes_apart t (codes "unsynced") (codes "early") 0 bit 117 101 refl refl (λ e. omega (arith, e)) same)
@@ -89,6 +83,44 @@ early_kind t bit (Refused (EndsEarly at)) few small same =
     let tails = row_tails t (codes "early") (codes "early") at bit same in
     ap (λ (n : ℕ). Refused (EndsEarly n)) (numbers_same at bit small few (append_cancel_left (codes "early,") (decimal at ++ codes "\n") (decimal bit ++ codes "\n") tails))
 early_kind t bit (Refused (Wrong at)) few small same = absurd (causes_apart t (codes "wrong") (codes "early") at bit 119 101 refl refl (λ e. omega (arith, e)) same)
+
+-- ---- what a line says
+
+-- texts are apart if two of their codes are
+texts_apart : (i : ℕ) (text other : List ℕ) (a b : ℕ) → get_or text i 0 ≡ a → get_or other i 0 ≡ b → (a ≡ b → ⊥) → text ≡ other → ⊥
+texts_apart i text other a b mine others apart same = apart (sym mine ∙ ap (λ (l : List ℕ). get_or l i 0) same ∙ others)
+
+-- what a line says of a fault's bit
+abbrev fault_text : List ℕ → ℕ → List ℕ
+fault_text cause bit = cause ++ (decimal bit ++ codes "\n")
+
+-- what a line says after its number
+abbrev line_text : Kind → ℕ → List ℕ → List ℕ → List ℕ
+line_text kind level packet mask = kind_text kind level ++ kind_vectors kind packet mask
+
+wrong_line_kind : (bit : ℕ) (kind : Kind) (level : ℕ) (packet mask : List ℕ) → bit < 2 ^ 64 → value_of kind < 2 ^ 64 → line_text kind level packet mask ≡ fault_text (codes " wrong ") bit → kind ≡ Refused (Wrong bit)
+wrong_line_kind bit Written level packet mask few small same = absurd (texts_apart 3 (line_text Written level packet mask) (fault_text (codes " wrong ") bit) 105 111 refl refl (λ e. omega (arith, e)) same)
+wrong_line_kind bit Repeat level packet mask few small same = absurd (texts_apart 1 (line_text Repeat level packet mask) (fault_text (codes " wrong ") bit) 114 119 refl refl (λ e. omega (arith, e)) same)
+wrong_line_kind bit (Unsynced false) level packet mask few small same = absurd (texts_apart 1 (line_text (Unsynced false) level packet mask) (fault_text (codes " wrong ") bit) 117 119 refl refl (λ e. omega (arith, e)) same)
+wrong_line_kind bit (Unsynced true) level packet mask few small same = absurd (texts_apart 1 (line_text (Unsynced true) level packet mask) (fault_text (codes " wrong ") bit) 117 119 refl refl (λ e. omega (arith, e)) same)
+wrong_line_kind bit (Gap reached false) level packet mask few small same = absurd (texts_apart 1 (line_text (Gap reached false) level packet mask) (fault_text (codes " wrong ") bit) 103 119 refl refl (λ e. omega (arith, e)) same)
+wrong_line_kind bit (Gap reached true) level packet mask few small same = absurd (texts_apart 1 (line_text (Gap reached true) level packet mask) (fault_text (codes " wrong ") bit) 103 119 refl refl (λ e. omega (arith, e)) same)
+wrong_line_kind bit (Refused (Wrong at)) level packet mask few small same =
+    let tails = append_cancel_left (codes " wrong ") (decimal at ++ codes "\n") (decimal bit ++ codes "\n") (sym (append-nil (fault_text (codes " wrong ") at)) ∙ same) in
+    ap (λ (n : ℕ). Refused (Wrong n)) (numbers_same at bit small few tails)
+wrong_line_kind bit (Refused (EndsEarly at)) level packet mask few small same = absurd (texts_apart 1 (line_text (Refused (EndsEarly at)) level packet mask) (fault_text (codes " wrong ") bit) 101 119 refl refl (λ e. omega (arith, e)) same)
+
+early_line_kind : (bit : ℕ) (kind : Kind) (level : ℕ) (packet mask : List ℕ) → bit < 2 ^ 64 → value_of kind < 2 ^ 64 → line_text kind level packet mask ≡ fault_text (codes " early ") bit → kind ≡ Refused (EndsEarly bit)
+early_line_kind bit Written level packet mask few small same = absurd (texts_apart 1 (line_text Written level packet mask) (fault_text (codes " early ") bit) 119 101 refl refl (λ e. omega (arith, e)) same)
+early_line_kind bit Repeat level packet mask few small same = absurd (texts_apart 1 (line_text Repeat level packet mask) (fault_text (codes " early ") bit) 114 101 refl refl (λ e. omega (arith, e)) same)
+early_line_kind bit (Unsynced false) level packet mask few small same = absurd (texts_apart 1 (line_text (Unsynced false) level packet mask) (fault_text (codes " early ") bit) 117 101 refl refl (λ e. omega (arith, e)) same)
+early_line_kind bit (Unsynced true) level packet mask few small same = absurd (texts_apart 1 (line_text (Unsynced true) level packet mask) (fault_text (codes " early ") bit) 117 101 refl refl (λ e. omega (arith, e)) same)
+early_line_kind bit (Gap reached false) level packet mask few small same = absurd (texts_apart 1 (line_text (Gap reached false) level packet mask) (fault_text (codes " early ") bit) 103 101 refl refl (λ e. omega (arith, e)) same)
+early_line_kind bit (Gap reached true) level packet mask few small same = absurd (texts_apart 1 (line_text (Gap reached true) level packet mask) (fault_text (codes " early ") bit) 103 101 refl refl (λ e. omega (arith, e)) same)
+early_line_kind bit (Refused (EndsEarly at)) level packet mask few small same =
+    let tails = append_cancel_left (codes " early ") (decimal at ++ codes "\n") (decimal bit ++ codes "\n") (sym (append-nil (fault_text (codes " early ") at)) ∙ same) in
+    ap (λ (n : ℕ). Refused (EndsEarly n)) (numbers_same at bit small few tails)
+early_line_kind bit (Refused (Wrong at)) level packet mask few small same = absurd (texts_apart 1 (line_text (Refused (Wrong at)) level packet mask) (fault_text (codes " early ") bit) 119 101 refl refl (λ e. omega (arith, e)) same)
 
 -- ---- what is known has f places
 
@@ -110,13 +142,6 @@ fault_of (Ok (answer.Unsynced mask)) fault is = absurd cc
 fault_of (Ok (answer.Gap level mask)) fault is = absurd cc
 fault_of (Err other) fault is = let same : other ≡ fault = cc in ap Err same
 
-small_by : (f : ℕ) (state : State) (t : ℕ) (bits : List Bool) (a : Result Reading BitFault) → length bits < 2 ^ 64 → IsExactAnswer f state t bits a → IsSmall (kind_of a)
-small_by f state t bits (Ok answer.Written) few exact = tt
-small_by f state t bits (Ok (answer.Unsynced mask)) few exact = tt
-small_by f state t bits (Ok (answer.Gap level mask)) few exact = tt
-small_by f state t bits (Err (Wrong bit)) few exact = omega (arith, few, exact.0.inside)
-small_by f state t bits (Err (EndsEarly bit)) few exact = omega (arith, few, exact.0.all)
-
 taken_by : (reading : Reading) → is_taken_or_listed (kind_of (Ok reading)) ≡ true
 taken_by answer.Written = refl
 taken_by (answer.Unsynced mask) = refl
@@ -130,10 +155,6 @@ module _ (f : ℕ) (known : Known) (has : IsState f known.state) where
     number_is = refl;
     exact = subst (IsExactAnswer f known.state t (bits_of body)) (fault_of (answer_of f known.state t (bits_of body)) fault is) (answer_of-exact f known.state t has (bits_of body));
   }
-
-  is_small : (body : List ℕ) (number : Option ℕ) → length body ≤ 65536 → IsSmall (judged_by f known body number).verdict.kind
-  is_small body None few = tt
-  is_small body (Some t) few = small_by f known.state t (bits_of body) (answer_of f known.state t (bits_of body)) (omega (arith, length-bits_of body)) (answer_of-exact f known.state t has (bits_of body))
 
   -- data that are read are taken or listed
   taken_at : (body : List ℕ) (number : Option ℕ) (t : ℕ) (front : List Bool) (d : BeginReadable f known.state t front) → number ≡ Some t → is_taken_or_listed (judged_by f known d.body number).verdict.kind ≡ true
@@ -187,13 +208,19 @@ module _ (f : ℕ) (some : 1 ≤ f) (most : f ≤ 49152) (before : List Arrival)
   number : Option ℕ
   number = number_after (known_after f before).latest arrival.count
 
-  small : IsSmall (judge f (known_after f before) arrival).verdict.kind
-  small = is_small f (known_after f before) known_has arrival.body (number_after (known_after f before).latest arrival.count) size
+  small : value_of (judge f (known_after f before) arrival).verdict.kind < 2 ^ 64
+  small = value_judged f (known_after f before) known_has arrival.body (number_after (known_after f before).latest arrival.count) size
 
-  pub wrong_first : (bit : ℕ) → bit < 2 ^ 64 → SaysRow (judge f (known_after f before) arrival) (codes "wrong") bit
+  -- the packet's own texts of its line
+  abbrev own_packet : List ℕ
+  own_packet = packet_vectors judged.change judged.verdict.t judged.after.state judged.after.state.content
+
+  abbrev own_mask : List ℕ
+  own_mask = mask_line judged.verdict.t judged.after.state.mask
+
+  wrong_at : (bit : ℕ) → (judge f (known_after f before) arrival).verdict.kind ≡ Refused (Wrong bit)
       → BeginData f before arrival.count (take bit (bits_of arrival.body)) × (BeginData f before arrival.count (take (bit + 1) (bits_of arrival.body)) → ⊥)
-  wrong_first bit few row =
-      let kind = wrong_kind (judge f (known_after f before) arrival).verdict.t bit (judge f (known_after f before) arrival).verdict.kind few small row in
+  wrong_at bit kind =
       let r = is_read f (known_after f before) known_has arrival.body (number_after (known_after f before).latest arrival.count) (Wrong bit) kind in
       let inside = r.exact.0.inside in
       let bits = bits_of arrival.body in
@@ -202,8 +229,27 @@ module _ (f : ℕ) (some : 1 ≤ f) (most : f ≤ 49152) (before : List Arrival)
         λ d. r.exact.0.hopeless (viable_of f some most before arrival.count r.t r.number_is (take (bit + 1) (bits_of arrival.body)) d),
       )
 
-  pub early_all : (bit : ℕ) → bit < 2 ^ 64 → SaysRow (judge f (known_after f before) arrival) (codes "early") bit → (bit ≡ length (bits_of arrival.body)) × BeginData f before arrival.count (bits_of arrival.body)
-  early_all bit few row =
-      let kind = early_kind (judge f (known_after f before) arrival).verdict.t bit (judge f (known_after f before) arrival).verdict.kind few small row in
+  early_at : (bit : ℕ) → (judge f (known_after f before) arrival).verdict.kind ≡ Refused (EndsEarly bit) → (bit ≡ length (bits_of arrival.body)) × BeginData f before arrival.count (bits_of arrival.body)
+  early_at bit kind =
       let r = is_read f (known_after f before) known_has arrival.body (number_after (known_after f before).latest arrival.count) (EndsEarly bit) kind in
       (r.exact.0.all, begun f some most before arrival.count r.t r.number_is (bits_of arrival.body) (omega (arith, length-bits_of arrival.body)) r.exact.1)
+
+  -- by a row of the report
+  pub wrong_first : (bit : ℕ) → bit < 2 ^ 64 → SaysRow (judge f (known_after f before) arrival) (codes "wrong") bit
+      → BeginData f before arrival.count (take bit (bits_of arrival.body)) × (BeginData f before arrival.count (take (bit + 1) (bits_of arrival.body)) → ⊥)
+  wrong_first bit few row = wrong_at bit (wrong_kind judged.verdict.t bit judged.verdict.kind few small row)
+
+  pub early_all : (bit : ℕ) → bit < 2 ^ 64 → SaysRow (judge f (known_after f before) arrival) (codes "early") bit → (bit ≡ length (bits_of arrival.body)) × BeginData f before arrival.count (bits_of arrival.body)
+  early_all bit few row = early_at bit (early_kind judged.verdict.t bit judged.verdict.kind few small row)
+
+  -- by a line of the listing
+  pub wrong_listed : (bit : ℕ) → bit < 2 ^ 64 → SaysLine (judge f (known_after f before) arrival) (codes "wrong") bit
+      → BeginData f before arrival.count (take bit (bits_of arrival.body)) × (BeginData f before arrival.count (take (bit + 1) (bits_of arrival.body)) → ⊥)
+  wrong_listed bit few line =
+      let text = append_cancel_left (decimal judged.verdict.t) (line_text judged.verdict.kind (level_of judged.change) own_packet own_mask) (fault_text (codes " wrong ") bit) line in
+      wrong_at bit (wrong_line_kind bit judged.verdict.kind (level_of judged.change) own_packet own_mask few small text)
+
+  pub early_listed : (bit : ℕ) → bit < 2 ^ 64 → SaysLine (judge f (known_after f before) arrival) (codes "early") bit → (bit ≡ length (bits_of arrival.body)) × BeginData f before arrival.count (bits_of arrival.body)
+  early_listed bit few line =
+      let text = append_cancel_left (decimal judged.verdict.t) (line_text judged.verdict.kind (level_of judged.change) own_packet own_mask) (fault_text (codes " early ") bit) line in
+      early_at bit (early_line_kind bit judged.verdict.kind (level_of judged.change) own_packet own_mask few small text)

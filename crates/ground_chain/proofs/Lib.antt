@@ -1,20 +1,22 @@
 mod Distances
-mod Runs
+pub mod Runs
 mod Sound
-mod Told
-mod LastArrivals
-mod HistoryPackets
-mod HistoryRuns
-mod HistoryBytes
-mod HistoryNumbers
-mod HistoryRows
-mod ListedRows
-mod Counted
-mod Receptions
+pub mod Told
+pub mod LastArrivals
+pub mod HistoryPackets
+pub mod HistoryRuns
+pub mod HistoryBytes
+pub mod HistoryNumbers
+pub mod HistoryRows
+pub mod ListedRows
+pub mod Counted
+pub mod EveryRun
+pub mod Receptions
+pub mod Reckonings
 mod FirstWrong
 mod TakenOut
-mod Writings
+pub mod Writings
 mod LinePieces
-mod RestCourses
+pub mod RestCourses
 pub mod PlayedHistories
 pub mod DeliveredRuns

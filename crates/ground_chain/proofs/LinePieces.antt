@@ -3,10 +3,9 @@ use Rattle.std.proofs.Common.{◌≡◌, ℕ, eqb, if◌then◌else◌, Bool, tr
 use Rattle.std.specs.Fmt.{decimal}
 use Rattle.std.specs.Option.{option_eq}
 use Rattle.bit_vectors.specs.declared.fault.BitFault.TheVariants.{Wrong, EndsEarly}
-use Rattle.desk_ports.specs.declared.desk.Outlet.{Outlet}
 use Rattle.desk_ports.specs.declared.desk.Outlet.TheVariants as outlet
-use Rattle.desk_ports.specs.Meanings.{Meanings, Adds, AddsFront}
-use Rattle.desk_ports.proofs.Transfers.{Adds-then}
+use Rattle.desk_ports.specs.Meanings.{Meanings, AddsFront}
+use Rattle.desk_ports.proofs.Transfers.{AddsFront-then}
 use Rattle.packet_decode.specs.State.{KnownVector, State}
 use Rattle.packet_decode.specs.Decoding.{Decoding, latest_content, number_of, vector_of}
 use Rattle.ground_chain.specs.declared.verdict.Kind.{Kind}
@@ -16,24 +15,6 @@ use Rattle.ground_chain.specs.Reception.{AgreesWith}
 use Rattle.ground_chain.specs.Listing.{front_line, judged_lines, kind_text, kind_vectors, known_with, latest_vectors, level_of, lost_line, shown_vectors, mask_line, mask_text, own_vectors, packet_vectors, vector_digits, vectors_text}
 
 -- ---- pieces
-
--- a front of some bytes is one of these and more
-pub AddsFront-then : (a b : Meanings) (o : Outlet) (xs ys : List ℕ) → AddsFront a b o xs → AddsFront a b o (xs ++ ys)
-AddsFront-then a b o xs ys cut = record {
-  front = cut.front;
-  rest = cut.rest ++ ys;
-  joined = sym (append_assoc cut.front cut.rest ys) ∙ ap (λ (l : List ℕ). l ++ ys) cut.joined;
-  added = cut.added;
-}
-
--- some bytes, and a front of others
-pub AddsFront-after : (a b c : Meanings) (o : Outlet) (xs ys : List ℕ) → Adds a b o xs → AddsFront b c o ys → AddsFront a c o (xs ++ ys)
-AddsFront-after a b c o xs ys adds cut = record {
-  front = xs ++ cut.front;
-  rest = cut.rest;
-  joined = append_assoc xs cut.front cut.rest ∙ ap (λ (l : List ℕ). xs ++ l) cut.joined;
-  added = Adds-then a b c o xs cut.front adds cut.added;
-}
 
 -- the vectors of a line, each with what stands after it
 pub vectors_text-pieces : (recent : List Bool) (mask : Option (List Bool)) (content : List Bool)

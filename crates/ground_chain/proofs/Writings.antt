@@ -1,5 +1,5 @@
 -- What is written of one arrival: its rows, and then its content.
-use Rattle.std.proofs.Common.{◌≡◌, ℕ, Bool, true, false, if◌then◌else◌, List, [], Option, Result, Ok, Err, OnOk, OnErr, refl, sym, ap, ◌∙◌, subst, append-nil}
+use Rattle.std.proofs.Common.{◌≡◌, ℕ, Bool, true, false, if◌then◌else◌, List, [], Option, refl, sym, ap, ◌∙◌, subst, append-nil}
 use Rattle.bit_vectors.specs.Vectors.{vector_bytes}
 use Rattle.desk_ports.specs.declared.desk.Outlet.TheVariants as outlet
 use Rattle.desk_ports.specs.Meanings.{Meanings, Adds, AddsFront}
@@ -15,18 +15,6 @@ use Rattle.ground_chain.specs.Run.{Judged}
 use Rattle.ground_chain.specs.Report.{is_written_kind, content_bytes, known_bytes, verdict_rows, written_bytes}
 use Rattle.ground_chain.specs.Reception.{AgreesWith}
 use Rattle.ground_chain.specs.Restoring.{restored_texts}
-
-pub OnErr-always : {T E : Type 0} (r : Result T E) (P : Type 0) → P → OnErr r P
-OnErr-always (Ok x) P p = tt
-OnErr-always (Err e) P p = p
-
-pub OnErr-map : {T E P Q : Type 0} (r : Result T E) → (P → Q) → OnErr r P → OnErr r Q
-OnErr-map (Ok x) f p = tt
-OnErr-map (Err e) f p = f p
-
-pub OnOk-map : {T E P Q : Type 0} (r : Result T E) → (P → Q) → OnOk r P → OnOk r Q
-OnOk-map (Ok x) f p = f p
-OnOk-map (Err e) f p = tt
 
 pub kind_written : (k : Kind) → is_written_kind k ≡ true → k ≡ Written
 kind_written Written is = refl

@@ -5,6 +5,7 @@ pub mod Report
 pub mod Told
 pub mod Deliveries
 pub mod Reception
+pub mod Reckoning
 pub mod Accounts
 pub mod Restoring
 pub mod Receiving

@@ -2,6 +2,7 @@
 use Rattle.std.specs.Prelude.{◌≡◌, ◌==◌, ℕ, ◌*◌, ◌++◌, Bool, true, false, if◌then◌else◌, List, [], codes, Option, Some, None, unwrap_or, vec_len}
 use Rattle.std.specs.Fmt.{decimal}
 use Rattle.std.specs.List.{flat_map}
+use Rattle.std.specs.Vec.{vec_capacity}
 use Rattle.bit_vectors.specs.declared.fault.BitFault.TheVariants.{Wrong, EndsEarly}
 use Rattle.bit_vectors.specs.Vectors.{byte_count, vector_bytes}
 use Rattle.desk_ports.specs.Courses.{Course, Work, to_output}
@@ -146,10 +147,13 @@ listing_work f apid = store_work (listing_course f apid) f apid
 abbrev pub listed_texts : Texts
 listed_texts = record { parts = λ judged. to_output (judged_lines judged); last = λ restored. to_output (end_line restored) }
 
--- there is room for the bytes of a vector of f places, and for their digits
+-- there is room for the bytes of a vector of f places, and for their digits, and never more room, so that no memory is
+-- taken
 pub record HasVectorRoom (listing : Listing) (f : ℕ) : Type 0 where
   pub bytes : vec_len listing.bytes ≡ byte_count f
   pub digits : vec_len listing.digits ≡ 2 * byte_count f
+  pub bytes_taken : vec_capacity listing.bytes ≡ byte_count f
+  pub digits_taken : vec_capacity listing.digits ≡ 2 * byte_count f
 
 -- ---- a line in pieces
 

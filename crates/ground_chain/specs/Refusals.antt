@@ -1,5 +1,6 @@
 -- What a refusal says of the data of an arrival, and when an arrival that is not written can be taken out.
 use Rattle.std.specs.Prelude.{◌≡◌, ℕ, ◌+◌, ◌<◌, ◌≤◌, Bool, true, false, not, if◌then◌else◌, List, [], ◌∷◌, ◌++◌, All, length, Option, Some, None, Result, ⊤}
+use Rattle.std.specs.Fmt.{decimal}
 use Rattle.std.specs.List.{flat_map}
 use Rattle.bit_vectors.specs.declared.fault.BitFault.{BitFault}
 use Rattle.bit_vectors.specs.Vectors.{AreBytes, bits_of}
@@ -14,6 +15,7 @@ use Rattle.ground_chain.specs.Numbers.{number_after}
 use Rattle.ground_chain.specs.Run.{Arrival, Judged, judge, known_after, verdict_of}
 use Rattle.ground_chain.specs.Report.{is_written_kind, number_row, own_row}
 use Rattle.ground_chain.specs.Reception.{Reception}
+use Rattle.ground_chain.specs.Listing.{cause_text, own_line}
 
 -- ---- the verdict of an arrival that is no repeat
 
@@ -46,6 +48,10 @@ pub record BeginData (f : ℕ) (before : List Arrival) (count : ℕ) (front : Li
 -- the report's row of an arrival names its number, this cause and this value
 abbrev pub SaysRow : Judged → List ℕ → ℕ → Type 0
 SaysRow judged cause value = own_row judged.verdict.t judged.verdict.kind ≡ number_row judged.verdict.t cause value
+
+-- and so does the listing's line of it
+abbrev pub SaysLine : Judged → List ℕ → ℕ → Type 0
+SaysLine judged cause value = own_line judged ≡ decimal judged.verdict.t ++ cause_text cause (Some value) None
 
 -- ---- what a run writes
 

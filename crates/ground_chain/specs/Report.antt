@@ -1,7 +1,8 @@
 -- What is written of a run: the restored packets and the report, and the numbers of the report's last row.
-use Rattle.std.specs.Prelude.{ℕ, ◌+◌, ◌-◌, Bool, true, false, ◌||◌, if◌then◌else◌, List, [], ◌++◌, length, codes, Option, Some, None}
+use Rattle.std.specs.Prelude.{◌≡◌, ℕ, ◌+◌, ◌-◌, ◌^◌, ◌<◌, IfSome, Bool, true, false, ◌||◌, if◌then◌else◌, List, [], ◌++◌, length, codes, Option, Some, None}
 use Rattle.std.specs.Fmt.{decimal}
 use Rattle.std.specs.List.{flat_map, count_by, sum_by}
+use Rattle.std.specs.Option.{option_map}
 use Rattle.bit_vectors.specs.declared.fault.BitFault.TheVariants.{Wrong, EndsEarly}
 use Rattle.bit_vectors.specs.Vectors.{vector_bytes}
 use Rattle.packet_decode.specs.State.{KnownVector, State}
@@ -61,6 +62,10 @@ content_bytes state = known_bytes state.content
 abbrev pub written_bytes : Judged → List ℕ
 written_bytes judged = if is_written_kind judged.verdict.kind then content_bytes judged.after.state else []
 
+-- a content is known, which has f places
+abbrev pub HasContent : ℕ → State → Type 0
+HasContent f state = option_map (λ (known : KnownVector). length known.vector) state.content ≡ Some f
+
 -- the restored packets of a run
 abbrev pub run_bytes : List Judged → List ℕ
 run_bytes judged = flat_map written_bytes judged
@@ -96,6 +101,21 @@ verdict_rows verdict = lost_row verdict.lost ++ own_row verdict.t verdict.kind
 -- the rows of a run, arrival by arrival
 abbrev pub run_rows : List Judged → List ℕ
 run_rows judged = flat_map (λ j. verdict_rows j.verdict) judged
+
+-- what belongs to the cause of an arrival that is not written
+abbrev pub value_of : Kind → ℕ
+value_of Written = 0
+value_of Repeat = 0
+value_of (Unsynced mask) = 0
+value_of (Gap level mask) = level
+value_of (Refused (Wrong bit)) = bit
+value_of (Refused (EndsEarly bit)) = bit
+
+-- the numbers in the rows of a verdict are numbers of 64 bits
+pub record HasRowNumbers (verdict : Verdict) : Type 0 where
+  pub lost : IfSome verdict.lost (λ lost. (lost.first < 2 ^ 64) × (lost.last < 2 ^ 64))
+  pub number : verdict.t < 2 ^ 64
+  pub value : value_of verdict.kind < 2 ^ 64
 
 -- ---- numbers
 

@@ -1,6 +1,7 @@
 -- What restoring a store owes: the run over its packets of the chosen APID.
 use Rattle.std.specs.Prelude.{◌≡◌, ℕ, List, ◌++◌, map, Option, Some, vec_len}
 use Rattle.std.specs.List.{filter}
+use Rattle.std.specs.Vec.{vec_capacity}
 use Rattle.bit_vectors.specs.Vectors.{byte_count}
 use Rattle.desk_ports.specs.Stop.{Stop}
 use Rattle.desk_ports.specs.Stop as stop
@@ -54,9 +55,10 @@ stop_by restore.WriteFault = stop.WriteFault
 abbrev pub restored_texts : Texts
 restored_texts = record { parts = λ judged. record { output = written_bytes judged; report = verdict_rows judged.verdict }; last = λ restored. to_report (end_row restored) }
 
--- there is room for the bytes of a content of f places
-abbrev pub HasContentRoom : Reporting → ℕ → Type 0
-HasContentRoom reporting f = vec_len reporting.line ≡ byte_count f
+-- there is room for the bytes of a content of f places, and never more room, so that no memory is taken
+pub record HasContentRoom (reporting : Reporting) (f : ℕ) : Type 0 where
+  pub bytes : vec_len reporting.line ≡ byte_count f
+  pub taken : vec_capacity reporting.line ≡ byte_count f
 
 -- a restorer that has read nothing: the places of its vectors, and the chosen APID
 pub record RestorerState : Type 0 where

@@ -1,13 +1,14 @@
 //! What the definitions of numbers and runs mean.
 
-ghost use Rattle.std.specs.Prelude.{◌≡◌, ◌<◌, ◌≤◌, ◌↔◌, ◌∷◌, [], ◌++◌, ◌+◌, ℕ, length, true, false, All, List, Some, None, map};
+ghost use Rattle.std.specs.Prelude.{◌≡◌, ◌^◌, ◌<◌, ◌≤◌, ◌↔◌, ◌∷◌, [], ◌++◌, ◌+◌, ℕ, length, true, false, All, List, Some, None, map};
 ghost use Rattle.std.specs.List.{range_with_len};
+ghost use Rattle.bit_vectors.specs.Vectors.{byte_count};
 ghost use Rattle.packet_store.specs.SpacePackets.{period};
 ghost use Rattle.ground_chain.specs.Numbers.{HasCount, number_after, expected};
 ghost use Rattle.ground_chain.specs.Run.{Arrival, Judged, judge, known_after, repeat_judged, run, run_from};
 ghost use Rattle.ground_chain.specs.Listing.{IsToldAlike, listed_texts, listing_course, run_listing};
 ghost use Rattle.ground_chain.specs.Receiving.{store_course};
-ghost use Rattle.ground_chain.specs.Report.{header_row, is_repeat, is_unwritten, own_row, restored_of, run_bytes, run_report, run_rows};
+ghost use Rattle.ground_chain.specs.Report.{HasContent, HasRowNumbers, header_row, is_repeat, is_unwritten, own_row, restored_of, run_bytes, run_report, run_rows, written_bytes};
 ghost use Rattle.ground_chain.specs.Sound.{IsExactRun, IsSoundRun, but_for_faults};
 ghost use Rattle.ground_chain.specs.Restoring.{restore_course, restored_texts, store_run};
 ghost use Rattle.ground_chain.specs.Worked.{arrival, written_verdict};
@@ -98,6 +99,24 @@ pub fn numbers_count_the_run()
     ensures listed { (f : ℕ) (arrivals : List Arrival) → AreArrivals arrivals
         → let restored = restored_of (run f arrivals) in
         restored.written + restored.listed ≡ expected (known_after f arrivals).latest }
+{}
+
+/// The content of a written arrival has the places of the run, and so its bytes are as many as those of a vector.
+pub fn contents_have_the_places()
+    ensures places { (f : ℕ) (arrivals : List Arrival) →
+        All (λ judged. judged.verdict.kind ≡ Kind.Written → HasContent f judged.after.state)
+        (run f arrivals) }
+    ensures bytes { (f : ℕ) (arrivals : List Arrival) →
+        All (λ judged. judged.verdict.kind ≡ Kind.Written
+        → length (written_bytes judged) ≡ byte_count f) (run f arrivals) }
+{}
+
+/// The numbers in the rows of a run are numbers of 64 bits, over as many arrivals as a store may have. The data of an
+/// arrival are 65,536 bytes at most.
+pub fn row_numbers_are_small()
+    ensures { (f : ℕ) (arrivals : List Arrival) → AreArrivals arrivals
+        → All (λ arrival. length arrival.body ≤ 65536) arrivals → length arrivals ≤ 2 ^ 32
+        → All (λ judged. HasRowNumbers judged.verdict) (run f arrivals) }
 {}
 
 /// What a whole store owes is the restored packets and the report of the run over its packets of the chosen APID, and as

@@ -27,14 +27,13 @@ pub struct Lister {
 
 impl Model for Lister {
     ghost use Rattle.ground_chain.specs.Restoring.{RestorerState};
-    ghost use Rattle.ground_chain.specs.Listing.{HasVectorRoom};
     ghost use Rattle.ground_chain.specs.Receiving.{IsUnread, receiving_state};
 
     ghost Value = { RestorerState };
 
     ghost view = { λ l. receiving_state l.receiving };
 
-    ghost invariant = { λ l. IsUnread HasVectorRoom l.receiving };
+    ghost invariant = { λ l. IsUnread l.receiving };
 }
 
 impl Lister {

@@ -8,7 +8,7 @@ use crate::account::Account;
 use crate::lines::{end_line, front_of};
 use crate::restored::Restored;
 use crate::verdict::{Kind, Verdict};
-use bit_vectors::{Bits, NoMemory, byte_len};
+use bit_vectors::{Bits, NoMemory, byte_len, zero_bytes};
 use desk_ports::{Desk, Failed, Outlet, write_all};
 use packet_decode::Decoder;
 use std::alloc::Global;
@@ -59,8 +59,8 @@ impl Listing {
         ensures { IfOk result (λ listing. HasVectorRoom listing f) }
     {
         let length = byte_len(f) as usize;
-        let bytes = vec![in alloc; 0; length]?;
-        let digits = vec![in alloc; 0; 2 * length]?;
+        let bytes = zero_bytes(alloc, length)?;
+        let digits = zero_bytes(alloc, 2 * length)?;
         Ok(Listing { bytes, digits })
     }
 

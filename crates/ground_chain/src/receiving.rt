@@ -1,27 +1,21 @@
 //! A store that is being received, packet by packet, with an account of its arrivals.
 
-ghost use Rattle.std.specs.Prelude.{◌+◌, ◌-◌, ◌*◌, ◌^◌, ◌<◌, ◌≤◌, length, IfOk, OnOk, OnErr};
-ghost use Rattle.desk_ports.specs.Meanings.{HasWriteCause};
-ghost use Rattle.desk_ports.specs.Turns.{AreReady, Wrote, WroteFront};
-ghost use Rattle.ground_chain.specs.Numbers.{expected};
-ghost use Rattle.ground_chain.specs.Reception.{next_judged};
+ghost use Rattle.std.specs.Prelude.{◌≡◌, ◌-◌, ◌^◌, ◌≤◌, IfOk};
 
 use crate::account::Account;
-use crate::arrivals::Ground;
 use crate::fault::RestoreFault;
+use crate::judging::Judging;
 use crate::restored::Restored;
 use bit_vectors::NoMemory;
-use desk_ports::{Desk, Failed, Run, Turn};
-use packet_store::{PERIOD, StoreReader, WalkFault};
+use desk_ports::{Desk, Run, Turn};
+use packet_store::{StoreReader, WalkFault};
 use std::alloc::Global;
 
-/// A reader, the arrivals so far with their numbers, and the account of them.
+/// A reader, and the arrivals so far.
 #[derive(Debug, Drop)]
 pub struct Receiving<A: Account> {
     reader: StoreReader,
-    arrivals: Ground,
-    restored: Restored,
-    account: A,
+    judging: Judging<A>,
 }
 
 impl<A: Account> Run for Receiving<A> {
@@ -34,7 +28,7 @@ impl<A: Account> Run for Receiving<A> {
     ghost use Rattle.ground_chain.specs.Restoring.{stop_by};
     ghost use Rattle.ground_chain.specs.Receiving.{Owes};
 
-    ghost owes = { Owes A.texts A.has_room };
+    ghost owes = { Owes A.texts };
 
     ghost stop_of = { stop_by };
 
@@ -44,18 +38,19 @@ impl<A: Account> Run for Receiving<A> {
 
     fn turn<D: Desk>(&mut self, desk: &mut D) -> Result<Turn<Restored>, RestoreFault> {
         let Some(taken) = self.reader.next(desk)? else {
-            self.account.end(desk, &self.restored)?;
-            return Ok(Turn::Done(self.restored));
+            self.judging.end(desk)?;
+            return Ok(Turn::Done(*self.judging.restored()));
         };
         if taken.chosen {
-            self.arrive(desk, taken.count)?;
+            let body = self.reader.body();
+            self.judging.arrive(desk, taken.count, body)?;
         }
         Ok(Turn::More)
     }
 }
 
 impl<A: Account> Receiving<A> {
-    ghost use Rattle.ground_chain.specs.Receiving.{IsReceiving, HasReadNothing, Judges};
+    ghost use Rattle.ground_chain.specs.Receiving.{nothing_received};
 
     /// Nothing is read. Takes all memory of the run but the account's.
     pub fn open(alloc: Global, f: u32, apid: u16, account: A) -> Result<Receiving<A>, NoMemory>
@@ -63,39 +58,10 @@ impl<A: Account> Receiving<A> {
         requires most { f ≤ 49152 }
         requires chosen { apid ≤ 2046 }
         requires room { A.has_room account f }
-        ensures { IfOk result (HasReadNothing A.has_room f apid) }
+        ensures { IfOk result (λ receiving. receiving ≡ nothing_received f apid) }
     {
         let reader = StoreReader::open(alloc, apid)?;
-        let arrivals = Ground::open(alloc, f)?;
-        Ok(Receiving {
-            reader,
-            arrivals,
-            restored: Restored::none(),
-            account,
-        })
-    }
-
-    /// Judges the packet that was read, which has this sequence count, and writes what the account writes of it.
-    fn arrive<D: Desk>(&mut self, desk: &mut D, count: u16) -> Result<(), Failed>
-        requires count_bits { count < PERIOD }
-        requires some { 0 < length self.old.reader.body }
-        requires most { length self.old.reader.body ≤ 65536 }
-        requires few { self.old.reader.taken ≤ 2 ^ 32 }
-        requires right { IsReceiving A.has_room self.old }
-        requires packets { self.old.restored.packets < self.old.reader.taken }
-        requires latest { expected self.old.arrivals.latest + PERIOD
-            ≤ 2 ^ 14 * self.old.reader.taken }
-        requires ready { AreReady A.writes (D.meaning desk.old) }
-        ensures judges { Judges self.old self.new count }
-        ensures wrote { OnOk result (Wrote (D.meaning desk.old) (D.meaning desk.new)
-            (A.texts.parts (next_judged self.old.arrivals count self.old.reader.body))) }
-        ensures front { OnErr result (WroteFront (D.meaning desk.old) (D.meaning desk.new)
-            (A.texts.parts (next_judged self.old.arrivals count self.old.reader.body))) }
-        ensures right { IsReceiving A.has_room self.new }
-        ensures cause { HasWriteCause (D.counts desk.old) (D.counts desk.new) result }
-    {
-        let verdict = self.arrivals.arrive(count, self.reader.body());
-        self.restored.count(&verdict);
-        self.account.write(desk, &verdict, self.arrivals.decoder())
+        let judging = Judging::open(alloc, f, account)?;
+        Ok(Receiving { reader, judging })
     }
 }

@@ -7,7 +7,7 @@ ghost use Rattle.packet_decode.specs.State.{IsState};
 ghost use Rattle.packet_decode.specs.Answers.{IsExactAnswer};
 ghost use Rattle.packet_store.specs.Walks.{walk};
 ghost use Rattle.ground_chain.specs.Listing.{listing_course, run_listing};
-ghost use Rattle.ground_chain.specs.Refusals.{BeginData, CanBeTakenOut, SaysRow, run_written};
+ghost use Rattle.ground_chain.specs.Refusals.{BeginData, CanBeTakenOut, SaysLine, SaysRow, run_written};
 ghost use Rattle.ground_chain.specs.Report.{run_bytes, run_report};
 ghost use Rattle.ground_chain.specs.Restoring.{arrivals_of, restore_course, store_run};
 ghost use Rattle.ground_chain.specs.Run.{Arrival, Judged, Known, judge, known_after, run};
@@ -37,9 +37,9 @@ pub fn commands_follow_the_exact_run()
         owed (listing_course f apid store) ≡ to_output (run_listing judged) }
 {}
 
-/// The first wrong bit is tight. If the report says `t,t,wrong,p` of an arrival, the first p bits of its data begin some data
-/// that the ground would take or list at this place, and the first p + 1 begin none. If it says `t,t,early,p`, these are
-/// all its bits, and they begin some.
+/// The first wrong bit is tight. If the report says `t,t,wrong,p` of an arrival, or the listing `t wrong p`, the first p bits
+/// of its data begin some data that the ground would take or list at this place, and the first p + 1 begin none. If it says
+/// `t,t,early,p` or `t early p`, these are all its bits, and they begin some.
 pub fn wrong_bits_are_the_first()
     ensures wrong { (f bit : ℕ) (before : List Arrival) (arrival : Arrival) →
         1 ≤ f → f ≤ 49152 → length arrival.body ≤ 65536 → bit < 2 ^ 64 →
@@ -49,6 +49,16 @@ pub fn wrong_bits_are_the_first()
     ensures early { (f bit : ℕ) (before : List Arrival) (arrival : Arrival) →
         1 ≤ f → f ≤ 49152 → length arrival.body ≤ 65536 → bit < 2 ^ 64 →
         SaysRow (judge f (known_after f before) arrival) (codes "early") bit →
+        (bit ≡ length (bits_of arrival.body))
+        × BeginData f before arrival.count (bits_of arrival.body) }
+    ensures listed_wrong { (f bit : ℕ) (before : List Arrival) (arrival : Arrival) →
+        1 ≤ f → f ≤ 49152 → length arrival.body ≤ 65536 → bit < 2 ^ 64 →
+        SaysLine (judge f (known_after f before) arrival) (codes "wrong") bit →
+        BeginData f before arrival.count (take bit (bits_of arrival.body))
+        × (BeginData f before arrival.count (take (bit + 1) (bits_of arrival.body)) → ⊥) }
+    ensures listed_early { (f bit : ℕ) (before : List Arrival) (arrival : Arrival) →
+        1 ≤ f → f ≤ 49152 → length arrival.body ≤ 65536 → bit < 2 ^ 64 →
+        SaysLine (judge f (known_after f before) arrival) (codes "early") bit →
         (bit ≡ length (bits_of arrival.body))
         × BeginData f before arrival.count (bits_of arrival.body) }
 {}
@@ -76,8 +86,10 @@ pub fn refused_means_lost()
 
 /// A worked refusal with vectors of 8 places: after the first packet the data `43 00` come, and then twice the next packet.
 pub fn worked_refusals()
-    // The report says `1,1,wrong,8`. The first 8 bits begin the data `43 A0`, which would be written.
+    // The report says `1,1,wrong,8`, and the listing `1 wrong 8`. The first 8 bits begin the data `43 A0`, which would be written.
     ensures row { SaysRow
+        (judge 8 (known_after 8 first_packet) (arrival 1 (0x43 ∷ 0x00 ∷ []))) (codes "wrong") 8 }
+    ensures line { SaysLine
         (judge 8 (known_after 8 first_packet) (arrival 1 (0x43 ∷ 0x00 ∷ []))) (codes "wrong") 8 }
     ensures begins { BeginData 8 first_packet 1 (take 8 (bits_of (0x43 ∷ 0x00 ∷ []))) }
     // It can be taken out with its repeat: packet 2 is still told by its count.

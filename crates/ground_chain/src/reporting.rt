@@ -10,7 +10,7 @@ use crate::account::Account;
 use crate::report::{end_row, rows_of};
 use crate::restored::Restored;
 use crate::verdict::Verdict;
-use bit_vectors::{NoMemory, byte_len};
+use bit_vectors::{NoMemory, byte_len, zero_bytes};
 use desk_ports::{Desk, Failed, Outlet, write_all};
 use packet_decode::Decoder;
 use std::alloc::Global;
@@ -30,7 +30,7 @@ impl Reporting {
         requires most { f ≤ 49152 }
         ensures { IfOk result (λ reporting. HasContentRoom reporting f) }
     {
-        let line = vec![in alloc; 0; byte_len(f) as usize]?;
+        let line = zero_bytes(alloc, byte_len(f) as usize)?;
         Ok(Reporting { line })
     }
 }

@@ -26,14 +26,14 @@ pub struct Restorer {
 }
 
 impl Model for Restorer {
-    ghost use Rattle.ground_chain.specs.Restoring.{HasContentRoom, RestorerState};
+    ghost use Rattle.ground_chain.specs.Restoring.{RestorerState};
     ghost use Rattle.ground_chain.specs.Receiving.{IsUnread, receiving_state};
 
     ghost Value = { RestorerState };
 
     ghost view = { λ r. receiving_state r.receiving };
 
-    ghost invariant = { λ r. IsUnread HasContentRoom r.receiving };
+    ghost invariant = { λ r. IsUnread r.receiving };
 }
 
 impl Restorer {

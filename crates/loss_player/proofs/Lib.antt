@@ -1,4 +1,4 @@
-mod Tallies
+pub mod Tallies
 mod Copies
 mod PlayCourses
 mod PlayedPackets

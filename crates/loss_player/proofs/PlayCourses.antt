@@ -73,7 +73,7 @@ Reads-played s t reader a b given takes is = subst (λ (r : ReaderState). ReadsP
   goes_on = record {
     before = λ packets. ap to_output (taken_bytes s t reader a b given takes is packets);
     answer = λ packets. taken_numbers s t reader a b given takes is packets;
-    last = refl;
+    after = λ packets. ap (λ (numbers : Played). to_report (play_report numbers)) (taken_numbers s t reader a b given takes is packets);
   };
 })
 
@@ -92,11 +92,12 @@ Owes-played s t reader a b given work owes takes is counted =
       counted = counted;
     }
 
--- if nothing is left, the numbers are those so far
-pub IsDone-played : (s : Playing) (work : Work Played WalkFault) → Owes s work → IsDone (left_to_play s) s.tally.played
+-- if nothing is left, the report of the numbers so far is owed
+pub IsDone-played : (s : Playing) (work : Work Played WalkFault) → Owes s work → IsDone (left_to_play s) (to_report (play_report s.tally.played)) s.tally.played
 IsDone-played s work owes =
     let count : s.tally.played.packets + 0 ≡ s.tally.played.packets = omega arith in
-    record { nothing = refl; answer_is = ap (played_of (copies_of s.script)) count ∙ sym (ap (λ (t : Tally). t.played) owes.counted.counted) }
+    let numbers = ap (played_of (copies_of s.script)) count ∙ sym (ap (λ (t : Tally). t.played) owes.counted.counted) in
+    record { nothing = refl; last_is = ap (λ (played : Played). to_report (play_report played)) numbers; answer_is = numbers }
 
 -- ---- the whole store
 

@@ -64,7 +64,7 @@ abbrev pub left_to_play : Playing → StoreWork Played
 left_to_play s = record {
   before = λ packets. to_output (packets_bytes (played_from s.reader.chosen (copies_of s.script) s.tally.played.packets packets));
   answer = all_numbers s;
-  last = λ played. to_report (play_report played);
+  after = λ packets. to_report (play_report (all_numbers s packets));
 }
 
 -- the work of playing what is left of the store

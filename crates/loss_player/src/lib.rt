@@ -14,5 +14,5 @@ pub use laws::{
     short_gaps_are_told, undisturbed_stores_are_unchanged, whole_stores_owe_their_report,
     worked_reports, worked_stores,
 };
-pub use played::Played;
+pub use played::{Played, Tally};
 pub use player::Player;

@@ -16,7 +16,7 @@ use Rattle.packet_store.specs.SpacePackets.{Packet}
 use Rattle.packet_store.specs.Walks.{Walk, walk_from}
 use Rattle.packet_store.specs.Faults.{stop_of}
 use Rattle.packet_store.specs.StoreReader.{ReaderState, walk_on, Takes, Stops, AfterFault}
-use Rattle.packet_store.specs.StoreWorks.{StoreWork, course_on, work_on}
+use Rattle.packet_store.specs.StoreWorks.{StoreWork, course_on, work_on, work_telling}
 use Rattle.packet_store.proofs.Walks.{walk_from-none}
 
 -- ---- the store is not read on
@@ -45,7 +45,7 @@ packet_of header reader = record { header = header; body = reader.body }
 pub record GoesOn {A : Type 0} (k next : StoreWork A) (p : Packet) (outputs : Outputs) : Type 0 where
   pub before : (packets : List Packet) → k.before (p ∷ packets) ≡ put outputs (next.before packets)
   pub answer : (packets : List Packet) → k.answer (p ∷ packets) ≡ next.answer packets
-  pub last : k.last ≡ next.last
+  pub after : (packets : List Packet) → k.after (p ∷ packets) ≡ next.after packets
 
 -- A packet was read that owes this output, and after it other work is to do.
 pub record ReadsPacket {A : Type 0} (k next : StoreWork A) (s t : ReaderState) (a b : Meanings) (outputs : Outputs) : Type 0 where
@@ -53,15 +53,15 @@ pub record ReadsPacket {A : Type 0} (k next : StoreWork A) (s t : ReaderState) (
   pub takes : Takes s t a b given
   pub goes_on : GoesOn k next (packet_of takes.header t) outputs
 
-Steps-on : {A : Type 0} (k next : StoreWork A) (s t : ReaderState) (a b : Meanings) (outputs : Outputs) (reads : ReadsPacket k next s t a b outputs) → Steps (work_on k s) (work_on next t) reads.takes.taken outputs
+-- the bytes of the packet were taken, and this output is owed for them
+pub Steps-on : {A : Type 0} (k next : StoreWork A) (s t : ReaderState) (a b : Meanings) (outputs : Outputs) (reads : ReadsPacket k next s t a b outputs) → Steps (work_on k s) (work_on next t) reads.takes.taken outputs
 Steps-on k next s t a b outputs reads = record {
   course = λ rest.
       let ps = (walk_on t rest).packets in
       let before = reads.goes_on.before ps in
-      let answer = reads.goes_on.answer ps in
-      let last = reads.goes_on.last in
-      ap (λ (w : Walk). record { before = k.before w.packets; after = k.last (k.answer w.packets); ending = w.ending }) (reads.takes.goes_on rest)
-      ∙ (λ i. record { before = before i; after = last i (answer i); ending = (walk_on t rest).ending });
+      let after = reads.goes_on.after ps in
+      ap (λ (w : Walk). record { before = k.before w.packets; after = k.after w.packets; ending = w.ending }) (reads.takes.goes_on rest)
+      ∙ (λ i. record { before = before i; after = after i; ending = (walk_on t rest).ending });
   answer = λ rest. ap (λ (w : Walk). k.answer w.packets) (reads.takes.goes_on rest) ∙ reads.goes_on.answer (walk_on t rest).packets;
 }
 
@@ -76,22 +76,38 @@ IsCutShort-on reads is front = IsCutShort-taken is (Steps-on _ _ _ _ _ _ _ reads
 
 -- ---- nothing of it is left
 
--- nothing is owed if there is no packet, and this is the answer
-pub record IsDone {A : Type 0} (k : StoreWork A) (answer : A) : Type 0 where
+-- if there is no packet, this last part alone is owed, and this is the answer
+pub record IsDone {A : Type 0} (k : StoreWork A) (last : Outputs) (answer : A) : Type 0 where
   pub nothing : k.before [] ≡ no_outputs
+  pub last_is : k.after [] ≡ last
   pub answer_is : k.answer [] ≡ answer
 
-IsLast-on : {A : Type 0} (k : StoreWork A) (s : ReaderState) (answer : A) → IsDone k answer → s.ahead ≡ [] → IsLast (work_on k s) (k.last answer) answer
-IsLast-on k s answer done none =
+-- and so it is if no byte is left
+pub IsLast-on : {A : Type 0} (k : StoreWork A) (s : ReaderState) (last : Outputs) (answer : A) → IsDone k last answer → s.ahead ≡ [] → IsLast (work_on k s) last answer
+IsLast-on k s last answer done none =
     let walk = ap (λ l. walk_from s.chosen s.taken s.offset (l ++ [])) none ∙ walk_from-none s.chosen s.taken s.offset in
     let nothing = ap (λ (w : Walk). k.before w.packets) walk ∙ done.nothing in
-    let numbers = ap (λ (w : Walk). k.answer w.packets) walk ∙ done.answer_is in
-    record { course = λ i. record { before = nothing i; after = k.last (numbers i); ending = (walk i).ending }; answer = numbers }
+    let after = ap (λ (w : Walk). k.after w.packets) walk ∙ done.last_is in
+    record { course = λ i. record { before = nothing i; after = after i; ending = (walk i).ending }; answer = ap (λ (w : Walk). k.answer w.packets) walk ∙ done.answer_is }
 
 -- the input is at its end, and the last part was written
-pub Finishes-on : {A : Type 0} {k : StoreWork A} {work : Work A WalkFault} (s : ReaderState) {a b d : Meanings} {answer : A} → IsDone k answer → work ≡ work_on k s → s.ahead ≡ [] → Moves a b inlet.Main [] → IsAtEnd (left a inlet.Main) → Wrote b d (k.last answer) → Finishes work a d answer
-Finishes-on s done is none moved at_end wrote = Finishes-end is (IsLast-on _ s _ done none) moved at_end wrote
+pub Finishes-on : {A : Type 0} {k : StoreWork A} {work : Work A WalkFault} (s : ReaderState) {a b d : Meanings} {last : Outputs} {answer : A} → IsDone k last answer → work ≡ work_on k s → s.ahead ≡ [] → Moves a b inlet.Main [] → IsAtEnd (left a inlet.Main) → Wrote b d last → Finishes work a d answer
+Finishes-on s done is none moved at_end wrote = Finishes-end is (IsLast-on _ s _ _ done none) moved at_end wrote
 
 -- and if a write failed, only a prefix of it was written
-pub IsCutShort-end-on : {A : Type 0} {k : StoreWork A} {work : Work A WalkFault} (s : ReaderState) {a b d : Meanings} {answer : A} → IsDone k answer → work ≡ work_on k s → s.ahead ≡ [] → Moves a b inlet.Main [] → IsAtEnd (left a inlet.Main) → WroteFront b d (k.last answer) → IsCutShort work.course a d
-IsCutShort-end-on s done is none moved at_end front = IsCutShort-end is (IsLast-on _ s _ done none) moved at_end front
+pub IsCutShort-end-on : {A : Type 0} {k : StoreWork A} {work : Work A WalkFault} (s : ReaderState) {a b d : Meanings} {last : Outputs} {answer : A} → IsDone k last answer → work ≡ work_on k s → s.ahead ≡ [] → Moves a b inlet.Main [] → IsAtEnd (left a inlet.Main) → WroteFront b d last → IsCutShort work.course a d
+IsCutShort-end-on s done is none moved at_end front = IsCutShort-end is (IsLast-on _ s _ _ done none) moved at_end front
+
+-- ---- work of which another answer is told
+
+-- a step of the work is one of what is told of it
+pub Steps-map : {A B F : Type 0} (value : A → B) {work next : Work A F} {taken : List ℕ} {outputs : Outputs} → Steps work next taken outputs → Steps (work_telling value work) (work_telling value next) taken outputs
+Steps-map value steps = record { course = steps.course; answer = λ rest. ap value (steps.answer rest) }
+
+-- and so is its last part
+pub IsLast-map : {A B F : Type 0} (value : A → B) {work : Work A F} {last : Outputs} {answer : A} → IsLast work last answer → IsLast (work_telling value work) last (value answer)
+IsLast-map value ends = record { course = ends.course; answer = ap value ends.answer }
+
+-- all of it is done, and the answer has the value that is told
+pub Finishes-map : {A B F : Type 0} (value : A → B) {work : Work A F} {a b : Meanings} {answer : A} → Finishes work a b answer → Finishes (work_telling value work) a b (value answer)
+Finishes-map value done = record { ends = done.ends; answered = ap value done.answered }

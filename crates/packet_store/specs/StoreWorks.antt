@@ -5,20 +5,24 @@ use Rattle.packet_store.specs.declared.fault.WalkFault.{WalkFault}
 use Rattle.packet_store.specs.SpacePackets.{Packet}
 use Rattle.packet_store.specs.StoreReader.{ReaderState, walk_on}
 
--- what packets owe, the answer after them if the store is whole, and the output that is owed last for that answer
+-- what packets owe, and, if the store is whole, the answer after them and the output that is owed last
 pub record StoreWork (A : Type 0) : Type 0 where
   pub before : List Packet → Outputs
   pub answer : List Packet → A
-  pub last : A → Outputs
+  pub after : List Packet → Outputs
 
 -- what is owed for the rest of a store
 abbrev pub course_on : {A : Type 0} → StoreWork A → ReaderState → List ℕ → Course WalkFault
 course_on k s bytes = record {
   before = k.before (walk_on s bytes).packets;
-  after = k.last (k.answer (walk_on s bytes).packets);
+  after = k.after (walk_on s bytes).packets;
   ending = (walk_on s bytes).ending;
 }
 
 -- the work over the rest of a store
 abbrev pub work_on : {A : Type 0} → StoreWork A → ReaderState → Work A WalkFault
 work_on k s = record { course = course_on k s; answer = λ bytes. k.answer (walk_on s bytes).packets }
+
+-- the same work, if of its answer only this value is told
+abbrev pub work_telling : {A B F : Type 0} → (A → B) → Work A F → Work B F
+work_telling value work = record { course = work.course; answer = λ bytes. value (work.answer bytes) }

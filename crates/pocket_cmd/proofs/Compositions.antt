@@ -22,10 +22,11 @@ use Rattle.ground_chain.proofs.PlayedHistories.{count-chosen, walk-played, whole
 use Rattle.ground_chain.proofs.DeliveredRuns.{owed-played}
 use Rattle.ground_chain.specs.Deliveries.{report_text, restored_bytes}
 use Rattle.ground_chain.specs.Restoring.{restore_course}
-use Rattle.pocket_cmd.specs.Command.{AreRight, Compress, CompressValues, IsChosen, IsPlaces, Play, PlayValues, Restore, RestoreValues}
+use Rattle.pocket_cmd.specs.Command.{AreRight, Compress, CompressValues, IsChosen, Play, PlayValues, Restore, RestoreValues}
 use Rattle.pocket_cmd.specs.Courses.{compression_by, course_of}
+use Rattle.pocket_cmd.specs.Masks.{IsPlaces}
 use Rattle.pocket_cmd.specs.Faults.{of_recording, of_store}
-use Rattle.pocket_cmd.specs.Delivery.{IsWhole, recorded_history}
+use Rattle.pocket_cmd.specs.Delivery.{IsInputWhole, recorded_history}
 use Rattle.pocket_cmd.proofs.Faults.{owed-with_fault}
 
 required_most : (o : Option ℕ) (robust : ℕ) → IfSome o (λ given. given ≤ 7) → robust ≤ 7 → unwrap_or o robust ≤ 7
@@ -41,7 +42,7 @@ IsValid-recorded c text recording right bytes =
     (omega (arith, right.mask, least), omega (arith, right.mask, most)) right.mask (let few = w.few in omega (arith, few)) w.places (λ t. required_most (robust_of (schedule_rows_of text).robust t) c.robust (robust_of-most (records_of text) t) right.robust)
 
 -- what a whole recording owes is the store of its history
-pub owed-recorded : (c : CompressValues) (text recording : List ℕ) → IsWhole (Compress c) recording
+pub owed-recorded : (c : CompressValues) (text recording : List ℕ) → IsInputWhole (Compress c) recording
     → owed (course_of (Compress c) text recording) ≡ to_output (store_of (recorded_history c text recording) c.apid)
 owed-recorded c text recording whole =
     sym (owed-with_fault of_recording (compress_course (compression_by c text) recording))
@@ -59,12 +60,12 @@ owed-played_store p h text chosen valid =
     ∙ (ap (λ ending. by_ending ending (to_output (played_bytes copies p.apid store)) (to_report (play_report (store_numbers copies p.apid store)))) (whole-store_of h p.apid valid chosen)
     ∙ λ i. record { output = append-nil (played_bytes copies p.apid store) i; report = play_report (played_of copies (count-chosen h p.apid valid chosen i)) })
 
-pub IsWhole-history : (p : PlayValues) (h : History) → IsChosen p.apid → IsValid h → IsWhole (Play p) (store_of h p.apid)
-IsWhole-history p h chosen valid = whole-store_of h p.apid valid chosen
+pub IsInputWhole-history : (p : PlayValues) (h : History) → IsChosen p.apid → IsValid h → IsInputWhole (Play p) (store_of h p.apid)
+IsInputWhole-history p h chosen valid = whole-store_of h p.apid valid chosen
 
 -- what restoring it owes
 pub whole-restored : (r : RestoreValues) (h : History) (copies : ℕ → ℕ) → IsChosen r.apid → IsValid h → length (arrivals copies (length h.steps)) ≤ 2 ^ 32
-    → IsWhole (Restore r) (played_bytes copies r.apid (store_of h r.apid))
+    → IsInputWhole (Restore r) (played_bytes copies r.apid (store_of h r.apid))
 whole-restored r h copies chosen valid few = ap (λ (w : Walk). w.ending) (walk-played h copies r.apid valid chosen few)
 
 pub owed-restored : (r : RestoreValues) (h : History) (copies : ℕ → ℕ) → IsChosen r.apid → IsValid h → h.places ≡ r.bits → AreGapsShort copies (length h.steps) → length (arrivals copies (length h.steps)) ≤ 2 ^ 32
@@ -78,7 +79,7 @@ owed-restored r h copies chosen valid places short few =
 -- all three
 pub owed-chain : (c : CompressValues) (p : PlayValues) (r : RestoreValues) (plan script recording : List ℕ)
     → AreRight c → IsChosen p.apid → IsPlaces r.bits × IsChosen r.apid → p.apid ≡ c.apid → r.apid ≡ c.apid → r.bits ≡ c.bits
-    → All (λ b. b < 256) recording → IsWhole (Compress c) recording
+    → All (λ b. b < 256) recording → IsInputWhole (Compress c) recording
     → AreGapsShort (copies_of (copy_rows_of script)) (length (recorded_history c plan recording).steps) → length (arrivals (copies_of (copy_rows_of script)) (length (recorded_history c plan recording).steps)) ≤ 2 ^ 32
     → owed (course_of (Restore r) [] (owed (course_of (Play p) script (owed (course_of (Compress c) plan recording)).output)).output)
     ≡ record { output = restored_bytes (recorded_history c plan recording) (copies_of (copy_rows_of script)); report = report_text (recorded_history c plan recording) (copies_of (copy_rows_of script)) }

@@ -10,7 +10,8 @@ use Rattle.pocket_cmd.specs.declared.status.Refusal.{Refusal}
 use Rattle.pocket_cmd.specs.Jobs.{AfterJob}
 use Rattle.pocket_cmd.specs.Faults.{DataFault, stop_with}
 use Rattle.pocket_cmd.specs.Faults as fault
-use Rattle.pocket_cmd.specs.Status.{HasRefusalCause, IsEnded, refusal_by}
+use Rattle.pocket_cmd.specs.Status.{HasClassCause, IsEnded, class_of, refusal_by, refusal_of}
+use Rattle.pocket_cmd.specs.Status as class
 
 by_ending-named : {F G : Type 0} (name : F → G) (ending : Option F) (before after : Outputs) → by_ending ending before after ≡ by_ending (option_map name ending) before after
 by_ending-named name None before after = refl
@@ -54,16 +55,18 @@ pub IsEnded-stop : {F : Type 0} (name : F → DataFault) (course_of : List ℕ �
 IsEnded-stop name course_of old new stop refusal e is =
     record { ended = Err (stop_with name stop); over = AfterStop-with_fault name course_of old new stop e; answered = ap Err is }
 
--- its cause
-pub HasRefusalCause-stop : {F : Type 0} (name : F → DataFault) (old new : Counts) (stop : Stop F) (refusal : Refusal) → HasCause {T = Unit {0}} old new (Err stop) → refusal ≡ refusal_by (stop_with name stop) → HasRefusalCause old new refusal
-HasRefusalCause-stop {F = F} name old new stop refusal e is = subst (HasRefusalCause old new) (sym is) (by_stop stop e) where
-  by_fault : (f : DataFault) → new ≡ old → HasRefusalCause old new (refusal_by (Data f))
-  by_fault (fault.CutRecord t) e = e
-  by_fault (fault.SpareBit t) e = e
-  by_fault (fault.BadStore byte kind) e = e
-  by_fault fault.TooMany e = e
+-- ---- the class of a refusal
 
-  by_stop : (stop : Stop F) → HasCause {T = Unit {0}} old new (Err stop) → HasRefusalCause old new (refusal_by (stop_with name stop))
-  by_stop (Data f) e = by_fault (name f) e
+pub class-refusal_of : (f : DataFault) → class_of (refusal_of f) ≡ class.Data f
+class-refusal_of (fault.CutRecord t) = refl
+class-refusal_of (fault.SpareBit t) = refl
+class-refusal_of (fault.BadStore byte kind) = refl
+class-refusal_of fault.TooMany = refl
+
+-- its cause
+pub HasClassCause-stop : {F : Type 0} (name : F → DataFault) (old new : Counts) (stop : Stop F) (refusal : Refusal) → HasCause {T = Unit {0}} old new (Err stop) → refusal ≡ refusal_by (stop_with name stop) → HasClassCause old new (class_of refusal)
+HasClassCause-stop {F = F} name old new stop refusal e is = subst (λ why. HasClassCause old new (class_of why)) (sym is) (by_stop stop e) where
+  by_stop : (stop : Stop F) → HasCause {T = Unit {0}} old new (Err stop) → HasClassCause old new (class_of (refusal_by (stop_with name stop)))
+  by_stop (Data f) e = subst (HasClassCause old new) (sym (class-refusal_of (name f))) e
   by_stop ReadFault e = e
   by_stop WriteFault e = e

@@ -17,7 +17,7 @@ use Rattle.pocket_cmd.specs.declared.status.Refusal.TheVariants as refusal
 use Rattle.pocket_cmd.specs.Command.{Command, Compress, Play, Restore, Show, Trial, RestoreValues, IsChosen, names_of}
 use Rattle.pocket_cmd.specs.Courses.{course_of}
 use Rattle.pocket_cmd.specs.Faults.{of_recording, of_store}
-use Rattle.pocket_cmd.specs.Delivery.{HasWritten, IsPlayedStore, IsSideRight, IsWhole}
+use Rattle.pocket_cmd.specs.Delivery.{HasWritten, IsPlayedStore, IsSideRight, IsInputWhole}
 use Rattle.pocket_cmd.specs.Outcome.{AfterCommand, Stands, answer_by, answer_to, by_row}
 use Rattle.pocket_cmd.specs.Status.{status_by, status_of}
 use Rattle.pocket_cmd.proofs.Delivered.{HasWritten-stands}
@@ -47,7 +47,7 @@ short : (text : List ℕ) → length text ≤ 1048576 → nat_lt 1048576 (length
 short text h = grind (arith, nat_tests)
 
 -- a right side text and a whole input are answered with Done
-pub Done-whole : (command : Command) (text input : List ℕ) → IsSideRight command text → IsWhole command input → answer_to command text input ≡ Done
+pub Done-whole : (command : Command) (text input : List ℕ) → IsSideRight command text → IsInputWhole command input → answer_to command text input ≡ Done
 Done-whole (Compress c) text input (within, rows) whole =
     ap (λ b. cond b (Refused refusal.SideTooLong) (answer_by (Compress c) text input)) (short text within)
     ∙ (ap (λ o. by_row o (status_of (course_of (Compress c) text input).ending)) rows ∙ ap (λ o. status_of (option_map of_recording o)) whole)

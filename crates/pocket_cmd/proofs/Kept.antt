@@ -6,14 +6,14 @@ use Rattle.desk_ports.specs.declared.desk.Outlet.TheVariants as outlet
 use Rattle.desk_ports.specs.Courses.{Course}
 use Rattle.desk_ports.specs.Meanings.{Meanings, Incoming, kept_after, made}
 use Rattle.desk_ports.specs.Runs.{Ran}
-use Rattle.pocket_cmd.specs.declared.status.Refusal.{Refusal}
-use Rattle.pocket_cmd.specs.declared.status.Refusal.TheVariants as refusal
+use Rattle.pocket_cmd.specs.Status.{Class}
+use Rattle.pocket_cmd.specs.Status as class
 use Rattle.pocket_cmd.specs.Command.{Command, Names, names_of}
 use Rattle.pocket_cmd.specs.Courses.{course_of}
 use Rattle.pocket_cmd.specs.Faults.{DataFault}
-use Rattle.pocket_cmd.specs.Kept.{AreMadeAsDone, IsOutputKept, KeepsAllButSide, KeepsNames, Leaves}
+use Rattle.pocket_cmd.specs.Kept.{AreMadeAsDone, IsOutputKept, KeepsAllButSide, KeepsNames, LeavesByClass}
 use Rattle.pocket_cmd.specs.Openings.{IsHalfKept, IsSideText, KeepsAll, LacksReport, all_finished, all_opened, with_input, with_output, with_output_kept, with_report, with_side}
-use Rattle.pocket_cmd.specs.Outcome.{AfterRefusal, Behind, IsRunUnread, IsRunUnwritten, IsUnfinished, IsUnwritten, RunStands, Stands}
+use Rattle.pocket_cmd.specs.Outcome.{AfterClass, OnceOpened, HasRunReadFailed, HasRunWriteFailed, IsUnfinished, HasWriteFailed, RunStands, Stands}
 use Rattle.pocket_cmd.specs.Unfed.{EndsBy, IsCutOffBy, IsCutShortBy}
 use Rattle.pocket_cmd.proofs.Delivered.{made-finished}
 
@@ -66,7 +66,7 @@ held-stands : (names : Names) (course : List ℕ → Course DataFault) (old new 
 held-stands names course old new why e =
     ap (λ (m : Meanings). m.held) e.after.is ∙ (held-ends (is_some names.input) course _ _ _ e.after.ran ∙ held-opened names old e.input)
 
-held-unread : (names : Names) (course : List ℕ → Course DataFault) (old new : Meanings) → IsRunUnread names course old new → new.held ≡ old.held
+held-unread : (names : Names) (course : List ℕ → Course DataFault) (old new : Meanings) → HasRunReadFailed names course old new → new.held ≡ old.held
 held-unread names course old new (inl e) = ap (λ (m : Meanings). m.held) e.1
 held-unread names course old new (inr e) = held-cut_off (is_some names.input) course _ _ e.after ∙ held-opened names old e.input
 
@@ -117,7 +117,7 @@ half_kept (Some name) end new (inr e) = inr (refl, e)
 
 -- the run was done, and the outputs were made so far
 made_as_done : (command : Command) (text : List ℕ) (old new : Meanings) → IsSideText old (names_of command).side text
-    → (e : Behind (names_of command) (with_side old (names_of command).side) (λ start. IsUnfinished (names_of command) (course_of command text) start new))
+    → (e : OnceOpened (names_of command) (with_side old (names_of command).side) (λ start. IsUnfinished (names_of command) (course_of command text) start new))
     → new ≡ with_output_kept e.after.end → AreMadeAsDone command old new
 made_as_done command text old new told e is =
     let names = names_of command in
@@ -134,7 +134,7 @@ made_as_done command text old new told e is =
     }
 
 unfinished_leaves : (command : Command) (text : List ℕ) (old new : Meanings) → IsSideText old (names_of command).side text
-    → Behind (names_of command) (with_side old (names_of command).side) (λ start. IsUnfinished (names_of command) (course_of command text) start new) → KeepsNames old new ⊎ IsOutputKept command old new
+    → OnceOpened (names_of command) (with_side old (names_of command).side) (λ start. IsUnfinished (names_of command) (course_of command text) start new) → KeepsNames old new ⊎ IsOutputKept command old new
 unfinished_leaves command text old new told e = by_kept (half_kept names.report end new e.after.is) where
   names : Names
   names = names_of command
@@ -161,12 +161,12 @@ unfinished_leaves command text old new told e = by_kept (half_kept names.report 
     same_made : made end outlet.Main ≡ made new outlet.Main
     same_made = sym (ap (λ (m : Meanings). made m outlet.Main) is)
 
-unwritten_leaves : (command : Command) (old new : Meanings) → IsUnwritten command old new → KeepsNames old new ⊎ IsOutputKept command old new
+unwritten_leaves : (command : Command) (old new : Meanings) → HasWriteFailed command old new → KeepsNames old new ⊎ IsOutputKept command old new
 unwritten_leaves command old new e = by_run e.after where
   names : Names
   names = names_of command
 
-  by_run : IsRunUnwritten (names_of command) (course_of command e.text) (with_side old (names_of command).side) new → KeepsNames old new ⊎ IsOutputKept command old new
+  by_run : HasRunWriteFailed (names_of command) (course_of command e.text) (with_side old (names_of command).side) new → KeepsNames old new ⊎ IsOutputKept command old new
   by_run (inl unopened) = inl (held-lacks_report names names.report (with_side old names.side) new unopened.input unopened.is ∙ held-with_side old names.side)
   by_run (inr (inl short)) =
       inl (held-cut_short (is_some names.input) (course_of command e.text) _ _ short.after ∙ held-opened names (with_side old names.side) short.input ∙ held-with_side old names.side)
@@ -174,16 +174,13 @@ unwritten_leaves command old new e = by_run e.after where
 
 -- ---- after each refusal
 
-pub Leaves-refused : (command : Command) (old new : Meanings) (why : Refusal) → AfterRefusal command old new why → Leaves command old new why
-Leaves-refused command old new (refusal.BadWords word) e = absurd e
-Leaves-refused command old new refusal.SideTooLong e = keeps_side (names_of command).side old new e.keeps
-Leaves-refused command old new (refusal.BadSide row) e = reads_side (names_of command).side old new e.after.1
-Leaves-refused command old new refusal.ReadFault (inl e) = held-keeps (names_of command).side old new e.1
-Leaves-refused command old new refusal.ReadFault (inr e) =
+pub Leaves-refused : (command : Command) (old new : Meanings) (why : Class) → AfterClass command old new why → LeavesByClass command old new why
+Leaves-refused command old new (class.Word word) e = absurd e
+Leaves-refused command old new (class.Text class.Long) e = keeps_side (names_of command).side old new e.keeps
+Leaves-refused command old new (class.Text (class.Row row)) e = reads_side (names_of command).side old new e.after.1
+Leaves-refused command old new class.Reading (inl e) = held-keeps (names_of command).side old new e.1
+Leaves-refused command old new class.Reading (inr e) =
     held-unread (names_of command) (course_of command e.text) (with_side old (names_of command).side) new e.after ∙ held-with_side old (names_of command).side
-Leaves-refused command old new refusal.WriteFault e = unwritten_leaves command old new e
-Leaves-refused command old new (refusal.CutRecord t) e = held-command command old new _ e
-Leaves-refused command old new (refusal.SpareBit t) e = held-command command old new _ e
-Leaves-refused command old new (refusal.BadStore byte kind) e = held-command command old new _ e
-Leaves-refused command old new refusal.TooMany e = held-command command old new _ e
-Leaves-refused command old new refusal.NoMemory e = keeps_side (names_of command).side old new e
+Leaves-refused command old new class.Writing e = unwritten_leaves command old new e
+Leaves-refused command old new (class.Data why) e = held-command command old new why e
+Leaves-refused command old new class.Memory e = keeps_side (names_of command).side old new e

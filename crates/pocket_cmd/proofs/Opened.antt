@@ -10,7 +10,7 @@ use Rattle.pocket_cmd.specs.Command.{Names}
 use Rattle.pocket_cmd.specs.Jobs.{AfterJob}
 use Rattle.pocket_cmd.specs.Unfed.{EndsBy, IsCutOffBy, IsCutShortBy}
 use Rattle.pocket_cmd.specs.Openings.{all_finished, IsHalfKept}
-use Rattle.pocket_cmd.specs.Outcome.{AreOpened, IsRunOut, IsUnfinished, RunStands, IsRunUnwritten, AfterNames}
+use Rattle.pocket_cmd.specs.Outcome.{AreOpened, IsRunOut, IsUnfinished, RunStands, HasRunWriteFailed, AfterNames}
 use Rattle.pocket_cmd.specs.Status.{IsEnded, refused_by}
 
 -- an answer is Ok or a refusal
@@ -49,8 +49,8 @@ RunStands-finished names course old start end new o ran is = record {
 }
 
 -- or they are not
-pub IsRunUnwritten-unfinished : (names : Names) (course : List ℕ → Course DataFault) (old start end new : Meanings) → AreOpened names old start → EndsBy (is_some names.input) course start end None → IsHalfKept names.report end new → IsRunUnwritten names course old new
-IsRunUnwritten-unfinished names course old start end new o ran is = inr (inr (record {
+pub HasRunWriteFailed-unfinished : (names : Names) (course : List ℕ → Course DataFault) (old start end new : Meanings) → AreOpened names old start → EndsBy (is_some names.input) course start end None → IsHalfKept names.report end new → HasRunWriteFailed names course old new
+HasRunWriteFailed-unfinished names course old start end new o ran is = inr (inr (record {
   input = o.input;
   kept = o.kept;
   after = subst (λ m. IsUnfinished names course m new) o.is (record { end = end; ran = ran; is = is });

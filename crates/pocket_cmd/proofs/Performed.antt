@@ -9,23 +9,23 @@ use Rattle.desk_ports.specs.Stop.{Data, ReadFault, WriteFault}
 use Rattle.desk_ports.specs.Meanings.{Meanings, Counts, Kept, Rose, kept_at, left, made}
 use Rattle.desk_ports.specs.Courses.{Course, owed}
 use Rattle.desk_ports.proofs.Faults.{Rose-reads, Rose-writes}
+use Rattle.pocket_cmd.proofs.Faults.{class-refusal_of}
 use Rattle.pocket_cmd.specs.Faults.{DataFault}
-use Rattle.pocket_cmd.specs.Faults as fault
 use Rattle.pocket_cmd.specs.declared.status.Status.{Status}
 use Rattle.pocket_cmd.specs.declared.status.Status.TheVariants.{Done, Refused}
 use Rattle.pocket_cmd.specs.declared.status.Refusal.{Refusal}
 use Rattle.pocket_cmd.specs.Command.{Names, Command, names_of}
 use Rattle.pocket_cmd.specs.Courses.{course_of, bad_row_of}
-use Rattle.pocket_cmd.specs.Openings.{AreKept, all_opened, given_by, input_given, with_report, with_output, with_input}
+use Rattle.pocket_cmd.specs.Openings.{AreKept, all_opened, told_bytes, input_given, with_report, with_output, with_input}
 use Rattle.pocket_cmd.specs.Unfed.{EndsBy}
 use Rattle.pocket_cmd.specs.Status.{HasStatusCause, IsEnded, refusal_of, refused_by, status_of, status_by}
-use Rattle.pocket_cmd.specs.Outcome.{RunStands, AfterNames, AfterText, Stands, AfterCommand, AfterRefusal, IsAnsweredBy, by_row}
+use Rattle.pocket_cmd.specs.Outcome.{RunStands, AfterClass, AfterNames, AfterText, AfterTextClass, Stands, AfterCommand, AfterRefusal, IsAnsweredBy, by_row}
 
 pub same_some : {A : Type 0} {x y : A} → Some x ≡ Some y → x ≡ y
 same_some e = cc
 
 -- an input that is told is the one that was read
-told_input : (held : Option Kept) (before after : Option (List ℕ)) (name input opened taken rest : List ℕ) → given_by held before name ≡ Some input → IfSome held (λ kept. opened ≡ kept_at kept name)
+told_input : (held : Option Kept) (before after : Option (List ℕ)) (name input opened taken rest : List ℕ) → told_bytes held before name ≡ Some input → IfSome held (λ kept. opened ≡ kept_at kept name)
     → option_map (λ _. opened) before ≡ prepend_known taken after → IfSome after (λ bytes. bytes ≡ rest) → taken ++ rest ≡ input
 told_input None before after name input opened taken rest e kept moved told = absurd cc
 told_input (Some k) None after name input opened taken rest e kept moved told = absurd cc
@@ -82,10 +82,7 @@ pub AfterText-run : (command : Command) (text : List ℕ) (old new : Meanings) (
 AfterText-run command text old new answer e = subst (AfterText command text old new) (sym e.answered) (by_end e.ended e.over) where
   by_end : (r : Result (Unit {0}) (Stop DataFault)) → AfterNames (names_of command) (course_of command text) old new r → AfterText command text old new (refused_by r)
   by_end (Ok done) e = e
-  by_end (Err (Data (fault.CutRecord t))) e = e
-  by_end (Err (Data (fault.SpareBit t))) e = e
-  by_end (Err (Data (fault.BadStore byte kind))) e = e
-  by_end (Err (Data fault.TooMany)) e = e
+  by_end (Err (Data f)) e = subst (AfterTextClass command text old new) (sym (class-refusal_of f)) e
   by_end (Err ReadFault) e = e
   by_end (Err WriteFault) e = e
 
@@ -106,9 +103,4 @@ pub Stands-answer : (command : Command) (old new : Meanings) (r : Result (Unit {
 Stands-answer command old new (Ok done) None e is = e
 Stands-answer command old new (Ok done) (Some f) e is = absurd (not_refused is)
 Stands-answer command old new (Err x) None e is = absurd (not_refused (sym is))
-Stands-answer command old new (Err x) (Some f) e is = by_fault f (AfterRefusal-answer command old new (Err x) (refusal_of f) e is) where
-  by_fault : (f : DataFault) → AfterRefusal command old new (refusal_of f) → Stands command old new (Some f)
-  by_fault (fault.CutRecord t) e = e
-  by_fault (fault.SpareBit t) e = e
-  by_fault (fault.BadStore byte kind) e = e
-  by_fault fault.TooMany e = e
+Stands-answer command old new (Err x) (Some f) e is = subst (AfterClass command old new) (class-refusal_of f) (AfterRefusal-answer command old new (Err x) (refusal_of f) e is)

@@ -7,7 +7,7 @@ use Rattle.pocket_cmd.specs.declared.status.Refusal.TheVariants as refusal
 use Rattle.pocket_cmd.specs.Command.{Trial, TrialValues, names_of}
 use Rattle.pocket_cmd.specs.Faults.{DataFault}
 use Rattle.pocket_cmd.specs.Courses.{course_of}
-use Rattle.pocket_cmd.specs.Outcome.{AfterRefusal, IsRunUnread, IsTooLong, IsUnread, Stands}
+use Rattle.pocket_cmd.specs.Outcome.{AfterRefusal, HasRunReadFailed, IsTooLong, HasReadFailed, Stands}
 
 long-trial : (t : TrialValues) (old new : Meanings) → IsTooLong (Trial t) old new → ⊥
 long-trial t old new e = none e.long where
@@ -17,11 +17,11 @@ long-trial t old new e = none e.long where
 no_name : ◌≡◌ {A = Bool} false true → ⊥
 no_name e = cc
 
-unread-run : (course : List ℕ → Course DataFault) (t : TrialValues) (old new : Meanings) → IsRunUnread (names_of (Trial t)) course old new → ⊥
+unread-run : (course : List ℕ → Course DataFault) (t : TrialValues) (old new : Meanings) → HasRunReadFailed (names_of (Trial t)) course old new → ⊥
 unread-run course t old new (inl e) = no_name e.0
 unread-run course t old new (inr e) = e.after
 
-unread-trial : (t : TrialValues) (old new : Meanings) → IsUnread (Trial t) old new → ⊥
+unread-trial : (t : TrialValues) (old new : Meanings) → HasReadFailed (Trial t) old new → ⊥
 unread-trial t old new (inl e) = no_name e.0
 unread-trial t old new (inr e) = unread-run (course_of (Trial t) e.text) t old new e.after
 

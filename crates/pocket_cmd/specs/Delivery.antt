@@ -30,12 +30,12 @@ IsSideRight (Show s) text = text ≡ []
 IsSideRight (Trial t) text = text ≡ []
 
 -- a recording, or a store, is whole; a trial has none
-abbrev pub IsWhole : Command → List ℕ → Type 0
-IsWhole (Compress c) recording = (recording_walk c.bits recording).ending ≡ None
-IsWhole (Play p) store = (walk (Some p.apid) store).ending ≡ None
-IsWhole (Restore r) store = (walk (Some r.apid) store).ending ≡ None
-IsWhole (Show s) store = (walk (Some s.apid) store).ending ≡ None
-IsWhole (Trial t) input = Unit {0}
+abbrev pub IsInputWhole : Command → List ℕ → Type 0
+IsInputWhole (Compress c) recording = (recording_walk c.bits recording).ending ≡ None
+IsInputWhole (Play p) store = (walk (Some p.apid) store).ending ≡ None
+IsInputWhole (Restore r) store = (walk (Some r.apid) store).ending ≡ None
+IsInputWhole (Show s) store = (walk (Some s.apid) store).ending ≡ None
+IsInputWhole (Trial t) input = Unit {0}
 
 -- The store that is to be restored is the played store of a valid history: each packet arrives so many times, with gaps that
 -- are shorter than the period of the sequence counts.

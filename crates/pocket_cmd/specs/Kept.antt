@@ -4,9 +4,10 @@ use Rattle.std.specs.Option.{option_map}
 use Rattle.desk_ports.specs.declared.desk.Outlet.TheVariants as outlet
 use Rattle.desk_ports.specs.Meanings.{Meanings, kept_after, made}
 use Rattle.pocket_cmd.specs.declared.status.Refusal.{Refusal}
-use Rattle.pocket_cmd.specs.declared.status.Refusal.TheVariants as refusal
 use Rattle.pocket_cmd.specs.Command.{Command, names_of}
 use Rattle.pocket_cmd.specs.Outcome.{Stands}
+use Rattle.pocket_cmd.specs.Status.{Class, class_of}
+use Rattle.pocket_cmd.specs.Status as class
 
 -- nothing has changed but the side input
 abbrev pub KeepsAllButSide : Meanings → Meanings → Type 0
@@ -31,14 +32,13 @@ pub record IsOutputKept (command : Command) (old new : Meanings) : Type 0 where
   pub kept : new.held ≡ kept_after old.held (option_map (λ _. (names_of command).output) old.output.name) (made new outlet.Main)
 
 -- after a refusal
+abbrev pub LeavesByClass : Command → Meanings → Meanings → Class → Type 0
+LeavesByClass command old new (class.Word word) = new ≡ old
+LeavesByClass command old new (class.Text bad) = KeepsAllButSide old new
+LeavesByClass command old new class.Memory = KeepsAllButSide old new
+LeavesByClass command old new (class.Data fault) = KeepsNames old new
+LeavesByClass command old new class.Reading = KeepsNames old new
+LeavesByClass command old new class.Writing = KeepsNames old new ⊎ IsOutputKept command old new
+
 abbrev pub Leaves : Command → Meanings → Meanings → Refusal → Type 0
-Leaves command old new (refusal.BadWords word) = new ≡ old
-Leaves command old new refusal.SideTooLong = KeepsAllButSide old new
-Leaves command old new (refusal.BadSide row) = KeepsAllButSide old new
-Leaves command old new refusal.NoMemory = KeepsAllButSide old new
-Leaves command old new (refusal.CutRecord t) = KeepsNames old new
-Leaves command old new (refusal.SpareBit t) = KeepsNames old new
-Leaves command old new (refusal.BadStore byte kind) = KeepsNames old new
-Leaves command old new refusal.TooMany = KeepsNames old new
-Leaves command old new refusal.ReadFault = KeepsNames old new
-Leaves command old new refusal.WriteFault = KeepsNames old new ⊎ IsOutputKept command old new
+Leaves command old new refusal = LeavesByClass command old new (class_of refusal)

@@ -20,14 +20,14 @@ view_names names = record {
   report = option_map (λ name. name.now) names.report;
 }
 
-abbrev pub given_by : Option Kept → Option (List ℕ) → List ℕ → Option (List ℕ)
-given_by (Some kept) (Some rest) name = Some (kept_at kept name)
-given_by (Some kept) None name = None
-given_by None rest name = None
+abbrev pub told_bytes : Option Kept → Option (List ℕ) → List ℕ → Option (List ℕ)
+told_bytes (Some kept) (Some rest) name = Some (kept_at kept name)
+told_bytes (Some kept) None name = None
+told_bytes None rest name = None
 
 -- the bytes of an input, if the desk tells what it keeps under the name and what is left of an input
 abbrev pub given : Meanings → Inlet → List ℕ → Option (List ℕ)
-given m i name = given_by m.held (left m i) name
+given m i name = told_bytes m.held (left m i) name
 
 -- ---- the side input
 

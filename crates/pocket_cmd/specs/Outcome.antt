@@ -5,7 +5,6 @@ use Rattle.desk_ports.specs.Meanings.{Meanings, Counts, Rose}
 use Rattle.desk_ports.specs.Stop.{Stop}
 use Rattle.desk_ports.specs.Stop.{Data, ReadFault, WriteFault}
 use Rattle.pocket_cmd.specs.Faults.{DataFault}
-use Rattle.pocket_cmd.specs.Faults as fault
 use Rattle.pocket_cmd.specs.declared.status.Status.{Status}
 use Rattle.pocket_cmd.specs.declared.status.Status.TheVariants.{Refused}
 use Rattle.pocket_cmd.specs.declared.status.Refusal.{Refusal}
@@ -13,14 +12,15 @@ use Rattle.pocket_cmd.specs.declared.status.Refusal.TheVariants as refusal
 use Rattle.pocket_cmd.specs.Command.{Names, Command, names_of}
 use Rattle.pocket_cmd.specs.Courses.{course_of, bad_row_of}
 use Rattle.pocket_cmd.specs.Unfed.{EndsBy, IsCutOffBy, IsCutShortBy}
-use Rattle.pocket_cmd.specs.Status.{status_of, status_by}
+use Rattle.pocket_cmd.specs.Status.{Class, class_of, status_of, status_by}
+use Rattle.pocket_cmd.specs.Status as class
 use Rattle.pocket_cmd.specs.Openings.{AreKept, IsSideText, IsSideLong, KeepsAll, with_side, all_opened, all_finished, IsHalfOpened, IsHalfKept, input_given, side_given}
 
 -- ---- after the side input
 
 -- the input has these bytes, which are those kept under its name, if the desk tells them, and none if there is no input;
 -- and this holds of the desk at which all names are opened
-pub record Behind (names : Names) (old : Meanings) (After : Meanings → Type 0) : Type 0 where
+pub record OnceOpened (names : Names) (old : Meanings) (After : Meanings → Type 0) : Type 0 where
   pub input : List ℕ
   pub kept : AreKept old names.input input
   pub after : After (all_opened names old input)
@@ -56,32 +56,32 @@ pub record IsUnopened (names : Names) (old new : Meanings) : Type 0 where
 
 -- the course of the input ends so, and all that it owes stands
 abbrev pub RunStands : Names → (List ℕ → Course DataFault) → Meanings → Meanings → Option DataFault → Type 0
-RunStands names course old new ending = Behind names old (λ start. IsRunOut names course ending start new)
+RunStands names course old new ending = OnceOpened names old (λ start. IsRunOut names course ending start new)
 
 -- reading failed: the input was not opened; or what is owed for the bytes that were moved before the failing read
 -- stands, and nothing is kept
-abbrev pub IsRunUnread : Names → (List ℕ → Course DataFault) → Meanings → Meanings → Type 0
-IsRunUnread names course old new = (IsSome names.input × (new ≡ old)) ⊎ Behind names old (λ start. IsCutOffBy (is_some names.input) course start new)
+abbrev pub HasRunReadFailed : Names → (List ℕ → Course DataFault) → Meanings → Meanings → Type 0
+HasRunReadFailed names course old new = (IsSome names.input × (new ≡ old)) ⊎ OnceOpened names old (λ start. IsCutOffBy (is_some names.input) course start new)
 
 -- writing failed: an output was not opened; or a front of what is owed stands, and nothing is kept; or the outputs were not
 -- finished
-abbrev pub IsRunUnwritten : Names → (List ℕ → Course DataFault) → Meanings → Meanings → Type 0
-IsRunUnwritten names course old new =
+abbrev pub HasRunWriteFailed : Names → (List ℕ → Course DataFault) → Meanings → Meanings → Type 0
+HasRunWriteFailed names course old new =
     IsUnopened names old new
-    ⊎ (Behind names old (λ start. IsCutShortBy (is_some names.input) course start new)
-    ⊎ Behind names old (λ start. IsUnfinished names course start new))
+    ⊎ (OnceOpened names old (λ start. IsCutShortBy (is_some names.input) course start new)
+    ⊎ OnceOpened names old (λ start. IsUnfinished names course start new))
 
 -- after a run, by its answer
 abbrev pub AfterNames : Names → (List ℕ → Course DataFault) → Meanings → Meanings → Result (Unit {0}) (Stop DataFault) → Type 0
 AfterNames names course old new (Ok done) = RunStands names course old new None
 AfterNames names course old new (Err (Data fault)) = RunStands names course old new (Some fault)
-AfterNames names course old new (Err ReadFault) = IsRunUnread names course old new
-AfterNames names course old new (Err WriteFault) = IsRunUnwritten names course old new
+AfterNames names course old new (Err ReadFault) = HasRunReadFailed names course old new
+AfterNames names course old new (Err WriteFault) = HasRunWriteFailed names course old new
 
 -- ---- from the words on
 
 -- the side input has this text, if the desk tells it, and is read; and this holds by the text from there on
-pub record BehindSide (side : Option (List ℕ)) (old : Meanings) (After : List ℕ → Meanings → Type 0) : Type 0 where
+pub record OnceSideRead (side : Option (List ℕ)) (old : Meanings) (After : List ℕ → Meanings → Type 0) : Type 0 where
   pub text : List ℕ
   pub told : IsSideText old side text
   pub after : After text (with_side old side)
@@ -90,7 +90,7 @@ pub record BehindSide (side : Option (List ℕ)) (old : Meanings) (After : List 
 -- opening and finishing change.
 abbrev pub Stands : Command → Meanings → Meanings → Option DataFault → Type 0
 Stands command old new ending =
-    BehindSide (names_of command).side old (λ text start. RunStands (names_of command) (course_of command text) start new ending)
+    OnceSideRead (names_of command).side old (λ text start. RunStands (names_of command) (course_of command text) start new ending)
 
 -- the side text is too long, and nothing changed but the side input
 pub record IsTooLong (command : Command) (old new : Meanings) : Type 0 where
@@ -99,7 +99,7 @@ pub record IsTooLong (command : Command) (old new : Meanings) : Type 0 where
 
 -- this record of the side text is the first that is no row, and nothing changed but the side input
 abbrev pub HasBadRow : Command → Meanings → Meanings → ℕ → Type 0
-HasBadRow command old new row = BehindSide (names_of command).side old (λ text start. (bad_row_of command text ≡ Some row) × (new ≡ start))
+HasBadRow command old new row = OnceSideRead (names_of command).side old (λ text start. (bad_row_of command text ≡ Some row) × (new ≡ start))
 
 -- nothing changed but the side input
 abbrev pub IsUntouched : Command → Meanings → Meanings → Type 0
@@ -107,47 +107,44 @@ IsUntouched command old new = KeepsAll (names_of command).side old new
 
 -- reading failed: nothing changed but the side input, or what is owed for the bytes that were moved before the failing
 -- read stands, and nothing is kept. So a command without an input and a side input has no such answer.
-abbrev pub IsUnread : Command → Meanings → Meanings → Type 0
-IsUnread command old new =
+abbrev pub HasReadFailed : Command → Meanings → Meanings → Type 0
+HasReadFailed command old new =
     (IsSome (names_of command).side × IsUntouched command old new)
-    ⊎ BehindSide (names_of command).side old (λ text start. IsRunUnread (names_of command) (course_of command text) start new)
+    ⊎ OnceSideRead (names_of command).side old (λ text start. HasRunReadFailed (names_of command) (course_of command text) start new)
 
 -- writing failed: an output was not opened; or a front of what is owed stands, and nothing is kept; or the outputs were not
 -- finished
-abbrev pub IsUnwritten : Command → Meanings → Meanings → Type 0
-IsUnwritten command old new = BehindSide (names_of command).side old (λ text start. IsRunUnwritten (names_of command) (course_of command text) start new)
+abbrev pub HasWriteFailed : Command → Meanings → Meanings → Type 0
+HasWriteFailed command old new = OnceSideRead (names_of command).side old (λ text start. HasRunWriteFailed (names_of command) (course_of command text) start new)
 
 -- ---- by the answer
 
 -- after a command whose side input has this text
-abbrev pub AfterTextRefusal : Command → List ℕ → Meanings → Meanings → Refusal → Type 0
-AfterTextRefusal command text old new (refusal.BadWords word) = ⊥
-AfterTextRefusal command text old new refusal.SideTooLong = ⊥
-AfterTextRefusal command text old new (refusal.BadSide row) = (bad_row_of command text ≡ Some row) × (new ≡ old)
-AfterTextRefusal command text old new refusal.ReadFault = IsRunUnread (names_of command) (course_of command text) old new
-AfterTextRefusal command text old new refusal.WriteFault = IsRunUnwritten (names_of command) (course_of command text) old new
-AfterTextRefusal command text old new (refusal.CutRecord t) = RunStands (names_of command) (course_of command text) old new (Some (fault.CutRecord t))
-AfterTextRefusal command text old new (refusal.SpareBit t) = RunStands (names_of command) (course_of command text) old new (Some (fault.SpareBit t))
-AfterTextRefusal command text old new (refusal.BadStore byte kind) = RunStands (names_of command) (course_of command text) old new (Some (fault.BadStore byte kind))
-AfterTextRefusal command text old new refusal.TooMany = RunStands (names_of command) (course_of command text) old new (Some fault.TooMany)
-AfterTextRefusal command text old new refusal.NoMemory = new ≡ old
+abbrev pub AfterTextClass : Command → List ℕ → Meanings → Meanings → Class → Type 0
+AfterTextClass command text old new (class.Word word) = ⊥
+AfterTextClass command text old new (class.Text class.Long) = ⊥
+AfterTextClass command text old new (class.Text (class.Row row)) = (bad_row_of command text ≡ Some row) × (new ≡ old)
+AfterTextClass command text old new (class.Data fault) = RunStands (names_of command) (course_of command text) old new (Some fault)
+AfterTextClass command text old new class.Reading = HasRunReadFailed (names_of command) (course_of command text) old new
+AfterTextClass command text old new class.Writing = HasRunWriteFailed (names_of command) (course_of command text) old new
+AfterTextClass command text old new class.Memory = new ≡ old
 
 abbrev pub AfterText : Command → List ℕ → Meanings → Meanings → Result (Unit {0}) Refusal → Type 0
 AfterText command text old new (Ok done) = RunStands (names_of command) (course_of command text) old new None
-AfterText command text old new (Err refusal) = AfterTextRefusal command text old new refusal
+AfterText command text old new (Err refusal) = AfterTextClass command text old new (class_of refusal)
 
 -- after a command
+abbrev pub AfterClass : Command → Meanings → Meanings → Class → Type 0
+AfterClass command old new (class.Word word) = ⊥
+AfterClass command old new (class.Text class.Long) = IsTooLong command old new
+AfterClass command old new (class.Text (class.Row row)) = HasBadRow command old new row
+AfterClass command old new (class.Data fault) = Stands command old new (Some fault)
+AfterClass command old new class.Reading = HasReadFailed command old new
+AfterClass command old new class.Writing = HasWriteFailed command old new
+AfterClass command old new class.Memory = IsUntouched command old new
+
 abbrev pub AfterRefusal : Command → Meanings → Meanings → Refusal → Type 0
-AfterRefusal command old new (refusal.BadWords word) = ⊥
-AfterRefusal command old new refusal.SideTooLong = IsTooLong command old new
-AfterRefusal command old new (refusal.BadSide row) = HasBadRow command old new row
-AfterRefusal command old new refusal.ReadFault = IsUnread command old new
-AfterRefusal command old new refusal.WriteFault = IsUnwritten command old new
-AfterRefusal command old new (refusal.CutRecord t) = Stands command old new (Some (fault.CutRecord t))
-AfterRefusal command old new (refusal.SpareBit t) = Stands command old new (Some (fault.SpareBit t))
-AfterRefusal command old new (refusal.BadStore byte kind) = Stands command old new (Some (fault.BadStore byte kind))
-AfterRefusal command old new refusal.TooMany = Stands command old new (Some fault.TooMany)
-AfterRefusal command old new refusal.NoMemory = IsUntouched command old new
+AfterRefusal command old new refusal = AfterClass command old new (class_of refusal)
 
 abbrev pub AfterCommand : Command → Meanings → Meanings → Result (Unit {0}) Refusal → Type 0
 AfterCommand command old new (Ok done) = Stands command old new None

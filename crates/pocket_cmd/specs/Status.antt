@@ -1,4 +1,4 @@
--- How a command ends, and the exit number that each end has.
+-- How a command ends, what each refusal is about, and the exit number that each end has.
 use Rattle.std.specs.Prelude.{◌≡◌, ℕ, Option, Some, None, Result, Ok, Err}
 use Rattle.desk_ports.specs.Meanings.{Counts, FailsToRead, FailsToWrite}
 use Rattle.desk_ports.specs.Stop.{Stop}
@@ -57,38 +57,58 @@ abbrev pub status_by : Result (Unit {0}) Refusal → Status
 status_by (Ok done) = Done
 status_by (Err refusal) = Refused refusal
 
--- the exit number of a refusal
-abbrev pub exit_number_of : Refusal → ℕ
-exit_number_of ReadFault = 1
-exit_number_of WriteFault = 1
-exit_number_of (BadWords word) = 2
-exit_number_of SideTooLong = 3
-exit_number_of (BadSide row) = 3
-exit_number_of (CutRecord t) = 4
-exit_number_of (SpareBit t) = 4
-exit_number_of (BadStore byte kind) = 4
-exit_number_of TooMany = 4
-exit_number_of NoMemory = 5
+-- ---- what a refusal is about
+
+-- what is wrong with a text: it is too long, or this record of it is the first that is no row
+pub data BadText : Type 0 where
+  Long : BadText
+  Row : ℕ → BadText
+
+-- a word, the side text, the data, a failed reading or writing, or want of memory
+pub data Class : Type 0 where
+  Word : ℕ → Class
+  Text : BadText → Class
+  Data : DataFault → Class
+  Reading : Class
+  Writing : Class
+  Memory : Class
+
+abbrev pub class_of : Refusal → Class
+class_of (BadWords word) = Word word
+class_of SideTooLong = Text Long
+class_of (BadSide row) = Text (Row row)
+class_of ReadFault = Reading
+class_of WriteFault = Writing
+class_of (CutRecord t) = Data (fault.CutRecord t)
+class_of (SpareBit t) = Data (fault.SpareBit t)
+class_of (BadStore byte kind) = Data (fault.BadStore byte kind)
+class_of TooMany = Data fault.TooMany
+class_of NoMemory = Memory
+
+-- the exit number of each class
+abbrev pub exit_number_of : Class → ℕ
+exit_number_of Reading = 1
+exit_number_of Writing = 1
+exit_number_of (Word word) = 2
+exit_number_of (Text bad) = 3
+exit_number_of (Data fault) = 4
+exit_number_of Memory = 5
 
 -- the exit number of a command
 abbrev pub exit_number : Status → ℕ
 exit_number Done = 0
-exit_number (Refused refusal) = exit_number_of refusal
+exit_number (Refused refusal) = exit_number_of (class_of refusal)
 
 -- why a command gave up: reading or writing failed, and otherwise both counts are as before
-abbrev pub HasRefusalCause : Counts → Counts → Refusal → Type 0
-HasRefusalCause old new ReadFault = FailsToRead old new
-HasRefusalCause old new WriteFault = FailsToWrite old new
-HasRefusalCause old new (BadWords word) = new ≡ old
-HasRefusalCause old new SideTooLong = new ≡ old
-HasRefusalCause old new (BadSide row) = new ≡ old
-HasRefusalCause old new (CutRecord t) = new ≡ old
-HasRefusalCause old new (SpareBit t) = new ≡ old
-HasRefusalCause old new (BadStore byte kind) = new ≡ old
-HasRefusalCause old new TooMany = new ≡ old
-HasRefusalCause old new NoMemory = new ≡ old
+abbrev pub HasClassCause : Counts → Counts → Class → Type 0
+HasClassCause old new Reading = FailsToRead old new
+HasClassCause old new Writing = FailsToWrite old new
+HasClassCause old new (Word word) = new ≡ old
+HasClassCause old new (Text bad) = new ≡ old
+HasClassCause old new (Data fault) = new ≡ old
+HasClassCause old new Memory = new ≡ old
 
 -- why a command ended: of every answer but a fault of the desk both counts are as before
 abbrev pub HasStatusCause : Counts → Counts → Status → Type 0
 HasStatusCause old new Done = new ≡ old
-HasStatusCause old new (Refused refusal) = HasRefusalCause old new refusal
+HasStatusCause old new (Refused refusal) = HasClassCause old new (class_of refusal)

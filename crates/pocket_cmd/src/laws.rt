@@ -13,7 +13,7 @@ ghost use Rattle.loss_player.specs.Report.{play_report};
 ghost use Rattle.ground_chain.specs.Deliveries.{report_text, restored_bytes};
 ghost use Rattle.pocket_cmd.specs.Command.{Command, Compress, CompressValues, Play, PlayValues, Restore, RestoreValues, Trial, TrialValues, AreGiven, IsRight, command_of, names_of};
 ghost use Rattle.pocket_cmd.specs.Courses.{course_of};
-ghost use Rattle.pocket_cmd.specs.Delivery.{HasWritten, IsWhole, recorded_history};
+ghost use Rattle.pocket_cmd.specs.Delivery.{HasWritten, IsInputWhole, recorded_history};
 ghost use Rattle.pocket_cmd.specs.Openings.{input_given, side_given};
 ghost use Rattle.pocket_cmd.specs.Outcome.{AfterRefusal, Stands};
 ghost use Rattle.pocket_cmd.specs.Summary.{summary_by};
@@ -53,12 +53,12 @@ pub fn trials_owe_their_summary()
 pub fn commands_compose()
     ensures compress { (c : CompressValues) (plan recording : List ℕ) → IsRight (Compress c)
         → All (λ b. b < 256) recording
-        → IsWhole (Compress c) recording
+        → IsInputWhole (Compress c) recording
         → IsValid (recorded_history c plan recording)
         × (owed (course_of (Compress c) plan recording)
         ≡ to_output (store_of (recorded_history c plan recording) c.apid)) }
     ensures play { (p : PlayValues) (script : List ℕ) (h : History) → IsRight (Play p) → IsValid h
-        → IsWhole (Play p) (store_of h p.apid)
+        → IsInputWhole (Play p) (store_of h p.apid)
         × (owed (course_of (Play p) script (store_of h p.apid)) ≡ record {
           output = played_bytes (copies_of (copy_rows_of script)) p.apid (store_of h p.apid);
           report = play_report (played_of (copies_of (copy_rows_of script)) (length h.steps));
@@ -66,7 +66,7 @@ pub fn commands_compose()
     ensures restore { (r : RestoreValues) (h : History) (copies : ℕ → ℕ) → IsRight (Restore r)
         → IsValid h → h.places ≡ r.bits
         → AreGapsShort copies (length h.steps) → length (arrivals copies (length h.steps)) ≤ 2 ^ 32
-        → IsWhole (Restore r) (played_bytes copies r.apid (store_of h r.apid))
+        → IsInputWhole (Restore r) (played_bytes copies r.apid (store_of h r.apid))
         × (owed (course_of (Restore r) [] (played_bytes copies r.apid (store_of h r.apid)))
         ≡ record { output = restored_bytes h copies; report = report_text h copies }) }
     // All three, one after the other, for one APID and one number of bits.
@@ -74,7 +74,7 @@ pub fn commands_compose()
         (plan script recording : List ℕ)
         → IsRight (Compress c) → IsRight (Play p) → IsRight (Restore r) → p.apid ≡ c.apid
         → r.apid ≡ c.apid → r.bits ≡ c.bits
-        → All (λ b. b < 256) recording → IsWhole (Compress c) recording
+        → All (λ b. b < 256) recording → IsInputWhole (Compress c) recording
         → let h = recorded_history c plan recording in let copies = copies_of (copy_rows_of script)
         in
         AreGapsShort copies (length h.steps) → length (arrivals copies (length h.steps)) ≤ 2 ^ 32

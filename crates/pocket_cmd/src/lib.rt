@@ -5,13 +5,13 @@ mod command;
 mod job;
 mod laws;
 mod mask;
-mod numbers;
 mod rehearsal;
 mod run;
 mod side;
 mod status;
 mod summary;
 mod top;
+mod verbs;
 mod words;
 mod work;
 
@@ -22,6 +22,3 @@ pub use packet_store::StoreKind;
 pub use rehearsal::rehearse;
 pub use status::{Refusal, Status, exit_code};
 pub use top::pocket;
-
-#[cfg(test)]
-mod tests;

@@ -3,7 +3,7 @@ ghost use Rattle.std.specs.Prelude.{◌≡◌, ◌≢◌, ◌<◌, ◌^◌, ◌�
 ghost use Rattle.std.specs.String.{string_bytes};
 ghost use Rattle.desk_ports.specs.QuietState.{quiet_meanings};
 ghost use Rattle.pocket_cmd.specs.Command.{Command as Told, IsCommandOf, command_of, names_of};
-ghost use Rattle.pocket_cmd.specs.Delivery.{IsSideRight, IsWhole};
+ghost use Rattle.pocket_cmd.specs.Delivery.{IsSideRight, IsInputWhole};
 ghost use Rattle.pocket_cmd.specs.Openings.{AreTold};
 ghost use Rattle.pocket_cmd.specs.Outcome.{answer_to};
 
@@ -28,7 +28,7 @@ pub fn rehearse(alloc: Global, words: &[String], desk: &mut QuietDesk<'_>) -> St
     // Right words, a right side text and a whole input are done if memory was found.
     ensures complete { (command : Told) (text input : List ℕ) → IsCommandOf words.now command
         → AreTold (names_of command) (quiet_meanings desk.old) text input
-        → IsSideRight command text → IsWhole command input
+        → IsSideRight command text → IsInputWhole command input
         → result ≢ Status.Refused Refusal.NoMemory → result ≡ Status.Done }
 {
     pocket(alloc, words, desk)

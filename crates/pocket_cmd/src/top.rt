@@ -5,16 +5,16 @@ ghost use Rattle.pocket_cmd.specs.Faults.{DataFault as Fault};
 ghost use Rattle.pocket_cmd.specs.Command.{Command as Told, Restore, RestoreValues, HasCommand, IsCommandOf, command_of, names_of};
 ghost use Rattle.mask_update.specs.Histories.{History};
 ghost use Rattle.ground_chain.specs.Deliveries.{report_text, restored_bytes};
-ghost use Rattle.pocket_cmd.specs.Delivery.{HasWritten, IsPlayedStore, IsSideRight, IsWhole};
+ghost use Rattle.pocket_cmd.specs.Delivery.{HasWritten, IsPlayedStore, IsSideRight, IsInputWhole};
 ghost use Rattle.desk_ports.specs.Meanings.{Rose};
 ghost use Rattle.pocket_cmd.specs.Kept.{Leaves};
 ghost use Rattle.pocket_cmd.specs.Openings.{AreTold, side_given};
 ghost use Rattle.pocket_cmd.specs.Outcome.{AfterRefusal, IsSideJudged, NoneRose, Stands, answer_to};
 ghost use Rattle.pocket_cmd.specs.Status.{HasStatusCause, status_of};
-ghost use Rattle.pocket_cmd.specs.Words.{Gives, read_keys, written_keys};
+ghost use Rattle.pocket_cmd.specs.Words.{AssignsOneOf, read_keys, written_keys};
 
-use crate::command::Command;
 use crate::status::{Refusal, Status};
+use crate::words::Command;
 use crate::work::perform;
 use desk_ports::Desk;
 use std::alloc::Global;
@@ -39,9 +39,9 @@ pub fn pocket<D: Desk>(alloc: Global, words: &[String], desk: &mut D) -> Status
     requires few { length words.now < 2 ^ 32 }
 
     // The desk grants each name that the words give.
-    requires reads { (name : List ℕ) → Gives words.now read_keys name
+    requires reads { (name : List ℕ) → AssignsOneOf words.now read_keys name
         → IsTrue ((D.meaning desk.old).grants_in name) }
-    requires writes { (name : List ℕ) → Gives words.now written_keys name
+    requires writes { (name : List ℕ) → AssignsOneOf words.now written_keys name
         → IsTrue ((D.meaning desk.old).grants_out name) }
 
     // Words that give no command are refused at the first fault, and the desk is not called.
@@ -87,7 +87,7 @@ pub fn pocket<D: Desk>(alloc: Global, words: &[String], desk: &mut D) -> Status
     // was found.
     ensures complete { (command : Told) (text input : List ℕ) → IsCommandOf words.now command
         → AreTold (names_of command) (D.meaning desk.old) text input
-        → IsSideRight command text → IsWhole command input
+        → IsSideRight command text → IsInputWhole command input
         → result ≢ Status.Refused Refusal.NoMemory
         → NoneRose (D.counts desk.old) (D.counts desk.new)
         → result ≡ Status.Done }

@@ -1,8 +1,8 @@
 -- Entries in the order of their first numbers, and those of them that name a number.
-use Rattle.std.proofs.Common.{◌≡◌, ℕ, zero, suc, ◌+◌, ◌-◌, ◌/◌, ◌<◌, ◌≤◌, max, Bool, true, false, ◌&&◌, leb-true, cond, List, [], ◌∷◌, ◌++◌, length, map, drop, get_or, filter, Some, None, Contains, refl, sym, ap, ◌∙◌, arith, inl, inr}
+use Rattle.std.proofs.Common.{◌≡◌, ℕ, zero, suc, ◌+◌, ◌-◌, ◌/◌, ◌<◌, ◌≤◌, max, Bool, true, false, leb-true, cond, List, [], ◌∷◌, ◌++◌, length, map, drop, get_or, filter, Some, None, Contains, refl, sym, ap, ◌∙◌, arith, inl, inr}
 use Rattle.std.proofs.lemmas.List.{append_assoc, length_push, drop-drop, drop_at, take_at, get_or_at, get_or_append_left, get_or-append_right, length-append, get_or-map, get_or-take, get_or-drop, length-map, length-take-le, length-drop}
 use Rattle.std.proofs.lemmas.List.Recursion.{max_bounds}
-use Rattle.std.proofs.lemmas.Bool.{cases_lt, false_from_ne_true}
+use Rattle.std.proofs.lemmas.Bool.{and_parts, cases_lt, false_from_ne_true}
 use Rattle.std.proofs.lemmas.List.Elements.{All-take, All-drop, All-map, All-filter, filter_passes, Contains-append_left, Contains-append_right, Contains-push, All-get_or, All-from_get_or}
 use Rattle.std.proofs.lemmas.List.Sorted.{IsNonDecreasingBy-from_default, IsNonDecreasingBy-take, IsNonDecreasingBy-drop}
 use Rattle.std.specs.List.Sorted.{IsNonDecreasingBy}
@@ -23,13 +23,9 @@ Contains-place entries k place inside is =
 
 -- ---- what names a number
 
-pub both : (a b : Bool) → (a && b) ≡ true → (a ≡ true) × (b ≡ true)
-both true b is = (refl, is)
-both false b is = absurd cc
-
 names-within : (span : Span) (t : ℕ) → names span t ≡ true → (span.first ≤ t) × (t ≤ span.last)
 names-within span t is =
-    let range = both _ _ (both _ _ is).0 in
+    let range = and_parts _ _ (and_parts _ _ is).0 in
     (leb-true _ _ range.0, leb-true _ _ range.1)
 
 not_early : (span : Span) (t : ℕ) → t < span.first → names span t ≡ false

@@ -1,7 +1,8 @@
 -- What the places of the rows that name a number say about the rows.
 use Rattle.std.proofs.Common.{◌≡◌, ℕ, zero, suc, ◌<◌, ◌≤◌, max, Bool, true, false, ◌||◌, cond, List, [], ◌∷◌, ◌++◌, length, fold, get_or, find, reverse, Option, Some, None, All, Contains, refl, sym, ap, ◌∙◌, arith, inl, inr}
+use Rattle.std.specs.Cmp.{both_ways}
 use Rattle.std.specs.List.{list_any, reduce}
-use Rattle.std.proofs.lemmas.Bool.{cases_lt, false_from_ne_true}
+use Rattle.std.proofs.lemmas.Bool.{and_parts, cases_lt, false_from_ne_true}
 use Rattle.std.proofs.lemmas.List.{get_or_default, get_or-map, reverse-append}
 use Rattle.std.proofs.lemmas.List.Elements.{All-nil, All-cons, All-head, All-tail, All-contains}
 use Rattle.std.proofs.lemmas.List.Folds.{Any-from_list_any, list_any-append, list_any_at}
@@ -12,7 +13,6 @@ use Rattle.side_tables.specs.Order.{no_span}
 use Rattle.side_tables.specs.Spans.{names}
 use Rattle.side_tables.specs.Rows.{flag_span, flags_of, gives_flag, last_row}
 use Rattle.side_tables.specs.Tables.{ArePlacesNaming, RowNames}
-use Rattle.side_tables.proofs.Orders.{both}
 
 -- a row names exactly what the span at its place names
 named : {R : Type 0} (span_of : R → Span) (rows : List R) (t k : ℕ) (d : R) → k < length rows → RowNames span_of rows t k → names (span_of (get_or rows k d)) t ≡ true
@@ -22,11 +22,6 @@ names_at : {R : Type 0} (span_of : R → Span) (rows : List R) (t k : ℕ) (d : 
 names_at span_of rows t k d inside is = rw (get_or-map span_of rows k d no_span inside) is
 
 -- ---- flags
-
-bool_same : (a b : Bool) → (a ≡ true → b ≡ true) → (b ≡ true → a ≡ true) → a ≡ b
-bool_same true b to from = sym (to refl)
-bool_same false true to from = from refl
-bool_same false false to from = refl
 
 abbrev pub no_row : FlagRow
 no_row = record { first = 0; last = 0; step = 0; flags = record { p = false; f = false; r = false } }
@@ -62,7 +57,7 @@ flags_at-more rows places place flags new so_far p f r =
 
 flag_at : (flag : Flags → Bool) (rows : List FlagRow) (t : ℕ) (places : List ℕ) → ArePlacesNaming flag_span rows t places
     → list_any (λ place. flag (get_or rows place no_row).flags) places ≡ list_any (gives_flag flag t) rows
-flag_at flag rows t places are = bool_same _ _
+flag_at flag rows t places are = both_ways _ _
     (λ some.
     let found = Any-from_list_any (λ place. flag (get_or rows place no_row).flags) places some in
     let own = All-contains (λ place. (place < length rows) × RowNames flag_span rows t place) places found.1 are.own (found.0, found.2, found.3) in
@@ -70,7 +65,7 @@ flag_at flag rows t places are = bool_same _ _
     (λ some.
     let found = Any-from_list_any (gives_flag flag t) rows some in
     let is : get_or rows found.0 no_row ≡ found.1 = get_or_default rows found.0 no_row found.1 found.2 ∙ found.3 in
-    let gives = both _ _ found.4 in
+    let gives = and_parts _ _ found.4 in
     let there = are.each found.0 found.2 (names_at flag_span rows t found.0 no_row found.2 (rw is gives.0)) in
     list_any_at (λ place. flag (get_or rows place no_row).flags) places there.0 found.0 there.1 (rw (there.2, is) gives.1))
 

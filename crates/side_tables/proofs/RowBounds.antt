@@ -1,10 +1,11 @@
 -- The required robustness that the rows of a text give is at most 7.
-use Rattle.std.proofs.Common.{◌≡◌, ℕ, ◌≤◌, ◌&&◌, leb-true, Bool, true, false, cond, List, [], ◌∷◌, length, All, IfSome, Option, Some, None, find, reverse, nat_le, refl}
+use Rattle.std.proofs.Common.{◌≡◌, ℕ, ◌≤◌, ◌&&◌, leb-true, Bool, true, false, cond, List, [], ◌∷◌, length, All, IfSome, Option, Some, None, find, reverse, nat_le, refl, subst, sym}
 use Rattle.std.specs.List.{cons_option, filter_map}
 use Rattle.std.specs.Option.{option_map}
 use Rattle.std.specs.Prelude.{◌==◌, codes}
 use Rattle.std.specs.Str.{bytes_eq}
 use Rattle.std.specs.Str.Parse.{digits_value}
+use Rattle.std.proofs.lemmas.Bool.{and_parts}
 use Rattle.std.proofs.lemmas.List.{reverse-append}
 use Rattle.std.proofs.lemmas.List.Elements.{All-append, All-nil, All-cons, All-head, All-tail}
 use Rattle.csv.specs.Records.{field_at}
@@ -17,7 +18,8 @@ use Rattle.side_tables.specs.Numbers.{is_plain_decimal, number_of}
 use Rattle.side_tables.specs.Grammar.{◌>>=◌, flag_row_of, robust_row_of, schedule_row_of, span_from}
 use Rattle.side_tables.specs.Rows.{robust_of, robust_row, robust_span}
 use Rattle.side_tables.specs.Spans.{names}
-use Rattle.side_tables.proofs.Orders.{both}
+use Rattle.side_tables.specs.Texts.{alone, rows_from}
+use Rattle.side_tables.proofs.RowTexts.{rows_from-alone}
 
 -- ---- options
 
@@ -34,7 +36,7 @@ test_within P false o right = tt
 number_most : (low high : ℕ) (text : List ℕ) → IfSome (number_of low high text) (λ n. n ≤ high)
 number_most low high text =
     test_within (λ n. n ≤ high) (is_plain_decimal text && nat_le low (digits_value 10 text) && nat_le (digits_value 10 text) high) (Some (digits_value 10 text))
-    (λ right. leb-true _ _ (both _ _ right).1)
+    (λ right. leb-true _ _ (and_parts _ _ right).1)
 
 abbrev HasMost : RobustRow → Type 0
 HasMost row = row.value ≤ 7
@@ -110,7 +112,8 @@ said : (o : Option RobustRow) → IfSome o HasMost → IfSome (option_map (λ (r
 said None most = tt
 said (Some row) most = most
 
-pub robust_of-most : (records : List (List (List ℕ))) (t : ℕ) → IfSome (robust_of (filter_map robust_row (filter_map schedule_row_of records)) t) (λ robust. robust ≤ 7)
+pub robust_of-most : (records : List (List (List ℕ))) (t : ℕ) → IfSome (robust_of (filter_map robust_row (rows_from (alone schedule_row_of) [] records)) t) (λ robust. robust ≤ 7)
 robust_of-most records t =
-    let rows = filter_map robust_row (filter_map schedule_row_of records) in
-    said (find (λ row. names (robust_span row) t) (reverse rows)) (found (λ row. names (robust_span row) t) (reverse rows) (reversed rows (rows_of-most records)))
+    let rows = filter_map robust_row (rows_from (alone schedule_row_of) [] records) in
+    let most = subst (λ (rows : List ScheduleRow). All HasMost (filter_map robust_row rows)) (sym (rows_from-alone schedule_row_of [] records)) (rows_of-most records) in
+    said (find (λ row. names (robust_span row) t) (reverse rows)) (found (λ row. names (robust_span row) t) (reverse rows) (reversed rows most))

@@ -13,7 +13,7 @@ use Rattle.side_tables.specs.declared.rows.CopyRow.{CopyRow}
 use Rattle.side_tables.specs.declared.span.Span.{Span}
 use Rattle.side_tables.specs.Numbers.{number_of}
 use Rattle.side_tables.specs.Rows.{ScheduleRows, by_kind}
-use Rattle.side_tables.specs.Texts.{rows_of, bad_row}
+use Rattle.side_tables.specs.Texts.{alone, rows_of, bad_row}
 
 infixl 10 ◌>>=◌
 abbrev pub ◌>>=◌ : {A B : Type 0} → Option A → (A → Option B) → Option B
@@ -97,13 +97,13 @@ copy_row_of fields = field_at fields 0 >>= λ word. if bytes_eq word (codes "dro
 
 -- the rows of a schedule's and of a script's text, and the number of the first record that is not a row
 abbrev pub schedule_rows_of : List ℕ → ScheduleRows
-schedule_rows_of text = by_kind (rows_of schedule_row_of text)
+schedule_rows_of text = by_kind (rows_of (alone schedule_row_of) text)
 
 abbrev pub copy_rows_of : List ℕ → List CopyRow
-copy_rows_of text = rows_of copy_row_of text
+copy_rows_of text = rows_of (alone copy_row_of) text
 
 abbrev pub bad_schedule_row : List ℕ → Option ℕ
-bad_schedule_row text = bad_row schedule_row_of text
+bad_schedule_row text = bad_row (alone schedule_row_of) text
 
 abbrev pub bad_copy_row : List ℕ → Option ℕ
-bad_copy_row text = bad_row copy_row_of text
+bad_copy_row text = bad_row (alone copy_row_of) text

@@ -26,7 +26,7 @@ pub record IsEntryOf (spans : List Span) (entry : OrderEntry) : Type 0 where
 abbrev pub places_of : List OrderEntry → List ℕ
 places_of entries = map (λ entry. entry.place) entries
 
--- entries of spans, with exactly one for each span
+-- entries of spans, and each span has one
 pub record AreEntriesOf (spans : List Span) (entries : List OrderEntry) : Type 0 where
   pub own : All (IsEntryOf spans) entries
   pub each : (place : ℕ) → place < length spans → Contains (places_of entries) place

@@ -1,6 +1,6 @@
 -- What a text of comma-separated values says.
-use Rattle.std.specs.Prelude.{◌≡◌, ℕ, ◌<◌, ◌≤◌, List, length, Option, None, Some, is_none}
-use Rattle.std.specs.List.{filter_map, position_from}
+use Rattle.std.specs.Prelude.{◌≡◌, ℕ, ◌+◌, ◌<◌, ◌≤◌, if◌then◌else◌, List, [], ◌∷◌, ◌++◌, length, Option, None, Some, is_none}
+use Rattle.std.specs.Option.{option_to_list}
 use Rattle.csv.specs.Reading.{records, default_config, strip_bom}
 use Rattle.csv.specs.declared.error.ErrorKind.{ErrorKind}
 use Rattle.csv.specs.declared.error.ErrorKind.TheVariants as kind
@@ -12,19 +12,38 @@ use Rattle.side_tables.specs.declared.fault.SideFault.TheVariants.{TooLong, Row,
 abbrev pub records_of : List ℕ → List (List (List ℕ))
 records_of text = records default_config (strip_bom text)
 
+-- which row a record is, if it is one, after the rows before it
+abbrev pub Grammar : Type 0 → Type 0
+Grammar R = List R → List (List ℕ) → Option R
+
+-- a grammar in which no row hangs on the rows before it
+abbrev pub alone : {R : Type 0} → (List (List ℕ) → Option R) → Grammar R
+alone row_of before fields = row_of fields
+
+-- some rows, and those of further records; a record that is not a row is left out
+abbrev pub rows_from : {R : Type 0} → Grammar R → List R → List (List (List ℕ)) → List R
+rows_from row_after rows [] = rows
+rows_from row_after rows (fields ∷ records) = rows_from row_after (rows ++ option_to_list (row_after rows fields)) records
+
+-- after some rows, the number of the first of further records that is not a row, if these are counted from a number
+abbrev pub bad_from : {R : Type 0} → Grammar R → List R → ℕ → List (List (List ℕ)) → Option ℕ
+bad_from row_after rows n [] = None
+bad_from row_after rows n (fields ∷ records) =
+    if is_none (row_after rows fields) then Some n else bad_from row_after (rows ++ option_to_list (row_after rows fields)) (n + 1) records
+
 -- the rows of a text
-abbrev pub rows_of : {R : Type 0} → (List (List ℕ) → Option R) → List ℕ → List R
-rows_of row_of text = filter_map row_of (records_of text)
+abbrev pub rows_of : {R : Type 0} → Grammar R → List ℕ → List R
+rows_of row_after text = rows_from row_after [] (records_of text)
 
 -- the number of the first record of a text that is not a row, counted from 1
-abbrev pub bad_row : {R : Type 0} → (List (List ℕ) → Option R) → List ℕ → Option ℕ
-bad_row row_of text = position_from (λ fields. is_none (row_of fields)) 1 (records_of text)
+abbrev pub bad_row : {R : Type 0} → Grammar R → List ℕ → Option ℕ
+bad_row row_after text = bad_from row_after [] 1 (records_of text)
 
 -- a text within the limit whose records are these rows
-pub record AreRowsOf {R : Type 0} (row_of : List (List ℕ) → Option R) (text : List ℕ) (rows : List R) : Type 0 where
+pub record AreRowsOf {R : Type 0} (row_after : Grammar R) (text : List ℕ) (rows : List R) : Type 0 where
   pub within : length text ≤ 1048576
-  pub right : bad_row row_of text ≡ None
-  pub are : rows ≡ rows_of row_of text
+  pub right : bad_row row_after text ≡ None
+  pub are : rows ≡ rows_of row_after text
 
 -- what can go wrong while the records of a text in memory are read: nothing that is due to the records
 abbrev pub CanCome : ErrorKind → Type 0
@@ -36,7 +55,7 @@ CanCome (kind.Serialize why) = ⊥
 CanCome (kind.Deserialize pos err) = ⊥
 
 -- why a text is not made of rows: its length, or, within the limit, the first record that is not a row or lack of memory
-abbrev pub IsFaultOf : {R : Type 0} → (List (List ℕ) → Option R) → List ℕ → SideFault → Type 0
-IsFaultOf row_of text TooLong = 1048576 < length text
-IsFaultOf row_of text (Row row) = (length text ≤ 1048576) × (bad_row row_of text ≡ Some row)
-IsFaultOf row_of text NoMemory = length text ≤ 1048576
+abbrev pub IsFaultOf : {R : Type 0} → Grammar R → List ℕ → SideFault → Type 0
+IsFaultOf row_after text TooLong = 1048576 < length text
+IsFaultOf row_after text (Row row) = (length text ≤ 1048576) × (bad_row row_after text ≡ Some row)
+IsFaultOf row_after text NoMemory = length text ≤ 1048576

@@ -5,20 +5,26 @@ ghost use Rattle.std.specs.List.{list_all};
 ghost use Rattle.csv.specs.Records.{fields_of};
 ghost use Rattle.side_tables.specs.Rows.{IsFlagRow, IsRobustRow, IsScheduleRow, IsCopyRow, flag_span, robust_span, copy_span};
 ghost use Rattle.side_tables.specs.Spans.{IsSpan};
+ghost use Rattle.side_tables.specs.Texts.{alone};
 ghost use Rattle.side_tables.specs.Grammar.{number_at, span_from, flags_named, are_letters, is_letter, count_of, flag_row_of, robust_row_of, schedule_row_of, drop_row_of, repeat_row_of, copy_row_of};
 
 use crate::decimal::number;
-use crate::rows::{CopyRow, FlagRow, RobustRow, ScheduleRow, TableRow, TextRow};
+use crate::rows::{CopyRow, FlagRow, RobustRow, RowGrammar, ScheduleRow, TableRow};
 use crate::span::Span;
 use bit_vectors::Flags;
 use csv::ByteRecord;
 
-impl TextRow for ScheduleRow {
-    ghost row_of = { schedule_row_of };
+/// The rows of a schedule.
+pub struct ScheduleText;
 
-    ghost is_right = { IsScheduleRow };
+impl RowGrammar for ScheduleText {
+    type Row = ScheduleRow;
 
-    fn from_record(fields: &ByteRecord) -> Option<ScheduleRow> {
+    ghost row_after = { λ _. alone schedule_row_of };
+
+    ghost is_right = { λ _. IsScheduleRow };
+
+    fn row(&self, _before: &[ScheduleRow], fields: &ByteRecord) -> Option<ScheduleRow> {
         match fields.get(0)? {
             b"robust" => Some(ScheduleRow::Robust(robust_row(fields)?)),
             _ => Some(ScheduleRow::Flags(flag_row(fields)?)),
@@ -26,12 +32,17 @@ impl TextRow for ScheduleRow {
     }
 }
 
-impl TextRow for CopyRow {
-    ghost row_of = { copy_row_of };
+/// The rows of a script.
+pub struct ScriptText;
 
-    ghost is_right = { IsCopyRow };
+impl RowGrammar for ScriptText {
+    type Row = CopyRow;
 
-    fn from_record(fields: &ByteRecord) -> Option<CopyRow> {
+    ghost row_after = { λ _. alone copy_row_of };
+
+    ghost is_right = { λ _. IsCopyRow };
+
+    fn row(&self, _before: &[CopyRow], fields: &ByteRecord) -> Option<CopyRow> {
         match fields.get(0)? {
             b"drop" => drop_row(fields),
             b"repeat" => repeat_row(fields),

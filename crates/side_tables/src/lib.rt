@@ -14,15 +14,16 @@ mod span;
 mod table;
 mod text;
 
-pub use decimal::number;
+pub use decimal::{number, signed_number, wide_number};
 pub use fault::SideFault;
 pub use laws::robustness_of_texts;
 pub use lookup::{Lookup, Planned};
-pub use rows::{CopyRow, FlagRow, TableRow};
+pub use rows::{CopyRow, FlagRow, RowGrammar, TableRow};
 pub use schedule::Schedule;
 pub use script::Script;
 pub use span::Span;
 pub use table::Table;
+pub use text::{MOST_BYTES, read_rows};
 
 #[cfg(test)]
 mod tests;

@@ -175,7 +175,9 @@ pub fn next_named(order: &[OrderEntry], t: u32) -> u32
     }
     let mut next = u32::MAX;
     for k in 0..order.len() {
-        next = next.min(order[k].span.next(t));
+        if let Some(named) = order[k].span.next(t) {
+            next = next.min(named);
+        }
     }
     next
 }

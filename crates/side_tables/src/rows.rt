@@ -1,6 +1,6 @@
 //! The rows of schedules and scripts.
 
-ghost use Rattle.std.specs.Prelude.{◌≡◌, ℕ, List, Option, IfSome};
+ghost use Rattle.std.specs.Prelude.{◌≡◌, ℕ, List, Option, All, IfSome};
 ghost use Rattle.csv.specs.Records.{fields_of};
 ghost use Rattle.side_tables.specs.declared.span.Span.{Span as Numbers};
 ghost use Rattle.side_tables.specs.Spans.{IsSpan};
@@ -43,18 +43,22 @@ pub struct CopyRow {
     pub copies: u8,
 }
 
-/// A row of a text: a record of comma-separated values.
+/// Which records of a text are rows: a record is a row by its fields, and it may hang on the rows before it.
 ///
-/// `row_of` gives the row that a record's fields are, and `is_right` says what holds for each row of a text.
-pub trait TextRow: Copy {
-    ghost row_of: { List (List ℕ) → Option Self };
+/// `row_after` gives the row that a record's fields are after these rows, if they are one, and `is_right` says what holds
+/// for each row of a text.
+pub trait RowGrammar {
+    type Row: Drop;
 
-    ghost is_right: { Self → Type 0 };
+    ghost row_after: { Self → List Self.Row → List (List ℕ) → Option Self.Row };
 
-    /// The row that the record is, if it is one.
-    fn from_record(fields: &ByteRecord) -> Option<Self>
-        ensures row { result ≡ row_of (fields_of fields.now) }
-        ensures right { IfSome result is_right };
+    ghost is_right: { Self → Self.Row → Type 0 };
+
+    /// The row that the record is after these rows, if it is one.
+    fn row(&self, before: &[Self::Row], fields: &ByteRecord) -> Option<Self::Row>
+        requires { All (is_right self.now) before.now }
+        ensures row { result ≡ row_after self.now before.now (fields_of fields.now) }
+        ensures right { IfSome result (is_right self.now) };
 }
 
 /// A row of a table: what it says holds for each packet that it names.

@@ -5,6 +5,7 @@ ghost use Rattle.side_tables.specs.Grammar.{bad_schedule_row, schedule_rows_of};
 ghost use Rattle.side_tables.specs.Rows.{IsFlagRow, IsScheduleRow, by_kind, flags_of, GiveNothing, robust_of};
 
 use crate::fault::SideFault;
+use crate::grammar::ScheduleText;
 use crate::rows::{FlagRow, RobustRow, ScheduleRow};
 use crate::table::Table;
 use crate::text::read_rows;
@@ -41,7 +42,7 @@ impl Schedule {
         ensures row { (row : ℕ) → result ≡ Err (SideFault.Row row)
             → bad_schedule_row text.now ≡ Some row }
     {
-        let rows = read_rows(alloc, text)?;
+        let rows = read_rows(alloc, &ScheduleText, text)?;
         Ok(Schedule::of_rows(alloc, &rows)?)
     }
 

@@ -5,6 +5,7 @@ ghost use Rattle.side_tables.specs.Grammar.{bad_copy_row, copy_rows_of};
 ghost use Rattle.side_tables.specs.Rows.{copies_of};
 
 use crate::fault::SideFault;
+use crate::grammar::ScriptText;
 use crate::rows::CopyRow;
 use crate::table::Table;
 use crate::text::read_rows;
@@ -26,7 +27,7 @@ impl Table<CopyRow> {
         ensures row { (row : ℕ) → result ≡ Err (SideFault.Row row)
             → bad_copy_row text.now ≡ Some row }
     {
-        let rows = read_rows(alloc, text)?;
+        let rows = read_rows(alloc, &ScriptText, text)?;
         Ok(Table::of_rows(alloc, rows)?)
     }
 

@@ -1,6 +1,6 @@
 //! Packet numbers in steps.
 
-ghost use Rattle.std.specs.Prelude.{◌≡◌, ℕ, ◌<◌, ◌≤◌, true, false};
+ghost use Rattle.std.specs.Prelude.{◌≡◌, ℕ, ◌<◌, ◌≤◌, true, false, IfNone, IfSome};
 ghost use Rattle.side_tables.specs.Spans.{names};
 
 /// Each `step`-th number from `first` to `last`.
@@ -20,24 +20,29 @@ impl Span {
         self.first <= t && t <= self.last && (t - self.first) % self.step == 0
     }
 
-    /// The first number from `t` on that is one of them, and 4,294,967,295 if none is.
-    pub fn next(&self, t: u32) -> u32
+    /// The first number from `t` on that is one of them.
+    pub fn next(&self, t: u32) -> Option<u32>
         requires { 1 ≤ self.now.step }
-        ensures least { t ≤ result }
-        ensures named { result < 4294967295 → names self.now result ≡ true }
-        ensures none { (n : ℕ) → t ≤ n → n < result → names self.now n ≡ false }
+        ensures least { IfSome result (λ next. t ≤ next) }
+        ensures named { IfSome result (λ next. names self.now next ≡ true) }
+        ensures first { IfSome result
+            (λ next. (n : ℕ) → t ≤ n → n < next → names self.now n ≡ false) }
+        ensures none { IfNone result ((n : ℕ) → t ≤ n → names self.now n ≡ false) }
     {
         if self.last < t.max(self.first) {
-            return u32::MAX;
+            return None;
         }
         if t <= self.first {
-            return self.first;
+            return Some(self.first);
         }
         let past = (t - self.first) % self.step;
         if past == 0 {
-            return t;
+            return Some(t);
         }
-        let next = t.saturating_add(self.step - past);
-        if self.last < next { u32::MAX } else { next }
+        let ahead = self.step - past;
+        if self.last - t < ahead {
+            return None;
+        }
+        Some(t + ahead)
     }
 }

@@ -55,7 +55,7 @@ impl<R: TableRow> Table<R> {
         &self.rows
     }
 
-    /// The places of the rows that name the packet, each once and in any order.
+    /// The places of the rows that name the packet, in any order.
     pub(crate) fn naming(&self, t: u32) -> PlacesAt<'_>
         ensures { ArePlacesNaming R.span_of self.now t result }
     {

@@ -1,6 +1,6 @@
 //! Texts of schedules and scripts, with what they must mean.
 
-use crate::{CopyRow, FlagRow, Lookup, Schedule, Script, SideFault};
+use crate::{CopyRow, FlagRow, Lookup, Schedule, Script, SideFault, signed_number};
 use bit_vectors::Flags;
 use std::alloc::Global;
 use std::test::Fail;
@@ -152,5 +152,25 @@ fn long_texts(rt: HostRuntime) -> Result<(), Fail> {
         flags(rt.alloc(), &text[1..], 0),
         Err(SideFault::Row { row: 1 })
     );
+    Ok(())
+}
+
+#[test]
+fn signed_numbers(rt: HostRuntime) -> Result<(), Fail> {
+    let rows: [(&str, Option<i128>); 10] = [
+        ("0", Some(0)),
+        ("-1", Some(-1)),
+        ("18446744073709551615", Some(18_446_744_073_709_551_615)),
+        ("18446744073709551616", None),
+        ("-9223372036854775808", Some(-9_223_372_036_854_775_808)),
+        ("-9223372036854775809", None),
+        ("-0", None),
+        ("+1", None),
+        ("-", None),
+        ("", None),
+    ];
+    for (text, wanted) in rows {
+        assert_eq!(rt; signed_number(text.as_bytes()), wanted);
+    }
     Ok(())
 }

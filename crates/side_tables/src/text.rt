@@ -5,18 +5,23 @@ ghost use Rattle.csv.specs.Reading.{error_kind};
 ghost use Rattle.side_tables.specs.Texts.{AreRowsOf, CanCome, IsFaultOf};
 
 use crate::fault::SideFault;
-use crate::rows::TextRow;
+use crate::rows::RowGrammar;
 use csv::ReaderBuilder;
 use std::alloc::Global;
 
 /// The most bytes of a text.
 pub const MOST_BYTES: usize = 1_048_576;
 
-/// The rows of a text, or why the text is not made of rows.
-pub fn read_rows<R: TextRow>(alloc: Global, text: &[u8]) -> Result<Vec<R>, SideFault>
-    ensures rows { IfOk result (λ rows. AreRowsOf R.row_of text.now rows.items) }
-    ensures right { IfOk result (λ rows. All R.is_right rows.items) }
-    ensures fault { IfErr result (IsFaultOf R.row_of text.now) }
+/// The rows of a text by a grammar, or why the text is not made of rows.
+pub fn read_rows<G: RowGrammar>(
+    alloc: Global,
+    grammar: &G,
+    text: &[u8],
+) -> Result<Vec<G::Row>, SideFault>
+    ensures rows { IfOk result
+        (λ rows. AreRowsOf (G.row_after grammar.now) text.now rows.items) }
+    ensures right { IfOk result (λ rows. All (G.is_right grammar.now) rows.items) }
+    ensures fault { IfErr result (IsFaultOf (G.row_after grammar.now) text.now) }
 {
     if text.len() > MOST_BYTES {
         return Err(SideFault::TooLong);
@@ -32,7 +37,7 @@ pub fn read_rows<R: TextRow>(alloc: Global, text: &[u8]) -> Result<Vec<R>, SideF
             Ok(record) => record,
             Err(error) => return Err(refused(&error)),
         };
-        let Some(row) = R::from_record(&record) else {
+        let Some(row) = grammar.row(&rows, &record) else {
             return Err(SideFault::Row {
                 row: rows.len() as u32 + 1,
             });

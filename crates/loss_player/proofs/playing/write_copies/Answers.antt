@@ -1,9 +1,9 @@
 use Rattle.std.proofs.Common.{◌≡◌, ℕ, ◌+◌, ◌-◌, ap, ◌∙◌, subst, arith}
 use Rattle.desk_ports.specs.declared.desk.Outlet.TheVariants as outlet
 use Rattle.desk_ports.specs.Meanings.{Adds, AddsFront}
-use Rattle.desk_ports.proofs.Transfers.{Adds-then, Adds-ready}
+use Rattle.desk_ports.proofs.Transfers.{Adds-ready, Adds-then, AddsFront-after, AddsFront-then, OnErr-always}
 use Rattle.loss_player.specs.Played.{repeated}
-use Rattle.loss_player.proofs.Copies.{AddsFront-after, AddsFront-before, OnErr-always, repeated-more, repeated-then}
+use Rattle.loss_player.proofs.Copies.{repeated-more, repeated-then}
 use Rattle.loss_player.proofs.playing.write_copies.Goals as goal
 
 pub loop-preserved : goal.loop-preserved
@@ -27,6 +27,6 @@ returns-in_err-write_all-clause-front g c =
     let count : c.loop.counter + 1 + (c.args.times - c.loop.counter - 1) ≡ c.args.times = omega (arith, c.loop-test.true) in
     let cut = AddsFront-after a b d outlet.Main (repeated c.loop.counter c.args.packet.now) c.args.packet.now c.loop.invariant.added c.in_err-write_all.ensures.front in
     let one = subst (AddsFront a d outlet.Main) (repeated-more c.loop.counter c.args.packet.now) cut in
-    let all = AddsFront-before a d outlet.Main (repeated (c.loop.counter + 1) c.args.packet.now) (repeated (c.args.times - c.loop.counter - 1) c.args.packet.now) one in
+    let all = AddsFront-then a d outlet.Main (repeated (c.loop.counter + 1) c.args.packet.now) (repeated (c.args.times - c.loop.counter - 1) c.args.packet.now) one in
     let joined = repeated-then (c.loop.counter + 1) (c.args.times - c.loop.counter - 1) c.args.packet.now ∙ ap (λ (k : ℕ). repeated k c.args.packet.now) count in
     OnErr-always c.from_residual.result (AddsFront a d outlet.Main (repeated c.args.times c.args.packet.now)) (subst (AddsFront a d outlet.Main) joined all)

@@ -8,7 +8,7 @@ use Rattle.pocket_cmd.specs.declared.status.Refusal.{Refusal}
 use Rattle.pocket_cmd.specs.Jobs.{AfterJob, job_course, reads_input}
 use Rattle.pocket_cmd.specs.Openings.{view_names}
 use Rattle.pocket_cmd.specs.Status.{IsEnded}
-use Rattle.pocket_cmd.proofs.Opened.{EndsBy-ended, IsEnded-stopped, RunStands-finished, IsRunUnwritten-unfinished}
+use Rattle.pocket_cmd.proofs.Opened.{EndsBy-ended, IsEnded-stopped, RunStands-finished, HasRunWriteFailed-unfinished}
 use Rattle.pocket_cmd.proofs.run.run_opened.Goals as goal
 
 is_some-map : {A B : Type 0} (f : A → B) (o : Option A) → is_some o ≡ is_some (option_map f o)
@@ -42,7 +42,7 @@ returns-in-Err-clause-ran g c = λ old opened.
 pub returns-in-Err-finish_all-clause-ran : goal.returns-in-Err-finish_all-clause-ran
 returns-in-Err-finish_all-clause-ran g c = λ old opened. record {
   ended = Err WriteFault;
-  over = IsRunUnwritten-unfinished (view_names c.args.names.now) (job_course c.args.job) old _ _ _ opened
+  over = HasRunWriteFailed-unfinished (view_names c.args.names.now) (job_course c.args.job) old _ _ _ opened
       (EndsBy-ended (is_some (view_names c.args.names.now).input) (job_course c.args.job) _ _ tt (ran_by c.args.job c.args.names.now _ _ _ c.requires.reads c.in-Ok.ensures.ran)) c.in-Err-finish_all.ensures.finished;
   answered = refl;
 }

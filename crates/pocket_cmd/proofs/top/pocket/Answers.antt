@@ -3,6 +3,7 @@ use Rattle.std.specs.String.{string_bytes}
 use Rattle.pocket_cmd.specs.declared.status.Refusal.TheVariants as refusal
 use Rattle.pocket_cmd.specs.Command.{Restore, names_of, view_command}
 use Rattle.pocket_cmd.specs.Outcome.{AfterCommand, AfterRefusal, IsSideAnswered, IsSideJudged}
+use Rattle.pocket_cmd.specs.Status.{class_of}
 use Rattle.pocket_cmd.proofs.Given.{IsCommand-command_of}
 use Rattle.pocket_cmd.proofs.Granted.{same_command, side_granted, input_granted, output_granted, report_granted, not_both, ends_for}
 use Rattle.pocket_cmd.proofs.Performed.{AfterRefusal-answer, Stands-answer}
@@ -75,7 +76,7 @@ returns-in-Ok-clause-headline g c = λ r h copies is played done.
 
 pub returns-in-Ok-clause-leaves : goal.returns-in-Ok-clause-leaves
 returns-in-Ok-clause-leaves g c = λ refusal command is given.
-    Leaves-refused command (g.D.Desk.meaning c.args.desk.now) (g.D.Desk.meaning c.perform.new.desk) refusal (returns-in-Ok-clause-refused g c refusal command is given)
+    Leaves-refused command (g.D.Desk.meaning c.args.desk.now) (g.D.Desk.meaning c.perform.new.desk) (class_of refusal) (returns-in-Ok-clause-refused g c refusal command is given)
 
 pub returns-in-Err-clause-leaves : goal.returns-in-Err-clause-leaves
 returns-in-Err-clause-leaves g c = λ refusal command is given. absurd (not_both given (sym c.in-Err.ensures))

@@ -10,4 +10,4 @@ invariant-records g l = (is_flexible l.record-iterator.rdr ≡ true) × (l.recor
     × (length l.fn.text ≤ 1048576)
     × (y : List ℕ) × (raw : List (List (List ℕ))) × (source_of (λ s. Some s.now) l.record-iterator.rdr ≡ Some y)
     × Reached default_config st.StartRecord (strip_bom l.fn.text) raw l.record-iterator.rdr.state y
-    × AreGood g.R.TextRow.row_of raw l.rows.items × All g.R.TextRow.is_right l.rows.items
+    × AreGood (g.G.RowGrammar.row_after l.fn.grammar) raw l.rows.items × All (g.G.RowGrammar.is_right l.fn.grammar) l.rows.items

@@ -1,11 +1,6 @@
-use Rattle.std.proofs.Common.{◌≡◌, Bool, true, false}
-use Rattle.std.specs.Bool.{OnFalse}
+use Rattle.std.proofs.lemmas.Bool.{OnFalse_from}
 use Rattle.bit_vectors.proofs.Keeping.{holds_read, zero_vector, zero_words_of, some_one}
 use Rattle.bit_vectors.proofs.bits.Bits.is_zero.Goals as goal
-
-on_false : (test : Bool) (none some : Type 0) → (none → test ≡ true) → ((none → ⊥) → some) → OnFalse test some
-on_false true none some when not_none = tt
-on_false false none some when not_none = not_none (λ h. let e = when h in absurd cc)
 
 pub returns-clause-zero : goal.returns-clause-zero
 returns-clause-zero c =
@@ -15,4 +10,4 @@ returns-clause-zero c =
 pub returns-clause-some : goal.returns-clause-some
 returns-clause-some c =
     let h = holds_read _ _ _ _ c.deref.ensures.value c.self.invariant.0 c.self.view_is in
-    on_false c.are_zero.result _ _ c.are_zero.ensures.1 (some_one _ _ _ h)
+    OnFalse_from c.are_zero.result _ (λ e. some_one _ _ _ h (λ none. let is = c.are_zero.ensures.1 none in absurd cc))

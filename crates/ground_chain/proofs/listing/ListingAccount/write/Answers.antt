@@ -1,14 +1,14 @@
 use Rattle.std.proofs.Common.{refl, sym, ap, ◌∙◌, subst}
+use Rattle.std.proofs.lemmas.Result.{on_err_weaker, on_ok_weaker}
 use Rattle.desk_ports.specs.declared.desk.Outlet.TheVariants as outlet
 use Rattle.desk_ports.specs.Meanings.{Adds, AddsFront}
 use Rattle.desk_ports.specs.Turns.{WroteFront}
 use Rattle.desk_ports.proofs.Runs.{Ran-adds}
 use Rattle.desk_ports.proofs.Steps.{WroteFront-output}
-use Rattle.desk_ports.proofs.Transfers.{Adds-ready, Adds-then}
+use Rattle.desk_ports.proofs.Transfers.{Adds-ready, Adds-then, AddsFront-after, OnErr-always}
 use Rattle.ground_chain.specs.declared.verdict.Verdict.{Verdict}
 use Rattle.ground_chain.specs.Listing.{front_line, judged_lines, listed_texts, shown_vectors}
-use Rattle.ground_chain.proofs.Writings.{OnErr-always, OnErr-map, OnOk-map}
-use Rattle.ground_chain.proofs.LinePieces.{AddsFront-after, front_front, lines-are, shown-are}
+use Rattle.ground_chain.proofs.LinePieces.{front_front, lines-are, shown-are}
 use Rattle.ground_chain.proofs.listing.ListingAccount.write.Goals as goal
 
 pub write_all-requires : goal.write_all-requires
@@ -41,7 +41,7 @@ returns-clause-front g c = λ judged verdict shows.
     let decoder = c.args.decoder.now in
     let adds = subst (Adds a b outlet.Main) head c.in_ok-write_all.ensures.added in
     let lines = ap (λ (x : Verdict). shown_vectors x decoder) v ∙ shown-are judged decoder shows in
-    OnErr-map c.write_own.result
+    on_err_weaker c.write_own.result
     (λ cut. WroteFront-output a d (judged_lines judged) (subst (AddsFront a d outlet.Main) (lines-are judged decoder shows)
     (AddsFront-after a b d outlet.Main (front_line judged.verdict decoder.level) _ adds (subst (AddsFront b d outlet.Main) lines cut))))
     c.write_own.ensures.front
@@ -57,7 +57,7 @@ returns-clause-wrote g c = λ judged verdict shows.
     let decoder = c.args.decoder.now in
     let adds = subst (Adds a b outlet.Main) head c.in_ok-write_all.ensures.added in
     let lines = ap (λ (x : Verdict). shown_vectors x decoder) v ∙ shown-are judged decoder shows in
-    OnOk-map c.write_own.result
+    on_ok_weaker c.write_own.result
     (λ more. Ran-adds a d (judged_lines judged) (subst (Adds a d outlet.Main) (lines-are judged decoder shows)
     (Adds-then a b d outlet.Main (front_line judged.verdict decoder.level) _ adds (subst (Adds b d outlet.Main) lines more))))
     c.write_own.ensures.added

@@ -1,10 +1,11 @@
-use Rattle.std.proofs.Common.{refl}
+use Rattle.std.proofs.Common.{refl, ap, arith}
 use Rattle.std.proofs.lemmas.Result.{err_from_is_err_and}
 use Rattle.desk_ports.proofs.Runs.{Ran-none}
 use Rattle.desk_ports.proofs.Steps.{AreReady-moved}
 use Rattle.packet_store.proofs.StoreTurns.{AfterStop-on, Advances-on, IsCutShort-on, Finishes-on, IsCutShort-end-on}
 use Rattle.ground_chain.specs.Receiving.{left_to_receive}
-use Rattle.ground_chain.proofs.RestCourses.{IsDone-received, IsReceiving-passed, Owes-next, Reads-judged, Reads-passed}
+use Rattle.ground_chain.specs.declared.restored.Restored.{Restored}
+use Rattle.ground_chain.proofs.RestCourses.{IsDone-received, Owes-next, Reads-judged, Reads-passed}
 use Rattle.ground_chain.proofs.receiving.ReceivingRun.turn.Goals as goal
 
 -- the store is not read on
@@ -32,7 +33,7 @@ pub returns-in_default-clause-turned : goal.returns-in_default-clause-turned
 returns-in_default-clause-turned g c = λ work owes.
     let s = c.args.self.now in
     let told = rw c.in_default.is at c.in_ok-taken.ensures in
-    Finishes-on s.reader (IsDone-received g.A.Account.texts s) owes.work_is told.ahead told.none told.at_end c.in_ok-end.ensures.wrote
+    rw c.restored.ensures (Finishes-on s.reader (IsDone-received g.A.Account.texts s) owes.work_is told.ahead told.none told.at_end c.in_ok-end.ensures.wrote)
 
 -- a packet was read
 pub arrive-requires-clause-ready : goal.arrive-requires-clause-ready
@@ -42,33 +43,37 @@ arrive-requires-clause-ready g c =
 
 pub returns-in_err-arrive-clause-turned : goal.returns-in_err-arrive-clause-turned
 returns-in_err-arrive-clause-turned g c = λ work owes.
+    let s = c.args.self.now in
+    let t = record s { reader = c.next.new.self; judging = c.arrive.new.self } in
     let meaning = g.D.Desk.meaning in
     let told = rw c.in-Some.is at c.in_ok-taken.ensures in
-    let reads = Reads-judged g.A.Account.texts c.args.self.now c.arrive.new.self c.next.new.self (meaning c.args.desk.now) (meaning c.next.new.desk) c.in-Some.taken told.some c.if-taken.true c.arrive.ensures.judges in
+    let judges = rw c.body-body.ensures at c.arrive.ensures.judges in
+    let reads = Reads-judged g.A.Account.texts s t (meaning c.args.desk.now) (meaning c.next.new.desk) c.in-Some.taken told.some c.if-taken.true judges in
     let p = err_from_is_err_and c.from_residual-in_err-arrive.result c.from_residual-in_err-arrive.ensures.1 in
-    rw (p.1, p.2) (IsCutShort-on reads owes.work_is c.in_err-arrive.ensures.front)
+    let front = rw c.body-body.ensures at c.in_err-arrive.ensures.front in
+    rw (p.1, p.2) (IsCutShort-on reads owes.work_is front)
 
 pub returns-in_ok-arrive-clause-turned : goal.returns-in_ok-arrive-clause-turned
 returns-in_ok-arrive-clause-turned g c = λ work owes.
     let s = c.args.self.now in
-    let t = c.arrive.new.self in
-    let reader = c.next.new.self in
+    let t = record s { reader = c.next.new.self; judging = c.arrive.new.self } in
     let texts = g.A.Account.texts in
     let a = g.D.Desk.meaning c.args.desk.now in
     let b = g.D.Desk.meaning c.next.new.desk in
     let told = rw c.in-Some.is at c.in_ok-taken.ensures in
-    let reads = Reads-judged texts s t reader a b c.in-Some.taken told.some c.if-taken.true c.arrive.ensures.judges in
-    Advances-on reads owes.work_is c.in_ok-arrive.ensures.wrote (Owes-next texts g.A.Account.has_room s t reader a b c.in-Some.taken work owes told.some c.arrive.ensures.judges.reader_is c.arrive.ensures.right)
+    let judges = rw c.body-body.ensures at c.arrive.ensures.judges in
+    let reads = Reads-judged texts s t a b c.in-Some.taken told.some c.if-taken.true judges in
+    let wrote = rw c.body-body.ensures at c.in_ok-arrive.ensures.wrote in
+    let packets = ap (λ (r : Restored). r.packets) judges.restored in
+    Advances-on reads owes.work_is wrote (Owes-next texts s t a b c.in-Some.taken work owes told.some (omega (arith, packets)))
 
 pub returns-else-taken-clause-turned : goal.returns-else-taken-clause-turned
 returns-else-taken-clause-turned g c = λ work owes.
     let s = c.args.self.now in
     let reader = c.next.new.self in
     let texts = g.A.Account.texts in
-    let has_room = g.A.Account.has_room in
     let a = g.D.Desk.meaning c.args.desk.now in
     let b = g.D.Desk.meaning c.next.new.desk in
     let told = rw c.in-Some.is at c.in_ok-taken.ensures in
     let reads = Reads-passed texts s reader a b c.in-Some.taken told.some c.if-taken.false in
-    let right = IsReceiving-passed has_room s reader a b c.in-Some.taken owes.right told.some in
-    Advances-on reads owes.work_is (Ran-none b) (Owes-next texts has_room s (record s { reader = reader }) reader a b c.in-Some.taken work owes told.some refl right)
+    Advances-on reads owes.work_is (Ran-none b) (Owes-next texts s (record s { reader = reader }) a b c.in-Some.taken work owes told.some (omega arith))

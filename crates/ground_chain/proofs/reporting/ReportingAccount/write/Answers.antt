@@ -3,10 +3,11 @@ use Rattle.desk_ports.specs.declared.desk.Outlet.TheVariants as outlet
 use Rattle.desk_ports.specs.Meanings.{Adds, AddsFront}
 use Rattle.desk_ports.specs.Turns.{WroteFront}
 use Rattle.desk_ports.proofs.Runs.{Ran-notes, Ran-ready_out}
+use Rattle.desk_ports.proofs.Transfers.{OnErr-always}
 use Rattle.ground_chain.specs.declared.verdict.Verdict.{Verdict}
 use Rattle.ground_chain.specs.Report.{is_written_kind, verdict_rows}
 use Rattle.ground_chain.specs.Restoring.{restored_texts}
-use Rattle.ground_chain.proofs.Writings.{OnErr-always, content_written, front_rows, front_content, no_content, wrote_all, wrote_rows}
+use Rattle.ground_chain.proofs.Writings.{content_written, front_rows, front_content, no_content, wrote_all, wrote_rows}
 use Rattle.ground_chain.proofs.reporting.ReportingAccount.write.Goals as goal
 
 pub write_rows-requires : goal.write_rows-requires

@@ -13,14 +13,14 @@ use Rattle.ground_chain.specs.declared.receiving.Receiving.{Receiving}
 use Rattle.ground_chain.specs.declared.reporting.Reporting.{Reporting}
 use Rattle.ground_chain.specs.Deliveries.{IsDelivered, IsPlayed}
 use Rattle.ground_chain.specs.Report.{header_row}
-use Rattle.ground_chain.specs.Restoring.{HasContentRoom, RestorerState, restore_course, restore_work, restored_texts, stop_by}
-use Rattle.ground_chain.specs.Receiving.{HasReadNothing, IsUnread, receiving_state, rest_work}
+use Rattle.ground_chain.specs.Restoring.{RestorerState, restore_course, restore_work, restored_texts, stop_by}
+use Rattle.ground_chain.specs.Receiving.{IsUnread, receiving_state, rest_work}
 use Rattle.ground_chain.proofs.DeliveredRuns.{IsDelivered-done, IsOk-run}
 use Rattle.ground_chain.proofs.RestCourses.{Owes-unread, Steps-unread, restore_course-is}
 use Rattle.ground_chain.proofs.restorer.Restorer.restore.Goals as goal
 
-unread : (f apid : ℕ) (s : Receiving Reporting) → HasReadNothing HasContentRoom f apid s → Steps (restore_work f apid) (rest_work restored_texts s) [] (to_report header_row)
-unread f apid s is = Steps-unread restored_texts HasContentRoom f apid s (restore_course f apid) (to_report header_row) is (restore_course-is f apid)
+unread : (s : Receiving Reporting) → IsUnread s → Steps (restore_work (receiving_state s).places (receiving_state s).apid) (rest_work restored_texts s) [] (to_report header_row)
+unread s is = let k = receiving_state s in Steps-unread restored_texts s (restore_course k.places k.apid) (to_report header_row) is (restore_course-is k.places k.apid)
 
 pub returns-in_err-write_all-clause-ran : goal.returns-in_err-write_all-clause-ran
 returns-in_err-write_all-clause-ran g c =
@@ -29,16 +29,16 @@ returns-in_err-write_all-clause-ran g c =
     let s = c.self.inside.receiving in
     let k = receiving_state s in
     let front = WroteFront-report a b header_row (subst (AddsFront a b outlet.Report) c.as_bytes.ensures.value c.in_err-write_all.ensures.front) in
-    let cut = IsCutShort-wrote (restore_work k.places k.apid) (rest_work restored_texts s) a b (to_report header_row) (unread k.places k.apid s c.self.invariant) front in
+    let cut = IsCutShort-wrote (restore_work k.places k.apid) (rest_work restored_texts s) a b (to_report header_row) (unread s c.self.invariant) front in
     let p = err_from_is_err_and c.from_residual.result c.from_residual.ensures.1 in
     rw (p.1, p.2) (subst (λ (r : RestorerState). IsCutShort (restore_course r.places r.apid) a b) c.self.view_is cut)
 
 -- the first line was written, and the store is owed
-header : (s : Receiving Reporting) (a b : Meanings) (bytes : List ℕ) → IsUnread HasContentRoom s → bytes ≡ header_row → Adds a b outlet.Report bytes
+header : (s : Receiving Reporting) (a b : Meanings) (bytes : List ℕ) → IsUnread s → bytes ≡ header_row → Adds a b outlet.Report bytes
     → Reaches (restore_work (receiving_state s).places (receiving_state s).apid) (rest_work restored_texts s) a b
 header s a b bytes is_unread is adds =
     let k = receiving_state s in
-    Reaches-wrote (restore_work k.places k.apid) (rest_work restored_texts s) a b (to_report header_row) (unread k.places k.apid s is_unread) (Ran-notes a b header_row (subst (Adds a b outlet.Report) is adds))
+    Reaches-wrote (restore_work k.places k.apid) (rest_work restored_texts s) a b (to_report header_row) (unread s is_unread) (Ran-notes a b header_row (subst (Adds a b outlet.Report) is adds))
 
 pub returns-clause-ran : goal.returns-clause-ran
 returns-clause-ran g c =
@@ -47,7 +47,7 @@ returns-clause-ran g c =
     let d = g.D.Desk.meaning c.drive.new.desk in
     let s = c.self.inside.receiving in
     let k = receiving_state s in
-    let ran = c.drive.ensures.ran (rest_work restored_texts s) (Owes-unread restored_texts HasContentRoom k.places k.apid s c.self.invariant) in
+    let ran = c.drive.ensures.ran (rest_work restored_texts s) (Owes-unread restored_texts s c.self.invariant) in
     subst (λ (r : RestorerState). AfterRun (restore_work r.places r.apid) a d (by_stop stop_by c.drive.result)) c.self.view_is (AfterRun-after (restore_work k.places k.apid) (rest_work restored_texts s) a b d (by_stop stop_by c.drive.result) (header s a b c.as_bytes.result.now c.self.invariant c.as_bytes.ensures.value c.in_ok-write_all.ensures.added) ran)
 
 delivered : (f apid : ℕ) (h : History) (copies : ℕ → ℕ) (a b : Meanings) (result : Result Restored RestoreFault) → IsPlayed f apid h copies a → AfterRun (restore_work f apid) a b (by_stop stop_by result)

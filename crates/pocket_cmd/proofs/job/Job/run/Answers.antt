@@ -4,7 +4,7 @@ use Rattle.loss_player.specs.Playing.{play_course, stop_by as play_stop}
 use Rattle.ground_chain.specs.Listing.{listing_course}
 use Rattle.ground_chain.specs.Restoring.{restore_course, stop_by as restore_stop}
 use Rattle.pocket_cmd.specs.Faults.{of_recording, of_store}
-use Rattle.pocket_cmd.proofs.Faults.{HasRefusalCause-stop, IsEnded-done, IsEnded-stop}
+use Rattle.pocket_cmd.proofs.Faults.{HasClassCause-stop, IsEnded-done, IsEnded-stop}
 use Rattle.pocket_cmd.proofs.Texts.{IsEnded-text, IsEnded-text_cut}
 use Rattle.pocket_cmd.proofs.job.Job.run.Goals as goal
 
@@ -18,7 +18,7 @@ returns-in-Err-clause-ran g c =
 
 pub returns-in-Err-clause-cause : goal.returns-in-Err-clause-cause
 returns-in-Err-clause-cause g c =
-    HasRefusalCause-stop of_recording _ _ (flight_stop c.in-Err.fault) c.into.result c.in-Err.ensures.cause c.into.ensures
+    HasClassCause-stop of_recording _ _ (flight_stop c.in-Err.fault) c.into.result c.in-Err.ensures.cause c.into.ensures
 
 pub returns-in-Ok-play-clause-ran : goal.returns-in-Ok-play-clause-ran
 returns-in-Ok-play-clause-ran g c =
@@ -30,7 +30,7 @@ returns-in-Err-play-clause-ran g c =
 
 pub returns-in-Err-play-clause-cause : goal.returns-in-Err-play-clause-cause
 returns-in-Err-play-clause-cause g c =
-    HasRefusalCause-stop of_store _ _ (play_stop c.in-Err-play.fault) c.into-in-Err-play.result c.in-Err-play.ensures.cause c.into-in-Err-play.ensures
+    HasClassCause-stop of_store _ _ (play_stop c.in-Err-play.fault) c.into-in-Err-play.result c.in-Err-play.ensures.cause c.into-in-Err-play.ensures
 
 pub returns-in-Ok-restore-clause-ran : goal.returns-in-Ok-restore-clause-ran
 returns-in-Ok-restore-clause-ran g c =
@@ -42,7 +42,7 @@ returns-in-Err-restore-clause-ran g c =
 
 pub returns-in-Err-restore-clause-cause : goal.returns-in-Err-restore-clause-cause
 returns-in-Err-restore-clause-cause g c =
-    HasRefusalCause-stop of_store _ _ (restore_stop c.in-Err-restore.fault) c.into-in-Err-restore.result c.in-Err-restore.ensures.cause c.into-in-Err-restore.ensures
+    HasClassCause-stop of_store _ _ (restore_stop c.in-Err-restore.fault) c.into-in-Err-restore.result c.in-Err-restore.ensures.cause c.into-in-Err-restore.ensures
 
 pub returns-in-Ok-list-clause-ran : goal.returns-in-Ok-list-clause-ran
 returns-in-Ok-list-clause-ran g c =
@@ -54,7 +54,7 @@ returns-in-Err-list-clause-ran g c =
 
 pub returns-in-Err-list-clause-cause : goal.returns-in-Err-list-clause-cause
 returns-in-Err-list-clause-cause g c =
-    HasRefusalCause-stop of_store _ _ (restore_stop c.in-Err-list.fault) c.into-in-Err-list.result c.in-Err-list.ensures.cause c.into-in-Err-list.ensures
+    HasClassCause-stop of_store _ _ (restore_stop c.in-Err-list.fault) c.into-in-Err-list.result c.in-Err-list.ensures.cause c.into-in-Err-list.ensures
 
 pub returns-in-Ok-write_text-clause-ran : goal.returns-in-Ok-write_text-clause-ran
 returns-in-Ok-write_text-clause-ran g c =

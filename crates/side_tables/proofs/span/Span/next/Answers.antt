@@ -12,13 +12,15 @@ whole_steps d step some =
     let sum : d + (step - d % step) ≡ step * (d / step) + step = omega (arith, whole, below) in
     ap (λ n. n % step) sum ∙ add-mod_right (step * (d / step)) step ∙ mul-mod_right step (d / step)
 
-pub returns-else-self-next-clause-named : goal.returns-else-self-next-clause-named
-returns-else-self-next-clause-named c below =
+pub returns-clause-named : goal.returns-clause-named
+returns-clause-named c =
     let span = c.args.self.now in
-    let next = c.saturating_add-next.result in
     let past = (c.args.t - span.first) % span.step in
-    let is : next ≡ c.args.t + (span.step - past) = omega (arith, below, c.saturating_add-next.ensures) in
-    let from : span.first ≤ next = omega (arith, is, c.if-t-self.false) in
-    let steps : next - span.first ≡ (c.args.t - span.first) + (span.step - past) = omega (arith, is, c.if-t-self.false) in
-    let whole : (next - span.first) % span.step ≡ 0 = ap (λ n. n % span.step) steps ∙ whole_steps (c.args.t - span.first) span.step c.requires in
-    and_from _ _ (and_from _ _ (le-leb _ _ from) (le-leb _ _ c.if-self-next.false)) (rw whole refl)
+    let ahead : ℕ = span.step - past in
+    let below : past < span.step = mod_below (c.args.t - span.first) span.step c.requires in
+    let late : span.first ≤ c.args.t = omega arith in
+    let steps : c.args.t + ahead - span.first ≡ (c.args.t - span.first) + ahead = omega (arith, late) in
+    let whole : (c.args.t + ahead - span.first) % span.step ≡ 0 = ap (λ n. n % span.step) steps ∙ whole_steps (c.args.t - span.first) span.step c.requires in
+    let from : span.first ≤ c.args.t + ahead = omega (arith, late) in
+    let within : c.args.t + ahead ≤ span.last = omega (arith, c.if-self-t.false, c.if-self-max.false) in
+    and_from _ _ (and_from _ _ (le-leb _ _ from) (le-leb _ _ within)) (rw whole refl)

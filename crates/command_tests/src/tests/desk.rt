@@ -1,0 +1,245 @@
+//! A run over a desk in memory, and what it leaves there.
+
+use pocket_cmd::{Refusal, Status, pocket};
+use bit_vectors::NoMemory;
+use desk_ports::{Call, MemDesk, Outlet};
+use std::alloc::{AllocError, Global};
+use std::process::Abort;
+use std::test::Fail;
+
+/// The words that restore packets of eight bits.
+pub const EIGHT_BITS: &str = "restore in=a out=b report=c bits=8 apid=100";
+
+/// The words that play a store by a script.
+pub const BY_SCRIPT: &str = "play in=a script=s out=b report=c apid=100";
+
+/// The words that list a store of packets of eight bits.
+pub const LIST: &str = "show in=a out=b bits=8 apid=100";
+
+/// The first line of a report.
+pub const HEADER: &str = "first,last,cause,value\n";
+
+/// The words in one line, what the inputs have, whether a call moves one byte at most, and the calls that fail.
+#[derive(Clone, Copy)]
+pub struct Case<'a> {
+    pub words: &'a str,
+    /// What is held as `a`.
+    pub input: Option<&'a [u8]>,
+    /// What is held as `s`.
+    pub side: Option<&'a [u8]>,
+    pub one_byte: bool,
+    pub fails: &'a [(Call, u32)],
+}
+
+/// How a run ended: what was written, and what is kept under the names of both outputs.
+#[derive(Clone, Copy, Debug, PartialEq, Eq)]
+pub struct Ending<'a> {
+    pub status: Status,
+    pub output: &'a [u8],
+    pub report: &'a [u8],
+    pub kept_output: &'a [u8],
+    pub kept_report: &'a [u8],
+    /// How often reading and writing failed.
+    pub faults: (u64, u64),
+}
+
+/// The words, at a desk without an input.
+pub fn words_alone(words: &str) -> Case<'_> {
+    Case {
+        words,
+        input: None,
+        side: None,
+        one_byte: false,
+        fails: &[],
+    }
+}
+
+/// The words, at a desk with this input.
+pub fn with_input<'a>(words: &'a str, input: &'a [u8]) -> Case<'a> {
+    Case {
+        input: Some(input),
+        ..words_alone(words)
+    }
+}
+
+/// The words, at a desk with both inputs.
+pub fn with_both<'a>(words: &'a str, input: &'a [u8], side: &'a [u8]) -> Case<'a> {
+    Case {
+        side: Some(side),
+        ..with_input(words, input)
+    }
+}
+
+/// All was done, and both outputs are kept.
+pub fn done<'a>(output: &'a [u8], report: &'a [u8]) -> Ending<'a> {
+    Ending {
+        status: Status::Done,
+        output,
+        report,
+        kept_output: output,
+        kept_report: report,
+        faults: (0, 0),
+    }
+}
+
+/// The run was refused, and no output is kept.
+pub fn refused<'a>(refusal: Refusal, output: &'a [u8], report: &'a [u8]) -> Ending<'a> {
+    Ending {
+        status: Status::Refused(refusal),
+        output,
+        report,
+        kept_output: &[],
+        kept_report: &[],
+        faults: faults_of(refusal),
+    }
+}
+
+/// How often reading and writing failed, if this is the answer.
+fn faults_of(refusal: Refusal) -> (u64, u64) {
+    match refusal {
+        Refusal::ReadFault => (1, 0),
+        Refusal::WriteFault => (0, 1),
+        _ => (0, 0),
+    }
+}
+
+/// Runs a case, which must end like this.
+pub fn assert_ending(
+    rt: &(impl Abort + AllocGlobal),
+    case: &Case<'_>,
+    wanted: &Ending<'_>,
+) -> Result<(), Fail> {
+    let mut desk = desk_for(rt.alloc(), case)?;
+    assert_ending_at(rt, case, &mut desk, wanted)
+}
+
+/// Runs it at this desk.
+fn assert_ending_at(
+    rt: &(impl Abort + AllocGlobal),
+    case: &Case<'_>,
+    desk: &mut MemDesk,
+    wanted: &Ending<'_>,
+) -> Result<(), Fail> {
+    let status = answer(rt.alloc(), case.words, desk)?;
+    let side = front(case.side.unwrap_or(&[]), 80);
+    assert_eq!(rt;
+        ended(status, desk),
+        *wanted,
+        "{} {:?} {side:?}",
+        case.words,
+        case.fails
+    );
+    Ok(())
+}
+
+/// The first bytes, as many as there are.
+pub fn front(bytes: &[u8], count: usize) -> &[u8] {
+    &bytes[..count.min(bytes.len())]
+}
+
+/// Runs a case with reads and writes of seven bytes at most.
+fn assert_by_seven(
+    rt: &(impl Abort + AllocGlobal),
+    case: &Case<'_>,
+    wanted: &Ending<'_>,
+) -> Result<(), Fail> {
+    let mut desk = desk_for(rt.alloc(), case)?;
+    desk.pieces(7);
+    assert_ending_at(rt, case, &mut desk, wanted)
+}
+
+/// Runs a case with whole reads and writes, with those of seven bytes at most, and with those of one byte.
+pub fn assert_both(
+    rt: &(impl Abort + AllocGlobal),
+    case: Case<'_>,
+    wanted: &Ending<'_>,
+) -> Result<(), Fail> {
+    assert_ending(rt, &case, wanted)?;
+    assert_by_seven(rt, &case, wanted)?;
+    let one_byte = Case {
+        one_byte: true,
+        ..case
+    };
+    assert_ending(rt, &one_byte, wanted)
+}
+
+/// Bytes from their hexadecimal digits, two for each.
+pub fn bytes_of(alloc: Global, text: &str) -> Result<Vec<u8>, AllocError> {
+    let mut bytes = Vec::new(alloc);
+    for digits in text.split_ascii_whitespace() {
+        bytes.push(u8::from_str_radix(digits, 16).unwrap_or(0))?;
+    }
+    Ok(bytes)
+}
+
+/// The bytes of several texts of hexadecimal digits.
+pub fn bytes_of_all(alloc: Global, texts: &[&str]) -> Result<Vec<u8>, AllocError> {
+    let mut bytes = Vec::new(alloc);
+    for text in texts {
+        bytes.extend_from_slice(&bytes_of(alloc, text)?)?;
+    }
+    Ok(bytes)
+}
+
+/// One text after another.
+pub fn joined(alloc: Global, front: &str, back: &str) -> Result<String, AllocError> {
+    let mut text = String::from_str(alloc, front)?;
+    text.push_str(back)?;
+    Ok(text)
+}
+
+/// Does what the words in a line say.
+pub fn answer(alloc: Global, line: &str, desk: &mut MemDesk) -> Result<Status, AllocError> {
+    let words = words_of(alloc, line)?;
+    Ok(answer_to(alloc, &words, desk))
+}
+
+fn answer_to(alloc: Global, words: &[String], desk: &mut MemDesk) -> Status {
+    let few = words.len().min(1000);
+    pocket(alloc, &words[..few], desk)
+}
+
+pub fn words_of(alloc: Global, line: &str) -> Result<Vec<String>, AllocError> {
+    let mut words = Vec::new(alloc);
+    for word in line.split_ascii_whitespace() {
+        words.push(String::from_str(alloc, word)?)?;
+    }
+    Ok(words)
+}
+
+/// Holds bytes under a name.
+pub fn hold(desk: &mut MemDesk, name: &str, bytes: &[u8]) -> Result<(), NoMemory> {
+    desk.put(name, bytes)
+}
+
+/// Holds the bytes of an input, if there is one.
+fn hold_some(desk: &mut MemDesk, name: &str, input: Option<&[u8]>) -> Result<(), NoMemory> {
+    match input {
+        None => Ok(()),
+        Some(bytes) => hold(desk, name, bytes),
+    }
+}
+
+fn desk_for(alloc: Global, case: &Case<'_>) -> Result<MemDesk, NoMemory> {
+    let mut desk = MemDesk::new(alloc);
+    hold_some(&mut desk, "a", case.input)?;
+    hold_some(&mut desk, "s", case.side)?;
+    if case.one_byte {
+        desk.pieces(1);
+    }
+    for (call, nth) in case.fails {
+        desk.fail(*call, *nth)?;
+    }
+    Ok(desk)
+}
+
+fn ended(status: Status, desk: &MemDesk) -> Ending<'_> {
+    Ending {
+        status,
+        output: desk.seen(Outlet::Main),
+        report: desk.seen(Outlet::Report),
+        kept_output: desk.get("b"),
+        kept_report: desk.get("c"),
+        faults: (desk.read_faults(), desk.write_faults()),
+    }
+}

@@ -1,0 +1,28 @@
+//! A rehearsal over a quiet desk, which finds its memory.
+
+use super::desk::words_of;
+use pocket_cmd::{Status, rehearse};
+use desk_ports::QuietDesk;
+use std::alloc::{AllocError, Global};
+use std::process::Abort;
+use std::test::Fail;
+
+/// The store of one packet of eight bits.
+const STORE: &[u8] = &[0x00, 0x64, 0xC0, 0x00, 0x00, 0x03, 0x85, 0xB8, 0xD6, 0x00];
+
+fn answer(alloc: Global) -> Result<Status, AllocError> {
+    let words = words_of(alloc, "play in=a out=b report=c apid=100 script=s")?;
+    let mut desk = QuietDesk::new("s", b"repeat,0,0,1,2\n", "a", STORE);
+    Ok(rehearsed(alloc, &words, &mut desk))
+}
+
+fn rehearsed(alloc: Global, words: &[String], desk: &mut QuietDesk<'_>) -> Status {
+    let few = words.len().min(1000);
+    rehearse(alloc, &words[..few], desk)
+}
+
+#[test]
+fn rehearsal(rt: HostRuntime) -> Result<(), Fail> {
+    assert_eq!(rt; answer(rt.alloc())?, Status::Done);
+    Ok(())
+}

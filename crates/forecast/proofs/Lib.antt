@@ -1,0 +1,4 @@
+pub mod Sure
+pub mod Foresight
+pub mod Longest
+pub mod Rows

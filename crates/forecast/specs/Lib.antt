@@ -1,0 +1,5 @@
+pub mod Prospects
+pub mod Stretches
+pub mod Texts
+pub mod Outlooks
+pub mod Worked

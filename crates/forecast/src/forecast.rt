@@ -1,0 +1,208 @@
+//! The command `forecast`: which packets will be written, whatever the recording is.
+
+ghost use Rattle.std.specs.Prelude.{◌≡◌, ◌≤◌, ◌<◌, ◌^◌, ◌+◌, ◌++◌, length, IfOk, OnOk, OnErr};
+ghost use Rattle.desk_ports.specs.Meanings.{Adds, AddsFront, HasWriteCause, IsReadyOut};
+ghost use Rattle.loss_player.specs.Tallies.{IsTally};
+ghost use Rattle.forecast.specs.Prospects.{fate_of};
+ghost use Rattle.forecast.specs.Outlooks.{ended_before, foresees, row_of, running_at};
+ghost use Rattle.forecast.specs.Texts.{closing_rows, end_row, forecast_text, gaps_row, stretch_rows, sure_count};
+
+use crate::foreseen::Outlook;
+use crate::running::Running;
+use crate::stretch::Stretch;
+use bit_vectors::NoMemory;
+use desk_ports::{Desk, Failed, Outlet, Row, write_all};
+use side_tables::{Schedule, Script};
+use std::alloc::Global;
+use std::marker::Model;
+
+/// The text's first line.
+const HEADER: &str = "first,last,state\n";
+
+/// A forecast for packets under a schedule and a script. Contracts see how many packets there are, the required robustness
+/// of those to which the schedule gives none, and the rows of both.
+#[derive(Debug, Drop)]
+pub struct Forecast {
+    packets: u32,
+    outlook: Outlook,
+}
+
+impl Model for Forecast {
+    ghost use Rattle.forecast.specs.Outlooks.{ForecastState, IsForecast};
+
+    ghost Value = { ForecastState };
+
+    ghost view = { λ f. record { packets = f.packets; outlook = f.outlook } };
+
+    ghost invariant = { λ f. IsForecast f.packets };
+}
+
+impl Forecast {
+    /// A forecast for so many packets, 1 to 1,000,000, under a schedule and a script. `robust`, at most 7, is the required
+    /// robustness of packets to which the schedule gives none. The schedule and the script have all memory that is needed.
+    pub fn open(
+        _alloc: Global,
+        packets: u32,
+        robust: u8,
+        plan: Schedule,
+        script: Script,
+    ) -> Result<Forecast, NoMemory>
+        requires some { 1 ≤ packets }
+        requires most { packets ≤ 1000000 }
+        requires robust { robust ≤ 7 }
+        ensures { IfOk result (λ forecast. forecast ≡ record {
+          packets = packets;
+          outlook = record { plan = plan; robust = robust; script = script };
+        }) }
+    {
+        Ok(Forecast {
+            packets,
+            outlook: Outlook::new(plan, robust, script),
+        })
+    }
+
+    /// Writes the forecast to the main outlet, and tells how many packets are sure. It takes no memory.
+    pub fn write<D: Desk>(self, desk: &mut D) -> Result<u64, Failed>
+        requires ready { IsReadyOut (D.meaning desk.old) Outlet.Main }
+        ensures added { OnOk result (Adds (D.meaning desk.old) (D.meaning desk.new) Outlet.Main
+            (forecast_text (foresees self.outlook) self.packets)) }
+        ensures front { OnErr result (AddsFront (D.meaning desk.old) (D.meaning desk.new)
+            Outlet.Main (forecast_text (foresees self.outlook) self.packets)) }
+        ensures sure { IfOk result
+            (λ sure. sure ≡ sure_count (foresees self.outlook) self.packets) }
+        ensures cause { HasWriteCause (D.counts desk.old) (D.counts desk.new) result }
+    {
+        let mut outlook = self.outlook;
+        write_text(desk, &mut outlook, self.packets)
+    }
+}
+
+/// Writes the forecast for so many packets, and tells how many are sure.
+fn write_text<D: Desk>(desk: &mut D, outlook: &mut Outlook, packets: u32) -> Result<u64, Failed>
+    requires ready { IsReadyOut (D.meaning desk.old) Outlet.Main }
+    requires some { 1 ≤ packets }
+    requires most { packets ≤ 1000000 }
+    ensures added { OnOk result (Adds (D.meaning desk.old) (D.meaning desk.new) Outlet.Main
+        (forecast_text (foresees outlook.old) packets)) }
+    ensures front { OnErr result (AddsFront (D.meaning desk.old) (D.meaning desk.new)
+        Outlet.Main (forecast_text (foresees outlook.old) packets)) }
+    ensures sure { IfOk result (λ sure. sure ≡ sure_count (foresees outlook.old) packets) }
+    ensures cause { HasWriteCause (D.counts desk.old) (D.counts desk.new) result }
+{
+    write_all(desk, Outlet::Main, HEADER.as_bytes())?;
+    let running = write_stretches(desk, outlook, packets)?;
+    write_closing(desk, packets, &running)?;
+    Ok(running.sure)
+}
+
+/// Writes a line for each stretch of so many packets, and tells what is kept of them.
+fn write_stretches<D: Desk>(
+    desk: &mut D,
+    outlook: &mut Outlook,
+    packets: u32,
+) -> Result<Running, Failed>
+    requires ready { IsReadyOut (D.meaning desk.old) Outlet.Main }
+    requires some { 1 ≤ packets }
+    requires most { packets ≤ 1000000 }
+    ensures added { OnOk result (Adds (D.meaning desk.old) (D.meaning desk.new) Outlet.Main
+        (stretch_rows (fate_of (foresees outlook.old)) packets)) }
+    ensures front { OnErr result (AddsFront (D.meaning desk.old) (D.meaning desk.new) Outlet.Main
+        (stretch_rows (fate_of (foresees outlook.old)) packets)) }
+    ensures running { IfOk result
+        (λ running. running ≡ running_at (foresees outlook.old) packets) }
+    ensures cause { HasWriteCause (D.counts desk.old) (D.counts desk.new) result }
+{
+    let mut running = Running::none();
+    for t in 0..packets {
+        write_next(desk, outlook, &mut running, t)?;
+    }
+    write_row(desk, running.stretch)?;
+    Ok(running)
+}
+
+/// Takes the packet `t`, and writes the line of the stretch that ends just before it, if one does.
+fn write_next<D: Desk>(
+    desk: &mut D,
+    outlook: &mut Outlook,
+    running: &mut Running,
+    t: u32,
+) -> Result<(), Failed>
+    requires ready { IsReadyOut (D.meaning desk.old) Outlet.Main }
+    requires few { t < 1000000 }
+    requires running { running.old ≡ running_at (foresees outlook.old) t }
+    requires right { IsTally running.old.tally }
+    ensures added { OnOk result (Adds (D.meaning desk.old) (D.meaning desk.new) Outlet.Main
+        (row_of (ended_before (fate_of (foresees outlook.old)) t))) }
+    ensures front { OnErr result (AddsFront (D.meaning desk.old) (D.meaning desk.new) Outlet.Main
+        (row_of (ended_before (fate_of (foresees outlook.old)) t))) }
+    ensures running { running.new ≡ running_at (foresees outlook.old) (t + 1) }
+    ensures right { IsTally running.new.tally }
+    ensures same { outlook.new ≡ outlook.old }
+    ensures cause { HasWriteCause (D.counts desk.old) (D.counts desk.new) result }
+{
+    let foreseen = outlook.at(t);
+    let ended = running.take(t, &foreseen);
+    write_row(desk, ended)
+}
+
+/// Writes the line of a stretch, if there is one.
+fn write_row<D: Desk>(desk: &mut D, stretch: Option<Stretch>) -> Result<(), Failed>
+    requires { IsReadyOut (D.meaning desk.old) Outlet.Main }
+    ensures added { OnOk result
+        (Adds (D.meaning desk.old) (D.meaning desk.new) Outlet.Main (row_of stretch)) }
+    ensures front { OnErr result
+        (AddsFront (D.meaning desk.old) (D.meaning desk.new) Outlet.Main (row_of stretch)) }
+    ensures cause { HasWriteCause (D.counts desk.old) (D.counts desk.new) result }
+{
+    let Some(stretch) = stretch else {
+        return Ok(());
+    };
+    write_all(desk, Outlet::Main, stretch.row().as_bytes())
+}
+
+/// Writes the last two lines: of the gaps, and of the numbers of the packets.
+fn write_closing<D: Desk>(desk: &mut D, packets: u32, running: &Running) -> Result<(), Failed>
+    requires { IsReadyOut (D.meaning desk.old) Outlet.Main }
+    ensures added { OnOk result (Adds (D.meaning desk.old) (D.meaning desk.new) Outlet.Main
+        (closing_rows running.now.tally.played packets running.now.sure)) }
+    ensures front { OnErr result (AddsFront (D.meaning desk.old) (D.meaning desk.new) Outlet.Main
+        (closing_rows running.now.tally.played packets running.now.sure)) }
+    ensures cause { HasWriteCause (D.counts desk.old) (D.counts desk.new) result }
+{
+    let mut rows = Row::new();
+    put_gaps(
+        &mut rows,
+        running.tally.played.first,
+        running.tally.played.widest,
+    );
+    put_end(&mut rows, packets, running.sure);
+    write_all(desk, Outlet::Main, rows.as_bytes())
+}
+
+/// Appends the line of the first number that arrives, or a dash, and of the widest difference of two that do.
+fn put_gaps(rows: &mut Row, first: Option<u64>, widest: u64)
+    requires { length rows.old ≤ 64 }
+    ensures text { rows.new ≡ rows.old ++ gaps_row first widest }
+    ensures few { length rows.new ≤ length rows.old + 47 }
+{
+    rows.put_text("gaps,");
+    match first {
+        None => rows.put_text("-"),
+        Some(first) => rows.put_number(first),
+    }
+    rows.put_text(",");
+    rows.put_number(widest);
+    rows.put_text("\n");
+}
+
+/// Appends the last line: how many packets there are, and how many are sure.
+fn put_end(rows: &mut Row, packets: u32, sure: u64)
+    requires { length rows.old ≤ 64 }
+    ensures { rows.new ≡ rows.old ++ end_row packets sure }
+{
+    rows.put_text("end,");
+    rows.put_number(u64::from(packets));
+    rows.put_text(",");
+    rows.put_number(sure);
+    rows.put_text("\n");
+}

@@ -1,0 +1,83 @@
+//! Arrivals that are judged, and what an account writes of them.
+
+ghost use Rattle.std.specs.Prelude.{◌≡◌, ◌^◌, ◌<◌, ◌≤◌, IfOk, OnOk, OnErr, length};
+ghost use Rattle.desk_ports.specs.Meanings.{HasWriteCause};
+ghost use Rattle.desk_ports.specs.Turns.{AreReady, Wrote, WroteFront};
+ghost use Rattle.ground_chain.specs.Reception.{next_judged};
+ghost use Rattle.ground_chain.specs.Reckoning.{Judges, nothing_judged};
+
+use crate::account::Account;
+use crate::restored::Restored;
+use crate::tallied::Tallied;
+use bit_vectors::NoMemory;
+use desk_ports::{Desk, Failed};
+use packet_store::PERIOD;
+use std::alloc::Global;
+use std::marker::Model;
+
+/// The arrivals so far with their numbers, and the account of them. Contracts see what the ground knows, and the numbers.
+#[derive(Debug, Drop)]
+pub struct Judging<A: Account> {
+    arrivals: Tallied,
+    account: A,
+}
+
+impl<A: Account> Model for Judging<A> {
+    ghost use Rattle.ground_chain.specs.Reckoning.{Reckoning};
+
+    ghost Value = { Reckoning };
+
+    ghost view = { λ j. j.arrivals };
+
+    ghost invariant = { λ j. A.has_room j.account j.arrivals.reception.decoder.places };
+}
+
+impl<A: Account> Judging<A> {
+    /// Nothing has arrived. The vectors have `f` places. Takes all memory of the run but the account's.
+    pub fn open(alloc: Global, f: u32, account: A) -> Result<Judging<A>, NoMemory>
+        requires some { 1 ≤ f }
+        requires most { f ≤ 49152 }
+        requires room { A.has_room account f }
+        ensures { IfOk result (λ judging. judging ≡ nothing_judged f) }
+    {
+        let arrivals = Tallied::open(alloc, f)?;
+        Ok(Judging { arrivals, account })
+    }
+
+    /// Judges the next arrival, with this sequence count and these data bytes, and writes what the account writes of it. It
+    /// takes no memory.
+    pub fn arrive<D: Desk>(&mut self, desk: &mut D, count: u16, bytes: &[u8]) -> Result<(), Failed>
+        requires count_bits { count < PERIOD }
+        requires size { length bytes.now ≤ 65536 }
+        requires few { self.old.restored.packets < 2 ^ 32 }
+        requires ready { AreReady A.writes (D.meaning desk.old) }
+        ensures judges { Judges self.old self.new count bytes.now }
+        ensures wrote { OnOk result (Wrote (D.meaning desk.old) (D.meaning desk.new)
+            (A.texts.parts (next_judged self.old.reception count bytes.now))) }
+        ensures front { OnErr result (WroteFront (D.meaning desk.old) (D.meaning desk.new)
+            (A.texts.parts (next_judged self.old.reception count bytes.now))) }
+        ensures cause { HasWriteCause (D.counts desk.old) (D.counts desk.new) result }
+    {
+        let verdict = self.arrivals.judge(count, bytes);
+        self.account.write(desk, &verdict, self.arrivals.decoder())
+    }
+
+    /// Writes the account's last part.
+    pub fn end<D: Desk>(&self, desk: &mut D) -> Result<(), Failed>
+        requires ready { AreReady A.writes (D.meaning desk.old) }
+        ensures wrote { OnOk result (Wrote (D.meaning desk.old) (D.meaning desk.new)
+            (A.texts.last self.now.restored)) }
+        ensures front { OnErr result (WroteFront (D.meaning desk.old) (D.meaning desk.new)
+            (A.texts.last self.now.restored)) }
+        ensures cause { HasWriteCause (D.counts desk.old) (D.counts desk.new) result }
+    {
+        self.account.end(desk, self.arrivals.restored())
+    }
+
+    /// The numbers of the arrivals so far.
+    pub fn restored(&self) -> &Restored
+        ensures { result.now ≡ self.now.restored }
+    {
+        self.arrivals.restored()
+    }
+}

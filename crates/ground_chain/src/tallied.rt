@@ -1,0 +1,81 @@
+//! The arrivals with their numbers.
+
+ghost use Rattle.std.specs.Prelude.{◌≡◌, ℕ, ◌^◌, ◌<◌, ◌≤◌, ◌∷◌, ◌++◌, [], List, IfOk, length};
+ghost use Rattle.ground_chain.specs.Run.{Arrival};
+ghost use Rattle.ground_chain.specs.Reception.{AgreesWith, next_judged};
+ghost use Rattle.ground_chain.specs.Reckoning.{HasJudged, Judges, nothing_judged};
+
+use crate::arrivals::Ground;
+use crate::restored::Restored;
+use crate::verdict::Verdict;
+use bit_vectors::NoMemory;
+use packet_decode::Decoder;
+use packet_store::PERIOD;
+use std::alloc::Global;
+use std::marker::Model;
+
+/// The arrivals so far, judged one after the other and counted.
+#[derive(Debug, Drop)]
+pub struct Tallied {
+    arrivals: Ground,
+    restored: Restored,
+}
+
+impl Model for Tallied {
+    ghost use Rattle.ground_chain.specs.Reckoning.{IsWithinLimits, Reckoning};
+
+    ghost Value = { Reckoning };
+
+    ghost view = { λ t. record { reception = t.arrivals; restored = t.restored } };
+
+    ghost invariant = { λ t. IsWithinLimits t.arrivals.latest t.restored };
+}
+
+impl Tallied {
+    /// Nothing has arrived. The vectors have `f` places. Takes all memory that `judge` needs.
+    pub fn open(alloc: Global, f: u32) -> Result<Tallied, NoMemory>
+        requires some { 1 ≤ f }
+        requires most { f ≤ 49152 }
+        ensures opened { IfOk result (λ tallied. tallied ≡ nothing_judged f) }
+        ensures stands { IfOk result (HasJudged f []) }
+    {
+        let arrivals = Ground::open(alloc, f)?;
+        Ok(Tallied {
+            arrivals,
+            restored: Restored::none(),
+        })
+    }
+
+    /// Judges and counts the next arrival, with this sequence count and these data bytes. It takes no memory.
+    #[inline(always)]
+    pub fn judge(&mut self, count: u16, bytes: &[u8]) -> Verdict
+        requires count_bits { count < PERIOD }
+        requires size { length bytes.now ≤ 65536 }
+        requires few { self.old.restored.packets < 2 ^ 32 }
+        // The verdict is the run's next one. For every list of arrivals that was judged, now that list and this one is.
+        ensures verdict { result ≡ (next_judged self.old.reception count bytes.now).verdict }
+        ensures judges { Judges self.old self.new count bytes.now }
+        ensures stands { (f : ℕ) (arrivals : List Arrival) → HasJudged f arrivals self.old →
+            HasJudged f (arrivals ++ record { count = count; body = bytes.now } ∷ []) self.new }
+        ensures shows { AgreesWith self.new.reception.decoder
+            (next_judged self.old.reception count bytes.now) }
+    {
+        let verdict = self.arrivals.arrive(count, bytes);
+        self.restored.count(&verdict);
+        verdict
+    }
+
+    /// The numbers of the arrivals so far.
+    pub fn restored(&self) -> &Restored
+        ensures { result.now ≡ self.now.restored }
+    {
+        &self.restored
+    }
+
+    /// The decoder, whose packet is the latest written one.
+    pub fn decoder(&self) -> &Decoder
+        ensures { result.now ≡ self.now.reception.decoder }
+    {
+        self.arrivals.decoder()
+    }
+}
