@@ -55,7 +55,8 @@ LAWS = {crate: laws(CODE[crate]) for crate in CRATES}
 CLAUSES = clauses("\n".join(CODE.values()))
 EACH_CLAUSE = set().union(*CLAUSES.values())
 DEFINED = {crate: set(ITEM.findall(CODE[crate])) | set(WORD.findall(SPECS[crate])) for crate in CRATES}
-KNOWN = EACH_CLAUSE.union(*LAWS.values(), *DEFINED.values())
+EDITS = {file.stem for file in (ROOT / "crates").glob("*/must-fail/*.edit")}
+KNOWN = EACH_CLAUSE.union(EDITS, *LAWS.values(), *DEFINED.values())
 
 
 def names(quoted):
