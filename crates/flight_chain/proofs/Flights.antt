@@ -4,7 +4,7 @@ use Rattle.mask_update.proofs.StepByStep.{mask_at-zero}
 use Rattle.flight_chain.specs.declared.compressing.Compressing.{Compressing}
 use Rattle.flight_chain.specs.Recordings.{recording_walk}
 use Rattle.flight_chain.specs.Compressing.{Compression, history_by, compression_of, HasTaken, HasTakenNothing, IsCompressing, Owes, compress_work, rest_work}
-use Rattle.flight_chain.proofs.Histories.{rest_course-first}
+use Rattle.flight_chain.proofs.Histories.{course_on-first}
 
 -- what is kept is what the flight was opened with
 pub compression_of-none : (k : Compression) (s : Compressing) → length k.mask ≡ k.places → HasTaken k [] s → compression_of s ≡ k
@@ -21,6 +21,6 @@ Owes-unread s unread = record {
   k = compression_of s;
   inputs = [];
   taken = unread.none;
-  work_is = (λ i. record { course = λ recording. sym (rest_course-first (compression_of s) recording) i; answer = λ recording. length (recording_walk (compression_of s).places recording).inputs }) ∙ ap (rest_work (compression_of s) []) (sym unread.ahead);
+  work_is = (λ i. record { course = λ recording. sym (course_on-first (compression_of s) recording) i; answer = λ recording. length (recording_walk (compression_of s).places recording).inputs }) ∙ ap (rest_work (compression_of s) []) (sym unread.ahead);
   right = unread.right;
 }

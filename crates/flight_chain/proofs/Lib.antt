@@ -5,3 +5,4 @@ pub mod GoodStores
 mod Readings
 mod CompressCourses
 mod Flights
+pub mod RecordTurns

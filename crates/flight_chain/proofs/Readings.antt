@@ -105,4 +105,9 @@ no_input f t (b ∷ bytes) some few short = elim (cases_lt t (2 ^ 32)) [
 ]
 
 pub Waits-short : (f t : ℕ) (before held : List ℕ) (a b : Meanings) → 1 ≤ f → t ≤ 2 ^ 32 → length held < byte_count f → ReadsOn before held a b → Waits f t before a b
-Waits-short f t before held a b some few short read = record { taken = read.bytes; moved = read.moved; none = subst (λ bytes. (recording_walk_from f t bytes).inputs ≡ []) read.joined (no_input f t held some few short) }
+Waits-short f t before held a b some few short read = record {
+  taken = read.bytes;
+  moved = read.moved;
+  short = subst (λ (bytes : List ℕ). length bytes < byte_count f) read.joined short;
+  none = subst (λ bytes. (recording_walk_from f t bytes).inputs ≡ []) read.joined (no_input f t held some few short);
+}

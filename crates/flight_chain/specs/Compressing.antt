@@ -17,7 +17,8 @@ use Rattle.flight_chain.specs.declared.fault.RecordFault.{RecordFault}
 use Rattle.flight_chain.specs.declared.fault.FlightFault.{FlightFault}
 use Rattle.flight_chain.specs.declared.fault.RecordFault.TheVariants as record_fault
 use Rattle.flight_chain.specs.declared.fault.FlightFault.TheVariants.{CutRecord, SpareBit, TooMany, ReadFault, WriteFault}
-use Rattle.flight_chain.specs.Recordings.{recording_walk, recording_walk_from}
+use Rattle.flight_chain.specs.Recordings.{recording_walk}
+use Rattle.flight_chain.specs.RecordWorks.{RecordWork, work_on}
 use Rattle.flight_chain.specs.Stores.{data_at, store_of}
 
 -- a flight that has read nothing: the places of its vectors, the required robustness of packets to which the schedule gives
@@ -82,10 +83,6 @@ pub record HasTaken (k : Compression) (inputs : List (List Bool)) (s : Compressi
   pub apid : s.writer.apid ≡ k.apid
   pub rows : s.plan ≡ k.rows
 
--- all inputs of a recording: those that are taken, and those of what is left
-abbrev pub all_inputs : Compression → List (List Bool) → List ℕ → List (List Bool)
-all_inputs k inputs bytes = inputs ++ (recording_walk_from k.places (length inputs) bytes).inputs
-
 -- the Space Packet of the next input after these
 abbrev pub next_packet : Compression → List (List Bool) → List Bool → List ℕ
 next_packet k inputs input = space_packet k.apid (length inputs % period) (data_at (history_by k (inputs ++ input ∷ [])) (length inputs))
@@ -95,17 +92,17 @@ abbrev pub further_packets : Compression → List (List Bool) → List (List Boo
 further_packets k inputs [] = []
 further_packets k inputs (input ∷ more) = next_packet k inputs input ++ further_packets k (inputs ++ input ∷ []) more
 
--- what is owed for what is left of the recording
-abbrev pub rest_course : Compression → List (List Bool) → List ℕ → Course RecordFault
-rest_course k inputs bytes = record {
-  before = to_output (further_packets k inputs (recording_walk_from k.places (length inputs) bytes).inputs);
-  after = no_outputs;
-  ending = (recording_walk_from k.places (length inputs) bytes).ending;
+-- what is left to do after these inputs: the packets of further ones are owed, and the answer is the number of all
+abbrev pub left_to_compress : Compression → List (List Bool) → RecordWork ℕ
+left_to_compress k inputs = record {
+  before = λ more. to_output (further_packets k inputs more);
+  answer = λ more. length (inputs ++ more);
+  after = λ _. no_outputs;
 }
 
--- the work of compressing what is ahead and what is left of the recording, whose answer is the number of all inputs
+-- the work of compressing what is ahead and what is left of the recording
 abbrev pub rest_work : Compression → List (List Bool) → List ℕ → Work ℕ RecordFault
-rest_work k inputs ahead = record { course = λ bytes. rest_course k inputs (ahead ++ bytes); answer = λ bytes. length (all_inputs k inputs (ahead ++ bytes)) }
+rest_work k inputs ahead = work_on (left_to_compress k inputs) k.places (length inputs) ahead
 
 -- the pen has room for a packet of the store
 pub record IsCompressing (s : Compressing) : Type 0 where

@@ -1,4 +1,5 @@
 pub mod Recordings
 pub mod Stores
 pub mod Reading
+pub mod RecordWorks
 pub mod Compressing

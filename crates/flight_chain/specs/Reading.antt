@@ -1,7 +1,10 @@
 -- A reading of one packet of a recording: what stands after each of its answers.
 use Rattle.std.specs.Prelude.{◌≡◌, ℕ, ◌+◌, ◌^◌, ◌<◌, Bool, List, [], ◌++◌, length, Result, Ok, Err, IfSome}
+use Rattle.bit_vectors.specs.Vectors.{byte_count}
 use Rattle.desk_ports.specs.Meanings.{Meanings, Counts, Moves, FailsToRead, left}
 use Rattle.desk_ports.specs.declared.desk.Inlet.TheVariants as inlet
+use Rattle.desk_ports.specs.Stop.{Stop}
+use Rattle.desk_ports.specs.Stop as stop
 use Rattle.flight_chain.specs.declared.fault.RecordFault.{RecordFault}
 use Rattle.flight_chain.specs.declared.fault.RecordFault.TheVariants as record_fault
 use Rattle.flight_chain.specs.declared.fault.FlightFault.{FlightFault}
@@ -27,10 +30,11 @@ pub record Stops (f t : ℕ) (before : List ℕ) (old new : Meanings) (fault : R
   pub told : IfSome (left new inlet.Main) (λ bytes. bytes ≡ rest)
   pub ends : recording_walk_from f t (before ++ (taken ++ rest)) ≡ stopped_at fault (before ++ (taken ++ rest))
 
--- A reading failed: less than a packet is ahead.
+-- A reading failed: with what was read before it, less than a packet is ahead.
 pub record Waits (f t : ℕ) (before : List ℕ) (old new : Meanings) : Type 0 where
   pub taken : List ℕ
   pub moved : Moves old new inlet.Main taken
+  pub short : length (before ++ taken) < byte_count f
   pub none : (recording_walk_from f t (before ++ taken)).inputs ≡ []
 
 -- after a packet that was not read, when these bytes were ahead
@@ -44,7 +48,12 @@ HasUnreadCause old new (Ok done) = new ≡ old
 HasUnreadCause old new (Err (unread.Data fault)) = new ≡ old
 HasUnreadCause old new (Err unread.ReadFault) = FailsToRead old new
 
--- the answer of a chain
+-- the reason to end a run
+abbrev pub stop_of : Unread → Stop RecordFault
+stop_of (unread.Data fault) = stop.Data fault
+stop_of unread.ReadFault = stop.ReadFault
+
+-- the answer of a flight
 abbrev pub fault_by : Unread → FlightFault
 fault_by (unread.Data (record_fault.CutRecord t)) = CutRecord t
 fault_by (unread.Data (record_fault.SpareBit t)) = SpareBit t

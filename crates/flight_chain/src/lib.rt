@@ -14,6 +14,7 @@ pub use laws::{
     schedules_without_robustness, stores_grow, stores_of_histories_are_walked,
     walks_of_front_recordings, whole_recordings_owe_their_store, worked_recordings,
 };
+pub use reading::{Unread, read_input};
 
 #[cfg(test)]
 mod tests;

@@ -12,10 +12,12 @@ use crate::fault::{FlightFault, RecordFault};
 use bit_vectors::{Bits, byte_len};
 use desk_ports::{Desk, Failed, Inlet, ReadAhead};
 
-/// Why a packet is not read.
-#[derive(Clone, Copy)]
+/// Why a packet of a recording is not read.
+#[derive(Clone, Copy, Debug, PartialEq, Eq)]
 pub enum Unread {
+    /// The recording does not go on with a packet.
     Data(RecordFault),
+    /// The desk could not read.
     ReadFault,
 }
 
@@ -40,8 +42,8 @@ impl From<Unread> for FlightFault {
     }
 }
 
-/// Takes the packet `t` of a recording, reads its vector into `input`, and tells its number. None: the recording is at
-/// its end.
+/// Takes the packet `t` of a recording, counted from 0, reads its vector into `input`, and tells its number. None: the
+/// recording is at its end. It takes no memory. After an answer that is not a number, `input` has any places.
 pub fn read_input<D: Desk>(
     ahead: &mut ReadAhead,
     desk: &mut D,

@@ -1,5 +1,5 @@
 -- The command that the words give, or the place of the first fault in them.
-use Rattle.std.specs.Prelude.{ℕ, ◌≤◌, ◌≡◌, ◌⊎◌, Bool, List, [], ◌∷◌, length, codes, map, Option, Some, None, Result, Ok, Err, IfSome, unwrap_or}
+use Rattle.std.specs.Prelude.{ℕ, ◌+◌, ◌≤◌, ◌≡◌, ◌⊎◌, Bool, List, [], ◌∷◌, length, codes, map, Option, Some, None, Result, Ok, Err, IfSome, unwrap_or}
 use Rattle.std.specs.String.{string_bytes}
 use Rattle.std.specs.declared.string.String.{String}
 use Rattle.pocket_cmd.specs.Masks.{IsPlaces, first_mask}
@@ -66,13 +66,6 @@ pub record Names : Type 0 where
   pub input : Option (List ℕ)
   pub output : List ℕ
   pub report : Option (List ℕ)
-
-abbrev pub names_of : Command → Names
-names_of (Compress c) = record { side = c.plan; input = Some c.input; output = c.output; report = None }
-names_of (Play p) = record { side = Some p.script; input = Some p.input; output = p.output; report = Some p.report }
-names_of (Restore r) = record { side = None; input = Some r.input; output = r.output; report = Some r.report }
-names_of (Show s) = record { side = None; input = Some s.input; output = s.output; report = None }
-names_of (Trial t) = record { side = None; input = None; output = t.output; report = None }
 
 -- ---- from the words
 

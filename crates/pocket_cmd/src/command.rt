@@ -2,7 +2,8 @@
 ghost use Rattle.std.specs.Prelude.{◌≡◌, ◌<◌, ◌^◌, length, map};
 ghost use Rattle.std.specs.Option.{option_map};
 ghost use Rattle.std.specs.String.{string_bytes};
-ghost use Rattle.pocket_cmd.specs.Command.{command_of, names_of, view_command, view_result};
+ghost use Rattle.pocket_cmd.specs.Command.{command_of, view_command, view_result};
+ghost use Rattle.pocket_cmd.specs.Courses.{names_of};
 ghost use Rattle.pocket_cmd.specs.Openings.{view_names};
 ghost use Rattle.pocket_cmd.specs.Verbs.{view_row};
 ghost use Rattle.pocket_cmd.specs.Words.{name_of};

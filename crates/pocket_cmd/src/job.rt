@@ -3,8 +3,8 @@ ghost use Rattle.std.specs.Prelude.{◌≡◌, ◌≢◌, ◌≤◌, ℕ, Some, 
 ghost use Rattle.std.specs.String.{string_bytes};
 ghost use Rattle.desk_ports.specs.Meanings.{Adds, AddsFront, HasWriteCause, IsReadyIn, IsReadyOut};
 ghost use Rattle.side_tables.specs.Grammar.{bad_copy_row, bad_schedule_row, copy_rows_of};
-ghost use Rattle.pocket_cmd.specs.Command.{Compress, Play, Restore, Show, IsRight, compress_by, names_of, play_by, restore_by, show_by, view_command};
-ghost use Rattle.pocket_cmd.specs.Courses.{course_of, bad_row_of, compression_by};
+ghost use Rattle.pocket_cmd.specs.Command.{Compress, Play, Restore, Show, IsRight, compress_by, play_by, restore_by, show_by, view_command};
+ghost use Rattle.pocket_cmd.specs.Courses.{course_of, bad_row_of, compression_by, names_of};
 ghost use Rattle.pocket_cmd.specs.Jobs.{AfterJob, job_course, reads_input, writes_report};
 ghost use Rattle.pocket_cmd.specs.Status.{HasStatusCause, IsEnded, status_by};
 
@@ -122,10 +122,7 @@ fn flight(alloc: Global, words: &[String], text: &[u8]) -> Result<Flight, SideFa
 {
     let plan = Schedule::read(alloc, text)?;
     let f = number_at(words, "bits");
-    let (robust, apid) = (
-        number_at(words, "robust") as u8,
-        number_at(words, "apid") as u16,
-    );
+    let (robust, apid) = (number_at(words, "robust") as u8, number_at(words, "apid") as u16);
     let mask = first_mask(alloc, f, text_of(words, "mask"))?;
     Ok(Flight::open(alloc, f, robust, apid, &mask, plan)?)
 }
@@ -151,11 +148,7 @@ fn restorer(alloc: Global, words: &[String]) -> Result<Restorer, NoMemory>
     ensures { let told = restore_by (map string_bytes words.now) in
         IfOk result (λ restorer. restorer ≡ record { places = told.bits; apid = told.apid }) }
 {
-    Restorer::open(
-        alloc,
-        number_at(words, "bits"),
-        number_at(words, "apid") as u16,
-    )
+    Restorer::open(alloc, number_at(words, "bits"), number_at(words, "apid") as u16)
 }
 
 /// The lister of `show`.
@@ -164,9 +157,5 @@ fn lister(alloc: Global, words: &[String]) -> Result<Lister, NoMemory>
     ensures { let told = show_by (map string_bytes words.now) in
         IfOk result (λ lister. lister ≡ record { places = told.bits; apid = told.apid }) }
 {
-    Lister::open(
-        alloc,
-        number_at(words, "bits"),
-        number_at(words, "apid") as u16,
-    )
+    Lister::open(alloc, number_at(words, "bits"), number_at(words, "apid") as u16)
 }
