@@ -1,11 +1,13 @@
 #!/usr/bin/env python3
-"""Tries pictures/draw.py, and holds the pictures and the caller that docs/ shows to what is drawn and to what is proved. Run
-alone it draws the pictures anew."""
+"""Tries pictures/draw.py, and holds the pictures, the caller and the names that docs/ shows to what is drawn and to what is
+proved. Run alone it draws the pictures anew."""
 
 import os
 import subprocess
 import sys
 import xml.etree.ElementTree as xml
+
+import names
 
 ROOT = os.path.dirname(os.path.dirname(os.path.abspath(__file__)))
 LISTING = b"0 written 1 00 00 b0\n1 written 1 01 01 b1\n2-2 lost\n3 written 1 02 03 b3\nend 3 3 0\n"
@@ -78,10 +80,16 @@ def quotes_the_caller():
         return None if shown.strip() and shown in code.read() else "docs/CALLING.md shows another one"
 
 
+def names_are_found():
+    """Whether the sources have what the documents call laws, clauses and definitions."""
+    return "; ".join(names.unknown()) or None
+
+
 def tries():
     """What is tried: each with its name, and a function that gives what is wrong, or None."""
     return [(f"the picture {name}", lambda name=name, row=row: is_held(name, *row)) for name, row in DRAWN.items()] + [
-        ("pictures of each line", draws_each), ("refused listings", refuses), ("the caller that is shown", quotes_the_caller)]
+        ("pictures of each line", draws_each), ("refused listings", refuses), ("the caller that is shown", quotes_the_caller),
+        ("laws, clauses and definitions of the documents", names_are_found)]
 
 
 if __name__ == "__main__":

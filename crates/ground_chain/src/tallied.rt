@@ -52,7 +52,7 @@ impl Tallied {
         requires count_bits { count < PERIOD }
         requires size { length bytes.now ≤ 65536 }
         requires few { self.old.restored.packets < 2 ^ 32 }
-        // The verdict is the run's next one, and it is judged and counted for every list of arrivals that was.
+        // The verdict is the run's next one. For every list of arrivals that was judged, now that list and this one is.
         ensures verdict { result ≡ (next_judged self.old.reception count bytes.now).verdict }
         ensures judges { Judges self.old self.new count bytes.now }
         ensures stands { (f : ℕ) (arrivals : List Arrival) → HasJudged f arrivals self.old →

@@ -19,6 +19,7 @@ use Rattle.run_code.proofs.Filling.{IsFilling, IsExact-filled_at}
 use Rattle.run_code.proofs.Ones.{one_or_zero, places_down_apart, in_places_down, places_down_has}
 use Rattle.packet_encode.specs.Forms.{Directions, wide_by}
 use Rattle.packet_decode.specs.State.{Change}
+use Rattle.packet_decode.specs.Spelling.{IsFilled}
 use Rattle.packet_decode.specs.PacketReading.{Outcome, Spelled, Opaque, parse_kept, from_edges, parse_mask, parse_whole, parse_whole_with, parse_whole_alone, parse_part_with, parse_content, parse_unsent, parse_maskless, parse_masked, parse_sent, parse_data}
 use Rattle.packet_decode.specs.PartWords.{AllPlaces, places_of, IsMaskWord, IsContentWord, IsWhole, IsWholeAlone, IsPart, IsContent, IsUnsent, IsMaskless, IsMasked, IsSent, IsData}
 use Rattle.packet_decode.proofs.EdgeMasks.{edges-from_edges, length-from_edges, length_edges, from_edges-edges}
@@ -104,16 +105,15 @@ some_whole_alone f = let a = agreeing f [] None tt in (Spelled None (Some a.0), 
 
 -- ---- the extracted bits
 
+pub filled_by : (places old bits new : List Bool) → IsFilling (places_down places) old new bits → IsFilled places old bits new
+filled_by places old bits new is = record {
+  same_length = is.0.same_length;
+  kept = λ place bound. is.0.others place (λ c. true≢false (sym (in_places_down places place c) ∙ bound));
+  bits_are = is.1;
+}
+
 part_joined : (change : Change) (mask known : List Bool) (o : Outcome) (word : List Bool) → IsImage (whole_under mask) (IsFilling (places_down (places_of change mask)) known) o word → IsPart change mask (Some known) o word
-part_joined change mask known o word (content, is, same) = (
-  content,
-  record {
-    same_length = is.0.same_length;
-    kept = λ place bound. is.0.others place (λ c. true≢false (sym (in_places_down (places_of change mask) place c) ∙ bound));
-    bits_are = is.1;
-  },
-  same,
-)
+part_joined change mask known o word (content, is, same) = (content, filled_by (places_of change mask) known word content is, same)
 
 part_apart : (change : Change) (mask known : List Bool) (o : Outcome) (word : List Bool) → IsPart change mask (Some known) o word → IsImage (whole_under mask) (IsFilling (places_down (places_of change mask)) known) o word
 part_apart change mask known o word (content, filled, same) = (

@@ -61,27 +61,40 @@ pub fn parts_are_completed()
     ensures others { (f : ℕ) (change : Change) (deduced known : Option (List Bool)) →
         length change.recent ≡ f → AllPlaces f deduced → AllPlaces f known →
         IsExact (IsData f change deduced known) (parse_data f change deduced known) }
-    // With a deduced mask: each content that agrees with the known one, if one is known.
-    ensures reached { (f : ℕ) (change : Change) (mask content : List Bool)
+    // With a deduced mask, sent or not: each whole content that agrees with the known one, if one is known.
+    ensures deduced_whole { (f : ℕ) (change : Change) (mask content : List Bool)
         (known sent : Option (List Bool)) →
         IfSome sent (λ m. m ≡ mask) → AgreesWith f (places_of change mask) known content →
         IsData f change (Some mask) known (Spelled (Some mask) (Some content))
         (data_bits sent (Whole content)) }
-    ensures extracted { (f : ℕ) (change : Change) (mask known bits content : List Bool)
+    // The extracted bits, with which the known content is filled; if none is known, any, as many as are extracted.
+    ensures deduced_part { (f : ℕ) (change : Change) (mask known bits content : List Bool)
         (sent : Option (List Bool)) →
         IfSome sent (λ m. m ≡ mask) → IsFilled (places_of change mask) known bits content →
         IsData f change (Some mask) (Some known) (Spelled (Some mask) (Some content))
         (data_bits sent (Part bits)) }
-    // Without one: a sent mask, and again each content that agrees.
-    ensures alone { (f : ℕ) (change : Change) (mask content : List Bool) (known : Option (List Bool)) →
+    ensures deduced_mask_alone { (f : ℕ) (change : Change) (mask bits : List Bool)
+        (sent : Option (List Bool)) → IfSome sent (λ m. m ≡ mask) →
+        length bits ≡ count_by (λ bit. bit) (places_of change mask) →
+        IsData f change (Some mask) None (Spelled (Some mask) None) (data_bits sent (Part bits)) }
+    // Without a deduced one: the same under any mask that is sent.
+    ensures sent_whole { (f : ℕ) (change : Change) (mask content : List Bool)
+        (known : Option (List Bool)) →
         length mask ≡ f → AgreesWith f (places_of change mask) known content →
         IsData f change None known (Spelled (Some mask) (Some content))
         (data_bits (Some mask) (Whole content)) }
-    // If no content is known: any bits for the extracted places of a sent mask.
-    ensures mask_alone { (f : ℕ) (change : Change) (mask bits : List Bool) →
+    ensures sent_part { (f : ℕ) (change : Change) (mask known bits content : List Bool) →
+        length mask ≡ f → IsFilled (places_of change mask) known bits content →
+        IsData f change None (Some known) (Spelled (Some mask) (Some content))
+        (data_bits (Some mask) (Part bits)) }
+    ensures sent_mask_alone { (f : ℕ) (change : Change) (mask bits : List Bool) →
         length mask ≡ f → length bits ≡ count_by (λ bit. bit) (places_of change mask) →
         IsData f change None None (Spelled (Some mask) None) (data_bits (Some mask) (Part bits)) }
-    // Any whole content without a mask.
+    // Any bits fill the extracted places of a content, if there are as many.
+    ensures filled { (places known bits : List Bool) →
+        length known ≡ length places → length bits ≡ count_by (λ bit. bit) places →
+        (content : List Bool) × IsFilled places known bits content }
+    // Any whole content without a mask, and an opaque front.
     ensures content_alone { (f : ℕ) (change : Change) (content : List Bool)
         (known : Option (List Bool)) → length content ≡ f →
         IsData f change None known (Spelled None (Some content)) (data_bits None (Whole content)) }

@@ -8,7 +8,7 @@ use Rattle.std.proofs.lemmas.List.Elements.{filter-append, Contains-append_left,
 use Rattle.mask_update.proofs.NewMasks.{range_push}
 use Rattle.mask_update.specs.Histories.{History}
 use Rattle.robust_window.specs.Histories.{level_at}
-use Rattle.packet_encode.specs.Deliveries.{arrivals, count_to_last, count_up_to, latest_by, is_mask_known_from, is_mask_known, latest_mask_known, is_written_from, is_written, latest_written, is_written_whole_from, is_written_whole, latest_written_whole, CarriesBoth, IsReached, IsLatest, Listed, MaskKnownAt, WrittenAt, WrittenWholeAt}
+use Rattle.packet_encode.specs.Deliveries.{arrivals, count_to_last, count_up_to, latest_by, is_mask_known_from, is_mask_known, latest_mask_known, is_written_from, is_written, latest_written, is_known_together_from, is_known_together, latest_known_together, CarriesBoth, IsReached, IsLatest, KnownTogetherAt, Listed, MaskKnownAt, WrittenAt}
 
 -- ---- the latest one that passes a test
 
@@ -98,14 +98,14 @@ latest_written-right h copies = latest-right (is_written_from h copies) (Written
 
 -- ---- no packet is lost
 
-whole-from : (h : History) (copies : ℕ → ℕ) (t : ℕ) → is_written_whole h copies t ≡ true → WrittenWholeAt h copies t
-whole-from h copies t is = grind (arith, common_steps)
+pub together-from : (h : History) (copies : ℕ → ℕ) (t : ℕ) → is_known_together h copies t ≡ true → KnownTogetherAt h copies t
+together-from h copies t is = grind (arith, common_steps)
 
-whole-to : (h : History) (copies : ℕ → ℕ) (t : ℕ) → WrittenWholeAt h copies t → is_written_whole h copies t ≡ true
-whole-to h copies t written = grind (arith, common_steps)
+pub together-to : (h : History) (copies : ℕ → ℕ) (t : ℕ) → KnownTogetherAt h copies t → is_known_together h copies t ≡ true
+together-to h copies t written = grind (arith, common_steps)
 
-latest_whole-right : (h : History) (copies : ℕ → ℕ) (t : ℕ) → IsLatestOr (WrittenWholeAt h copies) t (latest_written_whole h copies t)
-latest_whole-right h copies = latest-right (is_written_whole_from h copies) (WrittenWholeAt h copies) (whole-from h copies) (whole-to h copies)
+pub latest_together-right : (h : History) (copies : ℕ → ℕ) (t : ℕ) → IsLatestOr (KnownTogetherAt h copies) t (latest_known_together h copies t)
+latest_together-right h copies = latest-right (is_known_together_from h copies) (KnownTogetherAt h copies) (together-from h copies) (together-to h copies)
 
 -- a packet that arrives and reaches one that is written with its mask known is itself written with its mask known
 both_reach : (h : History) (copies : ℕ → ℕ) (t s : ℕ) → 1 ≤ copies t → s < t → t - 1 - s ≤ level_at h t → WrittenAt h copies s × MaskKnownAt h copies s → WrittenAt h copies t × MaskKnownAt h copies t
@@ -115,16 +115,16 @@ both_reach h copies t s arrives before within was =
       mask,
     )
 
-kept_by : (h : History) (copies : ℕ → ℕ) (t : ℕ) → 1 ≤ copies t → ((s : ℕ) → s < t → WrittenWholeAt h copies s → WrittenAt h copies s × MaskKnownAt h copies s)
-    → (latest : Option ℕ) → IsLatestOr (WrittenWholeAt h copies) t latest → CarriesBoth h t ⊎ IsReached latest t (level_at h t) → WrittenAt h copies t × MaskKnownAt h copies t
+kept_by : (h : History) (copies : ℕ → ℕ) (t : ℕ) → 1 ≤ copies t → ((s : ℕ) → s < t → KnownTogetherAt h copies s → WrittenAt h copies s × MaskKnownAt h copies s)
+    → (latest : Option ℕ) → IsLatestOr (KnownTogetherAt h copies) t latest → CarriesBoth h t ⊎ IsReached latest t (level_at h t) → WrittenAt h copies t × MaskKnownAt h copies t
 kept_by h copies t arrives earlier latest is (inl both) = (record { arrives = arrives; known = inl both.1 }, record { arrives = arrives; known = inl both.0 })
 kept_by h copies t arrives earlier None none (inr within) = absurd within
 kept_by h copies t arrives earlier (Some s) is (inr within) = both_reach h copies t s arrives is.before within (earlier s is.before is.holds)
 
-pub kept_below : (h : History) (copies : ℕ → ℕ) (n t : ℕ) → t < n → WrittenWholeAt h copies t → WrittenAt h copies t × MaskKnownAt h copies t
+pub kept_below : (h : History) (copies : ℕ → ℕ) (n t : ℕ) → t < n → KnownTogetherAt h copies t → WrittenAt h copies t × MaskKnownAt h copies t
 kept_below h copies zero t below written = absurd (omega (arith, below))
 kept_below h copies (suc n) t below written =
-    kept_by h copies t written.arrives (λ s before was. kept_below h copies n s (omega (arith, below, before)) was) (latest_written_whole h copies t) (latest_whole-right h copies t) written.known
+    kept_by h copies t written.arrives (λ s before was. kept_below h copies n s (omega (arith, below, before)) was) (latest_known_together h copies t) (latest_together-right h copies t) written.known
 
 -- ---- numbers that pass a test
 

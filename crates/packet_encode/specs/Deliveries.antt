@@ -90,28 +90,28 @@ pub record WrittenAt (h : History) (copies : ℕ → ℕ) (t : ℕ) : Type 0 whe
   pub arrives : 1 ≤ copies t
   pub known : ((flags_at h t).r ≡ true) ⊎ MaskKnownAt h copies t × IsReached (latest_written h copies t) t (level_at h t)
 
--- ---- what would be written if mask and content could be known only together
+-- ---- if mask and content could be known only together
 
 -- the packet carries the mask and the whole content
 abbrev pub CarriesBoth : History → ℕ → Type 0
 CarriesBoth h t = ((flags_at h t).f ≡ true) × ((flags_at h t).r ≡ true)
 
--- whether the packet t would be written, if this is the latest one before it that would be
-abbrev pub is_written_whole_from : History → (ℕ → ℕ) → Option ℕ → ℕ → Bool
-is_written_whole_from h copies latest t = nat_lt 0 (copies t) && ((flags_at h t).f && (flags_at h t).r || reaches latest t (level_at h t))
+-- whether mask and content of the packet t would be known, if this is the latest one before it of which they would be
+abbrev pub is_known_together_from : History → (ℕ → ℕ) → Option ℕ → ℕ → Bool
+is_known_together_from h copies latest t = nat_lt 0 (copies t) && ((flags_at h t).f && (flags_at h t).r || reaches latest t (level_at h t))
 
--- the latest of the first t packets that would be written
-abbrev pub latest_written_whole : History → (ℕ → ℕ) → ℕ → Option ℕ
-latest_written_whole h copies t = latest_by (is_written_whole_from h copies) t
+-- the latest of the first t packets of which mask and content would be known
+abbrev pub latest_known_together : History → (ℕ → ℕ) → ℕ → Option ℕ
+latest_known_together h copies t = latest_by (is_known_together_from h copies) t
 
-abbrev pub is_written_whole : History → (ℕ → ℕ) → ℕ → Bool
-is_written_whole h copies t = is_written_whole_from h copies (latest_written_whole h copies t) t
+abbrev pub is_known_together : History → (ℕ → ℕ) → ℕ → Bool
+is_known_together h copies t = is_known_together_from h copies (latest_known_together h copies t) t
 
--- The packet arrives, and either it carries the mask and the whole content, or the number of unwritten packets since the
--- latest one that would be written is at most its effective robustness level.
-pub record WrittenWholeAt (h : History) (copies : ℕ → ℕ) (t : ℕ) : Type 0 where
+-- The packet arrives, and either it carries the mask and the whole content, or the number of packets since the latest one of
+-- which both would be known is at most its effective robustness level.
+pub record KnownTogetherAt (h : History) (copies : ℕ → ℕ) (t : ℕ) : Type 0 where
   pub arrives : 1 ≤ copies t
-  pub known : CarriesBoth h t ⊎ IsReached (latest_written_whole h copies t) t (level_at h t)
+  pub known : CarriesBoth h t ⊎ IsReached (latest_known_together h copies t) t (level_at h t)
 
 -- ---- what is listed
 

@@ -6,7 +6,7 @@ ghost use Rattle.mask_update.specs.Histories.{History, IsValid, Step, input_at, 
 ghost use Rattle.mask_update.specs.Masks.{mask_at};
 ghost use Rattle.packet_encode.specs.Forms.{Fits, IsForm, Whole, Part, form_bits};
 ghost use Rattle.packet_encode.specs.Packets.{AgreeUpTo, form_at, packet_at};
-ghost use Rattle.packet_encode.specs.Deliveries.{IsLatest, Listed, MaskKnownAt, WrittenAt, WrittenWholeAt, count_to_last, is_mask_known, is_written, latest_mask_known, latest_written, listed_numbers, written_numbers};
+ghost use Rattle.packet_encode.specs.Deliveries.{IsLatest, KnownTogetherAt, Listed, MaskKnownAt, WrittenAt, count_to_last, is_known_together, is_mask_known, is_written, latest_known_together, latest_mask_known, latest_written, listed_numbers, written_numbers};
 ghost use Rattle.robust_window.specs.Worked.{worked};
 
 /// The packet of each step of a valid history has a form, which fits the mask.
@@ -65,13 +65,27 @@ pub fn written_packets()
         (latest_written h copies t ≡ None) ↔ ((s : ℕ) → s < t → WrittenAt h copies s → ⊥) }
 {}
 
-/// Tracking mask and content separately loses no packet: each packet that would be written if they could be known only
-/// together is written, and its mask becomes known.
+/// If mask and content could be known only together, those of a packet would be exactly if it arrives and either carries
+/// both, or the number of packets since the latest one of which they would be is at most its effective robustness level;
+/// and the latest one is the greatest number before it of which they would be.
+pub fn known_together()
+    ensures is { (h : History) (copies : ℕ → ℕ) (t : ℕ)
+        → (is_known_together h copies t ≡ true) ↔ KnownTogetherAt h copies t }
+    ensures latest { (h : History) (copies : ℕ → ℕ) (t latest : ℕ) →
+        (latest_known_together h copies t ≡ Some latest)
+        ↔ IsLatest (KnownTogetherAt h copies) t latest }
+    ensures none { (h : History) (copies : ℕ → ℕ) (t : ℕ) →
+        (latest_known_together h copies t ≡ None)
+        ↔ ((s : ℕ) → s < t → KnownTogetherAt h copies s → ⊥) }
+{}
+
+/// Tracking mask and content separately loses no packet: each packet of which both would be known if they could be known
+/// only together is written, and its mask becomes known.
 pub fn no_packet_is_given_up()
     ensures written { (h : History) (copies : ℕ → ℕ) (t : ℕ)
-        → WrittenWholeAt h copies t → WrittenAt h copies t }
+        → KnownTogetherAt h copies t → WrittenAt h copies t }
     ensures mask { (h : History) (copies : ℕ → ℕ) (t : ℕ)
-        → WrittenWholeAt h copies t → MaskKnownAt h copies t }
+        → KnownTogetherAt h copies t → MaskKnownAt h copies t }
 {}
 
 /// A packet is listed exactly if it is one up to the last arrival and not written; so each of these is either written

@@ -1,5 +1,6 @@
 -- What the commands hand on to one another.
 use Rattle.std.proofs.Common.{◌≡◌, ℕ, ◌^◌, ◌<◌, ◌≤◌, List, [], length, All, sym, ap, ◌∙◌, subst, append-nil, arith}
+use Rattle.std.specs.Option.{option_map}
 use Rattle.std.specs.Prelude.{IfSome, None, Option, Some, unwrap_or}
 use Rattle.desk_ports.specs.Courses.{Outputs, by_ending, no_outputs, owed, to_output, to_report}
 use Rattle.mask_update.specs.Histories.{History, IsValid}
@@ -9,7 +10,7 @@ use Rattle.side_tables.specs.Rows.{copies_of, flags_of, robust_of}
 use Rattle.side_tables.specs.Texts.{records_of}
 use Rattle.side_tables.proofs.RowBounds.{robust_of-most}
 use Rattle.packet_encode.specs.Deliveries.{arrivals}
-use Rattle.packet_store.specs.Walks.{Walk}
+use Rattle.packet_store.specs.Walks.{Walk, walk}
 use Rattle.flight_chain.specs.Recordings.{recording_walk}
 use Rattle.flight_chain.specs.Stores.{store_of}
 use Rattle.flight_chain.specs.Compressing.{compress_course, required_robustness}
@@ -22,11 +23,12 @@ use Rattle.ground_chain.proofs.PlayedHistories.{count-chosen, walk-played, whole
 use Rattle.ground_chain.proofs.DeliveredRuns.{owed-played}
 use Rattle.ground_chain.specs.Deliveries.{report_text, restored_bytes}
 use Rattle.ground_chain.specs.Restoring.{restore_course}
-use Rattle.pocket_cmd.specs.Command.{AreRight, Compress, CompressValues, IsChosen, IsPlaces, Play, PlayValues, Restore, RestoreValues}
+use Rattle.pocket_cmd.specs.Command.{AreRight, Compress, CompressValues, IsChosen, Play, PlayValues, Restore, RestoreValues}
 use Rattle.pocket_cmd.specs.Courses.{compression_by, course_of}
+use Rattle.pocket_cmd.specs.Masks.{IsPlaces}
 use Rattle.pocket_cmd.specs.Faults.{of_recording, of_store}
 use Rattle.pocket_cmd.specs.Delivery.{IsInputWhole, recorded_history}
-use Rattle.pocket_cmd.proofs.Faults.{owed-with_fault}
+use Rattle.pocket_cmd.proofs.Faults.{owed-with_fault, unmapped}
 
 required_most : (o : Option ℕ) (robust : ℕ) → IfSome o (λ given. given ≤ 7) → robust ≤ 7 → unwrap_or o robust ≤ 7
 required_most None robust most least = least
@@ -45,7 +47,7 @@ pub owed-recorded : (c : CompressValues) (text recording : List ℕ) → IsInput
     → owed (course_of (Compress c) text recording) ≡ to_output (store_of (recorded_history c text recording) c.apid)
 owed-recorded c text recording whole =
     sym (owed-with_fault of_recording (compress_course (compression_by c text) recording))
-    ∙ (ap (λ ending. by_ending ending (to_output (store_of (recorded_history c text recording) c.apid)) no_outputs) whole
+    ∙ (ap (λ ending. by_ending ending (to_output (store_of (recorded_history c text recording) c.apid)) no_outputs) (unmapped of_recording (recording_walk c.bits recording).ending (whole text))
     ∙ ap to_output (append-nil (store_of (recorded_history c text recording) c.apid)))
 
 -- what playing the store of a history owes
@@ -60,12 +62,16 @@ owed-played_store p h text chosen valid =
     ∙ λ i. record { output = append-nil (played_bytes copies p.apid store) i; report = play_report (played_of copies (count-chosen h p.apid valid chosen i)) })
 
 pub IsInputWhole-history : (p : PlayValues) (h : History) → IsChosen p.apid → IsValid h → IsInputWhole (Play p) (store_of h p.apid)
-IsInputWhole-history p h chosen valid = whole-store_of h p.apid valid chosen
+IsInputWhole-history p h chosen valid = λ text. ap (option_map of_store) (whole-store_of h p.apid valid chosen)
 
 -- what restoring it owes
+ending-played : (r : RestoreValues) (h : History) (copies : ℕ → ℕ) → IsChosen r.apid → IsValid h → length (arrivals copies (length h.steps)) ≤ 2 ^ 32
+    → (walk (Some r.apid) (played_bytes copies r.apid (store_of h r.apid))).ending ≡ None
+ending-played r h copies chosen valid few = ap (λ (w : Walk). w.ending) (walk-played h copies r.apid valid chosen few)
+
 pub whole-restored : (r : RestoreValues) (h : History) (copies : ℕ → ℕ) → IsChosen r.apid → IsValid h → length (arrivals copies (length h.steps)) ≤ 2 ^ 32
     → IsInputWhole (Restore r) (played_bytes copies r.apid (store_of h r.apid))
-whole-restored r h copies chosen valid few = ap (λ (w : Walk). w.ending) (walk-played h copies r.apid valid chosen few)
+whole-restored r h copies chosen valid few = λ text. ap (option_map of_store) (ending-played r h copies chosen valid few)
 
 pub owed-restored : (r : RestoreValues) (h : History) (copies : ℕ → ℕ) → IsChosen r.apid → IsValid h → h.places ≡ r.bits → AreGapsShort copies (length h.steps) → length (arrivals copies (length h.steps)) ≤ 2 ^ 32
     → owed (course_of (Restore r) [] (played_bytes copies r.apid (store_of h r.apid))) ≡ record { output = restored_bytes h copies; report = report_text h copies }
@@ -73,7 +79,7 @@ owed-restored r h copies chosen valid places short few =
     let store : List ℕ = played_bytes copies r.apid (store_of h r.apid) in
     sym (owed-with_fault of_store (restore_course r.bits r.apid store))
     ∙ subst (λ f. owed (restore_course f r.apid store) ≡ record { output = restored_bytes h copies; report = report_text h copies }) places
-    (owed-played h copies r.apid valid chosen short (whole-restored r h copies chosen valid few))
+    (owed-played h copies r.apid valid chosen short (ending-played r h copies chosen valid few))
 
 -- all three
 pub owed-chain : (c : CompressValues) (p : PlayValues) (r : RestoreValues) (plan script recording : List ℕ)

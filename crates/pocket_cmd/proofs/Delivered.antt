@@ -6,8 +6,8 @@ use Rattle.desk_ports.specs.declared.desk.Outlet.TheVariants as outlet
 use Rattle.desk_ports.specs.Courses.{Course, owed}
 use Rattle.desk_ports.specs.Meanings.{Meanings, made}
 use Rattle.pocket_cmd.specs.Faults.{DataFault}
-use Rattle.pocket_cmd.specs.Command.{Command, Names, names_of}
-use Rattle.pocket_cmd.specs.Courses.{course_of}
+use Rattle.pocket_cmd.specs.Command.{Command, Names}
+use Rattle.pocket_cmd.specs.Courses.{course_of, names_of}
 use Rattle.pocket_cmd.specs.Delivery.{HasWritten}
 use Rattle.pocket_cmd.specs.Openings.{all_finished, all_opened, input_given, side_given, with_input, with_output, with_report, with_side}
 use Rattle.pocket_cmd.specs.Outcome.{RunStands, Stands}

@@ -1,32 +1,34 @@
--- What the words give to a command: values within their bounds, and no name that no word gives.
-use Rattle.std.proofs.Common.{◌≡◌, ℕ, ◌+◌, ◌<◌, ◌≤◌, ◌&&◌, Bool, true, false, cond, eqb, nat_lt, List, [], ◌∷◌, ◌++◌, length, get_or, Option, Some, None, Result, Ok, Err, ok_or, refl, sym, ap, ◌∙◌, subst, inl, inr, ◌⊎◌, codes, add-one, arith}
-use Rattle.std.specs.Prelude.{IfSome}
-use Rattle.std.specs.Option.{option_map}
-use Rattle.std.specs.List.{Contains, before_first, after_first, position_or_len}
+-- What right words give: values within their bounds, and no name that no word gives.
+use Rattle.std.proofs.Common.{◌≡◌, ℕ, ◌+◌, ◌<◌, ◌≤◌, ◌&&◌, ◌||◌, Bool, true, false, not, cond, eqb, nat_lt, is_some, unwrap_or, List, [], ◌∷◌, ◌++◌, length, get_or, Option, Some, None, Result, Ok, Err, refl, sym, ap, ◌∙◌, subst, inl, inr, ◌⊎◌, codes, add-one, arith}
+use Rattle.std.specs.Prelude.{IfSome, IsSome}
+use Rattle.std.specs.List.{Contains, list_any, position_or_len}
 use Rattle.std.specs.Str.{bytes_eq}
 use Rattle.std.proofs.lemmas.Bool.Decides.{nat_tests}
-use Rattle.std.proofs.lemmas.List.{length-replicate}
 use Rattle.std.proofs.lemmas.List.Sums.{split_at_first, passes_at_first}
 use Rattle.std.proofs.lemmas.Slice.Eq.{bytes_eq-Decides}
-use Rattle.pocket_cmd.specs.Words.{Given, Assigns, verb_of, is_equals_sign, nothing_given, once, with_bits, with_text, with_word, given_by, ◌>>=◌}
-use Rattle.pocket_cmd.specs.Command.{CompressValues, PlayValues, RestoreValues, ShowValues, TrialValues, Command, Compress, Play, Restore, Show, Trial, names_of, AreRight, AreGiven, IsChosen, IsPlaces, IsRight, IsTrialRight, compress_values, play_values, restore_values, show_values, trial_values, with_values, command_of, mask_given}
-use Rattle.pocket_cmd.specs.Masks.{mask_of}
-use Rattle.pocket_cmd.specs.declared.words.Verb.{Verb}
-use Rattle.pocket_cmd.specs.declared.words.Verb.TheVariants as verb
-use Rattle.pocket_cmd.proofs.Masks.{length-mask_of}
-use Rattle.pocket_cmd.proofs.Bounds.{within_bounds}
+use Rattle.pocket_cmd.specs.declared.verbs.Verb.{Verb}
+use Rattle.pocket_cmd.specs.declared.verbs.Verb.TheVariants as verb
+use Rattle.pocket_cmd.specs.declared.verbs.Port.TheVariants as port
+use Rattle.pocket_cmd.specs.declared.verbs.Kind.{Kind}
+use Rattle.pocket_cmd.specs.declared.verbs.Kind.TheVariants.{Number}
+use Rattle.pocket_cmd.specs.Verbs.{Row, kind_of, rows_of, verb_of}
+use Rattle.pocket_cmd.specs.Words.{Assigns, fault_of, fits_key, has_key, is_equals_sign, is_missing, is_right, is_split, key_in, name_of, number_at, number_in, or_missing, or_word, text_in, text_of, wrong_mask, wrong_word}
+use Rattle.pocket_cmd.specs.Masks.{IsPlaces}
+use Rattle.pocket_cmd.specs.Command.{AreGiven, Command, IsRight, Names, command_after, command_by, command_of, name_at, unless_fault}
+use Rattle.pocket_cmd.specs.Courses.{names_of}
+use Rattle.pocket_cmd.proofs.Bounds.{number_in-bounds}
+use Rattle.pocket_cmd.proofs.Masks.{length-first_mask}
 
-same_some : {A : Type 0} {x y : A} → Some x ≡ Some y → x ≡ y
-same_some e = cc
+-- ---- a word and its parts
 
-same_ok : {A : Type 0} {x y : A} → ◌≡◌ {A = Result A ℕ} (Ok x) (Ok y) → x ≡ y
-same_ok e = cc
-
--- a word with a `=` is what stands before the first, that `=`, and what stands after it
-split_joined : (word : List ℕ) → position_or_len is_equals_sign word < length word → word ≡ before_first is_equals_sign word ++ 61 ∷ after_first is_equals_sign word
-split_joined word h =
+split_joined : (word : List ℕ) → is_split word ≡ true → word ≡ key_in word ++ 61 ∷ text_in word
+split_joined word split =
+    let h : position_or_len is_equals_sign word < length word = below _ _ split in
     let sign : get_or word (position_or_len is_equals_sign word) 0 ≡ 61 = equal _ _ (passes_at_first is_equals_sign word 0 h) in
-    split_at_first is_equals_sign word 0 h ∙ ap (λ c. before_first is_equals_sign word ++ c ∷ after_first is_equals_sign word) sign where
+    split_at_first is_equals_sign word 0 h ∙ ap (λ c. key_in word ++ c ∷ text_in word) sign where
+      below : (m n : ℕ) → nat_lt m n ≡ true → m < n
+      below m n h = grind (arith, nat_tests)
+
       equal : (m n : ℕ) → eqb m n ≡ true → m ≡ n
       equal m n h = grind (arith, nat_tests)
 
@@ -35,250 +37,208 @@ later word words text h = (h.0 + 1, omega (arith, h.1), shifted h.0 h.2) where
   shifted : (k : ℕ) → get_or words k text ≡ text → get_or (word ∷ words) (k + 1) text ≡ text
   shifted k e = rw add-one e
 
--- ---- what is given
+both : (a b : Bool) → (a && b) ≡ true → (a ≡ true) × (b ≡ true)
+both true true e = (refl, refl)
+both true false e = absurd cc
+both false b e = absurd cc
 
--- the numbers of a trial are within their bounds
-record AreOfTrial (s p f : Option ℕ) : Type 0 where
-  pub seed : IfSome s (λ n. n ≤ 4294967295)
-  pub packets : IfSome p (λ n. (1 ≤ n) × (n ≤ 10000))
-  pub bits : IfSome f (λ n. (1 ≤ n) × (n ≤ 4096))
+-- the first word has the key, or the text is that of the others
+by_key : {P : Type 0} (key word : List ℕ) (others : Option (List ℕ)) (text : List ℕ) → cond (has_key key word) (Some (text_in word)) others ≡ Some text
+    → (is_split word ≡ true → key_in word ≡ key → text_in word ≡ text → P) → (others ≡ Some text → P) → P
+by_key {P = P} key word others text e this that = by_test (has_key key word) refl e where
+  same : {x y : List ℕ} → Some x ≡ Some y → x ≡ y
+  same e = cc
 
--- names that words give, and numbers within their bounds
-abbrev IsGiven : List (List ℕ) → Given → Type 0
-IsGiven words g =
-    IfSome g.input (Assigns words (codes "in"))
-    × IfSome g.plan (Assigns words (codes "plan"))
-    × IfSome g.script (Assigns words (codes "script"))
-    × IfSome g.output (Assigns words (codes "out"))
-    × IfSome g.report (Assigns words (codes "report"))
-    × IfSome g.bits IsPlaces
-    × IfSome g.apid IsChosen
-    × IfSome g.robust (λ r. r ≤ 7)
-    × AreOfTrial g.seed g.packets g.trial_bits
+  by_test : (b : Bool) → has_key key word ≡ b → cond b (Some (text_in word)) others ≡ Some text → P
+  by_test true is e = let (split, same_key) = both (is_split word) (bytes_eq (key_in word) key) is in this split ((bytes_eq-Decides (key_in word) key).0 same_key) (same e)
+  by_test false is e = that e
 
--- one key has the text, or it is one of the others
-by_key : {P : Type 0} (key k : List ℕ) (b : Bool) → bytes_eq key k ≡ b → (here others : Option Given) (more : Given) → cond b here others ≡ Some more → (key ≡ k → here ≡ Some more → P) → (others ≡ Some more → P) → P
-by_key key k true at here others more e this that = this ((bytes_eq-Decides key k).0 at) e
-by_key key k false at here others more e this that = that e
+-- a text that words give to a key is one that a word assigns to it
+Assigns-text_of : (words : List (List ℕ)) (key text : List ℕ) → text_of words key ≡ Some text → Assigns words key text
+Assigns-text_of [] key text e = absurd cc
+Assigns-text_of (word ∷ words) key text e =
+    by_key key word (text_of words key) text e
+    (λ split is_key is_text. subst (Contains (word ∷ words)) (split_joined word split ∙ λ i. is_key i ++ 61 ∷ is_text i) (0, omega arith, refl))
+    (λ e. later word words _ (Assigns-text_of words key text e))
 
--- what is given with one more value
-with_name : (put : List ℕ → Given) (old : Option (List ℕ)) (b : Bool) (text : List ℕ) (more : Given) → option_map put (once old (cond b None (Some text))) ≡ Some more → put text ≡ more
-with_name put None true text more e = absurd cc
-with_name put None false text more e = same_some e
-with_name put (Some name) b text more e = absurd cc
+-- the text of a right word is a value of its key's kind
+fits-right : (rows : List Row) (before : List (List ℕ)) (word : List ℕ) → is_right rows before word ≡ true → fits_key rows before (kind_of rows (key_in word)) (text_in word) ≡ true
+fits-right rows before word e = last (is_split word) (not (is_some (text_of before (key_in word)))) (fits_key rows before (kind_of rows (key_in word)) (text_in word)) e where
+  last : (a b c : Bool) → (a && b && c) ≡ true → c ≡ true
+  last true true c e = e
+  last true false c e = absurd cc
+  last false b c e = absurd cc
 
-with_number : {A : Type 0} (put : A → Given) (old value : Option A) (more : Given) → option_map put (once old value) ≡ Some more → (x : A) × (value ≡ Some x) × (put x ≡ more)
-with_number put None None more e = absurd cc
-with_number put None (Some x) more e = (x, refl, same_some e)
-with_number put (Some old) value more e = absurd cc
+-- so a text that words give to a key is one, if no word is wrong
+fits-text_of : (rows : List Row) (before words : List (List ℕ)) (key text : List ℕ) → wrong_word rows before words ≡ None → text_of words key ≡ Some text → (so_far : List (List ℕ)) × (fits_key rows so_far (kind_of rows key) text ≡ true)
+fits-text_of rows before [] key text right e = absurd cc
+fits-text_of rows before (word ∷ words) key text right e = by_right (is_right rows before word) refl right (fits-text_of rows (before ++ word ∷ []) words key text) where
+  by_right : (b : Bool) → is_right rows before word ≡ b → cond b (wrong_word rows (before ++ word ∷ []) words) (Some (length before + 1)) ≡ None
+      → (wrong_word rows (before ++ word ∷ []) words ≡ None → text_of words key ≡ Some text → (so_far : List (List ℕ)) × (fits_key rows so_far (kind_of rows key) text ≡ true))
+      → (so_far : List (List ℕ)) × (fits_key rows so_far (kind_of rows key) text ≡ true)
+  by_right false is r others = absurd cc
+  by_right true is r others =
+      by_key key word (text_of words key) text e
+      (λ split is_key is_text. (before, subst (λ key. fits_key rows before (kind_of rows key) text ≡ true) is_key (subst (λ text. fits_key rows before (kind_of rows (key_in word)) text ≡ true) is_text (fits-right rows before word is))))
+      (λ e. others r e)
 
--- the bits of a packet, of a trial or of another verb
-IsGiven-bits : (words : List (List ℕ)) (v : Verb) (g more : Given) (text : List ℕ) → IsGiven words g → with_bits v g text ≡ Some more → IsGiven words more
-IsGiven-bits words verb.Trial g more text h e =
-    let n = with_number _ g.trial_bits _ more e in
-    subst (IsGiven words) n.2 (h.0, h.1, h.2, h.3, h.4, h.5, h.6, h.7, record { seed = h.8.seed; packets = h.8.packets; bits = within_bounds 1 4096 n.0 text n.1 })
-IsGiven-bits words verb.Compress g more text h e =
-    let n = with_number _ g.bits _ more e in
-    subst (IsGiven words) n.2 (h.0, h.1, h.2, h.3, h.4, within_bounds 1 49152 n.0 text n.1, h.6, h.7, h.8)
-IsGiven-bits words verb.Play g more text h e =
-    let n = with_number _ g.bits _ more e in
-    subst (IsGiven words) n.2 (h.0, h.1, h.2, h.3, h.4, within_bounds 1 49152 n.0 text n.1, h.6, h.7, h.8)
-IsGiven-bits words verb.Restore g more text h e =
-    let n = with_number _ g.bits _ more e in
-    subst (IsGiven words) n.2 (h.0, h.1, h.2, h.3, h.4, within_bounds 1 49152 n.0 text n.1, h.6, h.7, h.8)
-IsGiven-bits words verb.Show g more text h e =
-    let n = with_number _ g.bits _ more e in
-    subst (IsGiven words) n.2 (h.0, h.1, h.2, h.3, h.4, within_bounds 1 49152 n.0 text n.1, h.6, h.7, h.8)
+-- ---- a key that is needed
 
-IsGiven-text : (words : List (List ℕ)) (v : Verb) (g more : Given) (place : ℕ) (key text : List ℕ) → Assigns words key text → IsGiven words g → with_text v g place key text ≡ Some more → IsGiven words more
-IsGiven-text words v g more place key text assigned h e =
-    let at = λ (k : List ℕ) (is : key ≡ k). subst (λ x. Assigns words x text) is assigned in
-    by_key key (codes "in") _ refl _ _ more e
-    (λ is e. subst (IsGiven words) (with_name _ g.input _ text more e) (at _ is, h.1, h.2, h.3, h.4, h.5, h.6, h.7, h.8))
-    (λ e. by_key key (codes "plan") _ refl _ _ more e
-    (λ is e. subst (IsGiven words) (with_name _ g.plan _ text more e) (h.0, at _ is, h.2, h.3, h.4, h.5, h.6, h.7, h.8))
-    (λ e. by_key key (codes "script") _ refl _ _ more e
-    (λ is e. subst (IsGiven words) (with_name _ g.script _ text more e) (h.0, h.1, at _ is, h.3, h.4, h.5, h.6, h.7, h.8))
-    (λ e. by_key key (codes "out") _ refl _ _ more e
-    (λ is e. subst (IsGiven words) (with_name _ g.output _ text more e) (h.0, h.1, h.2, at _ is, h.4, h.5, h.6, h.7, h.8))
-    (λ e. by_key key (codes "report") _ refl _ _ more e
-    (λ is e. subst (IsGiven words) (with_name _ g.report _ text more e) (h.0, h.1, h.2, h.3, at _ is, h.5, h.6, h.7, h.8))
-    (λ e. by_key key (codes "bits") _ refl _ _ more e
-    (λ is e. IsGiven-bits words v g more text h e)
-    (λ e. by_key key (codes "apid") _ refl _ _ more e
-    (λ is e. let n = with_number _ g.apid _ more e in
-    subst (IsGiven words) n.2 (h.0, h.1, h.2, h.3, h.4, h.5, (within_bounds 0 2046 n.0 text n.1).1, h.7, h.8))
-    (λ e. by_key key (codes "robust") _ refl _ _ more e
-    (λ is e. let n = with_number _ g.robust _ more e in
-    subst (IsGiven words) n.2 (h.0, h.1, h.2, h.3, h.4, h.5, h.6, (within_bounds 0 7 n.0 text n.1).1, h.8))
-    (λ e. by_key key (codes "seed") _ refl _ _ more e
-    (λ is e. let n = with_number _ g.seed _ more e in
-    subst (IsGiven words) n.2 (h.0, h.1, h.2, h.3, h.4, h.5, h.6, h.7, record { seed = (within_bounds 0 4294967295 n.0 text n.1).1; packets = h.8.packets; bits = h.8.bits }))
-    (λ e. by_key key (codes "packets") _ refl _ _ more e
-    (λ is e. let n = with_number _ g.packets _ more e in
-    subst (IsGiven words) n.2 (h.0, h.1, h.2, h.3, h.4, h.5, h.6, h.7, record { seed = h.8.seed; packets = within_bounds 1 10000 n.0 text n.1; bits = h.8.bits }))
-    (λ e. by_key key (codes "mask") _ refl _ _ more e
-    (λ is e. subst (IsGiven words) (with_number _ g.mask _ more e).2 h)
-    (λ e. absurd cc)))))))))))
+-- a row needs this key
+abbrev needs : List Row → List ℕ → Bool
+needs rows key = list_any (λ (row : Row). row.is_needed && bytes_eq row.key key) rows
 
-IsGiven-word : (words : List (List ℕ)) (v : Verb) (g more : Given) (place : ℕ) (word : List ℕ) → Contains words word → IsGiven words g → with_word v g place word ≡ Some more → IsGiven words more
-IsGiven-word words v g more place word among h e = by_tests _ _ refl e where
-  by_tests : (is_split has : Bool) → nat_lt (position_or_len is_equals_sign word) (length word) ≡ is_split
-      → cond (is_split && has) (with_text v g place (before_first is_equals_sign word) (after_first is_equals_sign word)) None ≡ Some more → IsGiven words more
-  by_tests true true at e =
-      IsGiven-text words v g more place (before_first is_equals_sign word) (after_first is_equals_sign word) (subst (Contains words) (split_joined word (below _ _ at)) among) h e where
-        below : (m n : ℕ) → nat_lt m n ≡ true → m < n
-        below m n h = grind (arith, nat_tests)
-  by_tests true false at e = absurd cc
-  by_tests false has at e = absurd cc
+text_of-needed : (rows : List Row) (words : List (List ℕ)) (key : List ℕ) → is_missing rows words ≡ false → needs rows key ≡ true → text_of words key ≡ Some (name_at words key)
+text_of-needed [] words key whole need = absurd cc
+text_of-needed (row ∷ rows) words key whole need = by_row row.is_needed (bytes_eq row.key key) refl whole need (text_of-needed rows words key) where
+  others : (a b : Bool) → (a || b) ≡ false → b ≡ false
+  others true b e = absurd cc
+  others false b e = e
 
-bind_ok : {A B : Type 0} (r : Result A ℕ) (f : A → Result B ℕ) (y : B) → (r >>= f) ≡ Ok y → (x : A) × (r ≡ Ok x) × (f x ≡ Ok y)
-bind_ok (Ok x) f y e = (x, refl, e)
-bind_ok (Err word) f y e = absurd cc
+  told : (o : Option (List ℕ)) (rest : Bool) → (not (is_some o) || rest) ≡ false → o ≡ Some (unwrap_or o [])
+  told None rest e = absurd cc
+  told (Some text) rest e = refl
 
-ok_or-Some : {A : Type 0} (o : Option A) (missing : ℕ) (x : A) → ok_or o missing ≡ Ok x → o ≡ Some x
-ok_or-Some None missing x e = absurd cc
-ok_or-Some (Some y) missing x e = cc
+  by_row : (n b : Bool) → bytes_eq row.key key ≡ b → ((n && not (is_some (text_of words row.key))) || is_missing rows words) ≡ false → ((n && b) || needs rows key) ≡ true
+      → (is_missing rows words ≡ false → needs rows key ≡ true → text_of words key ≡ Some (name_at words key)) → text_of words key ≡ Some (name_at words key)
+  by_row true true is whole need below = subst (λ key. text_of words key ≡ Some (name_at words key)) ((bytes_eq-Decides row.key key).0 is) (told (text_of words row.key) (is_missing rows words) whole)
+  by_row true false is whole need below = below (others (not (is_some (text_of words row.key))) (is_missing rows words) whole) need
+  by_row false b is whole need below = below whole need
 
-IsGiven-given_by : (all words : List (List ℕ)) (v : Verb) (g more : Given) (place : ℕ) → ((word : List ℕ) → Contains words word → Contains all word) → IsGiven all g → given_by v g place words ≡ Ok more → IsGiven all more
-IsGiven-given_by all [] v g more place among h e = subst (IsGiven all) (same_ok e) h
-IsGiven-given_by all (word ∷ words) v g more place among h e =
-    let b = bind_ok (ok_or (with_word v g place word) place) _ more e in
-    IsGiven-given_by all words v b.0 more (place + 1) (λ w c. among w (later word words w c))
-    (IsGiven-word all v g b.0 place word (among word (0, omega arith, refl)) h (ok_or-Some _ place b.0 b.1)) b.2
+-- ---- words without a fault
 
--- ---- what a verb is told
+record AreSound (rows : List Row) (words : List (List ℕ)) : Type 0 where
+  pub right : wrong_word rows [] words ≡ None
+  pub whole : is_missing rows words ≡ false
 
--- the value of a key that must not be missing
-needed : {A : Type 0} (P : A → Type 0) (o : Option A) (missing : ℕ) (x : A) → ok_or o missing ≡ Ok x → IfSome o P → P x
-needed P None missing x e h = absurd cc
-needed P (Some y) missing x e h = subst P (same_ok e) h
+AreSound-by : (rows : List Row) (words : List (List ℕ)) → fault_of rows words ≡ None → AreSound rows words
+AreSound-by rows words h = by_word (wrong_word rows [] words) refl h where
+  by_missing : wrong_word rows [] words ≡ None → (b : Bool) → is_missing rows words ≡ b → or_missing b (length words + 1) (wrong_mask words) ≡ None → AreSound rows words
+  by_missing right true is e = absurd cc
+  by_missing right false is e = record { right = right; whole = is }
 
-mask_places : (f : ℕ) (mask : Option (ℕ × List ℕ)) (bits : List Bool) → mask_given f mask ≡ Ok bits → length bits ≡ f
-mask_places f None bits e = ap length (sym (same_ok e)) ∙ length-replicate f false
-mask_places f (Some (word, text)) bits e = length-mask_of f text bits (ok_or-Some (mask_of f text) word bits e)
+  by_word : (o : Option ℕ) → wrong_word rows [] words ≡ o → or_word o (or_missing (is_missing rows words) (length words + 1) (wrong_mask words)) ≡ None → AreSound rows words
+  by_word None is e = by_missing is (is_missing rows words) refl e
+  by_word (Some place) is e = absurd cc
 
-either : (P Q : List ℕ → Type 0) (o : Option (List ℕ)) → IfSome o P → IfSome o (λ x. P x ⊎ Q x)
-either P Q None h = tt
-either P Q (Some x) h = inl h
+-- a number is within the bounds of its row
+number_at-within : (rows : List Row) (words : List (List ℕ)) (key : List ℕ) (low high : ℕ) → AreSound rows words → kind_of rows key ≡ Some (Number low high) → needs rows key ≡ true → high ≤ 4294967295
+    → (low ≤ number_at words key) × (number_at words key ≤ high)
+number_at-within rows words key low high sound kind need most =
+    let at = text_of-needed rows words key sound.whole need in
+    let (so_far, fit) = fits-text_of rows [] words key (name_at words key) sound.right at in
+    subst (λ o. (low ≤ number_in o) × (number_in o ≤ high)) (sym at)
+    (number_in-bounds low high (name_at words key) most (subst (λ kind. fits_key rows so_far kind (name_at words key) ≡ true) kind fit))
 
--- what the words give to a command: values within their bounds, and its names
+-- the values of a verb are within their bounds
+pub IsRight-command_by : (v : Verb) (words : List (List ℕ)) → fault_of (rows_of v) words ≡ None → IsRight (command_by v words)
+IsRight-command_by v words h = by_verb v (AreSound-by (rows_of v) words h) where
+  by_verb : (v : Verb) → AreSound (rows_of v) words → IsRight (command_by v words)
+  by_verb verb.Compress s = record {
+    bits = number_at-within (rows_of verb.Compress) words (codes "bits") 1 49152 s refl refl (omega arith);
+    apid = (number_at-within (rows_of verb.Compress) words (codes "apid") 0 2046 s refl refl (omega arith)).1;
+    robust = (number_at-within (rows_of verb.Compress) words (codes "robust") 0 7 s refl refl (omega arith)).1;
+    mask = length-first_mask (number_at words (codes "bits")) (text_of words (codes "mask"));
+  }
+  by_verb verb.Play s = (number_at-within (rows_of verb.Play) words (codes "apid") 0 2046 s refl refl (omega arith)).1
+  by_verb verb.Restore s = (
+    number_at-within (rows_of verb.Restore) words (codes "bits") 1 49152 s refl refl (omega arith),
+    (number_at-within (rows_of verb.Restore) words (codes "apid") 0 2046 s refl refl (omega arith)).1,
+  )
+  by_verb verb.Show s = (
+    number_at-within (rows_of verb.Show) words (codes "bits") 1 49152 s refl refl (omega arith),
+    (number_at-within (rows_of verb.Show) words (codes "apid") 0 2046 s refl refl (omega arith)).1,
+  )
+  by_verb verb.Trial s = record {
+    seed = (number_at-within (rows_of verb.Trial) words (codes "seed") 0 4294967295 s refl refl (omega arith)).1;
+    packets = number_at-within (rows_of verb.Trial) words (codes "packets") 1 10000 s refl refl (omega arith);
+    bits = number_at-within (rows_of verb.Trial) words (codes "bits") 1 4096 s refl refl (omega arith);
+    robust = (number_at-within (rows_of verb.Trial) words (codes "robust") 0 7 s refl refl (omega arith)).1;
+  }
+
+-- ---- names
+
+-- each of the verb's names is one that a word gives
+module _ (word : List ℕ) (words : List (List ℕ)) where
+  given : (key : List ℕ) → IfSome (text_of words key) (Assigns (word ∷ words) key)
+  given key = by_text (text_of words key) refl where
+    by_text : (o : Option (List ℕ)) → text_of words key ≡ o → IfSome o (Assigns (word ∷ words) key)
+    by_text None is = tt
+    by_text (Some text) is = later word words _ (Assigns-text_of words key text is)
+
+  given_needed : (rows : List Row) (key : List ℕ) → is_missing rows words ≡ false → needs rows key ≡ true → Assigns (word ∷ words) key (name_at words key)
+  given_needed rows key whole need = later word words _ (Assigns-text_of words key (name_at words key) (text_of-needed rows words key whole need))
+
+  either : (o : Option (List ℕ)) → IfSome o (Assigns (word ∷ words) (codes "plan")) → IfSome o (λ name. Assigns (word ∷ words) (codes "plan") name ⊎ Assigns (word ∷ words) (codes "script") name)
+  either None h = tt
+  either (Some name) h = inl h
+
+  AreGiven-command_by : (v : Verb) → is_missing (rows_of v) words ≡ false → AreGiven (word ∷ words) (names_of (command_by v words))
+  AreGiven-command_by verb.Compress w = record {
+    side = either (text_of words (codes "plan")) (given (codes "plan"));
+    input = given_needed (rows_of verb.Compress) (codes "in") w refl;
+    output = given_needed (rows_of verb.Compress) (codes "out") w refl;
+    report = tt;
+  }
+  AreGiven-command_by verb.Play w = record {
+    side = inr (given_needed (rows_of verb.Play) (codes "script") w refl);
+    input = given_needed (rows_of verb.Play) (codes "in") w refl;
+    output = given_needed (rows_of verb.Play) (codes "out") w refl;
+    report = given_needed (rows_of verb.Play) (codes "report") w refl;
+  }
+  AreGiven-command_by verb.Restore w = record {
+    side = tt;
+    input = given_needed (rows_of verb.Restore) (codes "in") w refl;
+    output = given_needed (rows_of verb.Restore) (codes "out") w refl;
+    report = given_needed (rows_of verb.Restore) (codes "report") w refl;
+  }
+  AreGiven-command_by verb.Show w = record {
+    side = tt;
+    input = given_needed (rows_of verb.Show) (codes "in") w refl;
+    output = given_needed (rows_of verb.Show) (codes "out") w refl;
+    report = tt;
+  }
+  AreGiven-command_by verb.Trial w = record { side = tt; input = tt; output = given_needed (rows_of verb.Trial) (codes "out") w refl; report = tt }
+
+-- the values of a command are within their bounds, and its names are those that words give
 pub record IsCommand (words : List (List ℕ)) (command : Command) : Type 0 where
   pub right : IsRight command
   pub given : AreGiven words (names_of command)
 
-compress_given : (words : List (List ℕ)) (g : Given) (missing : ℕ) (c : CompressValues) → IsGiven words g → compress_values g missing ≡ Ok c → IsCommand words (Compress c)
-unfolding compress_values
-compress_given words g missing c h e =
-    let bits = bind_ok _ _ c e in
-    let input = bind_ok _ _ c bits.2 in
-    let output = bind_ok _ _ c input.2 in
-    let apid = bind_ok _ _ c output.2 in
-    let robust = bind_ok _ _ c apid.2 in
-    let mask = bind_ok _ _ c robust.2 in
-    let right : AreRight (record { input = input.0; output = output.0; plan = g.plan; bits = bits.0; apid = apid.0; robust = robust.0; mask = mask.0 }) = record {
-      bits = needed IsPlaces g.bits missing bits.0 bits.1 h.5;
-      apid = needed IsChosen g.apid missing apid.0 apid.1 h.6;
-      robust = needed (λ r. r ≤ 7) g.robust missing robust.0 robust.1 h.7;
-      mask = mask_places bits.0 g.mask mask.0 mask.1;
-    } in
-    subst (λ x. IsCommand words (Compress x)) (same_ok mask.2) (record {
-      right = right;
-      given = record {
-        side = either _ _ g.plan h.1;
-        input = needed _ g.input missing input.0 input.1 h.0;
-        output = needed _ g.output missing output.0 output.1 h.3;
-        report = tt;
-      };
-    })
-
-play_given : (words : List (List ℕ)) (g : Given) (missing : ℕ) (p : PlayValues) → IsGiven words g → play_values g missing ≡ Ok p → IsCommand words (Play p)
-unfolding play_values
-play_given words g missing p h e =
-    let input = bind_ok _ _ p e in
-    let output = bind_ok _ _ p input.2 in
-    let report = bind_ok _ _ p output.2 in
-    let script = bind_ok _ _ p report.2 in
-    let apid = bind_ok _ _ p script.2 in
-    subst (λ x. IsCommand words (Play x)) (same_ok apid.2) (record {
-      right = needed IsChosen g.apid missing apid.0 apid.1 h.6;
-      given = record {
-        side = inr (needed _ g.script missing script.0 script.1 h.2);
-        input = needed _ g.input missing input.0 input.1 h.0;
-        output = needed _ g.output missing output.0 output.1 h.3;
-        report = needed _ g.report missing report.0 report.1 h.4;
-      };
-    })
-
-restore_given : (words : List (List ℕ)) (g : Given) (missing : ℕ) (r : RestoreValues) → IsGiven words g → restore_values g missing ≡ Ok r → IsCommand words (Restore r)
-unfolding restore_values
-restore_given words g missing r h e =
-    let input = bind_ok _ _ r e in
-    let output = bind_ok _ _ r input.2 in
-    let report = bind_ok _ _ r output.2 in
-    let bits = bind_ok _ _ r report.2 in
-    let apid = bind_ok _ _ r bits.2 in
-    subst (λ x. IsCommand words (Restore x)) (same_ok apid.2) (record {
-      right = (needed IsPlaces g.bits missing bits.0 bits.1 h.5, needed IsChosen g.apid missing apid.0 apid.1 h.6);
-      given = record {
-        side = tt;
-        input = needed _ g.input missing input.0 input.1 h.0;
-        output = needed _ g.output missing output.0 output.1 h.3;
-        report = needed _ g.report missing report.0 report.1 h.4;
-      };
-    })
-
-show_given : (words : List (List ℕ)) (g : Given) (missing : ℕ) (s : ShowValues) → IsGiven words g → show_values g missing ≡ Ok s → IsCommand words (Show s)
-unfolding show_values
-show_given words g missing s h e =
-    let input = bind_ok _ _ s e in
-    let output = bind_ok _ _ s input.2 in
-    let bits = bind_ok _ _ s output.2 in
-    let apid = bind_ok _ _ s bits.2 in
-    subst (λ x. IsCommand words (Show x)) (same_ok apid.2) (record {
-      right = (needed IsPlaces g.bits missing bits.0 bits.1 h.5, needed IsChosen g.apid missing apid.0 apid.1 h.6);
-      given = record {
-        side = tt;
-        input = needed _ g.input missing input.0 input.1 h.0;
-        output = needed _ g.output missing output.0 output.1 h.3;
-        report = tt;
-      };
-    })
-
-trial_given : (words : List (List ℕ)) (g : Given) (missing : ℕ) (t : TrialValues) → IsGiven words g → trial_values g missing ≡ Ok t → IsCommand words (Trial t)
-unfolding trial_values
-trial_given words g missing t h e =
-    let output = bind_ok _ _ t e in
-    let seed = bind_ok _ _ t output.2 in
-    let packets = bind_ok _ _ t seed.2 in
-    let bits = bind_ok _ _ t packets.2 in
-    let robust = bind_ok _ _ t bits.2 in
-    let right : IsTrialRight (record { output = output.0; seed = seed.0; packets = packets.0; bits = bits.0; robust = robust.0 }) = record {
-      seed = needed (λ n. n ≤ 4294967295) g.seed missing seed.0 seed.1 h.8.seed;
-      packets = needed (λ n. (1 ≤ n) × (n ≤ 10000)) g.packets missing packets.0 packets.1 h.8.packets;
-      bits = needed (λ n. (1 ≤ n) × (n ≤ 4096)) g.trial_bits missing bits.0 bits.1 h.8.bits;
-      robust = needed (λ r. r ≤ 7) g.robust missing robust.0 robust.1 h.7;
-    } in
-    subst (λ x. IsCommand words (Trial x)) (same_ok robust.2) (record {
-      right = right;
-      given = record { side = tt; input = tt; output = needed _ g.output missing output.0 output.1 h.3; report = tt };
-    })
-
--- the values of a command are within their bounds, and its names are those that words give
 pub IsCommand-command_of : (words : List (List ℕ)) (command : Command) → command_of words ≡ Ok command → IsCommand words command
 IsCommand-command_of [] command e = absurd cc
-IsCommand-command_of (word ∷ words) command e =
-    let v = bind_ok (ok_or (verb_of word) 0) (λ v. given_by v nothing_given 1 words >>= λ g. with_values v g (length words + 1)) command e in
-    let g = bind_ok (given_by v.0 nothing_given 1 words) (λ g. with_values v.0 g (length words + 1)) command v.2 in
-    by_verb v.0 g.0 (IsGiven-given_by (word ∷ words) words v.0 nothing_given g.0 1 (later word words) (tt, tt, tt, tt, tt, tt, tt, tt, record { seed = tt; packets = tt; bits = tt }) g.1) g.2 where
-      made : {A : Type 0} (r : Result A ℕ) (form : A → Command) → ((x : A) → r ≡ Ok x → IsCommand (word ∷ words) (form x)) → (r >>= λ x. Ok (form x)) ≡ Ok command → IsCommand (word ∷ words) command
-      made r form given e =
-          let b = bind_ok r (λ x. Ok (form x)) command e in
-          subst (IsCommand (word ∷ words)) (same_ok b.2) (given b.0 b.1)
+IsCommand-command_of (word ∷ words) command e = by_verb (verb_of word) e where
+  by_fault : (v : Verb) (o : Option ℕ) → fault_of (rows_of v) words ≡ o → unless_fault o (command_by v words) ≡ Ok command → IsCommand (word ∷ words) command
+  by_fault v (Some place) is e = absurd cc
+  by_fault v None is e = subst (IsCommand (word ∷ words)) (same e) (record {
+    right = IsRight-command_by v words is;
+    given = AreGiven-command_by word words v (AreSound-by (rows_of v) words is).whole;
+  }) where
+    same : {x y : Command} → ◌≡◌ {A = Result Command ℕ} (Ok x) (Ok y) → x ≡ y
+    same e = cc
 
-      by_verb : (v : Verb) (g : Given) → IsGiven (word ∷ words) g → with_values v g (length words + 1) ≡ Ok command → IsCommand (word ∷ words) command
-      by_verb verb.Compress g h e = made (compress_values g (length words + 1)) Compress (λ c at. compress_given (word ∷ words) g (length words + 1) c h at) e
-      by_verb verb.Play g h e = made (play_values g (length words + 1)) Play (λ p at. play_given (word ∷ words) g (length words + 1) p h at) e
-      by_verb verb.Restore g h e = made (restore_values g (length words + 1)) Restore (λ r at. restore_given (word ∷ words) g (length words + 1) r h at) e
-      by_verb verb.Show g h e = made (show_values g (length words + 1)) Show (λ s at. show_given (word ∷ words) g (length words + 1) s h at) e
-      by_verb verb.Trial g h e = made (trial_values g (length words + 1)) Trial (λ t at. trial_given (word ∷ words) g (length words + 1) t h at) e
+  by_verb : (o : Option Verb) → command_after o words ≡ Ok command → IsCommand (word ∷ words) command
+  by_verb None e = absurd cc
+  by_verb (Some v) e = by_fault v (fault_of (rows_of v) words) refl e
+
+-- ---- the mask
+
+-- a verb whose words give a mask has the bits of a packet
+pub IsPlaces-with_mask : (v : Verb) (words : List (List ℕ)) → wrong_word (rows_of v) [] words ≡ None → is_missing (rows_of v) words ≡ false → IsSome (text_of words (codes "mask")) → IsPlaces (number_at words (codes "bits"))
+IsPlaces-with_mask v words right whole given = by_verb v (record { right = right; whole = whole }) where
+  none : (rows : List Row) → AreSound rows words → kind_of rows (codes "mask") ≡ None → (o : Option (List ℕ)) → text_of words (codes "mask") ≡ o → IsSome o → ⊥
+  none rows s kind (Some text) is h =
+      let (so_far, fit) = fits-text_of rows [] words (codes "mask") text s.right is in
+      no (subst (λ kind. fits_key rows so_far kind text ≡ true) kind fit) where
+        no : ◌≡◌ {A = Bool} false true → ⊥
+        no e = cc
+  none rows s kind None is h = no h where
+    no : ◌≡◌ {A = Bool} false true → ⊥
+    no e = cc
+
+  by_verb : (v : Verb) → AreSound (rows_of v) words → IsPlaces (number_at words (codes "bits"))
+  by_verb verb.Compress s = number_at-within (rows_of verb.Compress) words (codes "bits") 1 49152 s refl refl (omega arith)
+  by_verb verb.Play s = absurd (none _ s refl _ refl given)
+  by_verb verb.Restore s = number_at-within (rows_of verb.Restore) words (codes "bits") 1 49152 s refl refl (omega arith)
+  by_verb verb.Show s = number_at-within (rows_of verb.Show) words (codes "bits") 1 49152 s refl refl (omega arith)
+  by_verb verb.Trial s = absurd (none _ s refl _ refl given)

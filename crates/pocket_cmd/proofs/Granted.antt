@@ -7,7 +7,8 @@ use Rattle.pocket_cmd.specs.declared.status.Status.TheVariants.{Refused}
 use Rattle.pocket_cmd.specs.declared.status.Refusal.{Refusal}
 use Rattle.pocket_cmd.specs.declared.status.Refusal.TheVariants as refusal
 use Rattle.pocket_cmd.specs.Words.{Assigns, read_keys, written_keys}
-use Rattle.pocket_cmd.specs.Command.{Command, names_of}
+use Rattle.pocket_cmd.specs.Command.{Command}
+use Rattle.pocket_cmd.specs.Courses.{names_of}
 use Rattle.pocket_cmd.specs.Openings.{AreTold}
 use Rattle.pocket_cmd.specs.Status.{status_by}
 use Rattle.pocket_cmd.specs.Outcome.{IsAnswered, NoneRose, answer_to}

@@ -14,8 +14,8 @@ use Rattle.ground_chain.proofs.DeliveredRuns.{owed-played}
 use Rattle.pocket_cmd.specs.declared.status.Status.TheVariants.{Done, Refused}
 use Rattle.pocket_cmd.specs.declared.status.Refusal.{Refusal}
 use Rattle.pocket_cmd.specs.declared.status.Refusal.TheVariants as refusal
-use Rattle.pocket_cmd.specs.Command.{Command, Compress, Play, Restore, Show, Trial, RestoreValues, IsChosen, names_of}
-use Rattle.pocket_cmd.specs.Courses.{course_of}
+use Rattle.pocket_cmd.specs.Command.{Command, Restore, RestoreValues, IsChosen}
+use Rattle.pocket_cmd.specs.Courses.{course_of, names_of}
 use Rattle.pocket_cmd.specs.Faults.{of_recording, of_store}
 use Rattle.pocket_cmd.specs.Delivery.{HasWritten, IsPlayedStore, IsSideRight, IsInputWhole}
 use Rattle.pocket_cmd.specs.Outcome.{AfterCommand, Stands, answer_by, answer_to, by_row}
@@ -48,14 +48,6 @@ short text h = grind (arith, nat_tests)
 
 -- a right side text and a whole input are answered with Done
 pub Done-whole : (command : Command) (text input : List ℕ) → IsSideRight command text → IsInputWhole command input → answer_to command text input ≡ Done
-Done-whole (Compress c) text input (within, rows) whole =
-    ap (λ b. cond b (Refused refusal.SideTooLong) (answer_by (Compress c) text input)) (short text within)
-    ∙ (ap (λ o. by_row o (status_of (course_of (Compress c) text input).ending)) rows ∙ ap (λ o. status_of (option_map of_recording o)) whole)
-Done-whole (Play p) text input (within, rows) whole =
-    ap (λ b. cond b (Refused refusal.SideTooLong) (answer_by (Play p) text input)) (short text within)
-    ∙ (ap (λ o. by_row o (status_of (course_of (Play p) text input).ending)) rows ∙ ap (λ o. status_of (option_map of_store o)) whole)
-Done-whole (Restore r) text input none whole =
-    ap (λ text. answer_to (Restore r) text input) none ∙ ap (λ o. status_of (option_map of_store o)) whole
-Done-whole (Show s) text input none whole =
-    ap (λ text. answer_to (Show s) text input) none ∙ ap (λ o. status_of (option_map of_store o)) whole
-Done-whole (Trial t) text input none whole = ap (λ text. answer_to (Trial t) text input) none
+Done-whole command text input (within, rows) whole =
+    ap (λ b. cond b (Refused refusal.SideTooLong) (answer_by command text input)) (short text within)
+    ∙ (ap (λ o. by_row o (status_of (course_of command text input).ending)) rows ∙ ap status_of (whole text))

@@ -1,17 +1,17 @@
 -- Masks that hexadecimal digits denote.
-use Rattle.std.proofs.Common.{◌≡◌, ℕ, ◌*◌, ◌/◌, ◌≤◌, ◌==◌, Bool, true, false, cond, List, length, take, Option, Some, None, Result, Ok, Err, refl, sym, ap, ◌∙◌, arith}
+use Rattle.std.proofs.Common.{◌≡◌, ℕ, ◌*◌, ◌/◌, ◌≤◌, ◌==◌, Bool, true, false, cond, List, length, take, Option, Some, None, unwrap_or, Result, Ok, Err, refl, sym, ap, ◌∙◌, arith}
 use Rattle.std.specs.Prelude.{◌%◌}
 use Rattle.std.specs.Option.{option_map}
 use Rattle.std.specs.List.{list_any}
 use Rattle.std.proofs.lemmas.Bool.Decides.{nat_tests}
-use Rattle.std.proofs.lemmas.List.{length-take-le}
+use Rattle.std.proofs.lemmas.List.{length-replicate, length-take-le}
 use Rattle.bit_vectors.specs.Vectors.{bits_of, byte_count, has_spare_bit}
 use Rattle.bit_vectors.proofs.ByteBits.{length-bits_of}
 use Rattle.hex.specs.Hex.{decode_sized, decode_pairs}
 use Rattle.hex.specs.declared.error.FromHexError.{FromHexError}
 use Rattle.hex.specs.declared.error.FromHexError.TheVariants.{OddLength, InvalidStringLength}
 use Rattle.hex.proofs.HexLemmas.{decode_pairs-ok}
-use Rattle.pocket_cmd.specs.Masks.{unless_spare, mask_bytes, mask_of}
+use Rattle.pocket_cmd.specs.Masks.{first_mask, mask_bytes, mask_of, no_mask, unless_spare}
 
 abbrev pub one_of : List Bool → Bool
 one_of bits = list_any (λ bit. bit) bits
@@ -35,7 +35,7 @@ decoded f (Ok found) bytes e = by_spare (has_spare_bit f found) e where
   by_spare false e = cc
 
 -- a mask has f places
-pub length-mask_of : (f : ℕ) (text : List ℕ) (mask : List Bool) → mask_of f text ≡ Some mask → length mask ≡ f
+length-mask_of : (f : ℕ) (text : List ℕ) (mask : List Bool) → mask_of f text ≡ Some mask → length mask ≡ f
 length-mask_of f text mask e = by_bytes (mask_bytes f text) refl e where
   same_some : {A : Type 0} {x y : A} → Some x ≡ Some y → x ≡ y
   same_some e = cc
@@ -48,3 +48,10 @@ length-mask_of f text mask e = by_bytes (mask_bytes f text) refl e where
       let some : f ≤ 8 * byte_count f = omega arith in
       let all : f ≤ length (bits_of bytes) = omega (arith, len, bits, some) in
       sym (ap length (same_some e)) ∙ length-take-le f (bits_of bytes) all
+
+pub length-first_mask : (f : ℕ) (text : Option (List ℕ)) → length (first_mask f text) ≡ f
+length-first_mask f None = length-replicate f false
+length-first_mask f (Some text) = by_mask (mask_of f text) refl where
+  by_mask : (o : Option (List Bool)) → mask_of f text ≡ o → length (unwrap_or o (no_mask f)) ≡ f
+  by_mask None is = length-replicate f false
+  by_mask (Some mask) is = length-mask_of f text mask is

@@ -14,8 +14,8 @@ use Rattle.pocket_cmd.specs.Faults.{DataFault}
 use Rattle.pocket_cmd.specs.declared.status.Status.{Status}
 use Rattle.pocket_cmd.specs.declared.status.Status.TheVariants.{Done, Refused}
 use Rattle.pocket_cmd.specs.declared.status.Refusal.{Refusal}
-use Rattle.pocket_cmd.specs.Command.{Names, Command, names_of}
-use Rattle.pocket_cmd.specs.Courses.{course_of, bad_row_of}
+use Rattle.pocket_cmd.specs.Command.{Names, Command}
+use Rattle.pocket_cmd.specs.Courses.{course_of, bad_row_of, names_of}
 use Rattle.pocket_cmd.specs.Openings.{AreKept, all_opened, told_bytes, input_given, with_report, with_output, with_input}
 use Rattle.pocket_cmd.specs.Unfed.{EndsBy}
 use Rattle.pocket_cmd.specs.Status.{HasStatusCause, IsEnded, refusal_of, refused_by, status_of, status_by}

@@ -4,9 +4,9 @@ use Rattle.desk_ports.specs.Courses.{Course}
 use Rattle.desk_ports.specs.Meanings.{Meanings}
 use Rattle.pocket_cmd.specs.declared.status.Refusal.{Refusal}
 use Rattle.pocket_cmd.specs.declared.status.Refusal.TheVariants as refusal
-use Rattle.pocket_cmd.specs.Command.{Trial, TrialValues, names_of}
+use Rattle.pocket_cmd.specs.Command.{Trial, TrialValues}
 use Rattle.pocket_cmd.specs.Faults.{DataFault}
-use Rattle.pocket_cmd.specs.Courses.{course_of}
+use Rattle.pocket_cmd.specs.Courses.{course_of, names_of}
 use Rattle.pocket_cmd.specs.Outcome.{AfterRefusal, HasRunReadFailed, IsTooLong, HasReadFailed, Stands}
 
 long-trial : (t : TrialValues) (old new : Meanings) → IsTooLong (Trial t) old new → ⊥

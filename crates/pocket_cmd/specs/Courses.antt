@@ -1,5 +1,5 @@
--- What each command owes for the bytes of its input, by the text of its side input.
-use Rattle.std.specs.Prelude.{ℕ, List, Option, None}
+-- What each command is to do.
+use Rattle.std.specs.Prelude.{ℕ, List, Option, Some, None}
 use Rattle.std.specs.Option.{option_map}
 use Rattle.desk_ports.specs.Courses.{Course, no_outputs, to_output}
 use Rattle.side_tables.specs.Grammar.{schedule_rows_of, copy_rows_of, bad_schedule_row, bad_copy_row}
@@ -9,7 +9,7 @@ use Rattle.loss_player.specs.Playing.{play_course}
 use Rattle.ground_chain.specs.Listing.{listing_course}
 use Rattle.ground_chain.specs.Restoring.{restore_course}
 use Rattle.pocket_cmd.specs.Faults.{DataFault, of_recording, of_store}
-use Rattle.pocket_cmd.specs.Command.{Command, Compress, Play, Restore, Show, Trial, CompressValues}
+use Rattle.pocket_cmd.specs.Command.{Command, Compress, Play, Restore, Show, Trial, CompressValues, Names}
 use Rattle.pocket_cmd.specs.Summary.{summary_by}
 
 -- the same course, its fault named otherwise
@@ -24,18 +24,49 @@ compression_by c text = record { places = c.bits; robust = c.robust; apid = c.ap
 abbrev pub text_course : List ℕ → Course DataFault
 text_course text = record { before = no_outputs; after = to_output text; ending = None }
 
--- what a command owes, by the text of its side input, for an input
-abbrev pub course_of : Command → List ℕ → List ℕ → Course DataFault
-course_of (Compress c) text input = with_fault of_recording (compress_course (compression_by c text) input)
-course_of (Play p) text input = with_fault of_store (play_course (copies_of (copy_rows_of text)) p.apid input)
-course_of (Restore r) text input = with_fault of_store (restore_course r.bits r.apid input)
-course_of (Show s) text input = with_fault of_store (listing_course s.bits s.apid input)
-course_of (Trial t) text input = text_course (summary_by t)
+-- What a command is to do: the names that it opens, the number of the first record of a side text that is no row, and what it
+-- owes, by the text of its side input, for an input.
+pub record Errand : Type 0 where
+  pub names : Names
+  pub bad_row : List ℕ → Option ℕ
+  pub course : List ℕ → List ℕ → Course DataFault
 
--- the number of the first record of a side text that is no row
+-- a command without a side input has no row that is bad
+abbrev no_row : List ℕ → Option ℕ
+no_row text = None
+
+abbrev pub errand_of : Command → Errand
+errand_of (Compress c) = record {
+  names = record { side = c.plan; input = Some c.input; output = c.output; report = None };
+  bad_row = bad_schedule_row;
+  course = λ text input. with_fault of_recording (compress_course (compression_by c text) input);
+}
+errand_of (Play p) = record {
+  names = record { side = Some p.script; input = Some p.input; output = p.output; report = Some p.report };
+  bad_row = bad_copy_row;
+  course = λ text input. with_fault of_store (play_course (copies_of (copy_rows_of text)) p.apid input);
+}
+errand_of (Restore r) = record {
+  names = record { side = None; input = Some r.input; output = r.output; report = Some r.report };
+  bad_row = no_row;
+  course = λ text input. with_fault of_store (restore_course r.bits r.apid input);
+}
+errand_of (Show s) = record {
+  names = record { side = None; input = Some s.input; output = s.output; report = None };
+  bad_row = no_row;
+  course = λ text input. with_fault of_store (listing_course s.bits s.apid input);
+}
+errand_of (Trial t) = record {
+  names = record { side = None; input = None; output = t.output; report = None };
+  bad_row = no_row;
+  course = λ text input. text_course (summary_by t);
+}
+
+abbrev pub names_of : Command → Names
+names_of command = (errand_of command).names
+
 abbrev pub bad_row_of : Command → List ℕ → Option ℕ
-bad_row_of (Compress c) text = bad_schedule_row text
-bad_row_of (Play p) text = bad_copy_row text
-bad_row_of (Restore r) text = None
-bad_row_of (Show s) text = None
-bad_row_of (Trial t) text = None
+bad_row_of command text = (errand_of command).bad_row text
+
+abbrev pub course_of : Command → List ℕ → List ℕ → Course DataFault
+course_of command text input = (errand_of command).course text input

@@ -1,19 +1,17 @@
 -- What a command that is done has written, and for which inputs it is done.
-use Rattle.std.specs.Prelude.{◌≡◌, ℕ, ◌≤◌, List, [], length, Some, None, IfSome}
+use Rattle.std.specs.Prelude.{◌≡◌, ℕ, ◌≤◌, List, length, Some, None, IfSome}
 use Rattle.desk_ports.specs.declared.desk.Inlet.TheVariants as inlet
 use Rattle.desk_ports.specs.declared.desk.Outlet.TheVariants as outlet
 use Rattle.desk_ports.specs.Courses.{Outputs}
 use Rattle.desk_ports.specs.Meanings.{Meanings, made}
 use Rattle.mask_update.specs.Histories.{History, IsValid}
-use Rattle.side_tables.specs.Grammar.{bad_copy_row, bad_schedule_row}
-use Rattle.packet_store.specs.Walks.{walk}
 use Rattle.flight_chain.specs.Recordings.{recording_walk}
 use Rattle.flight_chain.specs.Stores.{store_of}
 use Rattle.flight_chain.specs.Compressing.{history_by}
 use Rattle.loss_player.specs.Gaps.{AreGapsShort}
 use Rattle.loss_player.specs.Played.{played_bytes}
-use Rattle.pocket_cmd.specs.Command.{Command, Compress, CompressValues, Play, Restore, Show, Trial, Names, RestoreValues}
-use Rattle.pocket_cmd.specs.Courses.{compression_by}
+use Rattle.pocket_cmd.specs.Command.{Command, CompressValues, Names, RestoreValues}
+use Rattle.pocket_cmd.specs.Courses.{bad_row_of, compression_by, course_of}
 use Rattle.pocket_cmd.specs.Openings.{given}
 
 -- the outputs of a command got this, if the desk tells what was written
@@ -23,19 +21,11 @@ pub record HasWritten (names : Names) (all : Outputs) (m : Meanings) : Type 0 wh
 
 -- a side text is within its limit, and each of its records is a row
 abbrev pub IsSideRight : Command → List ℕ → Type 0
-IsSideRight (Compress c) text = (length text ≤ 1048576) × (bad_schedule_row text ≡ None)
-IsSideRight (Play p) text = (length text ≤ 1048576) × (bad_copy_row text ≡ None)
-IsSideRight (Restore r) text = text ≡ []
-IsSideRight (Show s) text = text ≡ []
-IsSideRight (Trial t) text = text ≡ []
+IsSideRight command text = (length text ≤ 1048576) × (bad_row_of command text ≡ None)
 
--- a recording, or a store, is whole; a trial has none
+-- an input is whole: its course has no fault, whatever the side text is
 abbrev pub IsInputWhole : Command → List ℕ → Type 0
-IsInputWhole (Compress c) recording = (recording_walk c.bits recording).ending ≡ None
-IsInputWhole (Play p) store = (walk (Some p.apid) store).ending ≡ None
-IsInputWhole (Restore r) store = (walk (Some r.apid) store).ending ≡ None
-IsInputWhole (Show s) store = (walk (Some s.apid) store).ending ≡ None
-IsInputWhole (Trial t) input = Unit {0}
+IsInputWhole command input = (text : List ℕ) → (course_of command text input).ending ≡ None
 
 -- The store that is to be restored is the played store of a valid history: each packet arrives so many times, with gaps that
 -- are shorter than the period of the sequence counts.

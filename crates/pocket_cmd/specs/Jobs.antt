@@ -15,29 +15,27 @@ use Rattle.pocket_cmd.specs.Courses.{text_course, with_fault}
 use Rattle.pocket_cmd.specs.Faults.{DataFault, of_recording, of_store}
 use Rattle.pocket_cmd.specs.Unfed.{EndsBy, IsCutOffBy, IsCutShortBy}
 
--- what a job owes for an input
+-- what a job is to do: what it owes for an input, whether it reads one, and whether it writes a report
+pub record Duty : Type 0 where
+  pub course : List ℕ → Course DataFault
+  pub reads : Bool
+  pub reports : Bool
+
+abbrev pub duty_of : Job → Duty
+duty_of (job.Compress flight) = record { course = λ input. with_fault of_recording (compress_course flight input); reads = true; reports = false }
+duty_of (job.Play player) = record { course = λ input. with_fault of_store (play_course (copies_of player.rows) player.apid input); reads = true; reports = true }
+duty_of (job.Restore restorer) = record { course = λ input. with_fault of_store (restore_course restorer.places restorer.apid input); reads = true; reports = true }
+duty_of (job.Show lister) = record { course = λ input. with_fault of_store (listing_course lister.places lister.apid input); reads = true; reports = false }
+duty_of (job.Trial text) = record { course = λ input. text_course text.items; reads = false; reports = false }
+
 abbrev pub job_course : Job → List ℕ → Course DataFault
-job_course (job.Compress flight) input = with_fault of_recording (compress_course flight input)
-job_course (job.Play player) input = with_fault of_store (play_course (copies_of player.rows) player.apid input)
-job_course (job.Restore restorer) input = with_fault of_store (restore_course restorer.places restorer.apid input)
-job_course (job.Show lister) input = with_fault of_store (listing_course lister.places lister.apid input)
-job_course (job.Trial text) input = text_course text.items
+job_course job = (duty_of job).course
 
--- whether it reads an input
 abbrev pub reads_input : Job → Bool
-reads_input (job.Compress flight) = true
-reads_input (job.Play player) = true
-reads_input (job.Restore restorer) = true
-reads_input (job.Show lister) = true
-reads_input (job.Trial text) = false
+reads_input job = (duty_of job).reads
 
--- whether it writes a report
 abbrev pub writes_report : Job → Bool
-writes_report (job.Compress flight) = false
-writes_report (job.Play player) = true
-writes_report (job.Restore restorer) = true
-writes_report (job.Show lister) = false
-writes_report (job.Trial text) = false
+writes_report job = (duty_of job).reports
 
 -- after a job, which reads an input or has none, by its answer
 abbrev pub AfterJob : Bool → (List ℕ → Course DataFault) → Meanings → Meanings → Result (Unit {0}) (Stop DataFault) → Type 0

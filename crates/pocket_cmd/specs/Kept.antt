@@ -4,7 +4,8 @@ use Rattle.std.specs.Option.{option_map}
 use Rattle.desk_ports.specs.declared.desk.Outlet.TheVariants as outlet
 use Rattle.desk_ports.specs.Meanings.{Meanings, kept_after, made}
 use Rattle.pocket_cmd.specs.declared.status.Refusal.{Refusal}
-use Rattle.pocket_cmd.specs.Command.{Command, names_of}
+use Rattle.pocket_cmd.specs.Command.{Command}
+use Rattle.pocket_cmd.specs.Courses.{names_of}
 use Rattle.pocket_cmd.specs.Outcome.{Stands}
 use Rattle.pocket_cmd.specs.Status.{Class, class_of}
 use Rattle.pocket_cmd.specs.Status as class

@@ -1,5 +1,6 @@
-pub mod Words
+pub mod Verbs
 pub mod Masks
+pub mod Words
 pub mod Command
 pub mod Faults
 pub mod Summary

@@ -1,145 +1,125 @@
--- What the words of a command line say: a verb, and then `key=value` in any order.
-use Rattle.std.specs.Prelude.{ℕ, ◌+◌, Bool, false, not, ◌&&◌, ◌||◌, ◌==◌, nat_lt, List, [], ◌∷◌, ◌++◌, length, Contains, codes, map, Option, Some, None, ok_or, Result, Ok, Err, if◌then◌else◌}
-use Rattle.std.specs.Borrow.{Bor}
-use Rattle.std.specs.Option.{option_map}
+-- What the words of a command line after its verb say: `key=value` in any order.
+use Rattle.std.specs.Prelude.{ℕ, ◌+◌, Bool, true, false, not, ◌&&◌, ◌||◌, ◌==◌, nat_lt, List, [], ◌∷◌, ◌++◌, length, Contains, codes, map, Option, Some, None, is_some, unwrap_or, if◌then◌else◌}
 use Rattle.std.specs.String.{string_bytes}
 use Rattle.std.specs.declared.string.String.{String}
 use Rattle.std.specs.List.{list_any, before_first, after_first, position_or_len}
 use Rattle.std.specs.Str.{bytes_eq}
 use Rattle.side_tables.specs.Numbers.{number_of}
-use Rattle.pocket_cmd.specs.declared.words.Verb.{Verb}
-use Rattle.pocket_cmd.specs.declared.words.Verb.TheVariants.{Compress, Play, Restore, Show, Trial}
-use Rattle.pocket_cmd.specs.declared.words.Given.{Given as Held}
+use Rattle.pocket_cmd.specs.declared.verbs.Port.TheVariants.{Side, Input, Output, Report}
+use Rattle.pocket_cmd.specs.declared.verbs.Kind.{Kind}
+use Rattle.pocket_cmd.specs.declared.verbs.Kind.TheVariants.{Name, Number, Mask}
+use Rattle.pocket_cmd.specs.Masks.{is_mask}
+use Rattle.pocket_cmd.specs.declared.verbs.Port.{Port}
+use Rattle.pocket_cmd.specs.Verbs.{Row, kind_of, is_name_at, is_to_read, is_to_write}
 
--- the verb that a word names
-abbrev pub verb_of : List ℕ → Option Verb
-verb_of word =
-    if bytes_eq word (codes "compress") then Some Compress
-    else (if bytes_eq word (codes "play") then Some Play
-    else (if bytes_eq word (codes "restore") then Some Restore
-    else (if bytes_eq word (codes "show") then Some Show
-    else (if bytes_eq word (codes "trial") then Some Trial
-    else None))))
-
--- the keys of each verb
-abbrev pub keys_of : Verb → List (List ℕ)
-keys_of Compress = codes "in" ∷ codes "out" ∷ codes "bits" ∷ codes "apid" ∷ codes "robust" ∷ codes "plan" ∷ codes "mask" ∷ []
-keys_of Play = codes "in" ∷ codes "out" ∷ codes "apid" ∷ codes "script" ∷ codes "report" ∷ []
-keys_of Restore = codes "in" ∷ codes "out" ∷ codes "report" ∷ codes "bits" ∷ codes "apid" ∷ []
-keys_of Show = codes "in" ∷ codes "out" ∷ codes "bits" ∷ codes "apid" ∷ []
-keys_of Trial = codes "seed" ∷ codes "packets" ∷ codes "bits" ∷ codes "robust" ∷ codes "out" ∷ []
-
-abbrev pub has_key : Verb → List ℕ → Bool
-has_key verb key = list_any (bytes_eq key) (keys_of verb)
-
--- what words give: the value of each key that one of them has
-pub record Given : Type 0 where
-  pub input : Option (List ℕ)
-  pub plan : Option (List ℕ)
-  pub script : Option (List ℕ)
-  pub output : Option (List ℕ)
-  pub report : Option (List ℕ)
-  pub bits : Option ℕ
-  pub apid : Option ℕ
-  pub robust : Option ℕ
-  pub seed : Option ℕ
-  pub packets : Option ℕ
-  -- the bits of a packet, of a trial
-  pub trial_bits : Option ℕ
-  -- the place of its word, and the digits
-  pub mask : Option (ℕ × List ℕ)
-
-abbrev pub nothing_given : Given
-nothing_given = record { input = None; plan = None; script = None; output = None; report = None; bits = None; apid = None; robust = None; seed = None; packets = None; trial_bits = None; mask = None }
-
-abbrev pub view_digits : Option (ℕ × Bor (List ℕ)) → Option (ℕ × List ℕ)
-view_digits mask = option_map (λ mask. (mask.0, mask.1.now)) mask
-
-abbrev pub view_given : Held → Given
-view_given g = record {
-  input = option_map (λ name. name.now) g.input;
-  plan = option_map (λ name. name.now) g.plan;
-  script = option_map (λ name. name.now) g.script;
-  output = option_map (λ name. name.now) g.output;
-  report = option_map (λ name. name.now) g.report;
-  bits = option_map (λ places. places.value) g.bits;
-  apid = option_map (λ apid. apid.value) g.apid;
-  robust = option_map (λ robust. robust.value) g.robust;
-  seed = g.seed;
-  packets = option_map (λ packets. packets.value) g.packets;
-  trial_bits = option_map (λ places. places.value) g.trial_bits;
-  mask = view_digits g.mask;
-}
-
--- a name that was given, to read or to write
-abbrev pub is_name : List ℕ → Option (List ℕ) → Bool
-is_name name None = false
-is_name name (Some other) = bytes_eq other name
-
-abbrev pub is_read : Given → List ℕ → Bool
-is_read g name = is_name name g.input || is_name name g.plan || is_name name g.script
-
-abbrev pub is_written : Given → List ℕ → Bool
-is_written g name = is_name name g.output || is_name name g.report
-
--- a name has at least one byte and is none of the names so far; but `-` may stand once to read and once to write
-abbrev pub name_in : Given → List ℕ → Option (List ℕ)
-name_in g name =
-    if length name == 0 || is_read g name || (is_written g name && not (bytes_eq name (codes "-"))) then None else Some name
-
-abbrev pub name_out : Given → List ℕ → Option (List ℕ)
-name_out g name =
-    if length name == 0 || is_written g name || (is_read g name && not (bytes_eq name (codes "-"))) then None else Some name
-
--- the value of a key that had none
-abbrev pub once : {A : Type 0} → Option A → Option A → Option A
-once None value = value
-once (Some old) value = None
-
--- the bits of a packet are 1 to 49,152, those of a trial at most 4,096
-abbrev pub with_bits : Verb → Given → List ℕ → Option Given
-with_bits Trial g text = option_map (λ n. record g { trial_bits = Some n }) (once g.trial_bits (number_of 1 4096 text))
-with_bits Compress g text = option_map (λ n. record g { bits = Some n }) (once g.bits (number_of 1 49152 text))
-with_bits Play g text = option_map (λ n. record g { bits = Some n }) (once g.bits (number_of 1 49152 text))
-with_bits Restore g text = option_map (λ n. record g { bits = Some n }) (once g.bits (number_of 1 49152 text))
-with_bits Show g text = option_map (λ n. record g { bits = Some n }) (once g.bits (number_of 1 49152 text))
-
--- what is given when the word at this place gives this text to a key: each key has one value, a name, a plain decimal within
--- its bounds, or any text
-abbrev pub with_text : Verb → Given → ℕ → List ℕ → List ℕ → Option Given
-with_text verb g place key text =
-    if bytes_eq key (codes "in") then option_map (λ name. record g { input = Some name }) (once g.input (name_in g text))
-    else (if bytes_eq key (codes "plan") then option_map (λ name. record g { plan = Some name }) (once g.plan (name_in g text))
-    else (if bytes_eq key (codes "script") then option_map (λ name. record g { script = Some name }) (once g.script (name_in g text))
-    else (if bytes_eq key (codes "out") then option_map (λ name. record g { output = Some name }) (once g.output (name_out g text))
-    else (if bytes_eq key (codes "report") then option_map (λ name. record g { report = Some name }) (once g.report (name_out g text))
-    else (if bytes_eq key (codes "bits") then with_bits verb g text
-    else (if bytes_eq key (codes "apid") then option_map (λ n. record g { apid = Some n }) (once g.apid (number_of 0 2046 text))
-    else (if bytes_eq key (codes "robust") then option_map (λ n. record g { robust = Some n }) (once g.robust (number_of 0 7 text))
-    else (if bytes_eq key (codes "seed") then option_map (λ n. record g { seed = Some n }) (once g.seed (number_of 0 4294967295 text))
-    else (if bytes_eq key (codes "packets") then option_map (λ n. record g { packets = Some n }) (once g.packets (number_of 1 10000 text))
-    else (if bytes_eq key (codes "mask") then option_map (λ digits. record g { mask = Some digits }) (once g.mask (Some (place, text)))
-    else None))))))))))
+-- ---- one word, which is split at its first `=`
 
 abbrev pub is_equals_sign : ℕ → Bool
 is_equals_sign c = c == 61
 
--- the same of a whole word, which is split at its first `=` and has a key of the verb
-abbrev pub with_word : Verb → Given → ℕ → List ℕ → Option Given
-with_word verb g place word =
-    if nat_lt (position_or_len is_equals_sign word) (length word) && has_key verb (before_first is_equals_sign word)
-    then with_text verb g place (before_first is_equals_sign word) (after_first is_equals_sign word)
-    else None
+abbrev pub is_split : List ℕ → Bool
+is_split word = nat_lt (position_or_len is_equals_sign word) (length word)
 
-infixl 10 ◌>>=◌
-abbrev pub ◌>>=◌ : {A B : Type 0} → Result A ℕ → (A → Result B ℕ) → Result B ℕ
-(Ok x) >>= f = f x
-(Err e) >>= f = Err e
+abbrev pub key_in : List ℕ → List ℕ
+key_in word = before_first is_equals_sign word
 
--- what words give, from this place on, after those that gave this; or the place of the first that is faulty
-abbrev pub given_by : Verb → Given → ℕ → List (List ℕ) → Result Given ℕ
-given_by verb g place [] = Ok g
-given_by verb g place (word ∷ words) = ok_or (with_word verb g place word) place >>= λ more. given_by verb more (place + 1) words
+abbrev pub text_in : List ℕ → List ℕ
+text_in word = after_first is_equals_sign word
+
+abbrev pub has_key : List ℕ → List ℕ → Bool
+has_key key word = is_split word && bytes_eq (key_in word) key
+
+-- ---- what words give to a key
+
+-- the text of the first word with this key
+abbrev pub text_of : List (List ℕ) → List ℕ → Option (List ℕ)
+text_of [] key = None
+text_of (word ∷ words) key = if has_key key word then Some (text_in word) else text_of words key
+
+-- the name of what is opened there, if a key of these rows has it and words give it
+abbrev pub name_of : List Row → List (List ℕ) → Port → Option (List ℕ)
+name_of [] words port = None
+name_of (row ∷ rows) words port = if is_name_at port row.kind then text_of words row.key else name_of rows words port
+
+-- the number that this text says
+abbrev pub number_in : Option (List ℕ) → ℕ
+number_in None = 0
+number_in (Some text) = unwrap_or (number_of 0 4294967295 text) 0
+
+abbrev pub number_at : List (List ℕ) → List ℕ → ℕ
+number_at words key = number_in (text_of words key)
+
+-- ---- which words are right
+
+abbrev pub is_text : Option (List ℕ) → List ℕ → Bool
+is_text None name = false
+is_text (Some text) name = bytes_eq text name
+
+-- words give this name to a key whose value is a name to read, or to write
+abbrev pub is_read : List Row → List (List ℕ) → List ℕ → Bool
+is_read rows words name = list_any (λ (row : Row). is_to_read row.kind && is_text (text_of words row.key) name) rows
+
+abbrev pub is_written : List Row → List (List ℕ) → List ℕ → Bool
+is_written rows words name = list_any (λ (row : Row). is_to_write row.kind && is_text (text_of words row.key) name) rows
+
+-- a name has at least one byte and is none of the names of these words; but `-` may stand once to read and once to write
+abbrev pub is_new_to_read : List Row → List (List ℕ) → List ℕ → Bool
+is_new_to_read rows words name = not (length name == 0) && not (is_read rows words name) && (bytes_eq name (codes "-") || not (is_written rows words name))
+
+abbrev pub is_new_to_write : List Row → List (List ℕ) → List ℕ → Bool
+is_new_to_write rows words name = not (length name == 0) && not (is_written rows words name) && (bytes_eq name (codes "-") || not (is_read rows words name))
+
+-- a text is a value of this kind, after these words; any is one of a mask
+abbrev pub fits : List Row → List (List ℕ) → Kind → List ℕ → Bool
+fits rows words (Name Side) text = is_new_to_read rows words text
+fits rows words (Name Input) text = is_new_to_read rows words text
+fits rows words (Name Output) text = is_new_to_write rows words text
+fits rows words (Name Report) text = is_new_to_write rows words text
+fits rows words (Number low high) text = is_some (number_of low high text)
+fits rows words Mask text = true
+
+abbrev pub fits_key : List Row → List (List ℕ) → Option Kind → List ℕ → Bool
+fits_key rows words None text = false
+fits_key rows words (Some kind) text = fits rows words kind text
+
+-- a word is right after these: it has a key of a row, which none of them has, and a value of the key's kind
+abbrev pub is_right : List Row → List (List ℕ) → List ℕ → Bool
+is_right rows words word = is_split word && not (is_some (text_of words (key_in word))) && fits_key rows words (kind_of rows (key_in word)) (text_in word)
+
+-- the place of the first word that is not right after all before it, the verb's being 0
+abbrev pub wrong_word : List Row → List (List ℕ) → List (List ℕ) → Option ℕ
+wrong_word rows before [] = None
+wrong_word rows before (word ∷ words) = if is_right rows before word then wrong_word rows (before ++ word ∷ []) words else Some (length before + 1)
+
+-- a key is needed that no word has
+abbrev pub is_missing : List Row → List (List ℕ) → Bool
+is_missing rows words = list_any (λ (row : Row). row.is_needed && not (is_some (text_of words row.key))) rows
+
+-- the place of the word with the mask, if its text denotes none of as many places as a packet has bits
+abbrev pub place_of : List (List ℕ) → List ℕ → ℕ
+place_of words key = position_or_len (has_key key) words + 1
+
+abbrev pub unless_mask : ℕ → ℕ → Option (List ℕ) → Option ℕ
+unless_mask bits place None = None
+unless_mask bits place (Some text) = if is_mask bits text then None else Some place
+
+abbrev pub wrong_mask : List (List ℕ) → Option ℕ
+wrong_mask words = unless_mask (number_at words (codes "bits")) (place_of words (codes "mask")) (text_of words (codes "mask"))
+
+-- the place of the first fault of the words after a verb: of the first wrong word; or the number of all words, if one is
+-- missing; or the place of the word with the mask
+abbrev pub or_missing : Bool → ℕ → Option ℕ → Option ℕ
+or_missing true count mask = Some count
+or_missing false count mask = mask
+
+abbrev pub or_word : Option ℕ → Option ℕ → Option ℕ
+or_word (Some place) later = Some place
+or_word None later = later
+
+abbrev pub fault_of : List Row → List (List ℕ) → Option ℕ
+fault_of rows words = or_word (wrong_word rows [] words) (or_missing (is_missing rows words) (length words + 1) (wrong_mask words))
+
+-- ---- what words name
 
 -- the keys whose values are names to read, and names to write
 abbrev pub read_keys : List (List ℕ)

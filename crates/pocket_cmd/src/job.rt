@@ -1,16 +1,18 @@
 //! A command whose memory is taken.
-ghost use Rattle.std.specs.Prelude.{◌≡◌, ◌≢◌, ◌≤◌, ℕ, Some, Err, length, IsTrue, is_some, IfOk, OnOk, OnErr};
+ghost use Rattle.std.specs.Prelude.{◌≡◌, ◌≢◌, ◌≤◌, ℕ, Some, Err, length, map, IsTrue, is_some, IfOk, OnOk, OnErr};
+ghost use Rattle.std.specs.String.{string_bytes};
 ghost use Rattle.desk_ports.specs.Meanings.{Adds, AddsFront, HasWriteCause, IsReadyIn, IsReadyOut};
 ghost use Rattle.side_tables.specs.Grammar.{bad_copy_row, bad_schedule_row, copy_rows_of};
-ghost use Rattle.pocket_cmd.specs.Command.{names_of, view_command, view_compress};
-ghost use Rattle.pocket_cmd.specs.Courses.{course_of, bad_row_of, compression_by};
+ghost use Rattle.pocket_cmd.specs.Command.{Compress, Play, Restore, Show, IsRight, compress_by, play_by, restore_by, show_by, view_command};
+ghost use Rattle.pocket_cmd.specs.Courses.{course_of, bad_row_of, compression_by, names_of};
 ghost use Rattle.pocket_cmd.specs.Jobs.{AfterJob, job_course, reads_input, writes_report};
 ghost use Rattle.pocket_cmd.specs.Status.{HasStatusCause, IsEnded, status_by};
 
-use crate::command::{Command, CompressValues, PlayValues, RestoreValues, ShowValues};
 use crate::mask::first_mask;
 use crate::status::Refusal;
 use crate::summary::summary_text;
+use crate::verbs::Verb;
+use crate::words::{Command, number_at, text_of};
 use bit_vectors::NoMemory;
 use desk_ports::{Desk, Failed, Inlet, Outlet, write_all};
 use flight_chain::Flight;
@@ -43,14 +45,15 @@ impl Job {
         ensures rows { OnOk result (bad_row_of (view_command command.now) text.now ≡ None) }
         ensures row { (row : ℕ) → result ≡ Err (SideFault.Row row)
             → bad_row_of (view_command command.now) text.now ≡ Some row }
-        ensures within { result ≢ Err SideFault.TooLong }
+        ensures long { result ≢ Err SideFault.TooLong }
     {
-        match command {
-            Command::Compress(told) => Ok(Job::Compress(flight(alloc, told, text)?)),
-            Command::Play(told) => Ok(Job::Play(player(alloc, told, text)?)),
-            Command::Restore(told) => Ok(Job::Restore(restorer(alloc, told)?)),
-            Command::Show(told) => Ok(Job::Show(lister(alloc, told)?)),
-            Command::Trial(told) => Ok(Job::Trial(summary_text(alloc, told)?)),
+        let words = command.words;
+        match command.verb {
+            Verb::Compress => Ok(Job::Compress(flight(alloc, words, text)?)),
+            Verb::Play => Ok(Job::Play(player(alloc, words, text)?)),
+            Verb::Restore => Ok(Job::Restore(restorer(alloc, words)?)),
+            Verb::Show => Ok(Job::Show(lister(alloc, words)?)),
+            Verb::Trial => Ok(Job::Trial(summary_text(alloc, words)?)),
         }
     }
 
@@ -107,47 +110,52 @@ fn write_text<D: Desk>(text: Vec<u8>, desk: &mut D) -> Result<(), Failed>
 }
 
 /// The flight of `compress`, whose schedule has this text.
-fn flight(alloc: Global, told: &CompressValues<'_>, text: &[u8]) -> Result<Flight, SideFault>
-    requires { length text.now ≤ 1048576 }
+fn flight(alloc: Global, words: &[String], text: &[u8]) -> Result<Flight, SideFault>
+    requires right { IsRight (Compress (compress_by (map string_bytes words.now))) }
+    requires within { length text.now ≤ 1048576 }
     ensures flight { IfOk result
-        (λ flight. flight ≡ compression_by (view_compress told.now) text.now) }
+        (λ flight. flight ≡ compression_by (compress_by (map string_bytes words.now)) text.now) }
     ensures rows { OnOk result (bad_schedule_row text.now ≡ None) }
     ensures row { (row : ℕ) → result ≡ Err (SideFault.Row row)
         → bad_schedule_row text.now ≡ Some row }
-    ensures within { result ≢ Err SideFault.TooLong }
+    ensures long { result ≢ Err SideFault.TooLong }
 {
     let plan = Schedule::read(alloc, text)?;
-    let mask = first_mask(alloc, told.bits, told.mask)?;
-    let (f, robust, apid) = (told.bits.value, told.robust.value, told.apid.value);
+    let f = number_at(words, "bits");
+    let (robust, apid) = (number_at(words, "robust") as u8, number_at(words, "apid") as u16);
+    let mask = first_mask(alloc, f, text_of(words, "mask"))?;
     Ok(Flight::open(alloc, f, robust, apid, &mask, plan)?)
 }
 
 /// The player of `play`, whose script has this text.
-fn player(alloc: Global, told: &PlayValues<'_>, text: &[u8]) -> Result<Player, SideFault>
-    requires { length text.now ≤ 1048576 }
-    ensures player { IfOk result
-        (λ player. player ≡ record { apid = told.now.apid.value; rows = copy_rows_of text.now }) }
+fn player(alloc: Global, words: &[String], text: &[u8]) -> Result<Player, SideFault>
+    requires right { IsRight (Play (play_by (map string_bytes words.now))) }
+    requires within { length text.now ≤ 1048576 }
+    ensures player { let told = play_by (map string_bytes words.now) in
+        IfOk result
+        (λ player. player ≡ record { apid = told.apid; rows = copy_rows_of text.now }) }
     ensures rows { OnOk result (bad_copy_row text.now ≡ None) }
     ensures row { (row : ℕ) → result ≡ Err (SideFault.Row row) → bad_copy_row text.now ≡ Some row }
-    ensures within { result ≢ Err SideFault.TooLong }
+    ensures long { result ≢ Err SideFault.TooLong }
 {
     let script = Script::read(alloc, text)?;
-    Ok(Player::open(alloc, told.apid.value, script)?)
+    Ok(Player::open(alloc, number_at(words, "apid") as u16, script)?)
 }
 
 /// The restorer of `restore`.
-fn restorer(alloc: Global, told: &RestoreValues<'_>) -> Result<Restorer, NoMemory>
-    ensures { IfOk result
-        (λ restorer. restorer
-        ≡ record { places = told.now.bits.value; apid = told.now.apid.value }) }
+fn restorer(alloc: Global, words: &[String]) -> Result<Restorer, NoMemory>
+    requires { IsRight (Restore (restore_by (map string_bytes words.now))) }
+    ensures { let told = restore_by (map string_bytes words.now) in
+        IfOk result (λ restorer. restorer ≡ record { places = told.bits; apid = told.apid }) }
 {
-    Restorer::open(alloc, told.bits.value, told.apid.value)
+    Restorer::open(alloc, number_at(words, "bits"), number_at(words, "apid") as u16)
 }
 
 /// The lister of `show`.
-fn lister(alloc: Global, told: &ShowValues<'_>) -> Result<Lister, NoMemory>
-    ensures { IfOk result
-        (λ lister. lister ≡ record { places = told.now.bits.value; apid = told.now.apid.value }) }
+fn lister(alloc: Global, words: &[String]) -> Result<Lister, NoMemory>
+    requires { IsRight (Show (show_by (map string_bytes words.now))) }
+    ensures { let told = show_by (map string_bytes words.now) in
+        IfOk result (λ lister. lister ≡ record { places = told.bits; apid = told.apid }) }
 {
-    Lister::open(alloc, told.bits.value, told.apid.value)
+    Lister::open(alloc, number_at(words, "bits"), number_at(words, "apid") as u16)
 }

@@ -5,13 +5,13 @@ mod command;
 mod job;
 mod laws;
 mod mask;
-mod numbers;
 mod rehearsal;
 mod run;
 mod side;
 mod status;
 mod summary;
 mod top;
+mod verbs;
 mod words;
 mod work;
 

@@ -2,9 +2,8 @@
 ghost use Rattle.std.specs.Prelude.{◌≡◌, ◌≤◌, false, length, take, IfOk, IfSome};
 ghost use Rattle.std.specs.Option.{option_map};
 ghost use Rattle.bit_vectors.specs.Vectors.{byte_count, has_spare_bit};
-ghost use Rattle.pocket_cmd.specs.Masks.{first_mask, is_mask, mask_bytes};
+ghost use Rattle.pocket_cmd.specs.Masks.{IsPlaces, first_mask, is_mask, mask_bytes};
 
-use crate::numbers::Places;
 use bit_vectors::{BitEye, Bits, NoMemory, byte_len};
 use std::alloc::Global;
 
@@ -13,39 +12,41 @@ const MOST_BYTES: usize = 6144;
 
 /// Whether a text denotes a vector of so many places: two digits of either case for each of its bytes, whose spare
 /// bits are 0.
-pub fn is_mask(bits: Places, text: &str) -> bool
-    ensures { result ≡ is_mask bits.value text.now }
+pub fn is_mask(bits: u32, text: &str) -> bool
+    requires { IsPlaces bits }
+    ensures { result ≡ is_mask bits text.now }
 {
     mask_bytes(bits, text).is_some()
 }
 
 /// The vector of so many places that a text denotes, zero if there is no text or it denotes none.
-pub fn first_mask(alloc: Global, bits: Places, text: Option<&str>) -> Result<Bits, NoMemory>
+pub fn first_mask(alloc: Global, bits: u32, text: Option<&str>) -> Result<Bits, NoMemory>
+    requires { IsPlaces bits }
     ensures mask { IfOk result
-        (λ mask. mask ≡ first_mask bits.value (option_map (λ text. text.now) text.entry)) }
-    ensures places { IfOk result (λ mask. length mask ≡ bits.value) }
+        (λ mask. mask ≡ first_mask bits (option_map (λ text. text.now) text.entry)) }
+    ensures places { IfOk result (λ mask. length mask ≡ bits) }
 {
-    let mut mask = Bits::zeros(alloc, bits.value)?;
+    let mut mask = Bits::zeros(alloc, bits)?;
     let Some(text) = text else {
         return Ok(mask);
     };
     if let Some(bytes) = mask_bytes(bits, text) {
-        let _ = mask.load(&bytes[..byte_len(bits.value) as usize]);
+        let _ = mask.load(&bytes[..byte_len(bits) as usize]);
     }
     Ok(mask)
 }
 
 /// The bytes of the vector of so many places that a text denotes, and zeros after them.
-fn mask_bytes(bits: Places, text: &str) -> Option<[u8; MOST_BYTES]>
-    ensures bytes { option_map (take (byte_count bits.value)) result
-        ≡ mask_bytes bits.value text.now }
+fn mask_bytes(bits: u32, text: &str) -> Option<[u8; MOST_BYTES]>
+    requires { IsPlaces bits }
+    ensures bytes { option_map (take (byte_count bits)) result ≡ mask_bytes bits text.now }
     ensures spare { IfSome result
-        (λ bytes. has_spare_bit bits.value (take (byte_count bits.value) bytes) ≡ false) }
+        (λ bytes. has_spare_bit bits (take (byte_count bits) bytes) ≡ false) }
 {
     let mut bytes = [0; MOST_BYTES];
-    let front = &mut bytes[..byte_len(bits.value) as usize];
+    let front = &mut bytes[..byte_len(bits) as usize];
     hex::decode_to_slice(text, front).ok()?;
-    if has_spare_bit(bits.value, front) {
+    if has_spare_bit(bits, front) {
         return None;
     }
     Some(bytes)

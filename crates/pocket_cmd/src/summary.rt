@@ -1,21 +1,25 @@
 //! The summary of a trial, which is run in memory.
-ghost use Rattle.std.specs.Prelude.{◌≡◌, ◌≤◌, ◌++◌, length, IfOk, OnOk};
-ghost use Rattle.pocket_cmd.specs.Command.{view_trial};
+ghost use Rattle.std.specs.Prelude.{◌≡◌, ◌≤◌, ◌++◌, length, map, IfOk, OnOk};
+ghost use Rattle.std.specs.String.{string_bytes};
+ghost use Rattle.pocket_cmd.specs.Command.{Trial, IsRight, trial_by};
 ghost use Rattle.pocket_cmd.specs.Summary.{summary_by, summary_line, summary_lines};
 
-use crate::command::TrialValues;
+use crate::words::number_at;
 use bit_vectors::NoMemory;
 use desk_ports::{MemDesk, Row};
 use std::alloc::Global;
 use trial_chain::{Summary, run_trial};
 
 /// Runs a trial at a desk of its own, and gives its summary as a text.
-pub fn summary_text(alloc: Global, told: &TrialValues<'_>) -> Result<Vec<u8>, NoMemory>
-    ensures { IfOk result (λ text. text.items ≡ summary_by (view_trial told.now)) }
+pub fn summary_text(alloc: Global, words: &[String]) -> Result<Vec<u8>, NoMemory>
+    requires { IsRight (Trial (trial_by (map string_bytes words.now))) }
+    ensures { IfOk result
+        (λ text. text.items ≡ summary_by (trial_by (map string_bytes words.now))) }
 {
     let mut desk = MemDesk::new(alloc);
-    let (packets, f, robust) = (told.packets.value, told.bits.value, told.robust.value);
-    let summary = run_trial(alloc, told.seed, packets, f, robust, &mut desk)?;
+    let (seed, packets) = (number_at(words, "seed"), number_at(words, "packets"));
+    let (f, robust) = (number_at(words, "bits"), number_at(words, "robust") as u8);
+    let summary = run_trial(alloc, seed, packets, f, robust, &mut desk)?;
     lines(alloc, &summary)
 }
 

@@ -2,7 +2,8 @@
 ghost use Rattle.std.specs.Prelude.{◌≡◌, ◌≢◌, ◌<◌, ◌^◌, ◌↔◌, ℕ, List, Option, length, map, Some, Err, IsTrue};
 ghost use Rattle.std.specs.String.{string_bytes};
 ghost use Rattle.pocket_cmd.specs.Faults.{DataFault as Fault};
-ghost use Rattle.pocket_cmd.specs.Command.{Command as Told, Restore, RestoreValues, HasCommand, IsCommandOf, command_of, names_of};
+ghost use Rattle.pocket_cmd.specs.Command.{Command as Told, Restore, RestoreValues, HasCommand, IsCommandOf, command_of};
+ghost use Rattle.pocket_cmd.specs.Courses.{names_of};
 ghost use Rattle.mask_update.specs.Histories.{History};
 ghost use Rattle.ground_chain.specs.Deliveries.{report_text, restored_bytes};
 ghost use Rattle.pocket_cmd.specs.Delivery.{HasWritten, IsPlayedStore, IsSideRight, IsInputWhole};
@@ -13,7 +14,7 @@ ghost use Rattle.pocket_cmd.specs.Outcome.{AfterRefusal, IsSideJudged, NoneRose,
 ghost use Rattle.pocket_cmd.specs.Status.{HasStatusCause, status_of};
 ghost use Rattle.pocket_cmd.specs.Words.{AssignsOneOf, read_keys, written_keys};
 
-use crate::command::Command;
+use crate::words::Command;
 use crate::status::{Refusal, Status};
 use crate::work::perform;
 use desk_ports::Desk;

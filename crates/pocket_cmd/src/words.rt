@@ -1,208 +1,207 @@
-//! The words of the command line: the verb, and then `key=value` in any order.
-ghost use Rattle.std.specs.Prelude.{◌≡◌, ◌+◌, ◌<◌, ◌^◌, length, map, MatchOption, MatchResult, IsSome, Some, None, Ok, Err};
+//! The words of the command line after its verb: `key=value` in any order.
+ghost use Rattle.std.specs.Prelude.{◌≡◌, ◌+◌, ◌<◌, ◌^◌, true, false, None, [], length, map, codes, MatchOption, IsSome};
 ghost use Rattle.std.specs.Option.{option_map};
 ghost use Rattle.std.specs.String.{string_bytes};
-ghost use Rattle.pocket_cmd.specs.Words.{verb_of, has_key, view_given, nothing_given, is_read, is_written, name_in, name_out, once, with_bits, with_text, with_word, given_by};
+ghost use Rattle.pocket_cmd.specs.Masks.{IsPlaces};
+ghost use Rattle.pocket_cmd.specs.Verbs.{view_row, rows_of};
+ghost use Rattle.pocket_cmd.specs.Words.{is_split, key_in, text_in, has_key, text_of, number_at, is_read, is_written, is_new_to_read, is_new_to_write, fits, is_right, wrong_word, is_missing, place_of, wrong_mask, fault_of};
 
-use crate::numbers::{Apid, Places, Robustness, TrialPackets, TrialPlaces, seed};
+use crate::mask::is_mask;
+use crate::verbs::{Kind, Port, Row, Verb, kind_of};
+use side_tables::number;
 
-/// What the command is to do.
-#[derive(Clone, Copy, Debug, PartialEq, Eq)]
-pub enum Verb {
-    /// Makes the store of a recording.
-    Compress,
-    /// Drops and repeats the packets of a store.
-    Play,
-    /// Gives back the packets that arrived, and lists all others.
-    Restore,
-    /// Lists what is found for each packet.
-    Show,
-    /// Runs the other three over a generated history.
-    Trial,
-}
-
-impl Verb {
-    /// The verb that a word names.
-    pub fn of(word: &str) -> Option<Verb>
-        ensures { result ≡ verb_of word.now }
-    {
-        match word {
-            "compress" => Some(Verb::Compress),
-            "play" => Some(Verb::Play),
-            "restore" => Some(Verb::Restore),
-            "show" => Some(Verb::Show),
-            "trial" => Some(Verb::Trial),
-            _ => None,
-        }
-    }
-
-    /// Whether it has this key.
-    fn has(self, key: &str) -> bool
-        ensures { result ≡ has_key self key.now }
-    {
-        match self {
-            Verb::Compress => matches!(
-                key,
-                "in" | "out" | "bits" | "apid" | "robust" | "plan" | "mask"
-            ),
-            Verb::Play => matches!(key, "in" | "out" | "apid" | "script" | "report"),
-            Verb::Restore => matches!(key, "in" | "out" | "report" | "bits" | "apid"),
-            Verb::Show => matches!(key, "in" | "out" | "bits" | "apid"),
-            Verb::Trial => matches!(key, "seed" | "packets" | "bits" | "robust" | "out"),
-        }
-    }
-}
-
-/// What words give: the value of each key that one of them has.
+/// What is to be done: a verb, and the words after it, which are right.
 #[derive(Clone, Copy, Debug)]
-pub struct Given<'a> {
-    pub input: Option<&'a str>,
-    pub plan: Option<&'a str>,
-    pub script: Option<&'a str>,
-    pub output: Option<&'a str>,
-    pub report: Option<&'a str>,
-    pub bits: Option<Places>,
-    pub apid: Option<Apid>,
-    pub robust: Option<Robustness>,
-    pub seed: Option<u32>,
-    pub packets: Option<TrialPackets>,
-    /// The bits of a packet, of a trial.
-    pub trial_bits: Option<TrialPlaces>,
-    /// The place of its word, and the digits.
-    pub mask: Option<(u32, &'a str)>,
+pub struct Command<'a> {
+    pub verb: Verb,
+    pub words: &'a [String],
+    ghost right: { fault_of (rows_of verb) (map string_bytes words.now) ≡ None },
 }
 
-impl<'a> Given<'a> {
-    /// What no words give.
-    const NOTHING: Given<'static> = Given {
-        input: None,
-        plan: None,
-        script: None,
-        output: None,
-        report: None,
-        bits: None,
-        apid: None,
-        robust: None,
-        seed: None,
-        packets: None,
-        trial_bits: None,
-        mask: None,
-    };
+/// The key and the value of a word, which is split at its first `=`.
+fn split(word: &str) -> Option<(&str, &str)>
+    ensures { MatchOption result (is_split word.now ≡ false)
+        (λ parts. (is_split word.now ≡ true) × (parts.0.now ≡ key_in word.now)
+        × (parts.1.now ≡ text_in word.now)) }
+{
+    word.split_once('=')
+}
 
-    /// What the words after the verb give; or the place of the first that is faulty, the verb's being 0.
-    pub fn by(verb: Verb, words: &'a [String]) -> Result<Given<'a>, u32>
-        requires { length words.now + 1 < 2 ^ 32 }
-        ensures { MatchResult result
-            (λ given. given_by verb nothing_given 1 (map string_bytes words.now)
-            ≡ Ok (view_given given))
-            (λ place. given_by verb nothing_given 1 (map string_bytes words.now) ≡ Err place) }
-    {
-        let mut given = Given::NOTHING;
-        let mut place = 1;
-        for word in words {
-            given.take(verb, place, word.as_str()).ok_or(place)?;
-            place += 1;
-        }
-        Ok(given)
-    }
-
-    /// Takes a word, which stands at this place; nothing if it is faulty.
-    fn take(&mut self, verb: Verb, place: u32, word: &'a str) -> Option<()>
-        ensures { MatchOption result
-            (with_word verb (view_given self.old) place word.now ≡ None)
-            (λ _. with_word verb (view_given self.old) place word.now
-            ≡ Some (view_given self.new)) }
-    {
-        let (key, text) = word.split_once('=')?;
-        if !verb.has(key) {
-            return None;
-        }
-        self.give(verb, place, key, text)
-    }
-
-    /// Gives a key the value that a text denotes, if it is one of the key's and the key had none. The word stands at this
-    /// place.
-    fn give(&mut self, verb: Verb, place: u32, key: &str, text: &'a str) -> Option<()>
-        ensures { MatchOption result
-            (with_text verb (view_given self.old) place key.now text.now ≡ None)
-            (λ _. with_text verb (view_given self.old) place key.now text.now
-            ≡ Some (view_given self.new)) }
-    {
-        let (to_read, to_write) = (self.name_in(text), self.name_out(text));
-        match key {
-            "in" => once(&mut self.input, to_read),
-            "plan" => once(&mut self.plan, to_read),
-            "script" => once(&mut self.script, to_read),
-            "out" => once(&mut self.output, to_write),
-            "report" => once(&mut self.report, to_write),
-            "bits" => self.give_bits(verb, text),
-            "apid" => once(&mut self.apid, Apid::read(text)),
-            "robust" => once(&mut self.robust, Robustness::read(text)),
-            "seed" => once(&mut self.seed, seed(text)),
-            "packets" => once(&mut self.packets, TrialPackets::read(text)),
-            "mask" => once(&mut self.mask, Some((place, text))),
-            _ => None,
-        }
-    }
-
-    /// Gives the bits of a packet, of which a trial may have fewer than the other verbs.
-    fn give_bits(&mut self, verb: Verb, text: &str) -> Option<()>
-        ensures { MatchOption result
-            (with_bits verb (view_given self.old) text.now ≡ None)
-            (λ _. with_bits verb (view_given self.old) text.now ≡ Some (view_given self.new)) }
-    {
-        match verb {
-            Verb::Trial => once(&mut self.trial_bits, TrialPlaces::read(text)),
-            Verb::Compress | Verb::Play | Verb::Restore | Verb::Show => {
-                once(&mut self.bits, Places::read(text))
+/// The text that words give to a key.
+pub fn text_of<'a>(words: &'a [String], key: &str) -> Option<&'a str>
+    ensures { option_map (λ text. text.now) result
+        ≡ text_of (map string_bytes words.now) key.now }
+{
+    for word in words {
+        if let Some((name, text)) = split(word.as_str()) {
+            if name == key {
+                return Some(text);
             }
         }
     }
+    None
+}
 
-    /// A name to read, which has at least one byte and is none of the names so far; `-` may also be a name to write.
-    fn name_in(&self, name: &'a str) -> Option<&'a str>
-        ensures { option_map (λ name. name.now) result ≡ name_in (view_given self.now) name.now }
-    {
-        if name.is_empty() || self.reads(name) || self.writes(name) && name != "-" {
-            return None;
-        }
-        Some(name)
-    }
-
-    /// A name to write, under the same conditions.
-    fn name_out(&self, name: &'a str) -> Option<&'a str>
-        ensures { option_map (λ name. name.now) result ≡ name_out (view_given self.now) name.now }
-    {
-        if name.is_empty() || self.writes(name) || self.reads(name) && name != "-" {
-            return None;
-        }
-        Some(name)
-    }
-
-    /// Whether a name to read is this one.
-    fn reads(&self, name: &str) -> bool
-        ensures { result ≡ is_read (view_given self.now) name.now }
-    {
-        self.input == Some(name) || self.plan == Some(name) || self.script == Some(name)
-    }
-
-    /// Whether a name to write is this one.
-    fn writes(&self, name: &str) -> bool
-        ensures { result ≡ is_written (view_given self.now) name.now }
-    {
-        self.output == Some(name) || self.report == Some(name)
+/// The number that words give to a key; 0 if they give none.
+pub fn number_at(words: &[String], key: &str) -> u32
+    ensures { result ≡ number_at (map string_bytes words.now) key.now }
+{
+    match text_of(words, key) {
+        None => 0,
+        Some(text) => number(text.as_bytes(), 0, u32::MAX).unwrap_or(0),
     }
 }
 
-/// Gives a key its one value.
-fn once<T: Drop>(slot: &mut Option<T>, value: Option<T>) -> Option<()>
-    ensures { MatchOption result
-        (once slot.old value ≡ None)
-        (λ _. (slot.old ≡ None) × (slot.new ≡ value) × IsSome value) }
+/// The first fault of the words after a verb: the place of the first wrong word, the verb's being 0; or the number of all
+/// words, if one is missing; or the place of the word with the mask, if its text denotes none.
+pub fn fault_of(verb: Verb, words: &[String]) -> Option<u32>
+    requires few { length words.now + 1 < 2 ^ 32 }
+    ensures { result ≡ fault_of (rows_of verb) (map string_bytes words.now) }
 {
-    if slot.is_some() || value.is_none() {
+    let rows = verb.rows();
+    if let Some(place) = wrong_word(rows, words) {
+        return Some(place);
+    }
+    if is_missing(rows, words) {
+        return Some(words.len() as u32 + 1);
+    }
+    wrong_mask(words)
+}
+
+/// The place of the first word that is not right after all before it.
+fn wrong_word(rows: &[Row], words: &[String]) -> Option<u32>
+    requires { length words.now + 1 < 2 ^ 32 }
+    ensures { result ≡ wrong_word (map view_row rows.now) [] (map string_bytes words.now) }
+{
+    let mut place = 0;
+    for word in words {
+        if !is_right(rows, &words[..place], word.as_str()) {
+            return Some(place as u32 + 1);
+        }
+        place += 1;
+    }
+    None
+}
+
+/// Whether a word has a key of a row, which none of these words has, and a value of the key's kind.
+fn is_right(rows: &[Row], words: &[String], word: &str) -> bool
+    ensures { result ≡ is_right (map view_row rows.now) (map string_bytes words.now) word.now }
+{
+    let Some((key, text)) = split(word) else {
+        return false;
+    };
+    match kind_of(rows, key) {
+        None => false,
+        Some(kind) => text_of(words, key).is_none() && fits(rows, words, kind, text),
+    }
+}
+
+/// Whether a text is a value of this kind, after these words.
+fn fits(rows: &[Row], words: &[String], kind: Kind, text: &str) -> bool
+    ensures { result
+        ≡ fits (map view_row rows.now) (map string_bytes words.now) kind text.now }
+{
+    match kind {
+        Kind::Name(Port::Side | Port::Input) => is_new_to_read(rows, words, text),
+        Kind::Name(Port::Output | Port::Report) => is_new_to_write(rows, words, text),
+        Kind::Number(low, high) => number(text.as_bytes(), low, high).is_some(),
+        Kind::Mask => true,
+    }
+}
+
+/// A name to read, which has at least one byte and is none of the names of these words; `-` may also be a name to write.
+fn is_new_to_read(rows: &[Row], words: &[String], name: &str) -> bool
+    ensures { result
+        ≡ is_new_to_read (map view_row rows.now) (map string_bytes words.now) name.now }
+{
+    !name.is_empty()
+        && !is_read(rows, words, name)
+        && (name == "-" || !is_written(rows, words, name))
+}
+
+/// A name to write, under the same conditions.
+fn is_new_to_write(rows: &[Row], words: &[String], name: &str) -> bool
+    ensures { result
+        ≡ is_new_to_write (map view_row rows.now) (map string_bytes words.now) name.now }
+{
+    !name.is_empty()
+        && !is_written(rows, words, name)
+        && (name == "-" || !is_read(rows, words, name))
+}
+
+/// Whether words give this name to a key whose value is a name to read.
+fn is_read(rows: &[Row], words: &[String], name: &str) -> bool
+    ensures { result
+        ≡ is_read (map view_row rows.now) (map string_bytes words.now) name.now }
+{
+    for row in rows {
+        if row.value().is_to_read() && text_of(words, row.key()) == Some(name) {
+            return true;
+        }
+    }
+    false
+}
+
+/// Whether words give this name to a key whose value is a name to write.
+fn is_written(rows: &[Row], words: &[String], name: &str) -> bool
+    ensures { result
+        ≡ is_written (map view_row rows.now) (map string_bytes words.now) name.now }
+{
+    for row in rows {
+        if row.value().is_to_write() && text_of(words, row.key()) == Some(name) {
+            return true;
+        }
+    }
+    false
+}
+
+/// Whether a key is needed that no word has.
+fn is_missing(rows: &[Row], words: &[String]) -> bool
+    ensures { result ≡ is_missing (map view_row rows.now) (map string_bytes words.now) }
+{
+    for row in rows {
+        if row.is_needed() && text_of(words, row.key()).is_none() {
+            return true;
+        }
+    }
+    false
+}
+
+/// The place of the word with the mask, if its text denotes none of as many places as a packet has bits.
+fn wrong_mask(words: &[String]) -> Option<u32>
+    requires few { length words.now + 1 < 2 ^ 32 }
+    requires places { let words = map string_bytes words.now in
+        IsSome (text_of words (codes "mask")) → IsPlaces (number_at words (codes "bits")) }
+    ensures { result ≡ wrong_mask (map string_bytes words.now) }
+{
+    let text = text_of(words, "mask")?;
+    if is_mask(number_at(words, "bits"), text) {
         return None;
     }
-    *slot = value;
-    Some(())
+    Some(place_of(words, "mask"))
+}
+
+/// The place of the first word with a key; the number of all words, if none has it.
+fn place_of(words: &[String], key: &str) -> u32
+    requires { length words.now + 1 < 2 ^ 32 }
+    ensures { result ≡ place_of (map string_bytes words.now) key.now }
+{
+    let mut place = 1;
+    for word in words {
+        if has_key(word.as_str(), key) {
+            return place;
+        }
+        place += 1;
+    }
+    place
+}
+
+/// Whether a word has this key.
+fn has_key(word: &str, key: &str) -> bool
+    ensures { result ≡ has_key key.now word.now }
+{
+    match split(word) {
+        None => false,
+        Some((name, _)) => name == key,
+    }
 }

@@ -1,10 +1,11 @@
 //! The work of a command.
 ghost use Rattle.std.specs.Prelude.{◌≤◌, length, IsTrue, IfSome};
-ghost use Rattle.pocket_cmd.specs.Command.{names_of, view_command};
+ghost use Rattle.pocket_cmd.specs.Command.{view_command};
+ghost use Rattle.pocket_cmd.specs.Courses.{names_of};
 ghost use Rattle.pocket_cmd.specs.Outcome.{AfterCommand, AfterText, IsAnswered, IsAnsweredBy, IsRowAnswered, IsSideAnswered};
 ghost use Rattle.pocket_cmd.specs.Status.{HasStatusCause, status_by};
 
-use crate::command::Command;
+use crate::words::Command;
 use crate::job::Job;
 use crate::run::run;
 use crate::side::side_text;

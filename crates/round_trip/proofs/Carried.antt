@@ -1,21 +1,26 @@
 -- A packet that carries its mask and whole content tells both, whatever of the packets before it is known.
-use Rattle.std.proofs.Common.{◌≡◌, ℕ, zero, suc, ◌<◌, ◌≤◌, Bool, true, false, cond, List, [], ◌∷◌, length, get_or, Option, Some, refl, sym, ap, ◌∙◌, subst, arith}
-use Rattle.std.proofs.lemmas.List.{length-append}
+use Rattle.std.proofs.Common.{◌≡◌, ℕ, zero, suc, ◌<◌, ◌≤◌, Bool, true, false, cond, List, [], ◌∷◌, length, get_or, replicate, Option, Some, None, refl, sym, ap, ◌∙◌, subst, arith}
+use Rattle.std.proofs.lemmas.List.{length-append, length-replicate}
 use Rattle.std.specs.Prelude.{◌||◌, ◌&&◌, nat_le, IfSome}
 use Rattle.bit_vectors.specs.declared.flags.Flags.{Flags}
 use Rattle.mask_update.specs.Histories.{History, IsValid, Step, flags_at, forced_flags, input_at, no_steps, step_of}
-use Rattle.mask_update.specs.Masks.{mask_at}
+use Rattle.mask_update.specs.Masks.{change_at, mask_at}
 use Rattle.mask_update.proofs.HistoriesOf.{IsValid-history_of}
 use Rattle.mask_update.proofs.Standing.{step_at-last}
 use Rattle.mask_update.proofs.StepByStep.{mask_at-zero}
-use Rattle.robust_window.specs.Histories.{level_at}
+use Rattle.robust_window.specs.Changes.{recent_of}
+use Rattle.robust_window.specs.Histories.{IsLevel, level_at, recent_at}
+use Rattle.robust_window.proofs.OfHistories.{IsLevel-level_at}
+use Rattle.robust_window.proofs.Scanning.{gathered-none}
 use Rattle.packet_encode.specs.Deliveries.{reaches}
+use Rattle.packet_encode.specs.Encoder.{EncoderState, StandsFor}
 use Rattle.packet_encode.specs.Packets.{form_at, packet_at}
+use Rattle.packet_decode.specs.Decoding.{Decoding}
 use Rattle.packet_decode.specs.Histories.{is_content_told, is_mask_told, true_state}
 use Rattle.packet_decode.specs.Spelling.{Spells}
-use Rattle.packet_decode.specs.State.{known_if}
+use Rattle.packet_decode.specs.State.{known_if, no_vectors}
 use Rattle.packet_decode.proofs.OfHistories.{told-spelled}
-use Rattle.round_trip.specs.Carrying.{with_input}
+use Rattle.round_trip.specs.Carrying.{AreInStep, with_input}
 
 module _ (h : History) (input : List Bool) (mask content : Option ℕ) where
   abbrev after : History
@@ -73,3 +78,22 @@ first-valid mask input some most len =
 
 pub first_mask : (mask input : List Bool) → mask_at (with_input (no_steps mask) input) 0 ≡ mask
 first_mask mask input = mask_at-zero (with_input (no_steps mask) input) refl
+
+pub first-in_step : (mask input : List Bool) (encoder : EncoderState) (decoder : Decoding) → 1 ≤ length mask → length mask ≤ 49152 → length input ≡ length mask → StandsFor (no_steps mask) encoder → decoder.state ≡ no_vectors
+    → AreInStep (no_steps mask) None None input encoder decoder
+first-in_step mask input encoder decoder some most len stands known = record {
+  valid = first-valid mask input some most len;
+  stands = stands;
+  masks = tt;
+  contents = tt;
+  known = known;
+}
+
+pub first_level : (mask input : List Bool) → level_at (with_input (no_steps mask) input) 0 ≡ 0
+first_level mask input =
+    let is : IsLevel (with_input (no_steps mask) input) 0 (level_at (with_input (no_steps mask) input) 0) = IsLevel-level_at (with_input (no_steps mask) input) 0 (omega arith) in
+    omega (arith, is.most)
+
+pub first_recent : (mask input : List Bool) → recent_at (with_input (no_steps mask) input) 0 ≡ replicate (length mask) false
+unfolding recent_of change_at
+first_recent mask input = sym (gathered-none (length (replicate (length mask) false)) []) ∙ ap (λ (n : ℕ). replicate n false) (length-replicate (length mask) false)

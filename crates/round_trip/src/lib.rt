@@ -1,7 +1,7 @@
 //! A small caller of the encoder and the decoder: an input is encoded, and its packet is read back.
 #![tactic(auto)]
 
-ghost use Rattle.std.specs.Prelude.{◌≡◌, ℕ, ◌+◌, ◌*◌, ◌<◌, ◌≤◌, [], length, true, Option, Ok, IfSome, IfOk};
+ghost use Rattle.std.specs.Prelude.{◌≡◌, ℕ, ◌+◌, ◌*◌, ◌<◌, ◌≤◌, [], false, length, replicate, true, Option, Ok, IfSome, IfOk};
 ghost use Rattle.bit_vectors.specs.Vectors.{padded};
 ghost use Rattle.mask_update.specs.Histories.{History};
 ghost use Rattle.mask_update.specs.Masks.{mask_at};
@@ -10,6 +10,7 @@ ghost use Rattle.packet_decode.specs.Decoding.{latest_mask_number, latest_number
 ghost use Rattle.packet_decode.specs.State.{both_known};
 ghost use Rattle.packet_encode.specs.Encoder.{StandsFor};
 ghost use Rattle.packet_encode.specs.Packets.{packet_at};
+ghost use Rattle.robust_window.specs.Histories.{level_at, recent_at};
 ghost use Rattle.round_trip.specs.Carrying.{AreInStep, with_input};
 
 use bit_vectors::{BitFault, BitPen, Bits, Flags, NoMemory};
@@ -52,6 +53,13 @@ pub fn carry(
         → AreInStep h mask content input.now encoder.old decoder.old → decoder.new.state
         ≡ both_known (length h.steps)
         (mask_at (with_input h input.now) (length h.steps)) input.now }
+    // And the recent changes and the effective robustness level of the sender.
+    ensures recent { (h : History) (mask content : Option ℕ)
+        → AreInStep h mask content input.now encoder.old decoder.old
+        → decoder.new.recent ≡ recent_at (with_input h input.now) (length h.steps) }
+    ensures level { (h : History) (mask content : Option ℕ)
+        → AreInStep h mask content input.now encoder.old decoder.old
+        → decoder.new.level ≡ level_at (with_input h input.now) (length h.steps) }
     ensures unchanged { tells_nothing result ≡ true → decoder.new ≡ decoder.old }
     ensures places { decoder.new.places ≡ decoder.old.places }
     // Whatever history the encoder stood for, it now stands for that history with this input.
@@ -76,6 +84,9 @@ pub fn carry_first(alloc: Global, f: u32, mask: &Bits, input: &Bits) -> Result<D
     requires mask { length mask.now ≡ f }
     requires input { length input.now ≡ f }
     ensures known { IfOk result (λ decoder. decoder.state ≡ both_known 0 mask.now input.now) }
+    // The first packet has no recent change and the level 0.
+    ensures recent { IfOk result (λ decoder. decoder.recent ≡ replicate f false) }
+    ensures level { IfOk result (λ decoder. decoder.level ≡ 0) }
     ensures places { IfOk result (λ decoder. decoder.places ≡ f) }
 {
     let mut encoder = Encoder::open(alloc, f, mask)?;

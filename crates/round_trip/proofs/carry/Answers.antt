@@ -3,12 +3,13 @@ use Rattle.bit_vectors.specs.Vectors.{bits_of}
 use Rattle.bit_vectors.proofs.ByteBits.{bits_of-vector_bytes}
 use Rattle.mask_update.specs.Histories.{History}
 use Rattle.mask_update.specs.Masks.{mask_at}
+use Rattle.robust_window.specs.Histories.{level_at, recent_at}
 use Rattle.packet_encode.specs.Encoder.{StandsFor}
 use Rattle.packet_encode.specs.Packets.{form_at, packet_at}
 use Rattle.packet_decode.specs.Answers.{IsExactAnswer}
 use Rattle.packet_decode.specs.Decoding.{Decoding}
 use Rattle.packet_decode.specs.Spelling.{Spells}
-use Rattle.packet_decode.specs.State.{both_known}
+use Rattle.packet_decode.specs.State.{both_known, next_state}
 use Rattle.packet_decode.specs.declared.decoder.Reading.TheVariants.{Written}
 use Rattle.round_trip.specs.Carrying.{AreInStep, with_input}
 use Rattle.round_trip.proofs.Carried.{carried, places_are}
@@ -47,8 +48,16 @@ module _ (c : goal.After-read) (h : History) (mask content : Option ℕ) (step :
   written : c.read.result ≡ Ok Written
   written = (c.read.ensures.says Written).1 (form_at sent latest, Some (mask_at sent latest), c.args.input.now, spelled)
 
+  told : c.read.new.self ≡ record {
+    places = c.args.decoder.now.places;
+    state = next_state c.args.decoder.now.state c.taken-number.result (Some (mask_at sent latest)) (Some c.args.input.now);
+    recent = recent_at sent latest;
+    level = level_at sent latest;
+  }
+  told = c.read.ensures.written (form_at sent latest) (Some (mask_at sent latest)) c.args.input.now spelled
+
   known : c.read.new.self.state ≡ both_known latest (mask_at sent latest) c.args.input.now
-  known = ap (λ (d : Decoding). d.state) (c.read.ensures.written (form_at sent latest) (Some (mask_at sent latest)) c.args.input.now spelled)
+  known = ap (λ (d : Decoding). d.state) told
       ∙ ap (λ n. both_known n (mask_at sent latest) c.args.input.now) (number c h step.stands)
 
 pub returns-clause-exact : goal.returns-clause-exact
@@ -59,3 +68,9 @@ returns-clause-written c = written c
 
 pub returns-clause-known : goal.returns-clause-known
 returns-clause-known c = known c
+
+pub returns-clause-recent : goal.returns-clause-recent
+returns-clause-recent c h mask content step = ap (λ (d : Decoding). d.recent) (told c h mask content step)
+
+pub returns-clause-level : goal.returns-clause-level
+returns-clause-level c h mask content step = ap (λ (d : Decoding). d.level) (told c h mask content step)

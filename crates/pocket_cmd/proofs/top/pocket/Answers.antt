@@ -1,7 +1,8 @@
 use Rattle.std.proofs.Common.{map, sym, ◌∙◌, subst}
 use Rattle.std.specs.String.{string_bytes}
 use Rattle.pocket_cmd.specs.declared.status.Refusal.TheVariants as refusal
-use Rattle.pocket_cmd.specs.Command.{Restore, names_of, view_command}
+use Rattle.pocket_cmd.specs.Command.{Restore, view_command}
+use Rattle.pocket_cmd.specs.Courses.{names_of}
 use Rattle.pocket_cmd.specs.Outcome.{AfterCommand, AfterRefusal, IsSideAnswered, IsSideJudged}
 use Rattle.pocket_cmd.specs.Status.{class_of}
 use Rattle.pocket_cmd.proofs.Given.{IsCommand-command_of}

@@ -1,5 +1,6 @@
 use Rattle.std.proofs.Common.{subst}
-use Rattle.pocket_cmd.specs.Command.{Names, names_of, view_command}
+use Rattle.pocket_cmd.specs.Command.{Names, view_command}
+use Rattle.pocket_cmd.specs.Courses.{names_of}
 use Rattle.pocket_cmd.specs.Jobs.{job_course}
 use Rattle.pocket_cmd.specs.Outcome.{AfterNames}
 use Rattle.pocket_cmd.specs.Status.{IsEnded}

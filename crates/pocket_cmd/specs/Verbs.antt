@@ -1,0 +1,77 @@
+-- The verbs, and the keys that each of them has.
+use Rattle.std.specs.Prelude.{ℕ, Bool, true, false, ◌||◌, List, [], ◌∷◌, codes, Option, Some, None, if◌then◌else◌}
+use Rattle.std.specs.List.{list_any}
+use Rattle.std.specs.Str.{bytes_eq}
+use Rattle.pocket_cmd.specs.declared.verbs.Verb.{Verb}
+use Rattle.pocket_cmd.specs.declared.verbs.Verb.TheVariants.{Compress, Play, Restore, Show, Trial}
+use Rattle.pocket_cmd.specs.declared.verbs.Port.{Port}
+use Rattle.pocket_cmd.specs.declared.verbs.Port.TheVariants.{Side, Input, Output, Report}
+use Rattle.pocket_cmd.specs.declared.verbs.Kind.{Kind}
+use Rattle.pocket_cmd.specs.declared.verbs.Kind.TheVariants.{Name, Number, Mask}
+use Rattle.pocket_cmd.specs.declared.verbs.Row.{Row as Held}
+use Rattle.pocket_cmd.specs.declared.verbs.Row.TheVariants as held
+
+-- the verb that a word names
+abbrev pub verb_of : List ℕ → Option Verb
+verb_of word =
+    if bytes_eq word (codes "compress") then Some Compress
+    else (if bytes_eq word (codes "play") then Some Play
+    else (if bytes_eq word (codes "restore") then Some Restore
+    else (if bytes_eq word (codes "show") then Some Show
+    else (if bytes_eq word (codes "trial") then Some Trial
+    else None))))
+
+-- a key, the kind of its value, and whether it is needed
+pub record Row : Type 0 where
+  pub key : List ℕ
+  pub kind : Kind
+  pub is_needed : Bool
+
+abbrev pub needed : List ℕ → Kind → Row
+needed key kind = record { key = key; kind = kind; is_needed = true }
+
+abbrev pub optional : List ℕ → Kind → Row
+optional key kind = record { key = key; kind = kind; is_needed = false }
+
+-- the keys of a verb
+abbrev pub rows_of : Verb → List Row
+rows_of Compress =
+    needed (codes "in") (Name Input) ∷ needed (codes "out") (Name Output) ∷ needed (codes "bits") (Number 1 49152)
+    ∷ needed (codes "apid") (Number 0 2046) ∷ needed (codes "robust") (Number 0 7) ∷ optional (codes "plan") (Name Side)
+    ∷ optional (codes "mask") Mask ∷ []
+rows_of Play =
+    needed (codes "in") (Name Input) ∷ needed (codes "out") (Name Output) ∷ needed (codes "report") (Name Report)
+    ∷ needed (codes "script") (Name Side) ∷ needed (codes "apid") (Number 0 2046) ∷ []
+rows_of Restore =
+    needed (codes "in") (Name Input) ∷ needed (codes "out") (Name Output) ∷ needed (codes "report") (Name Report)
+    ∷ needed (codes "bits") (Number 1 49152) ∷ needed (codes "apid") (Number 0 2046) ∷ []
+rows_of Show =
+    needed (codes "in") (Name Input) ∷ needed (codes "out") (Name Output) ∷ needed (codes "bits") (Number 1 49152)
+    ∷ needed (codes "apid") (Number 0 2046) ∷ []
+rows_of Trial =
+    needed (codes "out") (Name Output) ∷ needed (codes "seed") (Number 0 4294967295) ∷ needed (codes "packets") (Number 1 10000)
+    ∷ needed (codes "bits") (Number 1 4096) ∷ needed (codes "robust") (Number 0 7) ∷ []
+
+abbrev pub view_row : Held → Row
+view_row (held.Needed key kind) = needed key.now kind
+view_row (held.Optional key kind) = optional key.now kind
+
+-- the kind of the value of a key, if one of the rows has it
+abbrev pub kind_of : List Row → List ℕ → Option Kind
+kind_of [] key = None
+kind_of (row ∷ rows) key = if bytes_eq row.key key then Some row.kind else kind_of rows key
+
+-- a value is the name of what is opened there
+abbrev pub is_name_at : Port → Kind → Bool
+is_name_at Side (Name Side) = true
+is_name_at Input (Name Input) = true
+is_name_at Output (Name Output) = true
+is_name_at Report (Name Report) = true
+is_name_at _ _ = false
+
+-- a value is a name to read, or a name to write
+abbrev pub is_to_read : Kind → Bool
+is_to_read kind = is_name_at Side kind || is_name_at Input kind
+
+abbrev pub is_to_write : Kind → Bool
+is_to_write kind = is_name_at Output kind || is_name_at Report kind

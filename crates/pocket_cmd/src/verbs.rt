@@ -1,0 +1,177 @@
+//! The verbs, and the keys that each of them has.
+ghost use Rattle.std.specs.Prelude.{◌≡◌, map};
+ghost use Rattle.pocket_cmd.specs.Verbs.{verb_of, rows_of, view_row, kind_of, is_name_at, is_to_read, is_to_write};
+
+use Kind::{Mask, Name, Number};
+use Row::{Needed, Optional};
+
+/// What the command is to do.
+#[derive(Clone, Copy, Debug, PartialEq, Eq)]
+pub enum Verb {
+    /// Makes the store of a recording.
+    Compress,
+    /// Drops and repeats the packets of a store.
+    Play,
+    /// Gives back the packets that arrived, and lists all others.
+    Restore,
+    /// Lists what is found for each packet.
+    Show,
+    /// Runs the other three over a generated history.
+    Trial,
+}
+
+/// Where what has a name is opened.
+#[derive(Clone, Copy, Debug)]
+pub enum Port {
+    /// A text that is read whole, before all else.
+    Side,
+    Input,
+    Output,
+    Report,
+}
+
+/// The kind of the value of a key.
+#[derive(Clone, Copy, Debug)]
+pub enum Kind {
+    /// The name of what is opened there.
+    Name(Port),
+    /// A plain decimal from the first number to the second.
+    Number(u32, u32),
+    /// The digits of the first mask, which are looked at once all words are read.
+    Mask,
+}
+
+/// A key of a verb, and the kind of its value.
+#[derive(Clone, Copy, Debug)]
+pub enum Row {
+    Needed(&'static str, Kind),
+    Optional(&'static str, Kind),
+}
+
+impl Verb {
+    /// The verb that a word names.
+    pub fn of(word: &str) -> Option<Verb>
+        ensures { result ≡ verb_of word.now }
+    {
+        match word {
+            "compress" => Some(Verb::Compress),
+            "play" => Some(Verb::Play),
+            "restore" => Some(Verb::Restore),
+            "show" => Some(Verb::Show),
+            "trial" => Some(Verb::Trial),
+            _ => None,
+        }
+    }
+
+    /// Its keys.
+    pub fn rows(self) -> &'static [Row]
+        ensures { map view_row result.now ≡ rows_of self }
+    {
+        match self {
+            Verb::Compress => &[
+                Needed("in", Name(Port::Input)),
+                Needed("out", Name(Port::Output)),
+                Needed("bits", Number(1, 49_152)),
+                Needed("apid", Number(0, 2046)),
+                Needed("robust", Number(0, 7)),
+                Optional("plan", Name(Port::Side)),
+                Optional("mask", Mask),
+            ],
+            Verb::Play => &[
+                Needed("in", Name(Port::Input)),
+                Needed("out", Name(Port::Output)),
+                Needed("report", Name(Port::Report)),
+                Needed("script", Name(Port::Side)),
+                Needed("apid", Number(0, 2046)),
+            ],
+            Verb::Restore => &[
+                Needed("in", Name(Port::Input)),
+                Needed("out", Name(Port::Output)),
+                Needed("report", Name(Port::Report)),
+                Needed("bits", Number(1, 49_152)),
+                Needed("apid", Number(0, 2046)),
+            ],
+            Verb::Show => &[
+                Needed("in", Name(Port::Input)),
+                Needed("out", Name(Port::Output)),
+                Needed("bits", Number(1, 49_152)),
+                Needed("apid", Number(0, 2046)),
+            ],
+            Verb::Trial => &[
+                Needed("out", Name(Port::Output)),
+                Needed("seed", Number(0, u32::MAX)),
+                Needed("packets", Number(1, 10_000)),
+                Needed("bits", Number(1, 4096)),
+                Needed("robust", Number(0, 7)),
+            ],
+        }
+    }
+}
+
+impl Row {
+    /// Its key.
+    pub fn key(&self) -> &'static str
+        ensures { result.now ≡ (view_row self.now).key }
+    {
+        match self {
+            Needed(key, _) | Optional(key, _) => key,
+        }
+    }
+
+    /// The kind of its value.
+    pub fn value(&self) -> Kind
+        ensures { result ≡ (view_row self.now).kind }
+    {
+        match self {
+            Needed(_, kind) | Optional(_, kind) => *kind,
+        }
+    }
+
+    /// Whether it may not be missing.
+    pub fn is_needed(&self) -> bool
+        ensures { result ≡ (view_row self.now).is_needed }
+    {
+        matches!(self, Needed(..))
+    }
+}
+
+impl Kind {
+    /// Whether a value is the name of what is opened there.
+    pub fn is_name_at(self, port: Port) -> bool
+        ensures { result ≡ is_name_at port self }
+    {
+        matches!(
+            (port, self),
+            (Port::Side, Name(Port::Side))
+                | (Port::Input, Name(Port::Input))
+                | (Port::Output, Name(Port::Output))
+                | (Port::Report, Name(Port::Report))
+        )
+    }
+
+    /// Whether a value is a name to read.
+    pub fn is_to_read(self) -> bool
+        ensures { result ≡ is_to_read self }
+    {
+        self.is_name_at(Port::Side) || self.is_name_at(Port::Input)
+    }
+
+    /// Whether a value is a name to write.
+    pub fn is_to_write(self) -> bool
+        ensures { result ≡ is_to_write self }
+    {
+        self.is_name_at(Port::Output) || self.is_name_at(Port::Report)
+    }
+}
+
+/// The kind of the value of a key, if one of the rows has it.
+pub fn kind_of(rows: &[Row], key: &str) -> Option<Kind>
+    ensures { result ≡ kind_of (map view_row rows.now) key.now }
+{
+    for row in rows {
+        if row.key() == key {
+            return Some(row.value());
+        }
+    }
+    None
+}
