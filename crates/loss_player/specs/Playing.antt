@@ -76,7 +76,7 @@ pub record IsCounted (s : Playing) : Type 0 where
   pub counted : s.tally ≡ tally_of (copies_of s.script) s.tally.played.packets
   pub right : IsTally s.tally
 
--- a packet was counted, which is of the chosen APID or of another one, and nothing else changed
+-- a packet was counted, which is of the chosen APID or of another one; the reader and the script are as before
 pub record HasCounted (old new : Playing) (own : Bool) : Type 0 where
   pub reader_is : new.reader ≡ old.reader
   pub script_is : new.script ≡ old.script

@@ -3,8 +3,8 @@ use Rattle.std.specs.Prelude.{ℕ, List, [], ◌∷◌}
 use Rattle.side_tables.specs.declared.rows.CopyRow.{CopyRow}
 
 -- so many copies of the packets from the first to the last
-abbrev pub copies_from : ℕ → ℕ → ℕ → CopyRow
-copies_from first last copies = record { first = first; last = last; step = 1; copies = copies }
+abbrev pub copies_row : ℕ → ℕ → ℕ → CopyRow
+copies_row first last copies = record { first = first; last = last; step = 1; copies = copies }
 
 -- For the APID 100: its packet, one of the APID 101, its packet with the sequence count of the first, an idle one, and its
 -- packet.

@@ -11,7 +11,7 @@ ghost use Rattle.loss_player.specs.Copied.{copied_from};
 ghost use Rattle.loss_player.specs.Gaps.{AreGapsShort, TellsShortGaps};
 ghost use Rattle.loss_player.specs.Report.{header_row, play_report};
 ghost use Rattle.loss_player.specs.Playing.{play_course};
-ghost use Rattle.loss_player.specs.Worked.{copies_from, worked_store};
+ghost use Rattle.loss_player.specs.Worked.{copies_row, worked_store};
 
 use packet_store::WalkFault;
 
@@ -76,21 +76,21 @@ pub fn short_gaps_are_told()
 /// Worked reports: of some packets, by the rows of a script.
 pub fn worked_reports()
     // Four packets, of which the third is dropped.
-    ensures dropped { play_report (played_of (copies_of (copies_from 2 2 0 ∷ [])) 4)
+    ensures dropped { play_report (played_of (copies_of (copies_row 2 2 0 ∷ [])) 4)
         ≡ header_row ++ codes "4,3,1,0,0,2\n" }
     // Nine copies of each.
-    ensures repeated { play_report (played_of (copies_of (copies_from 0 3 9 ∷ [])) 4)
+    ensures repeated { play_report (played_of (copies_of (copies_row 0 3 9 ∷ [])) 4)
         ≡ header_row ++ codes "4,4,0,32,0,1\n" }
     // No packet.
     ensures empty { play_report (played_of (copies_of []) 0) ≡ header_row ++ codes "0,0,0,0,-,0\n" }
     // A gap that is one less than the period of the sequence counts.
-    ensures short { play_report (played_of (copies_of (copies_from 6 16387 0 ∷ [])) 16389)
+    ensures short { play_report (played_of (copies_of (copies_row 6 16387 0 ∷ [])) 16389)
         ≡ header_row ++ codes "16389,7,16382,0,0,16383\n" }
     // One that is as long as the period.
-    ensures long { play_report (played_of (copies_of (copies_from 6 16388 0 ∷ [])) 16390)
+    ensures long { play_report (played_of (copies_of (copies_row 6 16388 0 ∷ [])) 16390)
         ≡ header_row ++ codes "16390,7,16383,0,0,16384\n" }
     // The last packet alone arrives.
-    ensures late { play_report (played_of (copies_of (copies_from 0 16382 0 ∷ [])) 16384)
+    ensures late { play_report (played_of (copies_of (copies_row 0 16382 0 ∷ [])) 16384)
         ≡ header_row ++ codes "16384,1,16383,0,16383,0\n" }
 {}
 
@@ -98,14 +98,14 @@ pub fn worked_reports()
 /// packet is dropped, and the third arrives twice.
 pub fn worked_stores()
     ensures played { played_bytes
-        (copies_of (copies_from 1 1 0 ∷ copies_from 2 2 2 ∷ [])) 100 worked_store
+        (copies_of (copies_row 1 1 0 ∷ copies_row 2 2 2 ∷ [])) 100 worked_store
         ≡ (0x00 ∷ 0x64 ∷ 0xC0 ∷ 0x07 ∷ 0x00 ∷ 0x00 ∷ 0xA0
         ∷ 0x00 ∷ 0x65 ∷ 0xC0 ∷ 0x07 ∷ 0x00 ∷ 0x00 ∷ 0xB0
         ∷ 0x07 ∷ 0xFF ∷ 0xC0 ∷ 0x00 ∷ 0x00 ∷ 0x00 ∷ 0xB1
         ∷ 0x00 ∷ 0x64 ∷ 0xC0 ∷ 0x09 ∷ 0x00 ∷ 0x00 ∷ 0xA2
         ∷ 0x00 ∷ 0x64 ∷ 0xC0 ∷ 0x09 ∷ 0x00 ∷ 0x00 ∷ 0xA2 ∷ []) }
     ensures numbers { store_numbers
-        (copies_of (copies_from 1 1 0 ∷ copies_from 2 2 2 ∷ [])) 100 worked_store
+        (copies_of (copies_row 1 1 0 ∷ copies_row 2 2 2 ∷ [])) 100 worked_store
         ≡ record {
           packets = 3;
           delivered = 2;

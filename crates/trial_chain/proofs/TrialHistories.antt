@@ -13,7 +13,7 @@ use Rattle.side_tables.specs.Rows.{flags_of}
 use Rattle.side_tables.specs.Spans.{names}
 use Rattle.packet_encode.specs.Deliveries.{arrivals}
 use Rattle.loss_player.specs.Gaps.{AreGapsShort}
-use Rattle.trial_chain.specs.Draws.{first_draw}
+use Rattle.trial_chain.specs.Draws.{input_draw}
 use Rattle.trial_chain.specs.Trials.{next_input, inverted_at, is_every, trial_copies, trial_flags, trial_history, trial_input, trial_inputs, trial_plan}
 
 -- ---- inputs
@@ -31,7 +31,7 @@ length-next_input g v = either (g % 4 == 0)
 length-input : (seed f t : ℕ) → length (trial_input seed f t) ≡ f
 unfolding trial_input
 length-input seed f zero = length-replicate f false
-length-input seed f (suc t) = length-next_input (first_draw seed t) (trial_input seed f t) ∙ length-input seed f t
+length-input seed f (suc t) = length-next_input (input_draw seed t) (trial_input seed f t) ∙ length-input seed f t
 
 pub length-inputs : (seed packets f : ℕ) → length (trial_inputs seed packets f) ≡ packets
 length-inputs seed packets f = length-map-range_with_len (trial_input seed f) 0 packets

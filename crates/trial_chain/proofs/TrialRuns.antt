@@ -40,7 +40,7 @@ owed-recording seed packets f robust trial =
 -- ---- playing
 
 valid_trial : (seed packets f robust : ℕ) → IsTrial packets f robust → IsValid (trial_history seed packets f robust)
-valid_trial seed packets f robust trial = IsValid-trial seed packets f robust trial.places trial.most trial.few trial.level
+valid_trial seed packets f robust trial = IsValid-trial seed packets f robust trial.places trial.most trial.few trial.required
 
 pub whole-store : (seed packets f robust : ℕ) → IsTrial packets f robust → (walk (Some 100) (store_of (trial_history seed packets f robust) 100)).ending ≡ None
 whole-store seed packets f robust trial = whole-store_of (trial_history seed packets f robust) 100 (valid_trial seed packets f robust trial) (omega arith)

@@ -14,9 +14,9 @@ unfoldable pub number_at : ℕ → ℕ → ℕ
 number_at seed zero = seed
 number_at seed (suc t) = next_number (next_number (number_at seed t))
 
--- the two draws of the packet after the packet t
-abbrev pub first_draw : ℕ → ℕ → ℕ
-first_draw seed t = drawn (next_number (number_at seed t))
+-- the two draws of the packet after the packet t: what they decide is its input, and how often it arrives
+abbrev pub input_draw : ℕ → ℕ → ℕ
+input_draw seed t = drawn (next_number (number_at seed t))
 
-abbrev pub second_draw : ℕ → ℕ → ℕ
-second_draw seed t = drawn (next_number (next_number (number_at seed t)))
+abbrev pub copies_draw : ℕ → ℕ → ℕ
+copies_draw seed t = drawn (next_number (next_number (number_at seed t)))

@@ -10,14 +10,14 @@ use Rattle.flight_chain.specs.Stores.{store_of}
 use Rattle.loss_player.specs.Played.{played_bytes, played_of}
 use Rattle.ground_chain.specs.Deliveries.{delivered_numbers}
 use Rattle.trial_chain.specs.declared.trial.Summary.{Summary}
-use Rattle.trial_chain.specs.Draws.{first_draw, second_draw}
+use Rattle.trial_chain.specs.Draws.{input_draw, copies_draw}
 
 -- the bounds of a trial
 pub record IsTrial (packets f robust : ℕ) : Type 0 where
   pub places : 1 ≤ f
   pub most : f ≤ 4096
   pub few : packets ≤ 10000
-  pub level : robust ≤ 7
+  pub required : robust ≤ 7
 
 -- ---- inputs
 
@@ -34,7 +34,7 @@ next_input g v =
 -- the input of the packet t
 unfoldable pub trial_input : ℕ → ℕ → ℕ → List Bool
 trial_input seed f zero = replicate f false
-trial_input seed f (suc t) = next_input (first_draw seed t) (trial_input seed f t)
+trial_input seed f (suc t) = next_input (input_draw seed t) (trial_input seed f t)
 
 abbrev pub trial_inputs : ℕ → ℕ → ℕ → List (List Bool)
 trial_inputs seed packets f = map (trial_input seed f) (range_with_len 0 packets)
@@ -69,15 +69,15 @@ copies_by h = if h % 16 == 0 then 0 else if h % 16 == 1 then 2 else 1
 -- one too.
 abbrev pub trial_copies : ℕ → ℕ → ℕ → ℕ
 trial_copies seed packets zero = 1
-trial_copies seed packets (suc t) = if nat_lt (suc t) packets then copies_by (second_draw seed t) else 1
+trial_copies seed packets (suc t) = if nat_lt (suc t) packets then copies_by (copies_draw seed t) else 1
 
 -- so many copies of one packet, as a row of a script
-abbrev pub alone : ℕ → ℕ → CopyRow
-alone t copies = record { first = t; last = t; step = 1; copies = copies }
+abbrev pub row_of_one : ℕ → ℕ → CopyRow
+row_of_one t copies = record { first = t; last = t; step = 1; copies = copies }
 
 -- the rows that they need: none if the packet arrives once
 abbrev pub rows_for : ℕ → ℕ → List CopyRow
-rows_for t copies = if copies == 1 then [] else alone t copies ∷ []
+rows_for t copies = if copies == 1 then [] else row_of_one t copies ∷ []
 
 -- ---- the history
 
