@@ -1,5 +1,5 @@
 -- What right words give: values within their bounds, and no name that no word gives.
-use Rattle.std.proofs.Common.{◌≡◌, ℕ, ◌+◌, ◌<◌, ◌≤◌, ◌&&◌, ◌||◌, Bool, true, false, not, cond, eqb, nat_lt, is_some, unwrap_or, List, [], ◌∷◌, ◌++◌, length, get_or, Option, Some, None, Result, Ok, Err, refl, sym, ap, ◌∙◌, subst, inl, inr, ◌⊎◌, codes, add-one, arith}
+use Rattle.std.proofs.Common.{◌≡◌, ℕ, ◌+◌, ◌<◌, ◌≤◌, ◌&&◌, ◌||◌, Bool, true, false, not, cond, eqb, nat_lt, is_some, unwrap_or, List, [], ◌∷◌, ◌++◌, length, get_or, Option, Some, None, Result, Ok, refl, sym, ap, ◌∙◌, subst, inl, inr, ◌⊎◌, codes, add-one, arith}
 use Rattle.std.specs.Prelude.{IfSome, IsSome}
 use Rattle.std.specs.List.{Contains, list_any, position_or_len}
 use Rattle.std.specs.Str.{bytes_eq}
@@ -8,13 +8,11 @@ use Rattle.std.proofs.lemmas.List.Sums.{split_at_first, passes_at_first}
 use Rattle.std.proofs.lemmas.Slice.Eq.{bytes_eq-Decides}
 use Rattle.pocket_cmd.specs.declared.verbs.Verb.{Verb}
 use Rattle.pocket_cmd.specs.declared.verbs.Verb.TheVariants as verb
-use Rattle.pocket_cmd.specs.declared.verbs.Port.TheVariants as port
-use Rattle.pocket_cmd.specs.declared.verbs.Kind.{Kind}
 use Rattle.pocket_cmd.specs.declared.verbs.Kind.TheVariants.{Number}
 use Rattle.pocket_cmd.specs.Verbs.{Row, kind_of, rows_of, verb_of}
-use Rattle.pocket_cmd.specs.Words.{Assigns, fault_of, fits_key, has_key, is_equals_sign, is_missing, is_right, is_split, key_in, name_of, number_at, number_in, or_missing, or_word, text_in, text_of, wrong_mask, wrong_word}
+use Rattle.pocket_cmd.specs.Words.{Assigns, fault_of, fits_key, has_key, is_equals_sign, is_missing, is_right, is_split, key_in, number_at, number_in, or_missing, or_word, text_in, text_of, wrong_mask, wrong_word}
 use Rattle.pocket_cmd.specs.Masks.{IsPlaces}
-use Rattle.pocket_cmd.specs.Command.{AreGiven, Command, IsRight, Names, command_after, command_by, command_of, name_at, unless_fault}
+use Rattle.pocket_cmd.specs.Command.{AreGiven, Command, IsRight, command_after, command_by, command_of, name_at, unless_fault}
 use Rattle.pocket_cmd.specs.Courses.{names_of}
 use Rattle.pocket_cmd.proofs.Bounds.{number_in-bounds}
 use Rattle.pocket_cmd.proofs.Masks.{length-first_mask}
@@ -174,30 +172,10 @@ module _ (word : List ℕ) (words : List (List ℕ)) where
   either (Some name) h = inl h
 
   AreGiven-command_by : (v : Verb) → is_missing (rows_of v) words ≡ false → AreGiven (word ∷ words) (names_of (command_by v words))
-  AreGiven-command_by verb.Compress w = record {
-    side = either (text_of words (codes "plan")) (given (codes "plan"));
-    input = given_needed (rows_of verb.Compress) (codes "in") w refl;
-    output = given_needed (rows_of verb.Compress) (codes "out") w refl;
-    report = tt;
-  }
-  AreGiven-command_by verb.Play w = record {
-    side = inr (given_needed (rows_of verb.Play) (codes "script") w refl);
-    input = given_needed (rows_of verb.Play) (codes "in") w refl;
-    output = given_needed (rows_of verb.Play) (codes "out") w refl;
-    report = given_needed (rows_of verb.Play) (codes "report") w refl;
-  }
-  AreGiven-command_by verb.Restore w = record {
-    side = tt;
-    input = given_needed (rows_of verb.Restore) (codes "in") w refl;
-    output = given_needed (rows_of verb.Restore) (codes "out") w refl;
-    report = given_needed (rows_of verb.Restore) (codes "report") w refl;
-  }
-  AreGiven-command_by verb.Show w = record {
-    side = tt;
-    input = given_needed (rows_of verb.Show) (codes "in") w refl;
-    output = given_needed (rows_of verb.Show) (codes "out") w refl;
-    report = tt;
-  }
+  AreGiven-command_by verb.Compress w = record { side = either (text_of words (codes "plan")) (given (codes "plan")); input = given_needed (rows_of verb.Compress) (codes "in") w refl; output = given_needed (rows_of verb.Compress) (codes "out") w refl; report = tt }
+  AreGiven-command_by verb.Play w = record { side = inr (given_needed (rows_of verb.Play) (codes "script") w refl); input = given_needed (rows_of verb.Play) (codes "in") w refl; output = given_needed (rows_of verb.Play) (codes "out") w refl; report = given_needed (rows_of verb.Play) (codes "report") w refl }
+  AreGiven-command_by verb.Restore w = record { side = tt; input = given_needed (rows_of verb.Restore) (codes "in") w refl; output = given_needed (rows_of verb.Restore) (codes "out") w refl; report = given_needed (rows_of verb.Restore) (codes "report") w refl }
+  AreGiven-command_by verb.Show w = record { side = tt; input = given_needed (rows_of verb.Show) (codes "in") w refl; output = given_needed (rows_of verb.Show) (codes "out") w refl; report = tt }
   AreGiven-command_by verb.Trial w = record { side = tt; input = tt; output = given_needed (rows_of verb.Trial) (codes "out") w refl; report = tt }
 
 -- the values of a command are within their bounds, and its names are those that words give

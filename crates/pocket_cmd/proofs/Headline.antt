@@ -1,7 +1,6 @@
 -- What restoring the played store of a history writes, and which commands are done.
 use Rattle.std.proofs.Common.{◌≡◌, ℕ, ◌≤◌, arith, nat_lt, false, cond, List, [], length, Some, None, Result, refl, sym, ap, ◌∙◌, subst}
 use Rattle.std.proofs.lemmas.Bool.Decides.{nat_tests}
-use Rattle.std.specs.Option.{option_map}
 use Rattle.desk_ports.specs.Courses.{Outputs, owed}
 use Rattle.desk_ports.specs.Meanings.{Meanings}
 use Rattle.mask_update.specs.Histories.{History}
@@ -16,7 +15,7 @@ use Rattle.pocket_cmd.specs.declared.status.Refusal.{Refusal}
 use Rattle.pocket_cmd.specs.declared.status.Refusal.TheVariants as refusal
 use Rattle.pocket_cmd.specs.Command.{Command, Restore, RestoreValues, IsChosen}
 use Rattle.pocket_cmd.specs.Courses.{course_of, names_of}
-use Rattle.pocket_cmd.specs.Faults.{of_recording, of_store}
+use Rattle.pocket_cmd.specs.Faults.{of_store}
 use Rattle.pocket_cmd.specs.Delivery.{HasWritten, IsPlayedStore, IsSideRight, IsInputWhole}
 use Rattle.pocket_cmd.specs.Outcome.{AfterCommand, Stands, answer_by, answer_to, by_row}
 use Rattle.pocket_cmd.specs.Status.{status_by, status_of}

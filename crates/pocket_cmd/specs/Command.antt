@@ -1,5 +1,5 @@
 -- The command that the words give, or the place of the first fault in them.
-use Rattle.std.specs.Prelude.{ℕ, ◌+◌, ◌≤◌, ◌≡◌, ◌⊎◌, Bool, List, [], ◌∷◌, length, codes, map, Option, Some, None, Result, Ok, Err, IfSome, unwrap_or}
+use Rattle.std.specs.Prelude.{ℕ, ◌≤◌, ◌≡◌, ◌⊎◌, Bool, List, [], ◌∷◌, length, codes, map, Option, Some, None, Result, Ok, Err, IfSome, unwrap_or}
 use Rattle.std.specs.String.{string_bytes}
 use Rattle.std.specs.declared.string.String.{String}
 use Rattle.pocket_cmd.specs.Masks.{IsPlaces, first_mask}
@@ -103,12 +103,7 @@ restore_by words = record {
 }
 
 abbrev pub show_by : List (List ℕ) → ShowValues
-show_by words = record {
-  input = name_at words (codes "in");
-  output = name_at words (codes "out");
-  bits = number_at words (codes "bits");
-  apid = number_at words (codes "apid");
-}
+show_by words = record { input = name_at words (codes "in"); output = name_at words (codes "out"); bits = number_at words (codes "bits"); apid = number_at words (codes "apid") }
 
 abbrev pub trial_by : List (List ℕ) → TrialValues
 trial_by words = record {

@@ -1,6 +1,5 @@
 -- The verbs, and the keys that each of them has.
-use Rattle.std.specs.Prelude.{ℕ, Bool, true, false, ◌||◌, List, [], ◌∷◌, codes, Option, Some, None, if◌then◌else◌}
-use Rattle.std.specs.List.{list_any}
+use Rattle.std.specs.Prelude.{ℕ, Bool, true, false, List, [], ◌∷◌, codes, Option, Some, None, if◌then◌else◌}
 use Rattle.std.specs.Str.{bytes_eq}
 use Rattle.pocket_cmd.specs.declared.verbs.Verb.{Verb}
 use Rattle.pocket_cmd.specs.declared.verbs.Verb.TheVariants.{Compress, Play, Restore, Show, Trial}
@@ -68,10 +67,3 @@ is_name_at Input (Name Input) = true
 is_name_at Output (Name Output) = true
 is_name_at Report (Name Report) = true
 is_name_at _ _ = false
-
--- a value is a name to read, or a name to write
-abbrev pub is_to_read : Kind → Bool
-is_to_read kind = is_name_at Side kind || is_name_at Input kind
-
-abbrev pub is_to_write : Kind → Bool
-is_to_write kind = is_name_at Output kind || is_name_at Report kind

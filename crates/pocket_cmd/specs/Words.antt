@@ -10,7 +10,7 @@ use Rattle.pocket_cmd.specs.declared.verbs.Kind.{Kind}
 use Rattle.pocket_cmd.specs.declared.verbs.Kind.TheVariants.{Name, Number, Mask}
 use Rattle.pocket_cmd.specs.Masks.{is_mask}
 use Rattle.pocket_cmd.specs.declared.verbs.Port.{Port}
-use Rattle.pocket_cmd.specs.Verbs.{Row, kind_of, is_name_at, is_to_read, is_to_write}
+use Rattle.pocket_cmd.specs.Verbs.{Row, kind_of, is_name_at}
 
 -- ---- one word, which is split at its first `=`
 
@@ -55,12 +55,12 @@ abbrev pub is_text : Option (List ℕ) → List ℕ → Bool
 is_text None name = false
 is_text (Some text) name = bytes_eq text name
 
--- words give this name to a key whose value is a name to read, or to write
+-- words give this name to what is read, or to what is written
 abbrev pub is_read : List Row → List (List ℕ) → List ℕ → Bool
-is_read rows words name = list_any (λ (row : Row). is_to_read row.kind && is_text (text_of words row.key) name) rows
+is_read rows words name = is_text (name_of rows words Side) name || is_text (name_of rows words Input) name
 
 abbrev pub is_written : List Row → List (List ℕ) → List ℕ → Bool
-is_written rows words name = list_any (λ (row : Row). is_to_write row.kind && is_text (text_of words row.key) name) rows
+is_written rows words name = is_text (name_of rows words Output) name || is_text (name_of rows words Report) name
 
 -- a name has at least one byte and is none of the names of these words; but `-` may stand once to read and once to write
 abbrev pub is_new_to_read : List Row → List (List ℕ) → List ℕ → Bool

@@ -1,16 +1,13 @@
 //! The command that the words give.
 ghost use Rattle.std.specs.Prelude.{◌≡◌, ◌<◌, ◌^◌, length, map};
-ghost use Rattle.std.specs.Option.{option_map};
 ghost use Rattle.std.specs.String.{string_bytes};
 ghost use Rattle.pocket_cmd.specs.Command.{command_of, view_command, view_result};
 ghost use Rattle.pocket_cmd.specs.Courses.{names_of};
 ghost use Rattle.pocket_cmd.specs.Openings.{view_names};
-ghost use Rattle.pocket_cmd.specs.Verbs.{view_row};
-ghost use Rattle.pocket_cmd.specs.Words.{name_of};
 
 use crate::run::Names;
-use crate::verbs::{Port, Row, Verb};
-use crate::words::{Command, fault_of, text_of};
+use crate::verbs::{Port, Verb};
+use crate::words::{Command, fault_of, name_of};
 
 impl<'a> Command<'a> {
     /// The verb with its values; or the place of the first faulty word; or the number of words, if one is missing; or
@@ -41,17 +38,4 @@ impl<'a> Command<'a> {
             report: name_of(rows, self.words, Port::Report),
         }
     }
-}
-
-/// The name of what is opened there, if a key has it and words give it.
-fn name_of<'a>(rows: &[Row], words: &'a [String], port: Port) -> Option<&'a str>
-    ensures { option_map (λ name. name.now) result
-        ≡ name_of (map view_row rows.now) (map string_bytes words.now) port }
-{
-    for row in rows {
-        if row.value().is_name_at(port) {
-            return text_of(words, row.key());
-        }
-    }
-    None
 }

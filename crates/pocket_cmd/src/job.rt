@@ -122,7 +122,10 @@ fn flight(alloc: Global, words: &[String], text: &[u8]) -> Result<Flight, SideFa
 {
     let plan = Schedule::read(alloc, text)?;
     let f = number_at(words, "bits");
-    let (robust, apid) = (number_at(words, "robust") as u8, number_at(words, "apid") as u16);
+    let (robust, apid) = (
+        number_at(words, "robust") as u8,
+        number_at(words, "apid") as u16,
+    );
     let mask = first_mask(alloc, f, text_of(words, "mask"))?;
     Ok(Flight::open(alloc, f, robust, apid, &mask, plan)?)
 }
@@ -148,7 +151,11 @@ fn restorer(alloc: Global, words: &[String]) -> Result<Restorer, NoMemory>
     ensures { let told = restore_by (map string_bytes words.now) in
         IfOk result (λ restorer. restorer ≡ record { places = told.bits; apid = told.apid }) }
 {
-    Restorer::open(alloc, number_at(words, "bits"), number_at(words, "apid") as u16)
+    Restorer::open(
+        alloc,
+        number_at(words, "bits"),
+        number_at(words, "apid") as u16,
+    )
 }
 
 /// The lister of `show`.
@@ -157,5 +164,9 @@ fn lister(alloc: Global, words: &[String]) -> Result<Lister, NoMemory>
     ensures { let told = show_by (map string_bytes words.now) in
         IfOk result (λ lister. lister ≡ record { places = told.bits; apid = told.apid }) }
 {
-    Lister::open(alloc, number_at(words, "bits"), number_at(words, "apid") as u16)
+    Lister::open(
+        alloc,
+        number_at(words, "bits"),
+        number_at(words, "apid") as u16,
+    )
 }

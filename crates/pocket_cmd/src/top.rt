@@ -14,8 +14,8 @@ ghost use Rattle.pocket_cmd.specs.Outcome.{AfterRefusal, IsSideJudged, NoneRose,
 ghost use Rattle.pocket_cmd.specs.Status.{HasStatusCause, status_of};
 ghost use Rattle.pocket_cmd.specs.Words.{AssignsOneOf, read_keys, written_keys};
 
-use crate::words::Command;
 use crate::status::{Refusal, Status};
+use crate::words::Command;
 use crate::work::perform;
 use desk_ports::Desk;
 use std::alloc::Global;

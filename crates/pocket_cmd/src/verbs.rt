@@ -1,6 +1,6 @@
 //! The verbs, and the keys that each of them has.
 ghost use Rattle.std.specs.Prelude.{◌≡◌, map};
-ghost use Rattle.pocket_cmd.specs.Verbs.{verb_of, rows_of, view_row, kind_of, is_name_at, is_to_read, is_to_write};
+ghost use Rattle.pocket_cmd.specs.Verbs.{verb_of, rows_of, view_row, kind_of, is_name_at};
 
 use Kind::{Mask, Name, Number};
 use Row::{Needed, Optional};
@@ -147,20 +147,6 @@ impl Kind {
                 | (Port::Output, Name(Port::Output))
                 | (Port::Report, Name(Port::Report))
         )
-    }
-
-    /// Whether a value is a name to read.
-    pub fn is_to_read(self) -> bool
-        ensures { result ≡ is_to_read self }
-    {
-        self.is_name_at(Port::Side) || self.is_name_at(Port::Input)
-    }
-
-    /// Whether a value is a name to write.
-    pub fn is_to_write(self) -> bool
-        ensures { result ≡ is_to_write self }
-    {
-        self.is_name_at(Port::Output) || self.is_name_at(Port::Report)
     }
 }
 

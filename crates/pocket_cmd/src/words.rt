@@ -4,7 +4,7 @@ ghost use Rattle.std.specs.Option.{option_map};
 ghost use Rattle.std.specs.String.{string_bytes};
 ghost use Rattle.pocket_cmd.specs.Masks.{IsPlaces};
 ghost use Rattle.pocket_cmd.specs.Verbs.{view_row, rows_of};
-ghost use Rattle.pocket_cmd.specs.Words.{is_split, key_in, text_in, has_key, text_of, number_at, is_read, is_written, is_new_to_read, is_new_to_write, fits, is_right, wrong_word, is_missing, place_of, wrong_mask, fault_of};
+ghost use Rattle.pocket_cmd.specs.Words.{is_split, key_in, text_in, has_key, text_of, number_at, name_of, is_read, is_written, is_new_to_read, is_new_to_write, fits, is_right, wrong_word, is_missing, place_of, wrong_mask, fault_of};
 
 use crate::mask::is_mask;
 use crate::verbs::{Kind, Port, Row, Verb, kind_of};
@@ -37,6 +37,19 @@ pub fn text_of<'a>(words: &'a [String], key: &str) -> Option<&'a str>
             if name == key {
                 return Some(text);
             }
+        }
+    }
+    None
+}
+
+/// The name of what is opened there, if a key has it and words give it.
+pub fn name_of<'a>(rows: &[Row], words: &'a [String], port: Port) -> Option<&'a str>
+    ensures { option_map (λ name. name.now) result
+        ≡ name_of (map view_row rows.now) (map string_bytes words.now) port }
+{
+    for row in rows {
+        if row.value().is_name_at(port) {
+            return text_of(words, row.key());
         }
     }
     None
@@ -129,30 +142,22 @@ fn is_new_to_write(rows: &[Row], words: &[String], name: &str) -> bool
         && (name == "-" || !is_read(rows, words, name))
 }
 
-/// Whether words give this name to a key whose value is a name to read.
+/// Whether words give this name to what is read.
 fn is_read(rows: &[Row], words: &[String], name: &str) -> bool
     ensures { result
         ≡ is_read (map view_row rows.now) (map string_bytes words.now) name.now }
 {
-    for row in rows {
-        if row.value().is_to_read() && text_of(words, row.key()) == Some(name) {
-            return true;
-        }
-    }
-    false
+    name_of(rows, words, Port::Side) == Some(name)
+        || name_of(rows, words, Port::Input) == Some(name)
 }
 
-/// Whether words give this name to a key whose value is a name to write.
+/// Whether words give this name to what is written.
 fn is_written(rows: &[Row], words: &[String], name: &str) -> bool
     ensures { result
         ≡ is_written (map view_row rows.now) (map string_bytes words.now) name.now }
 {
-    for row in rows {
-        if row.value().is_to_write() && text_of(words, row.key()) == Some(name) {
-            return true;
-        }
-    }
-    false
+    name_of(rows, words, Port::Output) == Some(name)
+        || name_of(rows, words, Port::Report) == Some(name)
 }
 
 /// Whether a key is needed that no word has.

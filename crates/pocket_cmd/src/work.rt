@@ -5,11 +5,11 @@ ghost use Rattle.pocket_cmd.specs.Courses.{names_of};
 ghost use Rattle.pocket_cmd.specs.Outcome.{AfterCommand, AfterText, IsAnswered, IsAnsweredBy, IsRowAnswered, IsSideAnswered};
 ghost use Rattle.pocket_cmd.specs.Status.{HasStatusCause, status_by};
 
-use crate::words::Command;
 use crate::job::Job;
 use crate::run::run;
 use crate::side::side_text;
 use crate::status::Refusal;
+use crate::words::Command;
 use desk_ports::Desk;
 use std::alloc::Global;
 
