@@ -4,6 +4,7 @@ use Rattle.std.specs.Prelude.{nat_le}
 use Rattle.std.specs.Bool.{OnTrue, OnFalse}
 use Rattle.std.specs.Option.{option_map}
 use Rattle.std.proofs.lemmas.Bool.{true≢false}
+use Rattle.std.proofs.lemmas.Option.{same_Some}
 use Rattle.bit_vectors.specs.declared.fault.BitFault.{BitFault}
 use Rattle.bit_vectors.specs.Vectors.{bits_of}
 use Rattle.bit_vectors.specs.Eye.{EyeState, bits_left}
@@ -58,9 +59,6 @@ part_has f (Some number) vector len = len
 
 abbrev built : ℕ → Option KnownVector → Option KnownVector → List Bool → ℕ → Decoding
 built places mask content recent level = record { places = places; state = record { mask = mask; content = content }; recent = recent; level = level }
-
-same_some : (a b : List Bool) → Some a ≡ Some b → a ≡ b
-same_some a b e = cc
 
 -- what was read is what is spelled
 pub record IsFound (next : Change) (read_mask read_content : Option (List Bool)) (form : Form) (mask content : Option (List Bool)) : Type 0 where
@@ -126,7 +124,7 @@ module _ (d : Decoding) (latest : Latest) (shown : Change) (view : decoding_of l
         → (form : Form) (mask : Option (List Bool)) (content : List Bool) → IsFound next told read_content form mask (Some content) → length content ≡ d.places
         → decoding_of new after ≡ record { places = d.places; state = next_state d.state t mask (Some content); recent = form.recent; level = form.level }
     written_is new after next told read_content number content_is part after_is form mask content found len =
-        let same : new.content ≡ content = same_some new.content content (content_is ∙ found.content_is) in
+        let same : new.content ≡ content = same_Some new.content content (content_is ∙ found.content_is) in
         ap (λ (m : Option KnownVector). built (length new.content) m (part_by new.content_number new.content) after.recent after.level) (part ∙ ap (next_part (part_by latest.mask_number latest.mask) t) found.mask_is)
         ∙ ap (λ (n : Option ℕ). built (length new.content) (next_part (part_by latest.mask_number latest.mask) t mask) (part_by n new.content) after.recent after.level) number
         ∙ ap (λ (v : List Bool). built (length v) (next_part (part_by latest.mask_number latest.mask) t mask) (part_by (Some t) v) after.recent after.level) same

@@ -1,5 +1,5 @@
 -- Masks and their edges.
-use Rattle.std.proofs.Common.{◌≡◌, suc, Bool, true, false, cond, List, [], ◌∷◌, ◌++◌, length, get_or, refl, ap, ◌∙◌, arith}
+use Rattle.std.proofs.Common.{◌≡◌, suc, Bool, true, false, cond, List, [], ◌∷◌, ◌++◌, length, get_or, refl, ap, arith}
 use Rattle.std.specs.Prelude.{not}
 use Rattle.std.proofs.lemmas.List.{length-append}
 use Rattle.std.proofs.lemmas.Simd.{length-zip2}
@@ -18,17 +18,13 @@ xor_back true false = refl
 xor_back false true = refl
 xor_back false false = refl
 
-edges-cons : (bit : Bool) (mask : List Bool) → edges (bit ∷ mask) ≡ xor bit (get_or mask 0 false) ∷ edges mask
-edges-cons bit [] = refl
-edges-cons bit (next ∷ mask) = refl
-
 -- ---- the mask with these edges
 
 pub edges-from_edges : (v : List Bool) → edges (from_edges v) ≡ v
 unfolding from_edges
 edges-from_edges [] = refl
-edges-from_edges (edge ∷ v) =
-    edges-cons (xor edge (get_or (from_edges v) 0 false)) (from_edges v) ∙ rw (xor_back edge (get_or (from_edges v) 0 false), edges-from_edges v) refl
+edges-from_edges (edge ∷ []) = ap (λ (bit : Bool). bit ∷ []) (xor_back edge false)
+edges-from_edges (edge ∷ next ∷ v) = λ i. xor_back edge (get_or (from_edges (next ∷ v)) 0 false) i ∷ edges-from_edges (next ∷ v) i
 
 pub length-from_edges : (v : List Bool) → length (from_edges v) ≡ length v
 unfolding from_edges

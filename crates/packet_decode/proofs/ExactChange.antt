@@ -1,5 +1,5 @@
 -- Reading the first part of a packet is exact: the recent changes, the level and the directions.
-use Rattle.std.proofs.Common.{◌≡◌, ℕ, suc, ◌<◌, ltb, Bool, true, false, cond, List, [], ◌∷◌, ◌++◌, length, Option, Some, None, refl, sym, ap, ◌∙◌, subst, arith}
+use Rattle.std.proofs.Common.{◌≡◌, ℕ, ◌<◌, ltb, Bool, true, false, cond, List, [], ◌∷◌, ◌++◌, length, Option, Some, None, refl, sym, ap, ◌∙◌, subst, arith}
 use Rattle.std.specs.Prelude.{◌&&◌, IfSome, Contains}
 use Rattle.std.specs.List.{list_any}
 use Rattle.std.proofs.lemmas.Bool.{true≢false, ltb-true, lt-ltb}
@@ -9,6 +9,7 @@ use Rattle.bit_vectors.specs.Vectors.{number_bits, IsOne}
 use Rattle.bit_vectors.specs.Reading.{any_bit, parse_number, Read, ◌>>=◌, bit_where, allowed, IsExact}
 use Rattle.bit_vectors.proofs.ExactReading.{IsBitWhere, IsWordThen, IsExact-give, IsExact-bit_where, IsExact-same, IsExact-then}
 use Rattle.bit_vectors.proofs.NumberReading.{IsNumberOfWidth, IsExact-number_at}
+use Rattle.bit_vectors.proofs.Lists.{one_in}
 use Rattle.run_code.specs.Extraction.{bits_up, IsInverseWord, parse_inverse}
 use Rattle.run_code.specs.Runs.{run_bits, IsRunWordOf, parse_vector}
 use Rattle.run_code.proofs.Ones.{one_within}
@@ -120,11 +121,6 @@ may_above : (any above : Bool) → (any && above) ≡ true → (any ≡ true) ×
 may_above true true e = (refl, refl)
 may_above true false e = absurd cc
 may_above false above e = absurd cc
-
-one_in : (v : List Bool) → list_any (λ (bit : Bool). bit) v ≡ true → Contains v true
-one_in [] any = absurd cc
-one_in (true ∷ v) any = (0, omega arith, refl)
-one_in (false ∷ v) any = let c = one_in v any in (suc c.0, omega (arith, c.1), c.2)
 
 any_one : (v : List Bool) (place : ℕ) → IsOne v place → list_any (λ (bit : Bool). bit) v ≡ true
 any_one v place one = list_any_at (λ (bit : Bool). bit) v place false (one_within v place one) one

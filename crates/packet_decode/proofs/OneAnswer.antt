@@ -4,6 +4,7 @@ use Rattle.std.specs.Prelude.{IfSome, IfNone, IsSome, IsNone, IsSomeAnd, count_b
 use Rattle.std.specs.Option.{option_map, option_or}
 use Rattle.std.proofs.lemmas.Bool.{cases_lt}
 use Rattle.std.proofs.lemmas.List.{length-append, append-nil, append_cancel_left, take_at}
+use Rattle.std.proofs.lemmas.Option.{same_Some}
 use Rattle.bit_vectors.specs.Vectors.{byte_count}
 use Rattle.bit_vectors.specs.declared.fault.BitFault.{BitFault}
 use Rattle.bit_vectors.specs.declared.fault.BitFault.TheVariants.{Wrong, EndsEarly}
@@ -150,9 +151,6 @@ module _ (f : ℕ) (state : State) (t : ℕ) (has : IsState f state) where
 
 -- ---- one packet
 
-same_some : (a b : List Bool) (o : Option (List Bool)) → o ≡ Some a → o ≡ Some b → a ≡ b
-same_some a b o p q = cc
-
 -- what is sent, by the mask and the content that become known: the mask, if it is sent; the whole content; and a bit for
 -- each extracted place
 abbrev IsToldBy : Change → Option (List Bool) → Option (List Bool) → Content → Type 0
@@ -190,7 +188,7 @@ same_kind : (change : Change) (mask content : Option (List Bool)) (front rest ot
 same_kind change mask content front rest others (Part a) (Part b) p q e =
     let tails = append_cancel_left front (content_bits (Part a) ++ rest) (content_bits (Part b) ++ others) (sym (append_assoc front (content_bits (Part a)) rest) ∙ e ∙ append_assoc front (content_bits (Part b)) others) in
     ap Part (same_part change mask content rest others a b p q (after_one false (a ++ rest) (b ++ others) tails))
-same_kind change mask content front rest others (Whole a) (Whole b) p q e = ap Whole (same_some a b content p q)
+same_kind change mask content front rest others (Whole a) (Whole b) p q e = ap Whole (same_Some a b (sym p ∙ q))
 same_kind change mask content front rest others (Part a) (Whole b) p q e =
     let tails = append_cancel_left front (content_bits (Part a) ++ rest) (content_bits (Whole b) ++ others) (sym (append_assoc front (content_bits (Part a)) rest) ∙ e ∙ append_assoc front (content_bits (Whole b)) others) in absurd cc
 same_kind change mask content front rest others (Whole a) (Part b) p q e =
@@ -204,13 +202,13 @@ same_data : (change : Change) (mask content : Option (List Bool)) (rest others :
 same_data change mask content rest others None None (Part a) (Part b) m n p q e = (refl, ap Part (same_part change mask content rest others a b p q (after_one true (a ++ rest) (b ++ others) e)))
 same_data change mask content rest others None None (Part a) (Whole b) m n p q e = absurd cc
 same_data change mask content rest others None None (Whole a) (Part b) m n p q e = absurd cc
-same_data change mask content rest others None None (Whole a) (Whole b) m n p q e = (refl, ap Whole (same_some a b content p q))
+same_data change mask content rest others None None (Whole a) (Whole b) m n p q e = (refl, ap Whole (same_Some a b (sym p ∙ q)))
 same_data change mask content rest others None (Some x) (Part a) b m n p q e = absurd cc
 same_data change mask content rest others None (Some x) (Whole a) b m n p q e = absurd cc
 same_data change mask content rest others (Some x) None a (Part b) m n p q e = absurd cc
 same_data change mask content rest others (Some x) None a (Whole b) m n p q e = absurd cc
 same_data change mask content rest others (Some x) (Some y) a b m n p q e =
-    let same : x ≡ y = same_some x y mask m n in
+    let same : x ≡ y = same_Some x y (sym m ∙ n) in
     let tails = after_two false true ((run_bits (edges x) ++ content_bits a) ++ rest) ((run_bits (edges y) ++ content_bits b) ++ others) e in
     (ap Some same, same_kind change mask content (run_bits (edges x)) rest others a b p q (rw (← same) at tails))
 
