@@ -7,6 +7,7 @@ pub mod Opened
 pub mod Performed
 pub mod Granted
 pub mod Unread
+pub mod CutOff
 mod Delivered
 mod Kept
 mod Sided

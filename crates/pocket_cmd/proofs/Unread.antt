@@ -1,5 +1,5 @@
 -- What a command answers whose side input was not read.
-use Rattle.std.proofs.Common.{◌≡◌, ℕ, ◌<◌, ◌≤◌, true, cond, List, length, Some, IfSome, Err, refl, sym, ap, subst, arith}
+use Rattle.std.proofs.Common.{◌≡◌, ℕ, ◌<◌, ◌≤◌, true, cond, List, length, Some, IfSome, Result, Err, inl, inr, refl, sym, ap, subst, arith}
 use Rattle.std.specs.Prelude.{nat_lt}
 use Rattle.std.proofs.lemmas.Bool.Decides.{nat_tests}
 use Rattle.desk_ports.specs.Meanings.{Meanings, Counts}
@@ -7,11 +7,12 @@ use Rattle.desk_ports.proofs.Faults.{Rose-reads}
 use Rattle.pocket_cmd.specs.declared.side.TextFault.{TextFault}
 use Rattle.pocket_cmd.specs.declared.side.TextFault.TheVariants as unread
 use Rattle.pocket_cmd.specs.declared.status.Status.TheVariants.{Refused}
+use Rattle.pocket_cmd.specs.declared.status.Refusal.{Refusal}
 use Rattle.pocket_cmd.specs.declared.status.Refusal.TheVariants as refusal
 use Rattle.pocket_cmd.specs.Command.{Command}
-use Rattle.pocket_cmd.specs.Courses.{names_of}
-use Rattle.pocket_cmd.specs.Openings.{HasSideCause, IsSideLong, side_given}
-use Rattle.pocket_cmd.specs.Outcome.{IsAnswered, IsSideAnswered, answer_by}
+use Rattle.pocket_cmd.specs.Courses.{bad_row_of, names_of}
+use Rattle.pocket_cmd.specs.Openings.{HasSideCause, IsSideCutOff, IsSideLong, IsSideText, IsSideUnread, side_given}
+use Rattle.pocket_cmd.specs.Outcome.{IsAnswered, IsRowAnswered, IsRowFirstOf, IsSideAnswered, answer_by}
 use Rattle.pocket_cmd.specs.Status.{refusal_at}
 
 -- a text that is told is as long as that
@@ -38,3 +39,16 @@ pub IsSideAnswered-unread : (command : Command) (old : Meanings) (counts after :
 IsSideAnswered-unread command old counts after unread.TooLong long cause = λ text told memory reads. (λ _. refl, λ within. absurd (not_both text within (long_told command old text (long refl) told)))
 IsSideAnswered-unread command old counts after unread.ReadFault long cause = λ text told memory reads. absurd (reads (Rose-reads counts after cause))
 IsSideAnswered-unread command old counts after unread.NoMemory long cause = λ text told memory reads. absurd (memory refl)
+
+-- a record of the text that is no row is answered, unless reading failed
+pub IsRowFirst-unread : (command : Command) (old new : Meanings) (fault : TextFault) → (fault ≡ unread.TooLong → IsSideLong old (names_of command).side) → (fault ≡ unread.ReadFault → IsSideUnread 1048577 old (names_of command).side new)
+    → IsRowFirstOf command old new (Err (refusal_at fault))
+IsRowFirst-unread command old new unread.TooLong long cut_off = λ text row told within bad memory. absurd (not_both text within (long_told command old text (long refl) told))
+IsRowFirst-unread command old new unread.ReadFault long cut_off = λ text row told within bad memory. inr (refl, subst (λ o. IfSome o (λ text. IsSideCutOff 1048577 old text new)) told (cut_off refl))
+IsRowFirst-unread command old new unread.NoMemory long cut_off = λ text row told within bad memory. absurd (memory refl)
+
+-- if it is read, it is answered
+pub IsRowFirst-read : (command : Command) (old new : Meanings) (read : List ℕ) (answer : Result (Unit {0}) Refusal) → IsSideText old (names_of command).side read → IsRowAnswered command read answer → IsRowFirstOf command old new answer
+IsRowFirst-read command old new read answer is answered = λ text row told within bad memory.
+    let same : read ≡ text = subst (λ o. IfSome o (λ bytes. read ≡ bytes)) told is in
+    inl (answered row (subst (λ text. bad_row_of command text ≡ Some row) (sym same) bad) memory)

@@ -61,6 +61,17 @@ HasSideBytes m name n = IfSome (given m inlet.Side name) (λ bytes. n ≤ length
 abbrev pub IsSideReadTo : ℕ → Meanings → Option (List ℕ) → Meanings → Type 0
 IsSideReadTo n old side new = IfSome (side_given old side) (λ bytes. left new inlet.Side ≡ Some (drop n bytes))
 
+-- Reading the side input failed. It was not opened, and nothing changed; or fewer than so many bytes of its text were
+-- read, those after them are left, and nothing else changed: the failing read may be the one that finds the end.
+abbrev pub IsSideCutOff : ℕ → Meanings → List ℕ → Meanings → Type 0
+IsSideCutOff most old text new =
+    (new ≡ old)
+    ⊎ ((n : ℕ) × (n < most) × (n ≤ length text) × (new ≡ with_incoming old inlet.Side (record { left = Some (drop n text); ready = true })))
+
+-- the same, if the desk tells the text
+abbrev pub IsSideUnread : ℕ → Meanings → Option (List ℕ) → Meanings → Type 0
+IsSideUnread most old side new = IfSome (side_given old side) (λ text. IsSideCutOff most old text new)
+
 -- the side input was opened and read to its end, if there is one
 abbrev pub with_side : Meanings → Option (List ℕ) → Meanings
 with_side m None = m

@@ -14,7 +14,7 @@ use Rattle.pocket_cmd.specs.Courses.{course_of, bad_row_of, names_of}
 use Rattle.pocket_cmd.specs.Unfed.{EndsBy, IsCutOffBy, IsCutShortBy}
 use Rattle.pocket_cmd.specs.Status.{Class, class_of, status_of, status_by}
 use Rattle.pocket_cmd.specs.Status as class
-use Rattle.pocket_cmd.specs.Openings.{AreKept, IsSideText, IsSideLong, IsSideReadTo, KeepsAll, with_side, all_opened, all_finished, IsHalfOpened, IsHalfKept, input_given, side_given}
+use Rattle.pocket_cmd.specs.Openings.{AreKept, IsSideText, IsSideLong, IsSideReadTo, IsSideCutOff, KeepsAll, with_side, all_opened, all_finished, IsHalfOpened, IsHalfKept, input_given, side_given}
 
 -- ---- after the side input
 
@@ -199,3 +199,14 @@ abbrev pub IsSideAnswered : Command → Meanings → Counts → Counts → Resul
 IsSideAnswered command m old new result =
     (text : List ℕ) → side_given m (names_of command).side ≡ Some text → status_by result ≢ Refused refusal.NoMemory → ¬ Rose old.reads new.reads
     → (1048576 < length text → status_by result ≡ Refused refusal.SideTooLong) × (length text ≤ 1048576 → IsRowAnswered command text result)
+
+-- this record that is no row is answered, or a failed reading, and then the desk is as after one of the side input
+abbrev pub IsRowFirst : Meanings → List ℕ → ℕ → Meanings → Status → Type 0
+IsRowFirst old text row new status =
+    (status ≡ Refused (refusal.BadSide row)) ⊎ ((status ≡ Refused refusal.ReadFault) × IsSideCutOff 1048577 old text new)
+
+-- the same, if this is the side text and memory was found
+abbrev pub IsRowFirstOf : Command → Meanings → Meanings → Result (Unit {0}) Refusal → Type 0
+IsRowFirstOf command old new result =
+    (text : List ℕ) (row : ℕ) → side_given old (names_of command).side ≡ Some text → length text ≤ 1048576
+    → bad_row_of command text ≡ Some row → status_by result ≢ Refused refusal.NoMemory → IsRowFirst old text row new (status_by result)

@@ -3,7 +3,7 @@ ghost use Rattle.std.specs.Prelude.{◌≡◌, ◌≤◌, ◌<◌, length, take,
 ghost use Rattle.std.specs.Option.{option_map};
 ghost use Rattle.desk_ports.specs.Meanings.{HasReadCause};
 ghost use Rattle.pocket_cmd.specs.declared.side.TextFault.TheVariants as unread;
-ghost use Rattle.pocket_cmd.specs.Openings.{IsSideText, IsSideLong, IsSideReadTo, HasSideBytes, KeepsAll, HasSideCause, with_side};
+ghost use Rattle.pocket_cmd.specs.Openings.{IsSideText, IsSideLong, IsSideReadTo, IsSideUnread, HasSideBytes, KeepsAll, HasSideCause, with_side};
 
 use desk_ports::{Desk, Failed, Inlet, fill};
 use std::alloc::{AllocError, Global};
@@ -53,6 +53,9 @@ pub fn side_text<D: Desk>(
     ensures no_further { let side = option_map (λ name. name.now) name.entry in
         result ≡ Err unread.TooLong
         → IsSideReadTo 1048577 (D.meaning desk.old) side (D.meaning desk.new) }
+    ensures cut_off { let side = option_map (λ name. name.now) name.entry in
+        result ≡ Err unread.ReadFault
+        → IsSideUnread 1048577 (D.meaning desk.old) side (D.meaning desk.new) }
     ensures keeps { let side = option_map (λ name. name.now) name.entry in
         OnErr result (KeepsAll side (D.meaning desk.old) (D.meaning desk.new)) }
     ensures side { OnErr result (IsSome name.entry) }
@@ -75,6 +78,8 @@ fn text_of<D: Desk>(alloc: Global, desk: &mut D, name: &str) -> Result<Vec<u8>, 
     ensures long { result ≡ Err unread.TooLong → IsSideLong (D.meaning desk.old) (Some name.now) }
     ensures no_further { result ≡ Err unread.TooLong
         → IsSideReadTo 1048577 (D.meaning desk.old) (Some name.now) (D.meaning desk.new) }
+    ensures cut_off { result ≡ Err unread.ReadFault
+        → IsSideUnread 1048577 (D.meaning desk.old) (Some name.now) (D.meaning desk.new) }
     ensures keeps { OnErr result
         (KeepsAll (Some name.now) (D.meaning desk.old) (D.meaning desk.new)) }
     ensures cause { HasSideCause (D.counts desk.old) (D.counts desk.new) result }
@@ -102,6 +107,8 @@ fn read_side<D: Desk>(desk: &mut D, name: &str, room: &mut [u8]) -> Result<usize
     ensures front { IfOk result (λ n. HasSideBytes (D.meaning desk.old) name.now n) }
     ensures moved { IfOk result
         (λ n. IsSideReadTo n (D.meaning desk.old) (Some name.now) (D.meaning desk.new)) }
+    ensures cut_off { OnErr result (IsSideUnread (length room.old)
+        (D.meaning desk.old) (Some name.now) (D.meaning desk.new)) }
     ensures text { IfOk result (λ n. n < length room.old
         → IsSideText (D.meaning desk.old) (Some name.now) (take n room.new)) }
     ensures read { IfOk result

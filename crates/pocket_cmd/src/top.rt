@@ -1,9 +1,9 @@
 //! The top call: from the words of the command line to the outputs of a desk.
-ghost use Rattle.std.specs.Prelude.{◌≡◌, ◌≢◌, ◌<◌, ◌^◌, ◌↔◌, ℕ, List, Option, length, drop, map, Some, Err, IsTrue};
+ghost use Rattle.std.specs.Prelude.{◌≡◌, ◌≢◌, ◌<◌, ◌≤◌, ◌^◌, ◌↔◌, ℕ, List, Option, length, drop, map, Some, Err, IsTrue};
 ghost use Rattle.std.specs.String.{string_bytes};
 ghost use Rattle.pocket_cmd.specs.Faults.{DataFault as Fault};
 ghost use Rattle.pocket_cmd.specs.Command.{Command as Told, Restore, RestoreValues, HasCommand, IsCommandOf, command_of};
-ghost use Rattle.pocket_cmd.specs.Courses.{names_of};
+ghost use Rattle.pocket_cmd.specs.Courses.{bad_row_of, names_of};
 ghost use Rattle.mask_update.specs.Histories.{History};
 ghost use Rattle.ground_chain.specs.Deliveries.{report_text, restored_bytes};
 ghost use Rattle.pocket_cmd.specs.Delivery.{HasWritten, IsPlayedStore, IsSideRight, IsInputWhole};
@@ -11,7 +11,7 @@ ghost use Rattle.desk_ports.specs.declared.desk.Inlet.TheVariants as inlet;
 ghost use Rattle.desk_ports.specs.Meanings.{Rose, left};
 ghost use Rattle.pocket_cmd.specs.Kept.{Leaves};
 ghost use Rattle.pocket_cmd.specs.Openings.{AreTold, side_given};
-ghost use Rattle.pocket_cmd.specs.Outcome.{AfterRefusal, IsSideJudged, NoneRose, Stands, answer_to};
+ghost use Rattle.pocket_cmd.specs.Outcome.{AfterRefusal, IsRowFirst, IsSideJudged, NoneRose, Stands, answer_to};
 ghost use Rattle.pocket_cmd.specs.Status.{HasStatusCause, status_of};
 ghost use Rattle.pocket_cmd.specs.Words.{AssignsOneOf, read_keys, written_keys};
 
@@ -82,6 +82,15 @@ pub fn pocket<D: Desk>(alloc: Global, words: &[String], desk: &mut D) -> Status
         → side_given (D.meaning desk.old) (names_of command).side ≡ Some text
         → result ≡ Status.Refused Refusal.SideTooLong
         → left (D.meaning desk.new) inlet.Side ≡ Some (drop 1048577 text) }
+
+    // If the side text is told, is no longer than its limit and has a record that is no row, and memory was found, the
+    // first such record is answered at every desk; or ReadFault, and then the desk is as before, or a front of the text
+    // was read and nothing else has changed. That may be all of it, since the read that finds the end can fail.
+    ensures bad_row { (command : Told) (text : List ℕ) (row : ℕ) → IsCommandOf words.now command
+        → side_given (D.meaning desk.old) (names_of command).side ≡ Some text
+        → length text ≤ 1048576 → bad_row_of command text ≡ Some row
+        → result ≢ Status.Refused Refusal.NoMemory
+        → IsRowFirst (D.meaning desk.old) text row (D.meaning desk.new) result }
 
     // If both inputs are told, memory was found and no count rose, the answer is that of the side text and of the
     // input's course.

@@ -2,7 +2,7 @@
 ghost use Rattle.std.specs.Prelude.{◌≤◌, length, IsTrue, IfSome};
 ghost use Rattle.pocket_cmd.specs.Command.{view_command};
 ghost use Rattle.pocket_cmd.specs.Courses.{names_of};
-ghost use Rattle.pocket_cmd.specs.Outcome.{AfterCommand, AfterText, IsAnswered, IsAnsweredBy, IsRowAnswered, IsSideAnswered};
+ghost use Rattle.pocket_cmd.specs.Outcome.{AfterCommand, AfterText, IsAnswered, IsAnsweredBy, IsRowAnswered, IsRowFirstOf, IsSideAnswered};
 ghost use Rattle.pocket_cmd.specs.Status.{HasStatusCause, status_by};
 
 use crate::job::Job;
@@ -30,6 +30,8 @@ pub fn perform<D: Desk>(alloc: Global, command: &Command<'_>, desk: &mut D) -> R
         (D.counts desk.new) result }
     ensures side_text { IsSideAnswered (view_command command.now) (D.meaning desk.old)
         (D.counts desk.old) (D.counts desk.new) result }
+    ensures bad_row { IsRowFirstOf (view_command command.now) (D.meaning desk.old)
+        (D.meaning desk.new) result }
 {
     match side_text(alloc, desk, command.names().side) {
         Ok(text) => perform_with(alloc, command, &text, desk),

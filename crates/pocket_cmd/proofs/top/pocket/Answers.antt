@@ -3,7 +3,7 @@ use Rattle.std.specs.String.{string_bytes}
 use Rattle.pocket_cmd.specs.declared.status.Refusal.TheVariants as refusal
 use Rattle.pocket_cmd.specs.Command.{Restore, view_command}
 use Rattle.pocket_cmd.specs.Courses.{names_of}
-use Rattle.pocket_cmd.specs.Outcome.{AfterCommand, AfterRefusal, IsSideAnswered, IsSideJudged}
+use Rattle.pocket_cmd.specs.Outcome.{AfterCommand, AfterRefusal, IsRowFirst, IsRowFirstOf, IsSideAnswered, IsSideJudged}
 use Rattle.pocket_cmd.specs.Status.{class_of}
 use Rattle.pocket_cmd.proofs.Given.{IsCommand-command_of}
 use Rattle.pocket_cmd.proofs.Granted.{same_command, side_granted, input_granted, output_granted, report_granted, not_both, ends_for}
@@ -101,3 +101,14 @@ returns-in-Ok-clause-read_no_further g c = λ command text is told long.
 
 pub returns-in-Err-clause-read_no_further : goal.returns-in-Err-clause-read_no_further
 returns-in-Err-clause-read_no_further g c = λ command text is told long. absurd (not_both is (sym c.in-Err.ensures))
+
+pub returns-in-Ok-clause-bad_row : goal.returns-in-Ok-clause-bad_row
+returns-in-Ok-clause-bad_row g c = λ command text row is told within bad memory.
+    let old = g.D.Desk.meaning c.args.desk.now in
+    let new = g.D.Desk.meaning c.perform.new.desk in
+    subst (IsRowFirst old text row new) (sym c.into.ensures)
+    ((subst (λ command. IsRowFirstOf command old new c.perform.result) (same_command (sym c.in-Ok.ensures) is) c.perform.ensures.bad_row)
+    text row told within bad (λ e. memory (c.into.ensures ∙ e)))
+
+pub returns-in-Err-clause-bad_row : goal.returns-in-Err-clause-bad_row
+returns-in-Err-clause-bad_row g c = λ command text row is told within bad memory. absurd (not_both is (sym c.in-Err.ensures))
