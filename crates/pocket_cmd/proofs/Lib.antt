@@ -12,3 +12,4 @@ mod Sided
 mod Headline
 mod Compositions
 mod Trials
+mod Apart
