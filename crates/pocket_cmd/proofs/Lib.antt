@@ -6,6 +6,7 @@ pub mod Texts
 pub mod Opened
 pub mod Performed
 pub mod Granted
+pub mod Unread
 mod Delivered
 mod Kept
 mod Sided

@@ -1,6 +1,7 @@
 -- Which side text is refused.
-use Rattle.std.proofs.Common.{◌≡◌, ◌≢◌, ℕ, ◌<◌, ◌≤◌, ◌⊎◌, inl, inr, List, length, Some, IfSome, Result, subst, arith}
-use Rattle.desk_ports.specs.Meanings.{Meanings, Counts, Rose}
+use Rattle.std.proofs.Common.{◌≡◌, ◌≢◌, ℕ, ◌<◌, ◌≤◌, ◌⊎◌, inl, inr, List, length, drop, Some, IfSome, Result, subst, arith}
+use Rattle.desk_ports.specs.declared.desk.Inlet.TheVariants as inlet
+use Rattle.desk_ports.specs.Meanings.{Meanings, Counts, Rose, left}
 use Rattle.pocket_cmd.specs.declared.status.Status.{Status}
 use Rattle.pocket_cmd.specs.declared.status.Status.TheVariants.{Refused}
 use Rattle.pocket_cmd.specs.declared.status.Refusal.{Refusal}
@@ -12,6 +13,12 @@ use Rattle.pocket_cmd.specs.Outcome.{AfterCommand, IsSideAnswered, IsSideJudged}
 use Rattle.pocket_cmd.specs.Status.{status_by}
 use Rattle.pocket_cmd.proofs.Performed.{AfterRefusal-answer}
 use Rattle.pocket_cmd.proofs.Delivered.{side_text_is}
+
+-- a text that is too long was read to its limit and one byte
+pub left-too_long : (command : Command) (text : List ℕ) (old new : Meanings) (r : Result (Unit {0}) Refusal) → AfterCommand command old new r
+    → side_given old (names_of command).side ≡ Some text → status_by r ≡ Refused refusal.SideTooLong → left new inlet.Side ≡ Some (drop 1048577 text)
+left-too_long command text old new r e told is =
+    subst (λ o. IfSome o (λ bytes. left new inlet.Side ≡ Some (drop 1048577 bytes))) told (AfterRefusal-answer command old new r refusal.SideTooLong e is).read
 
 -- each answer that refuses a side text does so for its text
 pub IsSideJudged-answer : (command : Command) (text : List ℕ) (old new : Meanings) (counts after : Counts) (r : Result (Unit {0}) Refusal) → AfterCommand command old new r → IsSideAnswered command old counts after r

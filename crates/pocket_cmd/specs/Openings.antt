@@ -1,5 +1,5 @@
 -- What reading a side input, and opening and finishing the names of a command, do to a desk.
-use Rattle.std.specs.Prelude.{◌≡◌, ℕ, ◌<◌, ◌≤◌, ◌⊎◌, true, List, [], length, Option, Some, None, Result, Ok, Err, IfSome, IsSome}
+use Rattle.std.specs.Prelude.{◌≡◌, ℕ, ◌<◌, ◌≤◌, ◌⊎◌, true, List, [], length, drop, Option, Some, None, Result, Ok, Err, IfSome, IsSome}
 use Rattle.std.specs.Option.{option_map}
 use Rattle.desk_ports.specs.Meanings.{Meanings, Counts, Kept, FailsToRead, FailsToWrite, kept_at, kept_after, left, made, with_incoming, with_outgoing}
 use Rattle.desk_ports.specs.declared.desk.Inlet.{Inlet}
@@ -56,6 +56,10 @@ IsSideLong m side = IfSome (side_given m side) (λ bytes. 1048576 < length bytes
 -- the side input of this name has at least so many bytes, if the desk tells it
 abbrev pub HasSideBytes : Meanings → List ℕ → ℕ → Type 0
 HasSideBytes m name n = IfSome (given m inlet.Side name) (λ bytes. n ≤ length bytes)
+
+-- so many bytes of the text of the side input were read, if the desk tells it, and the bytes after them are left
+abbrev pub IsSideReadTo : ℕ → Meanings → Option (List ℕ) → Meanings → Type 0
+IsSideReadTo n old side new = IfSome (side_given old side) (λ bytes. left new inlet.Side ≡ Some (drop n bytes))
 
 -- the side input was opened and read to its end, if there is one
 abbrev pub with_side : Meanings → Option (List ℕ) → Meanings

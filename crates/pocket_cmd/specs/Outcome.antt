@@ -14,7 +14,7 @@ use Rattle.pocket_cmd.specs.Courses.{course_of, bad_row_of, names_of}
 use Rattle.pocket_cmd.specs.Unfed.{EndsBy, IsCutOffBy, IsCutShortBy}
 use Rattle.pocket_cmd.specs.Status.{Class, class_of, status_of, status_by}
 use Rattle.pocket_cmd.specs.Status as class
-use Rattle.pocket_cmd.specs.Openings.{AreKept, IsSideText, IsSideLong, KeepsAll, with_side, all_opened, all_finished, IsHalfOpened, IsHalfKept, input_given, side_given}
+use Rattle.pocket_cmd.specs.Openings.{AreKept, IsSideText, IsSideLong, IsSideReadTo, KeepsAll, with_side, all_opened, all_finished, IsHalfOpened, IsHalfKept, input_given, side_given}
 
 -- ---- after the side input
 
@@ -92,9 +92,10 @@ abbrev pub Stands : Command → Meanings → Meanings → Option DataFault → T
 Stands command old new ending =
     OnceSideRead (names_of command).side old (λ text start. RunStands (names_of command) (course_of command text) start new ending)
 
--- the side text is too long, and nothing changed but the side input
+-- the side text is too long, it was read to its limit and one byte, and nothing changed but the side input
 pub record IsTooLong (command : Command) (old new : Meanings) : Type 0 where
   pub long : IsSideLong old (names_of command).side
+  pub read : IsSideReadTo 1048577 old (names_of command).side new
   pub keeps : KeepsAll (names_of command).side old new
 
 -- this record of the side text is the first that is no row, and nothing changed but the side input

@@ -3,7 +3,7 @@ ghost use Rattle.std.specs.Prelude.{◌≡◌, ◌≤◌, ◌<◌, length, take,
 ghost use Rattle.std.specs.Option.{option_map};
 ghost use Rattle.desk_ports.specs.Meanings.{HasReadCause};
 ghost use Rattle.pocket_cmd.specs.declared.side.TextFault.TheVariants as unread;
-ghost use Rattle.pocket_cmd.specs.Openings.{IsSideText, IsSideLong, HasSideBytes, KeepsAll, HasSideCause, with_side};
+ghost use Rattle.pocket_cmd.specs.Openings.{IsSideText, IsSideLong, IsSideReadTo, HasSideBytes, KeepsAll, HasSideCause, with_side};
 
 use desk_ports::{Desk, Failed, Inlet, fill};
 use std::alloc::{AllocError, Global};
@@ -50,6 +50,9 @@ pub fn side_text<D: Desk>(
     ensures within { IfOk result (λ text. length text.items ≤ 1048576) }
     ensures long { let side = option_map (λ name. name.now) name.entry in
         result ≡ Err unread.TooLong → IsSideLong (D.meaning desk.old) side }
+    ensures no_further { let side = option_map (λ name. name.now) name.entry in
+        result ≡ Err unread.TooLong
+        → IsSideReadTo 1048577 (D.meaning desk.old) side (D.meaning desk.new) }
     ensures keeps { let side = option_map (λ name. name.now) name.entry in
         OnErr result (KeepsAll side (D.meaning desk.old) (D.meaning desk.new)) }
     ensures side { OnErr result (IsSome name.entry) }
@@ -70,6 +73,8 @@ fn text_of<D: Desk>(alloc: Global, desk: &mut D, name: &str) -> Result<Vec<u8>, 
         (D.meaning desk.new ≡ with_side (D.meaning desk.old) (Some name.now)) }
     ensures within { IfOk result (λ text. length text.items ≤ 1048576) }
     ensures long { result ≡ Err unread.TooLong → IsSideLong (D.meaning desk.old) (Some name.now) }
+    ensures no_further { result ≡ Err unread.TooLong
+        → IsSideReadTo 1048577 (D.meaning desk.old) (Some name.now) (D.meaning desk.new) }
     ensures keeps { OnErr result
         (KeepsAll (Some name.now) (D.meaning desk.old) (D.meaning desk.new)) }
     ensures cause { HasSideCause (D.counts desk.old) (D.counts desk.new) result }
@@ -95,6 +100,8 @@ fn read_side<D: Desk>(desk: &mut D, name: &str, room: &mut [u8]) -> Result<usize
     requires { IsTrue ((D.meaning desk.old).grants_in name.now) }
     ensures within { IfOk result (λ n. n ≤ length room.old) }
     ensures front { IfOk result (λ n. HasSideBytes (D.meaning desk.old) name.now n) }
+    ensures moved { IfOk result
+        (λ n. IsSideReadTo n (D.meaning desk.old) (Some name.now) (D.meaning desk.new)) }
     ensures text { IfOk result (λ n. n < length room.old
         → IsSideText (D.meaning desk.old) (Some name.now) (take n room.new)) }
     ensures read { IfOk result

@@ -1,5 +1,5 @@
 //! The top call: from the words of the command line to the outputs of a desk.
-ghost use Rattle.std.specs.Prelude.{◌≡◌, ◌≢◌, ◌<◌, ◌^◌, ◌↔◌, ℕ, List, Option, length, map, Some, Err, IsTrue};
+ghost use Rattle.std.specs.Prelude.{◌≡◌, ◌≢◌, ◌<◌, ◌^◌, ◌↔◌, ℕ, List, Option, length, drop, map, Some, Err, IsTrue};
 ghost use Rattle.std.specs.String.{string_bytes};
 ghost use Rattle.pocket_cmd.specs.Apart.{AreKeptAsMade};
 ghost use Rattle.pocket_cmd.specs.Faults.{DataFault as Fault};
@@ -8,7 +8,8 @@ ghost use Rattle.pocket_cmd.specs.Courses.{names_of};
 ghost use Rattle.mask_update.specs.Histories.{History};
 ghost use Rattle.ground_chain.specs.Deliveries.{report_text, restored_bytes};
 ghost use Rattle.pocket_cmd.specs.Delivery.{HasWritten, IsPlayedStore, IsSideRight, IsInputWhole};
-ghost use Rattle.desk_ports.specs.Meanings.{Rose};
+ghost use Rattle.desk_ports.specs.declared.desk.Inlet.TheVariants as inlet;
+ghost use Rattle.desk_ports.specs.Meanings.{Rose, left};
 ghost use Rattle.pocket_cmd.specs.Kept.{Leaves};
 ghost use Rattle.pocket_cmd.specs.Openings.{AreTold, side_given};
 ghost use Rattle.pocket_cmd.specs.Outcome.{AfterRefusal, IsSideJudged, NoneRose, Stands, answer_to};
@@ -80,6 +81,12 @@ pub fn pocket<D: Desk>(alloc: Global, words: &[String], desk: &mut D) -> Status
         → result ≢ Status.Refused Refusal.NoMemory
         → ¬ Rose (D.counts desk.old).reads (D.counts desk.new).reads
         → IsSideJudged command text result }
+
+    // A side text that is too long is read to its limit and one byte, and no further, if it is told.
+    ensures read_no_further { (command : Told) (text : List ℕ) → IsCommandOf words.now command
+        → side_given (D.meaning desk.old) (names_of command).side ≡ Some text
+        → result ≡ Status.Refused Refusal.SideTooLong
+        → left (D.meaning desk.new) inlet.Side ≡ Some (drop 1048577 text) }
 
     // If both inputs are told, memory was found and no count rose, the answer is that of the side text and of the
     // input's course.

@@ -10,7 +10,7 @@ use Rattle.pocket_cmd.proofs.Given.{IsCommand-command_of}
 use Rattle.pocket_cmd.proofs.Granted.{same_command, side_granted, input_granted, output_granted, report_granted, not_both, ends_for}
 use Rattle.pocket_cmd.proofs.Performed.{AfterRefusal-answer, Stands-answer}
 use Rattle.pocket_cmd.proofs.Kept.{Leaves-refused}
-use Rattle.pocket_cmd.proofs.Sided.{IsSideJudged-answer}
+use Rattle.pocket_cmd.proofs.Sided.{IsSideJudged-answer, left-too_long}
 use Rattle.pocket_cmd.proofs.Headline.{Done-whole, HasWritten-restored}
 use Rattle.pocket_cmd.proofs.top.pocket.Goals as goal
 
@@ -100,3 +100,13 @@ returns-in-Ok-clause-side_text g c = λ command text is told memory reads.
     (subst (λ command. AfterCommand command old (g.D.Desk.meaning c.perform.new.desk) c.perform.result) same c.perform.ensures.after)
     (subst (λ command. IsSideAnswered command old (g.D.Desk.counts c.args.desk.now) (g.D.Desk.counts c.perform.new.desk) c.perform.result) same c.perform.ensures.side_text)
     told (λ e. memory (c.into.ensures ∙ e)) reads)
+
+pub returns-in-Ok-clause-read_no_further : goal.returns-in-Ok-clause-read_no_further
+returns-in-Ok-clause-read_no_further g c = λ command text is told long.
+    let old = g.D.Desk.meaning c.args.desk.now in
+    left-too_long command text old (g.D.Desk.meaning c.perform.new.desk) c.perform.result
+    (subst (λ command. AfterCommand command old (g.D.Desk.meaning c.perform.new.desk) c.perform.result) (same_command (sym c.in-Ok.ensures) is) c.perform.ensures.after)
+    told (sym c.into.ensures ∙ long)
+
+pub returns-in-Err-clause-read_no_further : goal.returns-in-Err-clause-read_no_further
+returns-in-Err-clause-read_no_further g c = λ command text is told long. absurd (not_both is (sym c.in-Err.ensures))

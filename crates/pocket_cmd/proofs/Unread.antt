@@ -1,0 +1,40 @@
+-- What a command answers whose side input was not read.
+use Rattle.std.proofs.Common.{◌≡◌, ℕ, ◌<◌, ◌≤◌, true, cond, List, length, Some, IfSome, Err, refl, sym, ap, subst, arith}
+use Rattle.std.specs.Prelude.{nat_lt}
+use Rattle.std.proofs.lemmas.Bool.Decides.{nat_tests}
+use Rattle.desk_ports.specs.Meanings.{Meanings, Counts}
+use Rattle.desk_ports.proofs.Faults.{Rose-reads}
+use Rattle.pocket_cmd.specs.declared.side.TextFault.{TextFault}
+use Rattle.pocket_cmd.specs.declared.side.TextFault.TheVariants as unread
+use Rattle.pocket_cmd.specs.declared.status.Status.TheVariants.{Refused}
+use Rattle.pocket_cmd.specs.declared.status.Refusal.TheVariants as refusal
+use Rattle.pocket_cmd.specs.Command.{Command}
+use Rattle.pocket_cmd.specs.Courses.{names_of}
+use Rattle.pocket_cmd.specs.Openings.{HasSideCause, IsSideLong, side_given}
+use Rattle.pocket_cmd.specs.Outcome.{IsAnswered, IsSideAnswered, answer_by}
+use Rattle.pocket_cmd.specs.Status.{refusal_at}
+
+-- a text that is told is as long as that
+long_told : (command : Command) (old : Meanings) (text : List ℕ) → IsSideLong old (names_of command).side → side_given old (names_of command).side ≡ Some text → 1048576 < length text
+long_told command old text long told = subst (λ o. IfSome o (λ bytes. 1048576 < length bytes)) told long
+
+longer : (text : List ℕ) → 1048576 < length text → nat_lt 1048576 (length text) ≡ true
+longer text h = grind (arith, nat_tests)
+
+not_both : (text : List ℕ) → length text ≤ 1048576 → 1048576 < length text → ⊥
+not_both text within long = omega arith
+
+-- the answer is that of the side text and of the input
+pub IsAnswered-unread : (command : Command) (old : Meanings) (counts after : Counts) (fault : TextFault) → (fault ≡ unread.TooLong → IsSideLong old (names_of command).side) → HasSideCause {T = Unit {0}} counts after (Err fault)
+    → IsAnswered command old counts after (Err (refusal_at fault))
+IsAnswered-unread command old counts after unread.TooLong long cause = λ text input told given memory reads writes.
+    sym (ap (λ b. cond b (Refused refusal.SideTooLong) (answer_by command text input)) (longer text (long_told command old text (long refl) told)))
+IsAnswered-unread command old counts after unread.ReadFault long cause = λ text input told given memory reads writes. absurd (reads (Rose-reads counts after cause))
+IsAnswered-unread command old counts after unread.NoMemory long cause = λ text input told given memory reads writes. absurd (memory refl)
+
+-- and a text that is too long is answered
+pub IsSideAnswered-unread : (command : Command) (old : Meanings) (counts after : Counts) (fault : TextFault) → (fault ≡ unread.TooLong → IsSideLong old (names_of command).side) → HasSideCause {T = Unit {0}} counts after (Err fault)
+    → IsSideAnswered command old counts after (Err (refusal_at fault))
+IsSideAnswered-unread command old counts after unread.TooLong long cause = λ text told memory reads. (λ _. refl, λ within. absurd (not_both text within (long_told command old text (long refl) told)))
+IsSideAnswered-unread command old counts after unread.ReadFault long cause = λ text told memory reads. absurd (reads (Rose-reads counts after cause))
+IsSideAnswered-unread command old counts after unread.NoMemory long cause = λ text told memory reads. absurd (memory refl)
