@@ -1,11 +1,14 @@
 -- What the program itself answers, and what it leaves at its desk of files.
-use Rattle.std.specs.Prelude.{◌≡◌, ℕ, ◌≤◌, ◌⊎◌, List, [], ◌∷◌, codes, Option, Some, None, if◌then◌else◌, take, map}
+use Rattle.std.specs.Prelude.{◌≡◌, ℕ, ◌≤◌, ◌⊎◌, List, [], ◌∷◌, codes, Option, Some, None, Result, Err, if◌then◌else◌, take, map}
 use Rattle.std.specs.Str.{bytes_eq}
 use Rattle.std.specs.String.{string_bytes}
 use Rattle.std.specs.declared.string.String.{String}
 use Rattle.desk_ports.specs.declared.desk.Outlet.TheVariants as outlet
 use Rattle.desk_ports.specs.declared.file.FileDesk.{FileDesk}
 use Rattle.desk_ports.specs.FileDesk.{file_counts, gathered_at}
+use Rattle.pocket_cmd.specs.declared.status.Refusal.TheVariants.{WriteFault}
+use Rattle.pocket_cmd.specs.declared.status.Status.{Status}
+use Rattle.pocket_cmd.specs.declared.status.Status.TheVariants.{Done, Refused}
 use Rattle.pocket.specs.declared.Asked.{Asked}
 use Rattle.pocket.specs.declared.Asked.TheVariants as asked
 
@@ -33,3 +36,9 @@ GathersNothing desk = (gathered_at desk outlet.Main ≡ []) × (gathered_at desk
 -- nothing is gathered for either output, or a fault of writing was counted
 abbrev pub IsHandedOver : FileDesk → Type 0
 IsHandedOver desk = GathersNothing desk ⊎ (1 ≤ (file_counts desk).writes)
+
+-- what the program answers, by the answer of `pocket` and that of handing over: the first, but a failed writing if the command
+-- was done and handing over failed
+abbrev pub answered : {T E : Type 0} → Status → Result T E → Status
+answered Done (Err failed) = Refused WriteFault
+answered status handed = status

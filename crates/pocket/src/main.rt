@@ -6,11 +6,11 @@ ghost use Rattle.std.specs.Process.{exit_status};
 ghost use Rattle.std.specs.String.{string_bytes};
 ghost use Rattle.desk_ports.specs.FileDesk.{file_counts};
 ghost use Rattle.desk_ports.specs.Meanings.{nothing_told};
-ghost use Rattle.pocket.specs.Program.{GathersNothing, IsHandedOver, asked_by, asked_of, seen};
+ghost use Rattle.pocket.specs.Program.{GathersNothing, IsHandedOver, answered, asked_by, asked_of, seen};
 ghost use Rattle.pocket_cmd.specs.Command.{HasCommand, command_of};
 ghost use Rattle.pocket_cmd.specs.Status.{exit_number};
 
-use desk_ports::{Desk, FileDesk};
+use desk_ports::{Desk, Failed, FileDesk};
 use pocket_cmd::{Refusal, Status, exit_code, pocket};
 use std::process::ExitCode;
 use std::{env, io};
@@ -162,15 +162,18 @@ fn run<'a>(rt: &HostRuntime, words: &[String], desk: &mut FileDesk<'a>) -> Statu
     // If it is done, all that was written was handed over.
     ensures whole { result ≡ Status.Done → GathersNothing desk.new }
 {
-    match pocket(rt.alloc(), words, desk) {
-        Status::Done => match desk.hand_over() {
-            Ok(()) => Status::Done,
-            Err(_) => Status::Refused(Refusal::WriteFault),
-        },
-        Status::Refused(refusal) => {
-            let _ = desk.hand_over();
-            Status::Refused(refusal)
-        }
+    let status = pocket(rt.alloc(), words, desk);
+    let handed = desk.hand_over();
+    answered(status, handed)
+}
+
+/// What the program answers: what `pocket` did, but a failed writing if the command was done and handing over failed.
+fn answered(status: Status, handed: Result<(), Failed>) -> Status
+    ensures { result ≡ answered status handed }
+{
+    match (status, handed) {
+        (Status::Done, Err(_)) => Status::Refused(Refusal::WriteFault),
+        (status, _) => status,
     }
 }
 

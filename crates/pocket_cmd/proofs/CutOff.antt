@@ -4,10 +4,10 @@ use Rattle.std.specs.Prelude.{OnErr}
 use Rattle.std.specs.Option.{option_map}
 use Rattle.std.specs.Io.KnownBytes.{prepend_known}
 use Rattle.std.proofs.lemmas.List.{drop_at, length-append}
+use Rattle.std.proofs.lemmas.Option.{same_Some}
 use Rattle.desk_ports.specs.declared.desk.Inlet.TheVariants as inlet
 use Rattle.desk_ports.specs.Meanings.{Meanings, Kept, Moves, Opens, kept_at, left, with_incoming, with_left}
 use Rattle.pocket_cmd.specs.Openings.{IsSideCutOff, IsSideUnread, told_bytes}
-use Rattle.pocket_cmd.proofs.Performed.{same_some}
 
 pub OnErr-by : {T E P Q : Type 0} (r : Result T E) → (P → Q) → OnErr r P → OnErr r Q
 OnErr-by (Ok x) f e = e
@@ -28,7 +28,7 @@ by_told most old new None before after name opened bytes kept moved few is = tt
 by_told most old new (Some k) None after name opened bytes kept moved few is = tt
 by_told most old new (Some k) (Some b) None name opened bytes kept moved few is = absurd cc
 by_told most old new (Some k) (Some b) (Some rest) name opened bytes kept moved few is =
-    subst (λ text. IsSideCutOff most old text new) (sym (same_some moved) ∙ kept) (cut_off most old new bytes rest few is)
+    subst (λ text. IsSideCutOff most old text new) (sym (same_Some _ _ moved) ∙ kept) (cut_off most old new bytes rest few is)
 
 -- the side input was opened, and a read failed after these bytes
 pub IsSideUnread-lost : (most : ℕ) (old mid new : Meanings) (name bytes : List ℕ) → Opens old mid inlet.Side name → length bytes < most → Moves mid new inlet.Side bytes → IsSideUnread most old (Some name) new

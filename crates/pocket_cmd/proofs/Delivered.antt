@@ -1,5 +1,6 @@
 -- What a command that is done has written.
 use Rattle.std.proofs.Common.{◌≡◌, ℕ, List, [], Option, Some, None, IfSome, refl, sym, ap, ◌∙◌, subst}
+use Rattle.std.proofs.lemmas.Option.{same_Some}
 use Rattle.std.specs.Io.KnownBytes.{append_known}
 use Rattle.std.specs.Option.{option_map}
 use Rattle.desk_ports.specs.declared.desk.Outlet.TheVariants as outlet
@@ -11,12 +12,12 @@ use Rattle.pocket_cmd.specs.Courses.{course_of, names_of}
 use Rattle.pocket_cmd.specs.Delivery.{HasWritten}
 use Rattle.pocket_cmd.specs.Openings.{all_finished, all_opened, input_given, side_given, with_input, with_output, with_report, with_side}
 use Rattle.pocket_cmd.specs.Outcome.{RunStands, Stands}
-use Rattle.pocket_cmd.proofs.Performed.{AddsOwed-stands, same_some}
+use Rattle.pocket_cmd.proofs.Performed.{AddsOwed-stands}
 
 -- the side text is the one that is told
 pub side_text_is : (o : Option (List ℕ)) (text told : List ℕ) → IfSome o (λ bytes. text ≡ bytes) → o ≡ Some told → text ≡ told
 side_text_is None text told is e = absurd cc
-side_text_is (Some bytes) text told is e = is ∙ same_some e
+side_text_is (Some bytes) text told is e = is ∙ same_Some _ _ e
 
 -- and reading it leaves the input
 given-with_side : (m : Meanings) (side input : Option (List ℕ)) → input_given (with_side m side) input ≡ input_given m input

@@ -83,10 +83,10 @@ fits-text_of rows before (word ∷ words) key text right e = by_right (is_right 
 -- ---- a key that is needed
 
 -- a row needs this key
-abbrev needs : List Row → List ℕ → Bool
+abbrev pub needs : List Row → List ℕ → Bool
 needs rows key = list_any (λ (row : Row). row.is_needed && bytes_eq row.key key) rows
 
-text_of-needed : (rows : List Row) (words : List (List ℕ)) (key : List ℕ) → is_missing rows words ≡ false → needs rows key ≡ true → text_of words key ≡ Some (name_at words key)
+pub text_of-needed : (rows : List Row) (words : List (List ℕ)) (key : List ℕ) → is_missing rows words ≡ false → needs rows key ≡ true → text_of words key ≡ Some (name_at words key)
 text_of-needed [] words key whole need = absurd cc
 text_of-needed (row ∷ rows) words key whole need = by_row row.is_needed (bytes_eq row.key key) refl whole need (text_of-needed rows words key) where
   others : (a b : Bool) → (a || b) ≡ false → b ≡ false
@@ -105,11 +105,11 @@ text_of-needed (row ∷ rows) words key whole need = by_row row.is_needed (bytes
 
 -- ---- words without a fault
 
-record AreSound (rows : List Row) (words : List (List ℕ)) : Type 0 where
+pub record AreSound (rows : List Row) (words : List (List ℕ)) : Type 0 where
   pub right : wrong_word rows [] words ≡ None
   pub whole : is_missing rows words ≡ false
 
-AreSound-by : (rows : List Row) (words : List (List ℕ)) → fault_of rows words ≡ None → AreSound rows words
+pub AreSound-by : (rows : List Row) (words : List (List ℕ)) → fault_of rows words ≡ None → AreSound rows words
 AreSound-by rows words h = by_word (wrong_word rows [] words) refl h where
   by_missing : wrong_word rows [] words ≡ None → (b : Bool) → is_missing rows words ≡ b → or_missing b (length words + 1) (wrong_mask words) ≡ None → AreSound rows words
   by_missing right true is e = absurd cc

@@ -14,3 +14,4 @@ mod Sided
 mod Headline
 mod Compositions
 mod Trials
+mod Apart

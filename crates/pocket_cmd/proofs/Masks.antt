@@ -5,6 +5,7 @@ use Rattle.std.specs.Option.{option_map}
 use Rattle.std.specs.List.{list_any}
 use Rattle.std.proofs.lemmas.Bool.Decides.{nat_tests}
 use Rattle.std.proofs.lemmas.List.{length-replicate, length-take-le}
+use Rattle.std.proofs.lemmas.Option.{same_Some}
 use Rattle.bit_vectors.specs.Vectors.{bits_of, byte_count, has_spare_bit}
 use Rattle.bit_vectors.proofs.ByteBits.{length-bits_of}
 use Rattle.hex.specs.Hex.{decode_sized, decode_pairs}
@@ -37,9 +38,6 @@ decoded f (Ok found) bytes e = by_spare (has_spare_bit f found) e where
 -- a mask has f places
 length-mask_of : (f : ℕ) (text : List ℕ) (mask : List Bool) → mask_of f text ≡ Some mask → length mask ≡ f
 length-mask_of f text mask e = by_bytes (mask_bytes f text) refl e where
-  same_some : {A : Type 0} {x y : A} → Some x ≡ Some y → x ≡ y
-  same_some e = cc
-
   by_bytes : (o : Option (List ℕ)) → mask_bytes f text ≡ o → option_map (λ bytes. take f (bits_of bytes)) o ≡ Some mask → length mask ≡ f
   by_bytes None at e = absurd cc
   by_bytes (Some bytes) at e =
@@ -47,7 +45,7 @@ length-mask_of f text mask e = by_bytes (mask_bytes f text) refl e where
       let bits = length-bits_of bytes in
       let some : f ≤ 8 * byte_count f = omega arith in
       let all : f ≤ length (bits_of bytes) = omega (arith, len, bits, some) in
-      sym (ap length (same_some e)) ∙ length-take-le f (bits_of bytes) all
+      sym (ap length (same_Some _ _ e)) ∙ length-take-le f (bits_of bytes) all
 
 pub length-first_mask : (f : ℕ) (text : Option (List ℕ)) → length (first_mask f text) ≡ f
 length-first_mask f None = length-replicate f false

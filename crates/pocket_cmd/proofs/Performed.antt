@@ -1,5 +1,6 @@
 -- What a command leaves and answers, from its steps.
 use Rattle.std.proofs.Common.{◌≡◌, ℕ, List, ◌++◌, Option, Some, None, is_some, IfSome, Result, Ok, Err, refl, sym, ap, ◌∙◌, subst}
+use Rattle.std.proofs.lemmas.Option.{same_Some}
 use Rattle.std.specs.Option.{option_map}
 use Rattle.std.specs.Io.KnownBytes.{append_known, prepend_known}
 use Rattle.desk_ports.specs.declared.desk.Inlet.TheVariants as inlet
@@ -21,9 +22,6 @@ use Rattle.pocket_cmd.specs.Unfed.{EndsBy}
 use Rattle.pocket_cmd.specs.Status.{HasStatusCause, IsEnded, refusal_of, refused_by, status_of, status_by}
 use Rattle.pocket_cmd.specs.Outcome.{RunStands, AfterClass, AfterNames, AfterText, AfterTextClass, Stands, AfterCommand, AfterRefusal, IsAnsweredBy, by_row}
 
-pub same_some : {A : Type 0} {x y : A} → Some x ≡ Some y → x ≡ y
-same_some e = cc
-
 -- an input that is told is the one that was read
 told_input : (held : Option Kept) (before after : Option (List ℕ)) (name input opened taken rest : List ℕ) → told_bytes held before name ≡ Some input → IfSome held (λ kept. opened ≡ kept_at kept name)
     → option_map (λ _. opened) before ≡ prepend_known taken after → IfSome after (λ bytes. bytes ≡ rest) → taken ++ rest ≡ input
@@ -31,7 +29,7 @@ told_input None before after name input opened taken rest e kept moved told = ab
 told_input (Some k) None after name input opened taken rest e kept moved told = absurd cc
 told_input (Some k) (Some b) None name input opened taken rest e kept moved told = absurd cc
 told_input (Some k) (Some b) (Some r) name input opened taken rest e kept moved told =
-    ap (λ l. taken ++ l) (sym told) ∙ (sym (same_some moved) ∙ (kept ∙ same_some e))
+    ap (λ l. taken ++ l) (sym told) ∙ (sym (same_Some _ _ moved) ∙ (kept ∙ same_Some _ _ e))
 
 left-with_report : (m : Meanings) (report : Option (List ℕ)) → left (with_report m report) inlet.Main ≡ left m inlet.Main
 left-with_report m None = refl
@@ -47,7 +45,7 @@ AddsOwed-by : (name : Option (List ℕ)) (names : Names) (course : List ℕ → 
     → EndsBy (is_some name) course (with_report (with_output (with_input old name opened) names.output) names.report) end ending → input_given old name ≡ Some input
     → AddsOwed course (with_report (with_output (with_input old name opened) names.output) names.report) end ending input
 AddsOwed-by None names course old end ending opened input kept ran told =
-    subst (AddsOwed course (with_report (with_output old names.output) names.report) end ending) (same_some told) (record { output = ran.ran.output; report = ran.ran.report; ends = ran.ends })
+    subst (AddsOwed course (with_report (with_output old names.output) names.report) end ending) (same_Some _ _ told) (record { output = ran.ran.output; report = ran.ran.report; ends = ran.ends })
 AddsOwed-by (Some name) names course old end ending opened input kept ran told =
     let went = ran.went in
     let left_is = sym (left-with_report (with_output (with_input old (Some name) opened) names.output) names.report) in

@@ -12,3 +12,4 @@ pub mod Outcome
 pub mod Kept
 pub mod Status
 pub mod Delivery
+pub mod Apart

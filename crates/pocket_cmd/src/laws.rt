@@ -11,6 +11,7 @@ ghost use Rattle.loss_player.specs.Gaps.{AreGapsShort};
 ghost use Rattle.loss_player.specs.Played.{played_bytes, played_of};
 ghost use Rattle.loss_player.specs.Report.{play_report};
 ghost use Rattle.ground_chain.specs.Deliveries.{report_text, restored_bytes};
+ghost use Rattle.pocket_cmd.specs.Apart.{AreApart};
 ghost use Rattle.pocket_cmd.specs.Command.{Command, Compress, CompressValues, Play, PlayValues, Restore, RestoreValues, Trial, TrialValues, AreGiven, IsRight, command_of};
 ghost use Rattle.pocket_cmd.specs.Courses.{course_of, names_of};
 ghost use Rattle.pocket_cmd.specs.Delivery.{HasWritten, IsInputWhole, recorded_history};
@@ -20,12 +21,15 @@ ghost use Rattle.pocket_cmd.specs.Summary.{summary_by};
 
 use crate::status::Refusal;
 
-/// A command's values are within their bounds, and each of its names is one that a word gives.
+/// A command's values are within their bounds, each of its names is one that a word gives, and they are apart: two names to
+/// read differ, and two to write, and a name to read that is one to write is `-`.
 pub fn commands_are_given()
     ensures right { (words : List (List ℕ)) (command : Command) → command_of words ≡ Ok command
         → IsRight command }
     ensures given { (words : List (List ℕ)) (command : Command) → command_of words ≡ Ok command
         → AreGiven words (names_of command) }
+    ensures apart { (words : List (List ℕ)) (command : Command) → command_of words ≡ Ok command
+        → AreApart (names_of command) }
 {}
 
 /// If the desk tells both inputs, a command that is done has written all that it owes for them.

@@ -22,3 +22,4 @@ pub use packet_store::StoreKind;
 pub use rehearsal::rehearse;
 pub use status::{Refusal, Status, exit_code};
 pub use top::pocket;
+pub use trial_chain::{Summary, run_trial};

@@ -1,6 +1,7 @@
 //! The top call: from the words of the command line to the outputs of a desk.
 ghost use Rattle.std.specs.Prelude.{◌≡◌, ◌≢◌, ◌<◌, ◌≤◌, ◌^◌, ◌↔◌, ℕ, List, Option, length, drop, map, Some, Err, IsTrue};
 ghost use Rattle.std.specs.String.{string_bytes};
+ghost use Rattle.pocket_cmd.specs.Apart.{AreKeptAsMade};
 ghost use Rattle.pocket_cmd.specs.Faults.{DataFault as Fault};
 ghost use Rattle.pocket_cmd.specs.Command.{Command as Told, Restore, RestoreValues, HasCommand, IsCommandOf, command_of};
 ghost use Rattle.pocket_cmd.specs.Courses.{bad_row_of, names_of};
@@ -68,6 +69,10 @@ pub fn pocket<D: Desk>(alloc: Global, words: &[String], desk: &mut D) -> Status
     ensures leaves { (refusal : Refusal) (command : Told) → result ≡ Status.Refused refusal
         → IsCommandOf words.now command
         → Leaves command (D.meaning desk.old) (D.meaning desk.new) refusal }
+
+    // After Done what each output made is kept under its name, if the desk tells both. The names of a command are apart.
+    ensures kept { (command : Told) → result ≡ Status.Done → IsCommandOf words.now command
+        → AreKeptAsMade (names_of command) (D.meaning desk.new) }
 
     // If the side text is told, memory was found and no reading failed, it is refused exactly if it is too long, and
     // exactly at its first record that is no row, whatever the main input is.

@@ -1,3 +1,4 @@
+use Rattle.pocket_cmd.proofs.Apart.{AreApart-command_of}
 use Rattle.pocket_cmd.proofs.Given.{IsCommand-command_of}
 use Rattle.pocket_cmd.proofs.laws.commands_are_given.Goals as goal
 
@@ -6,3 +7,6 @@ returns-clause-right c = λ words command e. (IsCommand-command_of words command
 
 pub returns-clause-given : goal.returns-clause-given
 returns-clause-given c = λ words command e. (IsCommand-command_of words command e).given
+
+pub returns-clause-apart : goal.returns-clause-apart
+returns-clause-apart c = AreApart-command_of

@@ -1,9 +1,10 @@
-use Rattle.std.proofs.Common.{map, sym, ◌∙◌, subst}
+use Rattle.std.proofs.Common.{None, map, sym, ◌∙◌, subst}
 use Rattle.std.specs.String.{string_bytes}
 use Rattle.pocket_cmd.specs.declared.status.Refusal.TheVariants as refusal
 use Rattle.pocket_cmd.specs.Command.{Restore, view_command}
 use Rattle.pocket_cmd.specs.Courses.{names_of}
-use Rattle.pocket_cmd.specs.Outcome.{AfterCommand, AfterRefusal, IsRowFirst, IsRowFirstOf, IsSideAnswered, IsSideJudged}
+use Rattle.pocket_cmd.specs.Outcome.{Stands, AfterCommand, AfterRefusal, IsRowFirst, IsRowFirstOf, IsSideAnswered, IsSideJudged}
+use Rattle.pocket_cmd.proofs.Apart.{AreApart-command_of, kept_as_made}
 use Rattle.pocket_cmd.specs.Status.{class_of}
 use Rattle.pocket_cmd.proofs.Given.{IsCommand-command_of}
 use Rattle.pocket_cmd.proofs.Granted.{same_command, side_granted, input_granted, output_granted, report_granted, not_both, ends_for}
@@ -51,6 +52,14 @@ returns-in-Ok-clause-stands g c = λ ending e. (
   sym c.in-Ok.ensures,
   Stands-answer (view_command c.in-Ok.command) (g.D.Desk.meaning c.args.desk.now) (g.D.Desk.meaning c.perform.new.desk) c.perform.result ending c.perform.ensures.after (sym c.into.ensures ∙ e),
 )
+
+pub returns-in-Ok-clause-kept : goal.returns-in-Ok-clause-kept
+returns-in-Ok-clause-kept g c = λ command done is.
+    let old = g.D.Desk.meaning c.args.desk.now in
+    let new = g.D.Desk.meaning c.perform.new.desk in
+    kept_as_made command old new (AreApart-command_of (map string_bytes c.args.words.now) command is)
+    (subst (λ command. Stands command old new None) (same_command (sym c.in-Ok.ensures) is)
+    (Stands-answer (view_command c.in-Ok.command) old new c.perform.result None c.perform.ensures.after (sym c.into.ensures ∙ done)))
 
 pub returns-in-Ok-clause-bad_words : goal.returns-in-Ok-clause-bad_words
 returns-in-Ok-clause-bad_words g c = λ word. (
