@@ -1,5 +1,5 @@
 -- The names that right words give are apart, so that what each output made is kept under its name.
-use Rattle.std.proofs.Common.{◌≡◌, ℕ, ◌+◌, ◌==◌, ◌&&◌, ◌||◌, Bool, true, false, not, cond, is_some, List, [], ◌∷◌, ◌++◌, length, Option, Some, None, Result, Ok, Err, IfSome, unwrap_or, refl, sym, ap, ◌∙◌, subst, inl, inr, ◌⊎◌, codes, append_assoc, append-nil}
+use Rattle.std.proofs.Common.{◌≡◌, ℕ, ◌+◌, ◌==◌, ◌&&◌, ◌||◌, Bool, true, false, not, cond, is_some, List, [], ◌∷◌, ◌++◌, length, Option, Some, None, Result, Ok, IfSome, refl, sym, ap, ◌∙◌, subst, inl, inr, ◌⊎◌, codes, append_assoc, append-nil}
 use Rattle.std.specs.FinMap as map
 use Rattle.std.specs.Option.{option_map}
 use Rattle.std.specs.Str.{bytes_eq}
@@ -15,7 +15,7 @@ use Rattle.pocket_cmd.specs.declared.verbs.Verb.TheVariants as verb
 use Rattle.pocket_cmd.specs.declared.verbs.Port.{Port}
 use Rattle.pocket_cmd.specs.declared.verbs.Port.TheVariants as port
 use Rattle.pocket_cmd.specs.declared.verbs.Kind.{Kind}
-use Rattle.pocket_cmd.specs.declared.verbs.Kind.TheVariants.{Name, Number, Mask}
+use Rattle.pocket_cmd.specs.declared.verbs.Kind.TheVariants.{Name}
 use Rattle.pocket_cmd.specs.Verbs.{Row, kind_of, rows_of}
 use Rattle.pocket_cmd.specs.Apart.{AreApart, AreKeptAsMade, IsNameToRead, IsNameToWrite}
 use Rattle.pocket_cmd.specs.Command.{Command, Names, command_after, command_by, command_of, name_at, unless_fault}
