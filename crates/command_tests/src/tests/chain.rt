@@ -2,8 +2,8 @@
 
 use super::desk::{HEADER, answer, hold, joined};
 use super::samples::PLAY_HEADER;
-use pocket_cmd::Status;
 use desk_ports::MemDesk;
+use pocket_cmd::Status;
 use std::alloc::Global;
 use std::process::Abort;
 use std::test::Fail;

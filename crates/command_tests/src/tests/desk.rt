@@ -1,8 +1,8 @@
 //! A run over a desk in memory, and what it leaves there.
 
-use pocket_cmd::{Refusal, Status, pocket};
 use bit_vectors::NoMemory;
 use desk_ports::{Call, MemDesk, Outlet};
+use pocket_cmd::{Refusal, Status, pocket};
 use std::alloc::{AllocError, Global};
 use std::process::Abort;
 use std::test::Fail;

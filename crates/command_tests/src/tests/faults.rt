@@ -6,9 +6,9 @@ use super::desk::{
 };
 use super::samples::{LISTING, PLAY_REPORT, PLAYED, RECORDING, REPORT, RESTORED, STORE};
 use super::trials::{SUMMARY, THREE};
-use pocket_cmd::Refusal;
 use desk_ports::Call;
 use packet_store::StoreKind;
+use pocket_cmd::Refusal;
 use std::process::Abort;
 use std::test::Fail;
 

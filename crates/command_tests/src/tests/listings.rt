@@ -2,8 +2,8 @@
 
 use super::desk::{LIST, assert_both, bytes_of, done, refused, with_input};
 use super::samples::{FIRST, LISTING, PLAYED};
-use pocket_cmd::Refusal;
 use packet_store::StoreKind;
+use pocket_cmd::Refusal;
 use std::test::Fail;
 
 const ONE_BIT: &str = "show apid=100 bits=1 out=b in=a";

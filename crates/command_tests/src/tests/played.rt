@@ -4,8 +4,8 @@ use super::desk::{
     BY_SCRIPT, Ending, assert_ending, bytes_of, bytes_of_all, done, joined, refused, with_both,
 };
 use super::samples::{FIRST, FOURTH, PLAY_HEADER, SECOND, THIRD};
-use pocket_cmd::Refusal;
 use packet_store::StoreKind;
+use pocket_cmd::Refusal;
 use std::alloc::{AllocError, Global};
 use std::test::Fail;
 

@@ -1,8 +1,8 @@
 //! A rehearsal over a quiet desk, which finds its memory.
 
 use super::desk::words_of;
-use pocket_cmd::{Status, rehearse};
 use desk_ports::QuietDesk;
+use pocket_cmd::{Status, rehearse};
 use std::alloc::{AllocError, Global};
 use std::process::Abort;
 use std::test::Fail;

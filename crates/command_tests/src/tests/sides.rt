@@ -2,8 +2,8 @@
 
 use super::desk::{BY_SCRIPT, Case, assert_ending, bytes_of, done, refused, with_both};
 use super::samples::{PLAY_REPORT, PLAYED, STORE};
-use pocket_cmd::Refusal;
 use desk_ports::Call;
+use pocket_cmd::Refusal;
 use std::process::Abort;
 use std::test::Fail;
 

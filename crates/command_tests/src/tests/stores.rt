@@ -1,8 +1,8 @@
 //! Worked stores, in whole reads and writes and in those of one byte.
 
 use super::desk::{EIGHT_BITS, HEADER, assert_both, bytes_of, done, refused, with_input};
-use pocket_cmd::Refusal;
 use packet_store::StoreKind;
+use pocket_cmd::Refusal;
 use std::test::Fail;
 
 /// A store in hexadecimal, the packets that are restored, and the report after its first line.

@@ -1,7 +1,7 @@
 //! The texts of the refusals, and the exit numbers.
 
-use pocket_cmd::{Refusal, Status, exit_code};
 use packet_store::StoreKind;
+use pocket_cmd::{Refusal, Status, exit_code};
 use std::test::Fail;
 
 static ROWS: [(Refusal, &str, u8); 12] = [

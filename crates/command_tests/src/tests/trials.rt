@@ -1,8 +1,8 @@
 //! Trials: a worked one, and many of which the summary is compared with what the trial holds.
 
 use super::desk::{answer, assert_both, done, words_alone};
-use pocket_cmd::Status;
 use desk_ports::{MemDesk, Outlet};
+use pocket_cmd::Status;
 use std::alloc::Global;
 use std::process::Abort;
 use std::test::Fail;

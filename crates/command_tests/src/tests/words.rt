@@ -1,8 +1,8 @@
 //! Words, and what is answered to them at a desk with nothing or with empty inputs.
 
 use super::desk::{answer, assert_ending, hold, refused, words_alone};
-use pocket_cmd::{Refusal, Status};
 use desk_ports::MemDesk;
+use pocket_cmd::{Refusal, Status};
 use std::alloc::Global;
 use std::test::Fail;
 
