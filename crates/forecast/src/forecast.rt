@@ -1,6 +1,6 @@
 //! The command `forecast`: which packets will be written, whatever the recording is.
 
-ghost use Rattle.std.specs.Prelude.{◌≡◌, ◌≤◌, ◌<◌, ◌^◌, ◌+◌, ◌++◌, length, IfOk, OnOk, OnErr};
+ghost use Rattle.std.specs.Prelude.{◌≡◌, ◌≤◌, ◌<◌, ◌^◌, ◌+◌, ◌++◌, length, IfOk, OnOk, OnErr, IsOk};
 ghost use Rattle.desk_ports.specs.Meanings.{Adds, AddsFront, HasWriteCause, IsReadyOut};
 ghost use Rattle.loss_player.specs.Tallies.{IsTally};
 ghost use Rattle.forecast.specs.Prospects.{fate_of};
@@ -50,10 +50,11 @@ impl Forecast {
         requires some { 1 ≤ packets }
         requires most { packets ≤ 1000000 }
         requires robust { robust ≤ 7 }
-        ensures { IfOk result (λ forecast. forecast ≡ record {
+        ensures opened { IfOk result (λ forecast. forecast ≡ record {
           packets = packets;
           outlook = record { plan = plan; robust = robust; script = script };
         }) }
+        ensures done { IsOk result }
     {
         Ok(Forecast {
             packets,
