@@ -28,20 +28,21 @@ pub struct Forecast {
 }
 
 impl Model for Forecast {
-    ghost use Rattle.forecast.specs.Outlooks.{ForecastState, IsForecast};
+    ghost use Rattle.std.specs.Prelude.{◌≡◌};
+    ghost use Rattle.forecast.specs.Outlooks.{IsForecast, OutlookState};
 
-    ghost Value = { ForecastState };
+    ghost Value = { OutlookState };
 
-    ghost view = { λ f. record { packets = f.packets; outlook = f.outlook } };
+    ghost view = { λ f. f.outlook };
 
-    ghost invariant = { λ f. IsForecast f.packets };
+    ghost invariant = { λ f. IsForecast f.packets f.outlook };
 }
 
 impl Forecast {
     /// A forecast for so many packets, 1 to 1,000,000, under a schedule and a script. `robust`, at most 7, is the required
-    /// robustness of packets to which the schedule gives none. The schedule and the script have all memory that is needed.
+    /// robustness of packets to which the schedule gives none. The memory is taken here.
     pub fn open(
-        _alloc: Global,
+        alloc: Global,
         packets: u32,
         robust: u8,
         plan: Schedule,
@@ -52,42 +53,41 @@ impl Forecast {
         requires robust { robust ≤ 7 }
         ensures opened { IfOk result (λ forecast. forecast ≡ record {
           packets = packets;
-          outlook = record { plan = plan; robust = robust; script = script };
+          plan = plan;
+          robust = robust;
+          script = script;
         }) }
-        ensures done { IsOk result }
     {
-        Ok(Forecast {
-            packets,
-            outlook: Outlook::new(plan, robust, script),
-        })
+        let outlook = Outlook::open(alloc, packets, robust, plan, script)?;
+        Ok(Forecast { packets, outlook })
     }
 
     /// Writes the forecast to the main outlet, and tells how many packets are sure. It takes no memory.
     pub fn write<D: Desk>(self, desk: &mut D) -> Result<u64, Failed>
         requires ready { IsReadyOut (D.meaning desk.old) Outlet.Main }
         ensures added { OnOk result (Adds (D.meaning desk.old) (D.meaning desk.new) Outlet.Main
-            (forecast_text (foresees self.outlook) self.packets)) }
+            (forecast_text (foresees self) self.packets)) }
         ensures front { OnErr result (AddsFront (D.meaning desk.old) (D.meaning desk.new)
-            Outlet.Main (forecast_text (foresees self.outlook) self.packets)) }
+            Outlet.Main (forecast_text (foresees self) self.packets)) }
         ensures sure { IfOk result
-            (λ sure. sure ≡ sure_count (foresees self.outlook) self.packets) }
+            (λ sure. sure ≡ sure_count (foresees self) self.packets) }
         ensures cause { HasWriteCause (D.counts desk.old) (D.counts desk.new) result }
     {
-        let mut outlook = self.outlook;
-        write_text(desk, &mut outlook, self.packets)
+        write_text(desk, &self.outlook, self.packets)
     }
 }
 
 /// Writes the forecast for so many packets, and tells how many are sure.
-fn write_text<D: Desk>(desk: &mut D, outlook: &mut Outlook, packets: u32) -> Result<u64, Failed>
+fn write_text<D: Desk>(desk: &mut D, outlook: &Outlook, packets: u32) -> Result<u64, Failed>
     requires ready { IsReadyOut (D.meaning desk.old) Outlet.Main }
     requires some { 1 ≤ packets }
     requires most { packets ≤ 1000000 }
+    requires all { packets ≤ outlook.now.packets }
     ensures added { OnOk result (Adds (D.meaning desk.old) (D.meaning desk.new) Outlet.Main
-        (forecast_text (foresees outlook.old) packets)) }
+        (forecast_text (foresees outlook.now) packets)) }
     ensures front { OnErr result (AddsFront (D.meaning desk.old) (D.meaning desk.new)
-        Outlet.Main (forecast_text (foresees outlook.old) packets)) }
-    ensures sure { IfOk result (λ sure. sure ≡ sure_count (foresees outlook.old) packets) }
+        Outlet.Main (forecast_text (foresees outlook.now) packets)) }
+    ensures sure { IfOk result (λ sure. sure ≡ sure_count (foresees outlook.now) packets) }
     ensures cause { HasWriteCause (D.counts desk.old) (D.counts desk.new) result }
 {
     write_all(desk, Outlet::Main, HEADER.as_bytes())?;
@@ -99,18 +99,19 @@ fn write_text<D: Desk>(desk: &mut D, outlook: &mut Outlook, packets: u32) -> Res
 /// Writes a line for each stretch of so many packets, and tells what is kept of them.
 fn write_stretches<D: Desk>(
     desk: &mut D,
-    outlook: &mut Outlook,
+    outlook: &Outlook,
     packets: u32,
 ) -> Result<Running, Failed>
     requires ready { IsReadyOut (D.meaning desk.old) Outlet.Main }
     requires some { 1 ≤ packets }
     requires most { packets ≤ 1000000 }
+    requires all { packets ≤ outlook.now.packets }
     ensures added { OnOk result (Adds (D.meaning desk.old) (D.meaning desk.new) Outlet.Main
-        (stretch_rows (fate_of (foresees outlook.old)) packets)) }
+        (stretch_rows (fate_of (foresees outlook.now)) packets)) }
     ensures front { OnErr result (AddsFront (D.meaning desk.old) (D.meaning desk.new) Outlet.Main
-        (stretch_rows (fate_of (foresees outlook.old)) packets)) }
+        (stretch_rows (fate_of (foresees outlook.now)) packets)) }
     ensures running { IfOk result
-        (λ running. running ≡ running_at (foresees outlook.old) packets) }
+        (λ running. running ≡ running_at (foresees outlook.now) packets) }
     ensures cause { HasWriteCause (D.counts desk.old) (D.counts desk.new) result }
 {
     let mut running = Running::none();
@@ -124,21 +125,21 @@ fn write_stretches<D: Desk>(
 /// Takes the packet `t`, and writes the line of the stretch that ends just before it, if one does.
 fn write_next<D: Desk>(
     desk: &mut D,
-    outlook: &mut Outlook,
+    outlook: &Outlook,
     running: &mut Running,
     t: u32,
 ) -> Result<(), Failed>
     requires ready { IsReadyOut (D.meaning desk.old) Outlet.Main }
     requires few { t < 1000000 }
-    requires running { running.old ≡ running_at (foresees outlook.old) t }
+    requires inside { t < outlook.now.packets }
+    requires running { running.old ≡ running_at (foresees outlook.now) t }
     requires right { IsTally running.old.tally }
     ensures added { OnOk result (Adds (D.meaning desk.old) (D.meaning desk.new) Outlet.Main
-        (row_of (ended_before (fate_of (foresees outlook.old)) t))) }
+        (row_of (ended_before (fate_of (foresees outlook.now)) t))) }
     ensures front { OnErr result (AddsFront (D.meaning desk.old) (D.meaning desk.new) Outlet.Main
-        (row_of (ended_before (fate_of (foresees outlook.old)) t))) }
-    ensures running { running.new ≡ running_at (foresees outlook.old) (t + 1) }
+        (row_of (ended_before (fate_of (foresees outlook.now)) t))) }
+    ensures running { running.new ≡ running_at (foresees outlook.now) (t + 1) }
     ensures right { IsTally running.new.tally }
-    ensures same { outlook.new ≡ outlook.old }
     ensures cause { HasWriteCause (D.counts desk.old) (D.counts desk.new) result }
 {
     let foreseen = outlook.at(t);
