@@ -1,8 +1,8 @@
 -- Ranks that are claimed of numbers, and runs of numbers that have one.
-use Rattle.std.proofs.Common.{◌≡◌, ℕ, ◌+◌, ◌-◌, ◌*◌, ◌/◌, ◌%◌, ◌∙◌, ◌<◌, ◌≤◌, ◌⊎◌, inl, inr, true, false, leb-true, List, [], ◌∷◌, ◌++◌, length, All, refl, sym, ap, subst, rules, arith}
+use Rattle.std.proofs.Common.{◌≡◌, ℕ, ◌+◌, ◌-◌, ◌*◌, ◌/◌, ◌%◌, ◌∙◌, ◌<◌, ◌≤◌, ◌⊎◌, inl, inr, true, false, leb-true, List, [], ◌∷◌, ◌++◌, length, All, Contains, refl, sym, ap, subst, rules, arith}
 use Rattle.std.proofs.Math.Nat.{add-mul-mod_self_left, div-add-mod}
 use Rattle.std.proofs.lemmas.Bool.{and_from, and_parts, cases_lt, le-leb}
-use Rattle.std.proofs.lemmas.List.Elements.{All-from_get_or, All-get_or, All-nil, All-push, Contains-append_left, Contains-push}
+use Rattle.std.proofs.lemmas.List.Elements.{All-from_get_or, All-get_or, All-push}
 use Rattle.std.proofs.lemmas.List.Sorted.{All-permutation, Contains-permutation}
 use Rattle.std.specs.List.Sorted.{IsPermutation}
 use Rattle.side_tables.specs.declared.span.Span.{Span}
@@ -10,7 +10,7 @@ use Rattle.side_tables.specs.Spans.{names}
 use Rattle.forecast.specs.declared.claims.Claim.{Claim}
 use Rattle.forecast.specs.declared.ranks.Cell.{Cell}
 use Rattle.forecast.specs.declared.ranks.Run.{Run}
-use Rattle.forecast.specs.Ranks.{IsClaimed, IsRank, RunHolds, Serves, Takes, cell_at, claim_at, no_claim}
+use Rattle.forecast.specs.Ranks.{AreClaimed, Grows, HasTaken, HaveRanks, IsClaimed, IsRank, RunHolds, Serves, Takes, cell_at, claim_at, no_claim}
 
 -- ---- steps
 
@@ -89,32 +89,37 @@ RunHolds-joined claim cells t next run further few one two serves more named non
 weaker : (P Q : Claim → Type 0) (claims : List Claim) → ((claim : Claim) → P claim → Q claim) → All P claims → All Q claims
 weaker P Q claims less all = All-from_get_or Q claims no_claim (λ k inside. less (claim_at claims k) (All-get_or P claims k no_claim inside all))
 
-claimed_more : (claims : List Claim) (claim : Claim) (n rank : ℕ) → IsClaimed claims n rank → IsClaimed (claims ++ claim ∷ []) n rank
-claimed_more claims claim n rank is = record {
-  claim = is.claim;
-  among = Contains-append_left claims (claim ∷ []) is.claim is.among;
-  named = is.named;
-  gives = is.gives;
-}
+own_more : (claims : List Claim) (claim : Claim) (n old new : ℕ) → Contains claims claim → (old ≡ 0) ⊎ IsClaimed claims n old → (new ≡ old) ⊎ (names claim.span n ≡ true) × (new ≡ claim.rank)
+    → (new ≡ 0) ⊎ IsClaimed claims n new
+own_more claims claim n old new among own (inr taken) = inr (record { claim = claim; among = among; named = taken.0; gives = sym taken.1 })
+own_more claims claim n old new among (inl none) (inl same) = inl (same ∙ none)
+own_more claims claim n old new among (inr is) (inl same) = inr (subst (IsClaimed claims n) (sym same) is)
 
-own_more : (claims : List Claim) (claim : Claim) (n old new : ℕ) → (old ≡ 0) ⊎ IsClaimed claims n old → (new ≡ old) ⊎ (names claim.span n ≡ true) × (new ≡ claim.rank)
-    → (new ≡ 0) ⊎ IsClaimed (claims ++ claim ∷ []) n new
-own_more claims claim n old new own (inr taken) = inr (record { claim = claim; among = Contains-push claims claim; named = taken.0; gives = sym taken.1 })
-own_more claims claim n old new (inl none) (inl same) = inl (same ∙ none)
-own_more claims claim n old new (inr is) (inl same) = inr (claimed_more claims claim n new (subst (IsClaimed claims n) (sym same) is))
+-- one of the claims is taken
+pub AreClaimed-more : (claims : List Claim) (claim : Claim) (old new : List Cell) → Contains claims claim → AreClaimed claims old → Takes claim old new → AreClaimed claims new
+AreClaimed-more claims claim old new among are takes = λ n. own_more claims claim n (cell_at old n).rank (cell_at new n).rank among (are n) (takes.own n)
 
--- one more claim
-pub IsRank-more : (claims : List Claim) (claim : Claim) (n old new : ℕ) → IsRank claims n old → old ≤ new → (names claim.span n ≡ true → claim.rank ≤ new)
-    → (new ≡ old) ⊎ (names claim.span n ≡ true) × (new ≡ claim.rank) → IsRank (claims ++ claim ∷ []) n new
-IsRank-more claims claim n old new is grown has own = record {
-  own = own_more claims claim n old new is.own own;
-  most = All-push (λ (c : Claim). names c.span n ≡ true → c.rank ≤ new) claims claim
-      (weaker (λ c. names c.span n ≡ true → c.rank ≤ old) (λ c. names c.span n ≡ true → c.rank ≤ new) claims (λ c less named. let most = less named in omega (arith, most, grown)) is.most)
-      has;
-}
+pub HaveRanks-grown : (claims : List Claim) (old new : List Cell) (from until : ℕ) → Grows old new → HaveRanks claims old from until → HaveRanks claims new from until
+HaveRanks-grown claims old new from until grows have = λ n past below.
+    weaker (λ c. names c.span n ≡ true → c.rank ≤ (cell_at old n).rank) (λ c. names c.span n ≡ true → c.rank ≤ (cell_at new n).rank) claims
+    (λ c less named. let most = less named in let more = grows.grown n in omega (arith, most, more)) (have n past below)
 
-pub IsRank-none : (n : ℕ) → IsRank [] n 0
-IsRank-none n = record { own = inl refl; most = All-nil (λ (c : Claim). names c.span n ≡ true → c.rank ≤ 0) }
+pub Takes-grows : (claim : Claim) (old new : List Cell) → Takes claim old new → Grows old new
+Takes-grows claim old new takes = record { len = takes.len; grown = takes.grown }
+
+pub HaveRanks-more : (claims : List Claim) (claim : Claim) (old new : List Cell) (from until : ℕ) → HaveRanks claims old from until → Takes claim old new → HasTaken claim new from until → HaveRanks (claims ++ claim ∷ []) new from until
+HaveRanks-more claims claim old new from until have takes taken = λ n past below.
+    All-push (λ (c : Claim). names c.span n ≡ true → c.rank ≤ (cell_at new n).rank) claims claim (HaveRanks-grown claims old new from until (Takes-grows claim old new takes) have n past below) (taken n past below)
+
+pub Grows-then : (a b d : List Cell) → Grows a b → Grows b d → Grows a d
+Grows-then a b d one two = record { len = two.len ∙ one.len; grown = λ n. let less = one.grown n in let more = two.grown n in omega (arith, less, more) }
+
+-- two blocks, one after the other
+pub HaveRanks-joined : (claims : List Claim) (cells : List Cell) (from between until : ℕ) → HaveRanks claims cells from between → HaveRanks claims cells between until → HaveRanks claims cells from until
+HaveRanks-joined claims cells from between until one two n past below = elim (cases_lt n between) [
+  | inl early ↦ one n past early
+  | inr late ↦ two n late below
+]
 
 own_permuted : (claims others : List Claim) (n rank : ℕ) → IsPermutation claims others → (rank ≡ 0) ⊎ IsClaimed claims n rank → (rank ≡ 0) ⊎ IsClaimed others n rank
 own_permuted claims others n rank same (inl none) = inl none
@@ -127,20 +132,20 @@ IsRank-permuted claims others n rank same is = record {
   most = All-permutation (λ (c : Claim). names c.span n ≡ true → c.rank ≤ rank) claims others same is.most;
 }
 
--- all numbers that the claim names below a number have its rank
-abbrev pub HasTaken : Claim → List Cell → ℕ → Type 0
-HasTaken claim cells until = (n : ℕ) → n < until → n < length cells → names claim.span n ≡ true → claim.rank ≤ (cell_at cells n).rank
+-- the numbers from one up to another that the claim names, as far as there are cells, have its rank
+abbrev pub HasReached : Claim → List Cell → ℕ → ℕ → Type 0
+HasReached claim cells from reached = (n : ℕ) → from ≤ n → n < reached → n < length cells → names claim.span n ≡ true → claim.rank ≤ (cell_at cells n).rank
 
--- the next number that it names, and the run from there on
-pub HasTaken-more : (claim : Claim) (old new : List Cell) (from t until : ℕ) → HasTaken claim old from → Takes claim old new → names claim.span t ≡ true
-    → ((n : ℕ) → from ≤ n → n < t → names claim.span n ≡ false) → RunHolds new t (record { step = claim.span.step; until = until; rank = claim.rank }) → HasTaken claim new until
-HasTaken-more claim old new from t until before takes is none holds n below inside named = elim (cases_lt n from) [
-  | inl early ↦ let had = before n early (let len = takes.len in omega arith) named in let grown = takes.grown n in omega (arith, had, grown)
+-- the next number that the claim names, and the run from there on
+pub HasReached-more : (claim : Claim) (old new : List Cell) (from reached t until : ℕ) → HasReached claim old from reached → Takes claim old new → names claim.span t ≡ true
+    → ((n : ℕ) → reached ≤ n → n < t → names claim.span n ≡ false) → RunHolds new t (record { step = claim.span.step; until = until; rank = claim.rank }) → HasReached claim new from until
+HasReached-more claim old new from reached t until before takes is none holds n start below inside named = elim (cases_lt n reached) [
+  | inl early ↦ let had = before n start early (let len = takes.len in omega arith) named in let grown = takes.grown n in omega (arith, had, grown)
   | inr past ↦ elim (cases_lt n t) [
     | inl between ↦ let isnt = none n past between in absurd cc
     | inr on ↦
-        let start = named-parts claim.span t is in
+        let first = named-parts claim.span t is in
         let there = named-parts claim.span n named in
-        holds n on below inside (steps_between claim.span.step claim.span.first t n start.from on start.steps there.steps)
+        holds n on below inside (steps_between claim.span.step claim.span.first t n first.from on first.steps there.steps)
   ]
 ]

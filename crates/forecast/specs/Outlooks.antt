@@ -14,10 +14,9 @@ use Rattle.forecast.specs.Prospects.{Prospect, fate_of, latest_mask_sure, latest
 use Rattle.forecast.specs.Stretches.{changes_after, ended, stretch_to}
 use Rattle.forecast.specs.Texts.{stretch_row, sure_count}
 
--- how many packets there are, and what they are foreseen by: the rows of the schedule, the required robustness of packets to
--- which it gives none, and the rows of the script
+-- what the packets are foreseen by: the rows of the schedule, the required robustness of packets to which it gives none, and
+-- the rows of the script
 pub record OutlookState : Type 0 where
-  pub packets : ℕ
   pub plan : ScheduleRows
   pub robust : ℕ
   pub script : List CopyRow
@@ -76,8 +75,13 @@ running_at p t = record {
   sure = sure_count p t;
 }
 
--- an outlook for so many packets, and how many they can be
-pub record IsForecast (count : ℕ) (outlook : OutlookState) : Type 0 where
-  pub all : outlook.packets ≡ count
+-- for how many packets there is a forecast, and by what they are foreseen
+pub record ForecastState : Type 0 where
+  pub packets : ℕ
+  pub outlook : OutlookState
+
+-- a forecast of so many packets, and how many they can be
+pub record IsForecast (count : ℕ) (forecast : ForecastState) : Type 0 where
+  pub all : forecast.packets ≡ count
   pub some : 1 ≤ count
   pub most : count ≤ 1000000

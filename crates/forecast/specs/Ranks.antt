@@ -106,3 +106,20 @@ pub record AreColumns (plan : ScheduleRows) (script : List CopyRow) (numbers : �
   pub contents : AreFlagRanks Content plan.flags numbers columns.contents.items
   pub robusts : AreLatestRanks robust_span plan.robust numbers columns.robusts.items
   pub copies : AreLatestRanks copy_span script numbers columns.copies.items
+
+-- no rank is less than it was
+pub record Grows (old new : List Cell) : Type 0 where
+  pub len : length new ≡ length old
+  pub grown : (n : ℕ) → (cell_at old n).rank ≤ (cell_at new n).rank
+
+-- each number's rank is 0 or is claimed of it
+abbrev pub AreClaimed : List Claim → List Cell → Type 0
+AreClaimed claims cells = (n : ℕ) → ((cell_at cells n).rank ≡ 0) ⊎ IsClaimed claims n (cell_at cells n).rank
+
+-- the numbers from one up to another that the claim names have its rank
+abbrev pub HasTaken : Claim → List Cell → ℕ → ℕ → Type 0
+HasTaken claim cells from until = (n : ℕ) → from ≤ n → n < until → names claim.span n ≡ true → claim.rank ≤ (cell_at cells n).rank
+
+-- the numbers from one up to another have the ranks of all claims
+abbrev pub HaveRanks : List Claim → List Cell → ℕ → ℕ → Type 0
+HaveRanks claims cells from until = (n : ℕ) → from ≤ n → n < until → All (λ claim. names claim.span n ≡ true → claim.rank ≤ (cell_at cells n).rank) claims

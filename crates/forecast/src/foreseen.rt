@@ -26,34 +26,32 @@ pub struct Foreseen {
 /// A schedule, the required robustness of packets to which it gives none, a script, and what they say of each of the
 /// first packets. Contracts see how many packets these are, and the rows of both.
 #[derive(Debug, Drop)]
-pub struct Outlook {
+pub struct Foresight {
     plan: Schedule,
     robust: u8,
     script: Script,
     foreseen: Vec<Foreseen>,
 }
 
-impl Model for Outlook {
+impl Model for Foresight {
     ghost use Rattle.std.specs.Prelude.{length};
-    ghost use Rattle.forecast.specs.Outlooks.{AreForeseen, OutlookState};
+    ghost use Rattle.forecast.specs.Outlooks.{AreForeseen, ForecastState};
     ghost use Rattle.forecast.specs.Prospects.{prospect_of};
 
-    ghost Value = { OutlookState };
+    ghost Value = { ForecastState };
 
-    ghost view = { λ o. record {
-      packets = length o.foreseen.items;
-      plan = o.plan;
-      robust = o.robust;
-      script = o.script;
+    ghost view = { λ s. record {
+      packets = length s.foreseen.items;
+      outlook = record { plan = s.plan; robust = s.robust; script = s.script };
     } };
 
-    ghost invariant = { λ o. AreForeseen (prospect_of o.plan o.robust o.script) o.foreseen.items };
+    ghost invariant = { λ s. AreForeseen (prospect_of s.plan s.robust s.script) s.foreseen.items };
 }
 
-impl Outlook {
+impl Foresight {
     ghost use Rattle.forecast.specs.Outlooks.{IsForeseenAs};
 
-    /// The outlook for so many packets, at most 1,000,000, under a schedule, a required robustness of at most 7, and a
+    /// What is foreseen of so many packets, at most 1,000,000, under a schedule, a required robustness of at most 7, and a
     /// script.
     pub fn open(
         alloc: Global,
@@ -61,18 +59,16 @@ impl Outlook {
         robust: u8,
         plan: Schedule,
         script: Script,
-    ) -> Result<Outlook, NoMemory>
+    ) -> Result<Foresight, NoMemory>
         requires few { packets ≤ 1000000 }
         requires robust { robust ≤ 7 }
-        ensures { IfOk result (λ outlook. outlook ≡ record {
+        ensures { IfOk result (λ foresight. foresight ≡ record {
           packets = packets;
-          plan = plan;
-          robust = robust;
-          script = script;
+          outlook = record { plan = plan; robust = robust; script = script };
         }) }
     {
         let foreseen = foreseen_of(alloc, packets, robust, &plan, &script)?;
-        Ok(Outlook {
+        Ok(Foresight {
             plan,
             robust,
             script,
@@ -83,7 +79,7 @@ impl Outlook {
     /// What is foreseen of the packet `t`.
     pub fn at(&self, t: u32) -> Foreseen
         requires { t < self.now.packets }
-        ensures foreseen { IsForeseenAs (foresees self.now) t result }
+        ensures foreseen { IsForeseenAs (foresees self.now.outlook) t result }
         ensures copies { result.copies ≤ 9 }
     {
         self.foreseen[t as usize]

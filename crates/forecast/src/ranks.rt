@@ -2,7 +2,7 @@
 
 ghost use Rattle.std.specs.Prelude.{◌≡◌, ℕ, ◌<◌, ◌≤◌, ◌-◌, ◌%◌, true, All, IfOk, IfSome, length};
 ghost use Rattle.side_tables.specs.Spans.{IsSpan, names};
-ghost use Rattle.forecast.specs.Ranks.{AreRanks, RunHolds, RunsHold, Serves, Takes, cell_at, no_cell};
+ghost use Rattle.forecast.specs.Ranks.{AreClaimed, AreRanks, Grows, HasTaken, HaveRanks, RunHolds, RunsHold, Serves, Takes, cell_at, no_cell};
 
 use crate::claims::Claim;
 use bit_vectors::NoMemory;
@@ -28,7 +28,8 @@ pub struct Cell {
 ///
 /// Claims with one step and one remainder come one after another, those of higher rank first, and a number that has its
 /// rank by an earlier one is passed over together with its run. So a number is come to about once for each pair of a step
-/// and a remainder that names it, however many claims have that pair.
+/// and a remainder that names it, however many claims have that pair. A block of numbers takes all claims before the next
+/// one does.
 pub fn ranks_of(alloc: Global, claims: Vec<Claim>, numbers: u32) -> Result<Vec<Cell>, NoMemory>
     requires few { numbers ≤ 1000000 }
     requires right { All (λ claim. IsSpan claim.span) claims.items }
@@ -49,37 +50,64 @@ pub fn ranks_of(alloc: Global, claims: Vec<Claim>, numbers: u32) -> Result<Vec<C
     Ok(cells)
 }
 
-/// Takes claims one after another, if none was taken before.
+/// How many numbers are looked at together: the memory of so many cells stays near.
+const BLOCK: u32 = 16_384;
+
+/// Takes claims, block by block, if none was taken before.
 fn take_all(cells: &mut [Cell], claims: &[Claim])
     requires few { length cells.old ≤ 1000000 }
     requires right { All (λ claim. IsSpan claim.span) claims.now }
     requires none { (n : ℕ) → cell_at cells.old n ≡ no_cell }
     ensures { AreRanks claims.now (length cells.old) cells.new }
 {
-    for claim in claims {
-        take(cells, claim);
+    let numbers = cells.len() as u32;
+    let mut from = 0;
+    while from < numbers {
+        let until = from + BLOCK.min(numbers - from);
+        take_block(cells, claims, from, until);
+        from = until;
     }
 }
 
-/// Takes a claim: each number that it names has its rank, or a greater one.
-fn take(cells: &mut [Cell], claim: &Claim)
+/// Takes claims one after another, as far as they name numbers of a block.
+fn take_block(cells: &mut [Cell], claims: &[Claim], from: u32, until: u32)
     requires few { length cells.old ≤ 1000000 }
+    requires inside { until ≤ length cells.old }
+    requires right { All (λ claim. IsSpan claim.span) claims.now }
+    requires runs { RunsHold cells.old }
+    requires claimed { AreClaimed claims.now cells.old }
+    ensures grows { Grows cells.old cells.new }
+    ensures runs { RunsHold cells.new }
+    ensures claimed { AreClaimed claims.now cells.new }
+    ensures ranks { HaveRanks claims.now cells.new from until }
+{
+    for claim in claims {
+        take(cells, claim, from, until);
+    }
+}
+
+/// Takes a claim: each number of a block that it names has its rank, or a greater one.
+fn take(cells: &mut [Cell], claim: &Claim, from: u32, until: u32)
+    requires few { length cells.old ≤ 1000000 }
+    requires inside { until ≤ length cells.old }
     requires right { IsSpan claim.now.span }
     requires runs { RunsHold cells.old }
     ensures takes { Takes claim.now cells.old cells.new }
     ensures runs { RunsHold cells.new }
-    ensures all { (n : ℕ) → n < length cells.new → names claim.now.span n ≡ true
-        → claim.now.rank ≤ (cell_at cells.new n).rank }
+    ensures all { HasTaken claim.now cells.new from until }
 {
-    let mut from = claim.span.first;
-    while (from as usize) < cells.len() {
-        let Some(t) = claim.span.next(from) else {
+    if claim.rank == 0 {
+        return;
+    }
+    let mut reached = from;
+    while reached < until {
+        let Some(t) = claim.span.next(reached) else {
             return;
         };
-        if cells.len() <= t as usize {
+        if until <= t {
             return;
         }
-        from = visit(cells, t, claim);
+        reached = visit(cells, t, claim);
     }
 }
 

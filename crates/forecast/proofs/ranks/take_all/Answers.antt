@@ -1,39 +1,41 @@
-use Rattle.std.proofs.Common.{◌≡◌, ◌+◌, [], ◌∷◌, ◌++◌, List, take, refl, sym, subst, ◌∙◌, arith}
-use Rattle.std.proofs.lemmas.List.{take_all, take_more}
-use Rattle.forecast.specs.Ranks.{IsRank, RunHolds, cell_at, claim_at, no_claim}
-use Rattle.forecast.specs.declared.claims.Claim.{Claim}
+use Rattle.std.proofs.Common.{inl, refl, sym, subst, ap, ◌∙◌, rules, arith}
+use Rattle.forecast.specs.Ranks.{RunHolds}
 use Rattle.forecast.specs.declared.ranks.Cell.{Cell}
-use Rattle.forecast.proofs.Claimed.{IsRank-more, IsRank-none}
+use Rattle.forecast.proofs.Claimed.{HaveRanks-grown, HaveRanks-joined}
 use Rattle.forecast.proofs.ranks.take_all.Goals as goal
 
-pub loop-claim-init : goal.loop-claim-init
-loop-claim-init c = record {
+pub loop-from-init : goal.loop-from-init
+loop-from-init c = record {
   len = refl;
-  runs = λ t inside. subst (λ (cell : Cell). RunHolds c.args.cells.now t cell.run) (sym (c.requires.none t)) (λ n from until within steps. absurd (omega arith));
-  ranks = λ n inside. subst (λ (cell : Cell). IsRank [] n cell.rank) (sym (c.requires.none n)) (IsRank-none n);
+  within = omega arith;
+  numbers = search rules;
+  runs = λ t inside. subst (λ (cell : Cell). RunHolds c.args.cells.now t cell.run) (sym (c.requires.none t)) (λ n past until within steps. absurd (omega arith));
+  claimed = λ n. inl (ap (λ (cell : Cell). cell.rank) (c.requires.none n));
+  ranks = λ n past below. absurd (omega arith);
 }
 
-pub loop-claim-preserved : goal.loop-claim-preserved
-loop-claim-preserved c =
+pub loop-from-preserved : goal.loop-from-preserved
+loop-from-preserved c =
     let claims = c.args.claims.now in
-    let k = c.loop-claim.claim-index in
-    let kept = c.loop-claim.invariant in
-    let took = c.take.ensures in
-    let more : take (k + 1) claims ≡ take k claims ++ claim_at claims k ∷ [] = take_more claims k no_claim c.loop-claim-test.true in
+    let kept = c.loop-from.invariant in
+    let took = c.take_block.ensures in
+    let new = c.take_block.new.cells in
     record {
-      len = took.takes.len ∙ kept.len;
+      len = took.grows.len ∙ kept.len;
+      within = omega arith;
+      numbers = kept.numbers;
       runs = took.runs;
-      ranks = λ n inside. subst (λ (taken : List Claim). IsRank taken n (cell_at c.take.new.cells n).rank) (sym more)
-          (IsRank-more (take k claims) (claim_at claims k) n (cell_at c.loop-claim.cells n).rank (cell_at c.take.new.cells n).rank
-          (kept.ranks n (let len = took.takes.len in omega arith)) (took.takes.grown n) (took.all n inside) (took.takes.own n));
+      claimed = took.claimed;
+      ranks = HaveRanks-joined claims new 0 c.loop-from.from _ (HaveRanks-grown claims c.loop-from.cells new 0 c.loop-from.from took.grows kept.ranks) took.ranks;
     }
 
 pub returns : goal.returns
 returns c =
-    let claims = c.args.claims.now in
-    let kept = c.loop-claim.invariant in
-    let all : take c.loop-claim.claim-index claims ≡ claims = take_all c.loop-claim.claim-index claims c.loop-claim-test.false in
+    let kept = c.loop-from.invariant in
     record {
       len = kept.len;
-      ranks = λ n inside. subst (λ (taken : List Claim). IsRank taken n (cell_at c.loop-claim.cells n).rank) all (kept.ranks n (let len = kept.len in omega arith));
+      ranks = λ n inside. record {
+        own = kept.claimed n;
+        most = kept.ranks n (omega arith) (let numbers = kept.numbers in omega arith);
+      };
     }

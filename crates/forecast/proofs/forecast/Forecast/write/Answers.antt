@@ -1,7 +1,7 @@
 use Rattle.std.proofs.Common.{◌≡◌, ℕ, OnOk, OnErr, IfOk, sym, subst}
 use Rattle.desk_ports.specs.declared.desk.Outlet.TheVariants as outlet
 use Rattle.desk_ports.specs.Meanings.{Adds, AddsFront}
-use Rattle.forecast.specs.Outlooks.{OutlookState, foresees}
+use Rattle.forecast.specs.Outlooks.{ForecastState, foresees}
 use Rattle.forecast.specs.Texts.{forecast_text, sure_count}
 use Rattle.forecast.proofs.forecast.Forecast.write.Goals as goal
 
@@ -9,17 +9,17 @@ pub returns-clause-added : goal.returns-clause-added
 returns-clause-added g c =
     let a = g.D.Desk.meaning c.args.desk.now in
     let b = g.D.Desk.meaning c.write_text.new.desk in
-    let text = subst (λ (n : ℕ). OnOk c.write_text.result (Adds a b outlet.Main (forecast_text (foresees c.self.inside.outlook) n))) (sym c.self.invariant.all) c.write_text.ensures.added in
-    subst (λ (f : OutlookState). OnOk c.write_text.result (Adds a b outlet.Main (forecast_text (foresees f) f.packets))) c.self.view_is text
+    let text = subst (λ (n : ℕ). OnOk c.write_text.result (Adds a b outlet.Main (forecast_text (foresees c.self.inside.foresight.outlook) n))) (sym c.self.invariant.all) c.write_text.ensures.added in
+    subst (λ (f : ForecastState). OnOk c.write_text.result (Adds a b outlet.Main (forecast_text (foresees f.outlook) f.packets))) c.self.view_is text
 
 pub returns-clause-front : goal.returns-clause-front
 returns-clause-front g c =
     let a = g.D.Desk.meaning c.args.desk.now in
     let b = g.D.Desk.meaning c.write_text.new.desk in
-    let text = subst (λ (n : ℕ). OnErr c.write_text.result (AddsFront a b outlet.Main (forecast_text (foresees c.self.inside.outlook) n))) (sym c.self.invariant.all) c.write_text.ensures.front in
-    subst (λ (f : OutlookState). OnErr c.write_text.result (AddsFront a b outlet.Main (forecast_text (foresees f) f.packets))) c.self.view_is text
+    let text = subst (λ (n : ℕ). OnErr c.write_text.result (AddsFront a b outlet.Main (forecast_text (foresees c.self.inside.foresight.outlook) n))) (sym c.self.invariant.all) c.write_text.ensures.front in
+    subst (λ (f : ForecastState). OnErr c.write_text.result (AddsFront a b outlet.Main (forecast_text (foresees f.outlook) f.packets))) c.self.view_is text
 
 pub returns-clause-sure : goal.returns-clause-sure
 returns-clause-sure g c =
-    let sure = subst (λ (n : ℕ). IfOk c.write_text.result (λ sure. sure ≡ sure_count (foresees c.self.inside.outlook) n)) (sym c.self.invariant.all) c.write_text.ensures.sure in
-    subst (λ (f : OutlookState). IfOk c.write_text.result (λ sure. sure ≡ sure_count (foresees f) f.packets)) c.self.view_is sure
+    let sure = subst (λ (n : ℕ). IfOk c.write_text.result (λ sure. sure ≡ sure_count (foresees c.self.inside.foresight.outlook) n)) (sym c.self.invariant.all) c.write_text.ensures.sure in
+    subst (λ (f : ForecastState). IfOk c.write_text.result (λ sure. sure ≡ sure_count (foresees f.outlook) f.packets)) c.self.view_is sure
