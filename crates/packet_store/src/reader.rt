@@ -1,6 +1,6 @@
 //! A store that is read packet by packet.
 
-ghost use Rattle.std.specs.Prelude.{◌≡◌, ◌<◌, ◌≤◌, [], length, Some, IsTrue, IfOk, IfErr};
+ghost use Rattle.std.specs.Prelude.{◌≡◌, ◌<◌, ◌≤◌, [], length, Some, None, IsTrue, IfOk, IfErr};
 ghost use Rattle.std.specs.Io.KnownBytes.{IsAtEnd};
 ghost use Rattle.desk_ports.specs.Meanings.{Moves, IsReadyIn, left};
 ghost use Rattle.packet_store.specs.Answers.{IfGiven, OnEnd, OnStop};
@@ -65,8 +65,23 @@ impl StoreReader {
         requires { apid ≤ 2046 }
         ensures { IfOk result (λ reader. reader ≡ opened (Some apid)) }
     {
+        StoreReader::open_for(alloc, Some(apid))
+    }
+
+    /// A reader of a store for no chosen APID: no packet is told to be of the chosen one, and none has a wrong shape.
+    /// Allocates all memory of the reader.
+    pub fn open_all(alloc: Global) -> Result<StoreReader, NoMemory>
+        ensures { IfOk result (λ reader. reader ≡ opened None) }
+    {
+        StoreReader::open_for(alloc, None)
+    }
+
+    /// A reader of a store for a chosen APID or for none.
+    fn open_for(alloc: Global, chosen: Option<u16>) -> Result<StoreReader, NoMemory>
+        ensures { IfOk result (λ reader. reader ≡ opened chosen) }
+    {
         Ok(StoreReader {
-            chosen: Some(apid),
+            chosen,
             taken: 0,
             offset: 0,
             live: true,

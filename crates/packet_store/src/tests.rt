@@ -71,6 +71,12 @@ fn walk_of(alloc: Global, store: &[u8], size: u32) -> Result<(u64, Option<StoreF
     Ok(walk_at(&mut desk, &mut reader)?)
 }
 
+fn whole_walk_of(alloc: Global, store: &[u8]) -> Result<(u64, Option<StoreFault>), Fail> {
+    let mut desk = desk_with(alloc, store, 1)?;
+    let mut reader = StoreReader::open_all(alloc)?;
+    Ok(walk_at(&mut desk, &mut reader)?)
+}
+
 #[test]
 fn stores_and_their_ends(rt: HostRuntime) -> Result<(), Fail> {
     for size in [1, 100] {
@@ -86,6 +92,7 @@ fn stores_and_their_ends(rt: HostRuntime) -> Result<(), Fail> {
         let shape = StoreFault::Shape { byte: 0 };
         assert_eq!(rt; walk_of(rt.alloc(), &OTHER_SHAPE, size)?, (0, Some(shape)));
     }
+    assert_eq!(rt; whole_walk_of(rt.alloc(), &OTHER_SHAPE)?, (1, None));
     Ok(())
 }
 

@@ -18,6 +18,8 @@ pub enum Verb {
     Show,
     /// Runs the other three over a generated history.
     Trial,
+    /// Tells which packets will be written, whatever the recording is.
+    Forecast,
 }
 
 /// Where what has a name is opened.
@@ -59,6 +61,7 @@ impl Verb {
             "restore" => Some(Verb::Restore),
             "show" => Some(Verb::Show),
             "trial" => Some(Verb::Trial),
+            "forecast" => Some(Verb::Forecast),
             _ => None,
         }
     }
@@ -103,6 +106,13 @@ impl Verb {
                 Needed("packets", Number(1, 10_000)),
                 Needed("bits", Number(1, 4096)),
                 Needed("robust", Number(0, 7)),
+            ],
+            Verb::Forecast => &[
+                Needed("out", Name(Port::Output)),
+                Needed("packets", Number(1, 1_000_000)),
+                Needed("robust", Number(0, 7)),
+                Needed("plan", Name(Port::Side)),
+                Needed("script", Name(Port::Input)),
             ],
         }
     }

@@ -5,3 +5,4 @@ pub mod RowTexts
 pub mod Numbers
 pub mod RowKinds
 pub mod RowBounds
+pub mod StreamRows

@@ -23,11 +23,11 @@ use Rattle.side_tables.proofs.RowTexts.{rows_from-alone}
 
 -- ---- options
 
-bind_within : {A B : Type 0} (P : B → Type 0) (f : A → Option B) (o : Option A) → ((x : A) → o ≡ Some x → IfSome (f x) P) → IfSome (o >>= f) P
+pub bind_within : {A B : Type 0} (P : B → Type 0) (f : A → Option B) (o : Option A) → ((x : A) → o ≡ Some x → IfSome (f x) P) → IfSome (o >>= f) P
 bind_within P f None each = tt
 bind_within P f (Some x) each = each x refl
 
-test_within : {A : Type 0} (P : A → Type 0) (b : Bool) (o : Option A) → (b ≡ true → IfSome o P) → IfSome (cond b o None) P
+pub test_within : {A : Type 0} (P : A → Type 0) (b : Bool) (o : Option A) → (b ≡ true → IfSome o P) → IfSome (cond b o None) P
 test_within P true o right = right refl
 test_within P false o right = tt
 

@@ -5,3 +5,4 @@ pub mod Tables
 pub mod Texts
 pub mod Numbers
 pub mod Grammar
+pub mod Streams

@@ -1,15 +1,16 @@
 //! Which records are rows.
 
 ghost use Rattle.std.specs.Prelude.{◌≡◌, ◌<◌, ◌≤◌, IfSome};
-ghost use Rattle.std.specs.List.{list_all};
+ghost use Rattle.std.specs.List.{list_all, list_any};
 ghost use Rattle.csv.specs.Records.{fields_of};
 ghost use Rattle.side_tables.specs.Rows.{IsFlagRow, IsRobustRow, IsScheduleRow, IsCopyRow, flag_span, robust_span, copy_span};
 ghost use Rattle.side_tables.specs.Spans.{IsSpan};
 ghost use Rattle.side_tables.specs.Texts.{alone};
 ghost use Rattle.side_tables.specs.Grammar.{number_at, span_from, flags_named, are_letters, is_letter, count_of, flag_row_of, robust_row_of, schedule_row_of, drop_row_of, repeat_row_of, copy_row_of};
+ghost use Rattle.side_tables.specs.Streams.{IsStreamRow, has_apid, stream_row_after, stream_row_of};
 
 use crate::decimal::number;
-use crate::rows::{CopyRow, FlagRow, RobustRow, RowGrammar, ScheduleRow, TableRow};
+use crate::rows::{CopyRow, FlagRow, RobustRow, RowGrammar, ScheduleRow, StreamRow, TableRow};
 use crate::span::Span;
 use bit_vectors::Flags;
 use csv::ByteRecord;
@@ -48,6 +49,26 @@ impl RowGrammar for ScriptText {
             b"repeat" => repeat_row(fields),
             _ => None,
         }
+    }
+}
+
+/// The most rows of streams.
+const MOST_STREAMS: usize = 64;
+
+/// The rows of streams.
+pub struct StreamText;
+
+impl RowGrammar for StreamText {
+    type Row = StreamRow;
+
+    ghost row_after = { λ _. stream_row_after };
+
+    ghost is_right = { λ _. IsStreamRow };
+
+    fn row(&self, before: &[StreamRow], fields: &ByteRecord) -> Option<StreamRow> {
+        let row = stream_row(fields)?;
+        let is_new = before.len() < MOST_STREAMS && !has_apid(before, row.apid);
+        is_new.then_some(row)
     }
 }
 
@@ -168,6 +189,29 @@ fn repeat_row(fields: &ByteRecord) -> Option<CopyRow>
         step: span.step,
         copies: 1 + extra as u8,
     })
+}
+
+/// The APID and the bits of a stream.
+fn stream_row(fields: &ByteRecord) -> Option<StreamRow>
+    ensures row { result ≡ stream_row_of (fields_of fields.now) }
+    ensures right { IfSome result IsStreamRow }
+{
+    if fields.len() != 2 {
+        return None;
+    }
+    let apid = number(fields.get(0)?, 0, 2046)?;
+    let bits = number(fields.get(1)?, 1, 49_152)?;
+    Some(StreamRow {
+        apid: apid as u16,
+        bits,
+    })
+}
+
+/// Whether one of the streams has the APID.
+fn has_apid(rows: &[StreamRow], apid: u16) -> bool
+    ensures { result ≡ list_any (has_apid apid) rows.now }
+{
+    rows.iter().any(|row| row.apid == apid)
 }
 
 /// The first number, the last number and the step that three fields say.

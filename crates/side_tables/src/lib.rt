@@ -1,4 +1,4 @@
-//! Schedules and scripts: tables that give flags, required robustness and copies to packets by their number.
+//! Side texts: tables that give flags, required robustness and copies to packets by their number, and lists of streams.
 #![tactic(auto)]
 
 mod decimal;
@@ -11,17 +11,19 @@ mod rows;
 mod schedule;
 mod script;
 mod span;
+mod streams;
 mod table;
 mod text;
 
 pub use decimal::{number, signed_number, wide_number};
 pub use fault::SideFault;
-pub use laws::robustness_of_texts;
+pub use laws::{robustness_of_texts, streams_of_texts};
 pub use lookup::{Lookup, Planned};
-pub use rows::{CopyRow, FlagRow, RowGrammar, TableRow};
+pub use rows::{CopyRow, FlagRow, RobustRow, RowGrammar, StreamRow, TableRow};
 pub use schedule::Schedule;
 pub use script::Script;
 pub use span::Span;
+pub use streams::Streams;
 pub use table::Table;
 pub use text::{MOST_BYTES, read_rows};
 

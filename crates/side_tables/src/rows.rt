@@ -1,4 +1,4 @@
-//! The rows of schedules and scripts.
+//! The rows of schedules, scripts and texts of streams.
 
 ghost use Rattle.std.specs.Prelude.{◌≡◌, ℕ, List, Option, All, IfSome};
 ghost use Rattle.csv.specs.Records.{fields_of};
@@ -41,6 +41,13 @@ pub struct CopyRow {
     pub last: u32,
     pub step: u32,
     pub copies: u8,
+}
+
+/// A row of streams: an APID, at most 2,046, and the length of its vectors, 1 to 49,152 bits.
+#[derive(Clone, Copy, Debug, PartialEq, Eq)]
+pub struct StreamRow {
+    pub apid: u16,
+    pub bits: u32,
 }
 
 /// Which records of a text are rows: a record is a row by its fields, and it may hang on the rows before it.

@@ -1,6 +1,6 @@
-//! Texts of schedules and scripts, with what they must mean.
+//! Texts of schedules, scripts and streams, with what they must mean.
 
-use crate::{CopyRow, FlagRow, Lookup, Schedule, Script, SideFault, signed_number};
+use crate::{CopyRow, FlagRow, Lookup, Schedule, Script, SideFault, Streams, signed_number};
 use bit_vectors::Flags;
 use std::alloc::Global;
 use std::test::Fail;
@@ -141,6 +141,62 @@ fn scripts(rt: HostRuntime) -> Result<(), Fail> {
     };
     let script = Script::with_rows(rt.alloc(), &[row])?;
     assert_eq!(rt; script.times(9), 3);
+    Ok(())
+}
+
+/// The bits of the stream that has an APID, by a text.
+fn bits_of(alloc: Global, text: &[u8], apid: u16) -> Result<Option<u32>, SideFault> {
+    let streams = Streams::read(alloc, text)?;
+    Ok(match streams.find(apid) {
+        Some(index) => Some(streams.bits(index)),
+        None => None,
+    })
+}
+
+#[test]
+fn streams(rt: HostRuntime) -> Result<(), Fail> {
+    let rows: [(&str, u16, Result<Option<u32>, SideFault>); 15] = [
+        ("", 0, Ok(None)),
+        ("100,8\n101,16", 100, Ok(Some(8))),
+        ("100,8\n101,16", 101, Ok(Some(16))),
+        ("100,8\n101,16", 102, Ok(None)),
+        ("0,1\r\n2046,49152\n", 0, Ok(Some(1))),
+        ("0,1\r\n2046,49152\n", 2046, Ok(Some(49_152))),
+        ("0,1\r\n2046,49152\n", 2047, Ok(None)),
+        ("0,1\r\n2046,49152\n", u16::MAX, Ok(None)),
+        ("100,8\n100,16", 0, Err(SideFault::Row { row: 2 })),
+        ("2047,8", 0, Err(SideFault::Row { row: 1 })),
+        ("100,0", 0, Err(SideFault::Row { row: 1 })),
+        ("100,8\n101,49153", 0, Err(SideFault::Row { row: 2 })),
+        ("100,8\n101", 0, Err(SideFault::Row { row: 2 })),
+        ("100,8,", 0, Err(SideFault::Row { row: 1 })),
+        ("0100,8", 0, Err(SideFault::Row { row: 1 })),
+    ];
+    for (text, apid, wanted) in rows {
+        assert_eq!(rt; bits_of(rt.alloc(), text.as_bytes(), apid), wanted);
+    }
+    let streams = Streams::read(rt.alloc(), b"7,8\n5,9")?;
+    assert_eq!(rt; streams.count(), 2);
+    Ok(())
+}
+
+/// A text of streams whose APIDs count up from 0.
+fn many_streams(alloc: Global, count: u32) -> Result<Vec<u8>, Fail> {
+    let mut text = Vec::new(alloc);
+    for apid in 0..count {
+        let row = format!(in alloc; "{apid},8\n")?;
+        text.extend_from_slice(row.as_bytes())?;
+    }
+    Ok(text)
+}
+
+#[test]
+fn most_streams(rt: HostRuntime) -> Result<(), Fail> {
+    let most = many_streams(rt.alloc(), 64)?;
+    assert_eq!(rt; bits_of(rt.alloc(), &most, 63), Ok(Some(8)));
+    let more = many_streams(rt.alloc(), 66)?;
+    let bad = Err(SideFault::Row { row: 65 });
+    assert_eq!(rt; bits_of(rt.alloc(), &more, 0), bad);
     Ok(())
 }
 
