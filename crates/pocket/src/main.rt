@@ -32,6 +32,8 @@ pocket show in=STORE out=LISTING bits=F apid=APID
     lists what is found for each packet that a store has on an APID
 pocket trial seed=SEED packets=N bits=F robust=R out=SUMMARY
     runs compress, play and restore over a recording that it generates, in memory
+pocket forecast out=FORECAST packets=N robust=R plan=SCHEDULE script=SCRIPT
+    tells which packets will be written under a schedule and a loss, whatever the recording is
 pocket --help
 pocket --version
 The keys come in any order, and those in brackets may be left out:
@@ -42,7 +44,7 @@ The keys come in any order, and those in brackets may be left out:
     robust            how many packets lost in a row each packet withstands at least, 0 to 7
     mask              the first mask, two hexadecimal digits for each byte of a packet
     seed              where the numbers of a trial begin, 0 to 4294967295
-    packets           how many packets a trial has, 1 to 10000
+    packets           how many packets there are, of a trial 1 to 10000, of a forecast 1 to 1000000
 Exit numbers:
     0  done
     1  reading or writing failed
