@@ -14,6 +14,7 @@ mod samples;
 mod short_chains;
 mod sides;
 mod stores;
+mod tables;
 mod texts;
 mod trials;
 mod words;
