@@ -6,12 +6,11 @@ ghost use Rattle.std.specs.Option.{option_to_list};
 ghost use Rattle.param_table.specs.Grammar.{bad_text_row, text_columns};
 ghost use Rattle.param_table.specs.Rows.{AreColumns, column_of, field_of, limit_named, limit_of};
 
-use crate::fault::FieldFault;
 use crate::grammar::FieldText;
 use crate::name::Name;
 use crate::rows::{Column, FieldRow, Limit, LimitRow, TextRow};
 use bit_vectors::NoMemory;
-use side_tables::read_rows;
+use side_tables::{SideFault, read_rows};
 use std::alloc::Global;
 use std::marker::Model;
 
@@ -39,15 +38,15 @@ impl Model for Fields {
 impl Fields {
     /// The fields that a text names for packets of `f` places. The text has at most 1,048,576 bytes, and each record of
     /// comma-separated values is a row.
-    pub fn read(alloc: Global, text: &[u8], f: u32) -> Result<Fields, FieldFault>
+    pub fn read(alloc: Global, text: &[u8], f: u32) -> Result<Fields, SideFault>
         requires some { 1 ≤ f }
         requires most { f ≤ 49152 }
         ensures columns { IfOk result (λ fields. fields ≡ text_columns f text.now) }
         ensures fit { IfOk result (AreColumns f) }
         ensures within { OnOk result (length text.now ≤ 1048576) }
         ensures right { OnOk result (bad_text_row f text.now ≡ None) }
-        ensures too_long { (result ≡ Err FieldFault.TooLong) ↔ (1048576 < length text.now) }
-        ensures row { (row : ℕ) → result ≡ Err (FieldFault.Row row)
+        ensures too_long { (result ≡ Err SideFault.TooLong) ↔ (1048576 < length text.now) }
+        ensures row { (row : ℕ) → result ≡ Err (SideFault.Row row)
             → bad_text_row f text.now ≡ Some row }
     {
         let rows = read_rows(alloc, &FieldText { places: f }, text)?;

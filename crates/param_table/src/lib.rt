@@ -15,11 +15,12 @@ mod texts;
 mod writing;
 
 pub use cells::cell;
-pub use fault::{FieldFault, TableFault};
+pub use fault::TableFault;
 pub use fields::Fields;
 pub use laws::{
     fronts_owe_fronts, numbers_are_sums, whole_recordings_owe_their_texts, worked_tables,
 };
 pub use name::Name;
 pub use rows::{Column, FieldRow, Limit};
+pub use side_tables::SideFault as FieldFault;
 pub use tabler::Tabler;

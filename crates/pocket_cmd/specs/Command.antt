@@ -51,6 +51,14 @@ pub record TrialValues : Type 0 where
   pub bits : ℕ
   pub robust : ℕ
 
+-- what `table` is told: its names and the bits of a packet
+pub record TableValues : Type 0 where
+  pub input : List ℕ
+  pub output : List ℕ
+  pub report : List ℕ
+  pub fields : List ℕ
+  pub bits : ℕ
+
 -- what `forecast` is told: its names, the number of packets and the required robustness
 pub record ForecastValues : Type 0 where
   pub output : List ℕ
@@ -66,6 +74,7 @@ pub data Command : Type 0 where
   Restore : RestoreValues → Command
   Show : ShowValues → Command
   Trial : TrialValues → Command
+  Table : TableValues → Command
   Forecast : ForecastValues → Command
 
 -- the names that a command opens: those of its side input, its input, its output and its report. Only the name of an
@@ -123,6 +132,15 @@ trial_by words = record {
   robust = number_at words (codes "robust");
 }
 
+abbrev pub table_by : List (List ℕ) → TableValues
+table_by words = record {
+  input = name_at words (codes "in");
+  output = name_at words (codes "out");
+  report = name_at words (codes "report");
+  fields = name_at words (codes "fields");
+  bits = number_at words (codes "bits");
+}
+
 abbrev pub forecast_by : List (List ℕ) → ForecastValues
 forecast_by words = record {
   output = name_at words (codes "out");
@@ -139,6 +157,7 @@ command_by verb.Play words = Play (play_by words)
 command_by verb.Restore words = Restore (restore_by words)
 command_by verb.Show words = Show (show_by words)
 command_by verb.Trial words = Trial (trial_by words)
+command_by verb.Table words = Table (table_by words)
 command_by verb.Forecast words = Forecast (forecast_by words)
 
 abbrev pub unless_fault : Option ℕ → Command → Result Command ℕ
@@ -194,6 +213,7 @@ IsRight (Play p) = IsChosen p.apid
 IsRight (Restore r) = IsPlaces r.bits × IsChosen r.apid
 IsRight (Show s) = IsPlaces s.bits × IsChosen s.apid
 IsRight (Trial t) = IsTrialRight t
+IsRight (Table t) = IsPlaces t.bits
 IsRight (Forecast f) = IsForecastRight f
 
 -- each name is one that a word gives

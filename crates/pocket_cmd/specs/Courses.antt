@@ -10,8 +10,10 @@ use Rattle.ground_chain.specs.Listing.{listing_course}
 use Rattle.ground_chain.specs.Restoring.{restore_course}
 use Rattle.forecast.specs.Prospects.{prospect_of}
 use Rattle.forecast.specs.Texts.{forecast_text}
+use Rattle.param_table.specs.Grammar.{bad_text_row, text_columns}
+use Rattle.param_table.specs.Tabling.{Tabulation, table_course}
 use Rattle.pocket_cmd.specs.Faults.{DataFault, of_recording, of_store}
-use Rattle.pocket_cmd.specs.Command.{Command, Compress, Play, Restore, Show, Trial, Forecast, CompressValues, ForecastValues, Names}
+use Rattle.pocket_cmd.specs.Command.{Command, Compress, Play, Restore, Show, Trial, Table, Forecast, CompressValues, ForecastValues, Names, TableValues}
 use Rattle.pocket_cmd.specs.Summary.{summary_by}
 
 -- the same course, its fault named otherwise
@@ -21,6 +23,10 @@ with_fault name course = record { before = course.before; after = course.after; 
 -- what `compress` is told, if its schedule has this text
 abbrev pub compression_by : CompressValues → List ℕ → Compression
 compression_by c text = record { places = c.bits; robust = c.robust; apid = c.apid; mask = c.mask; rows = schedule_rows_of text }
+
+-- what `table` is told, if its fields have this text
+abbrev pub tabulation_by : TableValues → List ℕ → Tabulation
+tabulation_by t text = record { places = t.bits; columns = text_columns t.bits text }
 
 -- a text is owed, whatever the input is
 abbrev pub text_course : List ℕ → Course DataFault
@@ -72,6 +78,12 @@ errand_of (Trial t) = record {
   bad_row = no_row;
   bad_script_row = None;
   course = λ text input. text_course (summary_by t);
+}
+errand_of (Table t) = record {
+  names = record { side = Some t.fields; input = Some t.input; output = t.output; report = Some t.report };
+  bad_row = bad_text_row t.bits;
+  bad_script_row = None;
+  course = λ text input. with_fault of_recording (table_course (tabulation_by t text) input);
 }
 errand_of (Forecast f) = record {
   names = record { side = Some f.plan; input = Some f.script; output = f.output; report = None };

@@ -4,8 +4,9 @@ ghost use Rattle.std.specs.Option.{option_map};
 ghost use Rattle.std.specs.String.{string_bytes};
 ghost use Rattle.desk_ports.specs.Meanings.{Adds, AddsFront, HasWriteCause, IsReadyIn, IsReadyOut};
 ghost use Rattle.side_tables.specs.Grammar.{bad_copy_row, bad_schedule_row, copy_rows_of, schedule_rows_of};
-ghost use Rattle.pocket_cmd.specs.Command.{Compress, Forecast as ToForecast, Play, Restore, Show, IsRight, compress_by, forecast_by, play_by, restore_by, show_by, view_command};
-ghost use Rattle.pocket_cmd.specs.Courses.{compression_by, names_of};
+ghost use Rattle.param_table.specs.Grammar.{bad_text_row};
+ghost use Rattle.pocket_cmd.specs.Command.{Compress, Forecast as ToForecast, Play, Restore, Show, Table as ToTable, IsRight, compress_by, forecast_by, play_by, restore_by, show_by, table_by, view_command};
+ghost use Rattle.pocket_cmd.specs.Courses.{compression_by, names_of, tabulation_by};
 ghost use Rattle.pocket_cmd.specs.Jobs.{AfterJob, AfterMaking, HasMakingCause, IsScriptRead, job_course, reads_input, writes_report};
 ghost use Rattle.pocket_cmd.specs.Outcome.{IsRowRefused, IsTextRefused};
 ghost use Rattle.pocket_cmd.specs.Status.{HasStatusCause, IsEnded, class_of, status_by};
@@ -22,6 +23,7 @@ use flight_chain::Flight;
 use forecast::Forecast;
 use ground_chain::{Lister, Restorer};
 use loss_player::Player;
+use param_table::{Fields, Tabler};
 use side_tables::{Schedule, Script};
 use std::alloc::Global;
 
@@ -34,6 +36,7 @@ pub enum Job {
     Show(Lister),
     /// The text of a trial's summary.
     Trial(Vec<u8>),
+    Table(Tabler),
     Forecast(Forecast),
 }
 
@@ -59,6 +62,7 @@ impl Job {
             Verb::Restore => Ok(Job::Restore(restorer(alloc, words)?)),
             Verb::Show => Ok(Job::Show(lister(alloc, words)?)),
             Verb::Trial => Ok(Job::Trial(summary_text(alloc, words)?)),
+            Verb::Table => Ok(Job::Table(tabler(alloc, words, text)?)),
             Verb::Forecast => Ok(Job::Forecast(forecast(
                 alloc,
                 words,
@@ -104,6 +108,10 @@ impl Job {
             Job::Trial(text) => match write_text(text, desk) {
                 Ok(()) => Ok(()),
                 Err(_) => Err(Refusal::WriteFault),
+            },
+            Job::Table(tabler) => match tabler.tabulate(desk) {
+                Ok(_) => Ok(()),
+                Err(fault) => Err(fault.into()),
             },
             Job::Forecast(forecast) => match forecast.write(desk) {
                 Ok(_) => Ok(()),
@@ -184,6 +192,23 @@ fn lister(alloc: Global, words: &[String]) -> Result<Lister, NoMemory>
         number_at(words, "bits"),
         number_at(words, "apid") as u16,
     )
+}
+
+/// The tabler of `table`, whose fields have this text.
+fn tabler(alloc: Global, words: &[String], text: &[u8]) -> Result<Tabler, Refusal>
+    requires right { IsRight (ToTable (table_by (map string_bytes words.now))) }
+    requires within { length text.now ≤ 1048576 }
+    ensures tabler { IfOk result
+        (λ tabler. tabler ≡ tabulation_by (table_by (map string_bytes words.now)) text.now) }
+    ensures rows { let told = table_by (map string_bytes words.now) in
+        OnOk result (bad_text_row told.bits text.now ≡ None) }
+    ensures refused { let told = table_by (map string_bytes words.now) in
+        IfErr result
+        (λ refusal. IsRowRefused (bad_text_row told.bits text.now) (class_of refusal)) }
+{
+    let f = number_at(words, "bits");
+    let fields = Fields::read(alloc, text, f)?;
+    Ok(Tabler::open(alloc, f, fields)?)
 }
 
 /// The forecast of `forecast`, whose schedule has this text. Its script, of this name, is opened and read after the schedule.

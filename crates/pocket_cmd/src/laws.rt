@@ -7,13 +7,16 @@ ghost use Rattle.side_tables.specs.Grammar.{copy_rows_of, schedule_rows_of};
 ghost use Rattle.side_tables.specs.Rows.{copies_of};
 ghost use Rattle.packet_encode.specs.Deliveries.{WrittenAt, arrivals};
 ghost use Rattle.forecast.specs.Prospects.{IsSure, prospect_of};
+ghost use Rattle.flight_chain.specs.Recordings.{recording_walk};
 ghost use Rattle.flight_chain.specs.Stores.{store_of};
+ghost use Rattle.param_table.specs.Grammar.{text_columns};
+ghost use Rattle.param_table.specs.Texts.{limit_text, table_text};
 ghost use Rattle.loss_player.specs.Gaps.{AreGapsShort};
 ghost use Rattle.loss_player.specs.Played.{played_bytes, played_of};
 ghost use Rattle.loss_player.specs.Report.{play_report};
 ghost use Rattle.ground_chain.specs.Deliveries.{report_text, restored_bytes};
 ghost use Rattle.pocket_cmd.specs.Apart.{AreApart};
-ghost use Rattle.pocket_cmd.specs.Command.{Command, Compress, CompressValues, Forecast, ForecastValues, Play, PlayValues, Restore, RestoreValues, Trial, TrialValues, AreGiven, IsRight, command_of};
+ghost use Rattle.pocket_cmd.specs.Command.{Command, Compress, CompressValues, Forecast, ForecastValues, Play, PlayValues, Restore, RestoreValues, Table, TableValues, Trial, TrialValues, AreGiven, IsRight, command_of};
 ghost use Rattle.pocket_cmd.specs.Courses.{course_of, forecast_by_texts, names_of};
 ghost use Rattle.pocket_cmd.specs.Delivery.{HasWritten, IsInputWhole, recorded_history};
 ghost use Rattle.pocket_cmd.specs.Openings.{input_given, side_given};
@@ -21,7 +24,6 @@ ghost use Rattle.pocket_cmd.specs.Outcome.{AfterRefusal, Stands};
 ghost use Rattle.pocket_cmd.specs.Summary.{summary_by};
 
 use crate::status::Refusal;
-use forecast::{forecasts_hold, prospects_of_histories};
 
 /// A command's values are within their bounds, each of its names is one that a word gives, and they are apart: two names to
 /// read differ, and two to write, and a name to read that is one to write is `-`.
@@ -53,6 +55,17 @@ pub fn trials_owe_their_summary()
         → (refusal ≡ Refusal.WriteFault) ⊎ (refusal ≡ Refusal.NoMemory) }
 {}
 
+/// A table owes the texts of the packets of a whole recording, by its fields: their table, and the report of the values out of
+/// their limits.
+pub fn tables_owe_their_texts()
+    ensures { (t : TableValues) (fields recording : List ℕ) → IsInputWhole (Table t) recording →
+        let packets = (recording_walk t.bits recording).inputs in
+        owed (course_of (Table t) fields recording) ≡ record {
+          output = table_text (text_columns t.bits fields) packets;
+          report = limit_text (text_columns t.bits fields) packets;
+        } }
+{}
+
 /// A forecast owes its text for a schedule and a script. What it calls sure is written of any recording of so many packets
 /// under that schedule and that required robustness, if copies arrive as the script says.
 pub fn forecasts_owe_their_text()
@@ -63,10 +76,7 @@ pub fn forecasts_owe_their_text()
         t < length h.steps
         → IsSure (prospect_of (schedule_rows_of plan) f.robust (copy_rows_of script)) t
         → WrittenAt h (copies_of (copy_rows_of script)) t }
-{
-    forecasts_hold();
-    prospects_of_histories();
-}
+{}
 
 /// What the commands hand on to one another. The store that `compress` owes for a whole recording is that of a valid history;
 /// what `play` owes for such a store is its played store, with a report of the gaps; and what `restore` owes for that is what

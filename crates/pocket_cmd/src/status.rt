@@ -6,6 +6,7 @@ ghost use Rattle.packet_store.specs.Faults.{stop_of};
 ghost use Rattle.flight_chain.specs.Compressing.{stop_by as flight_stop};
 ghost use Rattle.loss_player.specs.Playing.{stop_by as play_stop};
 ghost use Rattle.ground_chain.specs.Restoring.{stop_by as restore_stop};
+ghost use Rattle.param_table.specs.Faults.{stop_by as table_stop};
 ghost use Rattle.pocket_cmd.specs.Faults.{of_recording, of_store, stop_with};
 ghost use Rattle.pocket_cmd.specs.Status.{exit_number, refusal_at, refusal_by, refusal_in, status_by};
 
@@ -16,6 +17,7 @@ use flight_chain::FlightFault;
 use ground_chain::RestoreFault;
 use loss_player::PlayFault;
 use packet_store::{StoreFault, StoreKind};
+use param_table::TableFault;
 use side_tables::SideFault;
 use thiserror::Error;
 
@@ -156,6 +158,20 @@ impl From<RestoreFault> for Refusal {
         match fault {
             RestoreFault::Store(fault) => fault.into(),
             RestoreFault::WriteFault => Refusal::WriteFault,
+        }
+    }
+}
+
+impl From<TableFault> for Refusal {
+    ghost from_gives = { λ f e. e ≡ refusal_by (stop_with of_recording (table_stop f)) };
+
+    fn from(fault: TableFault) -> Refusal {
+        match fault {
+            TableFault::CutRecord { t } => Refusal::CutRecord { t },
+            TableFault::SpareBit { t } => Refusal::SpareBit { t },
+            TableFault::TooMany => Refusal::TooMany,
+            TableFault::ReadFault => Refusal::ReadFault,
+            TableFault::WriteFault => Refusal::WriteFault,
         }
     }
 }

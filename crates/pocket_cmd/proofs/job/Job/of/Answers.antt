@@ -38,6 +38,9 @@ lister-requires g c = right c.args.command.now _ c.in-Show.is
 pub summary_text-requires : goal.summary_text-requires
 summary_text-requires g c = right c.args.command.now _ c.in-Trial.is
 
+pub tabler-requires-clause-right : goal.tabler-requires-clause-right
+tabler-requires-clause-right g c = right c.args.command.now _ c.in-Table.is
+
 pub forecast-requires-clause-right : goal.forecast-requires-clause-right
 forecast-requires-clause-right g c = right c.args.command.now _ c.in-Forecast.is
 
@@ -60,6 +63,11 @@ pub returns-in_ok-lister-in-Show-clause-after : goal.returns-in_ok-lister-in-Sho
 returns-in_ok-lister-in-Show-clause-after g c =
     made c.args.command.now verb.Show c.in-Show.is c.args.text.now _ _ (job.Show c.in_ok-lister-in-Show.field-0)
     (refl, record { owes = ap (λ lister. job_course (job.Show lister)) c.in_ok-lister-in-Show.ensures; reads = refl; reports = refl; is = refl })
+
+pub returns-in_ok-tabler-in-Table-clause-after : goal.returns-in_ok-tabler-in-Table-clause-after
+returns-in_ok-tabler-in-Table-clause-after g c =
+    made c.args.command.now verb.Table c.in-Table.is c.args.text.now _ _ (job.Table c.in_ok-tabler-in-Table.field-0)
+    (c.in_ok-tabler-in-Table.ensures.rows, record { owes = ap (λ tabler. job_course (job.Table tabler)) c.in_ok-tabler-in-Table.ensures.tabler; reads = refl; reports = refl; is = refl })
 
 -- the script is the input of the command's name
 forecast_made : (words : List (List ℕ)) (text : List ℕ) (old new : Meanings) (forecast : ForecastState) (name : Option (List ℕ)) → name ≡ (names_of (command_by verb.Forecast words)).input → bad_schedule_row text ≡ None
