@@ -4,6 +4,8 @@
 mod chain;
 mod desk;
 mod faults;
+mod forecasts;
+mod foreseen;
 mod listings;
 mod long_chains;
 mod played;

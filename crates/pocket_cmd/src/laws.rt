@@ -24,7 +24,6 @@ ghost use Rattle.pocket_cmd.specs.Outcome.{AfterRefusal, Stands};
 ghost use Rattle.pocket_cmd.specs.Summary.{summary_by};
 
 use crate::status::Refusal;
-use forecast::{forecasts_hold, prospects_of_histories};
 
 /// A command's values are within their bounds, each of its names is one that a word gives, and they are apart: two names to
 /// read differ, and two to write, and a name to read that is one to write is `-`.
@@ -77,10 +76,7 @@ pub fn forecasts_owe_their_text()
         t < length h.steps
         → IsSure (prospect_of (schedule_rows_of plan) f.robust (copy_rows_of script)) t
         → WrittenAt h (copies_of (copy_rows_of script)) t }
-{
-    forecasts_hold();
-    prospects_of_histories();
-}
+{}
 
 /// What the commands hand on to one another. The store that `compress` owes for a whole recording is that of a valid history;
 /// what `play` owes for such a store is its played store, with a report of the gaps; and what `restore` owes for that is what

@@ -1,0 +1,7 @@
+use Rattle.std.proofs.Common.{◌≡◌, map, take}
+use Rattle.side_tables.specs.declared.rows.StreamRow.{StreamRow}
+use Rattle.ground_chain.specs.Reckoning.{nothing_judged}
+use Rattle.multi_ground.proofs.ground.MultiGround.open.Given as goal
+
+abbrev pub invariant-loop-index : goal.invariant-loop-index
+invariant-loop-index l = l.grounds.items ≡ map (λ (row : StreamRow). nothing_judged row.bits) (take l.index l.streams)

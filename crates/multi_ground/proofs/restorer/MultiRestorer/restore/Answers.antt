@@ -1,0 +1,44 @@
+use Rattle.std.proofs.Common.{ℕ, List, [], Result, subst}
+use Rattle.std.proofs.lemmas.Result.{err_from_is_err_and}
+use Rattle.desk_ports.specs.Courses.{AfterRun, IsCutShort, by_stop, to_report}
+use Rattle.desk_ports.proofs.Runs.{Ran-notes}
+use Rattle.desk_ports.proofs.Steps.{AfterRun-after, IsCutShort-wrote, Reaches-wrote, WroteFront-report}
+use Rattle.packet_store.specs.StoreWorks.{work_on}
+use Rattle.side_tables.specs.declared.rows.StreamRow.{StreamRow}
+use Rattle.ground_chain.specs.declared.fault.RestoreFault.{RestoreFault}
+use Rattle.ground_chain.specs.Restoring.{stop_by}
+use Rattle.multi_ground.specs.MultiOutputs.{multi_course, multi_header, multi_work}
+use Rattle.multi_ground.specs.Receiving.{left_after}
+use Rattle.multi_ground.proofs.MultiCourses.{Owes-unread, Steps-unread}
+use Rattle.multi_ground.proofs.NoShapes.{no_shape}
+use Rattle.multi_ground.proofs.restorer.MultiRestorer.restore.Goals as goal
+
+pub returns-in_err-write_header-clause-ran : goal.returns-in_err-write_header-clause-ran
+returns-in_err-write_header-clause-ran g c =
+    let a = g.D.Desk.meaning c.args.desk.now in
+    let b = g.D.Desk.meaning c.write_header.new.desk in
+    let s = c.self.inside.receiving in
+    let front = WroteFront-report a b multi_header c.in_err-write_header.ensures.front in
+    let cut = IsCutShort-wrote (multi_work s.streams) (work_on (left_after s.streams []) s.reader) a b (to_report multi_header) (Steps-unread s c.self.invariant) front in
+    let p = err_from_is_err_and c.from_residual.result c.from_residual.ensures.1 in
+    rw (p.1, p.2) (subst (λ (streams : List StreamRow). IsCutShort (multi_course streams) a b) c.self.view_is cut)
+
+pub drive-requires-clause-owed : goal.drive-requires-clause-owed
+drive-requires-clause-owed g c = let s = c.self.inside.receiving in record { work = work_on (left_after s.streams []) s.reader; owed = Owes-unread s c.self.invariant }
+
+pub returns-clause-ran : goal.returns-clause-ran
+returns-clause-ran g c =
+    let a = g.D.Desk.meaning c.args.desk.now in
+    let b = g.D.Desk.meaning c.write_header.new.desk in
+    let d = g.D.Desk.meaning c.drive.new.desk in
+    let s = c.self.inside.receiving in
+    let here = work_on (left_after s.streams []) s.reader in
+    let reached = Reaches-wrote (multi_work s.streams) here a b (to_report multi_header) (Steps-unread s c.self.invariant) (Ran-notes a b multi_header c.in_ok-write_header.ensures.added) in
+    subst (λ (streams : List StreamRow). AfterRun (multi_work streams) a d (by_stop stop_by c.drive.result)) c.self.view_is
+    (AfterRun-after (multi_work s.streams) here a b d (by_stop stop_by c.drive.result) reached (c.drive.ensures.ran here (Owes-unread s c.self.invariant)))
+
+pub returns-clause-shape : goal.returns-clause-shape
+returns-clause-shape g c = λ byte is.
+    let a = g.D.Desk.meaning c.args.desk.now in
+    let d = g.D.Desk.meaning c.drive.new.desk in
+    no_shape c.args.self a d byte (subst (λ (result : Result ℕ RestoreFault). AfterRun (multi_work c.args.self) a d (by_stop stop_by result)) is (returns-clause-ran g c))

@@ -1,0 +1,4 @@
+pub mod Grounds
+pub mod MultiRun
+pub mod MultiOutputs
+pub mod Receiving

@@ -1,0 +1,63 @@
+//! The command `multi`: from a store of several streams to a store of their restored packets and one report.
+
+ghost use Rattle.std.specs.Prelude.{◌≡◌, ℕ, Err, IfOk};
+ghost use Rattle.desk_ports.specs.Meanings.{IsReadyIn, IsReadyOut};
+ghost use Rattle.desk_ports.specs.Courses.{AfterRun, HasCause, by_stop};
+ghost use Rattle.ground_chain.specs.Restoring.{stop_by};
+ghost use Rattle.multi_ground.specs.MultiOutputs.{multi_work};
+
+use crate::receiving::MultiReceiving;
+use crate::writing::write_header;
+use bit_vectors::NoMemory;
+use desk_ports::{Desk, Inlet, Outlet, drive};
+use ground_chain::RestoreFault;
+use packet_store::StoreFault;
+use side_tables::Streams;
+use std::alloc::Global;
+use std::marker::Model;
+
+/// Restores the streams of a store: reads it from the main inlet of a desk, and writes each restored packet as a Space
+/// Packet to the main outlet, and one report. Contracts see the streams.
+#[derive(Debug, Drop)]
+pub struct MultiRestorer {
+    receiving: MultiReceiving,
+}
+
+impl Model for MultiRestorer {
+    ghost use Rattle.std.specs.Prelude.{List};
+    ghost use Rattle.side_tables.specs.declared.rows.StreamRow.{StreamRow};
+    ghost use Rattle.multi_ground.specs.Receiving.{IsUnread};
+
+    ghost Value = { List StreamRow };
+
+    ghost view = { λ r. r.receiving.streams };
+
+    ghost invariant = { λ r. IsUnread r.receiving };
+}
+
+impl MultiRestorer {
+    /// A restorer of these streams. It takes all memory of the run.
+    pub fn open(alloc: Global, streams: Streams) -> Result<MultiRestorer, NoMemory>
+        ensures { IfOk result (λ restorer. restorer ≡ streams) }
+    {
+        let receiving = MultiReceiving::open(alloc, streams)?;
+        Ok(MultiRestorer { receiving })
+    }
+
+    /// Restores the streams of the store, and tells how many packets were written. It takes no memory.
+    pub fn restore<D: Desk>(self, desk: &mut D) -> Result<u64, RestoreFault>
+        requires input { IsReadyIn (D.meaning desk.old) Inlet.Main }
+        requires output { IsReadyOut (D.meaning desk.old) Outlet.Main }
+        requires report { IsReadyOut (D.meaning desk.old) Outlet.Report }
+        // What stands after each answer is what the store owes, all of it or up to where its walk or the desk ends it.
+        ensures ran { AfterRun (multi_work self) (D.meaning desk.old) (D.meaning desk.new)
+            (by_stop stop_by result) }
+        ensures cause { HasCause (D.counts desk.old) (D.counts desk.new) (by_stop stop_by result) }
+        // A packet of another shape is no fault.
+        ensures shape { (byte : ℕ) → result ≡ Err (RestoreFault.Store (StoreFault.Shape byte)) → ⊥ }
+    {
+        let mut receiving = self.receiving;
+        write_header(desk)?;
+        drive(&mut receiving, desk)
+    }
+}
