@@ -2,3 +2,4 @@ pub mod Grounds
 pub mod MultiRun
 pub mod MultiOutputs
 pub mod Receiving
+pub mod Apart
