@@ -9,3 +9,4 @@ pub mod WellJudged
 pub mod ContentsApart
 pub mod Lines
 pub mod RowsApart
+pub mod Restored

@@ -1,14 +1,18 @@
 -- What the output and the report of several streams have of one of them.
-use Rattle.std.specs.Prelude.{ℕ, ◌%◌, ◌==◌, if◌then◌else◌, List, [], ◌∷◌, ◌++◌, length, take, drop, map, filter, codes, Option, Some, None}
+use Rattle.std.specs.Prelude.{ℕ, ◌%◌, ◌==◌, if◌then◌else◌, List, [], ◌∷◌, ◌++◌, ◌<◌, ◌≡◌, length, take, drop, map, filter, codes, Option, Some, None}
 use Rattle.std.specs.Fmt.{decimal}
 use Rattle.std.specs.List.{filter_map, flat_map}
 use Rattle.std.specs.Str.{bytes_eq}
+use Rattle.std.specs.Io.KnownBytes.{append_known}
+use Rattle.desk_ports.specs.declared.desk.Outlet.TheVariants as outlet
+use Rattle.desk_ports.specs.Meanings.{Meanings, made}
 use Rattle.packet_store.specs.SpacePackets.{Packet, period, plain_packet}
 use Rattle.packet_store.specs.Walks.{walk}
 use Rattle.side_tables.specs.declared.rows.StreamRow.{StreamRow}
-use Rattle.ground_chain.specs.Run.{Judged}
-use Rattle.ground_chain.specs.Report.{content_bytes, is_written_kind}
-use Rattle.multi_ground.specs.MultiRun.{StreamJudged, multi_run, shape_count}
+use Rattle.side_tables.specs.Streams.{stream_at}
+use Rattle.ground_chain.specs.Run.{Judged, run}
+use Rattle.ground_chain.specs.Report.{content_bytes, end_row, is_written_kind, restored_of, run_bytes, run_rows}
+use Rattle.multi_ground.specs.MultiRun.{StreamJudged, multi_run, shape_count, stream_arrivals}
 use Rattle.multi_ground.specs.MultiOutputs.{end_rows, multi_header, outputs_of, shape_row}
 
 -- the judged arrivals of the stream with an APID
@@ -51,3 +55,23 @@ rows_on apid report = flat_map (after_front (decimal apid ++ codes ",")) (lines_
 -- the report of the streams in whole stores
 abbrev pub multi_report : List StreamRow → List Packet → List ℕ
 multi_report streams packets = multi_header ++ (outputs_of (multi_run streams packets)).report ++ (end_rows streams packets ++ shape_row (shape_count streams packets))
+
+-- ---- a whole store
+
+-- the run over the arrivals of a stream in a store
+abbrev pub stream_run : StreamRow → List ℕ → List Judged
+stream_run stream store = run stream.bits (stream_arrivals stream.apid (walk None store).packets)
+
+-- an output and a report have of a stream what the run over its arrivals alone gives
+pub record HasStream (stream : StreamRow) (store output report : List ℕ) : Type 0 where
+  pub contents : contents_on stream.apid output ≡ run_bytes (stream_run stream store)
+  pub rows : rows_on stream.apid report ≡ run_rows (stream_run stream store) ++ end_row (restored_of (stream_run stream store))
+
+-- To the outputs were added a store of Space Packets and a report, which have each stream by itself.
+pub record AreRestored (streams : List StreamRow) (store : List ℕ) (old new : Meanings) : Type 0 where
+  pub output : List ℕ
+  pub report : List ℕ
+  pub added : made new outlet.Main ≡ append_known (made old outlet.Main) output
+  pub noted : made new outlet.Report ≡ append_known (made old outlet.Report) report
+  pub whole : (walk None output).ending ≡ None
+  pub each : (index : ℕ) → index < length streams → HasStream (stream_at streams index) store output report

@@ -3,3 +3,4 @@ pub mod MultiRun
 pub mod MultiOutputs
 pub mod Receiving
 pub mod Apart
+pub mod Worked
