@@ -17,6 +17,7 @@ import tempfile
 
 sys.dont_write_bytecode = True
 import documents
+from table import table
 from trial import trial
 
 NOBODY = 65534
@@ -38,6 +39,10 @@ PLAY = "play in=x out=y report=z apid=100 script=s"
 RESTORE = "restore in=x out=y report=z bits=8 apid=100"
 SHOW = "show in=x out=y bits=8 apid=100"
 TRIAL = "trial seed=0 packets=3 bits=8 robust=1 out=-"
+TABLE = "table in=x out=y report=z fields=s bits=16"
+FIELDS = b"field,0,8,u,mode\nfield,8,8,s,temp\nlimit,temp,-10,40\n"
+TABLED, LIMITS = b"t,mode,temp\n0,1,-16\n1,2,40\n", b"t,name,value,low,high\n0,temp,-16,-10,40\nend,2,1\n"
+SAMPLES = os.path.join(documents.ROOT, "crates", "pocket", "data")
 SUMMARY = b"packets 3\nrecording 3\nstore 29\nplayed 19\ndelivered 2\nwritten 2\nlisted 1\n"
 # The seed, the packets, the bits of a packet and the required robustness.
 TRIALS = [(1, 10000, 1024, 2), (4294967295, 10000, 4096, 7), (7, 1, 1, 0), (3, 500, 13, 0), (20, 2000, 8, 1)]
@@ -90,6 +95,12 @@ VERBS = [
     case("trial", TRIAL, out=SUMMARY),
     case("trial to a file", TRIAL[:-1] + "y", after={"y": SUMMARY, "y.part": None}),
     *[case(f"trial {numbers}", "trial seed=%d packets=%d bits=%d robust=%d out=-" % numbers, out=summary(*numbers)) for numbers in TRIALS],
+    case("table", TABLE, before={"x": bytes.fromhex("01F00228"), "s": FIELDS},
+         after={"x": bytes.fromhex("01F00228"), "y": TABLED, "z": LIMITS, "y.part": None, "z.part": None}),
+    case("table from a pipe to a pipe", "table in=- out=y report=- fields=s bits=16", given=bytes.fromhex("01F00228"), out=LIMITS,
+         before={"s": FIELDS}, after={"y": TABLED}),
+    case("table with its fields on a pipe", "table in=x out=- report=z fields=- bits=16", given=FIELDS, out=TABLED,
+         before={"x": bytes.fromhex("01F00228")}, after={"z": LIMITS}),
     case("version", "--version", out=b"pocket 0.1.0\n"),
 ]
 
@@ -128,6 +139,12 @@ REFUSALS = [
     case("a trial of packets of too many bits", "trial seed=0 packets=3 bits=4097 robust=1 out=-", 2, err=wrong(3)),
     case("a trial with an input", TRIAL + " in=x", 2, err=wrong(6), before={"x": RECORDING}),
     case("a trial to a device that is full", TRIAL[:-1] + "/dev/full", 1, err=WRITE),
+    case("fields with a wrong row", TABLE, 3, err=b"pocket: side row 1 is wrong\n", before={"x": b"", "s": b"field,9,8,u,x\n"},
+         after={"y": None, "z": None, "y.part": None}),
+    case("a table of a recording that is cut", TABLE, 4, err=b"pocket: recording ends inside packet 1\n",
+         before={"x": bytes.fromhex("01F002"), "s": FIELDS},
+         after={"y": None, "z": None, "y.part": b"t,mode,temp\n0,1,-16\n", "z.part": b"t,name,value,low,high\n0,temp,-16,-10,40\n"}),
+    case("a table of an APID", TABLE + " apid=100", 2, err=wrong(6), before={"x": b"", "s": FIELDS}),
     case("another version", RESTORE, 4, err=b"pocket: store packet at byte 0 has another version\n", before={"x": bytes.fromhex("2064C000000000")}),
     case("another shape", PLAY, 4, err=b"pocket: store packet at byte 0 has another shape\n",
          before={"x": bytes.fromhex("00640000000082"), "s": b""}, after={"y": None, "z": None}),
@@ -271,7 +288,7 @@ def helps(runner):
     """Whether `--help` names each verb with each of its keys, the range of each number and the exit numbers."""
     verbs = {"compress": "in= out= bits= apid= robust= plan= mask=", "play": "in= out= report= apid= script=",
              "restore": "in= out= report= bits= apid=", "show": "in= out= bits= apid=",
-             "trial": "seed= packets= bits= robust= out="}
+             "trial": "seed= packets= bits= robust= out=", "table": "in= out= report= fields= bits="}
     told = runner.start(["--help"], stdout=subprocess.PIPE, stderr=subprocess.PIPE)
     out, err = told.communicate()
     text = out.decode().splitlines()
@@ -311,6 +328,24 @@ def wants_memory(runner):
     if (found.returncode, found.stderr) != (5, b"pocket: out of memory\n") or got(os.path.join(folder, "y.part")) is not None:
         return f"it ended with {found.returncode}, {found.stderr}"
     return None
+
+
+def tabulates(runner):
+    """Whether `table` writes each number of 1 to 64 bits at each place up to 70, signed or not, as .ci/table.py does; and what it
+    writes of the sample, which `restore` gives back from its store."""
+    fields = [f"field,{place},{width},{kind},{kind}{width}at{place}" for place in range(71) for width in range(1, 65) for kind in "us"]
+    packets = bytes.fromhex("F00FA55A0123456789ABCDEF80000001FE7F") + bytes(range(18)) + bytes(18) + b"\xff" * 18
+    given = [(packets, 144, fields[first:first + 256] + [f"limit,{row.split(',')[4]},-3,3" for row in fields[first:first + 256:2]])
+             for first in range(0, len(fields), 256)]
+    sample = {name: got(os.path.join(SAMPLES, name)) for name in ("hk.store", "hk.rec", "hk.csv")}
+    for recording, bits, rows in given + [(sample["hk.rec"], 64, sample["hk.csv"].decode().split())]:
+        text = "\n".join(rows) + "\n"
+        out, report = (part.encode() for part in table(recording, text, bits))
+        wrong = runner.run(case("", f"table in=x out=y report=z fields=s bits={bits}", before={"x": recording, "s": text.encode()}, after={"y": out, "z": report}))
+        if wrong:
+            return f"of the fields from {rows[0]} on: {wrong[:200]}"
+    return runner.run(case("", "restore in=x out=y report=- bits=64 apid=100", before={"x": sample["hk.store"]}, out=HEADER + b"end,60,60,0\n",
+                           after={"y": sample["hk.rec"]}))
 
 
 def keeps_name(runner):
@@ -355,6 +390,7 @@ def main():
         tries = [(row["name"], lambda row=row: runner.run(row)) for row in VERBS + REFUSALS + FILES]
         tries += [(f"the range of {row[0]}", lambda row=row: keeps_range(runner, *row)) for row in RANGES]
         tries += [("help", lambda: helps(runner)), ("no memory", lambda: wants_memory(runner)), ("progress", lambda: tells_progress(runner)),
+                  ("numbers of each width at many places, and the sample", lambda: tabulates(runner)),
                   ("an output that can't be written whole", lambda: keeps_name(runner))]
         tries += documents.tries()
         for name, attempt in tries:

@@ -5,15 +5,18 @@ proved. Run alone it draws the pictures anew."""
 import os
 import subprocess
 import sys
+import tempfile
 import xml.etree.ElementTree as xml
 
 import names
+from table import table
 
 ROOT = os.path.dirname(os.path.dirname(os.path.abspath(__file__)))
 LISTING = b"0 written 1 00 00 b0\n1 written 1 01 01 b1\n2-2 lost\n3 written 1 02 03 b3\nend 3 3 0\n"
 PACKET = ["recent changes: no place=10", "effective robustness level: 1=0001", "not short: a mask or whole content follows=0", "the mask is sent=1",
           "the edges of the mask: none, so the mask is 00=10", "the content is whole=1", "number of places: 8=11000110", "content: B0=10110000"]
 DRAWN = {"loss.svg": (["listing"], LISTING), "packet.svg": (["packet"] + PACKET, b"")}
+SAMPLES = os.path.join(ROOT, "crates", "pocket", "data")
 
 # Each line of a listing, and what the picture says of the packet.
 EACH = [(b"0 written 15 00 00 b0", "packet 0: written, level 15, repeated 2 times"), (b"0 repeat", ""), (b"0 repeat", ""),
@@ -42,16 +45,31 @@ def draw(words, given):
     return subprocess.run([sys.executable, os.path.join(ROOT, "pictures", "draw.py"), *words], input=given, capture_output=True, timeout=60)
 
 
+def draw_table(fields, text, report):
+    """What is drawn of a table, its report and the side text of its fields."""
+    with tempfile.TemporaryDirectory() as folder:
+        for name, content in (("fields", fields), ("report", report)):
+            with open(os.path.join(folder, name), "w") as file:
+                file.write(content)
+        return draw(["table", os.path.join(folder, "report"), os.path.join(folder, "fields")], text.encode())
+
+
+def sample():
+    """The sample's fields, its table and its report."""
+    with open(os.path.join(SAMPLES, "hk.rec"), "rb") as recording, open(os.path.join(SAMPLES, "hk.csv")) as file:
+        fields = file.read()
+        return (fields, *table(recording.read(), fields, 64))
+
+
 def titles(words, given):
     """What the parts of a picture are called."""
     return [part.text for part in xml.fromstring(draw(words, given).stdout).iter() if part.tag.endswith("title")]
 
 
-def is_held(name, words, given):
+def is_held(name, drawn):
     """Whether a picture of the documents is what is drawn."""
     with open(os.path.join(ROOT, "docs", "pictures", name), "rb") as file:
         held = file.read()
-    drawn = draw(words, given)
     xml.fromstring(drawn.stdout)
     return None if drawn.stdout == held and drawn.returncode == 0 else f"it is not docs/pictures/{name}: python3 .ci/documents.py draws it anew"
 
@@ -73,6 +91,35 @@ def refuses():
     return None
 
 
+# What is refused of the sample: which part is changed, from what to what, and the fault that is named.
+WRONG_TABLES = [
+    (1, "t,mode", "mode", "line 1 of the table is wrong: it names no fields"),
+    (1, "\n1,1,", "\n2,1,", "line 3 of the table is wrong: it has not packet 1 and 5 values"),
+    (1, "\n1,1,", "\n1,01,", "line 3 of the table is wrong"),
+    (1, "\n1,1,", "\n1,1,1,", "line 3 of the table is wrong"),
+    (2, "0,temperature_C,-14", "0,temperature_C,-13", "line 2 of the report is wrong"),
+    (2, "end,60,28\n", "", "line 30 of the report is wrong"),
+    (2, "end,60,28\n", "end,60,28\nend,60,28\n", "line 31 of the report is wrong: nothing comes after the last line"),
+]
+
+
+def draws_tables():
+    """Whether each value out of its limit is told, a table with no packet is drawn, and what is no table is refused."""
+    given = sample()
+    told = [part.text for part in xml.fromstring(draw_table(*given).stdout).iter() if part.tag.endswith("title")]
+    missing = [words for words in ("60 packets with 5 fields, 28 values out of their limits", "packet 0: temperature_C is -14, below -10",
+                                 "packet 35: battery_mV is 2795, below 2800", "packet 23: temperature_C is 41, above 40") if words not in told]
+    empty = draw_table("", *table(b"", "", 8))
+    xml.fromstring(empty.stdout)
+    if missing or empty.returncode or len(told) != 29:
+        return f"missing {missing}, {len(told)} parts"
+    for place, old, new, fault in WRONG_TABLES:
+        found = draw_table(*[part.replace(old, new, 1) if at == place else part for at, part in enumerate(given)])
+        if (found.returncode, found.stdout) != (1, b"") or not found.stderr.startswith(b"draw.py: " + fault.encode()):
+            return f"{fault}: {found.returncode}, {found.stderr}"
+    return None
+
+
 def quotes_the_caller():
     """Whether the caller that docs/CALLING.md shows is that of the crate round_trip."""
     with open(os.path.join(ROOT, "docs", "CALLING.md")) as page, open(os.path.join(ROOT, "crates", "round_trip", "src", "lib.rt")) as code:
@@ -87,12 +134,13 @@ def names_are_found():
 
 def tries():
     """What is tried: each with its name, and a function that gives what is wrong, or None."""
-    return [(f"the picture {name}", lambda name=name, row=row: is_held(name, *row)) for name, row in DRAWN.items()] + [
+    return [(f"the picture {name}", lambda name=name, row=row: is_held(name, draw(*row))) for name, row in DRAWN.items()] + [
+        ("the picture table.svg", lambda: is_held("table.svg", draw_table(*sample()))), ("tables", draws_tables),
         ("pictures of each line", draws_each), ("refused listings", refuses), ("the caller that is shown", quotes_the_caller),
         ("laws, clauses and definitions of the documents", names_are_found)]
 
 
 if __name__ == "__main__":
-    for name, row in DRAWN.items():
+    for name, drawn in [(name, draw(*row)) for name, row in DRAWN.items()] + [("table.svg", draw_table(*sample()))]:
         with open(os.path.join(ROOT, "docs", "pictures", name), "wb") as file:
-            file.write(draw(*row).stdout)
+            file.write(drawn.stdout)

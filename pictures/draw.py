@@ -2,12 +2,14 @@
 """Draws pictures of what pocket lists, as SVG on standard output.
 
     draw.py listing < LISTING             the packets of a listing (what `pocket show` writes), one cell for each number
+    draw.py table REPORT FIELDS < TABLE   the fields of a table (what `pocket table` writes, with its report), one strip for each
     draw.py packet NAME=BITS NAME=BITS .. the bits of one packet, part by part, and its bytes
 
-A listing that can't be read is refused with the number of its first wrong line, parts with the first wrong word; the exit
-number is then 1. docs/FORMATS.md has the lines of a listing and the parts of a packet.
+A listing, a table or a report that can't be read is refused with the number of its first wrong line, parts with the first wrong
+word; the exit number is then 1. docs/FORMATS.md has the lines of each and the parts of a packet.
 """
 
+import csv
 import re
 import sys
 from collections import Counter
@@ -195,6 +197,91 @@ def draw_listing(text):
     return picture(max(right + 14, 480), end + 10, title, [words(14, 22, title, 14, weight="bold"), *cells, *keys])
 
 
+SIGNED = "(?:0|-?[1-9][0-9]*)"
+NAME = "[A-Za-z][A-Za-z0-9_]{0,31}"
+TABLE_HEADER = re.compile(f"t((?:,{NAME})*)")
+TABLE_LINE = re.compile(f"{NUMBER}((?:,{SIGNED})*)")
+WIDE, HIGH, STEP = 720, 56, 92  # a strip, and from one to the next
+
+
+def read_table(text):
+    """The values of each field of a table by its name, and how many packets it has."""
+    lines = text.splitlines()
+    found = TABLE_HEADER.fullmatch(lines[0]) if lines else None
+    if not found:
+        raise Wrong("line 1 of the table is wrong: it names no fields")
+    names = found.group(1).split(",")[1:]
+    if len(lines) - 1 > MOST:
+        raise Wrong(f"the table has more than {MOST} packets")
+    values = {name: [] for name in names}
+    for number, line in enumerate(lines[1:], 2):
+        found = TABLE_LINE.fullmatch(line)
+        cells = found.group(2).split(",")[1:] if found else []
+        if not found or len(cells) != len(names) or int(found.group(1)) != number - 2:
+            raise Wrong(f"line {number} of the table is wrong: it has not packet {number - 2} and {len(names)} values: {line[:60]!r}")
+        for name, cell in zip(names, cells):
+            values[name].append(int(cell))
+    return values, len(lines) - 1
+
+
+def read_limits(path):
+    """The limits that a side text of `table` gives to its fields, by their names."""
+    with open(path, newline="", encoding="utf-8-sig") as file:
+        return {row[1]: (int(row[2]), int(row[3])) for row in csv.reader(file) if row[:1] == ["limit"] and len(row) == 4}
+
+
+def check_report(text, values, count, limits):
+    """That a report lists what a table has out of the limits, in order, and no more."""
+    wanted = [f"{t},{name},{values[name][t]},{limits[name][0]},{limits[name][1]}" for t in range(count) for name in values
+              if name in limits and not limits[name][0] <= values[name][t] <= limits[name][1]]
+    lines = text.splitlines()
+    wanted = ["t,name,value,low,high", *wanted, f"end,{count},{len(wanted)}"]
+    for number, (line, own) in enumerate(zip(lines + [""], wanted), 1):
+        if line != own and number <= len(wanted):
+            raise Wrong(f"line {number} of the report is wrong: of this table and these fields it is {own!r}: {line[:60]!r}")
+    if len(lines) > len(wanted):
+        raise Wrong(f"line {len(wanted) + 1} of the report is wrong: nothing comes after the last line")
+
+
+def strip(name, values, limit, top, left):
+    """A field over the packets' numbers: its values, its limits as lines, and a mark at each value out of them."""
+    low, high = min(values + list(limit or ())), max(values + list(limit or ()))
+    at = lambda value: top + HIGH - (HIGH * (value - low) / (high - low) if high > low else HIGH / 2)
+    across = lambda t: left + WIDE * (t + 0.5) / len(values)
+    parts = [words(left, top - 8, name, 12, weight="bold"), words(left - 6, top + 9, str(high), 10, "end"), words(left - 6, top + HIGH, str(low), 10, "end"),
+             f"<rect x='{left}' y='{top}' width='{WIDE}' height='{HIGH}' fill='#f7f7f7' stroke='#bbbbbb'/>"]
+    for bound in limit or ():
+        parts.append(f"<path d='M{left} {at(bound):.1f}h{WIDE}' stroke='#a63c00' stroke-width='1' stroke-dasharray='6 4'/>"
+                     + words(left + WIDE + 6, at(bound) + 4, str(bound), 10, fill="#a63c00"))
+    line = "L".join(f"{across(t):.1f} {at(value):.1f}" for t, value in enumerate(values))
+    parts.append(f"<path d='M{line}' fill='none' stroke='{DARK}' stroke-width='1.5'/>")
+    for t, value in enumerate(values):
+        if limit and not limit[0] <= value <= limit[1]:
+            above, x, y = value > limit[1], across(t), at(value)
+            told = f"packet {t}: {name} is {value}, {'above' if above else 'below'} {limit[above]}"
+            shape = f"M{x - 4:.1f} {y + 4:.1f}h8l-4 -8z" if above else f"M{x - 4:.1f} {y - 4:.1f}h8l-4 8z"
+            parts.append(f"<g><title>{told}</title><path d='{shape}' fill='#e69f00' stroke='#000000' stroke-width='0.8'/></g>")
+    return parts
+
+
+def draw_table(text, report, fields):
+    values, count = read_table(text)
+    limits = {name: limit for name, limit in read_limits(fields).items() if name in values}
+    with open(report, encoding="ascii", errors="replace") as file:
+        check_report(file.read(), values, count, limits)
+    outside = sum(not limits[name][0] <= value <= limits[name][1] for name in limits for value in values[name])
+    title = f"{count} packets with {len(values)} fields, {outside} values out of their limits"
+    left, parts, bottom = 96, [], 40
+    for place, (name, own) in enumerate(values.items() if count else ()):
+        parts += strip(name, own, limits.get(name), 56 + STEP * place, left)
+        bottom = 56 + STEP * place + HIGH
+    if bottom > 40:
+        step = max(1, 10 ** (len(str(count)) - 1) // (1 if count >= 4 * 10 ** (len(str(count)) - 1) else 5))
+        parts += [words(left + WIDE * (t + 0.5) / count, bottom + 16, str(t), 10, "middle") for t in range(0, count, step)]
+        parts.append(words(left, bottom + 36, "Dashed lines: limits. Triangle up: a value above its limit; triangle down: one below it. Under the strips: the packets' numbers.", 11))
+    return picture(left + WIDE + 90, bottom + 50, title, [words(14, 22, title, 14, weight="bold"), *parts])
+
+
 def read_parts(given):
     """The parts of a packet, each with its name and its bits."""
     parts = []
@@ -244,6 +331,8 @@ def main(given):
     try:
         if given == ["listing"]:
             sys.stdout.write(draw_listing(sys.stdin.buffer.read().decode("ascii", "replace")))
+        elif given[:1] == ["table"] and len(given) == 3:
+            sys.stdout.write(draw_table(sys.stdin.buffer.read().decode("ascii", "replace"), *given[1:]))
         elif given[:1] == ["packet"]:
             sys.stdout.write(draw_packet(given[1:]))
         else:

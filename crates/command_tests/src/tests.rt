@@ -4,6 +4,8 @@
 mod chain;
 mod desk;
 mod faults;
+mod forecasts;
+mod foreseen;
 mod listings;
 mod long_chains;
 mod played;
@@ -14,6 +16,7 @@ mod samples;
 mod short_chains;
 mod sides;
 mod stores;
+mod tables;
 mod texts;
 mod trials;
 mod words;

@@ -1,12 +1,16 @@
 -- What is sure is written, for each history that was foreseen; and what is written is sure if the levels are the required ones.
-use Rattle.std.proofs.Common.{◌≡◌, ℕ, zero, suc, ◌+◌, ◌-◌, ◌<◌, ◌≤◌, true, ◌⊎◌, length, Option, Some, None, inl, inr, sym, ap, ◌∙◌, arith}
+use Rattle.std.proofs.Common.{◌≡◌, ℕ, zero, suc, ◌+◌, ◌-◌, ◌<◌, ◌≤◌, true, Bool, ◌⊎◌, List, length, Option, Some, None, inl, inr, sym, ap, ◌∙◌, subst, arith}
 use Rattle.std.proofs.lemmas.Bool.{cases_lt}
 use Rattle.bit_vectors.specs.declared.flags.Flags.{Flags}
-use Rattle.mask_update.specs.Histories.{History, flags_at, robust_at}
+use Rattle.mask_update.specs.Histories.{History, Step, flags_at, history_of, robust_at}
+use Rattle.mask_update.proofs.HistoriesOf.{length-history_of, step_at-history_of}
 use Rattle.robust_window.specs.Histories.{level_at}
+use Rattle.robust_window.proofs.OfHistories.{IsLevel-level_at}
+use Rattle.side_tables.specs.declared.rows.CopyRow.{CopyRow}
+use Rattle.side_tables.specs.Rows.{ScheduleRows, flags_of}
 use Rattle.packet_encode.specs.Deliveries.{IsReached, MaskKnownAt, WrittenAt, latest_mask_known, latest_written}
 use Rattle.packet_encode.proofs.Deliveries.{IsLatestOr, latest_mask-right, latest_written-right, reached_later}
-use Rattle.forecast.specs.Prospects.{Prospect, IsForeseen, IsMaskSure, IsSure, latest_mask_sure, latest_sure}
+use Rattle.forecast.specs.Prospects.{Prospect, IsForeseen, IsMaskSure, IsSure, latest_mask_sure, latest_sure, prospect_of, robust_by}
 use Rattle.forecast.proofs.Sure.{latest_mask-right as mask_sure-right, latest_sure-right}
 
 -- A latest packet here is at most the latest there, so what reaches it here reaches the latest one there, if it reaches as far.
@@ -89,3 +93,23 @@ module _ (p : Prospect) (h : History) (foreseen : IsForeseen p h) (levels : (t :
               carried (WrittenAt h p.copies) (IsSure p) t (level_at h t) (p.robust t) (latest_written h p.copies t) (latest_sure p t)
                   (latest_written-right h p.copies t) (latest_sure-right p t) earlier (narrower t below) within,
             )
+
+-- ---- of every history
+
+-- a level is at least the required robustness
+pub at_least : (h : History) (t : ℕ) → t < length h.steps → robust_at h t ≤ level_at h t
+at_least h t below = (IsLevel-level_at h t below).least
+
+-- a packet that is sure is written
+pub written_sure : (p : Prospect) (h : History) (t : ℕ) → IsForeseen p h → t < length h.steps → IsSure p t → WrittenAt h p.copies t
+written_sure p h t foreseen below is = written p h foreseen (at_least h) (suc t) t (omega arith) below is
+
+-- the history of any inputs under a schedule is foreseen
+pub IsForeseen-history_of : (plan : ScheduleRows) (robust : ℕ) (script : List CopyRow) (inputs : List (List Bool)) (f : ℕ) (mask : List Bool) → IsForeseen (prospect_of plan robust script) (history_of inputs (flags_of plan.flags) (robust_by plan robust) f mask)
+IsForeseen-history_of plan robust script inputs f mask =
+    let flags = flags_of plan.flags in
+    let steps = length-history_of inputs flags (robust_by plan robust) f mask in
+    record {
+      flags = λ t below. ap (λ (s : Step). s.flags) (step_at-history_of inputs flags (robust_by plan robust) f mask t (subst (λ (n : ℕ). t < n) steps below));
+      robust = λ t below. ap (λ (s : Step). s.robust) (step_at-history_of inputs flags (robust_by plan robust) f mask t (subst (λ (n : ℕ). t < n) steps below));
+    }

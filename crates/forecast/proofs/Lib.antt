@@ -2,3 +2,5 @@ pub mod Sure
 pub mod Foresight
 pub mod Longest
 pub mod Rows
+pub mod Claimed
+pub mod LastRows

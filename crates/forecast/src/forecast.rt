@@ -7,7 +7,7 @@ ghost use Rattle.forecast.specs.Prospects.{fate_of};
 ghost use Rattle.forecast.specs.Outlooks.{ended_before, foresees, row_of, running_at};
 ghost use Rattle.forecast.specs.Texts.{closing_rows, end_row, forecast_text, gaps_row, stretch_rows, sure_count};
 
-use crate::foreseen::Outlook;
+use crate::foreseen::Foresight;
 use crate::running::Running;
 use crate::stretch::Stretch;
 use bit_vectors::NoMemory;
@@ -24,24 +24,25 @@ const HEADER: &str = "first,last,state\n";
 #[derive(Debug, Drop)]
 pub struct Forecast {
     packets: u32,
-    outlook: Outlook,
+    foresight: Foresight,
 }
 
 impl Model for Forecast {
+    ghost use Rattle.std.specs.Prelude.{◌≡◌};
     ghost use Rattle.forecast.specs.Outlooks.{ForecastState, IsForecast};
 
     ghost Value = { ForecastState };
 
-    ghost view = { λ f. record { packets = f.packets; outlook = f.outlook } };
+    ghost view = { λ f. f.foresight };
 
-    ghost invariant = { λ f. IsForecast f.packets };
+    ghost invariant = { λ f. IsForecast f.packets f.foresight };
 }
 
 impl Forecast {
     /// A forecast for so many packets, 1 to 1,000,000, under a schedule and a script. `robust`, at most 7, is the required
-    /// robustness of packets to which the schedule gives none. The schedule and the script have all memory that is needed.
+    /// robustness of packets to which the schedule gives none. The memory is taken here.
     pub fn open(
-        _alloc: Global,
+        alloc: Global,
         packets: u32,
         robust: u8,
         plan: Schedule,
@@ -54,12 +55,9 @@ impl Forecast {
           packets = packets;
           outlook = record { plan = plan; robust = robust; script = script };
         }) }
-        ensures done { IsOk result }
     {
-        Ok(Forecast {
-            packets,
-            outlook: Outlook::new(plan, robust, script),
-        })
+        let foresight = Foresight::open(alloc, packets, robust, plan, script)?;
+        Ok(Forecast { packets, foresight })
     }
 
     /// Writes the forecast to the main outlet, and tells how many packets are sure. It takes no memory.
@@ -73,25 +71,25 @@ impl Forecast {
             (λ sure. sure ≡ sure_count (foresees self.outlook) self.packets) }
         ensures cause { HasWriteCause (D.counts desk.old) (D.counts desk.new) result }
     {
-        let mut outlook = self.outlook;
-        write_text(desk, &mut outlook, self.packets)
+        write_text(desk, &self.foresight, self.packets)
     }
 }
 
 /// Writes the forecast for so many packets, and tells how many are sure.
-fn write_text<D: Desk>(desk: &mut D, outlook: &mut Outlook, packets: u32) -> Result<u64, Failed>
+fn write_text<D: Desk>(desk: &mut D, foresight: &Foresight, packets: u32) -> Result<u64, Failed>
     requires ready { IsReadyOut (D.meaning desk.old) Outlet.Main }
     requires some { 1 ≤ packets }
     requires most { packets ≤ 1000000 }
+    requires all { packets ≤ foresight.now.packets }
     ensures added { OnOk result (Adds (D.meaning desk.old) (D.meaning desk.new) Outlet.Main
-        (forecast_text (foresees outlook.old) packets)) }
+        (forecast_text (foresees foresight.now.outlook) packets)) }
     ensures front { OnErr result (AddsFront (D.meaning desk.old) (D.meaning desk.new)
-        Outlet.Main (forecast_text (foresees outlook.old) packets)) }
-    ensures sure { IfOk result (λ sure. sure ≡ sure_count (foresees outlook.old) packets) }
+        Outlet.Main (forecast_text (foresees foresight.now.outlook) packets)) }
+    ensures sure { IfOk result (λ sure. sure ≡ sure_count (foresees foresight.now.outlook) packets) }
     ensures cause { HasWriteCause (D.counts desk.old) (D.counts desk.new) result }
 {
     write_all(desk, Outlet::Main, HEADER.as_bytes())?;
-    let running = write_stretches(desk, outlook, packets)?;
+    let running = write_stretches(desk, foresight, packets)?;
     write_closing(desk, packets, &running)?;
     Ok(running.sure)
 }
@@ -99,23 +97,24 @@ fn write_text<D: Desk>(desk: &mut D, outlook: &mut Outlook, packets: u32) -> Res
 /// Writes a line for each stretch of so many packets, and tells what is kept of them.
 fn write_stretches<D: Desk>(
     desk: &mut D,
-    outlook: &mut Outlook,
+    foresight: &Foresight,
     packets: u32,
 ) -> Result<Running, Failed>
     requires ready { IsReadyOut (D.meaning desk.old) Outlet.Main }
     requires some { 1 ≤ packets }
     requires most { packets ≤ 1000000 }
+    requires all { packets ≤ foresight.now.packets }
     ensures added { OnOk result (Adds (D.meaning desk.old) (D.meaning desk.new) Outlet.Main
-        (stretch_rows (fate_of (foresees outlook.old)) packets)) }
+        (stretch_rows (fate_of (foresees foresight.now.outlook)) packets)) }
     ensures front { OnErr result (AddsFront (D.meaning desk.old) (D.meaning desk.new) Outlet.Main
-        (stretch_rows (fate_of (foresees outlook.old)) packets)) }
+        (stretch_rows (fate_of (foresees foresight.now.outlook)) packets)) }
     ensures running { IfOk result
-        (λ running. running ≡ running_at (foresees outlook.old) packets) }
+        (λ running. running ≡ running_at (foresees foresight.now.outlook) packets) }
     ensures cause { HasWriteCause (D.counts desk.old) (D.counts desk.new) result }
 {
     let mut running = Running::none();
     for t in 0..packets {
-        write_next(desk, outlook, &mut running, t)?;
+        write_next(desk, foresight, &mut running, t)?;
     }
     write_row(desk, running.stretch)?;
     Ok(running)
@@ -124,24 +123,24 @@ fn write_stretches<D: Desk>(
 /// Takes the packet `t`, and writes the line of the stretch that ends just before it, if one does.
 fn write_next<D: Desk>(
     desk: &mut D,
-    outlook: &mut Outlook,
+    foresight: &Foresight,
     running: &mut Running,
     t: u32,
 ) -> Result<(), Failed>
     requires ready { IsReadyOut (D.meaning desk.old) Outlet.Main }
     requires few { t < 1000000 }
-    requires running { running.old ≡ running_at (foresees outlook.old) t }
+    requires inside { t < foresight.now.packets }
+    requires running { running.old ≡ running_at (foresees foresight.now.outlook) t }
     requires right { IsTally running.old.tally }
     ensures added { OnOk result (Adds (D.meaning desk.old) (D.meaning desk.new) Outlet.Main
-        (row_of (ended_before (fate_of (foresees outlook.old)) t))) }
+        (row_of (ended_before (fate_of (foresees foresight.now.outlook)) t))) }
     ensures front { OnErr result (AddsFront (D.meaning desk.old) (D.meaning desk.new) Outlet.Main
-        (row_of (ended_before (fate_of (foresees outlook.old)) t))) }
-    ensures running { running.new ≡ running_at (foresees outlook.old) (t + 1) }
+        (row_of (ended_before (fate_of (foresees foresight.now.outlook)) t))) }
+    ensures running { running.new ≡ running_at (foresees foresight.now.outlook) (t + 1) }
     ensures right { IsTally running.new.tally }
-    ensures same { outlook.new ≡ outlook.old }
     ensures cause { HasWriteCause (D.counts desk.old) (D.counts desk.new) result }
 {
-    let foreseen = outlook.at(t);
+    let foreseen = foresight.at(t);
     let ended = running.take(t, &foreseen);
     write_row(desk, ended)
 }

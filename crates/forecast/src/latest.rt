@@ -54,9 +54,9 @@ impl Latest {
             → result.packet ≡ is_sure p t }
     {
         let arrives = 0 < foreseen.copies;
-        let mask = arrives && (foreseen.flags.f || reaches(self.mask, t, foreseen.robust));
+        let mask = arrives && (foreseen.mask || reaches(self.mask, t, foreseen.robust));
         let packet = arrives
-            && (foreseen.flags.r || mask && reaches(self.packet, t, foreseen.robust));
+            && (foreseen.content || mask && reaches(self.packet, t, foreseen.robust));
         Surety { mask, packet }
     }
 }

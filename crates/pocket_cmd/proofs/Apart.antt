@@ -3,6 +3,7 @@ use Rattle.std.proofs.Common.{◌≡◌, ℕ, ◌+◌, ◌==◌, ◌&&◌, ◌||
 use Rattle.std.specs.FinMap as map
 use Rattle.std.specs.Option.{option_map}
 use Rattle.std.specs.Str.{bytes_eq}
+use Rattle.desk_ports.specs.declared.desk.Inlet.TheVariants as inlet
 use Rattle.desk_ports.specs.declared.desk.Outlet.TheVariants as outlet
 use Rattle.desk_ports.specs.Courses.{Course}
 use Rattle.desk_ports.specs.Meanings.{Kept, Meanings, kept_after, kept_at, made}
@@ -19,10 +20,10 @@ use Rattle.pocket_cmd.specs.declared.verbs.Kind.TheVariants.{Name}
 use Rattle.pocket_cmd.specs.Verbs.{Row, kind_of, rows_of}
 use Rattle.pocket_cmd.specs.Apart.{AreApart, AreKeptAsMade, IsNameToRead, IsNameToWrite}
 use Rattle.pocket_cmd.specs.Command.{Command, Names, command_after, command_by, command_of, name_at, unless_fault}
-use Rattle.pocket_cmd.specs.Courses.{course_of, names_of}
+use Rattle.pocket_cmd.specs.Courses.{bad_script_row_of, course_of, names_of}
 use Rattle.pocket_cmd.specs.Faults.{DataFault}
-use Rattle.pocket_cmd.specs.Openings.{all_finished, all_opened, with_input, with_output, with_report, with_side}
-use Rattle.pocket_cmd.specs.Outcome.{Stands}
+use Rattle.pocket_cmd.specs.Openings.{all_finished, all_opened, with_input, with_output, with_report, with_text}
+use Rattle.pocket_cmd.specs.Outcome.{OnceAllRead, RunStands, Stands, left_to_open}
 use Rattle.pocket_cmd.specs.Unfed.{EndsBy}
 use Rattle.pocket_cmd.proofs.Given.{AreSound-by, needs, text_of-needed}
 use Rattle.pocket_cmd.specs.Verbs.{verb_of}
@@ -308,6 +309,18 @@ AreNamed-command_by verb.Trial words w = record {
   output = needed (rows_of verb.Trial) words w port.Output (codes "out") (record { kind = refl; named = λ w. refl }) refl;
   report = unnamed (rows_of verb.Trial) words w port.Report;
 }
+AreNamed-command_by verb.Table words w = record {
+  side = needed (rows_of verb.Table) words w port.Side (codes "fields") (record { kind = refl; named = λ w. refl }) refl;
+  input = needed (rows_of verb.Table) words w port.Input (codes "in") (record { kind = refl; named = λ w. refl }) refl;
+  output = needed (rows_of verb.Table) words w port.Output (codes "out") (record { kind = refl; named = λ w. refl }) refl;
+  report = needed (rows_of verb.Table) words w port.Report (codes "report") (record { kind = refl; named = λ w. refl }) refl;
+}
+AreNamed-command_by verb.Forecast words w = record {
+  side = needed (rows_of verb.Forecast) words w port.Side (codes "plan") (record { kind = refl; named = λ w. refl }) refl;
+  input = needed (rows_of verb.Forecast) words w port.Input (codes "script") (record { kind = refl; named = λ w. refl }) refl;
+  output = needed (rows_of verb.Forecast) words w port.Output (codes "out") (record { kind = refl; named = λ w. refl }) refl;
+  report = unnamed (rows_of verb.Forecast) words w port.Report;
+}
 
 pub AreApart-command_by : (v : Verb) (words : List (List ℕ)) → fault_of (rows_of v) words ≡ None → AreApart (names_of (command_by v words))
 AreApart-command_by v words h =
@@ -400,20 +413,30 @@ module _ (names : Names) (start end : Meanings) (output_name : end.output.name �
         (report-kept (kept_after end.held end.output.name (made end outlet.Main)) names.output report start.report.name (made end outlet.Report)));
   }
 
--- a command that is done
-pub kept_as_made : (command : Command) (old new : Meanings) → AreApart (names_of command) → Stands command old new None → AreKeptAsMade (names_of command) new
-kept_as_made command old new apart e =
-    let names = names_of command in
-    let start = with_side old names.side in
-    let run = e.after.after in
-    let outlets = outlets-ends (is_some names.input) (course_of command e.text) (all_opened names start e.after.input) run.end None run.ran in
-    let output = outlets.0 ∙ output-opened names.report names.input names.output e.after.input start in
+-- a run that is done
+run_kept : (names : Names) (course : List ℕ → Course DataFault) (start new : Meanings) → IfSome names.report (λ report. names.output ≡ report → ⊥) → RunStands names course start new None → AreKeptAsMade names new
+run_kept names course start new written e =
+    let run = e.after in
+    let outlets = outlets-ends (is_some names.input) course (all_opened names start e.input) run.end None run.ran in
+    let output = outlets.0 ∙ output-opened names.report names.input names.output e.input start in
     subst (AreKeptAsMade names) (sym run.is)
-    (finished-kept names start run.end output names.report refl apart.written (report_named names.report refl run.end outlets.1))
+    (finished-kept names start run.end output names.report refl written (report_named names.report refl run.end outlets.1))
   where
-    report_named : (report : Option (List ℕ)) → (names_of command).report ≡ report → (end : Meanings) → end.report.name ≡ (all_opened (names_of command) (with_side old (names_of command).side) e.after.input).report.name
-        → IfSome report (λ report. end.report.name ≡ option_map (λ _. report) (with_side old (names_of command).side).report.name)
+    report_named : (report : Option (List ℕ)) → names.report ≡ report → (end : Meanings) → end.report.name ≡ (all_opened names start e.input).report.name
+        → IfSome report (λ report. end.report.name ≡ option_map (λ _. report) start.report.name)
     report_named None is end same = tt
     report_named (Some report) is end same =
-        same ∙ (ap (λ (o : Option (List ℕ)). (with_report (with_output (with_input (with_side old (names_of command).side) (names_of command).input e.after.input) (names_of command).output) o).report.name) is
-        ∙ report-opened (names_of command).input report (names_of command).output e.after.input (with_side old (names_of command).side))
+        same ∙ (ap (λ (o : Option (List ℕ)). (with_report (with_output (with_input start names.input e.input) names.output) o).report.name) is
+        ∙ report-opened names.input report names.output e.input start)
+
+-- a command that is done
+pub kept_as_made : (command : Command) (old new : Meanings) → AreApart (names_of command) → Stands command old new None → AreKeptAsMade (names_of command) new
+kept_as_made command old new apart e = by_script (bad_script_row_of command) e.after where
+  names : Names
+  names = names_of command
+
+  by_script : (script : Option (List ℕ → Option ℕ)) → OnceAllRead script names (course_of command e.text) (with_text old inlet.Side names.side) (λ names course start. RunStands names course start new None) → AreKeptAsMade names new
+  by_script None e = run_kept names _ _ new apart.written e
+  by_script (Some bad_row) e =
+      let kept = run_kept (left_to_open (Some bad_row) names) _ _ new apart.written e.after.1 in
+      record { output = kept.output; report = kept.report }

@@ -47,7 +47,7 @@ pub owed-recorded : (c : CompressValues) (text recording : List ℕ) → IsInput
     → owed (course_of (Compress c) text recording) ≡ to_output (store_of (recorded_history c text recording) c.apid)
 owed-recorded c text recording whole =
     sym (owed-with_fault of_recording (compress_course (compression_by c text) recording))
-    ∙ (ap (λ ending. by_ending ending (to_output (store_of (recorded_history c text recording) c.apid)) no_outputs) (unmapped of_recording (recording_walk c.bits recording).ending (whole text))
+    ∙ (ap (λ ending. by_ending ending (to_output (store_of (recorded_history c text recording) c.apid)) no_outputs) (unmapped of_recording (recording_walk c.bits recording).ending (whole.ends text))
     ∙ ap to_output (append-nil (store_of (recorded_history c text recording) c.apid)))
 
 -- what playing the store of a history owes
@@ -62,7 +62,7 @@ owed-played_store p h text chosen valid =
     ∙ λ i. record { output = append-nil (played_bytes copies p.apid store) i; report = play_report (played_of copies (count-chosen h p.apid valid chosen i)) })
 
 pub IsInputWhole-history : (p : PlayValues) (h : History) → IsChosen p.apid → IsValid h → IsInputWhole (Play p) (store_of h p.apid)
-IsInputWhole-history p h chosen valid = λ text. ap (option_map of_store) (whole-store_of h p.apid valid chosen)
+IsInputWhole-history p h chosen valid = record { right = tt; ends = λ text. ap (option_map of_store) (whole-store_of h p.apid valid chosen) }
 
 -- what restoring it owes
 ending-played : (r : RestoreValues) (h : History) (copies : ℕ → ℕ) → IsChosen r.apid → IsValid h → length (arrivals copies (length h.steps)) ≤ 2 ^ 32
@@ -71,7 +71,7 @@ ending-played r h copies chosen valid few = ap (λ (w : Walk). w.ending) (walk-p
 
 pub whole-restored : (r : RestoreValues) (h : History) (copies : ℕ → ℕ) → IsChosen r.apid → IsValid h → length (arrivals copies (length h.steps)) ≤ 2 ^ 32
     → IsInputWhole (Restore r) (played_bytes copies r.apid (store_of h r.apid))
-whole-restored r h copies chosen valid few = λ text. ap (option_map of_store) (ending-played r h copies chosen valid few)
+whole-restored r h copies chosen valid few = record { right = tt; ends = λ text. ap (option_map of_store) (ending-played r h copies chosen valid few) }
 
 pub owed-restored : (r : RestoreValues) (h : History) (copies : ℕ → ℕ) → IsChosen r.apid → IsValid h → h.places ≡ r.bits → AreGapsShort copies (length h.steps) → length (arrivals copies (length h.steps)) ≤ 2 ^ 32
     → owed (course_of (Restore r) [] (played_bytes copies r.apid (store_of h r.apid))) ≡ record { output = restored_bytes h copies; report = report_text h copies }

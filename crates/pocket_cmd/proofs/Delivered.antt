@@ -3,24 +3,25 @@ use Rattle.std.proofs.Common.{◌≡◌, ℕ, List, [], Option, Some, None, IfSo
 use Rattle.std.proofs.lemmas.Option.{same_Some}
 use Rattle.std.specs.Io.KnownBytes.{append_known}
 use Rattle.std.specs.Option.{option_map}
+use Rattle.desk_ports.specs.declared.desk.Inlet.TheVariants as inlet
 use Rattle.desk_ports.specs.declared.desk.Outlet.TheVariants as outlet
 use Rattle.desk_ports.specs.Courses.{Course, owed}
 use Rattle.desk_ports.specs.Meanings.{Meanings, made}
 use Rattle.pocket_cmd.specs.Faults.{DataFault}
 use Rattle.pocket_cmd.specs.Command.{Command, Names}
-use Rattle.pocket_cmd.specs.Courses.{course_of, names_of}
+use Rattle.pocket_cmd.specs.Courses.{bad_script_row_of, course_of, names_of}
 use Rattle.pocket_cmd.specs.Delivery.{HasWritten}
-use Rattle.pocket_cmd.specs.Openings.{all_finished, all_opened, input_given, side_given, with_input, with_output, with_report, with_side}
-use Rattle.pocket_cmd.specs.Outcome.{RunStands, Stands}
+use Rattle.pocket_cmd.specs.Openings.{all_finished, all_opened, input_given, side_given, with_input, with_output, with_report, with_text}
+use Rattle.pocket_cmd.specs.Outcome.{OnceAllRead, RunStands, Stands, left_to_open}
 use Rattle.pocket_cmd.proofs.Performed.{AddsOwed-stands}
 
--- the side text is the one that is told
-pub side_text_is : (o : Option (List ℕ)) (text told : List ℕ) → IfSome o (λ bytes. text ≡ bytes) → o ≡ Some told → text ≡ told
-side_text_is None text told is e = absurd cc
-side_text_is (Some bytes) text told is e = is ∙ same_Some _ _ e
+-- a text that was read is the one that is told
+pub text_is : (o : Option (List ℕ)) (text told : List ℕ) → IfSome o (λ bytes. text ≡ bytes) → o ≡ Some told → text ≡ told
+text_is None text told is e = absurd cc
+text_is (Some bytes) text told is e = is ∙ same_Some _ _ e
 
 -- and reading it leaves the input
-given-with_side : (m : Meanings) (side input : Option (List ℕ)) → input_given (with_side m side) input ≡ input_given m input
+given-with_side : (m : Meanings) (side input : Option (List ℕ)) → input_given (with_text m inlet.Side side) input ≡ input_given m input
 given-with_side m None input = refl
 given-with_side m (Some other) None = refl
 given-with_side m (Some other) (Some name) = refl
@@ -58,9 +59,18 @@ run_written names course old new input e told =
       report = report-written names names.report old out.end new e.input (owed (course input)).report refl out.is done.report;
     }
 
+-- so has one whose input is a text, which was read before
+all_written : (names : Names) (course : List ℕ → Course DataFault) (script : Option (List ℕ → Option ℕ)) (old new : Meanings) (input : List ℕ) → OnceAllRead script names course old (λ names course start. RunStands names course start new None)
+    → input_given old names.input ≡ Some input → HasWritten names (owed (course input)) new
+all_written names course None old new input e told = run_written names course old new input e told
+all_written names course (Some bad_row) old new input e told =
+    let written = run_written (left_to_open (Some bad_row) names) (λ _. course e.text) (with_text old inlet.Main names.input) new [] e.after.1 refl in
+    subst (λ text. HasWritten names (owed (course text)) new) (text_is (input_given old names.input) e.text input e.told told)
+    (record { output = written.output; report = written.report })
+
 -- a command that is done has written all that it owes
 pub HasWritten-stands : (command : Command) (old new : Meanings) (text input : List ℕ) → Stands command old new None → side_given old (names_of command).side ≡ Some text → input_given old (names_of command).input ≡ Some input
     → HasWritten (names_of command) (owed (course_of command text input)) new
 HasWritten-stands command old new text input e side_told input_told =
-    subst (λ t. HasWritten (names_of command) (owed (course_of command t input)) new) (side_text_is (side_given old (names_of command).side) e.text text e.told side_told)
-    (run_written (names_of command) (course_of command e.text) (with_side old (names_of command).side) new input e.after (given-with_side old (names_of command).side (names_of command).input ∙ input_told))
+    subst (λ t. HasWritten (names_of command) (owed (course_of command t input)) new) (text_is (side_given old (names_of command).side) e.text text e.told side_told)
+    (all_written (names_of command) (course_of command e.text) (bad_script_row_of command) (with_text old inlet.Side (names_of command).side) new input e.after (given-with_side old (names_of command).side (names_of command).input ∙ input_told))

@@ -1,5 +1,5 @@
 -- What right words give: values within their bounds, and no name that no word gives.
-use Rattle.std.proofs.Common.{◌≡◌, ℕ, ◌+◌, ◌<◌, ◌≤◌, ◌&&◌, ◌||◌, Bool, true, false, not, cond, eqb, nat_lt, is_some, unwrap_or, List, [], ◌∷◌, ◌++◌, length, get_or, Option, Some, None, Result, Ok, refl, sym, ap, ◌∙◌, subst, inl, inr, ◌⊎◌, codes, add-one, arith}
+use Rattle.std.proofs.Common.{◌≡◌, ℕ, ◌+◌, ◌<◌, ◌≤◌, ◌&&◌, ◌||◌, Bool, true, false, not, cond, eqb, nat_lt, is_some, unwrap_or, List, [], ◌∷◌, ◌++◌, length, get_or, Option, Some, None, Result, Ok, refl, sym, ap, ◌∙◌, subst, codes, add-one, arith}
 use Rattle.std.specs.Prelude.{IfSome, IsSome}
 use Rattle.std.specs.List.{Contains, list_any, position_or_len}
 use Rattle.std.specs.Str.{bytes_eq}
@@ -10,7 +10,7 @@ use Rattle.pocket_cmd.specs.declared.verbs.Verb.{Verb}
 use Rattle.pocket_cmd.specs.declared.verbs.Verb.TheVariants as verb
 use Rattle.pocket_cmd.specs.declared.verbs.Kind.TheVariants.{Number}
 use Rattle.pocket_cmd.specs.Verbs.{Row, kind_of, rows_of, verb_of}
-use Rattle.pocket_cmd.specs.Words.{Assigns, fault_of, fits_key, has_key, is_equals_sign, is_missing, is_right, is_split, key_in, number_at, number_in, or_missing, or_word, text_in, text_of, wrong_mask, wrong_word}
+use Rattle.pocket_cmd.specs.Words.{Assigns, AssignsToOne, fault_of, fits_key, has_key, input_keys, side_keys, is_equals_sign, is_missing, is_right, is_split, key_in, number_at, number_in, or_missing, or_word, text_in, text_of, wrong_mask, wrong_word}
 use Rattle.pocket_cmd.specs.Masks.{IsPlaces}
 use Rattle.pocket_cmd.specs.Command.{AreGiven, Command, IsRight, command_after, command_by, command_of, name_at, unless_fault}
 use Rattle.pocket_cmd.specs.Courses.{names_of}
@@ -153,6 +153,11 @@ IsRight-command_by v words h = by_verb v (AreSound-by (rows_of v) words h) where
     bits = number_at-within (rows_of verb.Trial) words (codes "bits") 1 4096 s refl refl (omega arith);
     robust = (number_at-within (rows_of verb.Trial) words (codes "robust") 0 7 s refl refl (omega arith)).1;
   }
+  by_verb verb.Table s = number_at-within (rows_of verb.Table) words (codes "bits") 1 49152 s refl refl (omega arith)
+  by_verb verb.Forecast s = record {
+    packets = number_at-within (rows_of verb.Forecast) words (codes "packets") 1 1000000 s refl refl (omega arith);
+    robust = (number_at-within (rows_of verb.Forecast) words (codes "robust") 0 7 s refl refl (omega arith)).1;
+  }
 
 -- ---- names
 
@@ -167,16 +172,37 @@ module _ (word : List ℕ) (words : List (List ℕ)) where
   given_needed : (rows : List Row) (key : List ℕ) → is_missing rows words ≡ false → needs rows key ≡ true → Assigns (word ∷ words) key (name_at words key)
   given_needed rows key whole need = later word words _ (Assigns-text_of words key (name_at words key) (text_of-needed rows words key whole need))
 
-  either : (o : Option (List ℕ)) → IfSome o (Assigns (word ∷ words) (codes "plan")) → IfSome o (λ name. Assigns (word ∷ words) (codes "plan") name ⊎ Assigns (word ∷ words) (codes "script") name)
-  either None h = tt
-  either (Some name) h = inl h
+  -- a key is one of these
+  one_of : (keys : List (List ℕ)) (key : List ℕ) → Contains keys key → (o : Option (List ℕ)) → IfSome o (Assigns (word ∷ words) key) → IfSome o (AssignsToOne (word ∷ words) keys)
+  one_of keys key in_keys None h = tt
+  one_of keys key in_keys (Some name) h = (key, in_keys, h)
+
+  plan : Contains side_keys (codes "plan")
+  plan = (0, omega arith, refl)
+
+  script : Contains side_keys (codes "script")
+  script = (1, omega arith, refl)
+
+  fields : Contains side_keys (codes "fields")
+  fields = (2, omega arith, refl)
+
+  in_ : Contains input_keys (codes "in")
+  in_ = (0, omega arith, refl)
+
+  script_in : Contains input_keys (codes "script")
+  script_in = (1, omega arith, refl)
+
+  read_from : (keys : List (List ℕ)) (rows : List Row) (key : List ℕ) → Contains keys key → is_missing rows words ≡ false → needs rows key ≡ true → AssignsToOne (word ∷ words) keys (name_at words key)
+  read_from keys rows key in_keys whole need = (key, in_keys, given_needed rows key whole need)
 
   AreGiven-command_by : (v : Verb) → is_missing (rows_of v) words ≡ false → AreGiven (word ∷ words) (names_of (command_by v words))
-  AreGiven-command_by verb.Compress w = record { side = either (text_of words (codes "plan")) (given (codes "plan")); input = given_needed (rows_of verb.Compress) (codes "in") w refl; output = given_needed (rows_of verb.Compress) (codes "out") w refl; report = tt }
-  AreGiven-command_by verb.Play w = record { side = inr (given_needed (rows_of verb.Play) (codes "script") w refl); input = given_needed (rows_of verb.Play) (codes "in") w refl; output = given_needed (rows_of verb.Play) (codes "out") w refl; report = given_needed (rows_of verb.Play) (codes "report") w refl }
-  AreGiven-command_by verb.Restore w = record { side = tt; input = given_needed (rows_of verb.Restore) (codes "in") w refl; output = given_needed (rows_of verb.Restore) (codes "out") w refl; report = given_needed (rows_of verb.Restore) (codes "report") w refl }
-  AreGiven-command_by verb.Show w = record { side = tt; input = given_needed (rows_of verb.Show) (codes "in") w refl; output = given_needed (rows_of verb.Show) (codes "out") w refl; report = tt }
+  AreGiven-command_by verb.Compress w = record { side = one_of side_keys (codes "plan") plan (text_of words (codes "plan")) (given (codes "plan")); input = read_from input_keys (rows_of verb.Compress) (codes "in") in_ w refl; output = given_needed (rows_of verb.Compress) (codes "out") w refl; report = tt }
+  AreGiven-command_by verb.Play w = record { side = read_from side_keys (rows_of verb.Play) (codes "script") script w refl; input = read_from input_keys (rows_of verb.Play) (codes "in") in_ w refl; output = given_needed (rows_of verb.Play) (codes "out") w refl; report = given_needed (rows_of verb.Play) (codes "report") w refl }
+  AreGiven-command_by verb.Restore w = record { side = tt; input = read_from input_keys (rows_of verb.Restore) (codes "in") in_ w refl; output = given_needed (rows_of verb.Restore) (codes "out") w refl; report = given_needed (rows_of verb.Restore) (codes "report") w refl }
+  AreGiven-command_by verb.Show w = record { side = tt; input = read_from input_keys (rows_of verb.Show) (codes "in") in_ w refl; output = given_needed (rows_of verb.Show) (codes "out") w refl; report = tt }
   AreGiven-command_by verb.Trial w = record { side = tt; input = tt; output = given_needed (rows_of verb.Trial) (codes "out") w refl; report = tt }
+  AreGiven-command_by verb.Table w = record { side = read_from side_keys (rows_of verb.Table) (codes "fields") fields w refl; input = read_from input_keys (rows_of verb.Table) (codes "in") in_ w refl; output = given_needed (rows_of verb.Table) (codes "out") w refl; report = given_needed (rows_of verb.Table) (codes "report") w refl }
+  AreGiven-command_by verb.Forecast w = record { side = read_from side_keys (rows_of verb.Forecast) (codes "plan") plan w refl; input = read_from input_keys (rows_of verb.Forecast) (codes "script") script_in w refl; output = given_needed (rows_of verb.Forecast) (codes "out") w refl; report = tt }
 
 -- the values of a command are within their bounds, and its names are those that words give
 pub record IsCommand (words : List (List ℕ)) (command : Command) : Type 0 where
@@ -220,3 +246,5 @@ IsPlaces-with_mask v words right whole given = by_verb v (record { right = right
   by_verb verb.Restore s = number_at-within (rows_of verb.Restore) words (codes "bits") 1 49152 s refl refl (omega arith)
   by_verb verb.Show s = number_at-within (rows_of verb.Show) words (codes "bits") 1 49152 s refl refl (omega arith)
   by_verb verb.Trial s = absurd (none _ s refl _ refl given)
+  by_verb verb.Table s = number_at-within (rows_of verb.Table) words (codes "bits") 1 49152 s refl refl (omega arith)
+  by_verb verb.Forecast s = absurd (none _ s refl _ refl given)

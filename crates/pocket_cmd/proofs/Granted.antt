@@ -1,12 +1,12 @@
 -- What words that give a command grant, and how its answer is told.
 use Rattle.std.specs.List.{Contains}
-use Rattle.std.proofs.Common.{refl, arith, ◌≡◌, ◌≢◌, ◌⊎◌, inl, inr, ℕ, Bool, IsTrue, List, Option, Some, None, IfSome, Result, Ok, Err, codes, ◌∙◌, subst}
+use Rattle.std.proofs.Common.{refl, arith, ◌≡◌, ◌≢◌, ℕ, zero, suc, Bool, IsTrue, List, Option, Some, None, IfSome, Result, Ok, Err, codes, ◌∙◌, subst}
 use Rattle.desk_ports.specs.Meanings.{Meanings, Counts}
 use Rattle.pocket_cmd.specs.declared.status.Status.{Status}
 use Rattle.pocket_cmd.specs.declared.status.Status.TheVariants.{Refused}
 use Rattle.pocket_cmd.specs.declared.status.Refusal.{Refusal}
 use Rattle.pocket_cmd.specs.declared.status.Refusal.TheVariants as refusal
-use Rattle.pocket_cmd.specs.Words.{Assigns, read_keys, written_keys}
+use Rattle.pocket_cmd.specs.Words.{Assigns, AssignsToOne, input_keys, read_keys, side_keys, written_keys}
 use Rattle.pocket_cmd.specs.Command.{Command}
 use Rattle.pocket_cmd.specs.Courses.{names_of}
 use Rattle.pocket_cmd.specs.Openings.{AreTold}
@@ -18,14 +18,22 @@ abbrev AreGranted : List (List ℕ) → List (List ℕ) → (List ℕ → Bool) 
 AreGranted words keys grants = (name : List ℕ) → (key : List ℕ) × Contains keys key × Assigns words key name → IsTrue (grants name)
 
 pub side_granted : (words : List (List ℕ)) (side : Option (List ℕ)) (grants : List ℕ → Bool) → AreGranted words read_keys grants
-    → IfSome side (λ name. Assigns words (codes "plan") name ⊎ Assigns words (codes "script") name) → IfSome side (λ name. IsTrue (grants name))
+    → IfSome side (AssignsToOne words side_keys) → IfSome side (λ name. IsTrue (grants name))
 side_granted words None grants granted given = tt
-side_granted words (Some name) grants granted (inl plan) = granted name (codes "plan", (1, omega arith, refl), plan)
-side_granted words (Some name) grants granted (inr script) = granted name (codes "script", (2, omega arith, refl), script)
+side_granted words (Some name) grants granted (key, is, given) = granted name (key, is_read is, given) where
+  is_read : Contains side_keys key → Contains read_keys key
+  is_read (zero, within, e) = (1, omega arith, e)
+  is_read (suc zero, within, e) = (2, omega arith, e)
+  is_read (suc (suc zero), within, e) = (3, omega arith, e)
+  is_read (suc (suc (suc n)), within, e) = absurd (omega (arith, within))
 
-pub input_granted : (words : List (List ℕ)) (input : Option (List ℕ)) (grants : List ℕ → Bool) → AreGranted words read_keys grants → IfSome input (Assigns words (codes "in")) → IfSome input (λ name. IsTrue (grants name))
+pub input_granted : (words : List (List ℕ)) (input : Option (List ℕ)) (grants : List ℕ → Bool) → AreGranted words read_keys grants → IfSome input (AssignsToOne words input_keys) → IfSome input (λ name. IsTrue (grants name))
 input_granted words None grants granted given = tt
-input_granted words (Some name) grants granted given = granted name (codes "in", (0, omega arith, refl), given)
+input_granted words (Some name) grants granted (key, is, given) = granted name (key, is_read is, given) where
+  is_read : Contains input_keys key → Contains read_keys key
+  is_read (zero, within, e) = (0, omega arith, e)
+  is_read (suc zero, within, e) = (2, omega arith, e)
+  is_read (suc (suc n), within, e) = absurd (omega (arith, within))
 
 pub output_granted : (words : List (List ℕ)) (name : List ℕ) (grants : List ℕ → Bool) → AreGranted words written_keys grants → Assigns words (codes "out") name → IsTrue (grants name)
 output_granted words name grants granted given = granted name (codes "out", (0, omega arith, refl), given)

@@ -1,6 +1,7 @@
 -- What restoring the played store of a history writes, and which commands are done.
-use Rattle.std.proofs.Common.{◌≡◌, ℕ, ◌≤◌, arith, nat_lt, false, cond, List, [], length, Some, None, Result, refl, sym, ap, ◌∙◌, subst}
+use Rattle.std.proofs.Common.{◌≡◌, ℕ, ◌≤◌, arith, nat_lt, false, cond, List, [], length, Option, Some, None, Result, refl, sym, ap, ◌∙◌, subst}
 use Rattle.std.proofs.lemmas.Bool.Decides.{nat_tests}
+use Rattle.desk_ports.specs.declared.desk.Inlet.TheVariants as inlet
 use Rattle.desk_ports.specs.Courses.{Outputs, owed}
 use Rattle.desk_ports.specs.Meanings.{Meanings}
 use Rattle.mask_update.specs.Histories.{History}
@@ -10,14 +11,15 @@ use Rattle.loss_player.specs.Played.{played_bytes}
 use Rattle.ground_chain.specs.Deliveries.{report_text, restored_bytes}
 use Rattle.ground_chain.specs.Restoring.{restore_course}
 use Rattle.ground_chain.proofs.DeliveredRuns.{owed-played}
+use Rattle.pocket_cmd.specs.declared.status.Status.{Status}
 use Rattle.pocket_cmd.specs.declared.status.Status.TheVariants.{Done, Refused}
 use Rattle.pocket_cmd.specs.declared.status.Refusal.{Refusal}
 use Rattle.pocket_cmd.specs.declared.status.Refusal.TheVariants as refusal
 use Rattle.pocket_cmd.specs.Command.{Command, Restore, RestoreValues, IsChosen}
-use Rattle.pocket_cmd.specs.Courses.{course_of, names_of}
+use Rattle.pocket_cmd.specs.Courses.{bad_script_row_of, course_of, names_of}
 use Rattle.pocket_cmd.specs.Faults.{of_store}
-use Rattle.pocket_cmd.specs.Delivery.{HasWritten, IsPlayedStore, IsSideRight, IsInputWhole}
-use Rattle.pocket_cmd.specs.Outcome.{AfterCommand, Stands, answer_by, answer_to, by_row}
+use Rattle.pocket_cmd.specs.Delivery.{HasWritten, IsPlayedStore, IsScriptRight, IsSideRight, IsInputWhole}
+use Rattle.pocket_cmd.specs.Outcome.{AfterCommand, Stands, answer_by, answer_to, by_row, by_script}
 use Rattle.pocket_cmd.specs.Status.{status_by, status_of}
 use Rattle.pocket_cmd.proofs.Delivered.{HasWritten-stands}
 use Rattle.pocket_cmd.proofs.Faults.{owed-with_fault, unmapped}
@@ -45,8 +47,16 @@ HasWritten-restored command r h copies old new answer is chosen played after don
 short : (text : List ℕ) → length text ≤ 1048576 → nat_lt 1048576 (length text) ≡ false
 short text h = grind (arith, nat_tests)
 
+-- a right text is answered by what comes after it
+by_script-right : (script : Option (List ℕ → Option ℕ)) (input : List ℕ) (status : Status) → IsScriptRight script input → by_script script input status ≡ status
+by_script-right None input status right = refl
+by_script-right (Some bad_row) input status right =
+    ap (λ b. cond b (Refused refusal.ScriptTooLong) (by_row inlet.Main (bad_row input) status)) (short input right.0) ∙ ap (λ o. by_row inlet.Main o status) right.1
+
 -- a right side text and a whole input are answered with Done
 pub Done-whole : (command : Command) (text input : List ℕ) → IsSideRight command text → IsInputWhole command input → answer_to command text input ≡ Done
 Done-whole command text input (within, rows) whole =
+    let status : Status = status_of (course_of command text input).ending in
     ap (λ b. cond b (Refused refusal.SideTooLong) (answer_by command text input)) (short text within)
-    ∙ (ap (λ o. by_row o (status_of (course_of command text input).ending)) rows ∙ ap status_of (whole text))
+    ∙ (ap (λ o. by_row inlet.Side o (by_script (bad_script_row_of command) input status)) rows
+    ∙ (by_script-right (bad_script_row_of command) input status whole.right ∙ ap status_of (whole.ends text)))

@@ -8,6 +8,7 @@ pub mod Performed
 pub mod Granted
 pub mod Unread
 pub mod CutOff
+pub mod Begun
 mod Delivered
 mod Kept
 mod Sided

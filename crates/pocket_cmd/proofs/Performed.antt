@@ -1,5 +1,5 @@
 -- What a command leaves and answers, from its steps.
-use Rattle.std.proofs.Common.{◌≡◌, ℕ, List, ◌++◌, Option, Some, None, is_some, IfSome, Result, Ok, Err, refl, sym, ap, ◌∙◌, subst}
+use Rattle.std.proofs.Common.{◌≡◌, ℕ, List, ◌++◌, Option, Some, None, is_some, IfSome, Result, Ok, Err, inr, refl, sym, ap, ◌∙◌, subst}
 use Rattle.std.proofs.lemmas.Option.{same_Some}
 use Rattle.std.specs.Option.{option_map}
 use Rattle.std.specs.Io.KnownBytes.{append_known, prepend_known}
@@ -16,11 +16,10 @@ use Rattle.pocket_cmd.specs.declared.status.Status.{Status}
 use Rattle.pocket_cmd.specs.declared.status.Status.TheVariants.{Done, Refused}
 use Rattle.pocket_cmd.specs.declared.status.Refusal.{Refusal}
 use Rattle.pocket_cmd.specs.Command.{Names, Command}
-use Rattle.pocket_cmd.specs.Courses.{course_of, bad_row_of, names_of}
 use Rattle.pocket_cmd.specs.Openings.{AreKept, all_opened, told_bytes, input_given, with_report, with_output, with_input}
 use Rattle.pocket_cmd.specs.Unfed.{EndsBy}
 use Rattle.pocket_cmd.specs.Status.{HasStatusCause, IsEnded, refusal_of, refused_by, status_of, status_by}
-use Rattle.pocket_cmd.specs.Outcome.{RunStands, AfterClass, AfterNames, AfterText, AfterTextClass, Stands, AfterCommand, AfterRefusal, IsAnsweredBy, by_row}
+use Rattle.pocket_cmd.specs.Outcome.{RunStands, AfterClass, AfterNames, AfterText, AfterTextClass, IsBegun, Stands, AfterCommand, AfterRefusal}
 
 -- an input that is told is the one that was read
 told_input : (held : Option Kept) (before after : Option (List ℕ)) (name input opened taken rest : List ℕ) → told_bytes held before name ≡ Some input → IfSome held (λ kept. opened ≡ kept_at kept name)
@@ -61,27 +60,20 @@ AddsOwed-stands names course old new ending input e told = AddsOwed-by names.inp
 pub ending_is : (names : Names) (course : List ℕ → Course DataFault) (old new : Meanings) (ending : Option DataFault) (input : List ℕ) → RunStands names course old new ending → input_given old names.input ≡ Some input → (course input).ending ≡ ending
 ending_is names course old new ending input e told = (AddsOwed-stands names course old new ending input e told).ends
 
-status-run : (names : Names) (course : List ℕ → Course DataFault) (old new : Meanings) (counts after : Counts) (r : Result (Unit {0}) (Stop DataFault)) (input : List ℕ) → AfterNames names course old new r → HasStatusCause counts after (status_by (refused_by r)) → input_given old names.input ≡ Some input
+pub status-run : (names : Names) (course : List ℕ → Course DataFault) (old new : Meanings) (counts after : Counts) (r : Result (Unit {0}) (Stop DataFault)) (input : List ℕ) → AfterNames names course old new r → HasStatusCause counts after (status_by (refused_by r)) → input_given old names.input ≡ Some input
     → ¬ Rose counts.reads after.reads → ¬ Rose counts.writes after.writes → status_by (refused_by r) ≡ status_of (course input).ending
 status-run names course old new counts after (Ok done) input e cause told reads writes = ap status_of (sym (ending_is names course old new None input e told))
 status-run names course old new counts after (Err (Data f)) input e cause told reads writes = ap status_of (sym (ending_is names course old new (Some f) input e told))
 status-run names course old new counts after (Err ReadFault) input e cause told reads writes = absurd (reads (Rose-reads counts after cause))
 status-run names course old new counts after (Err WriteFault) input e cause told reads writes = absurd (writes (Rose-writes counts after cause))
 
--- if the side text is a table, the answer is that of the course
-pub IsAnsweredBy-run : (command : Command) (text : List ℕ) (old new : Meanings) (counts after : Counts) (answer : Result (Unit {0}) Refusal) → bad_row_of command text ≡ None → IsEnded (AfterNames (names_of command) (course_of command text) old new) answer
-    → HasStatusCause counts after (status_by answer) → IsAnsweredBy command text old counts after answer
-IsAnsweredBy-run command text old new counts after answer rows e cause = subst (IsAnsweredBy command text old counts after) (sym e.answered) (λ input told memory reads writes.
-    status-run (names_of command) (course_of command text) old new counts after e.ended input e.over (subst (λ r. HasStatusCause counts after (status_by r)) e.answered cause) told reads writes
-    ∙ ap (λ o. by_row o (status_of (course_of command text input).ending)) (sym rows))
-
--- and what stands is by that answer
-pub AfterText-run : (command : Command) (text : List ℕ) (old new : Meanings) (answer : Result (Unit {0}) Refusal) → IsEnded (AfterNames (names_of command) (course_of command text) old new) answer → AfterText command text old new answer
+-- what stands after a run is by its answer
+pub AfterText-run : (command : Command) (text : List ℕ) (old new : Meanings) (answer : Result (Unit {0}) Refusal) → IsEnded (IsBegun command text old new) answer → AfterText command text old new answer
 AfterText-run command text old new answer e = subst (AfterText command text old new) (sym e.answered) (by_end e.ended e.over) where
-  by_end : (r : Result (Unit {0}) (Stop DataFault)) → AfterNames (names_of command) (course_of command text) old new r → AfterText command text old new (refused_by r)
+  by_end : (r : Result (Unit {0}) (Stop DataFault)) → IsBegun command text old new r → AfterText command text old new (refused_by r)
   by_end (Ok done) e = e
   by_end (Err (Data f)) e = subst (AfterTextClass command text old new) (sym (class-refusal_of f)) e
-  by_end (Err ReadFault) e = e
+  by_end (Err ReadFault) e = inr e
   by_end (Err WriteFault) e = e
 
 -- ---- the answer

@@ -1,10 +1,10 @@
 -- The command that the words give, or the place of the first fault in them.
-use Rattle.std.specs.Prelude.{ℕ, ◌≤◌, ◌≡◌, ◌⊎◌, Bool, List, [], ◌∷◌, length, codes, map, Option, Some, None, Result, Ok, Err, IfSome, unwrap_or}
+use Rattle.std.specs.Prelude.{ℕ, ◌≤◌, ◌≡◌, Bool, List, [], ◌∷◌, length, codes, map, Option, Some, None, Result, Ok, Err, IfSome, unwrap_or}
 use Rattle.std.specs.String.{string_bytes}
 use Rattle.std.specs.declared.string.String.{String}
 use Rattle.pocket_cmd.specs.Masks.{IsPlaces, first_mask}
 use Rattle.pocket_cmd.specs.Verbs.{rows_of, verb_of}
-use Rattle.pocket_cmd.specs.Words.{Assigns, fault_of, number_at, text_of}
+use Rattle.pocket_cmd.specs.Words.{Assigns, AssignsToOne, fault_of, input_keys, number_at, side_keys, text_of}
 use Rattle.pocket_cmd.specs.declared.verbs.Verb.{Verb}
 use Rattle.pocket_cmd.specs.declared.verbs.Verb.TheVariants as verb
 use Rattle.pocket_cmd.specs.declared.words.Command.{Command as Held}
@@ -51,6 +51,22 @@ pub record TrialValues : Type 0 where
   pub bits : ℕ
   pub robust : ℕ
 
+-- what `table` is told: its names and the bits of a packet
+pub record TableValues : Type 0 where
+  pub input : List ℕ
+  pub output : List ℕ
+  pub report : List ℕ
+  pub fields : List ℕ
+  pub bits : ℕ
+
+-- what `forecast` is told: its names, the number of packets and the required robustness
+pub record ForecastValues : Type 0 where
+  pub output : List ℕ
+  pub plan : List ℕ
+  pub script : List ℕ
+  pub packets : ℕ
+  pub robust : ℕ
+
 -- a verb with its values
 pub data Command : Type 0 where
   Compress : CompressValues → Command
@@ -58,6 +74,8 @@ pub data Command : Type 0 where
   Restore : RestoreValues → Command
   Show : ShowValues → Command
   Trial : TrialValues → Command
+  Table : TableValues → Command
+  Forecast : ForecastValues → Command
 
 -- the names that a command opens: those of its side input, its input, its output and its report. Only the name of an
 -- output is one that every command has
@@ -114,6 +132,24 @@ trial_by words = record {
   robust = number_at words (codes "robust");
 }
 
+abbrev pub table_by : List (List ℕ) → TableValues
+table_by words = record {
+  input = name_at words (codes "in");
+  output = name_at words (codes "out");
+  report = name_at words (codes "report");
+  fields = name_at words (codes "fields");
+  bits = number_at words (codes "bits");
+}
+
+abbrev pub forecast_by : List (List ℕ) → ForecastValues
+forecast_by words = record {
+  output = name_at words (codes "out");
+  plan = name_at words (codes "plan");
+  script = name_at words (codes "script");
+  packets = number_at words (codes "packets");
+  robust = number_at words (codes "robust");
+}
+
 -- a verb with what right words give to its keys
 abbrev pub command_by : Verb → List (List ℕ) → Command
 command_by verb.Compress words = Compress (compress_by words)
@@ -121,6 +157,8 @@ command_by verb.Play words = Play (play_by words)
 command_by verb.Restore words = Restore (restore_by words)
 command_by verb.Show words = Show (show_by words)
 command_by verb.Trial words = Trial (trial_by words)
+command_by verb.Table words = Table (table_by words)
+command_by verb.Forecast words = Forecast (forecast_by words)
 
 abbrev pub unless_fault : Option ℕ → Command → Result Command ℕ
 unless_fault None command = Ok command
@@ -163,6 +201,11 @@ pub record IsTrialRight (t : TrialValues) : Type 0 where
   pub bits : (1 ≤ t.bits) × (t.bits ≤ 4096)
   pub robust : t.robust ≤ 7
 
+-- the values of `forecast` are within their bounds
+pub record IsForecastRight (f : ForecastValues) : Type 0 where
+  pub packets : (1 ≤ f.packets) × (f.packets ≤ 1000000)
+  pub robust : f.robust ≤ 7
+
 -- the values of a command are within their bounds
 abbrev pub IsRight : Command → Type 0
 IsRight (Compress c) = AreRight c
@@ -170,11 +213,13 @@ IsRight (Play p) = IsChosen p.apid
 IsRight (Restore r) = IsPlaces r.bits × IsChosen r.apid
 IsRight (Show s) = IsPlaces s.bits × IsChosen s.apid
 IsRight (Trial t) = IsTrialRight t
+IsRight (Table t) = IsPlaces t.bits
+IsRight (Forecast f) = IsForecastRight f
 
 -- each name is one that a word gives
 pub record AreGiven (words : List (List ℕ)) (names : Names) : Type 0 where
-  pub side : IfSome names.side (λ name. Assigns words (codes "plan") name ⊎ Assigns words (codes "script") name)
-  pub input : IfSome names.input (Assigns words (codes "in"))
+  pub side : IfSome names.side (AssignsToOne words side_keys)
+  pub input : IfSome names.input (AssignsToOne words input_keys)
   pub output : Assigns words (codes "out") names.output
   pub report : IfSome names.report (Assigns words (codes "report"))
 

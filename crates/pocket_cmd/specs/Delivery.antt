@@ -1,5 +1,5 @@
 -- What a command that is done has written, and for which inputs it is done.
-use Rattle.std.specs.Prelude.{◌≡◌, ℕ, ◌≤◌, List, length, Some, None, IfSome}
+use Rattle.std.specs.Prelude.{◌≡◌, ℕ, List, length, Option, Some, None, IfSome}
 use Rattle.desk_ports.specs.declared.desk.Inlet.TheVariants as inlet
 use Rattle.desk_ports.specs.declared.desk.Outlet.TheVariants as outlet
 use Rattle.desk_ports.specs.Courses.{Outputs}
@@ -11,8 +11,9 @@ use Rattle.flight_chain.specs.Compressing.{history_by}
 use Rattle.loss_player.specs.Gaps.{AreGapsShort}
 use Rattle.loss_player.specs.Played.{played_bytes}
 use Rattle.pocket_cmd.specs.Command.{Command, CompressValues, Names, RestoreValues}
-use Rattle.pocket_cmd.specs.Courses.{bad_row_of, compression_by, course_of}
+use Rattle.pocket_cmd.specs.Courses.{bad_row_of, bad_script_row_of, compression_by, course_of}
 use Rattle.pocket_cmd.specs.Openings.{given}
+use Rattle.pocket_cmd.specs.Outcome.{IsTextRight}
 
 -- the outputs of a command got this, if the desk tells what was written
 pub record HasWritten (names : Names) (all : Outputs) (m : Meanings) : Type 0 where
@@ -21,11 +22,17 @@ pub record HasWritten (names : Names) (all : Outputs) (m : Meanings) : Type 0 wh
 
 -- a side text is within its limit, and each of its records is a row
 abbrev pub IsSideRight : Command → List ℕ → Type 0
-IsSideRight command text = (length text ≤ 1048576) × (bad_row_of command text ≡ None)
+IsSideRight command text = IsTextRight (bad_row_of command) text
 
--- an input is whole: its course has no fault, whatever the side text is
-abbrev pub IsInputWhole : Command → List ℕ → Type 0
-IsInputWhole command input = (text : List ℕ) → (course_of command text input).ending ≡ None
+-- an input that is a text is right, too
+abbrev pub IsScriptRight : Option (List ℕ → Option ℕ) → List ℕ → Type 0
+IsScriptRight None input = Unit
+IsScriptRight (Some bad_row) input = IsTextRight bad_row input
+
+-- an input is whole: its course has no fault, whatever the side text is, and it is right if it is a text
+pub record IsInputWhole (command : Command) (input : List ℕ) : Type 0 where
+  pub right : IsScriptRight (bad_script_row_of command) input
+  pub ends : (text : List ℕ) → (course_of command text input).ending ≡ None
 
 -- The store that is to be restored is the played store of a valid history: each packet arrives so many times, with gaps that
 -- are shorter than the period of the sequence counts.

@@ -1,15 +1,15 @@
--- What reading a side input, and opening and finishing the names of a command, do to a desk.
+-- What reading a text, and opening and finishing the names of a command, do to a desk.
 use Rattle.std.specs.Prelude.{◌≡◌, ℕ, ◌<◌, ◌≤◌, ◌⊎◌, true, List, [], length, drop, Option, Some, None, Result, Ok, Err, IfSome, IsSome}
 use Rattle.std.specs.Option.{option_map}
-use Rattle.desk_ports.specs.Meanings.{Meanings, Counts, Kept, FailsToRead, FailsToWrite, kept_at, kept_after, left, made, with_incoming, with_outgoing}
+use Rattle.desk_ports.specs.Meanings.{Meanings, Counts, Kept, FailsToRead, FailsToWrite, incoming, kept_at, kept_after, left, made, with_incoming, with_outgoing}
 use Rattle.desk_ports.specs.declared.desk.Inlet.{Inlet}
 use Rattle.desk_ports.specs.declared.desk.Inlet.TheVariants as inlet
 use Rattle.desk_ports.specs.declared.desk.Outlet.TheVariants as outlet
 use Rattle.pocket_cmd.specs.declared.run.Names.{Names as Held}
 use Rattle.pocket_cmd.specs.declared.run.Unopened.{Unopened}
 use Rattle.pocket_cmd.specs.declared.run.Unopened.TheVariants as unopened
-use Rattle.pocket_cmd.specs.declared.side.TextFault.{TextFault}
-use Rattle.pocket_cmd.specs.declared.side.TextFault.TheVariants as unread
+use Rattle.pocket_cmd.specs.declared.text.TextFault.{TextFault}
+use Rattle.pocket_cmd.specs.declared.text.TextFault.TheVariants as unread
 use Rattle.pocket_cmd.specs.Command.{Names}
 
 abbrev pub view_names : Held → Names
@@ -29,65 +29,67 @@ told_bytes None rest name = None
 abbrev pub given : Meanings → Inlet → List ℕ → Option (List ℕ)
 given m i name = told_bytes m.held (left m i) name
 
--- ---- the side input
+-- the same; none are read if there is no name
+abbrev pub given_at : Meanings → Inlet → Option (List ℕ) → Option (List ℕ)
+given_at m i None = Some []
+given_at m i (Some name) = given m i name
 
--- the text of a side input, if the desk tells it; none is read if there is none
+-- the text of a side input, and the bytes of an input
 abbrev pub side_given : Meanings → Option (List ℕ) → Option (List ℕ)
-side_given m None = Some []
-side_given m (Some name) = given m inlet.Side name
+side_given m side = given_at m inlet.Side side
 
--- the bytes of an input, if the desk tells them; none are read if there is none
 abbrev pub input_given : Meanings → Option (List ℕ) → Option (List ℕ)
-input_given m None = Some []
-input_given m (Some name) = given m inlet.Main name
+input_given m input = given_at m inlet.Main input
 
 -- the desk tells both inputs of these names
 abbrev pub AreTold : Names → Meanings → List ℕ → List ℕ → Type 0
 AreTold names m text input = (side_given m names.side ≡ Some text) × (input_given m names.input ≡ Some input)
 
--- the text is that of the side input, if the desk tells it
-abbrev pub IsSideText : Meanings → Option (List ℕ) → List ℕ → Type 0
-IsSideText m side text = IfSome (side_given m side) (λ bytes. text ≡ bytes)
+-- ---- a text, which is that of a side input, or of an input that is read whole too
 
--- the text of the side input has more than 1,048,576 bytes, if the desk tells it
-abbrev pub IsSideLong : Meanings → Option (List ℕ) → Type 0
-IsSideLong m side = IfSome (side_given m side) (λ bytes. 1048576 < length bytes)
+-- the text of this name is this, if the desk tells it
+abbrev pub IsText : Meanings → Inlet → Option (List ℕ) → List ℕ → Type 0
+IsText m i name text = IfSome (given_at m i name) (λ bytes. text ≡ bytes)
 
--- the side input of this name has at least so many bytes, if the desk tells it
-abbrev pub HasSideBytes : Meanings → List ℕ → ℕ → Type 0
-HasSideBytes m name n = IfSome (given m inlet.Side name) (λ bytes. n ≤ length bytes)
+-- it has more than 1,048,576 bytes, if the desk tells it
+abbrev pub IsTextLong : Meanings → Inlet → Option (List ℕ) → Type 0
+IsTextLong m i name = IfSome (given_at m i name) (λ bytes. 1048576 < length bytes)
 
--- so many bytes of the text of the side input were read, if the desk tells it, and the bytes after them are left
-abbrev pub IsSideReadTo : ℕ → Meanings → Option (List ℕ) → Meanings → Type 0
-IsSideReadTo n old side new = IfSome (side_given old side) (λ bytes. left new inlet.Side ≡ Some (drop n bytes))
+-- it has at least so many bytes, if the desk tells it
+abbrev pub HasTextBytes : Meanings → Inlet → List ℕ → ℕ → Type 0
+HasTextBytes m i name n = IfSome (given m i name) (λ bytes. n ≤ length bytes)
 
--- Reading the side input failed. It was not opened, and nothing changed; or fewer than so many bytes of its text were
--- read, those after them are left, and nothing else changed: the failing read may be the one that finds the end.
-abbrev pub IsSideCutOff : ℕ → Meanings → List ℕ → Meanings → Type 0
-IsSideCutOff most old text new =
+-- so many bytes of it were read, if the desk tells it, and the bytes after them are left
+abbrev pub IsTextReadTo : ℕ → Meanings → Inlet → Option (List ℕ) → Meanings → Type 0
+IsTextReadTo n old i name new = IfSome (given_at old i name) (λ bytes. left new i ≡ Some (drop n bytes))
+
+-- Reading a text failed. It was not opened, and nothing changed; or fewer than so many bytes of it were read, those after
+-- them are left, and nothing else changed: the failing read may be the one that finds the end.
+abbrev pub IsTextCutOff : ℕ → Meanings → Inlet → List ℕ → Meanings → Type 0
+IsTextCutOff most old i text new =
     (new ≡ old)
-    ⊎ ((n : ℕ) × (n < most) × (n ≤ length text) × (new ≡ with_incoming old inlet.Side (record { left = Some (drop n text); ready = true })))
+    ⊎ ((n : ℕ) × (n < most) × (n ≤ length text) × (new ≡ with_incoming old i (record { left = Some (drop n text); ready = true })))
 
 -- the same, if the desk tells the text
-abbrev pub IsSideUnread : ℕ → Meanings → Option (List ℕ) → Meanings → Type 0
-IsSideUnread most old side new = IfSome (side_given old side) (λ text. IsSideCutOff most old text new)
+abbrev pub IsTextUnread : ℕ → Meanings → Inlet → Option (List ℕ) → Meanings → Type 0
+IsTextUnread most old i name new = IfSome (given_at old i name) (λ text. IsTextCutOff most old i text new)
 
--- the side input was opened and read to its end, if there is one
-abbrev pub with_side : Meanings → Option (List ℕ) → Meanings
-with_side m None = m
-with_side m (Some name) = with_incoming m inlet.Side (record { left = option_map (λ _. []) (left m inlet.Side); ready = true })
+-- the text was opened and read to its end, if there is one
+abbrev pub with_text : Meanings → Inlet → Option (List ℕ) → Meanings
+with_text m i None = m
+with_text m i (Some name) = with_incoming m i (record { left = option_map (λ _. []) (left m i); ready = true })
 
--- nothing changed but the side input, if there is one
-abbrev pub KeepsAll : Option (List ℕ) → Meanings → Meanings → Type 0
-KeepsAll None old new = new ≡ old
-KeepsAll (Some name) old new = new ≡ record old { side = new.side }
+-- nothing changed but what comes over this inlet, if anything is read there
+abbrev pub KeepsAllBut : Inlet → Option (List ℕ) → Meanings → Meanings → Type 0
+KeepsAllBut i None old new = new ≡ old
+KeepsAllBut i (Some name) old new = new ≡ with_incoming old i (incoming new i)
 
--- why a side input was not read: reading failed, and otherwise both counts are as before
-abbrev pub HasSideCause : {T : Type 0} → Counts → Counts → Result T TextFault → Type 0
-HasSideCause old new (Ok text) = new ≡ old
-HasSideCause old new (Err unread.TooLong) = new ≡ old
-HasSideCause old new (Err unread.ReadFault) = FailsToRead old new
-HasSideCause old new (Err unread.NoMemory) = new ≡ old
+-- why a text was not read: reading failed, and otherwise both counts are as before
+abbrev pub HasTextCause : {T : Type 0} → Counts → Counts → Result T TextFault → Type 0
+HasTextCause old new (Ok text) = new ≡ old
+HasTextCause old new (Err unread.TooLong) = new ≡ old
+HasTextCause old new (Err unread.ReadFault) = FailsToRead old new
+HasTextCause old new (Err unread.NoMemory) = new ≡ old
 
 -- ---- opening
 

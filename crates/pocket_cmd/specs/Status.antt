@@ -1,5 +1,7 @@
 -- How a command ends, what each refusal is about, and the exit number that each end has.
 use Rattle.std.specs.Prelude.{◌≡◌, ℕ, Option, Some, None, Result, Ok, Err}
+use Rattle.desk_ports.specs.declared.desk.Inlet.{Inlet}
+use Rattle.desk_ports.specs.declared.desk.Inlet.TheVariants as inlet
 use Rattle.desk_ports.specs.Meanings.{Counts, FailsToRead, FailsToWrite}
 use Rattle.desk_ports.specs.Stop.{Stop}
 use Rattle.desk_ports.specs.Stop as stop
@@ -7,12 +9,12 @@ use Rattle.side_tables.specs.declared.fault.SideFault.{SideFault}
 use Rattle.side_tables.specs.declared.fault.SideFault.TheVariants as table
 use Rattle.pocket_cmd.specs.Faults.{DataFault}
 use Rattle.pocket_cmd.specs.Faults as fault
-use Rattle.pocket_cmd.specs.declared.side.TextFault.{TextFault}
-use Rattle.pocket_cmd.specs.declared.side.TextFault.TheVariants as unread
+use Rattle.pocket_cmd.specs.declared.text.TextFault.{TextFault}
+use Rattle.pocket_cmd.specs.declared.text.TextFault.TheVariants as unread
 use Rattle.pocket_cmd.specs.declared.status.Status.{Status}
 use Rattle.pocket_cmd.specs.declared.status.Status.TheVariants.{Done, Refused}
 use Rattle.pocket_cmd.specs.declared.status.Refusal.{Refusal}
-use Rattle.pocket_cmd.specs.declared.status.Refusal.TheVariants.{BadWords, SideTooLong, BadSide, ReadFault, WriteFault, CutRecord, SpareBit, BadStore, TooMany, NoMemory}
+use Rattle.pocket_cmd.specs.declared.status.Refusal.TheVariants.{BadWords, SideTooLong, BadSide, ScriptTooLong, BadScript, ReadFault, WriteFault, CutRecord, SpareBit, BadStore, TooMany, NoMemory}
 
 -- the refusal for a fault of the data
 abbrev pub refusal_of : DataFault → Refusal
@@ -37,16 +39,28 @@ pub record IsEnded (Over : Result (Unit {0}) (Stop DataFault) → Type 0) (answe
   pub over : Over ended
   pub answered : answer ≡ refused_by ended
 
--- the refusal if a side input was not read, and if its text is no table
-abbrev pub refusal_at : TextFault → Refusal
-refusal_at unread.TooLong = SideTooLong
-refusal_at unread.ReadFault = ReadFault
-refusal_at unread.NoMemory = NoMemory
+-- what is wrong with a text: it is too long, or this record of it is the first that is no row
+pub data BadText : Type 0 where
+  Long : BadText
+  Row : ℕ → BadText
 
-abbrev pub refusal_in : SideFault → Refusal
-refusal_in table.TooLong = SideTooLong
-refusal_in (table.Row row) = BadSide row
-refusal_in table.NoMemory = NoMemory
+-- the refusal for a text of a side input, or of an input
+abbrev pub refusal_for : Inlet → BadText → Refusal
+refusal_for inlet.Side Long = SideTooLong
+refusal_for inlet.Side (Row row) = BadSide row
+refusal_for inlet.Main Long = ScriptTooLong
+refusal_for inlet.Main (Row row) = BadScript row
+
+-- the refusal if a text was not read, and if it is no table
+abbrev pub refusal_at : Inlet → TextFault → Refusal
+refusal_at i unread.TooLong = refusal_for i Long
+refusal_at i unread.ReadFault = ReadFault
+refusal_at i unread.NoMemory = NoMemory
+
+abbrev pub refusal_in : Inlet → SideFault → Refusal
+refusal_in i table.TooLong = refusal_for i Long
+refusal_in i (table.Row row) = refusal_for i (Row row)
+refusal_in i table.NoMemory = NoMemory
 
 -- the answer if a course ends so
 abbrev pub status_of : Option DataFault → Status
@@ -59,15 +73,10 @@ status_by (Err refusal) = Refused refusal
 
 -- ---- what a refusal is about
 
--- what is wrong with a text: it is too long, or this record of it is the first that is no row
-pub data BadText : Type 0 where
-  Long : BadText
-  Row : ℕ → BadText
-
--- a word, the side text, the data, a failed reading or writing, or want of memory
+-- a word, the text of a side input or of an input, the data, a failed reading or writing, or want of memory
 pub data Class : Type 0 where
   Word : ℕ → Class
-  Text : BadText → Class
+  Text : Inlet → BadText → Class
   Data : DataFault → Class
   Reading : Class
   Writing : Class
@@ -75,8 +84,10 @@ pub data Class : Type 0 where
 
 abbrev pub class_of : Refusal → Class
 class_of (BadWords word) = Word word
-class_of SideTooLong = Text Long
-class_of (BadSide row) = Text (Row row)
+class_of SideTooLong = Text inlet.Side Long
+class_of (BadSide row) = Text inlet.Side (Row row)
+class_of ScriptTooLong = Text inlet.Main Long
+class_of (BadScript row) = Text inlet.Main (Row row)
 class_of ReadFault = Reading
 class_of WriteFault = Writing
 class_of (CutRecord t) = Data (fault.CutRecord t)
@@ -90,7 +101,7 @@ abbrev pub exit_number_of : Class → ℕ
 exit_number_of Reading = 1
 exit_number_of Writing = 1
 exit_number_of (Word word) = 2
-exit_number_of (Text bad) = 3
+exit_number_of (Text i bad) = 3
 exit_number_of (Data fault) = 4
 exit_number_of Memory = 5
 
@@ -104,7 +115,7 @@ abbrev pub HasClassCause : Counts → Counts → Class → Type 0
 HasClassCause old new Reading = FailsToRead old new
 HasClassCause old new Writing = FailsToWrite old new
 HasClassCause old new (Word word) = new ≡ old
-HasClassCause old new (Text bad) = new ≡ old
+HasClassCause old new (Text i bad) = new ≡ old
 HasClassCause old new (Data fault) = new ≡ old
 HasClassCause old new Memory = new ≡ old
 

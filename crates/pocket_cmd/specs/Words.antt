@@ -123,7 +123,14 @@ fault_of rows words = or_word (wrong_word rows [] words) (or_missing (is_missing
 
 -- the keys whose values are names to read, and names to write
 abbrev pub read_keys : List (List ℕ)
-read_keys = codes "in" ∷ codes "plan" ∷ codes "script" ∷ []
+read_keys = codes "in" ∷ codes "plan" ∷ codes "script" ∷ codes "fields" ∷ []
+
+-- of them, the keys for the name of a side input, and of a main input
+abbrev pub side_keys : List (List ℕ)
+side_keys = codes "plan" ∷ codes "script" ∷ codes "fields" ∷ []
+
+abbrev pub input_keys : List (List ℕ)
+input_keys = codes "in" ∷ codes "script" ∷ []
 
 abbrev pub written_keys : List (List ℕ)
 written_keys = codes "out" ∷ codes "report" ∷ []
@@ -132,6 +139,9 @@ written_keys = codes "out" ∷ codes "report" ∷ []
 abbrev pub Assigns : List (List ℕ) → List ℕ → List ℕ → Type 0
 Assigns words key value = Contains words (key ++ 61 ∷ value)
 
--- one of the words gives this name to one of the keys
+-- one of the words gives this value to one of the keys
+abbrev pub AssignsToOne : List (List ℕ) → List (List ℕ) → List ℕ → Type 0
+AssignsToOne words keys value = (key : List ℕ) × Contains keys key × Assigns words key value
+
 abbrev pub AssignsOneOf : {Z : Type 0} → List (String Z) → List (List ℕ) → List ℕ → Type 0
-AssignsOneOf words keys name = (key : List ℕ) × Contains keys key × Assigns (map string_bytes words) key name
+AssignsOneOf words keys name = AssignsToOne (map string_bytes words) keys name

@@ -2,8 +2,9 @@
 ghost use Rattle.std.specs.Prelude.{◌≡◌, ◌<◌, ◌^◌, length, map};
 ghost use Rattle.std.specs.String.{string_bytes};
 ghost use Rattle.pocket_cmd.specs.Command.{command_of, view_command, view_result};
-ghost use Rattle.pocket_cmd.specs.Courses.{names_of};
+ghost use Rattle.pocket_cmd.specs.Courses.{bad_script_row_of, names_of};
 ghost use Rattle.pocket_cmd.specs.Openings.{view_names};
+ghost use Rattle.pocket_cmd.specs.Outcome.{left_to_open};
 
 use crate::run::Names;
 use crate::verbs::{Port, Verb};
@@ -26,7 +27,7 @@ impl<'a> Command<'a> {
         }
     }
 
-    /// The names that it opens.
+    /// All names that it opens.
     pub fn names(&self) -> Names<'a>
         ensures { view_names result ≡ names_of (view_command self.now) }
     {
@@ -36,6 +37,21 @@ impl<'a> Command<'a> {
             input: name_of(rows, self.words, Port::Input),
             output: name_of(rows, self.words, Port::Output).unwrap_or(""),
             report: name_of(rows, self.words, Port::Report),
+        }
+    }
+
+    /// The names that are left to open once its texts are read.
+    pub fn names_left(&self) -> Names<'a>
+        ensures { view_names result
+            ≡ left_to_open (bad_script_row_of (view_command self.now)) (names_of (view_command self.now)) }
+    {
+        let names = self.names();
+        match self.verb {
+            Verb::Forecast => Names {
+                input: None,
+                ..names
+            },
+            _ => names,
         }
     }
 }

@@ -1,24 +1,30 @@
-//! A command whose memory is taken.
-ghost use Rattle.std.specs.Prelude.{◌≡◌, ◌≢◌, ◌≤◌, ℕ, Some, Err, length, map, IsTrue, is_some, IfOk, OnOk, OnErr};
+//! A command whose texts are read and whose memory is taken.
+ghost use Rattle.std.specs.Prelude.{◌≡◌, ◌≤◌, ◌⊎◌, ℕ, None, length, map, IsTrue, IfSome, IfOk, IfErr, OnOk, OnErr};
+ghost use Rattle.std.specs.Option.{option_map};
 ghost use Rattle.std.specs.String.{string_bytes};
 ghost use Rattle.desk_ports.specs.Meanings.{Adds, AddsFront, HasWriteCause, IsReadyIn, IsReadyOut};
-ghost use Rattle.side_tables.specs.Grammar.{bad_copy_row, bad_schedule_row, copy_rows_of};
-ghost use Rattle.pocket_cmd.specs.Command.{Compress, Play, Restore, Show, IsRight, compress_by, play_by, restore_by, show_by, view_command};
-ghost use Rattle.pocket_cmd.specs.Courses.{course_of, bad_row_of, compression_by, names_of};
-ghost use Rattle.pocket_cmd.specs.Jobs.{AfterJob, job_course, reads_input, writes_report};
-ghost use Rattle.pocket_cmd.specs.Status.{HasStatusCause, IsEnded, status_by};
+ghost use Rattle.side_tables.specs.Grammar.{bad_copy_row, bad_schedule_row, copy_rows_of, schedule_rows_of};
+ghost use Rattle.param_table.specs.Grammar.{bad_text_row};
+ghost use Rattle.pocket_cmd.specs.Command.{Compress, Forecast as ToForecast, Play, Restore, Show, Table as ToTable, IsRight, compress_by, forecast_by, play_by, restore_by, show_by, table_by, view_command};
+ghost use Rattle.pocket_cmd.specs.Courses.{compression_by, names_of, tabulation_by};
+ghost use Rattle.pocket_cmd.specs.Jobs.{AfterJob, AfterMaking, HasMakingCause, IsScriptRead, job_course, reads_input, writes_report};
+ghost use Rattle.pocket_cmd.specs.Outcome.{IsRowRefused, IsTextRefused};
+ghost use Rattle.pocket_cmd.specs.Status.{HasStatusCause, IsEnded, class_of, status_by};
 
 use crate::mask::first_mask;
-use crate::status::Refusal;
+use crate::status::{Refusal, no_table, unread};
 use crate::summary::summary_text;
+use crate::text::text_at;
 use crate::verbs::Verb;
 use crate::words::{Command, number_at, text_of};
 use bit_vectors::NoMemory;
 use desk_ports::{Desk, Failed, Inlet, Outlet, write_all};
 use flight_chain::Flight;
+use forecast::Forecast;
 use ground_chain::{Lister, Restorer};
 use loss_player::Player;
-use side_tables::{Schedule, Script, SideFault};
+use param_table::{Fields, Tabler};
+use side_tables::{Schedule, Script};
 use std::alloc::Global;
 
 /// What reads the main input to its end, if there is one, and writes the outputs. It owns all memory of its run.
@@ -30,22 +36,24 @@ pub enum Job {
     Show(Lister),
     /// The text of a trial's summary.
     Trial(Vec<u8>),
+    Table(Tabler),
+    Forecast(Forecast),
 }
 
 impl Job {
-    /// The job of a command whose side input has this text.
-    pub fn of(alloc: Global, command: &Command<'_>, text: &[u8]) -> Result<Job, SideFault>
-        requires { length text.now ≤ 1048576 }
-        ensures course { IfOk result
-            (λ job. job_course job ≡ course_of (view_command command.now) text.now) }
-        ensures input { IfOk result
-            (λ job. reads_input job ≡ is_some (names_of (view_command command.now)).input) }
-        ensures report { IfOk result
-            (λ job. writes_report job ≡ is_some (names_of (view_command command.now)).report) }
-        ensures rows { OnOk result (bad_row_of (view_command command.now) text.now ≡ None) }
-        ensures row { (row : ℕ) → result ≡ Err (SideFault.Row row)
-            → bad_row_of (view_command command.now) text.now ≡ Some row }
-        ensures long { result ≢ Err SideFault.TooLong }
+    /// The job of a command whose side input has this text, once a text that is its input is read.
+    pub fn of<D: Desk>(
+        alloc: Global,
+        command: &Command<'_>,
+        text: &[u8],
+        desk: &mut D,
+    ) -> Result<Job, Refusal>
+        requires within { length text.now ≤ 1048576 }
+        requires input { IfSome (names_of (view_command command.now)).input
+            (λ name. IsTrue ((D.meaning desk.old).grants_in name)) }
+        ensures after { AfterMaking (view_command command.now) text.now (D.meaning desk.old)
+            (D.meaning desk.new) result }
+        ensures cause { HasMakingCause (D.counts desk.old) (D.counts desk.new) result }
     {
         let words = command.words;
         match command.verb {
@@ -54,6 +62,14 @@ impl Job {
             Verb::Restore => Ok(Job::Restore(restorer(alloc, words)?)),
             Verb::Show => Ok(Job::Show(lister(alloc, words)?)),
             Verb::Trial => Ok(Job::Trial(summary_text(alloc, words)?)),
+            Verb::Table => Ok(Job::Table(tabler(alloc, words, text)?)),
+            Verb::Forecast => Ok(Job::Forecast(forecast(
+                alloc,
+                words,
+                text,
+                command.names().input,
+                desk,
+            )?)),
         }
     }
 
@@ -93,6 +109,14 @@ impl Job {
                 Ok(()) => Ok(()),
                 Err(_) => Err(Refusal::WriteFault),
             },
+            Job::Table(tabler) => match tabler.tabulate(desk) {
+                Ok(_) => Ok(()),
+                Err(fault) => Err(fault.into()),
+            },
+            Job::Forecast(forecast) => match forecast.write(desk) {
+                Ok(_) => Ok(()),
+                Err(_) => Err(Refusal::WriteFault),
+            },
         }
     }
 }
@@ -110,15 +134,14 @@ fn write_text<D: Desk>(text: Vec<u8>, desk: &mut D) -> Result<(), Failed>
 }
 
 /// The flight of `compress`, whose schedule has this text.
-fn flight(alloc: Global, words: &[String], text: &[u8]) -> Result<Flight, SideFault>
+fn flight(alloc: Global, words: &[String], text: &[u8]) -> Result<Flight, Refusal>
     requires right { IsRight (Compress (compress_by (map string_bytes words.now))) }
     requires within { length text.now ≤ 1048576 }
     ensures flight { IfOk result
         (λ flight. flight ≡ compression_by (compress_by (map string_bytes words.now)) text.now) }
     ensures rows { OnOk result (bad_schedule_row text.now ≡ None) }
-    ensures row { (row : ℕ) → result ≡ Err (SideFault.Row row)
-        → bad_schedule_row text.now ≡ Some row }
-    ensures long { result ≢ Err SideFault.TooLong }
+    ensures refused { IfErr result
+        (λ refusal. IsRowRefused (bad_schedule_row text.now) (class_of refusal)) }
 {
     let plan = Schedule::read(alloc, text)?;
     let f = number_at(words, "bits");
@@ -131,15 +154,15 @@ fn flight(alloc: Global, words: &[String], text: &[u8]) -> Result<Flight, SideFa
 }
 
 /// The player of `play`, whose script has this text.
-fn player(alloc: Global, words: &[String], text: &[u8]) -> Result<Player, SideFault>
+fn player(alloc: Global, words: &[String], text: &[u8]) -> Result<Player, Refusal>
     requires right { IsRight (Play (play_by (map string_bytes words.now))) }
     requires within { length text.now ≤ 1048576 }
     ensures player { let told = play_by (map string_bytes words.now) in
         IfOk result
         (λ player. player ≡ record { apid = told.apid; rows = copy_rows_of text.now }) }
     ensures rows { OnOk result (bad_copy_row text.now ≡ None) }
-    ensures row { (row : ℕ) → result ≡ Err (SideFault.Row row) → bad_copy_row text.now ≡ Some row }
-    ensures long { result ≢ Err SideFault.TooLong }
+    ensures refused { IfErr result
+        (λ refusal. IsRowRefused (bad_copy_row text.now) (class_of refusal)) }
 {
     let script = Script::read(alloc, text)?;
     Ok(Player::open(alloc, number_at(words, "apid") as u16, script)?)
@@ -169,4 +192,81 @@ fn lister(alloc: Global, words: &[String]) -> Result<Lister, NoMemory>
         number_at(words, "bits"),
         number_at(words, "apid") as u16,
     )
+}
+
+/// The tabler of `table`, whose fields have this text.
+fn tabler(alloc: Global, words: &[String], text: &[u8]) -> Result<Tabler, Refusal>
+    requires right { IsRight (ToTable (table_by (map string_bytes words.now))) }
+    requires within { length text.now ≤ 1048576 }
+    ensures tabler { IfOk result
+        (λ tabler. tabler ≡ tabulation_by (table_by (map string_bytes words.now)) text.now) }
+    ensures rows { let told = table_by (map string_bytes words.now) in
+        OnOk result (bad_text_row told.bits text.now ≡ None) }
+    ensures refused { let told = table_by (map string_bytes words.now) in
+        IfErr result
+        (λ refusal. IsRowRefused (bad_text_row told.bits text.now) (class_of refusal)) }
+{
+    let f = number_at(words, "bits");
+    let fields = Fields::read(alloc, text, f)?;
+    Ok(Tabler::open(alloc, f, fields)?)
+}
+
+/// The forecast of `forecast`, whose schedule has this text. Its script, of this name, is opened and read after the schedule.
+fn forecast<D: Desk>(
+    alloc: Global,
+    words: &[String],
+    text: &[u8],
+    name: Option<&str>,
+    desk: &mut D,
+) -> Result<Forecast, Refusal>
+    requires right { IsRight (ToForecast (forecast_by (map string_bytes words.now))) }
+    requires within { length text.now ≤ 1048576 }
+    requires input { IfSome name (λ name. IsTrue ((D.meaning desk.old).grants_in name.now)) }
+    ensures rows { OnOk result (bad_schedule_row text.now ≡ None) }
+    ensures read { let told = forecast_by (map string_bytes words.now) in
+        let name = option_map (λ name. name.now) name.entry in
+        IfOk result (λ forecast. IsScriptRead name bad_copy_row (D.meaning desk.old)
+        (D.meaning desk.new)
+        (λ script. forecast ≡ record {
+          packets = told.packets;
+          outlook = record {
+            plan = schedule_rows_of text.now;
+            robust = told.robust;
+            script = copy_rows_of script;
+          };
+        })) }
+    ensures refused { let name = option_map (λ name. name.now) name.entry in
+        IfErr result (λ refusal.
+        (IsRowRefused (bad_schedule_row text.now) (class_of refusal)
+        × (D.meaning desk.new ≡ D.meaning desk.old))
+        ⊎ ((bad_schedule_row text.now ≡ None)
+        × IsTextRefused bad_copy_row name (D.meaning desk.old) (D.meaning desk.new)
+        (class_of refusal))) }
+    ensures cause { HasMakingCause (D.counts desk.old) (D.counts desk.new) result }
+{
+    let schedule = Schedule::read(alloc, text)?;
+    let script = script(alloc, desk, name)?;
+    let packets = number_at(words, "packets");
+    let robust = number_at(words, "robust") as u8;
+    Ok(Forecast::open(alloc, packets, robust, schedule, script)?)
+}
+
+/// The script of this name, which is opened and read.
+fn script<D: Desk>(alloc: Global, desk: &mut D, name: Option<&str>) -> Result<Script, Refusal>
+    requires { IfSome name (λ name. IsTrue ((D.meaning desk.old).grants_in name.now)) }
+    ensures read { let name = option_map (λ name. name.now) name.entry in
+        IfOk result (λ script. IsScriptRead name bad_copy_row (D.meaning desk.old)
+        (D.meaning desk.new) (λ text. script ≡ copy_rows_of text)) }
+    ensures refused { let name = option_map (λ name. name.now) name.entry in
+        IfErr result (λ refusal. IsTextRefused bad_copy_row name (D.meaning desk.old)
+        (D.meaning desk.new) (class_of refusal)) }
+    ensures cause { HasMakingCause (D.counts desk.old) (D.counts desk.new) result }
+{
+    match text_at(alloc, desk, Inlet::Main, name) {
+        Err(fault) => Err(unread(Inlet::Main, fault)),
+        Ok(text) => match Script::read(alloc, &text) {
+            Ok(script) => Ok(script),
+            Err(fault) => Err(no_table(Inlet::Main, fault)),
+        },
+    }
 }

@@ -3,17 +3,21 @@ ghost use Rattle.std.specs.Prelude.{◌≡◌, ◌⊎◌, ◌≤◌, ◌<◌, �
 ghost use Rattle.desk_ports.specs.Courses.{owed, to_output};
 ghost use Rattle.desk_ports.specs.Meanings.{Meanings};
 ghost use Rattle.mask_update.specs.Histories.{History, IsValid};
-ghost use Rattle.side_tables.specs.Grammar.{copy_rows_of};
+ghost use Rattle.side_tables.specs.Grammar.{copy_rows_of, schedule_rows_of};
 ghost use Rattle.side_tables.specs.Rows.{copies_of};
-ghost use Rattle.packet_encode.specs.Deliveries.{arrivals};
+ghost use Rattle.packet_encode.specs.Deliveries.{WrittenAt, arrivals};
+ghost use Rattle.forecast.specs.Prospects.{IsSure, prospect_of};
+ghost use Rattle.flight_chain.specs.Recordings.{recording_walk};
 ghost use Rattle.flight_chain.specs.Stores.{store_of};
+ghost use Rattle.param_table.specs.Grammar.{text_columns};
+ghost use Rattle.param_table.specs.Texts.{limit_text, table_text};
 ghost use Rattle.loss_player.specs.Gaps.{AreGapsShort};
 ghost use Rattle.loss_player.specs.Played.{played_bytes, played_of};
 ghost use Rattle.loss_player.specs.Report.{play_report};
 ghost use Rattle.ground_chain.specs.Deliveries.{report_text, restored_bytes};
 ghost use Rattle.pocket_cmd.specs.Apart.{AreApart};
-ghost use Rattle.pocket_cmd.specs.Command.{Command, Compress, CompressValues, Play, PlayValues, Restore, RestoreValues, Trial, TrialValues, AreGiven, IsRight, command_of};
-ghost use Rattle.pocket_cmd.specs.Courses.{course_of, names_of};
+ghost use Rattle.pocket_cmd.specs.Command.{Command, Compress, CompressValues, Forecast, ForecastValues, Play, PlayValues, Restore, RestoreValues, Table, TableValues, Trial, TrialValues, AreGiven, IsRight, command_of};
+ghost use Rattle.pocket_cmd.specs.Courses.{course_of, forecast_by_texts, names_of};
 ghost use Rattle.pocket_cmd.specs.Delivery.{HasWritten, IsInputWhole, recorded_history};
 ghost use Rattle.pocket_cmd.specs.Openings.{input_given, side_given};
 ghost use Rattle.pocket_cmd.specs.Outcome.{AfterRefusal, Stands};
@@ -49,6 +53,29 @@ pub fn trials_owe_their_summary()
     ensures refused { (t : TrialValues) (old new : Meanings) (refusal : Refusal)
         → AfterRefusal (Trial t) old new refusal
         → (refusal ≡ Refusal.WriteFault) ⊎ (refusal ≡ Refusal.NoMemory) }
+{}
+
+/// A table owes the texts of the packets of a whole recording, by its fields: their table, and the report of the values out of
+/// their limits.
+pub fn tables_owe_their_texts()
+    ensures { (t : TableValues) (fields recording : List ℕ) → IsInputWhole (Table t) recording →
+        let packets = (recording_walk t.bits recording).inputs in
+        owed (course_of (Table t) fields recording) ≡ record {
+          output = table_text (text_columns t.bits fields) packets;
+          report = limit_text (text_columns t.bits fields) packets;
+        } }
+{}
+
+/// A forecast owes its text for a schedule and a script. What it calls sure is written of any recording of so many packets
+/// under that schedule and that required robustness, if copies arrive as the script says.
+pub fn forecasts_owe_their_text()
+    ensures text { (f : ForecastValues) (plan script : List ℕ)
+        → owed (course_of (Forecast f) plan script) ≡ to_output (forecast_by_texts f plan script) }
+    ensures sure { (f : ForecastValues) (c : CompressValues) (plan script recording : List ℕ) (t : ℕ)
+        → c.robust ≡ f.robust → let h = recorded_history c plan recording in
+        t < length h.steps
+        → IsSure (prospect_of (schedule_rows_of plan) f.robust (copy_rows_of script)) t
+        → WrittenAt h (copies_of (copy_rows_of script)) t }
 {}
 
 /// What the commands hand on to one another. The store that `compress` owes for a whole recording is that of a valid history;

@@ -7,16 +7,17 @@ mod laws;
 mod mask;
 mod rehearsal;
 mod run;
-mod side;
 mod status;
 mod summary;
+mod text;
 mod top;
 mod verbs;
 mod words;
 mod work;
 
 pub use laws::{
-    commands_are_given, commands_compose, done_commands_wrote_all, trials_owe_their_summary,
+    commands_are_given, commands_compose, done_commands_wrote_all, forecasts_owe_their_text,
+    tables_owe_their_texts, trials_owe_their_summary,
 };
 pub use packet_store::StoreKind;
 pub use rehearsal::rehearse;

@@ -1,17 +1,23 @@
 //! How a command ends.
 ghost use Rattle.std.specs.Prelude.{◌≡◌};
+ghost use Rattle.desk_ports.specs.declared.desk.Inlet.TheVariants as inlet;
+ghost use Rattle.pocket_cmd.specs.declared.status.Refusal.TheVariants as why;
 ghost use Rattle.packet_store.specs.Faults.{stop_of};
 ghost use Rattle.flight_chain.specs.Compressing.{stop_by as flight_stop};
 ghost use Rattle.loss_player.specs.Playing.{stop_by as play_stop};
 ghost use Rattle.ground_chain.specs.Restoring.{stop_by as restore_stop};
+ghost use Rattle.param_table.specs.Faults.{stop_by as table_stop};
 ghost use Rattle.pocket_cmd.specs.Faults.{of_recording, of_store, stop_with};
 ghost use Rattle.pocket_cmd.specs.Status.{exit_number, refusal_at, refusal_by, refusal_in, status_by};
 
-use crate::side::TextFault;
+use crate::text::TextFault;
+use bit_vectors::NoMemory;
+use desk_ports::Inlet;
 use flight_chain::FlightFault;
 use ground_chain::RestoreFault;
 use loss_player::PlayFault;
 use packet_store::{StoreFault, StoreKind};
+use param_table::TableFault;
 use side_tables::SideFault;
 use thiserror::Error;
 
@@ -27,6 +33,12 @@ pub enum Refusal {
     /// This record of the side input, counted from 1, is the first that is no row.
     #[error("side row {row} is wrong")]
     BadSide { row: u32 },
+    /// The script of a forecast has more than 1,048,576 bytes.
+    #[error("script is too long")]
+    ScriptTooLong,
+    /// This record of the script of a forecast, counted from 1, is the first that is no row.
+    #[error("script row {row} is wrong")]
+    BadScript { row: u32 },
     /// An input could not be opened or read.
     #[error("reading failed")]
     ReadFault,
@@ -50,27 +62,44 @@ pub enum Refusal {
     NoMemory,
 }
 
-impl From<TextFault> for Refusal {
-    ghost from_gives = { λ u e. e ≡ refusal_at u };
+/// The refusal if the text that comes over an inlet was not read.
+pub fn unread(inlet: Inlet, fault: TextFault) -> Refusal
+    ensures { result ≡ refusal_at inlet fault }
+{
+    match (inlet, fault) {
+        (Inlet::Side, TextFault::TooLong) => Refusal::SideTooLong,
+        (Inlet::Main, TextFault::TooLong) => Refusal::ScriptTooLong,
+        (_, TextFault::ReadFault) => Refusal::ReadFault,
+        (_, TextFault::NoMemory) => Refusal::NoMemory,
+    }
+}
 
-    fn from(fault: TextFault) -> Refusal {
-        match fault {
-            TextFault::TooLong => Refusal::SideTooLong,
-            TextFault::ReadFault => Refusal::ReadFault,
-            TextFault::NoMemory => Refusal::NoMemory,
-        }
+/// The refusal if it is no table.
+pub fn no_table(inlet: Inlet, fault: SideFault) -> Refusal
+    ensures { result ≡ refusal_in inlet fault }
+{
+    match (inlet, fault) {
+        (Inlet::Side, SideFault::TooLong) => Refusal::SideTooLong,
+        (Inlet::Main, SideFault::TooLong) => Refusal::ScriptTooLong,
+        (Inlet::Side, SideFault::Row { row }) => Refusal::BadSide { row },
+        (Inlet::Main, SideFault::Row { row }) => Refusal::BadScript { row },
+        (_, SideFault::NoMemory) => Refusal::NoMemory,
     }
 }
 
 impl From<SideFault> for Refusal {
-    ghost from_gives = { λ f e. e ≡ refusal_in f };
+    ghost from_gives = { λ f e. e ≡ refusal_in inlet.Side f };
 
     fn from(fault: SideFault) -> Refusal {
-        match fault {
-            SideFault::TooLong => Refusal::SideTooLong,
-            SideFault::Row { row } => Refusal::BadSide { row },
-            SideFault::NoMemory => Refusal::NoMemory,
-        }
+        no_table(Inlet::Side, fault)
+    }
+}
+
+impl From<NoMemory> for Refusal {
+    ghost from_gives = { λ _ e. e ≡ why.NoMemory };
+
+    fn from(_refused: NoMemory) -> Refusal {
+        Refusal::NoMemory
     }
 }
 
@@ -133,6 +162,20 @@ impl From<RestoreFault> for Refusal {
     }
 }
 
+impl From<TableFault> for Refusal {
+    ghost from_gives = { λ f e. e ≡ refusal_by (stop_with of_recording (table_stop f)) };
+
+    fn from(fault: TableFault) -> Refusal {
+        match fault {
+            TableFault::CutRecord { t } => Refusal::CutRecord { t },
+            TableFault::SpareBit { t } => Refusal::SpareBit { t },
+            TableFault::TooMany => Refusal::TooMany,
+            TableFault::ReadFault => Refusal::ReadFault,
+            TableFault::WriteFault => Refusal::WriteFault,
+        }
+    }
+}
+
 /// How a command ended.
 #[derive(Clone, Copy, Debug, PartialEq, Eq)]
 pub enum Status {
@@ -153,7 +196,7 @@ impl From<Result<(), Refusal>> for Status {
     }
 }
 
-/// The exit number of the program: 0 when done, 1 if the outside failed, 2 for wrong words, 3 for a wrong side input,
+/// The exit number of the program: 0 when done, 1 if the outside failed, 2 for wrong words, 3 for a wrong text,
 /// 4 for wrong data, 5 for lack of memory.
 pub fn exit_code(status: &Status) -> u8
     ensures { result ≡ exit_number status.now }
@@ -164,6 +207,7 @@ pub fn exit_code(status: &Status) -> u8
             Refusal::ReadFault | Refusal::WriteFault => 1,
             Refusal::BadWords { .. } => 2,
             Refusal::SideTooLong | Refusal::BadSide { .. } => 3,
+            Refusal::ScriptTooLong | Refusal::BadScript { .. } => 3,
             Refusal::CutRecord { .. } | Refusal::SpareBit { .. } => 4,
             Refusal::BadStore { .. } | Refusal::TooMany => 4,
             Refusal::NoMemory => 5,

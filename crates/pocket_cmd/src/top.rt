@@ -24,8 +24,8 @@ use std::alloc::Global;
 
 /// Does what the words say over a desk, and tells how it ended.
 ///
-/// The words are those after the program's name: a verb, and then `key=value` in any order. All verbs but `trial` take the keys
-/// `in`, `out` and `apid` (0 to 2046).
+/// The words are those after the program's name: a verb, and then `key=value` in any order. All verbs take the key `out`, and
+/// all that read packets `in` and `apid` (0 to 2046) too.
 ///
 /// - `compress` makes the store of a recording. It takes `bits` (the bits of a packet, 1 to 49,152) and `robust` (the
 ///   required robustness, 0 to 7) too, and may take `plan` (a schedule) and `mask` (the first mask in hexadecimal digits,
@@ -34,10 +34,14 @@ use std::alloc::Global;
 /// - `restore` gives back the packets of a store. It takes `report` and `bits` too.
 /// - `show` lists what is found for each packet of a store. It takes `bits` too.
 /// - `trial` runs the other three over a history that it generates from a seed, in memory, and writes a summary. It takes `seed`
-///   (any number of 32 bits), `packets` (1 to 10,000), `bits` (1 to 4,096), `robust` and `out`.
+///   (any number of 32 bits), `packets` (1 to 10,000), `bits` (1 to 4,096) and `robust`.
+/// - `table` writes the fields of the packets of a recording as a table, and those out of their limits. It takes `report`,
+///   `fields` and `bits`, and no `apid`.
+/// - `forecast` tells which packets will be written, whatever the recording is. It takes `packets` (1 to 1,000,000), `robust`,
+///   `plan` and `script`.
 ///
-/// What the side input, a schedule or a script, says is looked at before any other name is opened. Its text has at most
-/// 1,048,576 bytes.
+/// What the side input, a schedule or a script, says is looked at before any other name is opened; the script of `forecast` is
+/// looked at next. A text has at most 1,048,576 bytes.
 pub fn pocket<D: Desk>(alloc: Global, words: &[String], desk: &mut D) -> Status
     requires few { length words.now < 2 ^ 32 }
 

@@ -18,6 +18,10 @@ pub enum Verb {
     Show,
     /// Runs the other three over a generated history.
     Trial,
+    /// Writes the fields of the packets of a recording as a table.
+    Table,
+    /// Tells which packets will be written, whatever the recording is.
+    Forecast,
 }
 
 /// Where what has a name is opened.
@@ -59,6 +63,8 @@ impl Verb {
             "restore" => Some(Verb::Restore),
             "show" => Some(Verb::Show),
             "trial" => Some(Verb::Trial),
+            "table" => Some(Verb::Table),
+            "forecast" => Some(Verb::Forecast),
             _ => None,
         }
     }
@@ -103,6 +109,20 @@ impl Verb {
                 Needed("packets", Number(1, 10_000)),
                 Needed("bits", Number(1, 4096)),
                 Needed("robust", Number(0, 7)),
+            ],
+            Verb::Table => &[
+                Needed("in", Name(Port::Input)),
+                Needed("out", Name(Port::Output)),
+                Needed("report", Name(Port::Report)),
+                Needed("fields", Name(Port::Side)),
+                Needed("bits", Number(1, 49_152)),
+            ],
+            Verb::Forecast => &[
+                Needed("out", Name(Port::Output)),
+                Needed("packets", Number(1, 1_000_000)),
+                Needed("robust", Number(0, 7)),
+                Needed("plan", Name(Port::Side)),
+                Needed("script", Name(Port::Input)),
             ],
         }
     }

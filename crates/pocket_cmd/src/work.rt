@@ -7,10 +7,10 @@ ghost use Rattle.pocket_cmd.specs.Status.{HasStatusCause, status_by};
 
 use crate::job::Job;
 use crate::run::run;
-use crate::side::side_text;
-use crate::status::Refusal;
+use crate::status::{Refusal, unread};
+use crate::text::text_at;
 use crate::words::Command;
-use desk_ports::Desk;
+use desk_ports::{Desk, Inlet};
 use std::alloc::Global;
 
 /// Reads the side input of a command, takes the memory of its run, and runs it.
@@ -33,13 +33,13 @@ pub fn perform<D: Desk>(alloc: Global, command: &Command<'_>, desk: &mut D) -> R
     ensures bad_row { IsRowFirstOf (view_command command.now) (D.meaning desk.old)
         (D.meaning desk.new) result }
 {
-    match side_text(alloc, desk, command.names().side) {
+    match text_at(alloc, desk, Inlet::Side, command.names().side) {
         Ok(text) => perform_with(alloc, command, &text, desk),
-        Err(unread) => Err(unread.into()),
+        Err(fault) => Err(unread(Inlet::Side, fault)),
     }
 }
 
-/// Takes the memory of a command's run, whose side input has this text, and runs it.
+/// Reads what else a command reads before its run, whose side input has this text, takes the memory of the run, and runs it.
 fn perform_with<D: Desk>(
     alloc: Global,
     command: &Command<'_>,
@@ -60,8 +60,8 @@ fn perform_with<D: Desk>(
         (D.counts desk.old) (D.counts desk.new) result }
     ensures row { IsRowAnswered (view_command command.now) text.now result }
 {
-    match Job::of(alloc, command, text) {
-        Ok(job) => run(desk, &command.names(), job),
-        Err(fault) => Err(fault.into()),
+    match Job::of(alloc, command, text, desk) {
+        Ok(job) => run(desk, &command.names_left(), job),
+        Err(refusal) => Err(refusal),
     }
 }

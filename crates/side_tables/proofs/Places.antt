@@ -90,13 +90,13 @@ find-push p (x ∷ xs) y = push_first p y x (p x) (find p (xs ++ y ∷ [])) (fin
 find-reverse : {X : Type 0} (p : X → Bool) (x : X) (xs : List X) → find p (reverse (x ∷ xs)) ≡ or_last p x (find p (reverse xs))
 find-reverse p x xs = rw (reverse-append (x ∷ []) xs) (find-push p (reverse xs) x)
 
-find-reverse_none : {X : Type 0} (p : X → Bool) (rows : List X) (d : X) → ((k : ℕ) → k < length rows → p (get_or rows k d) ≡ false) → find p (reverse rows) ≡ None
+pub find-reverse_none : {X : Type 0} (p : X → Bool) (rows : List X) (d : X) → ((k : ℕ) → k < length rows → p (get_or rows k d) ≡ false) → find p (reverse rows) ≡ None
 find-reverse_none p [] d none = refl
 find-reverse_none p (x ∷ rows) d none =
     let rest = find-reverse_none p rows d (λ k inside. none (suc k) (omega arith)) in
     find-reverse p x rows ∙ rw (rest, none 0 (omega arith)) refl
 
-find-reverse_last : {X : Type 0} (p : X → Bool) (rows : List X) (place : ℕ) (d : X) → place < length rows → p (get_or rows place d) ≡ true
+pub find-reverse_last : {X : Type 0} (p : X → Bool) (rows : List X) (place : ℕ) (d : X) → place < length rows → p (get_or rows place d) ≡ true
     → ((k : ℕ) → place < k → k < length rows → p (get_or rows k d) ≡ false) → find p (reverse rows) ≡ Some (get_or rows place d)
 find-reverse_last p [] place d inside passes later = absurd (omega arith)
 find-reverse_last p (x ∷ rows) zero d inside passes later =

@@ -19,7 +19,7 @@ pub use decimal::{number, signed_number, wide_number};
 pub use fault::SideFault;
 pub use laws::{robustness_of_texts, streams_of_texts};
 pub use lookup::{Lookup, Planned};
-pub use rows::{CopyRow, FlagRow, RowGrammar, StreamRow, TableRow};
+pub use rows::{CopyRow, FlagRow, RobustRow, RowGrammar, StreamRow, TableRow};
 pub use schedule::Schedule;
 pub use script::Script;
 pub use span::Span;

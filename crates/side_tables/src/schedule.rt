@@ -2,7 +2,7 @@
 
 ghost use Rattle.std.specs.Prelude.{◌≡◌, ℕ, ◌<◌, ◌≤◌, ◌||◌, ◌↔◌, [], length, All, Err, Some, None, IfOk, IfSome, OnOk};
 ghost use Rattle.side_tables.specs.Grammar.{bad_schedule_row, schedule_rows_of};
-ghost use Rattle.side_tables.specs.Rows.{IsFlagRow, IsScheduleRow, by_kind, flags_of, GiveNothing, robust_of};
+ghost use Rattle.side_tables.specs.Rows.{IsFlagRow, IsRobustRow, IsScheduleRow, by_kind, flags_of, GiveNothing, robust_of};
 
 use crate::fault::SideFault;
 use crate::grammar::ScheduleText;
@@ -100,6 +100,22 @@ impl Schedule {
     {
         let row = self.robust.latest(t)?;
         Some(row.value)
+    }
+
+    /// The flag rows in order.
+    pub fn flag_rows(&self) -> &[FlagRow]
+        ensures rows { result.now ≡ self.now.flags }
+        ensures right { All IsFlagRow self.now.flags }
+    {
+        self.flags.rows()
+    }
+
+    /// The `robust` rows in order.
+    pub fn robust_rows(&self) -> &[RobustRow]
+        ensures rows { result.now ≡ self.now.robust }
+        ensures right { All IsRobustRow self.now.robust }
+    {
+        self.robust.rows()
     }
 
     /// A number `result` such that no packet in `t..result` is given anything. If there are many rows, it may be `t`.

@@ -48,7 +48,7 @@ impl<R: TableRow> Table<R> {
     }
 
     /// The rows in order.
-    pub(crate) fn rows(&self) -> &[R]
+    pub fn rows(&self) -> &[R]
         ensures rows { result.now ≡ self.now }
         ensures right { All R.is_right self.now }
     {

@@ -18,7 +18,7 @@ const BY_PLAN: &str = "compress in=a out=b bits=8 apid=100 robust=1 plan=s";
 
 /// How a run ends: how many bytes of the output and of the report stand when a reading or a writing failed.
 #[derive(Clone, Copy)]
-enum End {
+pub enum End {
     Done,
     Unread(usize, usize),
     Unwritten(usize, usize),
@@ -27,18 +27,18 @@ enum End {
 }
 
 /// The calls that fail, and how the run then ends.
-type Row = (&'static [(Call, u32)], End);
+pub type Row = (&'static [(Call, u32)], End);
 
 /// What a verb is given, whether a call moves one byte at most, what it writes if no call fails, and rows of calls that
 /// do.
-struct Table {
-    words: &'static str,
-    input: Option<&'static [u8]>,
-    side: Option<&'static [u8]>,
-    one_byte: bool,
-    output: &'static [u8],
-    report: &'static [u8],
-    rows: &'static [Row],
+pub struct Table {
+    pub words: &'static str,
+    pub input: Option<&'static [u8]>,
+    pub side: Option<&'static [u8]>,
+    pub one_byte: bool,
+    pub output: &'static [u8],
+    pub report: &'static [u8],
+    pub rows: &'static [Row],
 }
 
 /// Of the worked restore.
@@ -283,7 +283,7 @@ fn assert_table(rt: &(impl Abort + AllocGlobal), table: &Table) -> Result<(), Fa
     Ok(())
 }
 
-fn assert_tables(rt: &(impl Abort + AllocGlobal), tables: &[Table]) -> Result<(), Fail> {
+pub fn assert_tables(rt: &(impl Abort + AllocGlobal), tables: &[Table]) -> Result<(), Fail> {
     for table in tables {
         assert_table(rt, table)?;
     }

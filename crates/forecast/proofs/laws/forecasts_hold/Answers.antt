@@ -1,17 +1,10 @@
-use Rattle.std.proofs.Common.{ℕ, suc, ◌<◌, ◌≤◌, length, arith}
-use Rattle.mask_update.specs.Histories.{History, robust_at}
-use Rattle.robust_window.specs.Histories.{level_at}
-use Rattle.robust_window.proofs.OfHistories.{IsLevel-level_at}
+use Rattle.std.proofs.Common.{suc, length, arith}
 use Rattle.packet_encode.proofs.Deliveries.{arrived-heard}
-use Rattle.forecast.proofs.Foresight.{mask_known, sure, written}
+use Rattle.forecast.proofs.Foresight.{at_least, mask_known, sure, written_sure}
 use Rattle.forecast.proofs.laws.forecasts_hold.Goals as goal
 
--- a level is at least the required robustness
-at_least : (h : History) (t : ℕ) → t < length h.steps → robust_at h t ≤ level_at h t
-at_least h t below = (IsLevel-level_at h t below).least
-
 pub returns-clause-written : goal.returns-clause-written
-returns-clause-written c = λ p h t foreseen below is. written p h foreseen (at_least h) (suc t) t (omega arith) below is
+returns-clause-written c = written_sure
 
 pub returns-clause-mask : goal.returns-clause-mask
 returns-clause-mask c = λ p h t foreseen below is. mask_known p h foreseen (at_least h) (suc t) t (omega arith) below is

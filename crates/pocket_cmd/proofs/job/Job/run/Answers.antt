@@ -3,6 +3,10 @@ use Rattle.flight_chain.specs.Compressing.{compress_course, stop_by as flight_st
 use Rattle.loss_player.specs.Playing.{play_course, stop_by as play_stop}
 use Rattle.ground_chain.specs.Listing.{listing_course}
 use Rattle.ground_chain.specs.Restoring.{restore_course, stop_by as restore_stop}
+use Rattle.forecast.specs.Outlooks.{foresees}
+use Rattle.forecast.specs.Texts.{forecast_text}
+use Rattle.param_table.specs.Faults.{stop_by as table_stop}
+use Rattle.param_table.specs.Tabling.{table_course}
 use Rattle.pocket_cmd.specs.Faults.{of_recording, of_store}
 use Rattle.pocket_cmd.proofs.Faults.{HasClassCause-stop, IsEnded-done, IsEnded-stop}
 use Rattle.pocket_cmd.proofs.Texts.{IsEnded-text, IsEnded-text_cut}
@@ -63,3 +67,23 @@ returns-in-Ok-write_text-clause-ran g c =
 pub returns-in-Err-write_text-clause-ran : goal.returns-in-Err-write_text-clause-ran
 returns-in-Err-write_text-clause-ran g c =
     rw c.in-Trial.is (IsEnded-text_cut c.in-Trial.text.items _ _ c.in-Err-write_text.ensures.front)
+
+pub returns-in-Ok-tabulate-clause-ran : goal.returns-in-Ok-tabulate-clause-ran
+returns-in-Ok-tabulate-clause-ran g c =
+    rw c.in-Table.is (IsEnded-done of_recording (table_course c.in-Table.tabler) _ _ c.in-Ok-tabulate.ensures.ran.ends)
+
+pub returns-in-Err-tabulate-clause-ran : goal.returns-in-Err-tabulate-clause-ran
+returns-in-Err-tabulate-clause-ran g c =
+    rw c.in-Table.is (IsEnded-stop of_recording (table_course c.in-Table.tabler) _ _ (table_stop c.in-Err-tabulate.fault) c.into-in-Err-tabulate.result c.in-Err-tabulate.ensures.ran c.into-in-Err-tabulate.ensures)
+
+pub returns-in-Err-tabulate-clause-cause : goal.returns-in-Err-tabulate-clause-cause
+returns-in-Err-tabulate-clause-cause g c =
+    HasClassCause-stop of_recording _ _ (table_stop c.in-Err-tabulate.fault) c.into-in-Err-tabulate.result c.in-Err-tabulate.ensures.cause c.into-in-Err-tabulate.ensures
+
+pub returns-in-Ok-write-clause-ran : goal.returns-in-Ok-write-clause-ran
+returns-in-Ok-write-clause-ran g c =
+    rw c.in-Forecast.is (IsEnded-text (forecast_text (foresees c.in-Forecast.forecast.outlook) c.in-Forecast.forecast.packets) _ _ c.in-Ok-write.ensures.added)
+
+pub returns-in-Err-write-clause-ran : goal.returns-in-Err-write-clause-ran
+returns-in-Err-write-clause-ran g c =
+    rw c.in-Forecast.is (IsEnded-text_cut (forecast_text (foresees c.in-Forecast.forecast.outlook) c.in-Forecast.forecast.packets) _ _ c.in-Err-write.ensures.front)

@@ -1,0 +1,256 @@
+//! Worked forecasts: of a thousand packets and of few, scripts and schedules that are refused, and a desk that fails.
+
+use super::desk::{
+    Case, Ending, assert_both, assert_ending, done, front, refused, with_both, words_alone,
+};
+use desk_ports::Call;
+use pocket_cmd::Refusal;
+use std::process::Abort;
+use std::test::Fail;
+
+/// The script is held as `a`, the schedule as `s`.
+const FOUR: &str = "forecast out=b packets=4 robust=1 plan=s script=a";
+
+/// A schedule and a script, the words, and the text that is written.
+struct Row {
+    words: &'static str,
+    plan: &'static str,
+    script: &'static str,
+    text: &'static str,
+}
+
+static FORECASTS: [Row; 9] = [
+    Row {
+        words: "forecast out=b packets=1000 robust=2 plan=s script=a",
+        plan: "20,999,20,p\n50,999,50,f\n100,999,100,r\n",
+        script: "drop,10,10,1\ndrop,50,51,1\ndrop,190,194,1\ndrop,205,207,1\nrepeat,300,309,1,2\n\
+            drop,530,533,1\ndrop,999,999,1\n",
+        text: "first,last,state\n0,9,sure\n10,10,lost\n11,49,sure\n50,51,lost\n52,189,sure\n\
+            190,194,lost\n195,199,open\n200,204,sure\n205,207,lost\n208,299,open\n300,529,sure\n\
+            530,533,lost\n534,599,open\n600,998,sure\n999,999,lost\ngaps,0,6\nend,1000,821\n",
+    },
+    Row {
+        words: FOUR,
+        plan: "",
+        script: "",
+        text: "first,last,state\n0,3,sure\ngaps,0,1\nend,4,4\n",
+    },
+    // Nothing is delivered.
+    Row {
+        words: FOUR,
+        plan: "0,9,1,fr",
+        script: "drop,0,9,1",
+        text: "first,last,state\n0,3,lost\ngaps,-,0\nend,4,0\n",
+    },
+    // The first two are forced, and the loss of both leaves nothing sure.
+    Row {
+        words: FOUR,
+        plan: "",
+        script: "drop,0,1,1",
+        text: "first,last,state\n0,1,lost\n2,3,open\ngaps,2,1\nend,4,0\n",
+    },
+    Row {
+        words: "forecast out=b packets=1 robust=0 plan=s script=a",
+        plan: "",
+        script: "repeat,0,0,1,8",
+        text: "first,last,state\n0,0,sure\ngaps,0,0\nend,1,1\n",
+    },
+    // Whole content and no mask: the packet is sure, and the next one is not.
+    Row {
+        words: "forecast out=b packets=6 robust=0 plan=s script=a",
+        plan: "3,3,1,r\n5,5,1,f",
+        script: "drop,1,2,1",
+        text: "first,last,state\n0,0,sure\n1,2,lost\n3,3,sure\n4,5,open\ngaps,0,3\nend,6,2\n",
+    },
+    // The mask two packets after it: the content reaches no further.
+    Row {
+        words: "forecast out=b packets=6 robust=0 plan=s script=a",
+        plan: "3,3,1,r\n4,4,1,f",
+        script: "drop,1,2,1",
+        text: "first,last,state\n0,0,sure\n1,2,lost\n3,5,sure\ngaps,0,3\nend,6,4\n",
+    },
+    // The last row that names a packet decides, of the required robustness and of the copies.
+    Row {
+        words: "forecast out=b packets=6 robust=0 plan=s script=a",
+        plan: "robust,0,9,1,7\nrobust,0,9,3,0",
+        script: "drop,1,4,1\nrepeat,2,2,2,1",
+        text: "first,last,state\n0,0,sure\n1,1,lost\n2,2,sure\n3,4,lost\n5,5,sure\ngaps,0,3\nend,6,3\n",
+    },
+    // No row is about these packets.
+    Row {
+        words: "forecast out=b packets=2 robust=7 plan=s script=a",
+        plan: "8,4294967295,1,p\nrobust,9,9,1,0",
+        script: "drop,2,4294967295,4294967295",
+        text: "first,last,state\n0,1,sure\ngaps,0,1\nend,2,2\n",
+    },
+];
+
+#[test]
+fn forecasts(rt: HostRuntime) -> Result<(), Fail> {
+    for row in &FORECASTS {
+        let case = with_both(row.words, row.script.as_bytes(), row.plan.as_bytes());
+        assert_both(&rt, case, &done(row.text.as_bytes(), &[]))?;
+    }
+    Ok(())
+}
+
+/// A schedule, a script, and what is answered to them.
+static REFUSED: [(&str, &str, Refusal); 9] = [
+    ("", "drop,0,3", Refusal::BadScript { row: 1 }),
+    ("", "drop,0,3,1\nDrop,0,3,1", Refusal::BadScript { row: 2 }),
+    ("", "repeat,0,3,1,9", Refusal::BadScript { row: 1 }),
+    ("", "0,3,1,p", Refusal::BadScript { row: 1 }),
+    ("drop,0,3,1", "", Refusal::BadSide { row: 1 }),
+    ("0,3,1,p\n3,0,1,p", "", Refusal::BadSide { row: 2 }),
+    // What is wrong with the schedule is said first.
+    ("0,3,1,P", "drop,0,3", Refusal::BadSide { row: 1 }),
+    ("robust,0,9,1,8", "Drop", Refusal::BadSide { row: 1 }),
+    ("0,3,1", "drop,0,3", Refusal::BadSide { row: 1 }),
+];
+
+/// No output is opened.
+static NO_OUTPUT: [(Call, u32); 1] = [(Call::OpenOut, 1)];
+
+/// No output is opened, and neither is the script.
+static NO_SCRIPT: [(Call, u32); 2] = [(Call::OpenIn, 2), (Call::OpenOut, 1)];
+
+#[test]
+fn refusals(rt: HostRuntime) -> Result<(), Fail> {
+    for (plan, script, refusal) in &REFUSED {
+        let case = Case {
+            fails: &NO_OUTPUT,
+            ..with_both(FOUR, script.as_bytes(), plan.as_bytes())
+        };
+        assert_ending(&rt, &case, &refused(*refusal, &[], &[]))?;
+    }
+    Ok(())
+}
+
+/// Refused before the script is opened, and without one.
+fn assert_first(
+    rt: &(impl Abort + AllocGlobal),
+    plan: &[u8],
+    script: &[u8],
+    refusal: Refusal,
+) -> Result<(), Fail> {
+    let case = Case {
+        fails: &NO_SCRIPT,
+        ..with_both(FOUR, script, plan)
+    };
+    assert_ending(rt, &case, &refused(refusal, &[], &[]))?;
+    let without = Case {
+        input: None,
+        ..case
+    };
+    assert_ending(rt, &without, &refused(refusal, &[], &[]))
+}
+
+/// Refused before an output is opened.
+fn assert_script(
+    rt: &(impl Abort + AllocGlobal),
+    plan: &[u8],
+    script: &[u8],
+    refusal: Refusal,
+) -> Result<(), Fail> {
+    let case = Case {
+        fails: &NO_OUTPUT,
+        ..with_both(FOUR, script, plan)
+    };
+    assert_ending(rt, &case, &refused(refusal, &[], &[]))
+}
+
+#[test]
+fn texts_of_the_most_bytes(rt: HostRuntime) -> Result<(), Fail> {
+    let lines = vec![in rt.alloc(); b'\n'; 1_048_577]?;
+    let letters = vec![in rt.alloc(); b'p'; 1_048_577]?;
+    let sure = done(b"first,last,state\n0,3,sure\ngaps,0,1\nend,4,4\n", &[]);
+    assert_ending(&rt, &with_both(FOUR, &lines[1..], &lines[1..]), &sure)?;
+    assert_script(&rt, b"", &lines, Refusal::ScriptTooLong)?;
+    assert_script(&rt, b"", &letters, Refusal::ScriptTooLong)?;
+    assert_script(&rt, b"", &letters[1..], Refusal::BadScript { row: 1 })?;
+    assert_first(&rt, &lines, &lines, Refusal::SideTooLong)?;
+    assert_first(&rt, b"0,3,1", &lines, Refusal::BadSide { row: 1 })
+}
+
+#[test]
+fn schedules_before_scripts(rt: HostRuntime) -> Result<(), Fail> {
+    assert_first(&rt, b"0,3,1", b"drop,0,3,1", Refusal::BadSide { row: 1 })?;
+    let no_script = Case {
+        input: None,
+        side: Some(b""),
+        fails: &NO_OUTPUT,
+        ..words_alone(FOUR)
+    };
+    assert_ending(&rt, &no_script, &refused(Refusal::ReadFault, &[], &[]))?;
+    let no_plan = Case {
+        fails: &NO_OUTPUT,
+        ..words_alone(FOUR)
+    };
+    assert_ending(&rt, &no_plan, &refused(Refusal::ReadFault, &[], &[]))
+}
+
+const PLAN: &[u8] = b"3,3,1,fr";
+
+const SCRIPT: &[u8] = b"drop,2,2,1";
+
+/// The lines end at the bytes 17, 26, 35, 44, 53 and 61.
+const TEXT: &[u8] = b"first,last,state\n0,1,sure\n2,2,lost\n3,3,sure\ngaps,0,2\nend,4,3\n";
+
+/// How a run ends: all was done, reading failed, or writing failed after so many bytes.
+#[derive(Clone, Copy)]
+enum End {
+    Done,
+    Unread,
+    Unwritten(usize),
+}
+
+fn ending(end: End) -> Ending<'static> {
+    match end {
+        End::Done => done(TEXT, &[]),
+        End::Unread => refused(Refusal::ReadFault, &[], &[]),
+        End::Unwritten(written) => refused(Refusal::WriteFault, front(TEXT, written), &[]),
+    }
+}
+
+/// The calls that fail, whether a call moves one byte at most, and how the run then ends.
+static FAULTS: [(&[(Call, u32)], bool, End); 24] = [
+    (&[(Call::OpenIn, 1), (Call::OpenOut, 1)], false, End::Unread),
+    (&[(Call::OpenIn, 2), (Call::OpenOut, 1)], false, End::Unread),
+    (&[(Call::OpenIn, 3)], false, End::Done),
+    // Two readings of the schedule, and two of the script.
+    (&[(Call::Read, 1), (Call::OpenIn, 2)], false, End::Unread),
+    (&[(Call::Read, 2), (Call::OpenIn, 2)], false, End::Unread),
+    (&[(Call::Read, 3), (Call::OpenOut, 1)], false, End::Unread),
+    (&[(Call::Read, 4), (Call::OpenOut, 1)], false, End::Unread),
+    (&[(Call::Read, 5)], false, End::Done),
+    (&[(Call::Read, 9), (Call::OpenIn, 2)], true, End::Unread),
+    (&[(Call::Read, 20), (Call::OpenOut, 1)], true, End::Unread),
+    (&[(Call::Read, 21)], true, End::Done),
+    (&[(Call::OpenOut, 1)], false, End::Unwritten(0)),
+    (&[(Call::OpenOut, 2)], false, End::Done),
+    (&[(Call::Write, 1)], false, End::Unwritten(0)),
+    (&[(Call::Write, 2)], false, End::Unwritten(17)),
+    (&[(Call::Write, 3)], false, End::Unwritten(26)),
+    (&[(Call::Write, 4)], false, End::Unwritten(35)),
+    // The last two lines are one piece.
+    (&[(Call::Write, 5)], false, End::Unwritten(44)),
+    (&[(Call::Write, 6)], false, End::Done),
+    (&[(Call::Write, 20)], true, End::Unwritten(19)),
+    (&[(Call::Write, 61)], true, End::Unwritten(60)),
+    (&[(Call::Write, 62)], true, End::Done),
+    (&[(Call::Finish, 1)], false, End::Unwritten(61)),
+    (&[(Call::Finish, 2)], false, End::Done),
+];
+
+#[test]
+fn a_forecast_at_each_fault(rt: HostRuntime) -> Result<(), Fail> {
+    for (fails, one_byte, end) in &FAULTS {
+        let case = Case {
+            one_byte: *one_byte,
+            fails,
+            ..with_both(FOUR, SCRIPT, PLAN)
+        };
+        assert_ending(&rt, &case, &ending(*end))?;
+    }
+    Ok(())
+}

@@ -1,0 +1,239 @@
+//! Schedules, scripts and recordings that are drawn: a forecast is what the definition says, packet by packet, and
+//! what it calls sure is written.
+
+use super::desk::{answer, hold};
+use desk_ports::MemDesk;
+use pocket_cmd::Status;
+use side_tables::{Schedule, Script};
+use std::alloc::{AllocError, Global};
+use std::process::Abort;
+use std::test::Fail;
+
+/// How many packets there are.
+const PACKETS: u32 = 40;
+
+/// The required robustness of packets to which the schedule gives none.
+const ROBUST: u8 = 1;
+
+const FORECAST: &str = "forecast out=forecast packets=40 robust=1 plan=plan script=script";
+
+/// What is done with a recording, so that the last one lists what was written.
+static COMMANDS: [&str; 3] = [
+    "compress in=recording plan=plan out=store apid=100 bits=8 robust=1",
+    "play in=store script=script out=played report=report apid=100",
+    "show in=played out=listing apid=100 bits=8",
+];
+
+/// Numbers that are drawn one after another.
+#[derive(Clone, Copy)]
+struct Draws {
+    state: u32,
+}
+
+impl Draws {
+    /// The next number, below a bound.
+    fn below(&mut self, bound: u32) -> u32 {
+        self.state = self
+            .state
+            .wrapping_mul(1_664_525)
+            .wrapping_add(1_013_904_223);
+        (self.state >> 8).checked_rem(bound).unwrap_or(0)
+    }
+}
+
+/// A schedule of a few rows of both kinds.
+fn plan_of(alloc: Global, draws: &mut Draws) -> Result<String, Fail> {
+    let mut text = String::new(alloc);
+    for _ in 0..draws.below(8) {
+        let first = draws.below(40);
+        let last = first.saturating_add(draws.below(40));
+        let step = draws.below(9).saturating_add(1);
+        let line = match draws.below(5) {
+            0 => format!(in alloc; "robust,{first},{last},{step},{}\n", draws.below(8))?,
+            1 => format!(in alloc; "{first},{last},{step},r\n")?,
+            2 => format!(in alloc; "{first},{last},{step},f\n")?,
+            3 => format!(in alloc; "{first},{last},{step},p\n")?,
+            _ => format!(in alloc; "{first},{last},{step},prf\n")?,
+        };
+        text.push_str(&line)?;
+    }
+    Ok(text)
+}
+
+/// A script of a few rows of both kinds.
+fn script_of(alloc: Global, draws: &mut Draws) -> Result<String, Fail> {
+    let mut text = String::new(alloc);
+    for _ in 0..draws.below(8) {
+        let first = draws.below(40);
+        let last = first.saturating_add(draws.below(12));
+        let step = draws.below(4).saturating_add(1);
+        let line = match draws.below(3) {
+            0 => format!(in alloc; "repeat,{first},{last},{step},{}\n", draws.below(8).saturating_add(1))?,
+            _ => format!(in alloc; "drop,{first},{last},{step}\n")?,
+        };
+        text.push_str(&line)?;
+    }
+    Ok(text)
+}
+
+/// Packets of one byte, in which few places change.
+fn recording_of(alloc: Global, draws: &mut Draws) -> Result<Vec<u8>, AllocError> {
+    let mut bytes = Vec::new(alloc);
+    let mut byte = 0;
+    for _ in 0..PACKETS {
+        if draws.below(3) == 0 {
+            byte ^= 1u8 << draws.below(8);
+        }
+        bytes.push(byte)?;
+    }
+    Ok(bytes)
+}
+
+/// A packet's number, the latest number before it that passed, and how far a packet reaches.
+fn is_reached(t: u32, latest: Option<u32>, robust: u8) -> bool {
+    match latest {
+        None => false,
+        Some(latest) => t.saturating_sub(1).saturating_sub(latest) <= u32::from(robust),
+    }
+}
+
+/// What becomes of each packet, by the rows that name it, one after another.
+fn states_of(
+    alloc: Global,
+    plan: &Schedule,
+    script: &Script,
+) -> Result<Vec<&'static str>, AllocError> {
+    let mut states = Vec::new(alloc);
+    let (mut latest_mask, mut latest) = (None, None);
+    for t in 0..PACKETS {
+        let robust = plan.robust(t).unwrap_or(ROBUST);
+        let forced = t <= u32::from(robust);
+        let arrives = 0 < script.times(t);
+        let mask = arrives
+            && (forced || plan.flags(t).f || is_reached(t, latest_mask, robust));
+        let sure = arrives
+            && (forced || plan.flags(t).r || mask && is_reached(t, latest, robust));
+        if mask {
+            latest_mask = Some(t);
+        }
+        if sure {
+            latest = Some(t);
+        }
+        states.push(state_by(arrives, sure))?;
+    }
+    Ok(states)
+}
+
+fn state_by(arrives: bool, sure: bool) -> &'static str {
+    match (arrives, sure) {
+        (false, _) => "lost",
+        (true, true) => "sure",
+        (true, false) => "open",
+    }
+}
+
+/// The first of the packets from this number on, and the state of the packet before it, if that has another one.
+fn ends_before(states: &[&'static str], t: usize) -> bool {
+    match (states.get(t.wrapping_sub(1)), states.get(t)) {
+        (Some(one), Some(other)) => one != other,
+        _ => true,
+    }
+}
+
+/// The lines of the states' runs, and their header.
+fn lines_of(alloc: Global, states: &[&'static str]) -> Result<String, Fail> {
+    let mut text = String::from_str(alloc, "first,last,state\n")?;
+    let mut first = 0;
+    for (t, state) in states.iter().enumerate() {
+        if ends_before(states, t) {
+            first = t;
+        }
+        if ends_before(states, t.wrapping_add(1)) {
+            text.push_str(&format!(in alloc; "{first},{t},{state}\n")?)?;
+        }
+    }
+    Ok(text)
+}
+
+/// Does what the words say, which must end well.
+fn assert_done(
+    rt: &(impl Abort + AllocGlobal),
+    words: &str,
+    desk: &mut MemDesk,
+) -> Result<(), Fail> {
+    let status = answer(rt.alloc(), words, desk)?;
+    assert_eq!(rt; status, Status::Done, "{words}");
+    Ok(())
+}
+
+/// A desk with what was drawn.
+fn desk_of(alloc: Global, plan: &str, script: &str, recording: &[u8]) -> Result<MemDesk, Fail> {
+    let mut desk = MemDesk::new(alloc);
+    hold(&mut desk, "plan", plan.as_bytes())?;
+    hold(&mut desk, "script", script.as_bytes())?;
+    hold(&mut desk, "recording", recording)?;
+    Ok(desk)
+}
+
+/// The number of a packet, if the line of a listing says that it was written.
+fn number_written(line: &str) -> Option<usize> {
+    let mut words = line.split(' ');
+    let number = words.next()?;
+    if words.next()? != "written" {
+        return None;
+    }
+    number.parse().ok()
+}
+
+/// The numbers of the packets that were written, by a listing.
+fn written_by(alloc: Global, listing: &str) -> Result<Vec<usize>, AllocError> {
+    let mut numbers = Vec::new(alloc);
+    for line in listing.lines() {
+        if let Some(number) = number_written(line) {
+            numbers.push(number)?;
+        }
+    }
+    Ok(numbers)
+}
+
+/// Each packet that is sure is written.
+fn assert_written(rt: &impl Abort, states: &[&'static str], written: &[usize]) {
+    for (t, state) in states.iter().enumerate() {
+        if *state == "sure" {
+            assert!(rt; written.contains(&t), "{t} in {written:?}");
+        }
+    }
+}
+
+/// What is forecast begins with the lines of the definition, and what it calls sure is written of the recording.
+fn assert_foreseen(rt: &(impl Abort + AllocGlobal), seed: u32) -> Result<(), Fail> {
+    let alloc = rt.alloc();
+    let mut draws = Draws { state: seed };
+    let plan = plan_of(alloc, &mut draws)?;
+    let script = script_of(alloc, &mut draws)?;
+    let recording = recording_of(alloc, &mut draws)?;
+    let mut desk = desk_of(alloc, &plan, &script, &recording)?;
+    assert_done(rt, FORECAST, &mut desk)?;
+    let states = states_of(
+        alloc,
+        &Schedule::read(alloc, plan.as_bytes())?,
+        &Script::read(alloc, script.as_bytes())?,
+    )?;
+    let lines = lines_of(alloc, &states)?;
+    let text = str::from_utf8(desk.get("forecast")).unwrap_or("");
+    assert!(rt; text.starts_with(lines.as_str()), "{plan}\n{script}\n{text}\n{lines}");
+    for words in &COMMANDS {
+        assert_done(rt, words, &mut desk)?;
+    }
+    let listing = str::from_utf8(desk.get("listing")).unwrap_or("");
+    assert_written(rt, &states, &written_by(alloc, listing)?);
+    Ok(())
+}
+
+#[test]
+fn what_is_sure_is_written(rt: HostRuntime) -> Result<(), Fail> {
+    for seed in 0..20u32 {
+        assert_foreseen(&rt, seed.wrapping_mul(2_654_435_761))?;
+    }
+    Ok(())
+}

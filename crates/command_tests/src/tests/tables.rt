@@ -1,0 +1,323 @@
+//! Tables of worked recordings, the rules of their side texts, and what stands if a call fails.
+
+use super::desk::{
+    Case, answer, assert_both, assert_ending, bytes_of, done, hold, refused, with_both, words_alone,
+};
+use super::faults::{End, Table, assert_tables};
+use desk_ports::{Call, MemDesk};
+use pocket_cmd::{Refusal, Status};
+use std::alloc::{AllocError, Global};
+use std::test::Fail;
+
+const SIXTEEN_BITS: &str = "table in=a out=b report=c fields=s bits=16";
+
+const THIRTEEN_BITS: &str = "table bits=13 fields=s report=c out=b in=a";
+
+const WIDE: &str = "table in=a out=b report=c fields=s bits=64";
+
+const LONG: &str = "table in=a out=b report=c fields=s bits=136";
+
+const FIELDS: &str = "field,0,8,u,mode\nfield,8,8,s,temp\nlimit,temp,-10,40\n";
+
+const RECORDING: &[u8] = &[0x01, 0xF0, 0x02, 0x28];
+
+const TABLE: &str = "t,mode,temp\n0,1,-16\n1,2,40\n";
+
+const REPORT: &str = "t,name,value,low,high\n0,temp,-16,-10,40\nend,2,1\n";
+
+/// Words, a side text, a recording in hexadecimal, its table and its report.
+static WHOLE: [(&str, &str, &str, &str, &str); 10] = [
+    (SIXTEEN_BITS, FIELDS, "01 F0 02 28", TABLE, REPORT),
+    (
+        SIXTEEN_BITS,
+        FIELDS,
+        "",
+        "t,mode,temp\n",
+        "t,name,value,low,high\nend,0,0\n",
+    ),
+    // No field.
+    (
+        SIXTEEN_BITS,
+        "\n",
+        "01 F0 02 28",
+        "t\n0\n1\n",
+        "t,name,value,low,high\nend,2,0\n",
+    ),
+    // A value at its limit is within it, and one beside it is not.
+    (
+        SIXTEEN_BITS,
+        "field,0,16,u,a\nlimit,a,1,3",
+        "00 00 00 01 00 03 00 04",
+        "t,a\n0,0\n1,1\n2,3\n3,4\n",
+        "t,name,value,low,high\n0,a,0,1,3\n3,a,4,1,3\nend,4,2\n",
+    ),
+    // By packet and then by field, whatever the order of the limits is.
+    (
+        SIXTEEN_BITS,
+        "field,0,1,u,a\nfield,1,1,s,b\nfield,0,2,s,c\nlimit,c,0,1\nlimit,b,0,0\nlimit,a,1,1\n",
+        "40 00 80 00",
+        "t,a,b,c\n0,0,-1,1\n1,1,0,-2\n",
+        "t,name,value,low,high\n0,a,0,1,1\n0,b,-1,0,0\n1,c,-2,0,1\nend,2,3\n",
+    ),
+    // The least and the greatest numbers, within the widest limits and beside narrower ones.
+    (
+        WIDE,
+        "field,0,64,u,U\nfield,0,64,s,S\nlimit,U,0,18446744073709551615\n\
+            limit,S,-9223372036854775808,9223372036854775807\n",
+        "FF FF FF FF FF FF FF FF 80 00 00 00 00 00 00 00 7F FF FF FF FF FF FF FF",
+        "t,U,S\n0,18446744073709551615,-1\n1,9223372036854775808,-9223372036854775808\n\
+            2,9223372036854775807,9223372036854775807\n",
+        "t,name,value,low,high\nend,3,0\n",
+    ),
+    (
+        WIDE,
+        "field,0,64,u,U\nfield,0,64,s,S\nlimit,U,1,18446744073709551614\n\
+            limit,S,-9223372036854775807,9223372036854775806\n",
+        "FF FF FF FF FF FF FF FF 80 00 00 00 00 00 00 00 7F FF FF FF FF FF FF FF",
+        "t,U,S\n0,18446744073709551615,-1\n1,9223372036854775808,-9223372036854775808\n\
+            2,9223372036854775807,9223372036854775807\n",
+        "t,name,value,low,high\n0,U,18446744073709551615,1,18446744073709551614\n\
+            1,S,-9223372036854775808,-9223372036854775807,9223372036854775806\n\
+            2,S,9223372036854775807,-9223372036854775807,9223372036854775806\nend,3,3\n",
+    ),
+    // Fields over the places 64 and 128, and one that ends at the last place.
+    (
+        LONG,
+        "field,60,8,u,a\nfield,60,64,s,b\nfield,127,2,s,c\nfield,72,64,u,d\n",
+        "00 00 00 00 00 00 00 0A 50 00 00 00 00 00 00 01 80",
+        "t,a,b,c,d\n0,165,-6557241057451442176,-1,384\n",
+        "t,name,value,low,high\nend,1,0\n",
+    ),
+    (
+        THIRTEEN_BITS,
+        "field,0,13,u,all\nfield,12,1,s,last\n",
+        "12 38 12 38",
+        "t,all,last\n0,583,-1\n1,583,-1\n",
+        "t,name,value,low,high\nend,2,0\n",
+    ),
+    // Quotes, and lines with no record.
+    (
+        SIXTEEN_BITS,
+        "\u{feff}\n\n\"field\",15,\"1\",s,Z_9\r\n\nlimit,Z_9,0,\"0\"",
+        "00 01",
+        "t,Z_9\n0,-1\n",
+        "t,name,value,low,high\n0,Z_9,-1,0,0\nend,1,1\n",
+    ),
+];
+
+/// Recordings of packets of 13 bits in hexadecimal, the refusal, and the lines that stand before it.
+static FAULTY: [(&str, Refusal, &str); 3] = [
+    ("12", Refusal::CutRecord { t: 0 }, "t,all\n"),
+    ("12 38 12", Refusal::CutRecord { t: 1 }, "t,all\n0,583\n"),
+    (
+        "12 38 12 34 12 38",
+        Refusal::SpareBit { t: 1 },
+        "t,all\n0,583\n",
+    ),
+];
+
+/// Side texts for packets of 16 bits that are right.
+static RIGHT: [&str; 6] = [
+    "field,0,16,u,a\nlimit,a,-10,40\n",
+    "field,0,1,u,abcdefghijklmnopqrstuvwxyz_01234",
+    "field,0,1,u,x\nfield,1,1,u,X\n",
+    "field,0,1,u,x\nlimit,x,-2,-1\n",
+    "field,0,1,u,x\nlimit,x,0,0\n",
+    "field,0,1,u,x\nlimit,x,-9223372036854775808,18446744073709551615\n",
+];
+
+/// Side texts for packets of 16 bits, and the first row of each that is wrong.
+static WRONG: [(&str, u32); 42] = [
+    ("field,9,8,u,x\n", 1),
+    ("field,16,1,u,x\n", 1),
+    ("field,0,0,u,x\n", 1),
+    ("field,0,17,u,x\n", 1),
+    ("field,00,1,u,x\n", 1),
+    ("field,0,+1,u,x\n", 1),
+    ("field,-0,1,u,x\n", 1),
+    ("field,99999999999999999999,1,u,x\n", 1),
+    ("field,0,99999999999999999999,u,x\n", 1),
+    ("field,0,1,x,x\n", 1),
+    ("field,0,1,,x\n", 1),
+    ("field,0,1,us,x\n", 1),
+    ("field,0,1,U,x\n", 1),
+    ("field,0,1,u,\n", 1),
+    ("field,0,1,u,9x\n", 1),
+    ("field,0,1,u,_x\n", 1),
+    ("field,0,1,u,x-y\n", 1),
+    ("field,0,1,u,\u{e9}\n", 1),
+    ("field,0,1,u,abcdefghijklmnopqrstuvwxyz_012345\n", 1),
+    ("field,0,1,u\n", 1),
+    ("field,0,1,u,x,y\n", 1),
+    ("Field,0,1,u,x\n", 1),
+    ("bits,0,1,u,x\n", 1),
+    ("field,0,1,u,x\n,\n", 2),
+    ("field,0,1,u,x\n\nfield,1,1,u,x\n", 2),
+    ("limit,x,0,1\nfield,0,1,u,x\n", 1),
+    ("field,0,1,u,x\nlimit,y,0,1\n", 2),
+    ("field,0,1,u,x\nlimit,x,0,1\nlimit,x,0,1\n", 3),
+    ("field,0,1,u,x\nlimit,x,1,0\n", 2),
+    ("field,0,1,u,x\nlimit,x,-1,-2\n", 2),
+    ("field,0,1,u,x\nlimit,x,-0,0\n", 2),
+    ("field,0,1,u,x\nlimit,x,-05,7\n", 2),
+    ("field,0,1,u,x\nlimit,x,05,7\n", 2),
+    ("field,0,1,u,x\nlimit,x,+5,7\n", 2),
+    ("field,0,1,u,x\nlimit,x,5,\n", 2),
+    ("field,0,1,u,x\nlimit,x,-,7\n", 2),
+    ("field,0,1,u,x\nlimit,x,1 ,7\n", 2),
+    ("field,0,1,u,x\nlimit,x,5\n", 2),
+    ("field,0,1,u,x\nlimit,x,5,7,9\n", 2),
+    ("field,0,1,u,x\nlimit,x,-9223372036854775809,0\n", 2),
+    ("field,0,1,u,x\nlimit,x,0,18446744073709551616\n", 2),
+    ("field,0,1,u,x\nlimit,x,-99999999999999999999999,0\n", 2),
+];
+
+/// Lines of words, and the place of the first wrong word in each.
+static WRONG_WORDS: [(&str, u32); 17] = [
+    ("table", 1),
+    ("table out=b report=c fields=s bits=8", 5),
+    ("table in=a report=c fields=s bits=8", 5),
+    ("table in=a out=b fields=s bits=8", 5),
+    ("table in=a out=b report=c bits=8", 5),
+    ("table in=a out=b report=c fields=s", 5),
+    ("table in=a out=b report=c fields=s bits=8 apid=1", 6),
+    ("table in=a out=b report=c fields=s bits=8 plan=p", 6),
+    ("table bits=0", 1),
+    ("table bits=49153", 1),
+    ("table bits=08", 1),
+    ("table fields=", 1),
+    ("table in=a fields=a out=b report=c bits=8", 2),
+    ("table in=a fields=s out=s report=c bits=8", 3),
+    ("table in=a fields=s out=b report=b bits=8", 4),
+    ("table in=- fields=- out=b report=c bits=8", 2),
+    ("restore fields=s", 1),
+];
+
+/// The calls that fail: the two lines that come first have 12 and 22 bytes, packet 0 a line of 8 and a row of 18, packet 1
+/// a line of 7, and the last row has 8.
+static FAILING: [Table; 2] = [
+    Table {
+        words: SIXTEEN_BITS,
+        input: Some(RECORDING),
+        side: Some(FIELDS.as_bytes()),
+        one_byte: false,
+        output: TABLE.as_bytes(),
+        report: REPORT.as_bytes(),
+        rows: &[
+            (&[(Call::OpenIn, 1), (Call::OpenOut, 1)], End::Unread(0, 0)),
+            (&[(Call::OpenIn, 2), (Call::OpenOut, 1)], End::Unread(0, 0)),
+            (&[(Call::OpenIn, 3)], End::Done),
+            (&[(Call::OpenOut, 1)], End::Unwritten(0, 0)),
+            (&[(Call::OpenOut, 2)], End::Unwritten(0, 0)),
+            (&[(Call::OpenOut, 3)], End::Done),
+            (&[(Call::Read, 1), (Call::OpenOut, 1)], End::Unread(0, 0)),
+            (&[(Call::Read, 2), (Call::OpenOut, 1)], End::Unread(0, 0)),
+            (&[(Call::Read, 3)], End::Unread(12, 22)),
+            (&[(Call::Read, 4)], End::Unread(27, 40)),
+            (&[(Call::Read, 5)], End::Done),
+            (&[(Call::Write, 1)], End::Unwritten(0, 0)),
+            (&[(Call::Write, 2)], End::Unwritten(12, 0)),
+            (&[(Call::Write, 3)], End::Unwritten(12, 22)),
+            (&[(Call::Write, 4)], End::Unwritten(20, 22)),
+            (&[(Call::Write, 5)], End::Unwritten(20, 40)),
+            (&[(Call::Write, 6)], End::Unwritten(27, 40)),
+            (&[(Call::Write, 7)], End::Done),
+            (&[(Call::Finish, 1)], End::Unwritten(27, 48)),
+            (&[(Call::Finish, 2)], End::HalfKept),
+            (&[(Call::Finish, 3)], End::Done),
+        ],
+    },
+    Table {
+        words: SIXTEEN_BITS,
+        input: Some(RECORDING),
+        side: Some(FIELDS.as_bytes()),
+        one_byte: true,
+        output: TABLE.as_bytes(),
+        report: REPORT.as_bytes(),
+        rows: &[
+            (&[(Call::Write, 12)], End::Unwritten(11, 0)),
+            (&[(Call::Write, 34)], End::Unwritten(12, 21)),
+            (&[(Call::Write, 42)], End::Unwritten(19, 22)),
+            (&[(Call::Write, 60)], End::Unwritten(20, 39)),
+            (&[(Call::Write, 67)], End::Unwritten(26, 40)),
+            (&[(Call::Write, 75)], End::Unwritten(27, 47)),
+            (&[(Call::Write, 76)], End::Done),
+        ],
+    },
+];
+
+#[test]
+fn tables(rt: HostRuntime) -> Result<(), Fail> {
+    for (words, fields, recording, table, report) in &WHOLE {
+        let recording = bytes_of(rt.alloc(), recording)?;
+        let case = with_both(words, &recording, fields.as_bytes());
+        assert_both(&rt, case, &done(table.as_bytes(), report.as_bytes()))?;
+    }
+    for (recording, refusal, table) in &FAULTY {
+        let recording = bytes_of(rt.alloc(), recording)?;
+        let case = with_both(THIRTEEN_BITS, &recording, b"field,0,13,u,all");
+        let wanted = refused(*refusal, table.as_bytes(), b"t,name,value,low,high\n");
+        assert_both(&rt, case, &wanted)?;
+    }
+    Ok(())
+}
+
+#[test]
+fn tables_at_each_fault(rt: HostRuntime) -> Result<(), Fail> {
+    assert_tables(&rt, &FAILING)
+}
+
+/// No other input and no output is opened.
+static NOTHING_ELSE: [(Call, u32); 2] = [(Call::OpenIn, 2), (Call::OpenOut, 1)];
+
+/// A side text that is refused.
+fn refused_text(text: &[u8]) -> Case<'_> {
+    Case {
+        fails: &NOTHING_ELSE,
+        ..with_both(SIXTEEN_BITS, &[], text)
+    }
+}
+
+/// A text with so many fields of one bit.
+fn many_fields(alloc: Global, count: u32) -> Result<String, AllocError> {
+    let mut text = String::new(alloc);
+    for number in 0..count {
+        let row = format!(in alloc; "field,{},1,u,n{number}\n", number % 16)?;
+        text.push_str(&row)?;
+    }
+    Ok(text)
+}
+
+/// What is answered to a text with a recording of no bytes.
+fn answer_of(alloc: Global, text: &str) -> Result<Status, Fail> {
+    let mut desk = MemDesk::new(alloc);
+    hold(&mut desk, "a", &[])?;
+    hold(&mut desk, "s", text.as_bytes())?;
+    Ok(answer(alloc, SIXTEEN_BITS, &mut desk)?)
+}
+
+#[test]
+fn rules_of_fields(rt: HostRuntime) -> Result<(), Fail> {
+    for text in &RIGHT {
+        assert_eq!(rt; answer_of(rt.alloc(), text)?, Status::Done, "{text}");
+    }
+    for (text, row) in &WRONG {
+        let wanted = refused(Refusal::BadSide { row: *row }, &[], &[]);
+        assert_ending(&rt, &refused_text(text.as_bytes()), &wanted)?;
+    }
+    let most = many_fields(rt.alloc(), 256)?;
+    assert_eq!(rt; answer_of(rt.alloc(), &most)?, Status::Done);
+    let more = many_fields(rt.alloc(), 257)?;
+    let refusal = Refusal::BadSide { row: 257 };
+    assert_eq!(rt; answer_of(rt.alloc(), &more)?, Status::Refused(refusal));
+    Ok(())
+}
+
+#[test]
+fn words_of_tables(rt: HostRuntime) -> Result<(), Fail> {
+    for (line, word) in &WRONG_WORDS {
+        let wanted = refused(Refusal::BadWords { word: *word }, &[], &[]);
+        assert_ending(&rt, &words_alone(line), &wanted)?;
+    }
+    Ok(())
+}

@@ -1,0 +1,77 @@
+-- The held arrivals, judged one after another.
+use Rattle.std.proofs.Common.{◌≡◌, ℕ, ◌+◌, ◌<◌, ◌≤◌, List, [], ◌∷◌, ◌++◌, length, take, refl, sym, ap, ◌∙◌, subst, append_assoc, append-nil, length-append, arith}
+use Rattle.std.proofs.lemmas.List.{nil_from_length}
+use Rattle.desk_ports.specs.Meanings.{Meanings}
+use Rattle.desk_ports.specs.Courses.{put}
+use Rattle.desk_ports.specs.Turns.{Wrote, WroteFront}
+use Rattle.desk_ports.proofs.Runs.{Ran-none}
+use Rattle.ground_chain.specs.Reckoning.{Reckoning}
+use Rattle.late_window.specs.declared.late.LateArrivals.{LateArrivals}
+use Rattle.late_window.specs.Numbers.{Numbered}
+use Rattle.late_window.specs.Lines.{Line, given_up, without_first}
+use Rattle.late_window.specs.Late.{AreJudged, held_parts}
+use Rattle.late_window.proofs.Judgings.{AreJudged-none, AreJudged-then, Wrote-then, WroteFront-more, WroteFront-next, held_parts-then, packets-judged}
+
+-- the first of them were judged, and what there is to write of these was written
+pub record JudgedPart (start now : LateArrivals) (a b : Meanings) : Type 0 where
+  pub done : List Numbered
+  pub split : done ++ now.sorter.line.held ≡ start.sorter.line.held
+  pub judged : AreJudged start.judging now.judging done
+  pub wrote : Wrote a b (held_parts start.judging done)
+  pub late : now.late ≡ start.late
+
+pub JudgedPart-none : (s : LateArrivals) (m : Meanings) → JudgedPart s s m m
+JudgedPart-none s m = record { done = []; split = refl; judged = AreJudged-none s.judging; wrote = Ran-none m; late = refl }
+
+split : (line : Line) (held : List Numbered) → line.held ≡ held → take 1 held ++ (without_first line held).held ≡ held
+split line [] is = is
+split line (a ∷ held) is = refl
+
+-- the first and the others, if there is one
+pub held-split : (line : Line) → take 1 line.held ++ (given_up line).held ≡ line.held
+held-split line = split line line.held refl
+
+-- one more was judged
+pub JudgedPart-next : (start now next : LateArrivals) (a b c : Meanings) → (part : JudgedPart start now a b) → next.sorter.line ≡ given_up now.sorter.line → AreJudged now.judging next.judging (take 1 now.sorter.line.held) → next.late ≡ now.late
+    → Wrote b c (held_parts now.judging (take 1 now.sorter.line.held)) → JudgedPart start next a c
+JudgedPart-next start now next a b c part line judged late wrote =
+    let one = take 1 now.sorter.line.held in
+    record {
+      done = part.done ++ one;
+      split =
+          append_assoc part.done one next.sorter.line.held
+          ∙ (ap (λ (l : Line). part.done ++ (one ++ l.held)) line ∙ (ap (λ (l : List Numbered). part.done ++ l) (held-split now.sorter.line) ∙ part.split));
+      judged = AreJudged-then start.judging now.judging next.judging part.done one part.judged judged;
+      wrote = subst (Wrote a c) (sym (held_parts-then part.judged one)) (Wrote-then a b c (held_parts start.judging part.done) (held_parts now.judging one) part.wrote wrote);
+      late = late ∙ part.late;
+    }
+
+-- what there is to write of all of them is that of these, and then of the others
+parts-split : (start now : LateArrivals) (a b : Meanings) (part : JudgedPart start now a b) → held_parts start.judging start.sorter.line.held ≡ put (held_parts start.judging part.done) (held_parts now.judging now.sorter.line.held)
+parts-split start now a b part = ap (held_parts start.judging) (sym part.split) ∙ held_parts-then part.judged now.sorter.line.held
+
+-- and if a write of the next one failed, a front of it was written
+pub JudgedPart-front : (start now : LateArrivals) (a b c : Meanings) (part : JudgedPart start now a b) → WroteFront b c (held_parts now.judging (take 1 now.sorter.line.held))
+    → (mid : Reckoning) → AreJudged now.judging mid (take 1 now.sorter.line.held) → WroteFront a c (held_parts start.judging start.sorter.line.held)
+JudgedPart-front start now a b c part cut mid judged =
+    let one = take 1 now.sorter.line.held in
+    let others = (given_up now.sorter.line).held in
+    let rest : held_parts now.judging now.sorter.line.held ≡ put (held_parts now.judging one) (held_parts mid others) =
+    ap (held_parts now.judging) (sym (held-split now.sorter.line)) ∙ held_parts-then judged others in
+    let all = parts-split start now a b part ∙ ap (put (held_parts start.judging part.done)) rest in
+    subst (WroteFront a c) (sym all)
+    (WroteFront-next a b c (held_parts start.judging part.done) (put (held_parts now.judging one) (held_parts mid others)) part.wrote
+    (WroteFront-more b c (held_parts now.judging one) (held_parts mid others) cut))
+
+-- all of them were
+pub all-judged : (start now : LateArrivals) (a b : Meanings) (part : JudgedPart start now a b) → length now.sorter.line.held ≡ 0 → AreJudged start.judging now.judging start.sorter.line.held × Wrote a b (held_parts start.judging start.sorter.line.held)
+all-judged start now a b part none =
+    let same : part.done ≡ start.sorter.line.held = sym (append-nil part.done) ∙ (ap (λ (l : List Numbered). part.done ++ l) (sym (nil_from_length now.sorter.line.held none)) ∙ part.split) in
+    (subst (AreJudged start.judging now.judging) same part.judged, subst (λ (l : List Numbered). Wrote a b (held_parts start.judging l)) same part.wrote)
+
+-- there is room for the next one in the numbers of the run
+pub few-left : (start now : LateArrivals) (a b : Meanings) (part : JudgedPart start now a b) (most : ℕ) → start.judging.restored.packets + length start.sorter.line.held ≤ most → 0 < length now.sorter.line.held → now.judging.restored.packets < most
+few-left start now a b part most few some =
+    let count = packets-judged part.judged in
+    let size = ap length part.split in
+    omega (arith, count, size, length-append part.done now.sorter.line.held, few, some)

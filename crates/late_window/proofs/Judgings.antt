@@ -1,0 +1,94 @@
+-- Arrivals that are judged one after another: the run over them, what is written of it, and its numbers.
+use Rattle.std.proofs.Common.{◌≡◌, ℕ, ◌+◌, ◌%◌, List, [], ◌∷◌, ◌++◌, length, map, refl, sym, ap, ◌∙◌}
+use Rattle.std.proofs.lemmas.List.{length-map, map-append}
+use Rattle.std.proofs.lemmas.List.Concat.{flat_map-append}
+use Rattle.desk_ports.specs.Meanings.{Meanings}
+use Rattle.desk_ports.specs.Courses.{Outputs, put}
+use Rattle.desk_ports.specs.Turns.{Wrote, WroteFront}
+use Rattle.desk_ports.proofs.Runs.{Ran-then}
+use Rattle.desk_ports.proofs.Courses.{AreFronts-put, AreFronts-then}
+use Rattle.packet_store.specs.SpacePackets.{period}
+use Rattle.ground_chain.specs.declared.restored.Restored.{Restored}
+use Rattle.ground_chain.specs.Run.{Judged, known_from, run_from}
+use Rattle.ground_chain.specs.Report.{added, restored_by, restored_of}
+use Rattle.ground_chain.specs.Reception.{known_of, next_judged}
+use Rattle.ground_chain.specs.Reckoning.{Judges, Reckoning}
+use Rattle.ground_chain.specs.Accounts.{Texts, all_parts}
+use Rattle.ground_chain.specs.Restoring.{restored_texts}
+use Rattle.ground_chain.proofs.Runs.{known_from-append, run_from-append}
+use Rattle.ground_chain.proofs.Counted.{added-assoc, added-none, restored_of-append, restored_of-cons, run_packets}
+use Rattle.late_window.specs.Numbers.{Numbered}
+use Rattle.late_window.specs.Order.{arrival_of}
+use Rattle.late_window.specs.Late.{AreJudged, held_parts, run_of}
+
+-- none, or one
+pub AreJudged-none : (r : Reckoning) → AreJudged r r []
+AreJudged-none r = record { places = refl; known = refl; restored = sym (added-none r.restored) }
+
+pub AreJudged-one : (old new : Reckoning) (a : Numbered) → Judges old new (a.number % period) a.body → AreJudged old new (a ∷ [])
+AreJudged-one old new a is =
+    let j = next_judged old.reception (a.number % period) a.body in
+    record {
+      places = is.places;
+      known = is.known;
+      restored = is.restored ∙ ap (added old.restored) (sym (restored_of-cons j [] ∙ added-none (restored_by j.verdict)));
+    }
+
+-- what is written of one part and of another
+pub all_parts-append : (texts : Texts) (xs ys : List Judged) → all_parts texts (xs ++ ys) ≡ put (all_parts texts xs) (all_parts texts ys)
+all_parts-append texts xs ys =
+    let output = flat_map-append (λ (j : Judged). (texts.parts j).output) xs ys in
+    let report = flat_map-append (λ (j : Judged). (texts.parts j).report) xs ys in
+    λ i. record { output = output i; report = report i }
+
+module _ {a b : Reckoning} {xs : List Numbered} (first : AreJudged a b xs) where
+  -- the run goes on after them
+  pub run_of-then : (ys : List Numbered) → run_of a (xs ++ ys) ≡ run_of a xs ++ run_of b ys
+  run_of-then ys =
+      let places = sym first.places in
+      let known = sym first.known in
+      ap (run_from a.reception.decoder.places (known_of a.reception)) (map-append arrival_of xs ys)
+      ∙ (run_from-append a.reception.decoder.places (known_of a.reception) (map arrival_of xs) (map arrival_of ys)
+      ∙ λ i. run_of a xs ++ run_from (places i) (known i) (map arrival_of ys))
+
+  pub held_parts-then : (ys : List Numbered) → held_parts a (xs ++ ys) ≡ put (held_parts a xs) (held_parts b ys)
+  held_parts-then ys = ap (all_parts restored_texts) (run_of-then ys) ∙ all_parts-append restored_texts (run_of a xs) (run_of b ys)
+
+  -- and so do its numbers
+  pub added-then : (ys : List Numbered) → added a.restored (restored_of (run_of a (xs ++ ys))) ≡ added b.restored (restored_of (run_of b ys))
+  added-then ys =
+      ap (λ (l : List Judged). added a.restored (restored_of l)) (run_of-then ys)
+      ∙ (ap (added a.restored) (restored_of-append (run_of a xs) (run_of b ys))
+      ∙ (sym (added-assoc a.restored (restored_of (run_of a xs)) (restored_of (run_of b ys)))
+      ∙ ap (λ (r : Restored). added r (restored_of (run_of b ys))) (sym first.restored)))
+
+  -- they are counted
+  pub packets-judged : b.restored.packets ≡ a.restored.packets + length xs
+  packets-judged =
+      let count = run_packets a.reception.decoder.places (known_of a.reception) (map arrival_of xs) ∙ length-map xs arrival_of in
+      ap (λ (r : Restored). r.packets) first.restored ∙ ap (λ (n : ℕ). a.restored.packets + n) count
+
+pub AreJudged-then : (a b c : Reckoning) (xs ys : List Numbered) → AreJudged a b xs → AreJudged b c ys → AreJudged a c (xs ++ ys)
+AreJudged-then a b c xs ys first next =
+    let places = first.places in
+    let known = first.known in
+    record {
+      places = next.places ∙ first.places;
+      known =
+          next.known ∙ (λ i. known_from (places i) (known i) (map arrival_of ys))
+          ∙ sym (ap (known_from a.reception.decoder.places (known_of a.reception)) (map-append arrival_of xs ys) ∙ known_from-append a.reception.decoder.places (known_of a.reception) (map arrival_of xs) (map arrival_of ys));
+      restored = next.restored ∙ sym (added-then first ys);
+    }
+
+-- ---- what is written of one part after another
+
+pub Wrote-then : (a b c : Meanings) (xs ys : Outputs) → Wrote a b xs → Wrote b c ys → Wrote a c (put xs ys)
+Wrote-then a b c xs ys first next = Ran-then a b c [] [] xs.output ys.output xs.report ys.report first next
+
+-- a front of the next part
+pub WroteFront-next : (a b c : Meanings) (xs ys : Outputs) → Wrote a b xs → WroteFront b c ys → WroteFront a c (put xs ys)
+WroteFront-next a b c xs ys first cut = record { stand = put xs cut.stand; wrote = Wrote-then a b c xs cut.stand first cut.wrote; fronts = AreFronts-put xs cut.stand ys cut.fronts }
+
+-- a front of the first part
+pub WroteFront-more : (a b : Meanings) (xs ys : Outputs) → WroteFront a b xs → WroteFront a b (put xs ys)
+WroteFront-more a b xs ys cut = record { stand = cut.stand; wrote = cut.wrote; fronts = AreFronts-then cut.stand xs ys cut.fronts }

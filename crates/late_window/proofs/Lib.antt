@@ -1,0 +1,14 @@
+pub mod Placing
+pub mod Judgings
+pub mod Held
+pub mod Ends
+pub mod Lefts
+pub mod Rests
+pub mod Orders
+pub mod Wholes
+pub mod Sortings
+pub mod Within
+pub mod Nearest
+pub mod LateDeliveries
+pub mod ShortGaps
+pub mod Delivered

@@ -1,0 +1,79 @@
+-- What is owed for the rest of a store, packet by packet, if its packets may come late.
+use Rattle.std.proofs.Common.{◌≡◌, ℕ, ◌+◌, ◌≤◌, Bool, true, false, if◌then◌else◌, List, [], ◌∷◌, map, Option, refl, sym, ap, ◌∙◌, subst, arith}
+use Rattle.std.specs.List.{filter}
+use Rattle.desk_ports.specs.Meanings.{Meanings}
+use Rattle.desk_ports.specs.Courses.{Work, no_outputs}
+use Rattle.packet_store.specs.declared.reader.Taken.{Taken}
+use Rattle.packet_store.specs.declared.fault.WalkFault.{WalkFault}
+use Rattle.packet_store.specs.SpacePackets.{Packet, is_chosen}
+use Rattle.packet_store.specs.StoreReader.{ReaderState, Takes}
+use Rattle.packet_store.proofs.StoreTurns.{IsDone, ReadsPacket, packet_of}
+use Rattle.ground_chain.specs.Run.{Arrival}
+use Rattle.ground_chain.specs.Restoring.{arrival_of, arrivals_of}
+use Rattle.late_window.specs.declared.done.LateDone.{LateDone}
+use Rattle.late_window.specs.declared.late.LateArrivals.{LateArrivals}
+use Rattle.late_window.specs.declared.run.LateRun.{LateRun}
+use Rattle.late_window.specs.Late.{IsWithinLimits, Sorts, arrival_parts, done_of, last_parts, parts_left}
+use Rattle.late_window.specs.Restoring.{Owes, left_to_sort, rest_work}
+use Rattle.late_window.proofs.Lefts.{done-next, last-next, parts-next}
+
+-- the packets of an APID, with one that is of it and with one that is not
+abbrev filtered : Option ℕ → Packet → List Packet → Bool → List Arrival
+filtered chosen p packets own = map arrival_of (if own then p ∷ filter (λ q. is_chosen chosen q.header) packets else filter (λ q. is_chosen chosen q.header) packets)
+
+same_chosen : (old new : ReaderState) (a b : Meanings) (given : Taken) → Takes old new a b given → old.chosen ≡ new.chosen
+same_chosen old new a b given takes = sym (ap (λ (s : ReaderState). s.chosen) takes.others)
+
+-- a packet of another APID: what the packets after it owe
+pub Reads-passed : (r : LateRun) (reader : ReaderState) (a b : Meanings) (given : Taken) → Takes r.reader reader a b given → given.chosen ≡ false
+    → ReadsPacket (left_to_sort r) (left_to_sort (record r { reader = reader })) r.reader reader a b no_outputs
+Reads-passed r reader a b given takes other =
+    let arrivals : (packets : List Packet) → arrivals_of r.reader.chosen (packet_of takes.header reader ∷ packets) ≡ arrivals_of reader.chosen packets =
+    λ packets. ap (filtered r.reader.chosen (packet_of takes.header reader) packets) (sym takes.is_chosen ∙ other)
+    ∙ ap (λ chosen. arrivals_of chosen packets) (same_chosen r.reader reader a b given takes) in
+    record {
+      given = given;
+      takes = takes;
+      goes_on = record {
+        before = λ packets. ap (parts_left r.arrivals) (arrivals packets);
+        answer = λ packets. ap (done_of r.arrivals) (arrivals packets);
+        after = λ packets. ap (last_parts r.arrivals) (arrivals packets);
+      };
+    }
+
+-- a packet of the chosen APID: what is written when it comes is owed, and after it what the packets after it owe
+pub Reads-sorted : (r t : LateRun) (a b : Meanings) (given : Taken) → Takes r.reader t.reader a b given → given.chosen ≡ true → Sorts r.arrivals t.arrivals (record { count = given.count; body = t.reader.body })
+    → ReadsPacket (left_to_sort r) (left_to_sort t) r.reader t.reader a b (arrival_parts r.arrivals (record { count = given.count; body = t.reader.body }))
+Reads-sorted r t a b given takes own is =
+    let arrival : Arrival = record { count = given.count; body = t.reader.body } in
+    let arrivals : (packets : List Packet) → arrivals_of r.reader.chosen (packet_of takes.header t.reader ∷ packets) ≡ arrival ∷ arrivals_of t.reader.chosen packets =
+    λ packets. ap (filtered r.reader.chosen (packet_of takes.header t.reader) packets) (sym takes.is_chosen ∙ own)
+    ∙ (let count = sym takes.count in let chosen = same_chosen r.reader t.reader a b given takes in λ i. record { count = count i; body = t.reader.body } ∷ arrivals_of (chosen i) packets) in
+    record {
+      given = given;
+      takes = takes;
+      goes_on = record {
+        before = λ packets. ap (parts_left r.arrivals) (arrivals packets) ∙ parts-next is (arrivals_of t.reader.chosen packets);
+        answer = λ packets. ap (done_of r.arrivals) (arrivals packets) ∙ done-next is (arrivals_of t.reader.chosen packets);
+        after = λ packets. ap (last_parts r.arrivals) (arrivals packets) ∙ last-next is (arrivals_of t.reader.chosen packets);
+      };
+    }
+
+-- if nothing is left, the last part is owed
+pub IsDone-sorted : (r : LateRun) → IsDone (left_to_sort r) (last_parts r.arrivals []) (done_of r.arrivals [])
+IsDone-sorted r = record { nothing = refl; last_is = refl; answer_is = refl }
+
+-- after a packet the rest of the store is still to be restored
+pub Owes-next : (r t : LateRun) (a b : Meanings) (given : Taken) (work : Work LateDone WalkFault) → Owes r work → Takes r.reader t.reader a b given → IsWithinLimits t.arrivals (r.reader.taken + 1) → Owes t (rest_work t)
+Owes-next r t a b given work owes takes limits =
+    let taken : r.reader.taken + 1 ≡ t.reader.taken = sym (ap (λ (s : ReaderState). s.taken) takes.others) in
+    record {
+      work_is = refl;
+      live = ap (λ (s : ReaderState). s.live) takes.others ∙ owes.live;
+      limits = subst (IsWithinLimits t.arrivals) taken limits;
+      few = omega (arith, taken, takes.few);
+    }
+
+-- the limits of fewer packets are also those of more
+pub limits-more : (s : LateArrivals) (taken more : ℕ) → taken ≤ more → IsWithinLimits s taken → IsWithinLimits s more
+limits-more s taken more le limits = record { held = limits.held; packets = omega (arith, le, limits.packets); late = omega (arith, le, limits.late); near = omega (arith, le, limits.near) }

@@ -1,0 +1,76 @@
+//! A place for one arrival.
+
+ghost use Rattle.std.specs.Prelude.{◌≡◌, ◌++◌, ◌≤◌, length, drop, IfOk};
+ghost use Rattle.late_window.specs.Lines.{nothing};
+
+use bit_vectors::{NoMemory, zero_bytes};
+use std::alloc::Global;
+use std::marker::Model;
+
+/// The most data bytes that a packet has.
+pub const MOST_BYTES: usize = 65_536;
+
+/// A place for one arrival: its number and its data bytes, in a room that is large enough for any packet.
+#[derive(Debug, Drop)]
+pub struct Place {
+    number: u64,
+    size: usize,
+    room: Vec<u8>,
+}
+
+impl Model for Place {
+    ghost use Rattle.std.specs.Prelude.{◌≡◌, ◌≤◌, take, length};
+    ghost use Rattle.late_window.specs.Numbers.{Numbered};
+
+    ghost Value = { Numbered };
+
+    ghost view = { λ p. record { number = p.number; body = take p.size p.room.items } };
+
+    ghost invariant = { λ p. (p.size ≤ 65536) × (length p.room.items ≡ 65536) };
+}
+
+impl Place {
+    /// A place without an arrival. Takes all memory that `fill` needs.
+    pub fn open(alloc: Global) -> Result<Place, NoMemory>
+        ensures { IfOk result (λ place. place ≡ nothing) }
+    {
+        Ok(Place {
+            number: 0,
+            size: 0,
+            room: zero_bytes(alloc, MOST_BYTES)?,
+        })
+    }
+
+    /// Puts an arrival with this number and these data bytes into the place. It takes no memory.
+    pub fn fill(&mut self, number: u64, bytes: &[u8])
+        requires { length bytes.now ≤ 65536 }
+        ensures { self.new ≡ record { number = number; body = bytes.now } }
+    {
+        copy_front(&mut self.room, bytes);
+        self.number = number;
+        self.size = bytes.len();
+    }
+
+    /// The number of the arrival.
+    pub fn number(&self) -> u64
+        ensures { result ≡ self.now.number }
+    {
+        self.number
+    }
+
+    /// The data bytes of the arrival.
+    pub fn bytes(&self) -> &[u8]
+        ensures bytes { result.now ≡ self.now.body }
+        ensures size { length result.now ≤ 65536 }
+    {
+        &self.room[..self.size]
+    }
+}
+
+/// Copies bytes to the front of a room that is large enough.
+fn copy_front(room: &mut [u8], bytes: &[u8])
+    requires { length bytes.now ≤ length room.old }
+    ensures { room.new ≡ bytes.now ++ drop (length bytes.now) room.old }
+{
+    room[..bytes.len()].copy_from_slice(bytes);
+}

@@ -1,0 +1,7 @@
+pub mod Cells
+pub mod Rows
+pub mod Grammar
+pub mod Faults
+pub mod Texts
+pub mod Tabling
+pub mod Worked

@@ -1,0 +1,93 @@
+-- The rows of a side text, and the columns that they make.
+use Rattle.std.specs.Prelude.{ℕ, ◌+◌, ◌^◌, ◌<◌, ◌≤◌, ◌==◌, nat_le, Bool, true, false, ◌&&◌, ◌||◌, List, [], ◌∷◌, length, map, Option, Some, None, if◌then◌else◌, unsigned_abs, All, IfSome}
+use Rattle.std.specs.List.{filter_map, find, list_all}
+use Rattle.std.specs.Option.{option_map}
+use Rattle.std.specs.Char.{is_ascii_alphabetic, is_ascii_alphanumeric}
+use Rattle.std.specs.Str.{bytes_eq}
+use Rattle.param_table.specs.declared.rows.FieldRow.{FieldRow}
+use Rattle.param_table.specs.declared.rows.Limit.{Limit}
+use Rattle.param_table.specs.declared.rows.LimitRow.{LimitRow}
+use Rattle.param_table.specs.declared.rows.TextRow.{TextRow}
+use Rattle.param_table.specs.declared.rows.TextRow.TheVariants as row
+use Rattle.param_table.specs.declared.rows.Column.{Column}
+
+-- ---- names
+
+abbrev pub is_name_byte : ℕ → Bool
+is_name_byte byte = is_ascii_alphanumeric byte || (byte == 95)
+
+-- 1 to 32 ASCII letters, digits or `_`, the first of them a letter
+abbrev pub is_name : List ℕ → Bool
+is_name [] = false
+is_name (first ∷ rest) = is_ascii_alphabetic first && (nat_le (length (first ∷ rest)) 32 && list_all is_name_byte (first ∷ rest))
+
+-- the name that a text is, if it is one
+abbrev pub name_of : List ℕ → Option (List ℕ)
+name_of text = if is_name text then Some text else None
+
+abbrev pub same_name : List ℕ → List ℕ → Bool
+same_name = bytes_eq
+
+-- ---- rows
+
+abbrev pub is_field : TextRow → Bool
+is_field (row.Field field) = true
+is_field (row.Limit limit) = false
+
+-- whether a row names the field of this name, and whether it gives it a limit
+abbrev pub names_field : List ℕ → TextRow → Bool
+names_field name (row.Field field) = same_name field.name name
+names_field name (row.Limit limit) = false
+
+abbrev pub names_limit : List ℕ → TextRow → Bool
+names_limit name (row.Field field) = false
+names_limit name (row.Limit limit) = same_name limit.name name
+
+-- a field within vectors of f places
+pub record IsFieldRow (f : ℕ) (field : FieldRow) : Type 0 where
+  pub some : 1 ≤ field.width
+  pub most : field.width ≤ 64
+  pub within : field.place + field.width ≤ f
+
+-- limits have absolute values of 64 bits
+pub record IsLimit (limit : Limit) : Type 0 where
+  pub low : unsigned_abs limit.low < 2 ^ 64
+  pub high : unsigned_abs limit.high < 2 ^ 64
+
+abbrev pub IsLimitRow : LimitRow → Type 0
+IsLimitRow limit = IsLimit limit.limit
+
+abbrev pub IsTextRow : ℕ → TextRow → Type 0
+IsTextRow f (row.Field field) = IsFieldRow f field
+IsTextRow f (row.Limit limit) = IsLimitRow limit
+
+-- ---- columns
+
+abbrev pub field_of : TextRow → Option FieldRow
+field_of (row.Field field) = Some field
+field_of (row.Limit limit) = None
+
+abbrev pub limit_of : TextRow → Option LimitRow
+limit_of (row.Field field) = None
+limit_of (row.Limit limit) = Some limit
+
+-- the limit that the first of these rows gives to the field of this name, if one does
+abbrev pub limit_named : List LimitRow → List ℕ → Option Limit
+limit_named limits name = option_map (λ limit. limit.limit) (find (λ limit. same_name limit.name name) limits)
+
+abbrev pub column_of : List LimitRow → FieldRow → Column
+column_of limits field = record { field = field; limit = limit_named limits field.name }
+
+-- a column for each field, in the order of the rows
+abbrev pub columns_of : List TextRow → List Column
+columns_of rows = map (column_of (filter_map limit_of rows)) (filter_map field_of rows)
+
+-- a column within vectors of f places
+pub record IsColumn (f : ℕ) (column : Column) : Type 0 where
+  pub field : IsFieldRow f column.field
+  pub limit : IfSome column.limit IsLimit
+
+-- columns that fit vectors of f places
+pub record AreColumns (f : ℕ) (columns : List Column) : Type 0 where
+  pub each : All (IsColumn f) columns
+  pub few : length columns ≤ 256

@@ -1,7 +1,0 @@
-use Rattle.pocket_cmd.proofs.CutOff.{IsSideUnread-lost, OnErr-by}
-use Rattle.pocket_cmd.proofs.side.read_side.Goals as goal
-
-pub returns-clause-cut_off : goal.returns-clause-cut_off
-returns-clause-cut_off g c =
-    OnErr-by c.fill.result (λ lost.
-    IsSideUnread-lost _ (g.D.Desk.meaning c.args.desk.now) (g.D.Desk.meaning c.open_in.new.self) (g.D.Desk.meaning c.fill.new.desk) _ lost.0 c.in_ok-open_in.ensures.opened lost.1 lost.2) c.fill.ensures.lost
