@@ -34,6 +34,8 @@ pocket trial seed=SEED packets=N bits=F robust=R out=SUMMARY
     runs compress, play and restore over a recording that it generates, in memory
 pocket table in=RECORDING out=TABLE report=REPORT fields=FIELDS bits=F
     writes the fields of packets of F bits as a table, and lists the values out of their limits
+pocket forecast out=FORECAST packets=N robust=R plan=SCHEDULE script=SCRIPT
+    tells which packets will be written under a schedule and a loss, whatever the recording is
 pocket --help
 pocket --version
 The keys come in any order, and those in brackets may be left out:
@@ -45,7 +47,7 @@ The keys come in any order, and those in brackets may be left out:
     robust            how many packets lost in a row each packet withstands at least, 0 to 7
     mask              the first mask, two hexadecimal digits for each byte of a packet
     seed              where the numbers of a trial begin, 0 to 4294967295
-    packets           how many packets a trial has, 1 to 10000
+    packets           how many packets there are, of a trial 1 to 10000, of a forecast 1 to 1000000
 Exit numbers:
     0  done
     1  reading or writing failed
