@@ -5,7 +5,7 @@ ghost use Rattle.std.specs.String.{string_bytes};
 ghost use Rattle.desk_ports.specs.Meanings.{Adds, AddsFront, HasWriteCause, IsReadyIn, IsReadyOut};
 ghost use Rattle.side_tables.specs.Grammar.{bad_copy_row, bad_schedule_row, copy_rows_of, schedule_rows_of};
 ghost use Rattle.param_table.specs.Grammar.{bad_text_row};
-ghost use Rattle.pocket_cmd.specs.Command.{Compress, Forecast as ToForecast, Play, Restore, Show, Table as ToTable, IsRight, compress_by, forecast_by, play_by, restore_by, show_by, table_by, view_command};
+ghost use Rattle.pocket_cmd.specs.Command.{Compress, Forecast as ToForecast, Play, Restore, Show, Late as ToLate, Table as ToTable, IsRight, compress_by, forecast_by, late_by, play_by, restore_by, show_by, table_by, view_command};
 ghost use Rattle.pocket_cmd.specs.Courses.{compression_by, names_of, tabulation_by};
 ghost use Rattle.pocket_cmd.specs.Jobs.{AfterJob, AfterMaking, HasMakingCause, IsScriptRead, job_course, reads_input, writes_report};
 ghost use Rattle.pocket_cmd.specs.Outcome.{IsRowRefused, IsTextRefused};
@@ -22,6 +22,7 @@ use desk_ports::{Desk, Failed, Inlet, Outlet, write_all};
 use flight_chain::Flight;
 use forecast::Forecast;
 use ground_chain::{Lister, Restorer};
+use late_window::LateRestorer;
 use loss_player::Player;
 use param_table::{Fields, Tabler};
 use side_tables::{Schedule, Script};
@@ -36,6 +37,7 @@ pub enum Job {
     Show(Lister),
     /// The text of a trial's summary.
     Trial(Vec<u8>),
+    Late(LateRestorer),
     Table(Tabler),
     Forecast(Forecast),
 }
@@ -62,6 +64,7 @@ impl Job {
             Verb::Restore => Ok(Job::Restore(restorer(alloc, words)?)),
             Verb::Show => Ok(Job::Show(lister(alloc, words)?)),
             Verb::Trial => Ok(Job::Trial(summary_text(alloc, words)?)),
+            Verb::Late => Ok(Job::Late(late_restorer(alloc, words)?)),
             Verb::Table => Ok(Job::Table(tabler(alloc, words, text)?)),
             Verb::Forecast => Ok(Job::Forecast(forecast(
                 alloc,
@@ -108,6 +111,10 @@ impl Job {
             Job::Trial(text) => match write_text(text, desk) {
                 Ok(()) => Ok(()),
                 Err(_) => Err(Refusal::WriteFault),
+            },
+            Job::Late(late) => match late.restore(desk) {
+                Ok(_) => Ok(()),
+                Err(fault) => Err(fault.into()),
             },
             Job::Table(tabler) => match tabler.tabulate(desk) {
                 Ok(_) => Ok(()),
@@ -191,6 +198,22 @@ fn lister(alloc: Global, words: &[String]) -> Result<Lister, NoMemory>
         alloc,
         number_at(words, "bits"),
         number_at(words, "apid") as u16,
+    )
+}
+
+/// The restorer of `late`.
+fn late_restorer(alloc: Global, words: &[String]) -> Result<LateRestorer, NoMemory>
+    requires { IsRight (ToLate (late_by (map string_bytes words.now))) }
+    ensures { let told = late_by (map string_bytes words.now) in
+        IfOk result
+        (λ restorer. restorer
+        ≡ record { places = told.bits; apid = told.apid; window = told.window }) }
+{
+    LateRestorer::open(
+        alloc,
+        number_at(words, "bits"),
+        number_at(words, "apid") as u16,
+        number_at(words, "window") as u8,
     )
 }
 
