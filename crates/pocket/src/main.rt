@@ -32,6 +32,8 @@ pocket show in=STORE out=LISTING bits=F apid=APID
     lists what is found for each packet that a store has on an APID
 pocket trial seed=SEED packets=N bits=F robust=R out=SUMMARY
     runs compress, play and restore over a recording that it generates, in memory
+pocket late in=STORE out=PACKETS report=REPORT bits=F apid=APID window=W
+    puts packets that come late by up to W packets in order, and then does as restore
 pocket table in=RECORDING out=TABLE report=REPORT fields=FIELDS bits=F
     writes the fields of packets of F bits as a table, and lists the values out of their limits
 pocket forecast out=FORECAST packets=N robust=R plan=SCHEDULE script=SCRIPT

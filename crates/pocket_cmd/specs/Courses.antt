@@ -8,6 +8,7 @@ use Rattle.flight_chain.specs.Compressing.{Compression, compress_course}
 use Rattle.loss_player.specs.Playing.{play_course}
 use Rattle.ground_chain.specs.Listing.{listing_course}
 use Rattle.ground_chain.specs.Restoring.{restore_course}
+use Rattle.late_window.specs.Restoring.{late_course}
 use Rattle.forecast.specs.Prospects.{prospect_of}
 use Rattle.forecast.specs.Texts.{forecast_text}
 use Rattle.side_tables.specs.Streams.{bad_stream_row, streams_of}

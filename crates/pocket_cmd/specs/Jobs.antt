@@ -10,6 +10,7 @@ use Rattle.flight_chain.specs.Compressing.{compress_course}
 use Rattle.loss_player.specs.Playing.{play_course}
 use Rattle.ground_chain.specs.Listing.{listing_course}
 use Rattle.ground_chain.specs.Restoring.{restore_course}
+use Rattle.late_window.specs.Restoring.{late_course}
 use Rattle.forecast.specs.Outlooks.{foresees}
 use Rattle.forecast.specs.Texts.{forecast_text}
 use Rattle.multi_ground.specs.MultiOutputs.{multi_course}

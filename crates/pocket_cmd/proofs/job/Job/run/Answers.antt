@@ -3,6 +3,7 @@ use Rattle.flight_chain.specs.Compressing.{compress_course, stop_by as flight_st
 use Rattle.loss_player.specs.Playing.{play_course, stop_by as play_stop}
 use Rattle.ground_chain.specs.Listing.{listing_course}
 use Rattle.ground_chain.specs.Restoring.{restore_course, stop_by as restore_stop}
+use Rattle.late_window.specs.Restoring.{late_course}
 use Rattle.forecast.specs.Outlooks.{foresees}
 use Rattle.forecast.specs.Texts.{forecast_text}
 use Rattle.param_table.specs.Faults.{stop_by as table_stop}
