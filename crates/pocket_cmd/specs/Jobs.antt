@@ -14,7 +14,6 @@ use Rattle.late_window.specs.Restoring.{late_course}
 use Rattle.forecast.specs.Outlooks.{foresees}
 use Rattle.forecast.specs.Texts.{forecast_text}
 use Rattle.multi_ground.specs.MultiOutputs.{multi_course}
-use Rattle.late_window.specs.Restoring.{late_course}
 use Rattle.param_table.specs.Tabling.{table_course}
 use Rattle.pocket_cmd.specs.declared.job.Job.{Job}
 use Rattle.pocket_cmd.specs.declared.job.Job.TheVariants as job

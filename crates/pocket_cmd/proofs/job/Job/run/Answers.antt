@@ -8,7 +8,6 @@ use Rattle.forecast.specs.Outlooks.{foresees}
 use Rattle.forecast.specs.Texts.{forecast_text}
 use Rattle.param_table.specs.Faults.{stop_by as table_stop}
 use Rattle.multi_ground.specs.MultiOutputs.{multi_course}
-use Rattle.late_window.specs.Restoring.{late_course}
 use Rattle.param_table.specs.Tabling.{table_course}
 use Rattle.pocket_cmd.specs.Faults.{of_recording, of_store}
 use Rattle.pocket_cmd.proofs.Faults.{HasClassCause-stop, IsEnded-done, IsEnded-stop}
