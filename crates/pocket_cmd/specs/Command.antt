@@ -51,6 +51,13 @@ pub record TrialValues : Type 0 where
   pub bits : ℕ
   pub robust : ℕ
 
+-- what `multi` is told: its names
+pub record MultiValues : Type 0 where
+  pub input : List ℕ
+  pub output : List ℕ
+  pub report : List ℕ
+  pub streams : List ℕ
+
 -- what `table` is told: its names and the bits of a packet
 pub record TableValues : Type 0 where
   pub input : List ℕ
@@ -74,6 +81,7 @@ pub data Command : Type 0 where
   Restore : RestoreValues → Command
   Show : ShowValues → Command
   Trial : TrialValues → Command
+  Multi : MultiValues → Command
   Table : TableValues → Command
   Forecast : ForecastValues → Command
 
@@ -132,6 +140,9 @@ trial_by words = record {
   robust = number_at words (codes "robust");
 }
 
+abbrev pub multi_by : List (List ℕ) → MultiValues
+multi_by words = record { input = name_at words (codes "in"); output = name_at words (codes "out"); report = name_at words (codes "report"); streams = name_at words (codes "streams") }
+
 abbrev pub table_by : List (List ℕ) → TableValues
 table_by words = record {
   input = name_at words (codes "in");
@@ -157,6 +168,7 @@ command_by verb.Play words = Play (play_by words)
 command_by verb.Restore words = Restore (restore_by words)
 command_by verb.Show words = Show (show_by words)
 command_by verb.Trial words = Trial (trial_by words)
+command_by verb.Multi words = Multi (multi_by words)
 command_by verb.Table words = Table (table_by words)
 command_by verb.Forecast words = Forecast (forecast_by words)
 
@@ -213,6 +225,7 @@ IsRight (Play p) = IsChosen p.apid
 IsRight (Restore r) = IsPlaces r.bits × IsChosen r.apid
 IsRight (Show s) = IsPlaces s.bits × IsChosen s.apid
 IsRight (Trial t) = IsTrialRight t
+IsRight (Multi m) = Unit {0}
 IsRight (Table t) = IsPlaces t.bits
 IsRight (Forecast f) = IsForecastRight f
 

@@ -18,6 +18,8 @@ pub enum Verb {
     Show,
     /// Runs the other three over a generated history.
     Trial,
+    /// Restores the packets of several APIDs in one store.
+    Multi,
     /// Writes the fields of the packets of a recording as a table.
     Table,
     /// Tells which packets will be written, whatever the recording is.
@@ -63,6 +65,7 @@ impl Verb {
             "restore" => Some(Verb::Restore),
             "show" => Some(Verb::Show),
             "trial" => Some(Verb::Trial),
+            "multi" => Some(Verb::Multi),
             "table" => Some(Verb::Table),
             "forecast" => Some(Verb::Forecast),
             _ => None,
@@ -109,6 +112,12 @@ impl Verb {
                 Needed("packets", Number(1, 10_000)),
                 Needed("bits", Number(1, 4096)),
                 Needed("robust", Number(0, 7)),
+            ],
+            Verb::Multi => &[
+                Needed("in", Name(Port::Input)),
+                Needed("out", Name(Port::Output)),
+                Needed("report", Name(Port::Report)),
+                Needed("streams", Name(Port::Side)),
             ],
             Verb::Table => &[
                 Needed("in", Name(Port::Input)),

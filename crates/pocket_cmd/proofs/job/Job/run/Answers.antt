@@ -3,6 +3,7 @@ use Rattle.flight_chain.specs.Compressing.{compress_course, stop_by as flight_st
 use Rattle.loss_player.specs.Playing.{play_course, stop_by as play_stop}
 use Rattle.ground_chain.specs.Listing.{listing_course}
 use Rattle.ground_chain.specs.Restoring.{restore_course, stop_by as restore_stop}
+use Rattle.multi_ground.specs.MultiOutputs.{multi_course}
 use Rattle.forecast.specs.Outlooks.{foresees}
 use Rattle.forecast.specs.Texts.{forecast_text}
 use Rattle.param_table.specs.Faults.{stop_by as table_stop}
@@ -67,6 +68,18 @@ returns-in-Ok-write_text-clause-ran g c =
 pub returns-in-Err-write_text-clause-ran : goal.returns-in-Err-write_text-clause-ran
 returns-in-Err-write_text-clause-ran g c =
     rw c.in-Trial.is (IsEnded-text_cut c.in-Trial.text.items _ _ c.in-Err-write_text.ensures.front)
+
+pub returns-in-Ok-restore-2-clause-ran : goal.returns-in-Ok-restore-2-clause-ran
+returns-in-Ok-restore-2-clause-ran g c =
+    rw c.in-Multi.is (IsEnded-done of_store (multi_course c.in-Multi.restorer) _ _ c.in-Ok-restore-2.ensures.ran.ends)
+
+pub returns-in-Err-restore-2-clause-ran : goal.returns-in-Err-restore-2-clause-ran
+returns-in-Err-restore-2-clause-ran g c =
+    rw c.in-Multi.is (IsEnded-stop of_store (multi_course c.in-Multi.restorer) _ _ (restore_stop c.in-Err-restore-2.fault) c.into-in-Err-restore-2.result c.in-Err-restore-2.ensures.ran c.into-in-Err-restore-2.ensures)
+
+pub returns-in-Err-restore-2-clause-cause : goal.returns-in-Err-restore-2-clause-cause
+returns-in-Err-restore-2-clause-cause g c =
+    HasClassCause-stop of_store _ _ (restore_stop c.in-Err-restore-2.fault) c.into-in-Err-restore-2.result c.in-Err-restore-2.ensures.cause c.into-in-Err-restore-2.ensures
 
 pub returns-in-Ok-tabulate-clause-ran : goal.returns-in-Ok-tabulate-clause-ran
 returns-in-Ok-tabulate-clause-ran g c =
