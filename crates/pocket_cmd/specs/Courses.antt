@@ -4,6 +4,7 @@ use Rattle.std.specs.Option.{option_map}
 use Rattle.desk_ports.specs.Courses.{Course, no_outputs, to_output}
 use Rattle.side_tables.specs.Grammar.{schedule_rows_of, copy_rows_of, bad_schedule_row, bad_copy_row}
 use Rattle.side_tables.specs.Rows.{copies_of}
+use Rattle.side_tables.specs.Streams.{bad_stream_row, streams_of}
 use Rattle.flight_chain.specs.Compressing.{Compression, compress_course}
 use Rattle.loss_player.specs.Playing.{play_course}
 use Rattle.ground_chain.specs.Listing.{listing_course}
