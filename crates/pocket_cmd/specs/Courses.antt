@@ -12,7 +12,6 @@ use Rattle.ground_chain.specs.Restoring.{restore_course}
 use Rattle.late_window.specs.Restoring.{late_course}
 use Rattle.forecast.specs.Prospects.{prospect_of}
 use Rattle.forecast.specs.Texts.{forecast_text}
-use Rattle.side_tables.specs.Streams.{bad_stream_row, streams_of}
 use Rattle.multi_ground.specs.MultiOutputs.{multi_course}
 use Rattle.param_table.specs.Grammar.{bad_text_row, text_columns}
 use Rattle.param_table.specs.Tabling.{Tabulation, table_course}

@@ -23,7 +23,7 @@ ghost use Rattle.late_window.specs.Deliveries.{IsLateDelivery};
 ghost use Rattle.late_window.specs.Restoring.{late_done, ordered_run, store_arrivals};
 ghost use Rattle.late_window.specs.Rows.{late_row};
 ghost use Rattle.pocket_cmd.specs.Apart.{AreApart};
-ghost use Rattle.pocket_cmd.specs.Command.{Command, Compress, CompressValues, Forecast, ForecastValues, Late, LateValues, Play, PlayValues, Restore, RestoreValues, Table, TableValues, Trial, TrialValues, AreGiven, IsRight, command_of};
+ghost use Rattle.pocket_cmd.specs.Command.{Command, Compress, CompressValues, Forecast, ForecastValues, Late, LateValues, Multi, MultiValues, Play, PlayValues, Restore, RestoreValues, Table, TableValues, Trial, TrialValues, AreGiven, IsRight, command_of};
 ghost use Rattle.pocket_cmd.specs.Courses.{course_of, forecast_by_texts, names_of};
 ghost use Rattle.pocket_cmd.specs.Delivery.{HasWritten, IsInputWhole, recorded_history};
 ghost use Rattle.pocket_cmd.specs.Openings.{input_given, side_given};

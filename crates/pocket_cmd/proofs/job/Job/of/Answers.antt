@@ -82,11 +82,6 @@ returns-in_ok-tabler-in-Table-clause-after g c =
     made c.args.command.now verb.Table c.in-Table.is c.args.text.now _ _ (job.Table c.in_ok-tabler-in-Table.field-0)
     (c.in_ok-tabler-in-Table.ensures.rows, record { owes = ap (λ tabler. job_course (job.Table tabler)) c.in_ok-tabler-in-Table.ensures.tabler; reads = refl; reports = refl; is = refl })
 
-pub returns-in_ok-multi_restorer-in-Multi-clause-after : goal.returns-in_ok-multi_restorer-in-Multi-clause-after
-returns-in_ok-multi_restorer-in-Multi-clause-after g c =
-    made c.args.command.now verb.Multi c.in-Multi.is c.args.text.now _ _ (job.Multi c.in_ok-multi_restorer-in-Multi.field-0)
-    (c.in_ok-multi_restorer-in-Multi.ensures.rows, record { owes = ap (λ restorer. job_course (job.Multi restorer)) c.in_ok-multi_restorer-in-Multi.ensures.restorer; reads = refl; reports = refl; is = refl })
-
 -- the script is the input of the command's name
 forecast_made : (words : List (List ℕ)) (text : List ℕ) (old new : Meanings) (forecast : ForecastState) (name : Option (List ℕ)) → name ≡ (names_of (command_by verb.Forecast words)).input → bad_schedule_row text ≡ None
     → IsScriptRead name bad_copy_row old new (λ script. forecast ≡ record { packets = (forecast_by words).packets; outlook = record { plan = schedule_rows_of text; robust = (forecast_by words).robust; script = copy_rows_of script } })
