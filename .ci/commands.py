@@ -56,7 +56,7 @@ def wrong(word):
 
 def sample(name):
     """A sample that ships with the program."""
-    with open(os.path.join(SAMPLES, name), "rb") as file:
+    with open(os.path.join(documents.ROOT, "crates", "pocket", "data", name), "rb") as file:
         return file.read()
 
 
@@ -113,7 +113,7 @@ VERBS = [
     case("forecast", FORECAST, before={"s": sample("pass.csv"), "x": sample("fades.csv")}, after={"y": documents.FORECAST, "y.part": None}),
     case("forecast from a pipe to a pipe", "forecast out=- packets=6 robust=1 plan=s script=-", given=b"drop,2,3,1", out=SIX, before={"s": b"5,5,1,fr"}),
     case("forecast without rows", FORECAST, before={"s": b"", "x": b""}, after={"y": b"first,last,state\n0,999,sure\ngaps,0,1\nend,1000,1000\n"}),
-    case("version", "--version", out=b"pocket 0.1.0\n"),
+    case("version", "--version", out=b"pocket 1.0.0\n"),
 ]
 
 REFUSALS = [
@@ -306,7 +306,8 @@ def helps(runner):
     """Whether `--help` names each verb with each of its keys, the range of each number and the exit numbers."""
     verbs = {"compress": "in= out= bits= apid= robust= plan= mask=", "play": "in= out= report= apid= script=",
              "restore": "in= out= report= bits= apid=", "show": "in= out= bits= apid=",
-             "trial": "seed= packets= bits= robust= out=", "table": "in= out= report= fields= bits=",
+             "trial": "seed= packets= bits= robust= out=", "multi": "in= out= report= streams=",
+             "late": "in= out= report= bits= apid= window=", "table": "in= out= report= fields= bits=",
              "forecast": "out= packets= robust= plan= script="}
     told = runner.start(["--help"], stdout=subprocess.PIPE, stderr=subprocess.PIPE)
     out, err = told.communicate()

@@ -1,6 +1,6 @@
 #!/usr/bin/env python3
 """Tries pictures/draw.py, and holds the pictures, the caller and the names that docs/ shows to what is drawn and to what is
-proved. Run alone it draws the pictures anew."""
+proved, and the manual page and README.md to the program's help. Run alone it draws the pictures anew."""
 
 import os
 import subprocess
@@ -9,17 +9,18 @@ import tempfile
 import xml.etree.ElementTree as xml
 
 import names
+import page
 from table import table
 
 ROOT = os.path.dirname(os.path.dirname(os.path.abspath(__file__)))
 LISTING = b"0 written 1 00 00 b0\n1 written 1 01 01 b1\n2-2 lost\n3 written 1 02 03 b3\nend 3 3 0\n"
 PACKET = ["recent changes: no place=10", "effective robustness level: 1=0001", "not short: a mask or whole content follows=0", "the mask is sent=1",
           "the edges of the mask: none, so the mask is 00=10", "the content is whole=1", "number of places: 8=11000110", "content: B0=10110000"]
-SAMPLES = os.path.join(ROOT, "crates", "pocket", "data")
 # What pocket forecasts of a thousand packets under data/pass.csv and data/fades.csv.
 FORECAST = (b"first,last,state\n0,9,sure\n10,10,lost\n11,49,sure\n50,51,lost\n52,189,sure\n190,194,lost\n195,199,open\n200,204,sure\n"
             b"205,207,lost\n208,299,open\n300,529,sure\n530,533,lost\n534,599,open\n600,998,sure\n999,999,lost\ngaps,0,6\nend,1000,821\n")
 DRAWN = {"loss.svg": (["listing"], LISTING), "packet.svg": (["packet"] + PACKET, b""), "forecast.svg": (["forecast"], FORECAST)}
+SAMPLES = os.path.join(ROOT, "crates", "pocket", "data")
 
 # Each line of a listing, and what the picture says of the packet.
 EACH = [(b"0 written 15 00 00 b0", "packet 0: written, level 15, repeated 2 times"), (b"0 repeat", ""), (b"0 repeat", ""),
@@ -159,12 +160,18 @@ def names_are_found():
     return "; ".join(names.unknown()) or None
 
 
+def page_agrees():
+    """Whether the manual page and README.md have what the program's help has."""
+    return "; ".join(page.differences()) or None
+
+
 def tries():
     """What is tried: each with its name, and a function that gives what is wrong, or None."""
     return [(f"the picture {name}", lambda name=name, row=row: is_held(name, draw(*row))) for name, row in DRAWN.items()] + [
         ("the picture table.svg", lambda: is_held("table.svg", draw_table(*sample()))), ("tables", draws_tables),
-        ("pictures of each line", draws_each), ("pictures of forecasts", draws_forecasts), ("refused listings and forecasts", refuses), ("the caller that is shown", quotes_the_caller),
-        ("laws, clauses and definitions of the documents", names_are_found)]
+        ("pictures of each line", draws_each), ("pictures of forecasts", draws_forecasts), ("refused listings and forecasts", refuses),
+        ("the caller that is shown", quotes_the_caller),
+        ("laws, clauses and definitions of the documents", names_are_found), ("help, manual page and README", page_agrees)]
 
 
 if __name__ == "__main__":

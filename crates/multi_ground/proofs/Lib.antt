@@ -4,3 +4,9 @@ pub mod MultiCourses
 pub mod StreamWritings
 pub mod LastRows
 pub mod NoShapes
+pub mod StreamsApart
+pub mod WellJudged
+pub mod ContentsApart
+pub mod Lines
+pub mod RowsApart
+pub mod Restored

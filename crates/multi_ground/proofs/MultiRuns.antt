@@ -83,7 +83,7 @@ run-few : (o : Option StreamJudged) (xs : List StreamJudged) (n : ℕ) → lengt
 run-few None xs n few = omega arith
 run-few (Some j) xs n few = omega arith
 
-multi_run_from-few : (streams : List StreamRow) (before packets : List Packet) → length (multi_run_from streams before packets) ≤ length packets
+pub multi_run_from-few : (streams : List StreamRow) (before packets : List Packet) → length (multi_run_from streams before packets) ≤ length packets
 multi_run_from-few streams before [] = omega arith
 multi_run_from-few streams before (p ∷ packets) =
     let more = run-few (judged_after streams before p) (multi_run_from streams (before ++ p ∷ []) packets) (length packets) (multi_run_from-few streams (before ++ p ∷ []) packets) in

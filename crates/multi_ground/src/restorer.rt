@@ -1,9 +1,10 @@
 //! The command `multi`: from a store of several streams to a store of their restored packets and one report.
 
-ghost use Rattle.std.specs.Prelude.{◌≡◌, ℕ, Err, IfOk};
-ghost use Rattle.desk_ports.specs.Meanings.{IsReadyIn, IsReadyOut};
+ghost use Rattle.std.specs.Prelude.{◌≡◌, ◌<◌, ℕ, All, Err, List, Some, IfOk, OnOk};
+ghost use Rattle.desk_ports.specs.Meanings.{IsReadyIn, IsReadyOut, left};
 ghost use Rattle.desk_ports.specs.Courses.{AfterRun, HasCause, by_stop};
 ghost use Rattle.ground_chain.specs.Restoring.{stop_by};
+ghost use Rattle.multi_ground.specs.Apart.{AreRestored};
 ghost use Rattle.multi_ground.specs.MultiOutputs.{multi_work};
 
 use crate::receiving::MultiReceiving;
@@ -53,6 +54,11 @@ impl MultiRestorer {
         ensures ran { AfterRun (multi_work self) (D.meaning desk.old) (D.meaning desk.new)
             (by_stop stop_by result) }
         ensures cause { HasCause (D.counts desk.old) (D.counts desk.new) (by_stop stop_by result) }
+        // No stream sees another: what is added is a store of Space Packets again, whose contents on each APID are those of
+        // the run over its own arrivals, and a report whose lines on each APID are the rows of that run.
+        ensures apart { (store : List ℕ) → All (λ b. b < 256) store
+            → left (D.meaning desk.old) Inlet.Main ≡ Some store
+            → OnOk result (AreRestored self store (D.meaning desk.old) (D.meaning desk.new)) }
         // A packet of another shape is no fault.
         ensures shape { (byte : ℕ) → result ≡ Err (RestoreFault.Store (StoreFault.Shape byte)) → ⊥ }
     {

@@ -25,7 +25,8 @@ side_granted words (Some name) grants granted (key, is, given) = granted name (k
   is_read (zero, within, e) = (1, omega arith, e)
   is_read (suc zero, within, e) = (2, omega arith, e)
   is_read (suc (suc zero), within, e) = (3, omega arith, e)
-  is_read (suc (suc (suc n)), within, e) = absurd (omega (arith, within))
+  is_read (suc (suc (suc zero)), within, e) = (4, omega arith, e)
+  is_read (suc (suc (suc (suc n))), within, e) = absurd (omega (arith, within))
 
 pub input_granted : (words : List (List ℕ)) (input : Option (List ℕ)) (grants : List ℕ → Bool) → AreGranted words read_keys grants → IfSome input (AssignsToOne words input_keys) → IfSome input (λ name. IsTrue (grants name))
 input_granted words None grants granted given = tt

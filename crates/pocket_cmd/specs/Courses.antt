@@ -4,16 +4,19 @@ use Rattle.std.specs.Option.{option_map}
 use Rattle.desk_ports.specs.Courses.{Course, no_outputs, to_output}
 use Rattle.side_tables.specs.Grammar.{schedule_rows_of, copy_rows_of, bad_schedule_row, bad_copy_row}
 use Rattle.side_tables.specs.Rows.{copies_of}
+use Rattle.side_tables.specs.Streams.{bad_stream_row, streams_of}
 use Rattle.flight_chain.specs.Compressing.{Compression, compress_course}
 use Rattle.loss_player.specs.Playing.{play_course}
 use Rattle.ground_chain.specs.Listing.{listing_course}
 use Rattle.ground_chain.specs.Restoring.{restore_course}
+use Rattle.late_window.specs.Restoring.{late_course}
 use Rattle.forecast.specs.Prospects.{prospect_of}
 use Rattle.forecast.specs.Texts.{forecast_text}
+use Rattle.multi_ground.specs.MultiOutputs.{multi_course}
 use Rattle.param_table.specs.Grammar.{bad_text_row, text_columns}
 use Rattle.param_table.specs.Tabling.{Tabulation, table_course}
 use Rattle.pocket_cmd.specs.Faults.{DataFault, of_recording, of_store}
-use Rattle.pocket_cmd.specs.Command.{Command, Compress, Play, Restore, Show, Trial, Table, Forecast, CompressValues, ForecastValues, Names, TableValues}
+use Rattle.pocket_cmd.specs.Command.{Command, Compress, Play, Restore, Show, Trial, Multi, Late, Table, Forecast, CompressValues, ForecastValues, Names, TableValues}
 use Rattle.pocket_cmd.specs.Summary.{summary_by}
 
 -- the same course, its fault named otherwise
@@ -78,6 +81,18 @@ errand_of (Trial t) = record {
   bad_row = no_row;
   bad_script_row = None;
   course = λ text input. text_course (summary_by t);
+}
+errand_of (Multi m) = record {
+  names = record { side = Some m.streams; input = Some m.input; output = m.output; report = Some m.report };
+  bad_row = bad_stream_row;
+  bad_script_row = None;
+  course = λ text input. with_fault of_store (multi_course (streams_of text) input);
+}
+errand_of (Late l) = record {
+  names = record { side = None; input = Some l.input; output = l.output; report = Some l.report };
+  bad_row = no_row;
+  bad_script_row = None;
+  course = λ text input. with_fault of_store (late_course l.bits l.apid l.window input);
 }
 errand_of (Table t) = record {
   names = record { side = Some t.fields; input = Some t.input; output = t.output; report = Some t.report };

@@ -123,11 +123,11 @@ fault_of rows words = or_word (wrong_word rows [] words) (or_missing (is_missing
 
 -- the keys whose values are names to read, and names to write
 abbrev pub read_keys : List (List ℕ)
-read_keys = codes "in" ∷ codes "plan" ∷ codes "script" ∷ codes "fields" ∷ []
+read_keys = codes "in" ∷ codes "plan" ∷ codes "script" ∷ codes "fields" ∷ codes "streams" ∷ []
 
 -- of them, the keys for the name of a side input, and of a main input
 abbrev pub side_keys : List (List ℕ)
-side_keys = codes "plan" ∷ codes "script" ∷ codes "fields" ∷ []
+side_keys = codes "plan" ∷ codes "script" ∷ codes "fields" ∷ codes "streams" ∷ []
 
 abbrev pub input_keys : List (List ℕ)
 input_keys = codes "in" ∷ codes "script" ∷ []

@@ -1,11 +1,14 @@
 //! Laws of the definitions that the top call's contract cites.
-ghost use Rattle.std.specs.Prelude.{◌≡◌, ◌⊎◌, ◌≤◌, ◌<◌, ◌^◌, ℕ, [], length, All, List, Ok, Some, None};
+ghost use Rattle.std.specs.Prelude.{◌≡◌, ◌⊎◌, ◌≤◌, ◌<◌, ◌^◌, ◌++◌, ℕ, [], length, map, All, List, Ok, Some, None};
 ghost use Rattle.desk_ports.specs.Courses.{owed, to_output};
 ghost use Rattle.desk_ports.specs.Meanings.{Meanings};
 ghost use Rattle.mask_update.specs.Histories.{History, IsValid};
 ghost use Rattle.side_tables.specs.Grammar.{copy_rows_of, schedule_rows_of};
 ghost use Rattle.side_tables.specs.Rows.{copies_of};
+ghost use Rattle.side_tables.specs.Streams.{stream_at, streams_of};
+ghost use Rattle.multi_ground.specs.Apart.{HasStream};
 ghost use Rattle.packet_encode.specs.Deliveries.{WrittenAt, arrivals};
+ghost use Rattle.packet_store.specs.Walks.{walk};
 ghost use Rattle.forecast.specs.Prospects.{IsSure, prospect_of};
 ghost use Rattle.flight_chain.specs.Recordings.{recording_walk};
 ghost use Rattle.flight_chain.specs.Stores.{store_of};
@@ -14,9 +17,13 @@ ghost use Rattle.param_table.specs.Texts.{limit_text, table_text};
 ghost use Rattle.loss_player.specs.Gaps.{AreGapsShort};
 ghost use Rattle.loss_player.specs.Played.{played_bytes, played_of};
 ghost use Rattle.loss_player.specs.Report.{play_report};
-ghost use Rattle.ground_chain.specs.Deliveries.{report_text, restored_bytes};
+ghost use Rattle.ground_chain.specs.Deliveries.{arrival_at, report_text, restored_bytes};
+ghost use Rattle.ground_chain.specs.Report.{run_bytes, run_report};
+ghost use Rattle.late_window.specs.Deliveries.{IsLateDelivery};
+ghost use Rattle.late_window.specs.Restoring.{late_done, ordered_run, store_arrivals};
+ghost use Rattle.late_window.specs.Rows.{late_row};
 ghost use Rattle.pocket_cmd.specs.Apart.{AreApart};
-ghost use Rattle.pocket_cmd.specs.Command.{Command, Compress, CompressValues, Forecast, ForecastValues, Play, PlayValues, Restore, RestoreValues, Table, TableValues, Trial, TrialValues, AreGiven, IsRight, command_of};
+ghost use Rattle.pocket_cmd.specs.Command.{Command, Compress, CompressValues, Forecast, ForecastValues, Late, LateValues, Multi, MultiValues, Play, PlayValues, Restore, RestoreValues, Table, TableValues, Trial, TrialValues, AreGiven, IsRight, command_of};
 ghost use Rattle.pocket_cmd.specs.Courses.{course_of, forecast_by_texts, names_of};
 ghost use Rattle.pocket_cmd.specs.Delivery.{HasWritten, IsInputWhole, recorded_history};
 ghost use Rattle.pocket_cmd.specs.Openings.{input_given, side_given};
@@ -55,6 +62,24 @@ pub fn trials_owe_their_summary()
         → (refusal ≡ Refusal.WriteFault) ⊎ (refusal ≡ Refusal.NoMemory) }
 {}
 
+/// What a whole store owes whose packets may come late is the restored packets and the report of the run over its packets of
+/// the APID in order, without those that are too late, and the row of these. If the packets are those of a valid history and come
+/// late by no more than the window, that is the inputs of the packets that are written, and the report of all others.
+pub fn late_stores_owe_their_order()
+    ensures order { (l : LateValues) (store : List ℕ) → IsInputWhole (Late l) store →
+        owed (course_of (Late l) [] store) ≡ record {
+          output = run_bytes (ordered_run l.bits l.apid l.window store);
+          report = run_report (ordered_run l.bits l.apid l.window store)
+              ++ late_row (late_done l.bits l.apid l.window store).late;
+        } }
+    ensures restored { (l : LateValues) (h : History) (copies : ℕ → ℕ) (store numbers : List ℕ)
+        → IsInputWhole (Late l) store → IsValid h → h.places ≡ l.bits
+        → IsLateDelivery l.window (length h.steps) copies numbers
+        → store_arrivals l.apid store ≡ map (arrival_at h) numbers →
+        owed (course_of (Late l) [] store)
+        ≡ record { output = restored_bytes h copies; report = report_text h copies ++ late_row 0 } }
+{}
+
 /// A table owes the texts of the packets of a whole recording, by its fields: their table, and the report of the values out of
 /// their limits.
 pub fn tables_owe_their_texts()
@@ -64,6 +89,18 @@ pub fn tables_owe_their_texts()
           output = table_text (text_columns t.bits fields) packets;
           report = limit_text (text_columns t.bits fields) packets;
         } }
+{}
+
+/// What `multi` owes for a whole store is a store of Space Packets again, and a report. No stream sees another: its contents in
+/// that store, and its lines of that report, are those of the run over its own arrivals.
+pub fn streams_are_restored_apart()
+    ensures whole { (m : MultiValues) (streams store : List ℕ) → All (λ b. b < 256) store
+        → IsInputWhole (Multi m) store
+        → (walk None (owed (course_of (Multi m) streams store)).output).ending ≡ None }
+    ensures each { (m : MultiValues) (streams store : List ℕ) (index : ℕ) → All (λ b. b < 256) store
+        → IsInputWhole (Multi m) store → index < length (streams_of streams)
+        → let all = owed (course_of (Multi m) streams store) in
+        HasStream (stream_at (streams_of streams) index) store all.output all.report }
 {}
 
 /// A forecast owes its text for a schedule and a script. What it calls sure is written of any recording of so many packets

@@ -1,16 +1,21 @@
-use Rattle.std.proofs.Common.{ℕ, List, [], Result, subst}
+use Rattle.std.proofs.Common.{◌≡◌, ◌<◌, ℕ, All, List, [], Some, Result, Ok, Err, OnOk, subst}
 use Rattle.std.proofs.lemmas.Result.{err_from_is_err_and}
+use Rattle.desk_ports.specs.declared.desk.Inlet.TheVariants as inlet
+use Rattle.desk_ports.specs.Meanings.{Meanings, left}
 use Rattle.desk_ports.specs.Courses.{AfterRun, IsCutShort, by_stop, to_report}
 use Rattle.desk_ports.proofs.Runs.{Ran-notes}
 use Rattle.desk_ports.proofs.Steps.{AfterRun-after, IsCutShort-wrote, Reaches-wrote, WroteFront-report}
 use Rattle.packet_store.specs.StoreWorks.{work_on}
 use Rattle.side_tables.specs.declared.rows.StreamRow.{StreamRow}
+use Rattle.side_tables.specs.Streams.{AreStreams}
 use Rattle.ground_chain.specs.declared.fault.RestoreFault.{RestoreFault}
 use Rattle.ground_chain.specs.Restoring.{stop_by}
+use Rattle.multi_ground.specs.Apart.{AreRestored}
 use Rattle.multi_ground.specs.MultiOutputs.{multi_course, multi_header, multi_work}
 use Rattle.multi_ground.specs.Receiving.{left_after}
 use Rattle.multi_ground.proofs.MultiCourses.{Owes-unread, Steps-unread}
 use Rattle.multi_ground.proofs.NoShapes.{no_shape}
+use Rattle.multi_ground.proofs.Restored.{AreRestored-done}
 use Rattle.multi_ground.proofs.restorer.MultiRestorer.restore.Goals as goal
 
 pub returns-in_err-write_header-clause-ran : goal.returns-in_err-write_header-clause-ran
@@ -42,3 +47,13 @@ returns-clause-shape g c = λ byte is.
     let a = g.D.Desk.meaning c.args.desk.now in
     let d = g.D.Desk.meaning c.drive.new.desk in
     no_shape c.args.self a d byte (subst (λ (result : Result ℕ RestoreFault). AfterRun (multi_work c.args.self) a d (by_stop stop_by result)) is (returns-clause-ran g c))
+
+done : (streams : List StreamRow) (store : List ℕ) (a b : Meanings) (result : Result ℕ RestoreFault) → AreStreams streams → All (λ n. n < 256) store → left a inlet.Main ≡ Some store → AfterRun (multi_work streams) a b (by_stop stop_by result) → OnOk result (AreRestored streams store a b)
+done streams store a b (Ok written) are bytes told ran = AreRestored-done streams store a b are bytes told ran.ends
+done streams store a b (Err fault) are bytes told ran = tt
+
+pub returns-clause-apart : goal.returns-clause-apart
+returns-clause-apart g c = λ store bytes told.
+    let a = g.D.Desk.meaning c.args.desk.now in
+    let d = g.D.Desk.meaning c.drive.new.desk in
+    done c.args.self store a d c.drive.result (subst AreStreams c.self.view_is c.self.invariant.received.streams) bytes told (returns-clause-ran g c)

@@ -1,0 +1,94 @@
+//! What the definitions of the streams in a store mean.
+
+ghost use Rattle.std.specs.Prelude.{◌≡◌, ◌^◌, ◌<◌, ◌≤◌, ◌∷◌, ◌++◌, [], codes, ℕ, All, List, None, length};
+ghost use Rattle.desk_ports.specs.Courses.{owed};
+ghost use Rattle.packet_store.specs.SpacePackets.{Packet};
+ghost use Rattle.packet_store.specs.Walks.{IsGood, walk};
+ghost use Rattle.side_tables.specs.declared.rows.StreamRow.{StreamRow};
+ghost use Rattle.side_tables.specs.Streams.{AreStreams, stream_at};
+ghost use Rattle.loss_player.specs.Gaps.{AreGapsShort};
+ghost use Rattle.mask_update.specs.Histories.{History, IsValid};
+ghost use Rattle.ground_chain.specs.Deliveries.{history_arrivals, report_text, restored_bytes};
+ghost use Rattle.ground_chain.specs.Report.{end_row, header_row, restored_of, run_bytes, run_rows};
+ghost use Rattle.ground_chain.specs.Run.{run};
+ghost use Rattle.multi_ground.specs.Apart.{HasStream, contents_on, judged_with, multi_report, packets_from, rows_on};
+ghost use Rattle.multi_ground.specs.MultiOutputs.{multi_course, multi_header, multi_work, outputs_of};
+ghost use Rattle.multi_ground.specs.MultiRun.{multi_run, stream_arrivals};
+ghost use Rattle.multi_ground.specs.Worked.{two_streams, two_stream_store};
+
+/// No stream sees another: what is said of the arrivals of a stream is the run over these arrivals alone.
+pub fn streams_are_apart()
+    ensures { (streams : List StreamRow) (packets : List Packet) (index : ℕ) → AreStreams streams
+        → index < length streams
+        → judged_with (stream_at streams index).apid (multi_run streams packets)
+        ≡ run (stream_at streams index).bits
+        (stream_arrivals (stream_at streams index).apid packets) }
+{}
+
+/// The output is a store of Space Packets again: it is whole, and has one packet for each written arrival, in their order,
+/// with the APID, the number by the period as the count, and the content as the data.
+pub fn the_output_is_a_store()
+    ensures { (streams : List StreamRow) (packets : List Packet) → AreStreams streams
+        → All (IsGood None) packets → length packets ≤ 2 ^ 32
+        → walk None (outputs_of (multi_run streams packets)).output
+        ≡ record {
+          packets = packets_from (multi_run streams packets);
+          rest = [];
+          ending = None;
+        } }
+{}
+
+/// The contents on the APID of a stream in the output are those of the run over its arrivals alone.
+pub fn contents_are_apart()
+    ensures { (streams : List StreamRow) (packets : List Packet) (index : ℕ) → AreStreams streams
+        → All (IsGood None) packets → length packets ≤ 2 ^ 32 → index < length streams
+        → contents_on (stream_at streams index).apid (outputs_of (multi_run streams packets)).output
+        ≡ run_bytes (run (stream_at streams index).bits
+        (stream_arrivals (stream_at streams index).apid packets)) }
+{}
+
+/// The lines of a stream in the report of whole stores, without the APID and the comma, are the rows of the run over its
+/// arrivals alone and its last row.
+pub fn rows_are_apart()
+    ensures { (streams : List StreamRow) (packets : List Packet) (index : ℕ) → AreStreams streams
+        → All (IsGood None) packets → length packets ≤ 2 ^ 32 → index < length streams
+        → let judged = run (stream_at streams index).bits
+        (stream_arrivals (stream_at streams index).apid packets) in
+        rows_on (stream_at streams index).apid (multi_report streams packets)
+        ≡ run_rows judged ++ end_row (restored_of judged) }
+{}
+
+/// What a whole store owes is a store of Space Packets again, and a report, which have each stream by itself.
+pub fn whole_stores_owe_each_stream()
+    ensures whole { (streams : List StreamRow) (store : List ℕ) → AreStreams streams
+        → All (λ b. b < 256) store → (walk None store).ending ≡ None
+        → (walk None (owed (multi_course streams store)).output).ending ≡ None }
+    ensures each { (streams : List StreamRow) (store : List ℕ) (index : ℕ) → AreStreams streams
+        → All (λ b. b < 256) store → (walk None store).ending ≡ None → index < length streams
+        → HasStream (stream_at streams index) store (owed (multi_course streams store)).output
+        (owed (multi_course streams store)).report }
+{}
+
+/// If the arrivals of a stream are those of a history whose packets arrive so often, with gaps that are shorter than the
+/// period of the sequence counts, it is restored as the history alone would be: its contents are the inputs of the packets
+/// that are written, and its lines, after the header of a report, the report of all others.
+pub fn played_streams_are_restored()
+    ensures { (stream : StreamRow) (store output report : List ℕ) (h : History) (copies : ℕ → ℕ)
+        → HasStream stream store output report → IsValid h → h.places ≡ stream.bits
+        → AreGapsShort copies (length h.steps)
+        → stream_arrivals stream.apid (walk None store).packets ≡ history_arrivals h copies
+        → (contents_on stream.apid output ≡ restored_bytes h copies)
+        × (header_row ++ rows_on stream.apid report ≡ report_text h copies) }
+{}
+
+/// A worked store of two streams of 8 bits, with the APIDs 100 and 101: the second one's first packet comes late, and its
+/// second one is segmented.
+pub fn worked_streams()
+    ensures output { (owed (multi_course two_streams two_stream_store)).output
+        ≡ 0x00 ∷ 0x64 ∷ 0xC0 ∷ 0x00 ∷ 0x00 ∷ 0x00 ∷ 0xB0 ∷ 0x00 ∷ 0x64 ∷ 0xC0 ∷ 0x01 ∷ 0x00 ∷ 0x00
+        ∷ 0xB0 ∷ [] }
+    ensures report { (owed (multi_course two_streams two_stream_store)).report
+        ≡ multi_header ++ codes
+        "101,0,4,lost,0\n101,5,5,unsynced,0\n100,end,2,2,0\n101,end,1,0,0\nshape,1\n" }
+    ensures written { (multi_work two_streams).answer two_stream_store ≡ 2 }
+{}
