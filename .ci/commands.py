@@ -76,6 +76,7 @@ RANGES = [
     ("bits", 1, 49152, "compress in=none out=y bits={} apid=100 robust=1"),
     ("bits", 1, 4096, "trial seed=0 packets=3 bits={} robust=1 out=/dev/full"),
     ("apid", 0, 2046, "show in=none out=y bits=8 apid={}"),
+    ("window", 0, 64, "late in=none out=y report=z bits=8 apid=100 window={}"),
     ("robust", 0, 7, "compress in=none out=y bits=8 apid=100 robust={}"),
     ("seed", 0, 4294967295, "trial seed={} packets=3 bits=8 robust=1 out=/dev/full"),
     ("packets", 1, 10000, "trial seed=0 packets={} bits=8 robust=1 out=/dev/full"),
@@ -113,6 +114,10 @@ VERBS = [
     case("forecast", FORECAST, before={"s": sample("pass.csv"), "x": sample("fades.csv")}, after={"y": documents.FORECAST, "y.part": None}),
     case("forecast from a pipe to a pipe", "forecast out=- packets=6 robust=1 plan=s script=-", given=b"drop,2,3,1", out=SIX, before={"s": b"5,5,1,fr"}),
     case("forecast without rows", FORECAST, before={"s": b"", "x": b""}, after={"y": b"first,last,state\n0,999,sure\ngaps,0,1\nend,1000,1000\n"}),
+    case("late", "late in=x out=y report=z bits=8 apid=100 window=1", before={"x": bytes.fromhex("0064C000000385B8D6000064C002000144C00064C0010003424B8D620064C0030002C085C0")},
+         after={"y": bytes.fromhex("B0B1B1B3"), "z": HEADER + b"end,4,4,0\nlate,0\n", "y.part": None, "z.part": None}),
+    case("late beyond the window", "late in=x out=y report=- bits=8 apid=100 window=0", out=HEADER + b"1,1,lost,0\nend,3,3,0\nlate,1\n",
+         before={"x": bytes.fromhex("0064C000000385B8D6000064C002000144C00064C0010003424B8D620064C0030002C085C0")}, after={"y": bytes.fromhex("B0B1B3")}),
     case("version", "--version", out=b"pocket 1.0.0\n"),
 ]
 

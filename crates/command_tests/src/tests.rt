@@ -6,6 +6,7 @@ mod desk;
 mod faults;
 mod forecasts;
 mod foreseen;
+mod late;
 mod listings;
 mod long_chains;
 mod played;
