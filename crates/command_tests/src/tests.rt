@@ -16,6 +16,7 @@ mod samples;
 mod short_chains;
 mod sides;
 mod stores;
+mod streams;
 mod tables;
 mod texts;
 mod trials;

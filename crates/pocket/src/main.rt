@@ -32,6 +32,8 @@ pocket show in=STORE out=LISTING bits=F apid=APID
     lists what is found for each packet that a store has on an APID
 pocket trial seed=SEED packets=N bits=F robust=R out=SUMMARY
     runs compress, play and restore over a recording that it generates, in memory
+pocket multi in=STORE out=RESTORED report=REPORT streams=STREAMS
+    restores each of several APIDs in a store, each with bits of its own, into one store
 pocket table in=RECORDING out=TABLE report=REPORT fields=FIELDS bits=F
     writes the fields of packets of F bits as a table, and lists the values out of their limits
 pocket --help
@@ -39,6 +41,7 @@ pocket --version
 The keys come in any order, and those in brackets may be left out:
     in, plan, script  a file to read, or - for standard input
     fields            a file to read that names fields, or - for standard input
+    streams           a file to read that names APIDs and their bits, or - for standard input
     out, report       a file to write, or - for standard output
     bits              the bits of a packet, 1 to 49152, of trial 1 to 4096
     apid              the APID, 0 to 2046
@@ -50,7 +53,7 @@ Exit numbers:
     0  done
     1  reading or writing failed
     2  a word is wrong, where word 0 is the verb
-    3  the schedule, the script or the fields are wrong
+    3  the schedule, the script, the fields or the streams are wrong
     4  the recording or the store is wrong
     5  out of memory
     7  the words cannot be read";

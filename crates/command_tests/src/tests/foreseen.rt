@@ -68,7 +68,10 @@ fn script_of(alloc: Global, draws: &mut Draws) -> Result<String, Fail> {
         let last = first.saturating_add(draws.below(12));
         let step = draws.below(4).saturating_add(1);
         let line = match draws.below(3) {
-            0 => format!(in alloc; "repeat,{first},{last},{step},{}\n", draws.below(8).saturating_add(1))?,
+            0 => format!(in alloc;
+                "repeat,{first},{last},{step},{}\n",
+                draws.below(8).saturating_add(1)
+            )?,
             _ => format!(in alloc; "drop,{first},{last},{step}\n")?,
         };
         text.push_str(&line)?;
@@ -109,10 +112,8 @@ fn states_of(
         let robust = plan.robust(t).unwrap_or(ROBUST);
         let forced = t <= u32::from(robust);
         let arrives = 0 < script.times(t);
-        let mask = arrives
-            && (forced || plan.flags(t).f || is_reached(t, latest_mask, robust));
-        let sure = arrives
-            && (forced || plan.flags(t).r || mask && is_reached(t, latest, robust));
+        let mask = arrives && (forced || plan.flags(t).f || is_reached(t, latest_mask, robust));
+        let sure = arrives && (forced || plan.flags(t).r || mask && is_reached(t, latest, robust));
         if mask {
             latest_mask = Some(t);
         }
@@ -221,7 +222,10 @@ fn assert_foreseen(rt: &(impl Abort + AllocGlobal), seed: u32) -> Result<(), Fai
     )?;
     let lines = lines_of(alloc, &states)?;
     let text = str::from_utf8(desk.get("forecast")).unwrap_or("");
-    assert!(rt; text.starts_with(lines.as_str()), "{plan}\n{script}\n{text}\n{lines}");
+    assert!(rt;
+        text.starts_with(lines.as_str()),
+        "{plan}\n{script}\n{text}\n{lines}"
+    );
     for words in &COMMANDS {
         assert_done(rt, words, &mut desk)?;
     }
