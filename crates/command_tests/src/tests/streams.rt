@@ -14,7 +14,7 @@ use std::test::Fail;
 
 const MULTI: &str = "multi in=a out=b report=c streams=s";
 
-const TWO_STREAMS: &str = "100,8\n101,8\n";
+const TWO_STREAMS: &[u8] = b"100,8\n101,8\n";
 
 /// A packet of the APID 100; one of 101 with the count 5; the next one of 100; and a segment of 101.
 const STORE: &[u8] = &[
@@ -30,15 +30,15 @@ const RESTORED: &[u8] = &[
     0x00, 0x64, 0xC0, 0x01, 0x00, 0x00, 0xB0,
 ];
 
-const REPORT: &str = "apid,first,last,cause,value\n101,0,4,lost,0\n101,5,5,unsynced,0\n\
+const REPORT: &[u8] = b"apid,first,last,cause,value\n101,0,4,lost,0\n101,5,5,unsynced,0\n\
     100,end,2,2,0\n101,end,1,0,0\nshape,1\n";
 
 /// A side text, a store in hexadecimal, what is restored, and the report.
 struct Row {
-    streams: &'static str,
+    streams: &'static [u8],
     store: &'static str,
     output: &'static str,
-    report: &'static str,
+    report: &'static [u8],
 }
 
 static WHOLE: [Row; 9] = [
@@ -50,62 +50,62 @@ static WHOLE: [Row; 9] = [
     },
     // No stream.
     Row {
-        streams: "",
+        streams: b"",
         store: "00 64 C0 00 00 03 85 B8 D6 00 00 65 00 00 00 00 82",
         output: "",
-        report: "apid,first,last,cause,value\nshape,0\n",
+        report: b"apid,first,last,cause,value\nshape,0\n",
     },
     Row {
-        streams: "101,8\n100,8\n",
+        streams: b"101,8\n100,8\n",
         store: "",
         output: "",
-        report: "apid,first,last,cause,value\n101,end,0,0,0\n100,end,0,0,0\nshape,0\n",
+        report: b"apid,first,last,cause,value\n101,end,0,0,0\n100,end,0,0,0\nshape,0\n",
     },
     // Other APIDs are passed over, in whatever shape their packets are.
     Row {
-        streams: "\n100,8",
+        streams: b"\n100,8",
         store: "00 65 C0 00 00 03 85 B8 D6 00 07 FF C0 00 00 00 00 18 66 40 05 00 00 FF \
             00 64 C0 00 00 03 85 B8 D6 00",
         output: "00 64 C0 00 00 00 B0",
-        report: "apid,first,last,cause,value\n100,end,1,1,0\nshape,0\n",
+        report: b"apid,first,last,cause,value\n100,end,1,1,0\nshape,0\n",
     },
     // A telecommand, a packet with a secondary header and a segment, none of which is an arrival.
     Row {
-        streams: "100,8",
+        streams: b"100,8",
         store: "00 64 C0 00 00 03 85 B8 D6 00 10 64 C0 01 00 00 82 08 64 C0 01 00 00 82 \
             00 64 40 01 00 00 82 00 64 C0 01 00 00 82",
         output: "00 64 C0 00 00 00 B0 00 64 C0 01 00 00 B0",
-        report: "apid,first,last,cause,value\n100,end,2,2,0\nshape,3\n",
+        report: b"apid,first,last,cause,value\n100,end,2,2,0\nshape,3\n",
     },
     // Each stream has its own counts, its own mask and its own content.
     Row {
-        streams: "0,8\n2046,8\n",
+        streams: b"0,8\n2046,8\n",
         store: "00 00 C0 00 00 03 85 B8 D6 00 07 FE C0 00 00 03 85 5C 6B 00 \
             00 00 C0 02 00 03 85 B8 D6 00 07 FE C0 01 00 03 85 5C 64 F0 00 00 C0 02 00 03 85 B8 D6 00",
         output: "00 00 C0 00 00 00 B0 07 FE C0 00 00 00 B0 00 00 C0 02 00 00 B0 07 FE C0 01 00 00 4F",
-        report: "apid,first,last,cause,value\n0,1,1,lost,0\n0,end,3,2,1\n2046,end,2,2,0\nshape,0\n",
+        report: b"apid,first,last,cause,value\n0,1,1,lost,0\n0,end,3,2,1\n2046,end,2,2,0\nshape,0\n",
     },
     // Vectors of two lengths: each packet is read by the length of its own stream.
     Row {
-        streams: "10,8\n100,13\n",
+        streams: b"10,8\n100,13\n",
         store: "00 64 C0 00 00 03 81 B9 62 47 00 0A C0 00 00 03 85 B8 D6 00",
         output: "00 64 C0 00 00 01 12 38 00 0A C0 00 00 00 B0",
-        report: "apid,first,last,cause,value\n10,end,1,1,0\n100,end,1,1,0\nshape,0\n",
+        report: b"apid,first,last,cause,value\n10,end,1,1,0\n100,end,1,1,0\nshape,0\n",
     },
     // An APID that begins with another one.
     Row {
-        streams: "1,8\n10,8\n",
+        streams: b"1,8\n10,8\n",
         store: "00 01 C0 01 00 00 82 00 0A C0 02 00 00 82",
         output: "",
-        report: "apid,first,last,cause,value\n1,0,0,lost,0\n1,1,1,unsynced,0\n10,0,1,lost,0\n10,2,2,unsynced,0\n\
+        report: b"apid,first,last,cause,value\n1,0,0,lost,0\n1,1,1,unsynced,0\n10,0,1,lost,0\n10,2,2,unsynced,0\n\
             1,end,1,0,0\n10,end,1,0,0\nshape,0\n",
     },
     // The last count before the first one comes again: the number is written by the period.
     Row {
-        streams: "100,8",
+        streams: b"100,8",
         store: "00 64 FF FF 00 03 85 B8 D6 00 00 64 C0 00 00 00 82",
         output: "00 64 FF FF 00 00 B0 00 64 C0 00 00 00 B0",
-        report: "apid,first,last,cause,value\n100,0,16382,lost,0\n100,end,2,2,0\nshape,0\n",
+        report: b"apid,first,last,cause,value\n100,0,16382,lost,0\n100,end,2,2,0\nshape,0\n",
     },
 ];
 
@@ -163,10 +163,10 @@ static FAILING: [Table; 2] = [
     Table {
         words: MULTI,
         input: Some(STORE),
-        side: Some(TWO_STREAMS.as_bytes()),
+        side: Some(TWO_STREAMS),
         one_byte: false,
         output: RESTORED,
-        report: REPORT.as_bytes(),
+        report: REPORT,
         rows: &[
             (&[(Call::OpenIn, 1), (Call::OpenOut, 1)], End::Unread(0, 0)),
             (&[(Call::OpenIn, 2), (Call::OpenOut, 1)], End::Unread(0, 0)),
@@ -201,10 +201,10 @@ static FAILING: [Table; 2] = [
     Table {
         words: MULTI,
         input: Some(STORE),
-        side: Some(TWO_STREAMS.as_bytes()),
+        side: Some(TWO_STREAMS),
         one_byte: true,
         output: RESTORED,
-        report: REPORT.as_bytes(),
+        report: REPORT,
         rows: &[
             (&[(Call::Write, 6)], End::Unwritten(0, 5)),
             (&[(Call::Write, 28)], End::Unwritten(0, 27)),
@@ -222,8 +222,8 @@ fn stores_of_streams(rt: HostRuntime) -> Result<(), Fail> {
     for row in &WHOLE {
         let store = bytes_of(rt.alloc(), row.store)?;
         let output = bytes_of(rt.alloc(), row.output)?;
-        let case = with_both(MULTI, &store, row.streams.as_bytes());
-        assert_both(&rt, case, &done(&output, row.report.as_bytes()))?;
+        let case = with_both(MULTI, &store, row.streams);
+        assert_both(&rt, case, &done(&output, row.report))?;
     }
     for (length, byte, output, report) in CUTS {
         let store = front(STORE, length);
@@ -234,11 +234,11 @@ fn stores_of_streams(rt: HostRuntime) -> Result<(), Fail> {
         let wanted = refused(
             refusal,
             front(RESTORED, output),
-            front(REPORT.as_bytes(), report),
+            front(REPORT, report),
         );
         assert_both(
             &rt,
-            with_both(MULTI, store, TWO_STREAMS.as_bytes()),
+            with_both(MULTI, store, TWO_STREAMS),
             &wanted,
         )?;
     }
