@@ -17,6 +17,7 @@ mod samples;
 mod short_chains;
 mod sides;
 mod stores;
+mod streams;
 mod tables;
 mod texts;
 mod trials;
