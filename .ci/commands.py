@@ -118,7 +118,7 @@ VERBS = [
          after={"y": bytes.fromhex("B0B1B1B3"), "z": HEADER + b"end,4,4,0\nlate,0\n", "y.part": None, "z.part": None}),
     case("late beyond the window", "late in=x out=y report=- bits=8 apid=100 window=0", out=HEADER + b"1,1,lost,0\nend,3,3,0\nlate,1\n",
          before={"x": bytes.fromhex("0064C000000385B8D6000064C002000144C00064C0010003424B8D620064C0030002C085C0")}, after={"y": bytes.fromhex("B0B1B3")}),
-    case("version", "--version", out=b"pocket 0.1.0\n"),
+    case("version", "--version", out=b"pocket 1.0.0\n"),
 ]
 
 REFUSALS = [
@@ -311,7 +311,8 @@ def helps(runner):
     """Whether `--help` names each verb with each of its keys, the range of each number and the exit numbers."""
     verbs = {"compress": "in= out= bits= apid= robust= plan= mask=", "play": "in= out= report= apid= script=",
              "restore": "in= out= report= bits= apid=", "show": "in= out= bits= apid=",
-             "trial": "seed= packets= bits= robust= out=", "late": "in= out= report= bits= apid= window=", "table": "in= out= report= fields= bits=",
+             "trial": "seed= packets= bits= robust= out=", "multi": "in= out= report= streams=",
+             "late": "in= out= report= bits= apid= window=", "table": "in= out= report= fields= bits=",
              "forecast": "out= packets= robust= plan= script="}
     told = runner.start(["--help"], stdout=subprocess.PIPE, stderr=subprocess.PIPE)
     out, err = told.communicate()

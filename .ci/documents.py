@@ -1,6 +1,6 @@
 #!/usr/bin/env python3
 """Tries pictures/draw.py, and holds the pictures, the caller and the names that docs/ shows to what is drawn and to what is
-proved. Run alone it draws the pictures anew."""
+proved, and the manual page and README.md to the program's help. Run alone it draws the pictures anew."""
 
 import os
 import subprocess
@@ -9,6 +9,7 @@ import tempfile
 import xml.etree.ElementTree as xml
 
 import names
+import page
 from table import table
 
 ROOT = os.path.dirname(os.path.dirname(os.path.abspath(__file__)))
@@ -159,13 +160,18 @@ def names_are_found():
     return "; ".join(names.unknown()) or None
 
 
+def page_agrees():
+    """Whether the manual page and README.md have what the program's help has."""
+    return "; ".join(page.differences()) or None
+
+
 def tries():
     """What is tried: each with its name, and a function that gives what is wrong, or None."""
     return [(f"the picture {name}", lambda name=name, row=row: is_held(name, draw(*row))) for name, row in DRAWN.items()] + [
         ("the picture table.svg", lambda: is_held("table.svg", draw_table(*sample()))), ("tables", draws_tables),
         ("pictures of each line", draws_each), ("pictures of forecasts", draws_forecasts), ("refused listings and forecasts", refuses),
         ("the caller that is shown", quotes_the_caller),
-        ("laws, clauses and definitions of the documents", names_are_found)]
+        ("laws, clauses and definitions of the documents", names_are_found), ("help, manual page and README", page_agrees)]
 
 
 if __name__ == "__main__":

@@ -293,7 +293,6 @@ STRIP = 1000  # the width of a row
 ROWS = 20  # so many rows at most
 STRETCH = re.compile(f"{NUMBER},{NUMBER},(sure|open|lost)")
 GAPS = re.compile(f"gaps,(-|{NUMBER}),{NUMBER}")
-ENDS = re.compile(f"end,{NUMBER},{NUMBER}")
 
 
 def gaps_of(stretches):

@@ -58,6 +58,17 @@ pub fn rows_are_apart()
         ≡ run_rows judged ++ end_row (restored_of judged) }
 {}
 
+/// What a whole store owes is a store of Space Packets again, and a report, which have each stream by itself.
+pub fn whole_stores_owe_each_stream()
+    ensures whole { (streams : List StreamRow) (store : List ℕ) → AreStreams streams
+        → All (λ b. b < 256) store → (walk None store).ending ≡ None
+        → (walk None (owed (multi_course streams store)).output).ending ≡ None }
+    ensures each { (streams : List StreamRow) (store : List ℕ) (index : ℕ) → AreStreams streams
+        → All (λ b. b < 256) store → (walk None store).ending ≡ None → index < length streams
+        → HasStream (stream_at streams index) store (owed (multi_course streams store)).output
+        (owed (multi_course streams store)).report }
+{}
+
 /// If the arrivals of a stream are those of a history whose packets arrive so often, with gaps that are shorter than the
 /// period of the sequence counts, it is restored as the history alone would be: its contents are the inputs of the packets
 /// that are written, and its lines, after the header of a report, the report of all others.

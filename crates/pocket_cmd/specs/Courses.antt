@@ -4,6 +4,7 @@ use Rattle.std.specs.Option.{option_map}
 use Rattle.desk_ports.specs.Courses.{Course, no_outputs, to_output}
 use Rattle.side_tables.specs.Grammar.{schedule_rows_of, copy_rows_of, bad_schedule_row, bad_copy_row}
 use Rattle.side_tables.specs.Rows.{copies_of}
+use Rattle.side_tables.specs.Streams.{bad_stream_row, streams_of}
 use Rattle.flight_chain.specs.Compressing.{Compression, compress_course}
 use Rattle.loss_player.specs.Playing.{play_course}
 use Rattle.ground_chain.specs.Listing.{listing_course}
@@ -11,7 +12,6 @@ use Rattle.ground_chain.specs.Restoring.{restore_course}
 use Rattle.late_window.specs.Restoring.{late_course}
 use Rattle.forecast.specs.Prospects.{prospect_of}
 use Rattle.forecast.specs.Texts.{forecast_text}
-use Rattle.side_tables.specs.Streams.{bad_stream_row, streams_of}
 use Rattle.multi_ground.specs.MultiOutputs.{multi_course}
 use Rattle.param_table.specs.Grammar.{bad_text_row, text_columns}
 use Rattle.param_table.specs.Tabling.{Tabulation, table_course}

@@ -5,7 +5,10 @@ ghost use Rattle.desk_ports.specs.Meanings.{Meanings};
 ghost use Rattle.mask_update.specs.Histories.{History, IsValid};
 ghost use Rattle.side_tables.specs.Grammar.{copy_rows_of, schedule_rows_of};
 ghost use Rattle.side_tables.specs.Rows.{copies_of};
+ghost use Rattle.side_tables.specs.Streams.{stream_at, streams_of};
+ghost use Rattle.multi_ground.specs.Apart.{HasStream};
 ghost use Rattle.packet_encode.specs.Deliveries.{WrittenAt, arrivals};
+ghost use Rattle.packet_store.specs.Walks.{walk};
 ghost use Rattle.forecast.specs.Prospects.{IsSure, prospect_of};
 ghost use Rattle.flight_chain.specs.Recordings.{recording_walk};
 ghost use Rattle.flight_chain.specs.Stores.{store_of};
@@ -20,7 +23,7 @@ ghost use Rattle.late_window.specs.Deliveries.{IsLateDelivery};
 ghost use Rattle.late_window.specs.Restoring.{late_done, ordered_run, store_arrivals};
 ghost use Rattle.late_window.specs.Rows.{late_row};
 ghost use Rattle.pocket_cmd.specs.Apart.{AreApart};
-ghost use Rattle.pocket_cmd.specs.Command.{Command, Compress, CompressValues, Forecast, ForecastValues, Late, LateValues, Play, PlayValues, Restore, RestoreValues, Table, TableValues, Trial, TrialValues, AreGiven, IsRight, command_of};
+ghost use Rattle.pocket_cmd.specs.Command.{Command, Compress, CompressValues, Forecast, ForecastValues, Late, LateValues, Multi, MultiValues, Play, PlayValues, Restore, RestoreValues, Table, TableValues, Trial, TrialValues, AreGiven, IsRight, command_of};
 ghost use Rattle.pocket_cmd.specs.Courses.{course_of, forecast_by_texts, names_of};
 ghost use Rattle.pocket_cmd.specs.Delivery.{HasWritten, IsInputWhole, recorded_history};
 ghost use Rattle.pocket_cmd.specs.Openings.{input_given, side_given};
@@ -86,6 +89,18 @@ pub fn tables_owe_their_texts()
           output = table_text (text_columns t.bits fields) packets;
           report = limit_text (text_columns t.bits fields) packets;
         } }
+{}
+
+/// What `multi` owes for a whole store is a store of Space Packets again, and a report. No stream sees another: its contents in
+/// that store, and its lines of that report, are those of the run over its own arrivals.
+pub fn streams_are_restored_apart()
+    ensures whole { (m : MultiValues) (streams store : List ℕ) → All (λ b. b < 256) store
+        → IsInputWhole (Multi m) store
+        → (walk None (owed (course_of (Multi m) streams store)).output).ending ≡ None }
+    ensures each { (m : MultiValues) (streams store : List ℕ) (index : ℕ) → All (λ b. b < 256) store
+        → IsInputWhole (Multi m) store → index < length (streams_of streams)
+        → let all = owed (course_of (Multi m) streams store) in
+        HasStream (stream_at (streams_of streams) index) store all.output all.report }
 {}
 
 /// A forecast owes its text for a schedule and a script. What it calls sure is written of any recording of so many packets
