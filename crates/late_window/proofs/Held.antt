@@ -1,16 +1,14 @@
 -- The held arrivals, judged one after another.
-use Rattle.std.proofs.Common.{◌≡◌, ℕ, ◌+◌, ◌<◌, ◌≤◌, List, [], ◌∷◌, ◌++◌, length, take, refl, sym, ap, ◌∙◌, subst, append_assoc, append-nil, length-append, arith}
-use Rattle.std.proofs.lemmas.List.{nil_from_length}
+use Rattle.std.proofs.Common.{◌≡◌, ℕ, ◌+◌, ◌<◌, ◌≤◌, List, [], ◌∷◌, ◌++◌, length, take, refl, sym, ap, ◌∙◌, subst, append_assoc, length-append, arith}
 use Rattle.desk_ports.specs.Meanings.{Meanings}
 use Rattle.desk_ports.specs.Courses.{put}
 use Rattle.desk_ports.specs.Turns.{Wrote, WroteFront}
-use Rattle.desk_ports.proofs.Runs.{Ran-none}
 use Rattle.ground_chain.specs.Reckoning.{Reckoning}
 use Rattle.late_window.specs.declared.late.LateArrivals.{LateArrivals}
 use Rattle.late_window.specs.Numbers.{Numbered}
 use Rattle.late_window.specs.Lines.{Line, given_up, without_first}
 use Rattle.late_window.specs.Late.{AreJudged, held_parts}
-use Rattle.late_window.proofs.Judgings.{AreJudged-none, AreJudged-then, Wrote-then, WroteFront-more, WroteFront-next, held_parts-then, packets-judged}
+use Rattle.late_window.proofs.Judgings.{AreJudged-then, Wrote-then, WroteFront-more, WroteFront-next, held_parts-then, packets-judged}
 
 -- the first of them were judged, and what there is to write of these was written
 pub record JudgedPart (start now : LateArrivals) (a b : Meanings) : Type 0 where
@@ -19,9 +17,6 @@ pub record JudgedPart (start now : LateArrivals) (a b : Meanings) : Type 0 where
   pub judged : AreJudged start.judging now.judging done
   pub wrote : Wrote a b (held_parts start.judging done)
   pub late : now.late ≡ start.late
-
-pub JudgedPart-none : (s : LateArrivals) (m : Meanings) → JudgedPart s s m m
-JudgedPart-none s m = record { done = []; split = refl; judged = AreJudged-none s.judging; wrote = Ran-none m; late = refl }
 
 split : (line : Line) (held : List Numbered) → line.held ≡ held → take 1 held ++ (without_first line held).held ≡ held
 split line [] is = is
@@ -62,12 +57,6 @@ JudgedPart-front start now a b c part cut mid judged =
     subst (WroteFront a c) (sym all)
     (WroteFront-next a b c (held_parts start.judging part.done) (put (held_parts now.judging one) (held_parts mid others)) part.wrote
     (WroteFront-more b c (held_parts now.judging one) (held_parts mid others) cut))
-
--- all of them were
-pub all-judged : (start now : LateArrivals) (a b : Meanings) (part : JudgedPart start now a b) → length now.sorter.line.held ≡ 0 → AreJudged start.judging now.judging start.sorter.line.held × Wrote a b (held_parts start.judging start.sorter.line.held)
-all-judged start now a b part none =
-    let same : part.done ≡ start.sorter.line.held = sym (append-nil part.done) ∙ (ap (λ (l : List Numbered). part.done ++ l) (sym (nil_from_length now.sorter.line.held none)) ∙ part.split) in
-    (subst (AreJudged start.judging now.judging) same part.judged, subst (λ (l : List Numbered). Wrote a b (held_parts start.judging l)) same part.wrote)
 
 -- there is room for the next one in the numbers of the run
 pub few-left : (start now : LateArrivals) (a b : Meanings) (part : JudgedPart start now a b) (most : ℕ) → start.judging.restored.packets + length start.sorter.line.held ≤ most → 0 < length now.sorter.line.held → now.judging.restored.packets < most

@@ -1,5 +1,5 @@
 -- Arrivals that are judged one after another: the run over them, what is written of it, and its numbers.
-use Rattle.std.proofs.Common.{◌≡◌, ℕ, ◌+◌, ◌%◌, List, [], ◌∷◌, ◌++◌, length, map, refl, sym, ap, ◌∙◌}
+use Rattle.std.proofs.Common.{◌≡◌, ℕ, ◌+◌, List, [], ◌++◌, length, map, sym, ap, ◌∙◌}
 use Rattle.std.proofs.lemmas.List.{length-map, map-append}
 use Rattle.std.proofs.lemmas.List.Concat.{flat_map-append}
 use Rattle.desk_ports.specs.Meanings.{Meanings}
@@ -7,32 +7,18 @@ use Rattle.desk_ports.specs.Courses.{Outputs, put}
 use Rattle.desk_ports.specs.Turns.{Wrote, WroteFront}
 use Rattle.desk_ports.proofs.Runs.{Ran-then}
 use Rattle.desk_ports.proofs.Courses.{AreFronts-put, AreFronts-then}
-use Rattle.packet_store.specs.SpacePackets.{period}
 use Rattle.ground_chain.specs.declared.restored.Restored.{Restored}
 use Rattle.ground_chain.specs.Run.{Judged, known_from, run_from}
-use Rattle.ground_chain.specs.Report.{added, restored_by, restored_of}
-use Rattle.ground_chain.specs.Reception.{known_of, next_judged}
-use Rattle.ground_chain.specs.Reckoning.{Judges, Reckoning}
+use Rattle.ground_chain.specs.Report.{added, restored_of}
+use Rattle.ground_chain.specs.Reception.{known_of}
+use Rattle.ground_chain.specs.Reckoning.{Reckoning}
 use Rattle.ground_chain.specs.Accounts.{Texts, all_parts}
 use Rattle.ground_chain.specs.Restoring.{restored_texts}
 use Rattle.ground_chain.proofs.Runs.{known_from-append, run_from-append}
-use Rattle.ground_chain.proofs.Counted.{added-assoc, added-none, restored_of-append, restored_of-cons, run_packets}
+use Rattle.ground_chain.proofs.Counted.{added-assoc, restored_of-append, run_packets}
 use Rattle.late_window.specs.Numbers.{Numbered}
 use Rattle.late_window.specs.Order.{arrival_of}
 use Rattle.late_window.specs.Late.{AreJudged, held_parts, run_of}
-
--- none, or one
-pub AreJudged-none : (r : Reckoning) → AreJudged r r []
-AreJudged-none r = record { places = refl; known = refl; restored = sym (added-none r.restored) }
-
-pub AreJudged-one : (old new : Reckoning) (a : Numbered) → Judges old new (a.number % period) a.body → AreJudged old new (a ∷ [])
-AreJudged-one old new a is =
-    let j = next_judged old.reception (a.number % period) a.body in
-    record {
-      places = is.places;
-      known = is.known;
-      restored = is.restored ∙ ap (added old.restored) (sym (restored_of-cons j [] ∙ added-none (restored_by j.verdict)));
-    }
 
 -- what is written of one part and of another
 pub all_parts-append : (texts : Texts) (xs ys : List Judged) → all_parts texts (xs ++ ys) ≡ put (all_parts texts xs) (all_parts texts ys)

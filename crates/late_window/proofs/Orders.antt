@@ -50,10 +50,6 @@ count-sorted_from test done (a ∷ arrivals) =
 pub count-sorted : (test : Numbered → Bool) (arrivals : List Numbered) → count_by test (sorted arrivals) ≡ count_by test arrivals
 count-sorted test arrivals = count-sorted_from test [] arrivals ∙ (let none : 0 + count_by test arrivals ≡ count_by test arrivals = omega arith in none)
 
-length-sorted_from : (done arrivals : List Numbered) → length (sorted_from done arrivals) ≡ length done + length arrivals
-length-sorted_from done [] = omega arith
-length-sorted_from done (a ∷ arrivals) = omega (arith, length-placed a done, length-sorted_from (placed a done) arrivals)
-
 -- all of them are above a number, or none is
 count_above-all : (t r : ℕ) (arrivals : List Numbered) → t < r → AreFrom r arrivals → count_above t arrivals ≡ length arrivals
 count_above-all t r [] lt from = refl
