@@ -42,6 +42,13 @@ TRIAL = "trial seed=0 packets=3 bits=8 robust=1 out=-"
 TABLE = "table in=x out=y report=z fields=s bits=16"
 FIELDS = b"field,0,8,u,mode\nfield,8,8,s,temp\nlimit,temp,-10,40\n"
 TABLED, LIMITS = b"t,mode,temp\n0,1,-16\n1,2,40\n", b"t,name,value,low,high\n0,temp,-16,-10,40\nend,2,1\n"
+MULTI = "multi in=x out=y report=z streams=s"
+STREAMS = b"100,8\n101,8\n"
+TWO_STREAMS = bytes.fromhex("0064C000000385B8D600 0065C005000082 0064C001000082 00650000000082")
+STREAMED = bytes.fromhex("0064C0000000B0 0064C0010000B0")
+STREAM_HEADER = b"apid,first,last,cause,value\n"
+STREAM_ROWS = STREAM_HEADER + b"101,0,4,lost,0\n101,5,5,unsynced,0\n"
+STREAM_REPORT = STREAM_ROWS + b"100,end,2,2,0\n101,end,1,0,0\nshape,1\n"
 SAMPLES = os.path.join(documents.ROOT, "crates", "pocket", "data")
 FORECAST = "forecast out=y packets=1000 robust=2 plan=s script=x"
 SIX = b"first,last,state\n0,1,sure\n2,3,lost\n4,4,open\n5,5,sure\ngaps,0,3\nend,6,3\n"
@@ -76,6 +83,7 @@ RANGES = [
     ("bits", 1, 49152, "compress in=none out=y bits={} apid=100 robust=1"),
     ("bits", 1, 4096, "trial seed=0 packets=3 bits={} robust=1 out=/dev/full"),
     ("apid", 0, 2046, "show in=none out=y bits=8 apid={}"),
+    ("window", 0, 64, "late in=none out=y report=z bits=8 apid=100 window={}"),
     ("robust", 0, 7, "compress in=none out=y bits=8 apid=100 robust={}"),
     ("seed", 0, 4294967295, "trial seed={} packets=3 bits=8 robust=1 out=/dev/full"),
     ("packets", 1, 10000, "trial seed=0 packets={} bits=8 robust=1 out=/dev/full"),
@@ -104,6 +112,13 @@ VERBS = [
     case("trial", TRIAL, out=SUMMARY),
     case("trial to a file", TRIAL[:-1] + "y", after={"y": SUMMARY, "y.part": None}),
     *[case(f"trial {numbers}", "trial seed=%d packets=%d bits=%d robust=%d out=-" % numbers, out=summary(*numbers)) for numbers in TRIALS],
+    case("multi", MULTI, before={"x": TWO_STREAMS, "s": STREAMS},
+         after={"x": TWO_STREAMS, "y": STREAMED, "z": STREAM_REPORT, "y.part": None, "z.part": None}),
+    case("multi from a pipe to a pipe", "multi in=- out=y report=- streams=s", given=TWO_STREAMS, out=STREAM_REPORT,
+         before={"s": STREAMS}, after={"y": STREAMED}),
+    case("multi with its streams on a pipe", "multi in=x out=- report=z streams=-", given=STREAMS, out=STREAMED,
+         before={"x": TWO_STREAMS}, after={"z": STREAM_REPORT}),
+    case("multi without a stream", MULTI, before={"x": TWO_STREAMS, "s": b""}, after={"y": b"", "z": STREAM_HEADER + b"shape,0\n"}),
     case("table", TABLE, before={"x": bytes.fromhex("01F00228"), "s": FIELDS},
          after={"x": bytes.fromhex("01F00228"), "y": TABLED, "z": LIMITS, "y.part": None, "z.part": None}),
     case("table from a pipe to a pipe", "table in=- out=y report=- fields=s bits=16", given=bytes.fromhex("01F00228"), out=LIMITS,
@@ -113,6 +128,10 @@ VERBS = [
     case("forecast", FORECAST, before={"s": sample("pass.csv"), "x": sample("fades.csv")}, after={"y": documents.FORECAST, "y.part": None}),
     case("forecast from a pipe to a pipe", "forecast out=- packets=6 robust=1 plan=s script=-", given=b"drop,2,3,1", out=SIX, before={"s": b"5,5,1,fr"}),
     case("forecast without rows", FORECAST, before={"s": b"", "x": b""}, after={"y": b"first,last,state\n0,999,sure\ngaps,0,1\nend,1000,1000\n"}),
+    case("late", "late in=x out=y report=z bits=8 apid=100 window=1", before={"x": bytes.fromhex("0064C000000385B8D6000064C002000144C00064C0010003424B8D620064C0030002C085C0")},
+         after={"y": bytes.fromhex("B0B1B1B3"), "z": HEADER + b"end,4,4,0\nlate,0\n", "y.part": None, "z.part": None}),
+    case("late beyond the window", "late in=x out=y report=- bits=8 apid=100 window=0", out=HEADER + b"1,1,lost,0\nend,3,3,0\nlate,1\n",
+         before={"x": bytes.fromhex("0064C000000385B8D6000064C002000144C00064C0010003424B8D620064C0030002C085C0")}, after={"y": bytes.fromhex("B0B1B3")}),
     case("version", "--version", out=b"pocket 1.0.0\n"),
 ]
 
@@ -151,6 +170,11 @@ REFUSALS = [
     case("a trial of packets of too many bits", "trial seed=0 packets=3 bits=4097 robust=1 out=-", 2, err=wrong(3)),
     case("a trial with an input", TRIAL + " in=x", 2, err=wrong(6), before={"x": RECORDING}),
     case("a trial to a device that is full", TRIAL[:-1] + "/dev/full", 1, err=WRITE),
+    case("streams with one APID twice", MULTI, 3, err=b"pocket: side row 2 is wrong\n", before={"x": b"", "s": b"100,8\n100,16\n"},
+         after={"y": None, "z": None, "y.part": None}),
+    case("multi of a store that is cut", MULTI, 4, err=b"pocket: store packet at byte 24 is cut\n",
+         before={"x": TWO_STREAMS[:-1], "s": STREAMS}, after={"y": None, "z": None, "y.part": STREAMED, "z.part": STREAM_ROWS}),
+    case("multi of an APID", MULTI + " apid=100", 2, err=wrong(5), before={"x": b"", "s": STREAMS}),
     case("fields with a wrong row", TABLE, 3, err=b"pocket: side row 1 is wrong\n", before={"x": b"", "s": b"field,9,8,u,x\n"},
          after={"y": None, "z": None, "y.part": None}),
     case("a table of a recording that is cut", TABLE, 4, err=b"pocket: recording ends inside packet 1\n",

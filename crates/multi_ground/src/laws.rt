@@ -1,7 +1,7 @@
 //! What the definitions of the streams in a store mean.
 
 ghost use Rattle.std.specs.Prelude.{◌≡◌, ◌^◌, ◌<◌, ◌≤◌, ◌∷◌, ◌++◌, [], codes, ℕ, All, List, None, length};
-ghost use Rattle.desk_ports.specs.Courses.{owed};
+ghost use Rattle.desk_ports.specs.Courses.{AreFronts, owed};
 ghost use Rattle.packet_store.specs.SpacePackets.{Packet};
 ghost use Rattle.packet_store.specs.Walks.{IsGood, walk};
 ghost use Rattle.side_tables.specs.declared.rows.StreamRow.{StreamRow};
@@ -67,6 +67,13 @@ pub fn whole_stores_owe_each_stream()
         → All (λ b. b < 256) store → (walk None store).ending ≡ None → index < length streams
         → HasStream (stream_at streams index) store (owed (multi_course streams store)).output
         (owed (multi_course streams store)).report }
+{}
+
+/// What a front of a store owes before its end is a front of what the store owes before its end.
+pub fn fronts_owe_fronts()
+    ensures { (streams : List StreamRow) (front rest : List ℕ) → All (λ b. b < 256) front →
+        AreFronts (multi_course streams front).before
+        (multi_course streams (front ++ rest)).before }
 {}
 
 /// If the arrivals of a stream are those of a history whose packets arrive so often, with gaps that are shorter than the

@@ -16,8 +16,8 @@ use Rattle.pocket_cmd.specs.declared.status.Refusal.TheVariants as refusal
 use Rattle.pocket_cmd.specs.Command.{Command, Names}
 use Rattle.pocket_cmd.specs.Courses.{bad_row_of, bad_script_row_of, course_of, names_of}
 use Rattle.pocket_cmd.specs.Jobs.{AfterMaking, IsJobOf, job_course}
-use Rattle.pocket_cmd.specs.Openings.{input_given, with_text}
-use Rattle.pocket_cmd.specs.Outcome.{AfterNames, AfterTextClass, IsAnsweredBy, IsBegun, IsNotBegun, IsRowAnswered, IsScriptRefused, IsTextRight, OnceAllRead, answer_by, by_row, by_script, by_text, left_to_open}
+use Rattle.pocket_cmd.specs.Openings.{IsText, input_given, with_text}
+use Rattle.pocket_cmd.specs.Outcome.{AfterClass, AfterCommand, AfterNames, AfterText, AfterTextClass, IsAnsweredBy, IsBegun, IsNotBegun, IsRowAnswered, IsScriptRefused, IsTextRight, OnceAllRead, answer_by, by_row, by_script, by_text, left_to_open}
 use Rattle.pocket_cmd.specs.Status.{Class, HasClassCause, HasStatusCause, IsEnded, class_of, refusal_for, refused_by, status_by, status_of}
 use Rattle.pocket_cmd.specs.Status as class
 use Rattle.pocket_cmd.proofs.Delivered.{text_is}
@@ -177,3 +177,25 @@ module _ (command : Command) (text : List ℕ) (old new : Meanings) where
   answer-not_begun counts after (refusal.BadStore byte kind) (inr e) cause = absurd (not_data (bad_script_row_of command) (names_of command).input old new _ e.1)
   answer-not_begun counts after refusal.TooMany (inl e) cause = absurd e.0
   answer-not_begun counts after refusal.TooMany (inr e) cause = absurd (not_data (bad_script_row_of command) (names_of command).input old new _ e.1)
+
+-- ---- from the side text on
+
+pub AfterCommand-read : (command : Command) (old new : Meanings) (text : List ℕ) (r : Result (Unit {0}) Refusal) → IsText old inlet.Side (names_of command).side text → length text ≤ 1048576
+    → AfterText command text (with_text old inlet.Side (names_of command).side) new r → AfterCommand command old new r
+AfterCommand-read command old new text (Ok done) told within e = record { text = text; told = told; after = e }
+AfterCommand-read command old new text (Err refusal) told within e = by_class (class_of refusal) e where
+  start : Meanings
+  start = with_text old inlet.Side (names_of command).side
+
+  by_class : (why : Class) → AfterTextClass command text start new why → AfterClass command old new why
+  by_class (class.Word word) e = e
+  by_class (class.Text inlet.Side class.Long) (inl e) = absurd e.0
+  by_class (class.Text inlet.Side class.Long) (inr e) = absurd (not_side (bad_script_row_of command) (names_of command).input start new class.Long e.1)
+  by_class (class.Text inlet.Side (class.Row row)) (inl e) = record { text = text; told = told; after = (within, e.0, e.1) }
+  by_class (class.Text inlet.Side (class.Row row)) (inr e) = absurd (not_side (bad_script_row_of command) (names_of command).input start new (class.Row row) e.1)
+  by_class (class.Text inlet.Main bad) (inl e) = absurd e.0
+  by_class (class.Text inlet.Main bad) (inr e) = record { text = text; told = told; after = e }
+  by_class (class.Data fault) e = record { text = text; told = told; after = e }
+  by_class class.Reading e = inr (record { text = text; told = told; after = e })
+  by_class class.Writing e = record { text = text; told = told; after = e }
+  by_class class.Memory e = inr (record { text = text; told = told; after = e })

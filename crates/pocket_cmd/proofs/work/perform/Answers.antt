@@ -1,9 +1,11 @@
-use Rattle.std.proofs.Common.{◌≡◌, Err, sym, ap, subst}
+use Rattle.std.proofs.Common.{◌≡◌, ◌∙◌, Err, sym, ap, subst}
 use Rattle.desk_ports.specs.declared.desk.Inlet.TheVariants as inlet
 use Rattle.pocket_cmd.specs.declared.text.TextFault.TheVariants as unread
 use Rattle.pocket_cmd.specs.Command.{Names, view_command}
-use Rattle.pocket_cmd.specs.Openings.{IsText, IsTextLong, IsTextUnread}
-use Rattle.pocket_cmd.specs.Outcome.{IsAnswered, IsRowAnswered, IsRowFirstOf, IsSideAnswered}
+use Rattle.pocket_cmd.specs.Courses.{names_of}
+use Rattle.pocket_cmd.specs.Openings.{IsText, IsTextLong, IsTextUnread, with_text}
+use Rattle.pocket_cmd.specs.Outcome.{AfterText, IsAnswered, IsRowAnswered, IsRowFirstOf, IsSideAnswered}
+use Rattle.pocket_cmd.proofs.Begun.{AfterCommand-read}
 use Rattle.pocket_cmd.proofs.Unread.{IsAnswered-unread, IsRowFirst-read, IsRowFirst-unread, IsSideAnswered-unread}
 use Rattle.pocket_cmd.proofs.work.perform.Goals as goal
 
@@ -41,3 +43,16 @@ returns-in-Ok-clause-bad_row g c =
     IsRowFirst-read command old (g.D.Desk.meaning c.perform_with.new.desk) c.in-Ok.text.items c.perform_with.result
     (subst (λ (names : Names). IsText old inlet.Side names.side c.in-Ok.text.items) c.names.ensures c.in-Ok.ensures.text)
     (subst (λ text. IsRowAnswered command text c.perform_with.result) c.deref.ensures.value c.perform_with.ensures.row)
+
+pub returns-in-Ok-clause-after : goal.returns-in-Ok-clause-after
+returns-in-Ok-clause-after g c =
+    let command = view_command c.args.command.now in
+    let old = g.D.Desk.meaning c.args.desk.now in
+    let new = g.D.Desk.meaning c.perform_with.new.desk in
+    let side = ap (λ (names : Names). names.side) c.names.ensures in
+    let read : g.D.Desk.meaning c.text_at.new.desk ≡ with_text old inlet.Side (names_of command).side = c.in-Ok.ensures.read ∙ ap (with_text old inlet.Side) side in
+    AfterCommand-read command old new c.in-Ok.text.items c.perform_with.result
+    (subst (λ name. IsText old inlet.Side name c.in-Ok.text.items) side c.in-Ok.ensures.text)
+    c.in-Ok.ensures.within
+    (subst (λ m. AfterText command c.in-Ok.text.items m new c.perform_with.result) read
+    (subst (λ text. AfterText command text (g.D.Desk.meaning c.text_at.new.desk) new c.perform_with.result) c.deref.ensures.value c.perform_with.ensures.after))

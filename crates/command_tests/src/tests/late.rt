@@ -1,0 +1,406 @@
+//! Packets that come late: worked orders, what stands if a call fails or the store is cut, and shuffled stores beside the
+//! same stores in order.
+
+use super::desk::{
+    EIGHT_BITS, HEADER, answer, assert_both, assert_ending, bytes_of_all, done, hold, joined,
+    refused, with_input, words_alone,
+};
+use super::faults::{End, Table, assert_tables};
+use super::samples::{FIRST, FOURTH, SECOND, THIRD};
+use desk_ports::{Call, MemDesk};
+use packet_store::StoreKind;
+use pocket_cmd::{Refusal, Status};
+use std::alloc::{AllocError, Global};
+use std::process::Abort;
+use std::test::Fail;
+
+/// The words but for the window.
+const LATE: &str = "late in=a out=b report=c bits=8 apid=100 window=";
+
+/// A packet with the mask and the whole content of `FIRST`, and the count 16,383; and packets with the next counts that change
+/// nothing.
+const LAST_COUNT: &str = "00 64 FF FF 00 03 85 B8 D6 00";
+
+const COUNT_0: &str = "00 64 C0 00 00 00 82";
+
+const COUNT_1: &str = "00 64 C0 01 00 00 82";
+
+const SAME_LAST_COUNT: &str = "00 64 FF FF 00 00 82";
+
+const IDLE: &str = "07 FF C0 00 00 00 00";
+
+/// A window, packets in the order of arrival, what is restored in hexadecimal, and the report after its first line.
+static ORDERS: [(&str, &[&str], &str, &str); 15] = [
+    (
+        "1",
+        &[FIRST, THIRD, SECOND, FOURTH],
+        "B0 B1 B1 B3",
+        "end,4,4,0\nlate,0\n",
+    ),
+    (
+        "0",
+        &[FIRST, THIRD, SECOND, FOURTH],
+        "B0 B1 B3",
+        "1,1,lost,0\nend,3,3,0\nlate,1\n",
+    ),
+    ("0", &[], "", "end,0,0,0\nlate,0\n"),
+    (
+        "0",
+        &[FIRST, SECOND, THIRD, FOURTH],
+        "B0 B1 B1 B3",
+        "end,4,4,0\nlate,0\n",
+    ),
+    (
+        "64",
+        &[FIRST, SECOND, THIRD, FOURTH],
+        "B0 B1 B1 B3",
+        "end,4,4,0\nlate,0\n",
+    ),
+    (
+        "3",
+        &[FOURTH, THIRD, SECOND, FIRST],
+        "B0 B1 B1 B3",
+        "end,4,4,0\nlate,0\n",
+    ),
+    // The first packet comes after three with greater numbers.
+    (
+        "2",
+        &[FOURTH, THIRD, SECOND, FIRST],
+        "B1 B1 B3",
+        "0,0,lost,0\nend,3,3,0\nlate,1\n",
+    ),
+    // Packets of another APID are passed over.
+    (
+        "1",
+        &[IDLE, FIRST, IDLE, THIRD, IDLE, SECOND, FOURTH, IDLE],
+        "B0 B1 B1 B3",
+        "end,4,4,0\nlate,0\n",
+    ),
+    // Repeats within the window and beyond it.
+    (
+        "1",
+        &[FIRST, SECOND, FIRST, THIRD, FOURTH],
+        "B0 B1 B1 B3",
+        "end,5,4,1\nlate,0\n",
+    ),
+    (
+        "1",
+        &[FIRST, SECOND, THIRD, FIRST, FOURTH],
+        "B0 B1 B1 B3",
+        "end,4,4,0\nlate,1\n",
+    ),
+    (
+        "0",
+        &[FIRST, FIRST, SECOND, SECOND],
+        "B0 B1",
+        "end,4,2,2\nlate,0\n",
+    ),
+    // Counts across the period.
+    (
+        "1",
+        &[LAST_COUNT, COUNT_1, COUNT_0],
+        "B0 B0 B0",
+        "0,16382,lost,0\nend,3,3,0\nlate,0\n",
+    ),
+    (
+        "0",
+        &[LAST_COUNT, COUNT_1, COUNT_0],
+        "B0",
+        "0,16382,lost,0\n16384,16384,lost,0\n16385,16385,gap,0\nend,2,1,0\nlate,1\n",
+    ),
+    // No number is below 0.
+    (
+        "3",
+        &[SECOND, SAME_LAST_COUNT],
+        "B1",
+        "0,0,lost,0\n2,16382,lost,0\n16383,16383,gap,0\nend,2,1,0\nlate,0\n",
+    ),
+    // Nothing is known when the first one comes.
+    (
+        "2",
+        &[COUNT_1],
+        "",
+        "0,0,lost,0\n1,1,unsynced,0\nend,1,0,0\nlate,0\n",
+    ),
+];
+
+/// A window, a store that ends inside its last packet, the offset of that, what stands of the restored packets, and the rows
+/// after the first line.
+static CUT: [(&str, &[&str], u64, &str, &str); 5] = [
+    ("1", &[FIRST, THIRD, SECOND, "00 64"], 28, "B0 B1", ""),
+    (
+        "0",
+        &[FIRST, THIRD, SECOND, "00 64"],
+        28,
+        "B0 B1",
+        "1,1,lost,0\n",
+    ),
+    ("2", &[FIRST, THIRD, SECOND, "00 64"], 28, "B0", ""),
+    ("3", &[FIRST, THIRD, SECOND, "00 64"], 28, "", ""),
+    ("5", &["00 64"], 0, "", ""),
+];
+
+/// Lines of words, and the place of the first wrong word in each.
+static WRONG_WORDS: [(&str, u32); 18] = [
+    ("late", 1),
+    ("late out=b report=c bits=8 apid=1 window=1", 6),
+    ("late in=a report=c bits=8 apid=1 window=1", 6),
+    ("late in=a out=b bits=8 apid=1 window=1", 6),
+    ("late in=a out=b report=c apid=1 window=1", 6),
+    ("late in=a out=b report=c bits=8 window=1", 6),
+    ("late in=a out=b report=c bits=8 apid=1", 6),
+    ("late in=a out=b report=c bits=8 apid=1 window=65", 6),
+    (
+        "late in=a out=b report=c bits=8 apid=1 window=1 window=1",
+        7,
+    ),
+    ("late window=01", 1),
+    ("late window=-1", 1),
+    ("late window=", 1),
+    ("late apid=2047", 1),
+    ("late bits=0", 1),
+    ("late plan=s", 1),
+    ("late in=a out=a", 2),
+    ("restore window=1", 1),
+    ("lates", 0),
+];
+
+/// The packets of the first order, which end at the bytes 10, 18, 28 and 37.
+const SWAPPED: &[u8] = &[
+    0x00, 0x64, 0xC0, 0x00, 0x00, 0x03, 0x85, 0xB8, 0xD6, 0x00, //
+    0x00, 0x64, 0xC0, 0x02, 0x00, 0x01, 0x44, 0xC0, //
+    0x00, 0x64, 0xC0, 0x01, 0x00, 0x03, 0x42, 0x4B, 0x8D, 0x62, //
+    0x00, 0x64, 0xC0, 0x03, 0x00, 0x02, 0xC0, 0x85, 0xC0,
+];
+
+const BY_ONE: &str = "late in=a out=b report=c bits=8 apid=100 window=1";
+
+const RESTORED: &[u8] = &[0xB0, 0xB1, 0xB1, 0xB3];
+
+const REPORT: &[u8] = b"first,last,cause,value\nend,4,4,0\nlate,0\n";
+
+/// The calls that fail. The rows of the report end at the bytes 23, 33 and 40.
+static FAILING: [Table; 2] = [
+    Table {
+        words: BY_ONE,
+        input: Some(SWAPPED),
+        side: None,
+        one_byte: false,
+        output: RESTORED,
+        report: REPORT,
+        rows: &[
+            (&[(Call::OpenIn, 1), (Call::OpenOut, 1)], End::Unread(0, 0)),
+            (&[(Call::OpenIn, 2)], End::Done),
+            (&[(Call::OpenOut, 1)], End::Unwritten(0, 0)),
+            (&[(Call::OpenOut, 2)], End::Unwritten(0, 0)),
+            (&[(Call::OpenOut, 3)], End::Done),
+            (&[(Call::Read, 1)], End::Unread(0, 23)),
+            (&[(Call::Read, 2)], End::Unread(3, 23)),
+            (&[(Call::Read, 3)], End::Done),
+            (&[(Call::Write, 1)], End::Unwritten(0, 0)),
+            (&[(Call::Write, 2)], End::Unwritten(0, 23)),
+            (&[(Call::Write, 3)], End::Unwritten(1, 23)),
+            (&[(Call::Write, 4)], End::Unwritten(2, 23)),
+            (&[(Call::Write, 5)], End::Unwritten(3, 23)),
+            (&[(Call::Write, 6)], End::Unwritten(4, 23)),
+            (&[(Call::Write, 7)], End::Unwritten(4, 33)),
+            (&[(Call::Write, 8)], End::Done),
+            (&[(Call::Finish, 1)], End::Unwritten(4, 40)),
+            (&[(Call::Finish, 2)], End::HalfKept),
+            (&[(Call::Finish, 3)], End::Done),
+        ],
+    },
+    Table {
+        words: BY_ONE,
+        input: Some(SWAPPED),
+        side: None,
+        one_byte: true,
+        output: RESTORED,
+        report: REPORT,
+        rows: &[
+            (&[(Call::Read, 1)], End::Unread(0, 23)),
+            (&[(Call::Read, 18)], End::Unread(0, 23)),
+            (&[(Call::Read, 19)], End::Unread(1, 23)),
+            (&[(Call::Read, 28)], End::Unread(1, 23)),
+            (&[(Call::Read, 29)], End::Unread(2, 23)),
+            (&[(Call::Read, 37)], End::Unread(2, 23)),
+            (&[(Call::Read, 38)], End::Unread(3, 23)),
+            (&[(Call::Read, 39)], End::Done),
+            (&[(Call::Write, 23)], End::Unwritten(0, 22)),
+            (&[(Call::Write, 37)], End::Unwritten(4, 32)),
+            (&[(Call::Write, 44)], End::Unwritten(4, 39)),
+            (&[(Call::Write, 45)], End::Done),
+        ],
+    },
+];
+
+#[test]
+fn late_packets(rt: HostRuntime) -> Result<(), Fail> {
+    for (window, packets, restored, rows) in &ORDERS {
+        let words = joined(rt.alloc(), LATE, window)?;
+        let store = bytes_of_all(rt.alloc(), packets)?;
+        let restored = bytes_of_all(rt.alloc(), &[*restored])?;
+        let report = joined(rt.alloc(), HEADER, rows)?;
+        let wanted = done(&restored, report.as_bytes());
+        assert_both(&rt, with_input(&words, &store), &wanted)?;
+    }
+    Ok(())
+}
+
+#[test]
+fn cut_stores_of_late_packets(rt: HostRuntime) -> Result<(), Fail> {
+    for (window, packets, byte, restored, rows) in &CUT {
+        let words = joined(rt.alloc(), LATE, window)?;
+        let store = bytes_of_all(rt.alloc(), packets)?;
+        let restored = bytes_of_all(rt.alloc(), &[*restored])?;
+        let report = joined(rt.alloc(), HEADER, rows)?;
+        let refusal = Refusal::BadStore {
+            byte: *byte,
+            kind: StoreKind::Cut,
+        };
+        let wanted = refused(refusal, &restored, report.as_bytes());
+        assert_both(&rt, with_input(&words, &store), &wanted)?;
+    }
+    Ok(())
+}
+
+#[test]
+fn late_packets_at_each_fault(rt: HostRuntime) -> Result<(), Fail> {
+    assert_tables(&rt, &FAILING)
+}
+
+#[test]
+fn words_of_late(rt: HostRuntime) -> Result<(), Fail> {
+    for (line, word) in &WRONG_WORDS {
+        let wanted = refused(Refusal::BadWords { word: *word }, &[], &[]);
+        assert_ending(&rt, &words_alone(line), &wanted)?;
+    }
+    Ok(())
+}
+
+/// A draw from 0 up, below this number.
+fn draw(seed: &mut u32, below: usize) -> usize {
+    *seed = seed.wrapping_mul(1_664_525).wrapping_add(1_013_904_223);
+    if below == 0 {
+        return 0;
+    }
+    (*seed >> 16) as usize % below
+}
+
+/// A recording of as many packets of eight bits, of which each changes at a drawn place.
+fn drawn_recording(alloc: Global, seed: &mut u32, count: usize) -> Result<Vec<u8>, AllocError> {
+    let mut recording = Vec::new(alloc);
+    let mut packet = 0u8;
+    for _made in 0..count {
+        packet ^= 1u8 << draw(seed, 3);
+        recording.push(packet)?;
+    }
+    Ok(recording)
+}
+
+/// Where each packet of a store begins, and where the last one ends.
+fn offsets_of(alloc: Global, store: &[u8]) -> Result<Vec<usize>, AllocError> {
+    let mut offsets = Vec::new(alloc);
+    let mut at = 0usize;
+    offsets.push(0)?;
+    while at + 6 <= store.len() {
+        let size = usize::from(store[at + 4]) * 256 + usize::from(store[at + 5]);
+        at = at.saturating_add(size + 7);
+        offsets.push(at.min(store.len()))?;
+    }
+    Ok(offsets)
+}
+
+/// The numbers below `count`, in blocks of `size` each of which is shuffled, so that none comes late by more than `size - 1`.
+fn shuffled(
+    alloc: Global,
+    seed: &mut u32,
+    count: usize,
+    size: usize,
+) -> Result<Vec<usize>, AllocError> {
+    let mut order = Vec::new(alloc);
+    for number in 0..count {
+        order.push(number)?;
+    }
+    for number in 0..count {
+        let first = number - number % size.max(1);
+        let other = first + draw(seed, number - first + 1);
+        if number < order.len() && other < order.len() {
+            order.swap(number, other);
+        }
+    }
+    Ok(order)
+}
+
+/// The packets of a store in this order.
+fn reordered(
+    alloc: Global,
+    store: &[u8],
+    offsets: &[usize],
+    order: &[usize],
+) -> Result<Vec<u8>, AllocError> {
+    let mut bytes = Vec::new(alloc);
+    for number in order {
+        let first = offsets.get(*number).copied().unwrap_or(0);
+        let end = offsets.get(*number + 1).copied().unwrap_or(first);
+        bytes.extend_from_slice(store.get(first..end).unwrap_or(&[]))?;
+    }
+    Ok(bytes)
+}
+
+/// The store of a drawn recording.
+fn drawn_store(
+    rt: &(impl Abort + AllocGlobal),
+    seed: &mut u32,
+    count: usize,
+) -> Result<Vec<u8>, Fail> {
+    let recording = drawn_recording(rt.alloc(), seed, count)?;
+    let mut desk = MemDesk::new(rt.alloc());
+    hold(&mut desk, "a", &recording)?;
+    let words = "compress in=a out=b bits=8 apid=100 robust=2";
+    assert_eq!(rt; answer(rt.alloc(), words, &mut desk)?, Status::Done);
+    let mut store = Vec::new(rt.alloc());
+    store.extend_from_slice(desk.get("b"))?;
+    Ok(store)
+}
+
+/// What `late` gives of a shuffled store must be what `restore` gives of the store in order, and no packet too late.
+fn assert_same(
+    rt: &(impl Abort + AllocGlobal),
+    window: &str,
+    store: &[u8],
+    late: &[u8],
+) -> Result<(), Fail> {
+    let mut desk = MemDesk::new(rt.alloc());
+    hold(&mut desk, "a", store)?;
+    assert_eq!(rt; answer(rt.alloc(), EIGHT_BITS, &mut desk)?, Status::Done);
+    let mut report = Vec::new(rt.alloc());
+    report.extend_from_slice(desk.get("c"))?;
+    report.extend_from_slice(b"late,0\n")?;
+    let words = joined(rt.alloc(), LATE, window)?;
+    let wanted = done(desk.get("b"), &report);
+    assert_ending(rt, &with_input(&words, late), &wanted)
+}
+
+/// Windows with their sizes, and seeds.
+static SHUFFLES: [(&str, usize, u32); 6] = [
+    ("0", 0, 1),
+    ("1", 1, 2),
+    ("2", 2, 3),
+    ("7", 7, 4),
+    ("63", 63, 5),
+    ("64", 64, 6),
+];
+
+#[test]
+fn shuffled_stores(rt: HostRuntime) -> Result<(), Fail> {
+    for (window, size, seed) in &SHUFFLES {
+        let mut seed = *seed;
+        let store = drawn_store(&rt, &mut seed, 300)?;
+        let offsets = offsets_of(rt.alloc(), &store)?;
+        let order = shuffled(rt.alloc(), &mut seed, 300, *size + 1)?;
+        let late = reordered(rt.alloc(), &store, &offsets, &order)?;
+        assert_same(&rt, window, &store, &late)?;
+    }
+    Ok(())
+}

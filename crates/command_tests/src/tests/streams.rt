@@ -1,0 +1,415 @@
+//! Worked stores of several streams, the rules of their side texts, and what stands if a call fails.
+
+use super::desk::{
+    Case, HEADER, answer, assert_both, assert_ending, bytes_of, done, front, hold, refused,
+    with_both, with_input, words_alone,
+};
+use super::faults::{End, Table, assert_tables};
+use desk_ports::{Call, MemDesk, Outlet};
+use packet_store::StoreKind;
+use pocket_cmd::{Refusal, Status};
+use std::alloc::{AllocError, Global};
+use std::process::Abort;
+use std::test::Fail;
+
+const MULTI: &str = "multi in=a out=b report=c streams=s";
+
+const TWO_STREAMS: &[u8] = b"100,8\n101,8\n";
+
+/// A packet of the APID 100; one of 101 with the count 5; the next one of 100; and a segment of 101.
+const STORE: &[u8] = &[
+    0x00, 0x64, 0xC0, 0x00, 0x00, 0x03, 0x85, 0xB8, 0xD6, 0x00, //
+    0x00, 0x65, 0xC0, 0x05, 0x00, 0x00, 0x82, //
+    0x00, 0x64, 0xC0, 0x01, 0x00, 0x00, 0x82, //
+    0x00, 0x65, 0x00, 0x00, 0x00, 0x00, 0x82,
+];
+
+/// What is restored of it: both packets of the APID 100.
+const RESTORED: &[u8] = &[
+    0x00, 0x64, 0xC0, 0x00, 0x00, 0x00, 0xB0, //
+    0x00, 0x64, 0xC0, 0x01, 0x00, 0x00, 0xB0,
+];
+
+const REPORT: &[u8] = b"apid,first,last,cause,value\n101,0,4,lost,0\n101,5,5,unsynced,0\n\
+    100,end,2,2,0\n101,end,1,0,0\nshape,1\n";
+
+/// A side text, a store in hexadecimal, what is restored, and the report.
+struct Row {
+    streams: &'static [u8],
+    store: &'static str,
+    output: &'static str,
+    report: &'static [u8],
+}
+
+static WHOLE: [Row; 9] = [
+    Row {
+        streams: TWO_STREAMS,
+        store: "00 64 C0 00 00 03 85 B8 D6 00 00 65 C0 05 00 00 82 00 64 C0 01 00 00 82 00 65 00 00 00 00 82",
+        output: "00 64 C0 00 00 00 B0 00 64 C0 01 00 00 B0",
+        report: REPORT,
+    },
+    // No stream.
+    Row {
+        streams: b"",
+        store: "00 64 C0 00 00 03 85 B8 D6 00 00 65 00 00 00 00 82",
+        output: "",
+        report: b"apid,first,last,cause,value\nshape,0\n",
+    },
+    Row {
+        streams: b"101,8\n100,8\n",
+        store: "",
+        output: "",
+        report: b"apid,first,last,cause,value\n101,end,0,0,0\n100,end,0,0,0\nshape,0\n",
+    },
+    // Other APIDs are passed over, in whatever shape their packets are.
+    Row {
+        streams: b"\n100,8",
+        store: "00 65 C0 00 00 03 85 B8 D6 00 07 FF C0 00 00 00 00 18 66 40 05 00 00 FF \
+            00 64 C0 00 00 03 85 B8 D6 00",
+        output: "00 64 C0 00 00 00 B0",
+        report: b"apid,first,last,cause,value\n100,end,1,1,0\nshape,0\n",
+    },
+    // A telecommand, a packet with a secondary header and a segment, none of which is an arrival.
+    Row {
+        streams: b"100,8",
+        store: "00 64 C0 00 00 03 85 B8 D6 00 10 64 C0 01 00 00 82 08 64 C0 01 00 00 82 \
+            00 64 40 01 00 00 82 00 64 C0 01 00 00 82",
+        output: "00 64 C0 00 00 00 B0 00 64 C0 01 00 00 B0",
+        report: b"apid,first,last,cause,value\n100,end,2,2,0\nshape,3\n",
+    },
+    // Each stream has its own counts, its own mask and its own content.
+    Row {
+        streams: b"0,8\n2046,8\n",
+        store: "00 00 C0 00 00 03 85 B8 D6 00 07 FE C0 00 00 03 85 5C 6B 00 \
+            00 00 C0 02 00 03 85 B8 D6 00 07 FE C0 01 00 03 85 5C 64 F0 00 00 C0 02 00 03 85 B8 D6 00",
+        output: "00 00 C0 00 00 00 B0 07 FE C0 00 00 00 B0 00 00 C0 02 00 00 B0 07 FE C0 01 00 00 4F",
+        report: b"apid,first,last,cause,value\n0,1,1,lost,0\n0,end,3,2,1\n2046,end,2,2,0\nshape,0\n",
+    },
+    // Vectors of two lengths: each packet is read by the length of its own stream.
+    Row {
+        streams: b"10,8\n100,13\n",
+        store: "00 64 C0 00 00 03 81 B9 62 47 00 0A C0 00 00 03 85 B8 D6 00",
+        output: "00 64 C0 00 00 01 12 38 00 0A C0 00 00 00 B0",
+        report: b"apid,first,last,cause,value\n10,end,1,1,0\n100,end,1,1,0\nshape,0\n",
+    },
+    // An APID that begins with another one.
+    Row {
+        streams: b"1,8\n10,8\n",
+        store: "00 01 C0 01 00 00 82 00 0A C0 02 00 00 82",
+        output: "",
+        report: b"apid,first,last,cause,value\n1,0,0,lost,0\n1,1,1,unsynced,0\n10,0,1,lost,0\n10,2,2,unsynced,0\n\
+            1,end,1,0,0\n10,end,1,0,0\nshape,0\n",
+    },
+    // The last count before the first one comes again: the number is written by the period.
+    Row {
+        streams: b"100,8",
+        store: "00 64 FF FF 00 03 85 B8 D6 00 00 64 C0 00 00 00 82",
+        output: "00 64 FF FF 00 00 B0 00 64 C0 00 00 00 B0",
+        report: b"apid,first,last,cause,value\n100,0,16382,lost,0\n100,end,2,2,0\nshape,0\n",
+    },
+];
+
+/// How many bytes of the store there are, the byte of the packet that is cut, and how many bytes of the output and of
+/// the report stand.
+static CUTS: [(usize, u64, usize, usize); 6] = [
+    (1, 0, 0, 28),
+    (9, 0, 0, 28),
+    (12, 10, 7, 28),
+    (16, 10, 7, 28),
+    (23, 17, 7, 62),
+    (30, 24, 14, 62),
+];
+
+/// Side texts, and the first row of each that is wrong.
+static WRONG: [(&str, u32); 16] = [
+    ("100,8\n100,16\n", 2),
+    ("2047,8", 1),
+    ("-1,8", 1),
+    ("0100,8", 1),
+    ("100,08", 1),
+    ("100,0", 1),
+    ("100,49153", 1),
+    ("100,4294967297", 1),
+    ("100", 1),
+    ("100,8,8", 1),
+    ("100, 8", 1),
+    ("apid,bits\n100,8", 1),
+    (",", 1),
+    ("100,8\n101,", 2),
+    ("100,8\n\n101,8\n,8", 3),
+    ("100,8\n101,8\n102,8\n101,8\n", 4),
+];
+
+/// Lines of words, and the place of the first wrong word in each.
+static WRONG_WORDS: [(&str, u32); 13] = [
+    ("multi", 1),
+    ("multi out=b report=c streams=s", 4),
+    ("multi in=a report=c streams=s", 4),
+    ("multi in=a out=b streams=s", 4),
+    ("multi in=a out=b report=c", 4),
+    ("multi in=a out=b report=c streams=s bits=8", 5),
+    ("multi in=a out=b report=c streams=s apid=1", 5),
+    ("multi streams=", 1),
+    ("multi in=a streams=a out=b report=c", 2),
+    ("multi in=a streams=s out=s report=c", 3),
+    ("multi in=a streams=s out=b report=b", 4),
+    ("multi in=- streams=- out=b report=c", 2),
+    ("restore streams=s", 1),
+];
+
+/// The calls that fail. The header has 5 and 23 bytes, a packet 7, an APID with its comma 4, the first two rows 11 and 15,
+/// the last ones 10 each, and the line of the shapes 8.
+static FAILING: [Table; 2] = [
+    Table {
+        words: MULTI,
+        input: Some(STORE),
+        side: Some(TWO_STREAMS),
+        one_byte: false,
+        output: RESTORED,
+        report: REPORT,
+        rows: &[
+            (&[(Call::OpenIn, 1), (Call::OpenOut, 1)], End::Unread(0, 0)),
+            (&[(Call::OpenIn, 2), (Call::OpenOut, 1)], End::Unread(0, 0)),
+            (&[(Call::OpenIn, 3)], End::Done),
+            (&[(Call::OpenOut, 1)], End::Unwritten(0, 0)),
+            (&[(Call::OpenOut, 2)], End::Unwritten(0, 0)),
+            (&[(Call::OpenOut, 3)], End::Done),
+            (&[(Call::Read, 1), (Call::OpenOut, 1)], End::Unread(0, 0)),
+            (&[(Call::Read, 2), (Call::OpenOut, 1)], End::Unread(0, 0)),
+            (&[(Call::Read, 3)], End::Unread(0, 28)),
+            (&[(Call::Read, 4)], End::Unread(14, 62)),
+            (&[(Call::Read, 5)], End::Done),
+            (&[(Call::Write, 1)], End::Unwritten(0, 0)),
+            (&[(Call::Write, 2)], End::Unwritten(0, 5)),
+            (&[(Call::Write, 3)], End::Unwritten(0, 28)),
+            (&[(Call::Write, 4)], End::Unwritten(7, 28)),
+            (&[(Call::Write, 5)], End::Unwritten(7, 32)),
+            (&[(Call::Write, 6)], End::Unwritten(7, 43)),
+            (&[(Call::Write, 7)], End::Unwritten(7, 47)),
+            (&[(Call::Write, 8)], End::Unwritten(7, 62)),
+            (&[(Call::Write, 9)], End::Unwritten(14, 62)),
+            (&[(Call::Write, 10)], End::Unwritten(14, 66)),
+            (&[(Call::Write, 11)], End::Unwritten(14, 76)),
+            (&[(Call::Write, 12)], End::Unwritten(14, 80)),
+            (&[(Call::Write, 13)], End::Unwritten(14, 90)),
+            (&[(Call::Write, 14)], End::Done),
+            (&[(Call::Finish, 1)], End::Unwritten(14, 98)),
+            (&[(Call::Finish, 2)], End::HalfKept),
+            (&[(Call::Finish, 3)], End::Done),
+        ],
+    },
+    Table {
+        words: MULTI,
+        input: Some(STORE),
+        side: Some(TWO_STREAMS),
+        one_byte: true,
+        output: RESTORED,
+        report: REPORT,
+        rows: &[
+            (&[(Call::Write, 6)], End::Unwritten(0, 5)),
+            (&[(Call::Write, 28)], End::Unwritten(0, 27)),
+            (&[(Call::Write, 35)], End::Unwritten(6, 28)),
+            (&[(Call::Write, 40)], End::Unwritten(7, 32)),
+            (&[(Call::Write, 76)], End::Unwritten(13, 62)),
+            (&[(Call::Write, 112)], End::Unwritten(14, 97)),
+            (&[(Call::Write, 113)], End::Done),
+        ],
+    },
+];
+
+#[test]
+fn stores_of_streams(rt: HostRuntime) -> Result<(), Fail> {
+    for row in &WHOLE {
+        let store = bytes_of(rt.alloc(), row.store)?;
+        let output = bytes_of(rt.alloc(), row.output)?;
+        let case = with_both(MULTI, &store, row.streams);
+        assert_both(&rt, case, &done(&output, row.report))?;
+    }
+    for (length, byte, output, report) in CUTS {
+        let store = front(STORE, length);
+        let refusal = Refusal::BadStore {
+            byte,
+            kind: StoreKind::Cut,
+        };
+        let wanted = refused(
+            refusal,
+            front(RESTORED, output),
+            front(REPORT, report),
+        );
+        assert_both(
+            &rt,
+            with_both(MULTI, store, TWO_STREAMS),
+            &wanted,
+        )?;
+    }
+    Ok(())
+}
+
+#[test]
+fn streams_at_each_fault(rt: HostRuntime) -> Result<(), Fail> {
+    assert_tables(&rt, &FAILING)
+}
+
+/// No other input and no output is opened.
+static NOTHING_ELSE: [(Call, u32); 2] = [(Call::OpenIn, 2), (Call::OpenOut, 1)];
+
+/// A side text that is refused.
+fn refused_text(text: &[u8]) -> Case<'_> {
+    Case {
+        fails: &NOTHING_ELSE,
+        ..with_both(MULTI, &[], text)
+    }
+}
+
+#[test]
+fn rules_of_streams(rt: HostRuntime) -> Result<(), Fail> {
+    for (text, row) in &WRONG {
+        let wanted = refused(Refusal::BadSide { row: *row }, &[], &[]);
+        assert_ending(&rt, &refused_text(text.as_bytes()), &wanted)?;
+    }
+    for (line, word) in &WRONG_WORDS {
+        let wanted = refused(Refusal::BadWords { word: *word }, &[], &[]);
+        assert_ending(&rt, &words_alone(line), &wanted)?;
+    }
+    Ok(())
+}
+
+/// The side text, the store, the output and the report of many streams, each with a packet.
+struct Many {
+    streams: String,
+    store: Vec<u8>,
+    output: Vec<u8>,
+    report: String,
+}
+
+fn many_streams(alloc: Global, count: u8) -> Result<Many, AllocError> {
+    let mut streams = String::new(alloc);
+    let mut store = Vec::new(alloc);
+    let mut output = Vec::new(alloc);
+    let mut report = String::from_str(alloc, "apid,first,last,cause,value\n")?;
+    for apid in 0..count {
+        streams.push_str(&format!(in alloc; "{apid},8\n")?)?;
+        store.extend_from_slice(&[0x00, apid, 0xC0, 0x00, 0x00, 0x03, 0x85, 0xB8, 0xD6, 0x00])?;
+        output.extend_from_slice(&[0x00, apid, 0xC0, 0x00, 0x00, 0x00, 0xB0])?;
+        report.push_str(&format!(in alloc; "{apid},end,1,1,0\n")?)?;
+    }
+    report.push_str("shape,0\n")?;
+    Ok(Many {
+        streams,
+        store,
+        output,
+        report,
+    })
+}
+
+#[test]
+fn most_streams(rt: HostRuntime) -> Result<(), Fail> {
+    let most = many_streams(rt.alloc(), 64)?;
+    let case = with_both(MULTI, &most.store, most.streams.as_bytes());
+    assert_both(&rt, case, &done(&most.output, most.report.as_bytes()))?;
+    let more = many_streams(rt.alloc(), 66)?;
+    let wanted = refused(Refusal::BadSide { row: 65 }, &[], &[]);
+    assert_ending(&rt, &refused_text(more.streams.as_bytes()), &wanted)?;
+    Ok(())
+}
+
+/// The packets of the worked recording, without their APIDs.
+static PACKETS: [&str; 4] = [
+    "C0 00 00 03 85 B8 D6 00",
+    "C0 01 00 03 42 4B 8D 62",
+    "C0 02 00 01 44 C0",
+    "C0 03 00 02 C0 85 C0",
+];
+
+/// A store of three streams that are mixed by numbers from a seed, some packets dropped and some repeated; or of the packets
+/// of one of them alone.
+fn mixed(alloc: Global, seed: u64, only: Option<u8>) -> Result<Vec<u8>, AllocError> {
+    let mut store = Vec::new(alloc);
+    let mut numbers = [0u8; 3];
+    let mut state = seed;
+    for _ in 0..60 {
+        state = state
+            .wrapping_mul(6_364_136_223_846_793_005)
+            .wrapping_add(1_442_695_040_888_963_407);
+        let drawn = (state >> 33) as usize;
+        let stream = drawn % 3;
+        let number = usize::from(numbers[stream]);
+        let times = match drawn / 3 % 6 {
+            0 => 0,
+            1 => 2,
+            _ => 1,
+        };
+        if number < 4 {
+            numbers[stream] = number as u8 + 1;
+            let apid = 100 + stream as u8;
+            for _ in 0..times {
+                put_packet(alloc, &mut store, apid, PACKETS[number], only)?;
+            }
+        }
+    }
+    Ok(store)
+}
+
+/// Appends a packet, if its APID is wanted.
+fn put_packet(
+    alloc: Global,
+    store: &mut Vec<u8>,
+    apid: u8,
+    packet: &str,
+    only: Option<u8>,
+) -> Result<(), AllocError> {
+    if only.is_some_and(|wanted| wanted != apid) {
+        return Ok(());
+    }
+    store.extend_from_slice(&[0x00, apid])?;
+    store.extend_from_slice(&bytes_of(alloc, packet)?)
+}
+
+/// The contents on an APID in a store whose packets have one byte of data each.
+fn contents_on(alloc: Global, store: &[u8], apid: u8) -> Result<Vec<u8>, AllocError> {
+    let mut contents = Vec::new(alloc);
+    for packet in store.chunks(7) {
+        if packet.get(1) == Some(&apid) {
+            contents.extend_from_slice(packet.get(6..).unwrap_or(&[]))?;
+        }
+    }
+    Ok(contents)
+}
+
+/// The lines of a report that begin with an APID and a comma, without that, after the header of a report of one stream.
+fn rows_on(alloc: Global, report: &[u8], apid: u8) -> Result<String, AllocError> {
+    let tag = format!(in alloc; "{apid},")?;
+    let mut rows = String::from_str(alloc, HEADER)?;
+    for line in str::from_utf8(report).unwrap_or("").lines() {
+        if let Some(row) = line.strip_prefix(tag.as_str()) {
+            rows.push_str(row)?;
+            rows.push_str("\n")?;
+        }
+    }
+    Ok(rows)
+}
+
+/// What `multi` makes of a mixed store has of each stream what `restore` makes of its packets alone.
+fn assert_apart(rt: &(impl Abort + AllocGlobal), seed: u64) -> Result<(), Fail> {
+    let mut desk = MemDesk::new(rt.alloc());
+    hold(&mut desk, "a", &mixed(rt.alloc(), seed, None)?)?;
+    hold(&mut desk, "s", b"101,8\n100,8\n102,8\n")?;
+    assert_eq!(rt; answer(rt.alloc(), MULTI, &mut desk)?, Status::Done);
+    for apid in 100..103 {
+        let alone = mixed(rt.alloc(), seed, Some(apid))?;
+        let contents = contents_on(rt.alloc(), desk.seen(Outlet::Main), apid)?;
+        let rows = rows_on(rt.alloc(), desk.seen(Outlet::Report), apid)?;
+        let words = format!(in rt.alloc(); "restore in=a out=b report=c bits=8 apid={apid}")?;
+        let wanted = done(&contents, rows.as_bytes());
+        assert_ending(rt, &with_input(&words, &alone), &wanted)?;
+    }
+    Ok(())
+}
+
+#[test]
+fn mixed_streams(rt: HostRuntime) -> Result<(), Fail> {
+    for seed in 0..12 {
+        assert_apart(&rt, seed)?;
+    }
+    Ok(())
+}
