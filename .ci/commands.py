@@ -50,6 +50,8 @@ STREAM_HEADER = b"apid,first,last,cause,value\n"
 STREAM_ROWS = STREAM_HEADER + b"101,0,4,lost,0\n101,5,5,unsynced,0\n"
 STREAM_REPORT = STREAM_ROWS + b"100,end,2,2,0\n101,end,1,0,0\nshape,1\n"
 SAMPLES = os.path.join(documents.ROOT, "crates", "pocket", "data")
+FORECAST = "forecast out=y packets=1000 robust=2 plan=s script=x"
+SIX = b"first,last,state\n0,1,sure\n2,3,lost\n4,4,open\n5,5,sure\ngaps,0,3\nend,6,3\n"
 SUMMARY = b"packets 3\nrecording 3\nstore 29\nplayed 19\ndelivered 2\nwritten 2\nlisted 1\n"
 # The seed, the packets, the bits of a packet and the required robustness.
 TRIALS = [(1, 10000, 1024, 2), (4294967295, 10000, 4096, 7), (7, 1, 1, 0), (3, 500, 13, 0), (20, 2000, 8, 1)]
@@ -57,6 +59,12 @@ TRIALS = [(1, 10000, 1024, 2), (4294967295, 10000, 4096, 7), (7, 1, 1, 0), (3, 5
 
 def wrong(word):
     return b"pocket: word %d is wrong\n" % word
+
+
+def sample(name):
+    """A sample that ships with the program."""
+    with open(os.path.join(documents.ROOT, "crates", "pocket", "data", name), "rb") as file:
+        return file.read()
 
 
 def summary(*numbers):
@@ -78,6 +86,7 @@ RANGES = [
     ("robust", 0, 7, "compress in=none out=y bits=8 apid=100 robust={}"),
     ("seed", 0, 4294967295, "trial seed={} packets=3 bits=8 robust=1 out=/dev/full"),
     ("packets", 1, 10000, "trial seed=0 packets={} bits=8 robust=1 out=/dev/full"),
+    ("packets", 1, 1000000, "forecast out=y packets={} robust=1 plan=none script=none"),
 ]
 
 VERBS = [
@@ -115,7 +124,10 @@ VERBS = [
          before={"s": FIELDS}, after={"y": TABLED}),
     case("table with its fields on a pipe", "table in=x out=- report=z fields=- bits=16", given=FIELDS, out=TABLED,
          before={"x": bytes.fromhex("01F00228")}, after={"z": LIMITS}),
-    case("version", "--version", out=b"pocket 0.1.0\n"),
+    case("forecast", FORECAST, before={"s": sample("pass.csv"), "x": sample("fades.csv")}, after={"y": documents.FORECAST, "y.part": None}),
+    case("forecast from a pipe to a pipe", "forecast out=- packets=6 robust=1 plan=s script=-", given=b"drop,2,3,1", out=SIX, before={"s": b"5,5,1,fr"}),
+    case("forecast without rows", FORECAST, before={"s": b"", "x": b""}, after={"y": b"first,last,state\n0,999,sure\ngaps,0,1\nend,1000,1000\n"}),
+    case("version", "--version", out=b"pocket 1.0.0\n"),
 ]
 
 REFUSALS = [
@@ -164,6 +176,12 @@ REFUSALS = [
          before={"x": bytes.fromhex("01F002"), "s": FIELDS},
          after={"y": None, "z": None, "y.part": b"t,mode,temp\n0,1,-16\n", "z.part": b"t,name,value,low,high\n0,temp,-16,-10,40\n"}),
     case("a table of an APID", TABLE + " apid=100", 2, err=wrong(6), before={"x": b"", "s": FIELDS}),
+    case("a script that is wrong", FORECAST, 3, err=b"pocket: script row 1 is wrong\n", before={"s": b"", "x": b"drop,0,3"}, after={"y": None, "y.part": None}),
+    case("a script too long", FORECAST, 3, err=b"pocket: script is too long\n", before={"s": b"", "x": b"p" * 1048577}, after={"y": None, "y.part": None}),
+    case("a schedule that is wrong and no script", FORECAST, 3, err=b"pocket: side row 1 is wrong\n", before={"s": b"0,3,1"}, after={"y": None, "y.part": None}),
+    case("a forecast without a script", FORECAST, 1, err=READ, before={"s": b""}, after={"y": None, "y.part": None}),
+    case("a forecast of too many packets", "forecast out=- packets=1000001 robust=2 plan=s script=x", 2, err=wrong(2)),
+    case("a forecast to a device that is full", "forecast out=/dev/full packets=6 robust=1 plan=s script=x", 1, err=WRITE, before={"s": b"", "x": b""}),
     case("another version", RESTORE, 4, err=b"pocket: store packet at byte 0 has another version\n", before={"x": bytes.fromhex("2064C000000000")}),
     case("another shape", PLAY, 4, err=b"pocket: store packet at byte 0 has another shape\n",
          before={"x": bytes.fromhex("00640000000082"), "s": b""}, after={"y": None, "z": None}),
@@ -307,7 +325,9 @@ def helps(runner):
     """Whether `--help` names each verb with each of its keys, the range of each number and the exit numbers."""
     verbs = {"compress": "in= out= bits= apid= robust= plan= mask=", "play": "in= out= report= apid= script=",
              "restore": "in= out= report= bits= apid=", "show": "in= out= bits= apid=",
-             "trial": "seed= packets= bits= robust= out=", "multi": "in= out= report= streams=", "table": "in= out= report= fields= bits="}
+             "trial": "seed= packets= bits= robust= out=", "multi": "in= out= report= streams=",
+             "late": "in= out= report= bits= apid= window=", "table": "in= out= report= fields= bits=",
+             "forecast": "out= packets= robust= plan= script="}
     told = runner.start(["--help"], stdout=subprocess.PIPE, stderr=subprocess.PIPE)
     out, err = told.communicate()
     text = out.decode().splitlines()

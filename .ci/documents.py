@@ -1,6 +1,6 @@
 #!/usr/bin/env python3
 """Tries pictures/draw.py, and holds the pictures, the caller and the names that docs/ shows to what is drawn and to what is
-proved. Run alone it draws the pictures anew."""
+proved, and the manual page and README.md to the program's help. Run alone it draws the pictures anew."""
 
 import os
 import subprocess
@@ -9,13 +9,17 @@ import tempfile
 import xml.etree.ElementTree as xml
 
 import names
+import page
 from table import table
 
 ROOT = os.path.dirname(os.path.dirname(os.path.abspath(__file__)))
 LISTING = b"0 written 1 00 00 b0\n1 written 1 01 01 b1\n2-2 lost\n3 written 1 02 03 b3\nend 3 3 0\n"
 PACKET = ["recent changes: no place=10", "effective robustness level: 1=0001", "not short: a mask or whole content follows=0", "the mask is sent=1",
           "the edges of the mask: none, so the mask is 00=10", "the content is whole=1", "number of places: 8=11000110", "content: B0=10110000"]
-DRAWN = {"loss.svg": (["listing"], LISTING), "packet.svg": (["packet"] + PACKET, b"")}
+# What pocket forecasts of a thousand packets under data/pass.csv and data/fades.csv.
+FORECAST = (b"first,last,state\n0,9,sure\n10,10,lost\n11,49,sure\n50,51,lost\n52,189,sure\n190,194,lost\n195,199,open\n200,204,sure\n"
+            b"205,207,lost\n208,299,open\n300,529,sure\n530,533,lost\n534,599,open\n600,998,sure\n999,999,lost\ngaps,0,6\nend,1000,821\n")
+DRAWN = {"loss.svg": (["listing"], LISTING), "packet.svg": (["packet"] + PACKET, b""), "forecast.svg": (["forecast"], FORECAST)}
 SAMPLES = os.path.join(ROOT, "crates", "pocket", "data")
 
 # Each line of a listing, and what the picture says of the packet.
@@ -25,6 +29,14 @@ EACH = [(b"0 written 15 00 00 b0", "packet 0: written, level 15, repeated 2 time
         (b"6 unsynced", "packet 6: unsynced"), (b"7 unsynced mask 0f", "packet 7: unsynced, its mask is known"),
         (b"8 wrong 12", "packet 8: wrong, bit 12"), (b"9 early 8", "packet 9: early, bits 8"), (b"end 10 2 2", "")]
 LONG = b"".join(b"%d written %d 00 00 b0\n" % (number, number % 16) for number in range(3000))
+
+# Forecasts, and what their pictures say: of few packets, of one state, of none that arrives, and of the most packets.
+FORECASTS = [
+    (FORECAST, ["packet 10: lost", "packets 195 to 199: open", "packets 300 to 399: sure", "packets 400 to 499: sure", "packets 500 to 529: sure"]),
+    (b"first,last,state\n0,0,sure\ngaps,0,0\nend,1,1\n", ["1 packets, of which 1 are sure to be written", "packet 0: sure"]),
+    (b"first,last,state\n0,3,lost\ngaps,-,0\nend,4,0\n", ["packets 0 to 3: lost"]),
+    (b"first,last,state\n0,1,lost\n2,2,open\n3,4,lost\n5,999999,open\ngaps,2,3\nend,1000000,0\n", ["packet 2: open", "packets 950000 to 999999: open"]),
+]
 
 # What is refused: the words, the listing, and the fault that is named.
 REFUSED = [
@@ -38,6 +50,17 @@ REFUSED = [
     (["listing"], LISTING + b"4 gap 0\n", "line 6 is wrong: nothing comes after the last line"),
     (["listing"], b"first,last,cause,value\n2,2,lost,0\n", "line 1 is wrong"),
     (["packet", "level=0001", "mask=2"], b"", "part 2 is wrong: it is no NAME=BITS"),
+    (["forecast"], LISTING, "line 1 is wrong: it is not first,last,state"),
+    (["forecast"], FORECAST.replace(b"11,49,sure", b"12,49,sure"), "line 4 is wrong: packet 11 comes next"),
+    (["forecast"], FORECAST.replace(b"11,49,sure", b"11,10,sure"), "line 4 is wrong: its last number is below its first"),
+    (["forecast"], FORECAST.replace(b"11,49,sure", b"11,49,lost"), "line 4 is wrong: the packets before it have the same state"),
+    (["forecast"], FORECAST.replace(b"11,49,sure", b"11,49,safe"), "line 4 is wrong: it is no line of a forecast"),
+    (["forecast"], FORECAST.replace(b"999,999,lost", b"999,1000000,lost"), "line 16 is wrong: more than 1000000 packets"),
+    (["forecast"], FORECAST.replace(b"gaps,0,6", b"gaps,0,5"), "line 17 is wrong: the lines before it have other numbers: gaps,0,6"),
+    (["forecast"], FORECAST.replace(b"end,1000,821", b"end,1000,820"), "line 18 is wrong: the lines before it have other numbers: end,1000,821"),
+    (["forecast"], FORECAST[:-13], "line 18 is wrong: the lines before it have other numbers: end,1000,821"),
+    (["forecast"], FORECAST[:-22], "line 17 is wrong: the forecast has no last line"),
+    (["forecast"], FORECAST + b"gaps,0,6\n", "line 19 is wrong: nothing comes after the last line"),
 ]
 
 
@@ -81,6 +104,11 @@ def draws_each():
     long = draw(["listing"], LONG).stdout.decode()
     rows = all(f">{first}</text>" in long for first in range(0, 3000, 100)) and "packet 2999: written, level 7" in titles(["listing"], LONG)
     return None if not missing and rows and "has no last line" in long else f"missing {missing}"
+
+
+def draws_forecasts():
+    missing = [words for given, wanted in FORECASTS for words in wanted if words not in titles(["forecast"], given)]
+    return None if not missing else f"missing {missing}"
 
 
 def refuses():
@@ -132,12 +160,18 @@ def names_are_found():
     return "; ".join(names.unknown()) or None
 
 
+def page_agrees():
+    """Whether the manual page and README.md have what the program's help has."""
+    return "; ".join(page.differences()) or None
+
+
 def tries():
     """What is tried: each with its name, and a function that gives what is wrong, or None."""
     return [(f"the picture {name}", lambda name=name, row=row: is_held(name, draw(*row))) for name, row in DRAWN.items()] + [
         ("the picture table.svg", lambda: is_held("table.svg", draw_table(*sample()))), ("tables", draws_tables),
-        ("pictures of each line", draws_each), ("refused listings", refuses), ("the caller that is shown", quotes_the_caller),
-        ("laws, clauses and definitions of the documents", names_are_found)]
+        ("pictures of each line", draws_each), ("pictures of forecasts", draws_forecasts), ("refused listings and forecasts", refuses),
+        ("the caller that is shown", quotes_the_caller),
+        ("laws, clauses and definitions of the documents", names_are_found), ("help, manual page and README", page_agrees)]
 
 
 if __name__ == "__main__":

@@ -3,10 +3,11 @@
 
     draw.py listing < LISTING             the packets of a listing (what `pocket show` writes), one cell for each number
     draw.py table REPORT FIELDS < TABLE   the fields of a table (what `pocket table` writes, with its report), one strip for each
+    draw.py forecast < FORECAST           the packets of a forecast (what `pocket forecast` writes), as a strip by number
     draw.py packet NAME=BITS NAME=BITS .. the bits of one packet, part by part, and its bytes
 
-A listing, a table or a report that can't be read is refused with the number of its first wrong line, parts with the first wrong
-word; the exit number is then 1. docs/FORMATS.md has the lines of each and the parts of a packet.
+A listing, a table, a report or a forecast that can't be read is refused with the number of its first wrong line, parts with the
+first wrong word; the exit number is then 1. docs/FORMATS.md has the lines of each and the parts of a packet.
 """
 
 import csv
@@ -282,6 +283,100 @@ def draw_table(text, report, fields):
     return picture(left + WIDE + 90, bottom + 50, title, [words(14, 22, title, 14, weight="bold"), *parts])
 
 
+# What can be said of a packet without a recording: its letter, fill, the colour of the letter, and the words of the legend.
+STATES = {
+    "sure": ("", "#a6d3f2", "#000000", "sure: written, whatever the recording is"),
+    "open": ("?", "#f5e663", "#000000", "open: it arrives, and the recording decides"),
+    "lost": ("L", "#ffffff", "#000000", "lost: it does not arrive"),
+}
+STRIP = 1000  # the width of a row
+ROWS = 20  # so many rows at most
+STRETCH = re.compile(f"{NUMBER},{NUMBER},(sure|open|lost)")
+GAPS = re.compile(f"gaps,(-|{NUMBER}),{NUMBER}")
+
+
+def gaps_of(stretches):
+    """The first number that arrives, or a dash, and the widest difference of two that do."""
+    arrive = [(first, last) for first, last, state in stretches if state != "lost"]
+    widest = max([int(any(last > first for first, last in arrive))] + [there[0] - here[1] for here, there in zip(arrive, arrive[1:])])
+    return str(arrive[0][0]) if arrive else "-", str(widest)
+
+
+def read_stretch(line, stretches):
+    """Adds the stretch that a line of a forecast tells to those before it, or says what is wrong."""
+    found = STRETCH.fullmatch(line)
+    if found is None:
+        return "it is no line of a forecast"
+    first, last, state = int(found.group(1)), int(found.group(2)), found.group(3)
+    comes = stretches[-1][1] + 1 if stretches else 0
+    if first != comes:
+        return f"packet {comes} comes next"
+    if last < first or last >= 1_000_000 or len(stretches) >= MOST:
+        return "its last number is below its first" if last < first else "more than 1000000 packets" if last >= 1_000_000 else f"more than {MOST} lines"
+    if stretches and stretches[-1][2] == state:
+        return "the packets before it have the same state"
+    stretches.append((first, last, state))
+    return None
+
+
+def read_forecast(text):
+    """The stretches of a forecast, in order, and its two last lines' numbers."""
+    lines, stretches = text.splitlines(), []
+    if lines[:1] != ["first,last,state"]:
+        raise Wrong("line 1 is wrong: it is not first,last,state")
+    for number, line in enumerate(lines[1:], 2):
+        if GAPS.fullmatch(line) and stretches:
+            count = stretches[-1][1] + 1
+            sure = sum(last - first + 1 for first, last, state in stretches if state == "sure")
+            wanted = ["gaps,{},{}".format(*gaps_of(stretches)), f"end,{count},{sure}"]
+            for place, (line, right) in enumerate(zip(lines[number - 1:] + ["", ""], wanted), number):
+                if line != right:
+                    raise Wrong(f"line {place} is wrong: the lines before it have other numbers: {right}: {line[:60]!r}")
+            if len(lines) > number + 1:
+                raise Wrong(f"line {number + 2} is wrong: nothing comes after the last line: {lines[number + 1][:60]!r}")
+            return stretches, count, sure
+        fault = read_stretch(line, stretches)
+        if fault:
+            raise Wrong(f"line {number} is wrong: {fault}: {line[:60]!r}")
+    raise Wrong(f"line {len(lines) + 1} is wrong: the forecast has no last line")
+
+
+def strip_part(x, y, width, first, last, state):
+    """A part of the strip: its colour, and its letter if there is room."""
+    letter, fill, ink, _ = STATES[state]
+    parts = [f"<rect x='{x:g}' y='{y:g}' width='{width:g}' height='18' fill='{fill}' stroke='#444444' stroke-width='{1 if width > 4 else 0.2}'/>"]
+    if state == "lost":
+        parts.append(f"<path d='M{x:g} {y + 18:g}L{x + width:g} {y:g}' stroke='#999999' stroke-width='1'/>")
+    if letter and width >= 10:
+        parts.append(words(x + width / 2, y + 14, letter, 13, "middle", ink, "bold"))
+    numbers = f"packet {first}" if first == last else f"packets {first} to {last}"
+    return f"<g><title>{numbers}: {state}</title>{''.join(parts)}</g>"
+
+
+def draw_forecast(text):
+    """The strip in rows, each with the number of its first packet; a stretch that goes on in the next row is in both."""
+    stretches, count, sure = read_forecast(text)
+    each = max(ROW, -(-count // ROWS))
+    drawn = []
+    for first, last, state in stretches:
+        for row in range(first // each, last // each + 1):
+            here, there = max(first, row * each), min(last, row * each + each - 1)
+            x, width = 70 + STRIP * (here - row * each) / each, STRIP * (there - here + 1) / each
+            drawn.append(strip_part(round(x, 2), 54 + 24 * row, round(width, 2), here, there, state))
+    rows = -(-count // each)
+    drawn += [words(64, 54 + 24 * row + 13, str(row * each), 10, "end") for row in range(rows)]
+    drawn += [words(70 + STRIP * tick / 10, 48, f"+{each * tick // 10}", 9) for tick in range(10) if each * tick // 10 < count]
+    totals = Counter()
+    for first, last, state in stretches:
+        totals[state] += last - first + 1
+    bottom = 54 + 24 * rows + 10
+    shown = [state for state in STATES if totals[state]]
+    for place, state in enumerate(shown):
+        drawn.append(strip_part(14, bottom + 24 * place, 18, 0, 0, state).replace("packet 0: ", "") + words(40, bottom + 24 * place + 14, f"{totals[state]} {STATES[state][3]}"))
+    title = f"{count} packets, of which {sure} are sure to be written"
+    return picture(84 + STRIP, bottom + 24 * len(shown) + 6, title, [words(14, 22, title, 14, weight="bold"), *drawn])
+
+
 def read_parts(given):
     """The parts of a packet, each with its name and its bits."""
     parts = []
@@ -333,6 +428,8 @@ def main(given):
             sys.stdout.write(draw_listing(sys.stdin.buffer.read().decode("ascii", "replace")))
         elif given[:1] == ["table"] and len(given) == 3:
             sys.stdout.write(draw_table(sys.stdin.buffer.read().decode("ascii", "replace"), *given[1:]))
+        elif given == ["forecast"]:
+            sys.stdout.write(draw_forecast(sys.stdin.buffer.read().decode("ascii", "replace")))
         elif given[:1] == ["packet"]:
             sys.stdout.write(draw_packet(given[1:]))
         else:

@@ -36,18 +36,7 @@ named-parts span n is =
 pub named-from : (span : Span) (n : ℕ) → IsNamed span n → names span n ≡ true
 named-from span n is = and_from _ _ (and_from _ _ (le-leb _ _ is.from) (le-leb _ _ is.to)) (rw is.steps refl)
 
--- ---- runs
-
-pub RunHolds-grown : (old new : List Cell) (t : ℕ) (run : Run) → length new ≡ length old → ((n : ℕ) → (cell_at old n).rank ≤ (cell_at new n).rank) → RunHolds old t run → RunHolds new t run
-RunHolds-grown old new t run len grown holds = λ n from until inside steps.
-    let less = holds n from until (omega arith) steps in
-    let more = grown n in
-    omega (arith, less, more)
-
 -- ---- taking a claim
-
-pub Takes-none : (claim : Claim) (cells : List Cell) → Takes claim cells cells
-Takes-none claim cells = record { len = refl; grown = λ n. omega arith; own = λ n. inl refl }
 
 own-then : (named : Type 0) (a b d rank : ℕ) → (b ≡ a) ⊎ named × (b ≡ rank) → (d ≡ b) ⊎ named × (d ≡ rank) → (d ≡ a) ⊎ named × (d ≡ rank)
 own-then named a b d rank one (inr two) = inr two

@@ -32,33 +32,37 @@ pocket show in=STORE out=LISTING bits=F apid=APID
     lists what is found for each packet that a store has on an APID
 pocket trial seed=SEED packets=N bits=F robust=R out=SUMMARY
     runs compress, play and restore over a recording that it generates, in memory
-pocket multi in=STORE out=RESTORED report=REPORT streams=STREAMS
-    restores each of several APIDs in a store, each with bits of its own, into one store
+pocket multi in=STORE out=PACKETS report=REPORT streams=STREAMS
+    gives back the packets that a store has on many APIDs, each as a Space Packet
+pocket late in=STORE out=PACKETS report=REPORT bits=F apid=APID window=W
+    restores a store whose packets may come late, by up to W others
 pocket table in=RECORDING out=TABLE report=REPORT fields=FIELDS bits=F
     writes the fields of packets of F bits as a table, and lists the values out of their limits
+pocket forecast out=FORECAST packets=N robust=R plan=SCHEDULE script=SCRIPT
+    tells which packets will be written under a schedule and a loss, whatever the recording is
 pocket --help
 pocket --version
 The keys come in any order, and those in brackets may be left out:
     in, plan, script  a file to read, or - for standard input
-    fields            a file to read that names fields, or - for standard input
-    streams           a file to read that names APIDs and their bits, or - for standard input
+    streams, fields   a file to read that names them, or - for standard input
     out, report       a file to write, or - for standard output
     bits              the bits of a packet, 1 to 49152, of trial 1 to 4096
     apid              the APID, 0 to 2046
     robust            how many packets lost in a row each packet withstands at least, 0 to 7
     mask              the first mask, two hexadecimal digits for each byte of a packet
     seed              where the numbers of a trial begin, 0 to 4294967295
-    packets           how many packets a trial has, 1 to 10000
+    packets           how many packets there are, of a trial 1 to 10000, of a forecast 1 to 1000000
+    window            how many packets with greater numbers may come before a late one, 0 to 64
 Exit numbers:
     0  done
     1  reading or writing failed
     2  a word is wrong, where word 0 is the verb
-    3  the schedule, the script, the fields or the streams are wrong
+    3  the schedule, the script, the streams or the fields are wrong
     4  the recording or the store is wrong
     5  out of memory
     7  the words cannot be read";
 
-const VERSION: &str = "pocket 0.1.0";
+const VERSION: &str = "pocket 1.0.0";
 
 /// What the program is asked about itself.
 #[derive(Clone, Copy, Debug, PartialEq, Eq)]

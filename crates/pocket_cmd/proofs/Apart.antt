@@ -315,6 +315,12 @@ AreNamed-command_by verb.Multi words w = record {
   output = needed (rows_of verb.Multi) words w port.Output (codes "out") (record { kind = refl; named = λ w. refl }) refl;
   report = needed (rows_of verb.Multi) words w port.Report (codes "report") (record { kind = refl; named = λ w. refl }) refl;
 }
+AreNamed-command_by verb.Late words w = record {
+  side = unnamed (rows_of verb.Late) words w port.Side;
+  input = needed (rows_of verb.Late) words w port.Input (codes "in") (record { kind = refl; named = λ w. refl }) refl;
+  output = needed (rows_of verb.Late) words w port.Output (codes "out") (record { kind = refl; named = λ w. refl }) refl;
+  report = needed (rows_of verb.Late) words w port.Report (codes "report") (record { kind = refl; named = λ w. refl }) refl;
+}
 AreNamed-command_by verb.Table words w = record {
   side = needed (rows_of verb.Table) words w port.Side (codes "fields") (record { kind = refl; named = λ w. refl }) refl;
   input = needed (rows_of verb.Table) words w port.Input (codes "in") (record { kind = refl; named = λ w. refl }) refl;

@@ -154,6 +154,11 @@ IsRight-command_by v words h = by_verb v (AreSound-by (rows_of v) words h) where
     robust = (number_at-within (rows_of verb.Trial) words (codes "robust") 0 7 s refl refl (omega arith)).1;
   }
   by_verb verb.Multi s = tt
+  by_verb verb.Late s = record {
+    bits = number_at-within (rows_of verb.Late) words (codes "bits") 1 49152 s refl refl (omega arith);
+    apid = (number_at-within (rows_of verb.Late) words (codes "apid") 0 2046 s refl refl (omega arith)).1;
+    window = (number_at-within (rows_of verb.Late) words (codes "window") 0 64 s refl refl (omega arith)).1;
+  }
   by_verb verb.Table s = number_at-within (rows_of verb.Table) words (codes "bits") 1 49152 s refl refl (omega arith)
   by_verb verb.Forecast s = record {
     packets = number_at-within (rows_of verb.Forecast) words (codes "packets") 1 1000000 s refl refl (omega arith);
@@ -206,6 +211,7 @@ module _ (word : List ℕ) (words : List (List ℕ)) where
   AreGiven-command_by verb.Show w = record { side = tt; input = read_from input_keys (rows_of verb.Show) (codes "in") in_ w refl; output = given_needed (rows_of verb.Show) (codes "out") w refl; report = tt }
   AreGiven-command_by verb.Trial w = record { side = tt; input = tt; output = given_needed (rows_of verb.Trial) (codes "out") w refl; report = tt }
   AreGiven-command_by verb.Multi w = record { side = read_from side_keys (rows_of verb.Multi) (codes "streams") streams w refl; input = read_from input_keys (rows_of verb.Multi) (codes "in") in_ w refl; output = given_needed (rows_of verb.Multi) (codes "out") w refl; report = given_needed (rows_of verb.Multi) (codes "report") w refl }
+  AreGiven-command_by verb.Late w = record { side = tt; input = read_from input_keys (rows_of verb.Late) (codes "in") in_ w refl; output = given_needed (rows_of verb.Late) (codes "out") w refl; report = given_needed (rows_of verb.Late) (codes "report") w refl }
   AreGiven-command_by verb.Table w = record { side = read_from side_keys (rows_of verb.Table) (codes "fields") fields w refl; input = read_from input_keys (rows_of verb.Table) (codes "in") in_ w refl; output = given_needed (rows_of verb.Table) (codes "out") w refl; report = given_needed (rows_of verb.Table) (codes "report") w refl }
   AreGiven-command_by verb.Forecast w = record { side = read_from side_keys (rows_of verb.Forecast) (codes "plan") plan w refl; input = read_from input_keys (rows_of verb.Forecast) (codes "script") script_in w refl; output = given_needed (rows_of verb.Forecast) (codes "out") w refl; report = tt }
 
@@ -252,5 +258,6 @@ IsPlaces-with_mask v words right whole given = by_verb v (record { right = right
   by_verb verb.Show s = number_at-within (rows_of verb.Show) words (codes "bits") 1 49152 s refl refl (omega arith)
   by_verb verb.Trial s = absurd (none _ s refl _ refl given)
   by_verb verb.Multi s = absurd (none _ s refl _ refl given)
+  by_verb verb.Late s = number_at-within (rows_of verb.Late) words (codes "bits") 1 49152 s refl refl (omega arith)
   by_verb verb.Table s = number_at-within (rows_of verb.Table) words (codes "bits") 1 49152 s refl refl (omega arith)
   by_verb verb.Forecast s = absurd (none _ s refl _ refl given)

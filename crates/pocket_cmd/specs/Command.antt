@@ -58,6 +58,15 @@ pub record MultiValues : Type 0 where
   pub report : List ℕ
   pub streams : List ℕ
 
+-- what `late` is told: its names, the bits of a packet, the chosen APID and the window
+pub record LateValues : Type 0 where
+  pub input : List ℕ
+  pub output : List ℕ
+  pub report : List ℕ
+  pub bits : ℕ
+  pub apid : ℕ
+  pub window : ℕ
+
 -- what `table` is told: its names and the bits of a packet
 pub record TableValues : Type 0 where
   pub input : List ℕ
@@ -82,6 +91,7 @@ pub data Command : Type 0 where
   Show : ShowValues → Command
   Trial : TrialValues → Command
   Multi : MultiValues → Command
+  Late : LateValues → Command
   Table : TableValues → Command
   Forecast : ForecastValues → Command
 
@@ -143,6 +153,16 @@ trial_by words = record {
 abbrev pub multi_by : List (List ℕ) → MultiValues
 multi_by words = record { input = name_at words (codes "in"); output = name_at words (codes "out"); report = name_at words (codes "report"); streams = name_at words (codes "streams") }
 
+abbrev pub late_by : List (List ℕ) → LateValues
+late_by words = record {
+  input = name_at words (codes "in");
+  output = name_at words (codes "out");
+  report = name_at words (codes "report");
+  bits = number_at words (codes "bits");
+  apid = number_at words (codes "apid");
+  window = number_at words (codes "window");
+}
+
 abbrev pub table_by : List (List ℕ) → TableValues
 table_by words = record {
   input = name_at words (codes "in");
@@ -169,6 +189,7 @@ command_by verb.Restore words = Restore (restore_by words)
 command_by verb.Show words = Show (show_by words)
 command_by verb.Trial words = Trial (trial_by words)
 command_by verb.Multi words = Multi (multi_by words)
+command_by verb.Late words = Late (late_by words)
 command_by verb.Table words = Table (table_by words)
 command_by verb.Forecast words = Forecast (forecast_by words)
 
@@ -213,6 +234,12 @@ pub record IsTrialRight (t : TrialValues) : Type 0 where
   pub bits : (1 ≤ t.bits) × (t.bits ≤ 4096)
   pub robust : t.robust ≤ 7
 
+-- the values of `late` are within their bounds
+pub record IsLateRight (l : LateValues) : Type 0 where
+  pub bits : IsPlaces l.bits
+  pub apid : IsChosen l.apid
+  pub window : l.window ≤ 64
+
 -- the values of `forecast` are within their bounds
 pub record IsForecastRight (f : ForecastValues) : Type 0 where
   pub packets : (1 ≤ f.packets) × (f.packets ≤ 1000000)
@@ -225,7 +252,8 @@ IsRight (Play p) = IsChosen p.apid
 IsRight (Restore r) = IsPlaces r.bits × IsChosen r.apid
 IsRight (Show s) = IsPlaces s.bits × IsChosen s.apid
 IsRight (Trial t) = IsTrialRight t
-IsRight (Multi m) = Unit {0}
+IsRight (Multi m) = Unit
+IsRight (Late l) = IsLateRight l
 IsRight (Table t) = IsPlaces t.bits
 IsRight (Forecast f) = IsForecastRight f
 

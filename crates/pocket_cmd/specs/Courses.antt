@@ -9,13 +9,14 @@ use Rattle.flight_chain.specs.Compressing.{Compression, compress_course}
 use Rattle.loss_player.specs.Playing.{play_course}
 use Rattle.ground_chain.specs.Listing.{listing_course}
 use Rattle.ground_chain.specs.Restoring.{restore_course}
-use Rattle.multi_ground.specs.MultiOutputs.{multi_course}
+use Rattle.late_window.specs.Restoring.{late_course}
 use Rattle.forecast.specs.Prospects.{prospect_of}
 use Rattle.forecast.specs.Texts.{forecast_text}
+use Rattle.multi_ground.specs.MultiOutputs.{multi_course}
 use Rattle.param_table.specs.Grammar.{bad_text_row, text_columns}
 use Rattle.param_table.specs.Tabling.{Tabulation, table_course}
 use Rattle.pocket_cmd.specs.Faults.{DataFault, of_recording, of_store}
-use Rattle.pocket_cmd.specs.Command.{Command, Compress, Play, Restore, Show, Trial, Multi, Table, Forecast, CompressValues, ForecastValues, Names, TableValues}
+use Rattle.pocket_cmd.specs.Command.{Command, Compress, Play, Restore, Show, Trial, Multi, Late, Table, Forecast, CompressValues, ForecastValues, Names, TableValues}
 use Rattle.pocket_cmd.specs.Summary.{summary_by}
 
 -- the same course, its fault named otherwise
@@ -86,6 +87,12 @@ errand_of (Multi m) = record {
   bad_row = bad_stream_row;
   bad_script_row = None;
   course = λ text input. with_fault of_store (multi_course (streams_of text) input);
+}
+errand_of (Late l) = record {
+  names = record { side = None; input = Some l.input; output = l.output; report = Some l.report };
+  bad_row = no_row;
+  bad_script_row = None;
+  course = λ text input. with_fault of_store (late_course l.bits l.apid l.window input);
 }
 errand_of (Table t) = record {
   names = record { side = Some t.fields; input = Some t.input; output = t.output; report = Some t.report };

@@ -10,9 +10,10 @@ use Rattle.flight_chain.specs.Compressing.{compress_course}
 use Rattle.loss_player.specs.Playing.{play_course}
 use Rattle.ground_chain.specs.Listing.{listing_course}
 use Rattle.ground_chain.specs.Restoring.{restore_course}
-use Rattle.multi_ground.specs.MultiOutputs.{multi_course}
+use Rattle.late_window.specs.Restoring.{late_course}
 use Rattle.forecast.specs.Outlooks.{foresees}
 use Rattle.forecast.specs.Texts.{forecast_text}
+use Rattle.multi_ground.specs.MultiOutputs.{multi_course}
 use Rattle.param_table.specs.Tabling.{table_course}
 use Rattle.pocket_cmd.specs.declared.job.Job.{Job}
 use Rattle.pocket_cmd.specs.declared.job.Job.TheVariants as job
@@ -37,6 +38,7 @@ duty_of (job.Restore restorer) = record { course = λ input. with_fault of_store
 duty_of (job.Show lister) = record { course = λ input. with_fault of_store (listing_course lister.places lister.apid input); reads = true; reports = false }
 duty_of (job.Trial text) = record { course = λ input. text_course text.items; reads = false; reports = false }
 duty_of (job.Multi restorer) = record { course = λ input. with_fault of_store (multi_course restorer input); reads = true; reports = true }
+duty_of (job.Late restorer) = record { course = λ input. with_fault of_store (late_course restorer.places restorer.apid restorer.window input); reads = true; reports = true }
 duty_of (job.Table tabler) = record { course = λ input. with_fault of_recording (table_course tabler input); reads = true; reports = true }
 duty_of (job.Forecast forecast) = record { course = λ input. text_course (forecast_text (foresees forecast.outlook) forecast.packets); reads = false; reports = false }
 

@@ -2,7 +2,7 @@
 use Rattle.std.specs.Prelude.{ℕ, Bool, true, false, List, [], ◌∷◌, codes, Option, Some, None, if◌then◌else◌}
 use Rattle.std.specs.Str.{bytes_eq}
 use Rattle.pocket_cmd.specs.declared.verbs.Verb.{Verb}
-use Rattle.pocket_cmd.specs.declared.verbs.Verb.TheVariants.{Compress, Play, Restore, Show, Trial, Multi, Table, Forecast}
+use Rattle.pocket_cmd.specs.declared.verbs.Verb.TheVariants.{Compress, Play, Restore, Show, Trial, Multi, Late, Table, Forecast}
 use Rattle.pocket_cmd.specs.declared.verbs.Port.{Port}
 use Rattle.pocket_cmd.specs.declared.verbs.Port.TheVariants.{Side, Input, Output, Report}
 use Rattle.pocket_cmd.specs.declared.verbs.Kind.{Kind}
@@ -19,9 +19,10 @@ verb_of word =
     else (if bytes_eq word (codes "show") then Some Show
     else (if bytes_eq word (codes "trial") then Some Trial
     else (if bytes_eq word (codes "multi") then Some Multi
+    else (if bytes_eq word (codes "late") then Some Late
     else (if bytes_eq word (codes "table") then Some Table
     else (if bytes_eq word (codes "forecast") then Some Forecast
-    else None)))))))
+    else None))))))))
 
 -- a key, the kind of its value, and whether it is needed
 pub record Row : Type 0 where
@@ -56,6 +57,9 @@ rows_of Trial =
 rows_of Multi =
     needed (codes "in") (Name Input) ∷ needed (codes "out") (Name Output) ∷ needed (codes "report") (Name Report)
     ∷ needed (codes "streams") (Name Side) ∷ []
+rows_of Late =
+    needed (codes "in") (Name Input) ∷ needed (codes "out") (Name Output) ∷ needed (codes "report") (Name Report)
+    ∷ needed (codes "bits") (Number 1 49152) ∷ needed (codes "apid") (Number 0 2046) ∷ needed (codes "window") (Number 0 64) ∷ []
 rows_of Table =
     needed (codes "in") (Name Input) ∷ needed (codes "out") (Name Output) ∷ needed (codes "report") (Name Report)
     ∷ needed (codes "fields") (Name Side) ∷ needed (codes "bits") (Number 1 49152) ∷ []

@@ -6,7 +6,7 @@ ghost use Rattle.desk_ports.specs.Meanings.{Adds, AddsFront, HasWriteCause, IsRe
 ghost use Rattle.side_tables.specs.Grammar.{bad_copy_row, bad_schedule_row, copy_rows_of, schedule_rows_of};
 ghost use Rattle.side_tables.specs.Streams.{bad_stream_row, streams_of};
 ghost use Rattle.param_table.specs.Grammar.{bad_text_row};
-ghost use Rattle.pocket_cmd.specs.Command.{Compress, Forecast as ToForecast, Play, Restore, Show, Table as ToTable, IsRight, compress_by, forecast_by, play_by, restore_by, show_by, table_by, view_command};
+ghost use Rattle.pocket_cmd.specs.Command.{Compress, Forecast as ToForecast, Late as ToLate, Play, Restore, Show, Table as ToTable, IsRight, compress_by, forecast_by, late_by, play_by, restore_by, show_by, table_by, view_command};
 ghost use Rattle.pocket_cmd.specs.Courses.{compression_by, names_of, tabulation_by};
 ghost use Rattle.pocket_cmd.specs.Jobs.{AfterJob, AfterMaking, HasMakingCause, IsScriptRead, job_course, reads_input, writes_report};
 ghost use Rattle.pocket_cmd.specs.Outcome.{IsRowRefused, IsTextRefused};
@@ -23,6 +23,7 @@ use desk_ports::{Desk, Failed, Inlet, Outlet, write_all};
 use flight_chain::Flight;
 use forecast::Forecast;
 use ground_chain::{Lister, Restorer};
+use late_window::LateRestorer;
 use loss_player::Player;
 use multi_ground::MultiRestorer;
 use param_table::{Fields, Tabler};
@@ -39,6 +40,7 @@ pub enum Job {
     /// The text of a trial's summary.
     Trial(Vec<u8>),
     Multi(MultiRestorer),
+    Late(LateRestorer),
     Table(Tabler),
     Forecast(Forecast),
 }
@@ -66,6 +68,7 @@ impl Job {
             Verb::Show => Ok(Job::Show(lister(alloc, words)?)),
             Verb::Trial => Ok(Job::Trial(summary_text(alloc, words)?)),
             Verb::Multi => Ok(Job::Multi(multi_restorer(alloc, text)?)),
+            Verb::Late => Ok(Job::Late(late_restorer(alloc, words)?)),
             Verb::Table => Ok(Job::Table(tabler(alloc, words, text)?)),
             Verb::Forecast => Ok(Job::Forecast(forecast(
                 alloc,
@@ -114,6 +117,10 @@ impl Job {
                 Err(_) => Err(Refusal::WriteFault),
             },
             Job::Multi(restorer) => match restorer.restore(desk) {
+                Ok(_) => Ok(()),
+                Err(fault) => Err(fault.into()),
+            },
+            Job::Late(restorer) => match restorer.restore(desk) {
                 Ok(_) => Ok(()),
                 Err(fault) => Err(fault.into()),
             },
@@ -204,7 +211,7 @@ fn lister(alloc: Global, words: &[String]) -> Result<Lister, NoMemory>
 
 /// The restorer of `multi`, whose streams have this text.
 fn multi_restorer(alloc: Global, text: &[u8]) -> Result<MultiRestorer, Refusal>
-    requires { length text.now ≤ 1048576 }
+    requires within { length text.now ≤ 1048576 }
     ensures restorer { IfOk result (λ restorer. restorer ≡ streams_of text.now) }
     ensures rows { OnOk result (bad_stream_row text.now ≡ None) }
     ensures refused { IfErr result
@@ -212,6 +219,21 @@ fn multi_restorer(alloc: Global, text: &[u8]) -> Result<MultiRestorer, Refusal>
 {
     let streams = Streams::read(alloc, text)?;
     Ok(MultiRestorer::open(alloc, streams)?)
+}
+
+/// The restorer of `late`.
+fn late_restorer(alloc: Global, words: &[String]) -> Result<LateRestorer, NoMemory>
+    requires { IsRight (ToLate (late_by (map string_bytes words.now))) }
+    ensures { let told = late_by (map string_bytes words.now) in
+        IfOk result (λ restorer. restorer ≡
+        record { places = told.bits; apid = told.apid; window = told.window }) }
+{
+    LateRestorer::open(
+        alloc,
+        number_at(words, "bits"),
+        number_at(words, "apid") as u16,
+        number_at(words, "window") as u8,
+    )
 }
 
 /// The tabler of `table`, whose fields have this text.

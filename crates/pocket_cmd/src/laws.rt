@@ -1,5 +1,5 @@
 //! Laws of the definitions that the top call's contract cites.
-ghost use Rattle.std.specs.Prelude.{◌≡◌, ◌⊎◌, ◌≤◌, ◌<◌, ◌^◌, ℕ, [], length, All, List, Ok, Some, None};
+ghost use Rattle.std.specs.Prelude.{◌≡◌, ◌⊎◌, ◌≤◌, ◌<◌, ◌^◌, ◌++◌, ℕ, [], length, map, All, List, Ok, Some, None};
 ghost use Rattle.desk_ports.specs.Courses.{owed, to_output};
 ghost use Rattle.desk_ports.specs.Meanings.{Meanings};
 ghost use Rattle.mask_update.specs.Histories.{History, IsValid};
@@ -17,9 +17,13 @@ ghost use Rattle.param_table.specs.Texts.{limit_text, table_text};
 ghost use Rattle.loss_player.specs.Gaps.{AreGapsShort};
 ghost use Rattle.loss_player.specs.Played.{played_bytes, played_of};
 ghost use Rattle.loss_player.specs.Report.{play_report};
-ghost use Rattle.ground_chain.specs.Deliveries.{report_text, restored_bytes};
+ghost use Rattle.ground_chain.specs.Deliveries.{arrival_at, report_text, restored_bytes};
+ghost use Rattle.ground_chain.specs.Report.{run_bytes, run_report};
+ghost use Rattle.late_window.specs.Deliveries.{IsLateDelivery};
+ghost use Rattle.late_window.specs.Restoring.{late_done, ordered_run, store_arrivals};
+ghost use Rattle.late_window.specs.Rows.{late_row};
 ghost use Rattle.pocket_cmd.specs.Apart.{AreApart};
-ghost use Rattle.pocket_cmd.specs.Command.{Command, Compress, CompressValues, Forecast, ForecastValues, Multi, MultiValues, Play, PlayValues, Restore, RestoreValues, Table, TableValues, Trial, TrialValues, AreGiven, IsRight, command_of};
+ghost use Rattle.pocket_cmd.specs.Command.{Command, Compress, CompressValues, Forecast, ForecastValues, Late, LateValues, Multi, MultiValues, Play, PlayValues, Restore, RestoreValues, Table, TableValues, Trial, TrialValues, AreGiven, IsRight, command_of};
 ghost use Rattle.pocket_cmd.specs.Courses.{course_of, forecast_by_texts, names_of};
 ghost use Rattle.pocket_cmd.specs.Delivery.{HasWritten, IsInputWhole, recorded_history};
 ghost use Rattle.pocket_cmd.specs.Openings.{input_given, side_given};
@@ -56,6 +60,24 @@ pub fn trials_owe_their_summary()
     ensures refused { (t : TrialValues) (old new : Meanings) (refusal : Refusal)
         → AfterRefusal (Trial t) old new refusal
         → (refusal ≡ Refusal.WriteFault) ⊎ (refusal ≡ Refusal.NoMemory) }
+{}
+
+/// What a whole store owes whose packets may come late is the restored packets and the report of the run over its packets of
+/// the APID in order, without those that are too late, and the row of these. If the packets are those of a valid history and come
+/// late by no more than the window, that is the inputs of the packets that are written, and the report of all others.
+pub fn late_stores_owe_their_order()
+    ensures order { (l : LateValues) (store : List ℕ) → IsInputWhole (Late l) store →
+        owed (course_of (Late l) [] store) ≡ record {
+          output = run_bytes (ordered_run l.bits l.apid l.window store);
+          report = run_report (ordered_run l.bits l.apid l.window store)
+              ++ late_row (late_done l.bits l.apid l.window store).late;
+        } }
+    ensures restored { (l : LateValues) (h : History) (copies : ℕ → ℕ) (store numbers : List ℕ)
+        → IsInputWhole (Late l) store → IsValid h → h.places ≡ l.bits
+        → IsLateDelivery l.window (length h.steps) copies numbers
+        → store_arrivals l.apid store ≡ map (arrival_at h) numbers →
+        owed (course_of (Late l) [] store)
+        ≡ record { output = restored_bytes h copies; report = report_text h copies ++ late_row 0 } }
 {}
 
 /// A table owes the texts of the packets of a whole recording, by its fields: their table, and the report of the values out of

@@ -17,7 +17,8 @@ mod work;
 
 pub use laws::{
     commands_are_given, commands_compose, done_commands_wrote_all, forecasts_owe_their_text,
-    streams_are_restored_apart, tables_owe_their_texts, trials_owe_their_summary,
+    late_stores_owe_their_order, streams_are_restored_apart, tables_owe_their_texts,
+    trials_owe_their_summary,
 };
 pub use packet_store::StoreKind;
 pub use rehearsal::rehearse;

@@ -35,8 +35,8 @@ use std::alloc::Global;
 /// - `show` lists what is found for each packet of a store. It takes `bits` too.
 /// - `trial` runs the other three over a history that it generates from a seed, in memory, and writes a summary. It takes `seed`
 ///   (any number of 32 bits), `packets` (1 to 10,000), `bits` (1 to 4,096) and `robust`.
-/// - `multi` restores the packets of several APIDs, each with bits of its own, in one pass. It takes `report` and `streams`, and
-///   no `apid`.
+/// - `multi` gives back the packets of several streams of one store. It takes `report` and `streams`, and no `apid`.
+/// - `late` gives back the packets of a store in which they may come late. It takes `report`, `bits` and `window` (0 to 64) too.
 /// - `table` writes the fields of the packets of a recording as a table, and those out of their limits. It takes `report`,
 ///   `fields` and `bits`, and no `apid`.
 /// - `forecast` tells which packets will be written, whatever the recording is. It takes `packets` (1 to 1,000,000), `robust`,

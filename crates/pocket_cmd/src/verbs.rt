@@ -18,8 +18,10 @@ pub enum Verb {
     Show,
     /// Runs the other three over a generated history.
     Trial,
-    /// Restores the packets of several APIDs in one store.
+    /// Gives back the packets of several streams of one store.
     Multi,
+    /// Gives back the packets of a store in which they may come late.
+    Late,
     /// Writes the fields of the packets of a recording as a table.
     Table,
     /// Tells which packets will be written, whatever the recording is.
@@ -66,6 +68,7 @@ impl Verb {
             "show" => Some(Verb::Show),
             "trial" => Some(Verb::Trial),
             "multi" => Some(Verb::Multi),
+            "late" => Some(Verb::Late),
             "table" => Some(Verb::Table),
             "forecast" => Some(Verb::Forecast),
             _ => None,
@@ -118,6 +121,14 @@ impl Verb {
                 Needed("out", Name(Port::Output)),
                 Needed("report", Name(Port::Report)),
                 Needed("streams", Name(Port::Side)),
+            ],
+            Verb::Late => &[
+                Needed("in", Name(Port::Input)),
+                Needed("out", Name(Port::Output)),
+                Needed("report", Name(Port::Report)),
+                Needed("bits", Number(1, 49_152)),
+                Needed("apid", Number(0, 2046)),
+                Needed("window", Number(0, 64)),
             ],
             Verb::Table => &[
                 Needed("in", Name(Port::Input)),

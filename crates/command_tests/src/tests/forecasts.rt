@@ -254,3 +254,35 @@ fn a_forecast_at_each_fault(rt: HostRuntime) -> Result<(), Fail> {
     }
     Ok(())
 }
+
+/// Lines of words, and the place of the first wrong word in each.
+static WRONG_WORDS: [(&str, u32); 16] = [
+    ("forecast", 1),
+    ("forecast out=b packets=0 robust=1 plan=s script=a", 2),
+    ("forecast out=b packets=1000001 robust=1 plan=s script=a", 2),
+    ("forecast out=b packets=04 robust=1 plan=s script=a", 2),
+    ("forecast out=b packets=4 robust=8 plan=s script=a", 3),
+    ("forecast packets=4 robust=1 plan=s script=a", 5),
+    ("forecast out=b robust=1 plan=s script=a", 5),
+    ("forecast out=b packets=4 plan=s script=a", 5),
+    ("forecast out=b packets=4 robust=1 script=a", 5),
+    ("forecast out=b packets=4 robust=1 plan=s", 5),
+    ("forecast out=b packets=4 robust=1 plan=s script=s", 5),
+    ("forecast out=b packets=4 robust=1 plan=b script=a", 4),
+    ("forecast out=b packets=4 robust=1 plan=s script=b", 5),
+    ("forecast out=b packets=4 robust=1 plan=- script=-", 5),
+    ("forecast in=c out=b packets=4 robust=1 plan=s script=a", 1),
+    (
+        "forecast out=b packets=4 robust=1 plan=s script=a report=c",
+        6,
+    ),
+];
+
+#[test]
+fn words_of_forecasts(rt: HostRuntime) -> Result<(), Fail> {
+    for (words, place) in &WRONG_WORDS {
+        let refusal = Refusal::BadWords { word: *place };
+        assert_ending(&rt, &words_alone(words), &refused(refusal, &[], &[]))?;
+    }
+    Ok(())
+}

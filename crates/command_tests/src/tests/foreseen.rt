@@ -85,7 +85,7 @@ fn recording_of(alloc: Global, draws: &mut Draws) -> Result<Vec<u8>, AllocError>
     let mut byte = 0;
     for _ in 0..PACKETS {
         if draws.below(3) == 0 {
-            byte ^= 1u8 << draws.below(8);
+            byte ^= 1u8.rotate_left(draws.below(8));
         }
         bytes.push(byte)?;
     }

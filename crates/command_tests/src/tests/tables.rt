@@ -17,22 +17,21 @@ const WIDE: &str = "table in=a out=b report=c fields=s bits=64";
 
 const LONG: &str = "table in=a out=b report=c fields=s bits=136";
 
-const FIELDS: &str = "field,0,8,u,mode\nfield,8,8,s,temp\nlimit,temp,-10,40\n";
+const FIELDS: &[u8] = b"field,0,8,u,mode\nfield,8,8,s,temp\nlimit,temp,-10,40\n";
 
 const RECORDING: &[u8] = &[0x01, 0xF0, 0x02, 0x28];
 
-const TABLE: &str = "t,mode,temp\n0,1,-16\n1,2,40\n";
+const TABLE: &[u8] = b"t,mode,temp\n0,1,-16\n1,2,40\n";
 
-const REPORT: &str = "t,name,value,low,high\n0,temp,-16,-10,40\nend,2,1\n";
+const REPORT: &[u8] = b"t,name,value,low,high\n0,temp,-16,-10,40\nend,2,1\n";
 
 /// Words, a side text, a recording in hexadecimal, its table and its report.
-static WHOLE: [(&str, &str, &str, &str, &str); 10] = [
-    (SIXTEEN_BITS, FIELDS, "01 F0 02 28", TABLE, REPORT),
+static WHOLE: [(&str, &str, &str, &str, &str); 9] = [
     (
         SIXTEEN_BITS,
-        FIELDS,
+        "field,0,8,u,mode\nlimit,mode,1,2\n",
         "",
-        "t,mode,temp\n",
+        "t,mode\n",
         "t,name,value,low,high\nend,0,0\n",
     ),
     // No field.
@@ -199,10 +198,10 @@ static FAILING: [Table; 2] = [
     Table {
         words: SIXTEEN_BITS,
         input: Some(RECORDING),
-        side: Some(FIELDS.as_bytes()),
+        side: Some(FIELDS),
         one_byte: false,
-        output: TABLE.as_bytes(),
-        report: REPORT.as_bytes(),
+        output: TABLE,
+        report: REPORT,
         rows: &[
             (&[(Call::OpenIn, 1), (Call::OpenOut, 1)], End::Unread(0, 0)),
             (&[(Call::OpenIn, 2), (Call::OpenOut, 1)], End::Unread(0, 0)),
@@ -230,10 +229,10 @@ static FAILING: [Table; 2] = [
     Table {
         words: SIXTEEN_BITS,
         input: Some(RECORDING),
-        side: Some(FIELDS.as_bytes()),
+        side: Some(FIELDS),
         one_byte: true,
-        output: TABLE.as_bytes(),
-        report: REPORT.as_bytes(),
+        output: TABLE,
+        report: REPORT,
         rows: &[
             (&[(Call::Write, 12)], End::Unwritten(11, 0)),
             (&[(Call::Write, 34)], End::Unwritten(12, 21)),
@@ -248,6 +247,8 @@ static FAILING: [Table; 2] = [
 
 #[test]
 fn tables(rt: HostRuntime) -> Result<(), Fail> {
+    let worked = with_both(SIXTEEN_BITS, RECORDING, FIELDS);
+    assert_both(&rt, worked, &done(TABLE, REPORT))?;
     for (words, fields, recording, table, report) in &WHOLE {
         let recording = bytes_of(rt.alloc(), recording)?;
         let case = with_both(words, &recording, fields.as_bytes());

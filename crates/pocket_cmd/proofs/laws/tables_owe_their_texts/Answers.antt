@@ -1,4 +1,4 @@
-use Rattle.std.proofs.Common.{Option, ◌++◌, append-nil, append_assoc, ap, ◌∙◌}
+use Rattle.std.proofs.Common.{Option, append-nil, append_assoc, ap, ◌∙◌}
 use Rattle.desk_ports.specs.Courses.{by_ending}
 use Rattle.flight_chain.specs.Recordings.{recording_walk}
 use Rattle.param_table.specs.Tabling.{last_row}

@@ -38,6 +38,9 @@ lister-requires g c = right c.args.command.now _ c.in-Show.is
 pub summary_text-requires : goal.summary_text-requires
 summary_text-requires g c = right c.args.command.now _ c.in-Trial.is
 
+pub late_restorer-requires : goal.late_restorer-requires
+late_restorer-requires g c = right c.args.command.now _ c.in-Late.is
+
 pub tabler-requires-clause-right : goal.tabler-requires-clause-right
 tabler-requires-clause-right g c = right c.args.command.now _ c.in-Table.is
 
@@ -64,15 +67,20 @@ returns-in_ok-lister-in-Show-clause-after g c =
     made c.args.command.now verb.Show c.in-Show.is c.args.text.now _ _ (job.Show c.in_ok-lister-in-Show.field-0)
     (refl, record { owes = ap (λ lister. job_course (job.Show lister)) c.in_ok-lister-in-Show.ensures; reads = refl; reports = refl; is = refl })
 
-pub returns-in_ok-tabler-in-Table-clause-after : goal.returns-in_ok-tabler-in-Table-clause-after
-returns-in_ok-tabler-in-Table-clause-after g c =
-    made c.args.command.now verb.Table c.in-Table.is c.args.text.now _ _ (job.Table c.in_ok-tabler-in-Table.field-0)
-    (c.in_ok-tabler-in-Table.ensures.rows, record { owes = ap (λ tabler. job_course (job.Table tabler)) c.in_ok-tabler-in-Table.ensures.tabler; reads = refl; reports = refl; is = refl })
-
 pub returns-in_ok-multi_restorer-in-Multi-clause-after : goal.returns-in_ok-multi_restorer-in-Multi-clause-after
 returns-in_ok-multi_restorer-in-Multi-clause-after g c =
     made c.args.command.now verb.Multi c.in-Multi.is c.args.text.now _ _ (job.Multi c.in_ok-multi_restorer-in-Multi.field-0)
     (c.in_ok-multi_restorer-in-Multi.ensures.rows, record { owes = ap (λ restorer. job_course (job.Multi restorer)) c.in_ok-multi_restorer-in-Multi.ensures.restorer; reads = refl; reports = refl; is = refl })
+
+pub returns-in_ok-late_restorer-in-Late-clause-after : goal.returns-in_ok-late_restorer-in-Late-clause-after
+returns-in_ok-late_restorer-in-Late-clause-after g c =
+    made c.args.command.now verb.Late c.in-Late.is c.args.text.now _ _ (job.Late c.in_ok-late_restorer-in-Late.field-0)
+    (refl, record { owes = ap (λ restorer. job_course (job.Late restorer)) c.in_ok-late_restorer-in-Late.ensures; reads = refl; reports = refl; is = refl })
+
+pub returns-in_ok-tabler-in-Table-clause-after : goal.returns-in_ok-tabler-in-Table-clause-after
+returns-in_ok-tabler-in-Table-clause-after g c =
+    made c.args.command.now verb.Table c.in-Table.is c.args.text.now _ _ (job.Table c.in_ok-tabler-in-Table.field-0)
+    (c.in_ok-tabler-in-Table.ensures.rows, record { owes = ap (λ tabler. job_course (job.Table tabler)) c.in_ok-tabler-in-Table.ensures.tabler; reads = refl; reports = refl; is = refl })
 
 -- the script is the input of the command's name
 forecast_made : (words : List (List ℕ)) (text : List ℕ) (old new : Meanings) (forecast : ForecastState) (name : Option (List ℕ)) → name ≡ (names_of (command_by verb.Forecast words)).input → bad_schedule_row text ≡ None

@@ -3,10 +3,11 @@ use Rattle.flight_chain.specs.Compressing.{compress_course, stop_by as flight_st
 use Rattle.loss_player.specs.Playing.{play_course, stop_by as play_stop}
 use Rattle.ground_chain.specs.Listing.{listing_course}
 use Rattle.ground_chain.specs.Restoring.{restore_course, stop_by as restore_stop}
-use Rattle.multi_ground.specs.MultiOutputs.{multi_course}
+use Rattle.late_window.specs.Restoring.{late_course}
 use Rattle.forecast.specs.Outlooks.{foresees}
 use Rattle.forecast.specs.Texts.{forecast_text}
 use Rattle.param_table.specs.Faults.{stop_by as table_stop}
+use Rattle.multi_ground.specs.MultiOutputs.{multi_course}
 use Rattle.param_table.specs.Tabling.{table_course}
 use Rattle.pocket_cmd.specs.Faults.{of_recording, of_store}
 use Rattle.pocket_cmd.proofs.Faults.{HasClassCause-stop, IsEnded-done, IsEnded-stop}
@@ -77,9 +78,13 @@ pub returns-in-Err-restore-2-clause-ran : goal.returns-in-Err-restore-2-clause-r
 returns-in-Err-restore-2-clause-ran g c =
     rw c.in-Multi.is (IsEnded-stop of_store (multi_course c.in-Multi.restorer) _ _ (restore_stop c.in-Err-restore-2.fault) c.into-in-Err-restore-2.result c.in-Err-restore-2.ensures.ran c.into-in-Err-restore-2.ensures)
 
-pub returns-in-Err-restore-2-clause-cause : goal.returns-in-Err-restore-2-clause-cause
-returns-in-Err-restore-2-clause-cause g c =
-    HasClassCause-stop of_store _ _ (restore_stop c.in-Err-restore-2.fault) c.into-in-Err-restore-2.result c.in-Err-restore-2.ensures.cause c.into-in-Err-restore-2.ensures
+pub returns-in-Ok-restore-3-clause-ran : goal.returns-in-Ok-restore-3-clause-ran
+returns-in-Ok-restore-3-clause-ran g c =
+    rw c.in-Late.is (IsEnded-done of_store (late_course c.in-Late.restorer.places c.in-Late.restorer.apid c.in-Late.restorer.window) _ _ c.in-Ok-restore-3.ensures.ran.ends)
+
+pub returns-in-Err-restore-3-clause-ran : goal.returns-in-Err-restore-3-clause-ran
+returns-in-Err-restore-3-clause-ran g c =
+    rw c.in-Late.is (IsEnded-stop of_store (late_course c.in-Late.restorer.places c.in-Late.restorer.apid c.in-Late.restorer.window) _ _ (restore_stop c.in-Err-restore-3.fault) c.into-in-Err-restore-3.result c.in-Err-restore-3.ensures.ran c.into-in-Err-restore-3.ensures)
 
 pub returns-in-Ok-tabulate-clause-ran : goal.returns-in-Ok-tabulate-clause-ran
 returns-in-Ok-tabulate-clause-ran g c =

@@ -1,0 +1,109 @@
+#!/usr/bin/env python3
+"""Holds the manual page, docs/pocket.1, and README.md to the program's help, which crates/pocket/src/main.rt has: the same verbs, each
+with the same keys, the same ranges and the same exit numbers. Run alone, it prints what differs. If `mandoc` is there, the page has to be
+clean for it."""
+
+import os
+import re
+import shutil
+import subprocess
+import sys
+
+TOP = os.path.dirname(os.path.dirname(os.path.abspath(__file__)))
+VERB = re.compile(r"pocket ([a-z]+) (.+)")
+KEY = re.compile(r"(\[?)([a-z]+)=")
+RANGE = re.compile(r"(\d+) to (\d+)")
+
+
+def text_of(name):
+    """The text of a file of the repository."""
+    with open(os.path.join(TOP, name), encoding="utf-8") as file:
+        return file.read()
+
+
+def verbs_of_help(text):
+    """The keys of each verb, and whether each may be left out."""
+    found = (VERB.fullmatch(line) for line in text.splitlines())
+    return {it[1]: {key: mark == "[" for mark, key in KEY.findall(it[2])} for it in found if it}
+
+
+def verbs_of_page(page):
+    """The same of the manual page: its synopsis has a block for each verb."""
+    synopsis = page.split(".Sh SYNOPSIS")[1].split(".Sh ")[0]
+    verbs = {}
+    for block in synopsis.split("\n.Nm\n"):
+        lines = [line for line in block.splitlines() if "Cm " in line]
+        if lines:
+            verb = lines[0].removeprefix(".Cm ").strip()
+            verbs[verb] = {key: line.startswith(".Op") for line in lines[1:] for _, key in KEY.findall(line)}
+    return verbs
+
+
+def ranges_of_help(text):
+    """The ranges of each key."""
+    lines = text.split("left out:")[1].split("Exit numbers:")[0].splitlines()
+    rows = (re.match(r"    (\S.*?)  +(.*)", line) for line in lines)
+    return {row[1]: RANGE.findall(row[2]) for row in rows if row}
+
+
+def ranges_of_page(page):
+    """The same of the manual page: its list of keys has an item for each."""
+    items = page.split("The keys are these.")[1].split("\n.El")[0].split("\n.It Cm ")[1:]
+    found = {}
+    for item in items:
+        head, _, rest = item.partition("\n")
+        names = ", ".join(name.strip().rstrip("=") for name in head.split(","))
+        found[names] = RANGE.findall(rest.replace("\n", " "))
+    return found
+
+
+def exits_of_help(text):
+    """The exit numbers."""
+    return re.findall(r"^    (\d)  ", text.split("Exit numbers:")[1], re.M)
+
+
+def with_commas(number):
+    """A number as README.md writes it: one of more than four digits has commas, and so may one of four."""
+    return f"{int(number):,}" if len(number) > 4 else number
+
+
+def readme_lacks(readme, verbs, ranges, exits):
+    """What README.md doesn't have of these."""
+    for verb, keys in verbs.items():
+        if f"**`{verb}`**" not in readme:
+            yield f"README.md tells of no verb {verb}"
+        yield from (f"README.md names no key {key}" for key in keys if f"`{key}`" not in readme and f" {key}=" not in readme)
+    for key, pairs in ranges.items():
+        for low, high in pairs:
+            wanted = {f"{low} to {with_commas(high)}", f"{low} to {int(high):,}"}
+            if not any(it in readme for it in wanted):
+                yield f"README.md has no range {low} to {high} of {key}"
+    yield from (f"README.md has no exit number {it}" for it in exits if f"\n| {it} |" not in readme)
+
+
+def differences():
+    """What differs."""
+    help_text = text_of("crates/pocket/src/main.rt").split('const HELP: &str = "\\\n')[1].split('";')[0]
+    page, readme = text_of("docs/pocket.1"), text_of("README.md")
+    verbs, ranges, exits = verbs_of_help(help_text), ranges_of_help(help_text), exits_of_help(help_text)
+    if verbs_of_page(page) != verbs:
+        yield f"the verbs of the page are {verbs_of_page(page)}, and those of the help {verbs}"
+    if ranges_of_page(page) != ranges:
+        yield f"the ranges of the page are {ranges_of_page(page)}, and those of the help {ranges}"
+    listed = re.findall(r"^\.It (\d)$", page.split(".Sh EXIT STATUS")[1].split(".Sh ")[0], re.M)
+    if listed != exits:
+        yield f"the exit numbers of the page are {listed}, and those of the help {exits}"
+    yield from readme_lacks(readme, verbs, ranges, exits)
+    if shutil.which("mandoc"):
+        ran = subprocess.run(["mandoc", "-Tlint", os.path.join(TOP, "docs", "pocket.1")], capture_output=True, text=True, check=False)
+        yield from ran.stdout.splitlines()
+
+
+def main():
+    found = list(differences())
+    print("\n".join(found) or "help, manual page and README.md agree")
+    return 1 if found else 0
+
+
+if __name__ == "__main__":
+    sys.exit(main())

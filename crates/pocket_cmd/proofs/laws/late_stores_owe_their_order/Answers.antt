@@ -1,0 +1,33 @@
+use Rattle.std.proofs.Common.{◌≡◌, ℕ, List, [], ◌++◌, Option, Some, None, refl, sym, ◌∙◌, subst}
+use Rattle.std.specs.Option.{option_map}
+use Rattle.desk_ports.specs.Courses.{owed}
+use Rattle.packet_store.specs.Walks.{walk}
+use Rattle.packet_store.specs.declared.fault.WalkFault.{WalkFault}
+use Rattle.ground_chain.specs.Deliveries.{report_text, restored_bytes}
+use Rattle.late_window.specs.Restoring.{late_course}
+use Rattle.late_window.specs.Rows.{late_row}
+use Rattle.late_window.proofs.Delivered.{owed-late}
+use Rattle.late_window.proofs.Wholes.{owed-whole}
+use Rattle.pocket_cmd.specs.Command.{Late, LateValues}
+use Rattle.pocket_cmd.specs.Delivery.{IsInputWhole}
+use Rattle.pocket_cmd.specs.Faults.{of_store}
+use Rattle.pocket_cmd.proofs.Faults.{owed-with_fault}
+use Rattle.pocket_cmd.proofs.laws.late_stores_owe_their_order.Goals as goal
+
+-- a course whose fault is named otherwise ends as it does
+none_named : (ending : Option WalkFault) → option_map of_store ending ≡ None → ending ≡ None
+none_named None is = refl
+none_named (Some fault) is = absurd cc
+
+whole_walk : (l : LateValues) (store : List ℕ) → IsInputWhole (Late l) store → (walk (Some l.apid) store).ending ≡ None
+whole_walk l store whole = none_named (walk (Some l.apid) store).ending (whole.ends [])
+
+pub returns-clause-order : goal.returns-clause-order
+returns-clause-order c = λ l store whole.
+    sym (owed-with_fault of_store (late_course l.bits l.apid l.window store)) ∙ owed-whole l.bits l.apid l.window store (whole_walk l store whole)
+
+pub returns-clause-restored : goal.returns-clause-restored
+returns-clause-restored c = λ l h copies store numbers whole valid places delivery arrives.
+    sym (owed-with_fault of_store (late_course l.bits l.apid l.window store))
+    ∙ subst (λ f. owed (late_course f l.apid l.window store) ≡ record { output = restored_bytes h copies; report = report_text h copies ++ late_row 0 }) places
+    (owed-late h copies l.apid l.window store numbers valid delivery arrives (whole_walk l store whole))
