@@ -275,6 +275,7 @@ fn rules_of_streams(rt: HostRuntime) -> Result<(), Fail> {
 }
 
 /// The side text, the store, the output and the report of many streams, each with a packet.
+#[derive(Drop)]
 struct Many {
     streams: String,
     store: Vec<u8>,
