@@ -87,7 +87,7 @@ RANGES = [
     ("robust", 0, 7, "compress in=none out=y bits=8 apid=100 robust={}"),
     ("seed", 0, 4294967295, "trial seed={} packets=3 bits=8 robust=1 out=/dev/full"),
     ("packets", 1, 10000, "trial seed=0 packets={} bits=8 robust=1 out=/dev/full"),
-    ("packets", 1, 1000000, "forecast out=y packets={} robust=1 plan=none script=none"),
+    ("packets", 1, 1000000, "forecast out=y packets={} robust=1 plan=none script=nothing"),
 ]
 
 VERBS = [
