@@ -41,40 +41,63 @@ impl Draws {
     }
 }
 
+/// The flags of a row.
+fn letters(draw: u32) -> &'static str {
+    match draw {
+        1 => "r",
+        2 => "f",
+        3 => "p",
+        _ => "prf",
+    }
+}
+
+/// A row of a schedule.
+fn plan_row(alloc: Global, draws: &mut Draws) -> Result<String, Fail> {
+    let first = draws.below(40);
+    let last = first.saturating_add(draws.below(40));
+    let step = draws.below(9).saturating_add(1);
+    match draws.below(5) {
+        0 => {
+            let value = draws.below(8);
+            Ok(format!(in alloc; "robust,{first},{last},{step},{value}\n")?)
+        }
+        draw => {
+            let flags = letters(draw);
+            Ok(format!(in alloc; "{first},{last},{step},{flags}\n")?)
+        }
+    }
+}
+
 /// A schedule of a few rows of both kinds.
 fn plan_of(alloc: Global, draws: &mut Draws) -> Result<String, Fail> {
     let mut text = String::new(alloc);
     for _ in 0..draws.below(8) {
-        let first = draws.below(40);
-        let last = first.saturating_add(draws.below(40));
-        let step = draws.below(9).saturating_add(1);
-        let line = match draws.below(5) {
-            0 => format!(in alloc; "robust,{first},{last},{step},{}\n", draws.below(8))?,
-            1 => format!(in alloc; "{first},{last},{step},r\n")?,
-            2 => format!(in alloc; "{first},{last},{step},f\n")?,
-            3 => format!(in alloc; "{first},{last},{step},p\n")?,
-            _ => format!(in alloc; "{first},{last},{step},prf\n")?,
-        };
-        text.push_str(&line)?;
+        let row = plan_row(alloc, draws)?;
+        text.push_str(&row)?;
     }
     Ok(text)
+}
+
+/// A row of a script.
+fn script_row(alloc: Global, draws: &mut Draws) -> Result<String, Fail> {
+    let first = draws.below(40);
+    let last = first.saturating_add(draws.below(12));
+    let step = draws.below(4).saturating_add(1);
+    match draws.below(3) {
+        0 => {
+            let copies = draws.below(8).saturating_add(1);
+            Ok(format!(in alloc; "repeat,{first},{last},{step},{copies}\n")?)
+        }
+        _ => Ok(format!(in alloc; "drop,{first},{last},{step}\n")?),
+    }
 }
 
 /// A script of a few rows of both kinds.
 fn script_of(alloc: Global, draws: &mut Draws) -> Result<String, Fail> {
     let mut text = String::new(alloc);
     for _ in 0..draws.below(8) {
-        let first = draws.below(40);
-        let last = first.saturating_add(draws.below(12));
-        let step = draws.below(4).saturating_add(1);
-        let line = match draws.below(3) {
-            0 => format!(in alloc;
-                "repeat,{first},{last},{step},{}\n",
-                draws.below(8).saturating_add(1)
-            )?,
-            _ => format!(in alloc; "drop,{first},{last},{step}\n")?,
-        };
-        text.push_str(&line)?;
+        let row = script_row(alloc, draws)?;
+        text.push_str(&row)?;
     }
     Ok(text)
 }
@@ -176,6 +199,30 @@ fn desk_of(alloc: Global, plan: &str, script: &str, recording: &[u8]) -> Result<
     Ok(desk)
 }
 
+/// A schedule, a script, and a desk with both and a recording.
+#[derive(Drop)]
+struct Drawn {
+    plan: String,
+    script: String,
+    desk: MemDesk,
+}
+
+fn drawn(alloc: Global, seed: u32) -> Result<Drawn, Fail> {
+    let mut draws = Draws { state: seed };
+    let plan = plan_of(alloc, &mut draws)?;
+    let script = script_of(alloc, &mut draws)?;
+    let recording = recording_of(alloc, &mut draws)?;
+    let desk = desk_of(alloc, &plan, &script, &recording)?;
+    Ok(Drawn { plan, script, desk })
+}
+
+/// What becomes of each packet, by two texts.
+fn states_by(alloc: Global, plan: &str, script: &str) -> Result<Vec<&'static str>, Fail> {
+    let plan = Schedule::read(alloc, plan.as_bytes())?;
+    let script = Script::read(alloc, script.as_bytes())?;
+    Ok(states_of(alloc, &plan, &script)?)
+}
+
 /// The number of a packet, if the line of a listing says that it was written.
 fn number_written(line: &str) -> Option<usize> {
     let mut words = line.split(' ');
@@ -206,31 +253,39 @@ fn assert_written(rt: &impl Abort, states: &[&'static str], written: &[usize]) {
     }
 }
 
+/// Makes the forecast, and then the listing of what was written.
+fn assert_all_done(rt: &(impl Abort + AllocGlobal), desk: &mut MemDesk) -> Result<(), Fail> {
+    assert_done(rt, FORECAST, desk)?;
+    for words in &COMMANDS {
+        assert_done(rt, words, desk)?;
+    }
+    Ok(())
+}
+
+/// The text that a desk keeps under a name.
+fn text_at<'a>(desk: &'a MemDesk, name: &str) -> &'a str {
+    str::from_utf8(desk.get(name)).unwrap_or("")
+}
+
+/// What is forecast begins with the lines of these states.
+fn assert_forecast(
+    rt: &(impl Abort + AllocGlobal),
+    text: &str,
+    states: &[&'static str],
+) -> Result<(), Fail> {
+    let lines = lines_of(rt.alloc(), states)?;
+    assert!(rt; text.starts_with(lines.as_str()), "{text}\n{lines}");
+    Ok(())
+}
+
 /// What is forecast begins with the lines of the definition, and what it calls sure is written of the recording.
 fn assert_foreseen(rt: &(impl Abort + AllocGlobal), seed: u32) -> Result<(), Fail> {
-    let alloc = rt.alloc();
-    let mut draws = Draws { state: seed };
-    let plan = plan_of(alloc, &mut draws)?;
-    let script = script_of(alloc, &mut draws)?;
-    let recording = recording_of(alloc, &mut draws)?;
-    let mut desk = desk_of(alloc, &plan, &script, &recording)?;
-    assert_done(rt, FORECAST, &mut desk)?;
-    let states = states_of(
-        alloc,
-        &Schedule::read(alloc, plan.as_bytes())?,
-        &Script::read(alloc, script.as_bytes())?,
-    )?;
-    let lines = lines_of(alloc, &states)?;
-    let text = str::from_utf8(desk.get("forecast")).unwrap_or("");
-    assert!(rt;
-        text.starts_with(lines.as_str()),
-        "{plan}\n{script}\n{text}\n{lines}"
-    );
-    for words in &COMMANDS {
-        assert_done(rt, words, &mut desk)?;
-    }
-    let listing = str::from_utf8(desk.get("listing")).unwrap_or("");
-    assert_written(rt, &states, &written_by(alloc, listing)?);
+    let mut drawn = drawn(rt.alloc(), seed)?;
+    assert_all_done(rt, &mut drawn.desk)?;
+    let states = states_by(rt.alloc(), &drawn.plan, &drawn.script)?;
+    assert_forecast(rt, text_at(&drawn.desk, "forecast"), &states)?;
+    let written = written_by(rt.alloc(), text_at(&drawn.desk, "listing"))?;
+    assert_written(rt, &states, &written);
     Ok(())
 }
 

@@ -231,16 +231,8 @@ fn stores_of_streams(rt: HostRuntime) -> Result<(), Fail> {
             byte,
             kind: StoreKind::Cut,
         };
-        let wanted = refused(
-            refusal,
-            front(RESTORED, output),
-            front(REPORT, report),
-        );
-        assert_both(
-            &rt,
-            with_both(MULTI, store, TWO_STREAMS),
-            &wanted,
-        )?;
+        let wanted = refused(refusal, front(RESTORED, output), front(REPORT, report));
+        assert_both(&rt, with_both(MULTI, store, TWO_STREAMS), &wanted)?;
     }
     Ok(())
 }
