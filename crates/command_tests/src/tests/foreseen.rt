@@ -201,19 +201,19 @@ fn desk_of(alloc: Global, plan: &str, script: &str, recording: &[u8]) -> Result<
 
 /// A schedule, a script, and a desk with both and a recording.
 #[derive(Drop)]
-struct Drawn {
+struct Drawing {
     plan: String,
     script: String,
     desk: MemDesk,
 }
 
-fn drawn(alloc: Global, seed: u32) -> Result<Drawn, Fail> {
+fn drawn_by(alloc: Global, seed: u32) -> Result<Drawing, Fail> {
     let mut draws = Draws { state: seed };
     let plan = plan_of(alloc, &mut draws)?;
     let script = script_of(alloc, &mut draws)?;
     let recording = recording_of(alloc, &mut draws)?;
     let desk = desk_of(alloc, &plan, &script, &recording)?;
-    Ok(Drawn { plan, script, desk })
+    Ok(Drawing { plan, script, desk })
 }
 
 /// What becomes of each packet, by two texts.
@@ -280,7 +280,7 @@ fn assert_forecast(
 
 /// What is forecast begins with the lines of the definition, and what it calls sure is written of the recording.
 fn assert_foreseen(rt: &(impl Abort + AllocGlobal), seed: u32) -> Result<(), Fail> {
-    let mut drawn = drawn(rt.alloc(), seed)?;
+    let mut drawn = drawn_by(rt.alloc(), seed)?;
     assert_all_done(rt, &mut drawn.desk)?;
     let states = states_by(rt.alloc(), &drawn.plan, &drawn.script)?;
     assert_forecast(rt, text_at(&drawn.desk, "forecast"), &states)?;
