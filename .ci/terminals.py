@@ -1,0 +1,132 @@
+"""How far a run is, told on a terminal: when it is told and when it isn't, how often, and that the line is taken away."""
+
+import os
+import pty
+import re
+import select
+import subprocess
+import threading
+import time
+
+from rows import COMPRESS
+from runner import LIMIT, ended
+
+# What takes the line away.
+AWAY = b"\r\x1b[K"
+PIECE = 131072
+LONG = COMPRESS.replace("bits=8", "bits=1024")
+# A store of packets that are passed over, each of 65,536 data bytes, and what is told of it.
+PASSED = (bytes.fromhex("0001C000FFFF") + bytes(65536)) * 16
+NOTHING_LISTED, NOTHING_RESTORED = b"end 0 0 0\n", b"first,last,cause,value\nend,0,0,0\n"
+
+
+def feed(pipe, pieces, pause):
+    """Writes so many pieces to a pipe, and closes it."""
+    try:
+        for _ in range(pieces):
+            pipe.write(bytes(PIECE))
+            pipe.flush()
+            time.sleep(pause)
+        pipe.close()
+    except BrokenPipeError:
+        pass
+
+
+def told_on(master):
+    """All that a terminal is told until nothing has it open any more."""
+    told, end = b"", time.monotonic() + LIMIT
+    try:
+        while select.select([master], [], [], max(0, end - time.monotonic()))[0]:
+            told += os.read(master, 65536)
+    except OSError:
+        return told
+    finally:
+        os.close(master)
+    raise TimeoutError(f"the terminal stays open, and was told {told[:300]}")
+
+
+def watched(runner, words, before, output=None, pieces=0, pause=0.0):
+    """How a run ends, what it tells on a terminal, and how long it took. Standard output is a file, or the terminal."""
+    folder = runner.folder(before)
+    master, slave = pty.openpty()
+    start = time.monotonic()
+    with open(os.path.join(runner.room, "printed"), "wb") as file:
+        program = runner.start(words.split(), cwd=folder, stdin=subprocess.PIPE, stdout=slave if output == "terminal" else file, stderr=slave)
+    os.close(slave)
+    threading.Thread(target=feed, args=(program.stdin, pieces, pause), daemon=True).start()
+    told = told_on(master)
+    return program.wait(LIMIT), told, time.monotonic() - start
+
+
+def is_told(told, whole):
+    """Whether a terminal was told how far a run is, of so many bytes or of none that are known, and at last that it is done."""
+    line = rb"\rpocket: \d+ of %d bytes" % whole if whole else rb"\rpocket: \d+ bytes"
+    return re.fullmatch(rb"(%s)+%s" % (line, re.escape(AWAY)), told) is not None
+
+
+def tells(runner):
+    """Whether a long run tells how far it is, and takes the line away at the end."""
+    size = 1 << 20
+    for output, words in ((None, LONG), ("terminal", LONG), (None, LONG.replace("out=y", "out=-"))):
+        status, told, _ = watched(runner, words, {"x": bytes(size)}, output)
+        if status != 0 or not is_told(told, size):
+            return f"{words} ended with {status} and told {told[:300]}"
+    return None
+
+
+def tells_of_pipes(runner):
+    """Whether it tells how much it has read of an input whose length isn't known, and of no other length."""
+    status, told, _ = watched(runner, LONG.replace("in=x", "in=-"), {}, pieces=16)
+    if status != 0 or not is_told(told, None):
+        return f"standard input: it ended with {status} and told {told[:300]}"
+    folder = runner.folder({"p": "pipe", "x": bytes(1 << 20)})
+    runner.begin(["sh", "-c", "cat x > p"], cwd=folder)
+    status, told, _ = watched(runner, LONG.replace("in=x", f"in={folder}/p"), {})
+    return None if status == 0 and is_told(told, None) else f"a pipe: it ended with {status} and told {told[:300]}"
+
+
+def tells_before_refusals(runner):
+    """Whether the line is taken away before a refusal."""
+    size = (1 << 20) + 1
+    status, told, _ = watched(runner, LONG, {"x": bytes(size)})
+    refusal = b"pocket: recording ends inside packet 8192\r\n"
+    fits = status == 4 and told.endswith(refusal) and is_told(told[:-len(refusal)], size)
+    return None if fits else f"it ended with {status} and told {told[:300]}"
+
+
+def tells_seldom(runner):
+    """Whether it is told at most ten times a second, and yet again and again."""
+    status, told, seconds = watched(runner, LONG.replace("in=x", "in=-"), {}, pieces=120, pause=0.01)
+    times = told.count(b"bytes")
+    fits = status == 0 and is_told(told, None) and 3 <= times <= 10 * seconds + 1
+    return None if fits else f"it ended with {status} and told {times} times in {seconds} seconds"
+
+
+def hides(runner):
+    """Whether nothing is told if an output goes to the terminal, if little is read, or if a side text alone is long."""
+    listing, restored = (text.replace(b"\n", b"\r\n") for text in (NOTHING_LISTED, NOTHING_RESTORED))
+    rows = [("show in=x out=- bits=8 apid=100", {"x": PASSED}, listing), ("show in=x out=/dev/stdout bits=8 apid=100", {"x": PASSED}, listing),
+            ("restore in=x out=y report=- bits=8 apid=100", {"x": PASSED}, restored), (LONG, {"x": bytes(1024)}, b""),
+            (LONG + " plan=s", {"x": bytes(1024), "s": b"\n" * (1 << 20)}, b"")]
+    for words, before, wanted in rows:
+        status, told, _ = watched(runner, words, before, "terminal")
+        if (status, told) != (0, wanted):
+            return f"{words} ended with {status} and told {told[:300]}"
+    return None
+
+
+def is_silent(runner):
+    """Whether nothing is told if standard error is no terminal, even if standard output is one."""
+    folder = runner.folder({"x": bytes(1 << 20)})
+    master, slave = pty.openpty()
+    program = runner.start(LONG.split(), cwd=folder, stdin=slave, stdout=slave, stderr=subprocess.PIPE)
+    found = ended(program)
+    os.close(slave)
+    os.close(master)
+    return None if found == (0, b"", b"") else f"it ended with {found}"
+
+
+def tries():
+    """What is tried: each with its name, and a function that takes the runner and gives what is wrong, or None."""
+    return [("progress", tells), ("progress of a pipe", tells_of_pipes), ("progress before a refusal", tells_before_refusals),
+            ("progress at most ten times a second", tells_seldom), ("progress that is hidden", hides), ("progress without a terminal", is_silent)]
