@@ -12,3 +12,5 @@ mod Upward
 mod OnesLeft
 mod ShortEndings
 mod RunFronts
+mod Turning
+mod Ranks

@@ -1,5 +1,6 @@
 -- The places of a vector's ones.
-use Rattle.std.specs.Prelude.{ℕ, ◌+◌, ◌*◌, ◌^◌, ◌<◌, ◌≤◌, Bool, List, [], ◌∷◌, ◌++◌, length, map, take, reverse, if◌then◌else◌}
+use Rattle.std.specs.Prelude.{ℕ, ◌+◌, ◌*◌, ◌%◌, ◌^◌, ◌<◌, ◌≤◌, Bool, List, [], ◌∷◌, ◌++◌, length, map, take, reverse, if◌then◌else◌}
+use Rattle.std.specs.Int.RustNames.{count_ones}
 use Rattle.bit_vectors.specs.Vectors.{number_bits}
 use Rattle.run_code.specs.declared.descending.WordOnes.{WordOnes}
 
@@ -25,3 +26,7 @@ pub record AreWithin (v : List Bool) (word : WordOnes) : Type 0 where
   pub vector : length v ≤ 49152
   pub index : 64 * word.index < length v
   pub ones : word.ones < 2 ^ 64
+
+-- how many ones a number has below a weight
+unfoldable pub ones_under : ℕ → ℕ → ℕ
+ones_under n weight = count_ones (n % 2 ^ weight)

@@ -1,8 +1,9 @@
 //! The bits of one word at the ones of another, in either order. Each loop visits the ones in turn, always the lowest
 //! that is left in a word, so a word of zeros costs one comparison.
 
-ghost use Rattle.std.specs.Prelude.{◌≡◌, ℕ, ◌+◌, ◌*◌, ◌^◌, ◌<◌, ◌≤◌, ◌++◌, length, take};
+ghost use Rattle.std.specs.Prelude.{◌≡◌, ℕ, ◌+◌, ◌-◌, ◌*◌, ◌/◌, ◌%◌, ◌^◌, ◌<◌, ◌≤◌, ◌++◌, length, take};
 ghost use Rattle.std.specs.Int.{bit_at};
+ghost use Rattle.std.specs.Int.Bits.{bit_and, bit_or};
 ghost use Rattle.std.specs.Int.RustNames.{count_ones};
 ghost use Rattle.bit_vectors.specs.Vectors.{bits_number, number_bits};
 ghost use Rattle.run_code.specs.Extraction.{extract, bits_up};
@@ -15,6 +16,9 @@ pub fn gathered(held: u64, bits: u64, at: u64) -> u64
     ensures { result ≡ held * 2 ^ count_ones at
         + bits_number (extract (number_bits 64 bits) (number_bits 64 at)) }
 {
+    if at == u64::MAX {
+        return turned(bits);
+    }
     let mut gathered = held;
     let mut rest = at;
     while rest != 0 {
@@ -32,6 +36,9 @@ pub fn spread(word: u64, at: u64, ahead: u64) -> u64
     ensures others { (weight : ℕ) → bit_at at weight ≡ 0
         → bit_at result weight ≡ bit_at word weight }
 {
+    if at == u64::MAX {
+        return turned(ahead);
+    }
     let mut made = word & !at;
     let mut next = ahead;
     let mut rest = at;
@@ -92,4 +99,26 @@ pub fn spread_up(number: u64, at: u64) -> u64
         rest &= rest - 1;
     }
     made
+}
+
+/// The word with its bits in the reverse order: neighbouring bits are swapped, then pairs of bits, then groups of
+/// 4, of 8, of 16 and of 32.
+fn turned(word: u64) -> u64
+    ensures { (weight : ℕ) → weight < 64 → bit_at result weight ≡ bit_at word (63 - weight) }
+{
+    let mut turned = swapped(word, 0x5555_5555_5555_5555, 1);
+    turned = swapped(turned, 0x3333_3333_3333_3333, 2);
+    turned = swapped(turned, 0x0f0f_0f0f_0f0f_0f0f, 4);
+    turned = swapped(turned, 0x00ff_00ff_00ff_00ff, 8);
+    turned = swapped(turned, 0x0000_ffff_0000_ffff, 16);
+    swapped(turned, 0x0000_0000_ffff_ffff, 32)
+}
+
+/// A word whose bits at the ones of `low` come from the given number of places above them, and those above from
+/// there.
+fn swapped(word: u64, low: u64, by: u32) -> u64
+    requires { by < 64 }
+    ensures { result ≡ bit_or (bit_and (word / 2 ^ by) low) (bit_and word low * 2 ^ by % 2 ^ 64) }
+{
+    ((word >> by) & low) | ((word & low) << by)
 }

@@ -3,6 +3,7 @@ use Rattle.std.specs.Int.RustNames.{count_ones}
 use Rattle.std.proofs.lemmas.Nat.{and_le_r}
 use Rattle.bit_vectors.specs.Vectors.{bits_number}
 use Rattle.run_code.proofs.Gathering.{word_extract, length-word_extract, gathered_more, gathered_small, gathered_all, gathered_fits}
+use Rattle.run_code.proofs.Ranks.{full_number}
 use Rattle.run_code.proofs.words.gathered.Goals as goal
 
 pub loop-rest-init : goal.loop-rest-init
@@ -27,3 +28,7 @@ loop-rest-preserved c = record {
 
 pub returns : goal.returns
 returns c = gathered_all c.args.bits c.loop-rest.rest c.loop-rest.gathered (c.args.held * 2 ^ count_ones c.args.at + bits_number (word_extract c.args.bits c.args.at)) (omega arith) c.loop-rest.invariant.total
+
+pub returns-then-at-eq18446744073709551615 : goal.returns-then-at-eq18446744073709551615
+returns-then-at-eq18446744073709551615 c =
+    full_number c.args.held c.args.bits c.args.at c.turned.result c.if-at-eq18446744073709551615.true c.requires c.turned.type_inv c.turned.ensures
