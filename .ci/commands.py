@@ -17,8 +17,8 @@ import cut_off
 import documents
 import terminals
 from file_rows import FILES
-from rows import DATA, HEADER, HELP, SAMPLES, TEXTS, VERBS, WORDS, case
-from runner import Runner, ended, got
+from rows import DATA, HEADER, HELP, TEXTS, VERBS, WORDS, case, sample
+from runner import Runner, ended
 from table import table
 
 # What --help says of each number: its key, the first and the last one, and a command that takes it and can't be done.
@@ -53,15 +53,14 @@ def tabulates(runner):
     packets = bytes.fromhex("F00FA55A0123456789ABCDEF80000001FE7F") + bytes(range(18)) + bytes(18) + b"\xff" * 18
     given = [(packets, 144, fields[first:first + 256] + [f"limit,{row.split(',')[4]},-3,3" for row in fields[first:first + 256:2]])
              for first in range(0, len(fields), 256)]
-    sample = {name: got(os.path.join(SAMPLES, name)) for name in ("hk.store", "hk.rec", "hk.csv")}
-    for recording, bits, rows in given + [(sample["hk.rec"], 64, sample["hk.csv"].decode().split())]:
+    for recording, bits, rows in given + [(sample("hk.rec"), 64, sample("hk.csv").decode().split())]:
         text = "\n".join(rows) + "\n"
         out, report = (part.encode() for part in table(recording, text, bits))
         wrong = runner.run(case("", f"table in=x out=y report=z fields=s bits={bits}", before={"x": recording, "s": text.encode()}, after={"y": out, "z": report}))
         if wrong:
             return f"of the fields from {rows[0]} on: {wrong[:200]}"
-    return runner.run(case("", "restore in=x out=y report=- bits=64 apid=100", before={"x": sample["hk.store"]}, out=HEADER + b"end,60,60,0\n",
-                           after={"y": sample["hk.rec"]}))
+    return runner.run(case("", "restore in=x out=y report=- bits=64 apid=100", before={"x": sample("hk.store")}, out=HEADER + b"end,60,60,0\n",
+                           after={"y": sample("hk.rec")}))
 
 
 def attempted(runner, attempt):
@@ -76,7 +75,7 @@ def attempted(runner, attempt):
 
 def tries_of(runner):
     """All that is tried: each with its name, and a function that gives what is wrong, or None."""
-    rows = [(row["name"], lambda row=row: runner.run(row)) for row in VERBS + WORDS + TEXTS + DATA + FILES]
+    rows = [(row["name"], lambda row=row: runner.run(row)) for row in VERBS + WORDS + TEXTS + DATA + FILES if runner.is_root or "as_root" not in row]
     ranges = [(f"the range of {row[0]}", lambda row=row: keeps_range(runner, *row)) for row in RANGES]
     further = [("numbers of each width at many places, and the sample", tabulates)] + terminals.tries() + cut_off.tries()
     return rows + ranges + [(name, lambda attempt=attempt: attempt(runner)) for name, attempt in further] + documents.tries()

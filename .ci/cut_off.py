@@ -5,6 +5,7 @@ import resource
 import signal
 import subprocess
 import tempfile
+import threading
 
 from rows import COMPRESS, PLAYED, RECORDING, REPORT, STORE, WRITE
 from runner import ended, got, put, wait_for
@@ -96,6 +97,30 @@ def has_open(program, path):
         return False
 
 
+def is_not_led_away(runner):
+    """Whether a link that appears as the earlier part is removed stays as it is, and leads to no other file: the run is done, or
+    refused as a failed writing."""
+    for _ in range(20):
+        folder = runner.folder({"x": RECORDING, "k": OLD, "y.part": b"earlier"})
+        ending = threading.Event()
+        threading.Thread(target=link_when_gone, args=(os.path.join(folder, "y.part"), "k", ending), daemon=True).start()
+        found = ended(runner.start(COMPRESS.split(), cwd=folder, stdout=subprocess.PIPE, stderr=subprocess.PIPE))
+        ending.set()
+        left = [got(os.path.join(folder, name)) for name in ("y", "k")]
+        if (found, left) not in [((0, b"", b""), [STORE, OLD]), ((1, b"", WRITE), [None, OLD])]:
+            return f"it ended with {found}, and left {left}"
+    return None
+
+
+def link_when_gone(path, target, ending):
+    """Makes a link as soon as no file has its name."""
+    while not ending.is_set():
+        try:
+            return os.symlink(target, path)
+        except FileExistsError:
+            pass
+
+
 def keeps_name(runner):
     """Whether an output that can't be written whole as it is finished leaves the name what it had: no file may be longer than
     eight bytes, and all of it is handed over at the end."""
@@ -133,5 +158,6 @@ def tries():
               for number in (signal.SIGKILL, signal.SIGTERM, signal.SIGINT, signal.SIGHUP)]
     return killed + [
         ("a run with a report that is killed", is_killed_with_report), ("outputs that appear when they are whole", appears_whole),
-        ("an output whose folder is closed before its end", cannot_rename), ("an output that can't be written whole", keeps_name),
+        ("an output whose folder is closed before its end", cannot_rename),
+        ("a link that appears in the place of an earlier part", is_not_led_away), ("an output that can't be written whole", keeps_name),
         ("a pipe whose reader goes away", loses_reader), ("no memory", wants_memory)]

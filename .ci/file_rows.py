@@ -207,6 +207,7 @@ UNREAD = [
     case("an input that can't be read", COMPRESS, 1, err=READ, before={"x": ("mode", 0o000, RECORDING), "y": OLD}),
     case("the input is a folder", compress("y", "."), 1, err=READ, before={"y": OLD}, after={"y.part": b""}),
     case("the input is a link to nothing", COMPRESS, 1, err=READ, before={"x": ("link", "nothing")}),
+    case("standard input is closed", compress("y", "-"), 1, err=READ, closed="stdin", before={"y": OLD}, after={"y.part": b""}),
     case("no such script", PLAY, 1, err=READ, before={"x": STORE, "y": OLD}),
     case("a schedule that can't be read", COMPRESS + " plan=s", 1, err=READ, before={"x": RECORDING, "s": ("mode", 0o000, b"")}),
     case("a schedule that is a folder", COMPRESS + " plan=s", 1, err=READ, before={"x": RECORDING, "s": "folder"}),

@@ -35,7 +35,6 @@ STREAMED = bytes.fromhex("0064C0000000B0 0064C0010000B0")
 STREAM_HEADER = b"apid,first,last,cause,value\n"
 STREAM_ROWS = STREAM_HEADER + b"101,0,4,lost,0\n101,5,5,unsynced,0\n"
 STREAM_REPORT = STREAM_ROWS + b"100,end,2,2,0\n101,end,1,0,0\nshape,1\n"
-SAMPLES = os.path.join(documents.ROOT, "crates", "pocket", "data")
 FORECAST = "forecast out=y packets=1000 robust=2 plan=s script=x"
 SIX = b"first,last,state\n0,1,sure\n2,3,lost\n4,4,open\n5,5,sure\ngaps,0,3\nend,6,3\n"
 SUMMARY = b"packets 3\nrecording 3\nstore 29\nplayed 19\ndelivered 2\nwritten 2\nlisted 1\n"
@@ -52,7 +51,7 @@ def wrong(word):
 
 def sample(name):
     """A sample that ships with the program."""
-    with open(os.path.join(documents.ROOT, "crates", "pocket", "data", name), "rb") as file:
+    with open(os.path.join(documents.SAMPLES, name), "rb") as file:
         return file.read()
 
 

@@ -1,36 +1,48 @@
 #!/usr/bin/env python3
-"""Lets each call of the system that the five commands make fail in turn, and prints what each then answered: allocations,
+"""Lets each call of the system that the nine commands make fail in turn, and prints what each then answered: allocations,
 openings, reads, writes, and what gives an output its name.
 
 Takes the proved program: bench/faults.py crates/pocket/out/pocket. It compiles faults.c with gcc, and runs the commands on
-the sample of four packets, and a trial of three, in a temporary folder, over outputs that stood before. A failed run must
-end with the number and the text of its fault, and leave what stood, with fronts of the outputs of the whole run in their
-parts, or the first output whole and the second as it was; no part where memory was wanting before, and nothing at a name
-that is none of the command's. A short read or write must change nothing. A command whose allocations are not seen, since
-they are not those of the C library, is told too.
-Then it counts the calls for recordings and trials of one and of a thousand packets. Its status is 1 where something was
-otherwise.
+the samples of crates/pocket/data, on four packets, in order or not, and a trial of three, in a temporary folder, over outputs
+that stood before. A failed run must end with the number and the text of its fault, and leave what stood, with fronts of the
+outputs of the whole run in their parts, or the first output whole and the second as it was; no part where memory was wanting
+before, and nothing at a name that is none of the command's. A short read or write must change nothing. For each output there
+must be one renaming, one removal of its earlier part, one sync and one change of its mode. A command whose allocations are not
+seen, since they are not those of the C library, is told too.
+Then it counts the calls for one and for a thousand packets. Its status is 1 where something was otherwise.
 """
 
 import os
+import shutil
 import subprocess
 import sys
 import tempfile
 
 HERE = os.path.dirname(os.path.abspath(__file__))
 
-RECORDING = bytes([0xB0, 0xB1, 0xB1, 0xB3])
+SAMPLES = os.path.join(os.path.dirname(HERE), "crates", "pocket", "data")
 
+# Each command: its words, and how many outputs it has. An input is a sample, or made below.
 COMMANDS = {
-    "compress": (["compress", "in=rec", "out=OUT", "bits=8", "apid=100", "robust=1", "plan=plan"], 1),
-    "play": (["play", "in=store", "out=OUT", "report=REPORT", "apid=100", "script=script"], 2),
+    "compress": (["compress", "in=four.rec", "out=OUT", "bits=8", "apid=100", "robust=1", "plan=plan.csv"], 1),
+    "play": (["play", "in=store", "out=OUT", "report=REPORT", "apid=100", "script=loss.csv"], 2),
     "restore": (["restore", "in=played", "out=OUT", "report=REPORT", "bits=8", "apid=100"], 2),
     "show": (["show", "in=played", "out=OUT", "bits=8", "apid=100"], 1),
     "trial": (["trial", "seed=0", "packets=3", "bits=8", "robust=1", "out=OUT"], 1),
+    "late": (["late", "in=swapped", "out=OUT", "report=REPORT", "bits=8", "apid=100", "window=1"], 2),
+    "multi": (["multi", "in=two.store", "out=OUT", "report=REPORT", "streams=two.csv"], 2),
+    "table": (["table", "in=hk.rec", "out=OUT", "report=REPORT", "fields=hk.csv", "bits=64"], 2),
+    "forecast": (["forecast", "out=OUT", "packets=1000", "robust=2", "plan=pass.csv", "script=fades.csv"], 1),
 }
 
-# The commands in order, and the input that the output of each becomes.
-ORDER = [("compress", "store"), ("play", "played"), ("restore", None), ("show", None), ("trial", None)]
+# The inputs that the output of a command becomes.
+BECOMES = {"compress": ["store"], "play": ["played"]}
+
+# Four packets that come in the order 0, 2, 1, 3.
+SWAPPED = bytes.fromhex("0064C000000385B8D600 0064C002000144C0 0064C0010003424B8D62 0064C0030002C085C0")
+
+# The commands whose memory depends on how many packets there are, since they hold them.
+HOLDING = {"trial"}
 
 KINDS = {"a": "allocation", "o": "opening", "r": "read", "w": "write", "n": "renaming", "u": "removal", "y": "sync", "m": "change of mode",
          "s": "short read", "t": "short write"}
@@ -111,24 +123,29 @@ def judge(name, kind, answer, outputs, whole):
     return None
 
 
+def unlike(name, calls, outputs):
+    """How many kinds of calls aren't made as often as they must be."""
+    wrong = [kind for kind in "nuym" if calls.count(kind) != outputs] + ["a"] * ("a" not in calls)
+    for kind in wrong:
+        print(f"{name}: each {KINDS[kind]} is made {calls.count(kind)} times for {outputs} outputs")
+    return len(wrong)
+
+
 def fail_all(runner, name):
     """Lets each call of a command fail; tells how many runs were otherwise than they must be."""
-    words, _ = COMMANDS[name]
+    words, outputs = COMMANDS[name]
     answer, whole, calls = runner.run(words)
     if answer != (0, ""):
         print(f"{name}: {answer} with no fault")
         return 1
-    wrong = 0
-    if "a" not in calls:
-        wrong += 1
-        print(f"{name}: no allocation was seen")
+    wrong = unlike(name, calls, outputs)
     for kind, what in KINDS.items():
         of = calls.count({"s": "r", "t": "w"}.get(kind, kind))
         answers = {}
         for nth in range(1, of + 1):
-            got, outputs, _ = runner.run(words, kind, nth)
+            got, left, _ = runner.run(words, kind, nth)
             answers.setdefault(got, []).append(nth)
-            fault = judge(name, kind, got, outputs, whole)
+            fault = judge(name, kind, got, left, whole)
             if fault:
                 wrong += 1
                 print(f"{name}: {what} {nth}: {got}: {fault}")
@@ -157,14 +174,16 @@ def after_opening(calls):
 
 def count_calls(runner, packets):
     """The allocations of each command for so many packets, and those after the outputs are opened."""
-    runner.put("rec", bytes((t // 7) % 256 for t in range(packets)))
+    recording = bytes((t // 7) % 256 for t in range(packets))
+    runner.put("four.rec", recording)
+    runner.put("hk.rec", b"".join(bytes([byte] * 8) for byte in recording))
     counts = []
-    for name, into in ORDER:
-        words = [f"packets={packets}" if word.startswith("packets=") else word for word in COMMANDS[name][0]]
+    for name, (words, _) in COMMANDS.items():
+        words = [f"packets={packets}" if word.startswith("packets=") else word for word in words]
         answer, [(out, _), _], calls = runner.run(words)
         if answer != (0, ""):
             print(f"{name} of {packets} packets: {answer}")
-        if into:
+        for into in BECOMES.get(name, []) + ["swapped", "two.store"] * (name == "compress"):
             runner.put(into, out)
         counts.append((name, calls.count("a"), after_opening(calls)))
     return counts
@@ -175,19 +194,18 @@ def main():
         sys.exit(__doc__)
     with tempfile.TemporaryDirectory() as folder:
         runner = Runner(sys.argv[1], folder)
-        runner.put("rec", RECORDING)
-        runner.put("plan", b"3,3,1,fr\n")
-        runner.put("script", b"drop,2,2,1\n")
+        for name in os.listdir(SAMPLES):
+            shutil.copyfile(os.path.join(SAMPLES, name), runner.path(name))
+        runner.put("swapped", SWAPPED)
         wrong = 0
-        for name, into in ORDER:
+        for name in COMMANDS:
             wrong += fail_all(runner, name)
-            if into:
+            for into in BECOMES.get(name, []):
                 runner.put(into, runner.run(COMMANDS[name][0])[1][0][0])
         one, many = count_calls(runner, 1), count_calls(runner, 1000)
         for (name, few, behind), (_, more, later) in zip(one, many):
             print(f"{name}: {few} allocations for 1 packet, {more} for 1,000; {behind} and {later} after the outputs are opened")
-            # A trial holds in memory all that it makes.
-            wrong += (few != more and name != "trial") or behind != 0 or later != 0
+            wrong += (few != more and name not in HOLDING) or behind != 0 or later != 0
         sys.exit(1 if wrong else 0)
 
 
