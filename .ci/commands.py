@@ -2,7 +2,8 @@
 """Runs the program on tables of command lines, and compares what each prints, its exit number and its files.
 
 Takes the program: .ci/commands.py crates/pocket/out/pocket. The tables are rows.py and file_rows.py; further tries are what is told
-on a terminal (terminals.py), runs that are cut off (cut_off.py), and the documents and pictures (documents.py).
+on a terminal (terminals.py), runs that are cut off (cut_off.py), inputs that stay open (live.py), and the documents and pictures
+(documents.py).
 Its last line is 'N passed, M failed'. A row that raises an exception or takes too long is a failed one. Run by root it runs the
 program as nobody, so that a folder can be closed to it; some rows need a file of another user, and are run by root alone.
 """
@@ -15,6 +16,7 @@ import tempfile
 sys.dont_write_bytecode = True
 import cut_off
 import documents
+import live
 import terminals
 from file_rows import FILES
 from rows import DATA, HEADER, HELP, TEXTS, VERBS, WORDS, case, sample
@@ -77,7 +79,7 @@ def tries_of(runner):
     """All that is tried: each with its name, and a function that gives what is wrong, or None."""
     rows = [(row["name"], lambda row=row: runner.run(row)) for row in VERBS + WORDS + TEXTS + DATA + FILES if runner.is_root or "as_root" not in row]
     ranges = [(f"the range of {row[0]}", lambda row=row: keeps_range(runner, *row)) for row in RANGES]
-    further = [("numbers of each width at many places, and the sample", tabulates)] + terminals.tries() + cut_off.tries()
+    further = [("numbers of each width at many places, and the sample", tabulates)] + terminals.tries() + cut_off.tries() + live.tries()
     return rows + ranges + [(name, lambda attempt=attempt: attempt(runner)) for name, attempt in further] + documents.tries()
 
 

@@ -109,6 +109,8 @@ def show_times(program, folder, rounds):
         show_time(f"{name} of the {read}", words, rounds)
         show_time("  gzip -1 of the same", ["gzip", "-1", "-c", path], rounds, folder.at(read + ".gz"))
         if name == "restore":
+            piped = ["in=-" if word.startswith("in=") else word for word in words]
+            show_time("  the same from a pipe", ["sh", "-c", 'cat "$0" | "$@"', path, *piped], rounds)
             show_time("  gzip -d of the recording", ["gzip", "-d", "-c", folder.at("recording.gz")], rounds,
                       folder.at("copy"))
         show_time("  cp of the same", ["cp", path, folder.at("copy")], rounds)

@@ -1,6 +1,7 @@
 -- What a desk over real files tells: of each inlet and outlet whether it was opened, and no content. And what it has
 -- gathered, and what stands at each inlet and outlet.
 use Rattle.std.specs.Prelude.{◌≡◌, Bool, true, false, ◌||◌, ℕ, List, [], codes, is_some}
+use Rattle.std.specs.Bool.{OnFalse}
 use Rattle.std.specs.Io.Buffered.{writer_buffer}
 use Rattle.std.specs.Str.{bytes_eq}
 use Rattle.desk_ports.specs.declared.desk.Inlet.{Inlet}
@@ -16,8 +17,8 @@ use Rattle.desk_ports.specs.Meanings.{Meanings, Counts, untold}
 
 abbrev pub is_opened_source : Source → Bool
 is_opened_source source.Nothing = false
-is_opened_source (source.StandardInput stdin) = true
-is_opened_source (source.File file) = true
+is_opened_source (source.StandardInput stdin live) = true
+is_opened_source (source.File file live) = true
 
 abbrev pub is_opened_sink : Sink → Bool
 is_opened_sink sink.Nothing = false
@@ -28,7 +29,7 @@ abbrev pub file_meanings : FileDesk → Meanings
 file_meanings desk = untold (is_opened_source desk.side) (is_opened_source desk.input) (is_opened_sink desk.output) (is_opened_sink desk.report)
 
 abbrev pub file_counts : FileDesk → Counts
-file_counts desk = record { reads = desk.read_faults.count; writes = desk.write_faults }
+file_counts desk = record { reads = desk.read_faults.count; writes = desk.write_faults.count }
 
 -- the bytes that were written to a sink and not yet handed to the system
 abbrev pub gathered : Sink → List ℕ
@@ -55,8 +56,14 @@ waits_at desk outlet.Report = waits desk.report
 -- the source is standard input
 abbrev pub is_standard_input : Source → Bool
 is_standard_input source.Nothing = false
-is_standard_input (source.StandardInput stdin) = true
-is_standard_input (source.File file) = false
+is_standard_input (source.StandardInput stdin live) = true
+is_standard_input (source.File file live) = false
+
+-- a read of the source may wait for bytes that are still to come
+abbrev pub is_live : Source → Bool
+is_live source.Nothing = false
+is_live (source.StandardInput stdin live) = live
+is_live (source.File file live) = live
 
 -- the sink is standard output
 abbrev pub is_standard_output : Sink → Bool
@@ -100,3 +107,17 @@ SameInlets old new = (new.side ≡ old.side) × (new.input ≡ old.input)
 -- both outlets are as before
 abbrev pub SameOutlets : FileDesk → FileDesk → Type 0
 SameOutlets old new = (new.output ≡ old.output) × (new.report ≡ old.report)
+
+-- each output stays standard output, or a file, and its part waits for its name as before
+abbrev pub KeepsOutlets : FileDesk → FileDesk → Type 0
+KeepsOutlets old new =
+    (is_standard_output new.output ≡ is_standard_output old.output) × (is_standard_output new.report ≡ is_standard_output old.report)
+    × (waits new.output ≡ waits old.output) × (waits new.report ≡ waits old.report)
+
+-- a writing failed while something else was done, and no call has answered for it
+abbrev pub is_pending : FileDesk → Bool
+is_pending desk = desk.write_faults.pending
+
+-- what was gathered for both outputs was handed to the system, or a failed writing is pending
+abbrev pub IsHandedOn : FileDesk → Type 0
+IsHandedOn desk = OnFalse (is_pending desk) ((gathered desk.output ≡ []) × (gathered desk.report ≡ []))

@@ -1,24 +1,27 @@
 //! The desk over real files.
 
-ghost use Rattle.std.specs.Prelude.{◌≡◌, ◌≤◌, ◌<◌, ◌+◌, ◌-◌, ◌^◌, false, [], min, length, take, IsTrue, IsErr, IfOk, IfSome, OnOk, OnErr};
+ghost use Rattle.std.specs.Prelude.{◌≡◌, ◌≤◌, ◌<◌, ◌↔◌, false, [], length, take, IsTrue, IsFalse, IsErr, IfOk, IfSome, OnOk, OnErr};
+ghost use Rattle.std.specs.Bool.{OnFalse, OnTrue};
+ghost use Rattle.std.specs.Fs.{IsFile, file_type};
 ghost use Rattle.std.specs.Io.KnownBytes.{IsAtEnd};
 ghost use Rattle.desk_ports.specs.Meanings.{nothing_told, Adds, Begins, HasReadCause, HasWriteCause, IsReadyIn, IsReadyOut, Keeps, Moves, Opens, left};
-ghost use Rattle.desk_ports.specs.FileDesk.{file_counts, file_meanings, gathered, gathered_at, is_opened_sink, is_standard_input, is_standard_output, names_standard_input, names_standard_output, other_sink, other_source, sink_at, source_at, waits, waits_at, SameInlets, SameOutlets};
+ghost use Rattle.desk_ports.specs.FileDesk.{file_counts, file_meanings, gathered, gathered_at, is_live, is_opened_sink, is_pending, is_standard_input, is_standard_output, names_standard_input, names_standard_output, other_sink, other_source, sink_at, source_at, waits, waits_at, IsHandedOn, KeepsOutlets, SameInlets, SameOutlets};
 
 use crate::desk::{Desk, Failed, Inlet, Outlet};
 use crate::part::{Node, Part};
 use crate::progress::Progress;
 use crate::read_faults::ReadFaults;
-use std::fs::File;
+use crate::write_faults::WriteFaults;
+use std::fs::{File, Metadata};
 use std::io::{BufWriter, IsTerminal, Read, Stdin, Stdout, Write};
 use std::{fs, io};
 
-// Where the bytes of an inlet come from.
+// Where the bytes of an inlet come from, and whether it is live: a read may wait for bytes that are still to come.
 #[derive(Drop)]
 enum Source {
     Nothing,
-    StandardInput(Stdin),
-    File(File),
+    StandardInput(Stdin, bool),
+    File(File, bool),
 }
 
 impl Source {
@@ -31,17 +34,30 @@ impl Source {
             (λ source. is_standard_input source ≡ names_standard_input name.now) }
     {
         if name == "-" {
-            return Ok(Source::StandardInput(rt.stdin()));
+            let live = may_wait(fs::metadata(rt, "/dev/stdin"));
+            return Ok(Source::StandardInput(rt.stdin(), live));
         }
-        Ok(Source::File(fs::open(rt, name)?))
+        let file = fs::open(rt, name)?;
+        let live = may_wait(file.metadata());
+        Ok(Source::File(file, live))
+    }
+
+    // Whether a read of it may wait.
+    fn is_live(&self) -> bool
+        ensures { result ≡ is_live self.now }
+    {
+        match self {
+            Source::Nothing => false,
+            Source::StandardInput(_, live) | Source::File(_, live) => *live,
+        }
     }
 
     // Which file of the system it is.
     fn node(&self, rt: &HostRuntime) -> io::Result<Option<Node>> {
         match self {
             Source::Nothing => Ok(None),
-            Source::StandardInput(_) => Ok(Node::named(rt, "/dev/stdin")),
-            Source::File(file) => {
+            Source::StandardInput(..) => Ok(Node::named(rt, "/dev/stdin")),
+            Source::File(file, _) => {
                 let metadata = file.metadata()?;
                 Ok(Some(Node::of(&metadata)))
             }
@@ -51,8 +67,8 @@ impl Source {
     // How many bytes it has, if it is a regular file.
     fn whole(&self) -> Option<u64> {
         match self {
-            Source::Nothing | Source::StandardInput(_) => None,
-            Source::File(file) => {
+            Source::Nothing | Source::StandardInput(..) => None,
+            Source::File(file, _) => {
                 let metadata = file.metadata().ok()?;
                 metadata.is_file().then_some(metadata.len())
             }
@@ -64,13 +80,22 @@ impl Source {
         ensures within { IfOk result (λ n. n ≤ length buf.old) }
         ensures opened { IsTrue (is_opened_source self.new) }
         ensures standard { is_standard_input self.new ≡ is_standard_input self.old }
+        ensures live { is_live self.new ≡ is_live self.old }
     {
         match self {
             Source::Nothing => unreachable!(),
-            Source::StandardInput(stdin) => stdin.read(buf),
-            Source::File(file) => file.read(buf),
+            Source::StandardInput(stdin, _) => stdin.read(buf),
+            Source::File(file, _) => file.read(buf),
         }
     }
+}
+
+// Whether a read of what has this metadata may wait: it is no regular file, or the system doesn't tell what it is.
+fn may_wait(metadata: io::Result<Metadata>) -> bool
+    ensures told { IfOk metadata (λ found. IsFalse result ↔ IsFile (file_type found)) }
+    ensures untold { OnErr metadata (IsTrue result) }
+{
+    !metadata.is_ok_and(|found| found.is_file())
 }
 
 /// How many bytes of an outlet are gathered before they are handed to the system.
@@ -176,7 +201,9 @@ impl Sink {
 ///
 /// It tells no content, since no clause can say what a file holds. Each error of the system is a fault,
 /// and so is a write that takes nothing. Each read is one call of the system. What is written is gathered, up to
-/// 131,072 bytes for each outlet, and handed to the system when it no longer fits, at `finish` and by `hand_over`.
+/// 131,072 bytes for each outlet, and handed to the system when it no longer fits, at `finish` and by `hand_over`; and
+/// before each read of an inlet that is no regular file, since it may wait for bytes that are still to come. A failure
+/// there is answered by the next write, `finish` or `hand_over`.
 ///
 /// An output appears under its name when it is complete: it is written to a part beside the name, `NAME.part`, which
 /// takes the name at `finish`. Until then the name keeps what it had. If the name is that of something other than a
@@ -190,7 +217,7 @@ pub struct FileDesk<'a> {
     output: Sink,
     report: Sink,
     read_faults: ReadFaults,
-    write_faults: u64,
+    write_faults: WriteFaults,
     progress: Progress,
 }
 
@@ -200,6 +227,7 @@ impl<'a> FileDesk<'a> {
         ensures untold { ⟦<FileDesk<'a> as Desk>⟧.meaning result ≡ nothing_told }
         ensures no_faults { ⟦<FileDesk<'a> as Desk>⟧.counts result
             ≡ record { reads = 0; writes = 0 } }
+        ensures settled { IsFalse (is_pending result) }
     {
         FileDesk {
             rt,
@@ -208,7 +236,7 @@ impl<'a> FileDesk<'a> {
             output: Sink::Nothing,
             report: Sink::Nothing,
             read_faults: ReadFaults::none(),
-            write_faults: 0,
+            write_faults: WriteFaults::none(),
             progress: Progress::new(rt),
         }
     }
@@ -225,11 +253,37 @@ impl<'a> FileDesk<'a> {
         ensures waits { (outlet : Outlet)
             → waits_at self.new outlet ≡ waits_at self.old outlet }
         ensures inlets { SameInlets self.old self.new }
+        ensures told { IsTrue (is_pending self.old) → IsErr result }
+        ensures settled { IsFalse (is_pending self.new) }
     {
         self.progress.end(self.rt);
+        self.flush();
+        self.write_faults.due()
+    }
+
+    // Hands everything to the system that was gathered for both outlets. If that fails, it is left to the next call that
+    // writes.
+    fn flush(&mut self)
+        ensures handed { IsHandedOn self.new }
+        ensures pending { IsTrue (is_pending self.old) → IsTrue (is_pending self.new) }
+        ensures counts { file_counts self.new ≡ file_counts self.old }
+        ensures meaning { file_meanings self.new ≡ file_meanings self.old }
+        ensures outlets { KeepsOutlets self.old self.new }
+        ensures inlets { SameInlets self.old self.new }
+    {
         let output = self.output.flush();
         let report = self.report.flush();
-        self.or_write_fault(output.and(report))
+        self.write_faults.put_off(output.and(report));
+    }
+
+    // Whether a read at the inlet may wait.
+    fn is_live(&self, inlet: Inlet) -> bool
+        ensures { result ≡ is_live (source_at self.now inlet) }
+    {
+        match inlet {
+            Inlet::Side => self.side.is_live(),
+            Inlet::Main => self.input.is_live(),
+        }
     }
 
     // Opens what the bytes of an outlet go to.
@@ -245,33 +299,6 @@ impl<'a> FileDesk<'a> {
             Outlet::Report => &self.output,
         };
         Sink::open(self.rt, name, &inputs, other)
-    }
-
-    fn write_fault(&mut self) -> Failed
-        ensures counted { self.new
-            ≡ record self.old { write_faults = min (self.old.write_faults + 1) (2 ^ 64 - 1) } }
-        ensures rises { self.old.write_faults ≤ self.new.write_faults }
-    {
-        self.write_faults = self.write_faults.saturating_add(1);
-        Failed
-    }
-
-    // The answer of a call that writes. An error of the system is a fault.
-    fn or_write_fault<T>(&mut self, answer: io::Result<T>) -> Result<T, Failed>
-        ensures given { IfOk answer (λ given. result ≡ Ok given) }
-        ensures steady { OnOk answer (self.new ≡ self.old) }
-        ensures failed { OnErr answer (IsErr result) }
-        ensures counted { OnErr answer
-            (self.new ≡ record self.old {
-              write_faults = min (self.old.write_faults + 1)
-                  (2 ^ 64 - 1);
-            }) }
-        ensures rises { self.old.write_faults ≤ self.new.write_faults }
-    {
-        match answer {
-            Ok(given) => Ok(given),
-            Err(_) => Err(self.write_fault()),
-        }
     }
 }
 
@@ -294,6 +321,7 @@ impl<'a> Desk for FileDesk<'a> {
         ensures same { OnErr result (source_at self.new inlet ≡ source_at self.old inlet) }
         ensures other { other_source self.new inlet ≡ other_source self.old inlet }
         ensures outlets { SameOutlets self.old self.new }
+        ensures pending { is_pending self.new ≡ is_pending self.old }
     {
         let source = Source::open(self.rt, name);
         let source = self.read_faults.answer(source)?;
@@ -322,9 +350,11 @@ impl<'a> Desk for FileDesk<'a> {
         ensures same { OnErr result (sink_at self.new outlet ≡ sink_at self.old outlet) }
         ensures other { other_sink self.new outlet ≡ other_sink self.old outlet }
         ensures inlets { SameInlets self.old self.new }
+        ensures pending { is_pending self.new ≡ is_pending self.old }
     {
-        let sink = self.open_sink(outlet, name);
-        let sink = self.or_write_fault(sink)?;
+        let Ok(sink) = self.open_sink(outlet, name) else {
+            return Err(self.write_faults.fault());
+        };
         if sink.is_terminal(self.rt) {
             self.progress.hide();
         }
@@ -345,12 +375,23 @@ impl<'a> Desk for FileDesk<'a> {
         ensures unchanged { OnErr result (file_meanings self.new ≡ file_meanings self.old) }
         ensures cause { HasReadCause (file_counts self.old) (file_counts self.new) result }
 
-        // It stays standard input, or a file. The other inlet is as before, and both outlets are.
+        // It stays standard input, or a file, and live or not. The other inlet is as before.
         ensures standard { is_standard_input (source_at self.new inlet)
             ≡ is_standard_input (source_at self.old inlet) }
+        ensures live { is_live (source_at self.new inlet) ≡ is_live (source_at self.old inlet) }
         ensures other { other_source self.new inlet ≡ other_source self.old inlet }
-        ensures outlets { SameOutlets self.old self.new }
+
+        // If it isn't live, both outlets are as before, with what they gathered. If it is, that is handed over first; each
+        // outlet stays what it is, and if handing over fails, a failed writing is pending.
+        ensures steady { OnFalse (is_live (source_at self.old inlet))
+            (SameOutlets self.old self.new × (is_pending self.new ≡ is_pending self.old)) }
+        ensures handed { OnTrue (is_live (source_at self.old inlet)) (IsHandedOn self.new) }
+        ensures pending { IsTrue (is_pending self.old) → IsTrue (is_pending self.new) }
+        ensures outlets { KeepsOutlets self.old self.new }
     {
+        if self.is_live(inlet) {
+            self.flush();
+        }
         let moved = match inlet {
             Inlet::Side => self.side.read(buf),
             Inlet::Main => self.input.read(buf),
@@ -373,19 +414,22 @@ impl<'a> Desk for FileDesk<'a> {
         ensures cause { HasWriteCause (file_counts self.old) (file_counts self.new) result }
 
         // It stays standard output, or a file, and a part waits as before. The other outlet is as before, with what it
-        // gathered, and both inlets are.
+        // gathered, and both inlets are. If a failed writing is pending, that is all that is answered.
         ensures standard { is_standard_output (sink_at self.new outlet)
             ≡ is_standard_output (sink_at self.old outlet) }
         ensures waits { waits_at self.new outlet ≡ waits_at self.old outlet }
         ensures other { other_sink self.new outlet ≡ other_sink self.old outlet }
         ensures inlets { SameInlets self.old self.new }
+        ensures told { IsTrue (is_pending self.old) → IsErr result × SameOutlets self.old self.new }
+        ensures settled { IsFalse (is_pending self.new) }
     {
+        self.write_faults.due()?;
         let taken = match outlet {
             Outlet::Main => self.output.write(bytes),
             Outlet::Report => self.report.write(bytes),
         };
         match taken {
-            None | Some(0) => Err(self.write_fault()),
+            None | Some(0) => Err(self.write_faults.fault()),
             Some(taken) => Ok(taken),
         }
     }
@@ -406,12 +450,18 @@ impl<'a> Desk for FileDesk<'a> {
             ≡ is_standard_output (sink_at self.old outlet) }
         ensures other { other_sink self.new outlet ≡ other_sink self.old outlet }
         ensures inlets { SameInlets self.old self.new }
+        ensures told { IsTrue (is_pending self.old) → IsErr result × SameOutlets self.old self.new }
+        ensures settled { IsFalse (is_pending self.new) }
     {
         self.progress.end(self.rt);
+        self.write_faults.due()?;
         let finished = match outlet {
             Outlet::Main => self.output.finish(self.rt),
             Outlet::Report => self.report.finish(self.rt),
         };
-        self.or_write_fault(finished)
+        match finished {
+            Ok(()) => Ok(()),
+            Err(_) => Err(self.write_faults.fault()),
+        }
     }
 }

@@ -15,6 +15,7 @@ mod read_faults;
 mod row;
 mod transfer;
 mod turns;
+mod write_faults;
 mod written;
 
 pub use ahead::{MOST_AHEAD, ReadAhead};
