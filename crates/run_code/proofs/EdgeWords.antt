@@ -17,12 +17,12 @@ use Rattle.run_code.proofs.EdgeBits.{xor}
 abbrev pub plus : ℕ → ℕ → ℕ
 plus s n = bit_xor n (n * 2 ^ s % 2 ^ 64)
 
-plus_low : (s n i : ℕ) → i < s → i < 64 → bit_at (plus s n) i ≡ bit_at n i
+pub plus_low : (s n i : ℕ) → i < s → i < 64 → bit_at (plus s n) i ≡ bit_at n i
 plus_low s n i low lt =
     let none : bit_at (n * 2 ^ s % 2 ^ 64) i ≡ 0 = bit_at_mod (n * 2 ^ s) 64 i lt ∙ bit_at_shl_low n s i low in
     bit_at_xor n (n * 2 ^ s % 2 ^ 64) i ∙ omega (arith, bit_at-lt n i)
 
-plus_high : (s n i : ℕ) → s ≤ i → i < 64 → bit_at (plus s n) i ≡ (bit_at n i + bit_at n (i - s)) % 2
+pub plus_high : (s n i : ℕ) → s ≤ i → i < 64 → bit_at (plus s n) i ≡ (bit_at n i + bit_at n (i - s)) % 2
 plus_high s n i high lt =
     bit_at_xor n (n * 2 ^ s % 2 ^ 64) i ∙ rw (bit_at_mod (n * 2 ^ s) 64 i lt, bit_at_shl n s i high) refl
 

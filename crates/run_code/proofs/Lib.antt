@@ -14,3 +14,5 @@ mod ShortEndings
 mod RunFronts
 mod Turning
 mod Ranks
+mod BitMoves
+mod AllAtOnce

@@ -1,20 +1,21 @@
 -- The bits at the ones of a word, by how many ones are below each.
-use Rattle.std.proofs.Common.{◌≡◌, ℕ, zero, suc, ◌+◌, ◌-◌, ◌*◌, ◌^◌, ◌<◌, ◌≤◌, Bool, false, cond, eqb, List, ◌∷◌, length, take, get_or, refl, sym, ap, ◌∙◌, arith, inl, inr}
-use Rattle.std.specs.Prelude.{count_by}
+use Rattle.std.proofs.Common.{◌≡◌, ℕ, zero, suc, ◌+◌, ◌-◌, ◌^◌, ◌<◌, ◌≤◌, Bool, false, cond, eqb, List, ◌∷◌, length, take, get_or, refl, sym, ap, ◌∙◌, arith, inl, inr}
+use Rattle.std.specs.Prelude.{count_by, reverse}
 use Rattle.std.specs.Int.{bit_at}
 use Rattle.std.specs.Int.RustNames.{count_ones}
 use Rattle.std.proofs.lemmas.Bool.{cases_lt, cases_eq}
-use Rattle.std.proofs.lemmas.List.{ext_get_or, get_or-take, length-take-le}
+use Rattle.std.proofs.lemmas.List.{ext_get_or, get_or-take, get_or-reverse, length-take-le, length-reverse, reverse-reverse}
 use Rattle.std.proofs.lemmas.List.Sums.{sum_by-cons}
 use Rattle.std.proofs.lemmas.Nat.{ones-le}
 use Rattle.std.proofs.Math.Nat.{mod-eq_of_lt}
-use Rattle.std.proofs.lemmas.Nat.Bits.{bit_at-lt, bit_at_above, bit_at_ones}
+use Rattle.std.proofs.lemmas.Nat.Bits.{bit_at-lt, bit_at_ones}
 use Rattle.bit_vectors.specs.Vectors.{bits_number, number_bits}
 use Rattle.bit_vectors.proofs.NumberBits.{length-number_bits, get_or-number_bits, bits_number-number_bits}
 use Rattle.bit_vectors.proofs.WordBits.{count_by-number_bits}
 use Rattle.run_code.specs.Places.{ones_under}
-use Rattle.run_code.specs.Extraction.{bits_at}
+use Rattle.run_code.specs.Extraction.{bits_at, bits_up}
 use Rattle.run_code.proofs.Ones.{ones_below}
+use Rattle.run_code.proofs.Upward.{bits_up_is}
 use Rattle.run_code.proofs.Gathering.{word_extract, length-word_extract, places_of_word, bit_is}
 
 -- ---- how many ones are below a weight
@@ -129,34 +130,27 @@ first_bits_at new at ahead below same =
     let few = under_few at i below lt one in
     get_or-take (count_ones at) (number_bits 64 ahead) (ones_under at i) false few ∙ bit_is ahead (ones_under at i) (omega (arith, few, ones-le 64 at below)) ∙ rw (same i lt one) refl)
 
+-- the bits from the lowest weight up are those of a number
+pub number_up : (bits at n : ℕ) → at < 2 ^ 64 → ((i : ℕ) → i < 64 → bit_at at i ≡ 1 → bit_at n (ones_under at i) ≡ bit_at bits i) → bits_up (number_bits 64 bits) (number_bits 64 at) ≡ number_bits (count_ones at) n
+number_up bits at n below same =
+    let len = length-number_bits (count_ones at) n in
+    let extracted : word_extract bits at ≡ reverse (number_bits (count_ones at) n) =
+    word_extract_is bits at (reverse (number_bits (count_ones at) n)) below (length-reverse (number_bits (count_ones at) n) ∙ len) (λ i lt one.
+    let few = under_few at i below lt one in
+    let place : length (number_bits (count_ones at) n) - 1 - ones_under at i ≡ count_ones at - 1 - ones_under at i = omega (arith, len) in
+    let weight : count_ones at - 1 - (count_ones at - 1 - ones_under at i) ≡ ones_under at i = omega (arith, few) in
+    get_or-reverse (number_bits (count_ones at) n) (ones_under at i) false (omega (arith, len, few)) ∙ ap (λ (k : ℕ). get_or (number_bits (count_ones at) n) k false) place
+    ∙ get_or-number_bits (count_ones at) n (count_ones at - 1 - ones_under at i) (omega (arith, few)) ∙ ap (λ (k : ℕ). eqb (bit_at n k) 1) weight ∙ ap (λ (b : ℕ). eqb b 1) (same i lt one)) in
+    sym (bits_up_is (number_bits 64 bits) (number_bits 64 at)) ∙ ap reverse extracted ∙ reverse-reverse (number_bits (count_ones at) n)
+
 -- ---- a word of ones
 
-full_under : (i : ℕ) → i ≤ 64 → ones_under 18446744073709551615 i ≡ i
+pub full_under : (i : ℕ) → i ≤ 64 → ones_under 18446744073709551615 i ≡ i
 full_under zero le = under_zero 18446744073709551615
 full_under (suc i) le = omega (arith, full_under i (omega arith), under_more 18446744073709551615 i, bit_at_ones 64 i (omega arith))
 
-full_count : (at : ℕ) → at ≡ 18446744073709551615 → count_ones at ≡ 64
+pub full_bit : (word at i : ℕ) → at ≡ 18446744073709551615 → i < 64 → bit_at word (ones_under at i) ≡ bit_at word i
+full_bit word at i full lt = ap (bit_at word) (rw full (full_under i (omega arith)))
+
+pub full_count : (at : ℕ) → at ≡ 18446744073709551615 → count_ones at ≡ 64
 full_count at full = rw full (sym (under_all 18446744073709551615 (omega arith)) ∙ full_under 64 (omega arith))
-
-pub full_number : (held bits at n : ℕ) → at ≡ 18446744073709551615 → (held + 1) * 2 ^ count_ones at ≤ 2 ^ 64 → n < 2 ^ 64 → ((i : ℕ) → i < 64 → bit_at n i ≡ bit_at bits (63 - i)) → n ≡ held * 2 ^ count_ones at + bits_number (word_extract bits at)
-full_number held bits at n full room small turned =
-    let count = full_count at full in
-    let none : held ≡ 0 = let fits : (held + 1) * 2 ^ 64 ≤ 2 ^ 64 = rw count at room in omega (arith, fits) in
-    let number : bits_number (word_extract bits at) ≡ n =
-    number_is bits at n (omega (arith, full)) (rw count small) (λ i lt one.
-    let place : count_ones at - 1 - ones_under at i ≡ 63 - i = rw full (omega (arith, full_under i (omega arith), rw full at count)) in
-    let back : 63 - (63 - i) ≡ i = omega arith in
-    rw place (turned (63 - i) (omega arith) ∙ ap (bit_at bits) back)) in
-    rw none (omega (arith, number))
-
-pub full_first_bits : (new at ahead : ℕ) → at ≡ 18446744073709551615 → ((i : ℕ) → i < 64 → bit_at new i ≡ bit_at ahead (63 - i)) → word_extract new at ≡ take (count_ones at) (number_bits 64 ahead)
-full_first_bits new at ahead full turned =
-    first_bits_at new at ahead (omega (arith, full)) (λ i lt one. let count : ones_under at i ≡ i = rw full (full_under i (omega arith)) in rw count (turned i lt))
-
--- no weight has a 0 but those above all bits
-pub full_others : (new word at i : ℕ) → at ≡ 18446744073709551615 → new < 2 ^ 64 → word < 2 ^ 64 → bit_at at i ≡ 0 → bit_at new i ≡ bit_at word i
-full_others new word at i full new_small small none =
-    elim (cases_lt i 64) [
-      | inl lt ↦ absurd (omega (arith, sym (ap (λ (n : ℕ). bit_at n i) full) ∙ none, bit_at_ones 64 i lt))
-      | inr above ↦ bit_at_above new 64 i new_small above ∙ sym (bit_at_above word 64 i small above)
-    ]

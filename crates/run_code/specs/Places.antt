@@ -1,5 +1,5 @@
 -- The places of a vector's ones.
-use Rattle.std.specs.Prelude.{ℕ, ◌+◌, ◌*◌, ◌%◌, ◌^◌, ◌<◌, ◌≤◌, Bool, List, [], ◌∷◌, ◌++◌, length, map, take, reverse, if◌then◌else◌}
+use Rattle.std.specs.Prelude.{ℕ, ◌+◌, ◌-◌, ◌*◌, ◌%◌, ◌^◌, ◌<◌, ◌≤◌, Bool, List, [], ◌∷◌, ◌++◌, length, map, take, reverse, if◌then◌else◌}
 use Rattle.std.specs.Int.RustNames.{count_ones}
 use Rattle.bit_vectors.specs.Vectors.{number_bits}
 use Rattle.run_code.specs.declared.descending.WordOnes.{WordOnes}
@@ -30,3 +30,7 @@ pub record AreWithin (v : List Bool) (word : WordOnes) : Type 0 where
 -- how many ones a number has below a weight
 unfoldable pub ones_under : ℕ → ℕ → ℕ
 ones_under n weight = count_ones (n % 2 ^ weight)
+
+-- how many zeros it has there
+unfoldable pub zeros_under : ℕ → ℕ → ℕ
+zeros_under n weight = weight - ones_under n weight

@@ -36,7 +36,7 @@ pub fn from_edges(edges: &Bits, into: &mut Bits)
 
 /// The word that gives `word` when it is added, without carries, to itself shifted by one place. After each
 /// step every bit is the sum of twice as many bits: itself and bits below it.
-fn summed(word: u64) -> u64
+pub fn summed(word: u64) -> u64
     ensures { bit_xor result (result * 2 ^ 1 % 2 ^ 64) ≡ word }
 {
     let mut sum = with_shifted(word, 32);

@@ -30,7 +30,7 @@ pub fn put_extract(pen: &mut BitPen, a: &Bits, b: &Bits)
             held = 0;
             count = 0;
         }
-        held = gathered(held, a.word(index), at);
+        held = gathered(held, a.word(index), at, more);
         count += more;
     }
     if count > 0 {
@@ -70,7 +70,7 @@ pub fn take_into(eye: &mut BitEye, a: &mut Bits, b: &Bits) -> Result<(), BitFaul
                 return Err(BitFault::EndsEarly { bit: eye.size() });
             }
         }
-        let word = spread(a.word(index), at, ahead);
+        let word = spread(a.word(index), at, ahead, count);
         a.set_word(index, word);
         eye.pass(count);
         ahead <<= count % 64;

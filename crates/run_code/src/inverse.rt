@@ -82,8 +82,9 @@ fn take_up(eye: &mut BitEye, x: &Bits, into: &mut Bits) -> Result<(), BitFault>
             into.set_word(index, 0);
             continue;
         }
-        let number = eye.take_word(at.count_ones())?;
-        into.set_word(index, spread_up(number, at));
+        let ones = at.count_ones();
+        let number = eye.take_word(ones)?;
+        into.set_word(index, spread_up(number, at, ones));
     }
     Ok(())
 }

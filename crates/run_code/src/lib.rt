@@ -7,6 +7,7 @@ mod extraction;
 mod inverse;
 mod laws;
 mod matching;
+mod packing;
 mod runs;
 mod words;
 

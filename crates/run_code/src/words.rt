@@ -1,5 +1,5 @@
 //! The bits of one word at the ones of another, in either order. Each loop visits the ones in turn, always the lowest
-//! that is left in a word, so a word of zeros costs one comparison.
+//! that is left in a word, so a word of zeros costs one comparison. If there are many, all bits are moved at once.
 
 ghost use Rattle.std.specs.Prelude.{◌≡◌, ℕ, ◌+◌, ◌-◌, ◌*◌, ◌/◌, ◌%◌, ◌^◌, ◌<◌, ◌≤◌, ◌++◌, length, take};
 ghost use Rattle.std.specs.Int.{bit_at};
@@ -8,16 +8,22 @@ ghost use Rattle.std.specs.Int.RustNames.{count_ones};
 ghost use Rattle.bit_vectors.specs.Vectors.{bits_number, number_bits};
 ghost use Rattle.run_code.specs.Extraction.{extract, bits_up};
 
+use crate::packing::{packed, unpacked};
 use bit_vectors::BitPen;
 
+/// With more ones than these all bits are moved at once: that takes fewer instructions than to visit each 1, and if
+/// there are fewer than some 30 and they are to be spread, a little more time.
+const MANY: u32 = 24;
+
 /// The number `held`, followed by the bits of `bits` at the ones of `at`, the least weight first, as one number.
-pub fn gathered(held: u64, bits: u64, at: u64) -> u64
-    requires { (held + 1) * 2 ^ count_ones at ≤ 2 ^ 64 }
+pub fn gathered(held: u64, bits: u64, at: u64, ones: u32) -> u64
+    requires fits { (held + 1) * 2 ^ count_ones at ≤ 2 ^ 64 }
+    requires ones { ones ≡ count_ones at }
     ensures { result ≡ held * 2 ^ count_ones at
         + bits_number (extract (number_bits 64 bits) (number_bits 64 at)) }
 {
-    if at == u64::MAX {
-        return turned(bits);
+    if ones > MANY {
+        return (held << (ones % 64)) + (turned(packed(bits, at)) >> (64 - ones));
     }
     let mut gathered = held;
     let mut rest = at;
@@ -30,14 +36,15 @@ pub fn gathered(held: u64, bits: u64, at: u64) -> u64
 
 /// `word` with the first bits of `ahead` at the ones of `at`, the first bit at the 1 of the least weight.
 /// Each turn takes two ones: a word has mostly one or two. If the second is missing, taking it changes nothing.
-pub fn spread(word: u64, at: u64, ahead: u64) -> u64
+pub fn spread(word: u64, at: u64, ahead: u64, ones: u32) -> u64
+    requires { ones ≡ count_ones at }
     ensures bits { extract (number_bits 64 result) (number_bits 64 at)
         ≡ take (count_ones at) (number_bits 64 ahead) }
     ensures others { (weight : ℕ) → bit_at at weight ≡ 0
         → bit_at result weight ≡ bit_at word weight }
 {
-    if at == u64::MAX {
-        return turned(ahead);
+    if ones > MANY {
+        return (word & !at) | (unpacked(turned(ahead), at) & at);
     }
     let mut made = word & !at;
     let mut next = ahead;
@@ -61,17 +68,22 @@ pub fn put_gathered_up(pen: &mut BitPen, bits: u64, at: u64)
     ensures room { pen.new.room ≡ pen.old.room }
 {
     if at != 0 {
-        pen.put_word(gathered_up(bits, at), at.count_ones());
+        let ones = at.count_ones();
+        pen.put_word(gathered_up(bits, at, ones), ones);
     }
 }
 
 /// The bits of `bits` at the ones of `at`, as a number with one bit for each of these ones, the bit of the greatest
 /// weight first.
-fn gathered_up(bits: u64, at: u64) -> u64
+fn gathered_up(bits: u64, at: u64, ones: u32) -> u64
+    requires { ones ≡ count_ones at }
     ensures bits { number_bits (count_ones at) result
         ≡ bits_up (number_bits 64 bits) (number_bits 64 at) }
     ensures fits { result < 2 ^ count_ones at }
 {
+    if ones > MANY {
+        return packed(bits, at);
+    }
     let mut gathered = 0;
     let mut taken: u32 = 0;
     let mut rest = at;
@@ -85,11 +97,15 @@ fn gathered_up(bits: u64, at: u64) -> u64
 
 /// The word that has the bits of `number` at the ones of `at`, its lowest bit at the 1 of the least
 /// weight, and zeros elsewhere.
-pub fn spread_up(number: u64, at: u64) -> u64
+pub fn spread_up(number: u64, at: u64, ones: u32) -> u64
+    requires { ones ≡ count_ones at }
     ensures bits { bits_up (number_bits 64 result) (number_bits 64 at)
         ≡ number_bits (count_ones at) number }
     ensures others { (weight : ℕ) → bit_at at weight ≡ 0 → bit_at result weight ≡ 0 }
 {
+    if ones > MANY {
+        return unpacked(number, at) & at;
+    }
     let mut made = 0;
     let mut next = number;
     let mut rest = at;

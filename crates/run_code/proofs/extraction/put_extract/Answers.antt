@@ -62,8 +62,8 @@ fits_64 held count more small le =
 held_below : (held count bits at : ℕ) → at < 2 ^ 64 → held < 2 ^ count → held * 2 ^ count_ones at + bits_number (word_extract bits at) < 2 ^ (count + count_ones at)
 held_below held count bits at below small = omega (arith, fits_word held count (count_ones at) small, word_number_below bits at below)
 
-pub gathered-held-requires : goal.gathered-held-requires
-gathered-held-requires c =
+pub gathered-held-requires-clause-fits : goal.gathered-held-requires-clause-fits
+gathered-held-requires-clause-fits c =
     let i = c.loop-index.invariant in
     elim c.if-count-more-gt64.branch [
       | then-count-more-gt64 w ↦ rw w.held-is (fits_64 0 0 (count_ones c.word-at.result) (omega arith) (omega (arith, ones-le 64 c.word-at.result c.word-at.type_inv)))

@@ -3,7 +3,7 @@ use Rattle.std.specs.Int.RustNames.{count_ones}
 use Rattle.std.proofs.lemmas.Nat.{and_le_r}
 use Rattle.bit_vectors.specs.Vectors.{bits_number}
 use Rattle.run_code.proofs.Gathering.{word_extract, length-word_extract, gathered_more, gathered_small, gathered_all, gathered_fits}
-use Rattle.run_code.proofs.Ranks.{full_number}
+use Rattle.run_code.proofs.AllAtOnce.{gathered_is, gathered_small_enough}
 use Rattle.run_code.proofs.words.gathered.Goals as goal
 
 pub loop-rest-init : goal.loop-rest-init
@@ -14,11 +14,11 @@ loop-rest-init c = record {
 
 pub overflow_mul-gathered : goal.overflow_mul-gathered
 overflow_mul-gathered c =
-    omega (arith, gathered_small c.args.bits c.loop-rest.rest c.loop-rest.gathered (c.args.held * 2 ^ count_ones c.args.at + bits_number (word_extract c.args.bits c.args.at)) (omega arith) c.loop-rest.invariant.small (gathered_fits c.args.held c.args.bits c.args.at (omega (arith, c.ranges.at)) c.requires) c.loop-rest.invariant.total)
+    omega (arith, gathered_small c.args.bits c.loop-rest.rest c.loop-rest.gathered (c.args.held * 2 ^ count_ones c.args.at + bits_number (word_extract c.args.bits c.args.at)) (omega arith) c.loop-rest.invariant.small (gathered_fits c.args.held c.args.bits c.args.at (omega (arith, c.ranges.at)) c.requires.fits) c.loop-rest.invariant.total)
 
 pub overflow_add-gathered : goal.overflow_add-gathered
 overflow_add-gathered c =
-    omega (arith, gathered_small c.args.bits c.loop-rest.rest c.loop-rest.gathered (c.args.held * 2 ^ count_ones c.args.at + bits_number (word_extract c.args.bits c.args.at)) (omega arith) c.loop-rest.invariant.small (gathered_fits c.args.held c.args.bits c.args.at (omega (arith, c.ranges.at)) c.requires) c.loop-rest.invariant.total)
+    omega (arith, gathered_small c.args.bits c.loop-rest.rest c.loop-rest.gathered (c.args.held * 2 ^ count_ones c.args.at + bits_number (word_extract c.args.bits c.args.at)) (omega arith) c.loop-rest.invariant.small (gathered_fits c.args.held c.args.bits c.args.at (omega (arith, c.ranges.at)) c.requires.fits) c.loop-rest.invariant.total)
 
 pub loop-rest-preserved : goal.loop-rest-preserved
 loop-rest-preserved c = record {
@@ -29,6 +29,8 @@ loop-rest-preserved c = record {
 pub returns : goal.returns
 returns c = gathered_all c.args.bits c.loop-rest.rest c.loop-rest.gathered (c.args.held * 2 ^ count_ones c.args.at + bits_number (word_extract c.args.bits c.args.at)) (omega arith) c.loop-rest.invariant.total
 
-pub returns-then-at-eq18446744073709551615 : goal.returns-then-at-eq18446744073709551615
-returns-then-at-eq18446744073709551615 c =
-    full_number c.args.held c.args.bits c.args.at c.turned.result c.if-at-eq18446744073709551615.true c.requires c.turned.type_inv c.turned.ensures
+pub overflow_add-result : goal.overflow_add-result
+overflow_add-result c = omega (arith, gathered_small_enough c.args.held c.args.bits c.args.at c.args.ones c.packed.result c.turned.result (omega (arith, c.ranges.at)) c.requires.fits c.requires.ones (omega (arith, c.if-ones-gt-MANY.true)) c.turned.type_inv c.packed.ensures.bits c.turned.ensures)
+
+pub returns-then-ones-gt-MANY : goal.returns-then-ones-gt-MANY
+returns-then-ones-gt-MANY c = gathered_is c.args.held c.args.bits c.args.at c.args.ones c.packed.result c.turned.result (omega (arith, c.ranges.at)) c.requires.fits c.requires.ones (omega (arith, c.if-ones-gt-MANY.true)) c.turned.type_inv c.packed.ensures.bits c.turned.ensures

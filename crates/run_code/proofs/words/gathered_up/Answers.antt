@@ -1,4 +1,4 @@
-use Rattle.std.proofs.Common.{◌-◌, ◌<◌, w64, arith, ◌∙◌}
+use Rattle.std.proofs.Common.{◌-◌, ◌<◌, w64, arith, ◌∙◌, sym}
 use Rattle.std.specs.Int.{bit_at, trailing_zeros}
 use Rattle.std.specs.Prelude.{reverse}
 use Rattle.bit_vectors.specs.Vectors.{number_bits}
@@ -7,6 +7,7 @@ use Rattle.std.proofs.lemmas.Nat.{and_le_r, ones-le}
 use Rattle.std.proofs.lemmas.Nat.Bits.{shr_and_one, bit_at-lt}
 use Rattle.run_code.proofs.Gathering.{word_extract, ones-lowest}
 use Rattle.run_code.proofs.Upward.{above_small, gathered_up_more, gathered_up_all}
+use Rattle.run_code.proofs.Ranks.{number_up}
 use Rattle.run_code.proofs.words.gathered_up.Goals as goal
 
 pub loop-rest-init : goal.loop-rest-init
@@ -32,3 +33,6 @@ loop-rest-preserved c =
 pub returns-clause-bits : goal.returns-clause-bits
 returns-clause-bits c =
     gathered_up_all c.args.bits c.loop-rest.rest c.loop-rest.taken c.loop-rest.gathered c.args.at (omega arith) c.loop-rest.invariant.count c.loop-rest.invariant.bits
+
+pub returns-then-ones-gt-MANY-clause-bits : goal.returns-then-ones-gt-MANY-clause-bits
+returns-then-ones-gt-MANY-clause-bits c = sym (number_up c.args.bits c.args.at c.packed.result (omega (arith, c.ranges.at)) c.packed.ensures.bits)

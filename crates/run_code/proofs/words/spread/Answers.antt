@@ -1,6 +1,6 @@
 use Rattle.std.proofs.Common.{◌-◌, ◌*◌, ◌%◌, ◌/◌, ◌^◌, bit_and, bit_or, arith, refl}
 use Rattle.run_code.proofs.Spreading.{less_one, lowest_bit, none_left, spread_more_or_none, without_ones, without_others}
-use Rattle.run_code.proofs.Ranks.{full_first_bits, full_others}
+use Rattle.run_code.proofs.AllAtOnce.{spread_is, merged_others}
 use Rattle.run_code.proofs.words.spread.Goals as goal
 
 pub loop-rest-init : goal.loop-rest-init
@@ -27,10 +27,8 @@ loop-rest-preserved c =
 pub returns-clause-bits : goal.returns-clause-bits
 returns-clause-bits c = c.loop-rest.invariant.right c.loop-rest.made (λ w none. refl) (none_left c.loop-rest.made c.loop-rest.next c.loop-rest.rest (omega arith))
 
-pub returns-then-at-eq18446744073709551615-clause-bits : goal.returns-then-at-eq18446744073709551615-clause-bits
-returns-then-at-eq18446744073709551615-clause-bits c =
-    full_first_bits c.turned.result c.args.at c.args.ahead c.if-at-eq18446744073709551615.true c.turned.ensures
+pub returns-then-ones-gt-MANY-clause-bits : goal.returns-then-ones-gt-MANY-clause-bits
+returns-then-ones-gt-MANY-clause-bits c = spread_is c.args.word c.args.at c.args.ahead c.turned.result c.unpacked.result (omega (arith, c.ranges.at)) c.turned.ensures c.unpacked.ensures
 
-pub returns-then-at-eq18446744073709551615-clause-others : goal.returns-then-at-eq18446744073709551615-clause-others
-returns-then-at-eq18446744073709551615-clause-others c i none =
-    full_others c.turned.result c.args.word c.args.at i c.if-at-eq18446744073709551615.true c.turned.type_inv (omega (arith, c.ranges.word)) none
+pub returns-then-ones-gt-MANY-clause-others : goal.returns-then-ones-gt-MANY-clause-others
+returns-then-ones-gt-MANY-clause-others c i none = merged_others c.args.word c.args.at c.unpacked.result i (omega (arith, c.ranges.word)) (omega (arith, c.ranges.at)) none

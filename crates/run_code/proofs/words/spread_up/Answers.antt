@@ -4,6 +4,8 @@ use Rattle.bit_vectors.specs.Vectors.{number_bits}
 use Rattle.run_code.proofs.Gathering.{word_extract}
 use Rattle.run_code.proofs.Spreading.{step_inside, step_clear, step_others, step_off, step_bit}
 use Rattle.run_code.proofs.Upward.{bits_up_is, spread_up_bits, none_left_up}
+use Rattle.std.proofs.lemmas.Nat.Bits.{bit_at_and, bit_at-lt}
+use Rattle.run_code.proofs.Ranks.{number_up}
 use Rattle.run_code.proofs.words.spread_up.Goals as goal
 
 pub loop-rest-preserved : goal.loop-rest-preserved
@@ -24,3 +26,11 @@ pub returns-clause-bits : goal.returns-clause-bits
 returns-clause-bits c =
     sym (bits_up_is (number_bits 64 c.loop-rest.made) (number_bits 64 c.args.at))
     ∙ c.loop-rest.invariant.right c.loop-rest.made (λ w none. refl) (none_left_up c.loop-rest.made c.loop-rest.next c.loop-rest.rest (omega arith))
+
+pub returns-then-ones-gt-MANY-clause-bits : goal.returns-then-ones-gt-MANY-clause-bits
+returns-then-ones-gt-MANY-clause-bits c =
+    number_up (bit_and c.unpacked.result c.args.at) c.args.at c.args.number (omega (arith, c.ranges.at))
+    (λ i lt one. sym (bit_at_and c.unpacked.result c.args.at i ∙ omega (arith, one, bit_at-lt c.unpacked.result i) ∙ c.unpacked.ensures i lt one))
+
+pub returns-then-ones-gt-MANY-clause-others : goal.returns-then-ones-gt-MANY-clause-others
+returns-then-ones-gt-MANY-clause-others c i none = bit_at_and c.unpacked.result c.args.at i ∙ omega (arith, none)
