@@ -3,7 +3,7 @@ use Rattle.std.proofs.Common.{◌≡◌, ◌≢◌, ℕ, ◌-◌, ◌↔◌, Lis
 use Rattle.std.specs.Prelude.{nat_le}
 use Rattle.std.specs.Bool.{OnTrue, OnFalse}
 use Rattle.std.specs.Option.{option_map}
-use Rattle.std.proofs.lemmas.Bool.{true≢false}
+use Rattle.std.proofs.lemmas.Bool.{true≢false, false≢true}
 use Rattle.std.proofs.lemmas.Option.{same_Some}
 use Rattle.bit_vectors.specs.declared.fault.BitFault.{BitFault}
 use Rattle.bit_vectors.specs.Vectors.{bits_of}
@@ -159,6 +159,7 @@ pub record IsTold (kind : DataKind) (latest new : Latest) (t : ℕ) (deduced : O
   pub mask : Option (List Bool)
   pub outcome : outcome_of kind deduced sent content ≡ Spelled mask (known_if (tells_content kind) content)
   pub part : part_by new.mask_number new.mask ≡ next_part (part_by latest.mask_number latest.mask) t mask
+  pub is_new : tells_mask kind ≡ true → mask ≡ Some new.mask
 
 pub told_as : (kind : DataKind) (latest new : Latest) (t : ℕ) (deduced : Option (List Bool)) (sent content : List Bool) → (kind ≡ OpaqueKind → ⊥) → (IsDeduced kind → IsSome deduced) → ((known : Bool) → kind ≡ SentKind known → new.mask ≡ sent)
     → (IsDeduced kind → IfSome deduced (λ m. new.mask ≡ m)) → (tells_mask kind ≡ true → new.mask_number ≡ Some t) → (tells_mask kind ≡ false → new ≡ latest) → IsTold kind latest new t deduced sent content
@@ -166,12 +167,14 @@ told_as (DeducedKind known) latest new t deduced sent content some has by_sent b
   mask = Some new.mask;
   outcome = ap (λ (m : Option (List Bool)). Spelled m (known_if known content)) (some_mask deduced new.mask (has tt) (by_deduced tt));
   part = ap (λ (n : Option ℕ). part_by n new.mask) (number refl);
+  is_new = λ tells. refl;
 }
 told_as (SentKind known) latest new t deduced sent content some has by_sent by_deduced number untold = record {
   mask = Some new.mask;
   outcome = ap (λ (m : List Bool). Spelled (Some m) (known_if known content)) (sym (by_sent known refl));
   part = ap (λ (n : Option ℕ). part_by n new.mask) (number refl);
+  is_new = λ tells. refl;
 }
 told_as MasklessKind latest new t deduced sent content some has by_sent by_deduced number untold =
-    record { mask = None; outcome = refl; part = ap (λ (x : Latest). part_by x.mask_number x.mask) (untold refl) }
+    record { mask = None; outcome = refl; part = ap (λ (x : Latest). part_by x.mask_number x.mask) (untold refl); is_new = λ tells. absurd (false≢true tells) }
 told_as OpaqueKind latest new t deduced sent content some has by_sent by_deduced number untold = absurd (some refl)

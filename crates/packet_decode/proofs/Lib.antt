@@ -22,3 +22,4 @@ pub mod WindowContent
 pub mod OfHistories
 pub mod PredictablePlaces
 pub mod RecentChanges
+mod RepeatedPacket

@@ -1,14 +1,15 @@
 -- What the values stand for by which packets are read.
-use Rattle.std.specs.Prelude.{◌≡◌, ℕ, ⊤, List, Bool, true, false, replicate, IfNone, IfSome, IsSome, length, Option, None, Some}
+use Rattle.std.specs.Prelude.{◌≡◌, ◌≢◌, ℕ, ⊤, List, [], Bool, true, false, replicate, IfNone, IfSome, IsSome, length, Option, None, Some}
 use Rattle.std.specs.Borrow.{Bor}
 use Rattle.std.specs.Option.{option_map}
-use Rattle.bit_vectors.specs.Vectors.{IsOne, IsVector}
-use Rattle.packet_encode.specs.Forms.{Directions}
+use Rattle.bit_vectors.specs.Vectors.{IsOne, IsVector, bits_of}
+use Rattle.packet_encode.specs.Forms.{Directions, Form}
 use Rattle.packet_decode.specs.declared.draft.DataKind.{DataKind}
 use Rattle.packet_decode.specs.declared.draft.DataKind.TheVariants.{Deduced as DeducedKind, Sent as SentKind, Maskless as MasklessKind, Opaque as OpaqueKind}
 use Rattle.packet_decode.specs.declared.draft.Draft.{Draft}
 use Rattle.packet_decode.specs.declared.draft.Latest.{Latest}
-use Rattle.packet_decode.specs.State.{KnownVector, State, Change, known_if}
+use Rattle.packet_decode.specs.State.{KnownVector, State, Change, change_of, mask_after, known_if}
+use Rattle.packet_decode.specs.Spelling.{Spells}
 use Rattle.packet_decode.specs.PacketReading.{Outcome, Spelled, Opaque}
 
 -- directions, if it was sent whether all recent changes are extracted
@@ -82,9 +83,24 @@ pub record IsReady (first : Change) (mask content : Option (List Bool)) (vectors
   pub known : IfSome content (λ v. length v ≡ length vectors.content)
   pub draft : IsDraft (length vectors.content) vectors
 
--- What holds of the parts of a decoder: the latest vectors, the first part of the latest written packet, and what is filled
--- as the next packet is read.
-pub record IsDecoder (latest : Latest) (shown next : Change) (deduced sent : List Bool) (draft : Draft) : Type 0 where
+-- Under some state, these bytes spell a packet by which the latest mask and the latest content became known, and this is its
+-- first part. Its changes leave the mask as it is.
+pub record SpellLatest (latest : Latest) (shown : Change) (bytes : List ℕ) : Type 0 where
+  pub state : State
+  pub t : ℕ
+  pub form : Form
+  pub spells : Spells (length latest.content) state t (bits_of bytes) form (Some latest.mask) (Some latest.content)
+  pub first_part : change_of form ≡ shown
+  pub stays : mask_after latest.mask shown ≡ latest.mask
+  pub numbers : latest.mask_number ≡ latest.content_number
+
+-- what is remembered, if it is something
+abbrev pub IsRemembered : Latest → Change → List ℕ → Type 0
+IsRemembered latest shown bytes = bytes ≢ [] → SpellLatest latest shown bytes
+
+-- What holds of the parts of a decoder: the latest vectors, the first part of the latest written packet, what is filled as
+-- the next packet is read, and the data that are remembered.
+pub record IsDecoder (latest : Latest) (shown next : Change) (deduced sent : List Bool) (draft : Draft) (kept : List ℕ) : Type 0 where
   pub vector : IsVector latest.content
   pub latest_vectors : HasPlaces (length latest.content) latest
   pub shown_places : length shown.recent ≡ length latest.content
@@ -96,3 +112,4 @@ pub record IsDecoder (latest : Latest) (shown next : Change) (deduced sent : Lis
   pub first_content : IfNone latest.content_number (latest.content ≡ replicate (length latest.content) false)
   pub first_recent : IfNone latest.content_number (shown.recent ≡ replicate (length latest.content) false)
   pub first_level : IfNone latest.content_number (shown.level ≡ 0)
+  pub remembered : IsRemembered latest shown kept

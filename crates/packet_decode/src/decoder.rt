@@ -1,19 +1,21 @@
 //! The decoder: the latest known mask and content, and the reading of the next packet.
 
-ghost use Rattle.std.specs.Prelude.{◌≡◌, ◌^◌, ◌<◌, ◌≤◌, ◌↔◌, Bool, true, false, List, length, replicate, Option, Some, None, Ok, IfSome, IfNone, IfOk};
+ghost use Rattle.std.specs.Prelude.{[], ◌≡◌, ◌≢◌, ◌^◌, ◌<◌, ◌≤◌, ◌↔◌, Bool, true, false, List, length, replicate, Option, Some, None, Ok, IfSome, IfNone, IfOk, IsSome, IsTrue};
 ghost use Rattle.std.specs.Bool.{OnTrue, OnFalse};
 ghost use Rattle.bit_vectors.specs.Vectors.{IsVector, bits_of};
+ghost use Rattle.bit_vectors.specs.Reading.{Read};
 ghost use Rattle.packet_encode.specs.Forms.{Form};
-ghost use Rattle.packet_decode.specs.State.{IsState, next_state, no_vectors};
+ghost use Rattle.packet_decode.specs.State.{IsState, in_reach, next_state, no_vectors};
 ghost use Rattle.packet_decode.specs.Spelling.{Spells};
 ghost use Rattle.packet_decode.specs.Answers.{Says, IsExactAnswer};
-ghost use Rattle.packet_decode.specs.PacketReading.{missed};
-ghost use Rattle.packet_decode.specs.Parts.{IsDeduced, part_by, tells_mask};
+ghost use Rattle.packet_decode.specs.PacketReading.{Spelled, missed, parse_whole_packet};
+ghost use Rattle.packet_decode.specs.Parts.{HasPlaces, IsDeduced, IsRemembered, kept_state, part_by, tells_mask};
 ghost use Rattle.packet_decode.specs.Decoding.{latest_number, latest_mask_number, latest_mask, latest_content, tells_nothing};
 
 use crate::change::FirstPart;
 use crate::draft::{DataKind, Draft, Latest};
-use crate::packet::take_whole_packet;
+use crate::packet::{in_reach_of, take_whole_packet};
+use crate::remembered::Remembered;
 use bit_vectors::{BitEye, BitFault, Bits, NoMemory};
 use std::alloc::Global;
 use std::marker::Model;
@@ -43,6 +45,7 @@ pub struct Decoder {
     deduced: Bits,
     sent: Bits,
     draft: Draft,
+    remembered: Remembered,
 }
 
 impl Model for Decoder {
@@ -54,7 +57,7 @@ impl Model for Decoder {
 
     ghost view = { λ d. record { places = length d.latest.content; state = kept_state d.latest; recent = d.shown.recent; level = d.shown.level } };
 
-    ghost invariant = { λ d. IsDecoder d.latest d.shown d.next d.deduced d.sent d.draft };
+    ghost invariant = { λ d. IsDecoder d.latest d.shown d.next d.deduced d.sent d.draft d.remembered };
 }
 
 impl Decoder {
@@ -78,6 +81,7 @@ impl Decoder {
             deduced,
             sent,
             draft,
+            remembered: Remembered::nothing(),
         })
     }
 
@@ -114,6 +118,11 @@ impl Decoder {
         ensures unchanged { tells_nothing result ≡ true → self.new ≡ self.old }
         ensures places { self.new.places ≡ self.old.places }
     {
+        if repeats(&self.remembered, &self.latest, &self.shown, t, bytes) {
+            self.latest.mask_number = Some(t);
+            self.latest.content_number = Some(t);
+            return Ok(Reading::Written);
+        }
         let mut eye = BitEye::new(bytes);
         let kind = take_whole_packet(
             &mut eye,
@@ -127,14 +136,16 @@ impl Decoder {
         if kind.is_opaque() {
             return Ok(missed(self.latest.mask_number, self.next.level(), false));
         }
+        let quiet = self.next.is_quiet();
         keep_mask(
             &mut self.latest,
             t,
             kind,
-            self.next.is_quiet(),
+            quiet,
             &mut self.deduced,
             &mut self.sent,
         );
+        self.remembered.keep(bytes, quiet && kind.tells_both());
         if !kind.tells_content() {
             return Ok(missed(self.latest.content_number, self.next.level(), true));
         }
@@ -193,6 +204,33 @@ impl Decoder {
     {
         self.shown.level()
     }
+}
+
+/// Whether these data are remembered, and what is known is in reach of the packet with the number `t`, if it has the level
+/// of the latest written one. Then they spell the latest written packet again.
+fn repeats(
+    remembered: &Remembered,
+    latest: &Latest,
+    shown: &FirstPart,
+    t: u64,
+    bytes: &[u8],
+) -> bool
+    requires remembered { IsRemembered latest.now shown.now remembered.now }
+    requires later { IfSome latest.now.content_number (λ last. last < t) }
+    requires vectors { HasPlaces (length latest.now.content) latest.now }
+    ensures when { IsTrue result ↔ ((remembered.now ≡ bytes.now) × (remembered.now ≢ [])
+        × IsSome (in_reach (part_by latest.now.content_number latest.now.content) t
+        shown.now.level)) }
+    ensures read { OnTrue result
+        (parse_whole_packet (length latest.now.content) (kept_state latest.now) t
+        (bits_of bytes.now)
+        ≡ Read (record {
+          change = shown.now;
+          outcome = Spelled (Some latest.now.mask) (Some latest.now.content);
+        }) []) }
+{
+    remembered.is(bytes)
+        && in_reach_of(latest.content_number, &latest.content, t, shown.level()).is_some()
 }
 
 /// Stores the mask that the packet with the number `t` tells as the latest one: the sent one, or the deduced one, which

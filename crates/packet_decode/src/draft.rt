@@ -1,7 +1,7 @@
 //! The latest known vectors, and the vectors that reading the next packet fills.
 
-ghost use Rattle.std.specs.Prelude.{◌≡◌, ◌≤◌, ◌↔◌, false, replicate, None, IfOk, IsTrue};
-ghost use Rattle.packet_decode.specs.Parts.{IsDraft, tells_content};
+ghost use Rattle.std.specs.Prelude.{◌≡◌, ◌≤◌, ◌↔◌, ◌&&◌, false, replicate, None, IfOk, IsTrue};
+ghost use Rattle.packet_decode.specs.Parts.{IsDraft, tells_content, tells_mask};
 
 use bit_vectors::{Bits, NoMemory};
 use std::alloc::Global;
@@ -78,6 +78,13 @@ impl DataKind {
             DataKind::Maskless => true,
             DataKind::Opaque => false,
         }
+    }
+
+    /// Whether they tell the mask and the content.
+    pub fn tells_both(self) -> bool
+        ensures { result ≡ (tells_mask self && tells_content self) }
+    {
+        matches!(self, DataKind::Deduced(true) | DataKind::Sent(true))
     }
 }
 

@@ -11,6 +11,7 @@ mod laws;
 mod mask;
 mod packet;
 mod padding;
+mod remembered;
 
 pub use decoder::{Decoder, Reading};
 pub use laws::{

@@ -109,7 +109,7 @@ fn take_parts(
 }
 
 /// A known vector, if the packet with the number `t` and this level is in reach of the one with which it became known.
-fn in_reach_of(last: Option<u64>, vector: &Bits, t: u64, level: u8) -> Option<&Bits>
+pub fn in_reach_of(last: Option<u64>, vector: &Bits, t: u64, level: u8) -> Option<&Bits>
     requires { IfSome last (λ last. last < t) }
     ensures { lent result ≡ in_reach (part_by last vector.now) t level }
 {

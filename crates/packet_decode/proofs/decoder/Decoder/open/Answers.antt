@@ -1,4 +1,4 @@
-use Rattle.std.proofs.Common.{◌≡◌, ℕ, ◌≤◌, Bool, false, List, length, replicate, None, refl, sym, ap, ◌∙◌, arith, rules}
+use Rattle.std.proofs.Common.{◌≡◌, ℕ, ◌≤◌, Bool, false, List, [], length, replicate, None, refl, sym, ap, ◌∙◌, arith, rules}
 use Rattle.std.proofs.lemmas.List.{length-replicate}
 use Rattle.packet_decode.specs.State.{Change}
 use Rattle.packet_decode.specs.declared.draft.Draft.{Draft}
@@ -8,7 +8,7 @@ use Rattle.packet_decode.proofs.decoder.Decoder.open.Goals as goal
 
 -- a decoder of zeros that knows no packet
 opened : (f : ℕ) (latest : Latest) (shown next : Change) (deduced sent : List Bool) (draft : Draft) → 1 ≤ f → f ≤ 49152 → latest.mask_number ≡ None → latest.content_number ≡ None → latest.mask ≡ replicate f false → latest.content ≡ replicate f false → shown ≡ record { recent = replicate f false; level = 0; directions = None }
-    → length next.recent ≡ f → length deduced ≡ f → length sent ≡ f → IsDraft f draft → IsDecoder latest shown next deduced sent draft
+    → length next.recent ≡ f → length deduced ≡ f → length sent ≡ f → IsDraft f draft → IsDecoder latest shown next deduced sent draft []
 opened f latest shown next deduced sent draft some most mask_number number mask content shown_is next_is deduced_is sent_is draft_is =
     let len : length latest.content ≡ f = ap (λ (v : List Bool). length v) content ∙ length-replicate f false in
     let zeros : replicate f false ≡ replicate (length latest.content) false = ap (λ (n : ℕ). replicate n false) (sym len) in
@@ -24,8 +24,9 @@ opened f latest shown next deduced sent draft some most mask_number number mask 
       first_content = rw number (content ∙ zeros);
       first_recent = rw (number, shown_is) zeros;
       first_level = rw (number, shown_is) refl;
+      remembered = λ some. absurd (some refl);
     }
 
 pub invariant_of-result : goal.invariant_of-result
 invariant_of-result c =
-    opened c.args.f _ _ _ _ _ _ c.requires.some c.requires.most c.in_ok-latest.ensures.mask_number c.in_ok-latest.ensures.content_number c.in_ok-latest.ensures.mask c.in_ok-latest.ensures.content c.in_ok-shown.ensures (rw c.in_ok-next.ensures (length-replicate c.args.f false)) (rw c.in_ok-deduced.ensures (length-replicate c.args.f false)) (rw c.in_ok-sent.ensures (length-replicate c.args.f false)) c.in_ok-draft.ensures
+    rw c.nothing.ensures (opened c.args.f _ _ _ _ _ _ c.requires.some c.requires.most c.in_ok-latest.ensures.mask_number c.in_ok-latest.ensures.content_number c.in_ok-latest.ensures.mask c.in_ok-latest.ensures.content c.in_ok-shown.ensures (rw c.in_ok-next.ensures (length-replicate c.args.f false)) (rw c.in_ok-deduced.ensures (length-replicate c.args.f false)) (rw c.in_ok-sent.ensures (length-replicate c.args.f false)) c.in_ok-draft.ensures)

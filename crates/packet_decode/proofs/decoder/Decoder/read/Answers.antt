@@ -1,20 +1,58 @@
-use Rattle.std.proofs.Common.{◌≡◌, ℕ, Bool, List, Option, length, ap, refl, sym, ◌∙◌, Some, None, Ok, Err, arith, true, false}
-use Rattle.std.proofs.lemmas.Bool.{true≢false}
+use Rattle.std.proofs.Common.{◌≡◌, ℕ, Bool, List, [], Option, length, ap, refl, sym, ◌∙◌, Some, None, Ok, Err, arith, rules, true, false}
+use Rattle.std.proofs.lemmas.Bool.{true≢false, false≢true, OnTrue_at, and_parts}
 use Rattle.std.proofs.lemmas.Result.{err_from_is_err_and}
 use Rattle.bit_vectors.specs.Vectors.{bits_of}
 use Rattle.bit_vectors.specs.Eye.{bits_left}
 use Rattle.bit_vectors.specs.Reading.{Read}
 use Rattle.packet_encode.specs.Forms.{Form}
-use Rattle.packet_decode.specs.State.{IsState, deduced_by, known_if}
+use Rattle.packet_decode.specs.State.{Change, IsState, deduced_by, known_if}
 use Rattle.packet_decode.specs.Spelling.{Spells}
 use Rattle.packet_decode.specs.declared.decoder.Reading.TheVariants.{Written}
 use Rattle.packet_decode.specs.PacketReading.{parse_whole_packet, answer_of, missed, outcome_answer, Outcome, Spelled, Opaque}
-use Rattle.packet_decode.specs.Parts.{outcome_of, kept_state, part_by, tells_content}
+use Rattle.packet_decode.specs.Parts.{IsRemembered, SpellLatest, outcome_of, kept_state, part_by, tells_content, tells_mask}
+use Rattle.packet_decode.specs.Decoding.{Decoding}
 use Rattle.packet_decode.specs.declared.draft.DataKind.{DataKind}
 use Rattle.packet_decode.proofs.DecoderAnswers.{IsFound, IsTold, exact_by, says_by, spelled_by, has_state, found_is, opaque_unspelled, fault_is, reading_is, alone_is, written_is, deduced_is, told_as}
 use Rattle.packet_decode.proofs.OneAnswer.{spelled_places}
+use Rattle.packet_decode.proofs.RepeatedPacket.{answer_again, found_again, written_again, kept_is, spell_latest}
 use Rattle.packet_decode.proofs.decoder.Decoder.read.Goals as goal
-use Rattle.packet_decode.proofs.decoder.Decoder.read.Goals.{After-keep_mask}
+use Rattle.packet_decode.proofs.decoder.Decoder.read.Goals.{After-repeats, After-keep_mask, After-swap, then-quiet, else-quiet}
+
+-- ---- data that are remembered
+
+not_some : {A : Type 0} (content : List Bool) → ◌≡◌ {A = Option (List Bool)} None (Some content) → A
+not_some content e = absurd cc
+
+again : (c : After-repeats) → c.repeats.result ≡ true → parse_whole_packet (length c.self.inside.latest.content) (kept_state c.self.inside.latest) c.args.t (bits_of c.args.bytes.now)
+    ≡ Read (record { change = c.self.inside.shown; outcome = Spelled (Some c.self.inside.latest.mask) (Some c.self.inside.latest.content) }) []
+again c is = OnTrue_at is c.repeats.ensures.read
+
+again_answer : (c : After-repeats) → c.repeats.result ≡ true → answer_of c.args.self.now.places c.args.self.now.state c.args.t (bits_of c.args.bytes.now) ≡ Ok Written
+again_answer c is = answer_again c.args.self.now c.self.inside.latest c.self.inside.shown c.self.view_is c.self.invariant.latest_vectors c.args.t c.args.bytes.now (again c is)
+
+again_has : (c : After-repeats) → IsState c.args.self.now.places c.args.self.now.state
+again_has c = has_state c.args.self.now c.self.inside.latest c.self.inside.shown c.self.view_is c.self.invariant.latest_vectors
+
+pub returns-then-repeats-clause-exact : goal.returns-then-repeats-clause-exact
+returns-then-repeats-clause-exact c =
+    let at = (goal.at.returns-then-repeats-clause-exact c).After-repeats in
+    exact_by c.args.self.now.places c.args.self.now.state c.args.t (bits_of c.args.bytes.now) (again_has at) (Ok Written) (again_answer at c.if-repeats.true)
+
+pub returns-then-repeats-clause-says : goal.returns-then-repeats-clause-says
+returns-then-repeats-clause-says c =
+    let at = (goal.at.returns-then-repeats-clause-says c).After-repeats in
+    says_by c.args.self.now.places c.args.self.now.state c.args.t (bits_of c.args.bytes.now) (again_has at) (Ok Written) (again_answer at c.if-repeats.true)
+
+pub returns-then-repeats-clause-written : goal.returns-then-repeats-clause-written
+returns-then-repeats-clause-written c form mask content s =
+    let at = (goal.at.returns-then-repeats-clause-written c).After-repeats in
+    written_again c.args.self.now c.self.inside.latest c.self.inside.shown c.self.view_is c.self.invariant.latest_vectors c.args.t c.args.bytes.now (again at c.if-repeats.true) form mask content s
+
+pub returns-then-repeats-clause-mask_alone : goal.returns-then-repeats-clause-mask_alone
+returns-then-repeats-clause-mask_alone c form mask s =
+    let at = (goal.at.returns-then-repeats-clause-mask_alone c).After-repeats in
+    let found_as = found_again c.args.self.now c.self.inside.latest c.self.inside.shown c.self.view_is c.self.invariant.latest_vectors c.args.t c.args.bytes.now (again at c.if-repeats.true) form mask None s in
+    not_some c.self.inside.latest.content (sym found_as.content_is)
 
 -- ---- a fault
 
@@ -84,8 +122,8 @@ told c =
     (λ opaque. absurd (true≢false (sym (c.is_opaque.ensures.1 opaque) ∙ c.if-is_opaque.false)))
     c.in_ok-kind.ensures.deduced_by
     c.keep_mask.ensures.sent
-    (λ deduced. deduced_is c.is_quiet.result c.self.inside.latest c.args.t c.take_whole_packet.new.next c.take_whole_packet.new.deduced c.keep_mask.new.latest.mask (omega arith)
-    (c.keep_mask.ensures.stays deduced) (c.keep_mask.ensures.changed deduced) c.is_quiet.ensures.zero c.is_quiet.ensures.stays c.in_ok-kind.ensures.changed)
+    (λ deduced. deduced_is c.is_quiet-quiet.result c.self.inside.latest c.args.t c.take_whole_packet.new.next c.take_whole_packet.new.deduced c.keep_mask.new.latest.mask (omega arith)
+    (c.keep_mask.ensures.stays deduced) (c.keep_mask.ensures.changed deduced) c.is_quiet-quiet.ensures.zero c.is_quiet-quiet.ensures.stays c.in_ok-kind.ensures.changed)
     c.keep_mask.ensures.number
     c.keep_mask.ensures.untold
 
@@ -132,9 +170,6 @@ returns-then-not-tells_content-clause-says c =
     let at = (goal.at.returns-then-not-tells_content-clause-says c).After-keep_mask in
     says_by c.args.self.now.places c.args.self.now.state c.args.t (bits_of c.args.bytes.now) (spelled_has at) (Ok c.missed-then-not-tells_content.result) (alone_answer c at (spelled_answer at false (sym c.tells_content.ensures ∙ c.if-not-tells_content.true)))
 
-not_some : {A : Type 0} (content : List Bool) → ◌≡◌ {A = Option (List Bool)} None (Some content) → A
-not_some content e = absurd cc
-
 pub returns-then-not-tells_content-clause-written : goal.returns-then-not-tells_content-clause-written
 returns-then-not-tells_content-clause-written c form mask content s =
     let at = (goal.at.returns-then-not-tells_content-clause-written c).After-keep_mask in
@@ -173,3 +208,33 @@ returns-clause-written c form mask content s =
     let places = spelled_places c.args.self.now.places c.args.self.now.state c.args.t (bits_of c.args.bytes.now) form mask (Some content) (spelled_has at) s in
     written_is c.args.self.now c.self.inside.latest c.self.inside.shown c.self.view_is c.self.invariant.latest_vectors _ c.args.t c.new-eye.result c.args.bytes.now c.self.invariant.draft_vectors.content c.new-eye.ensures.bits c.new-eye.ensures.place
     (record { mask_number = c.keep_mask.new.latest.mask_number; mask = c.keep_mask.new.latest.mask; content_number = Some c.args.t; content = c.swap.new.x }) c.take_over.new.self c.take_whole_packet.new.next (told at).mask (Some c.take_whole_packet.new.draft.content) refl (ap Some c.swap.ensures.x_after) (told at).part c.take_over.ensures.same form mask content found_as places.1
+
+-- what is remembered
+
+told_both : (c : After-keep_mask) → tells_mask c.in_ok-kind.kind ≡ true → tells_content c.in_ok-kind.kind ≡ true → c.is_quiet-quiet.result ≡ true → (kept : List ℕ) (after : Change) (content : List Bool) → kept ≡ c.args.bytes.now → after ≡ c.take_whole_packet.new.next → content ≡ c.take_whole_packet.new.draft.content
+    → SpellLatest (record { mask_number = c.keep_mask.new.latest.mask_number; mask = c.keep_mask.new.latest.mask; content_number = Some c.args.t; content = content }) after kept
+told_both c mask content quiet kept after vector kept_bytes after_is content_is =
+    let draft = c.in_ok-kind.ensures.draft in
+    let places : length vector ≡ c.args.self.now.places =
+    ap length content_is ∙ draft.content ∙ c.self.invariant.draft_vectors.content ∙ ap (λ (d : Decoding). d.places) c.self.view_is in
+    spell_latest c.args.self.now.places c.args.self.now.state c.args.t c.args.bytes.now kept
+    (record { mask_number = c.keep_mask.new.latest.mask_number; mask = c.keep_mask.new.latest.mask; content_number = Some c.args.t; content = vector }) after c.take_whole_packet.new.next (told c).mask c.take_whole_packet.new.draft.content
+    ((says_by c.args.self.now.places c.args.self.now.state c.args.t (bits_of c.args.bytes.now) (spelled_has c) (Ok Written) (spelled_answer c true content) Written).0 refl)
+    (found c true content) kept_bytes ((told c).is_new mask) content_is after_is places
+    (OnTrue_at quiet c.is_quiet-quiet.ensures.stays c.keep_mask.new.latest.mask (omega arith))
+    (c.keep_mask.ensures.number mask)
+
+remembered : (c : After-swap) → IsRemembered (record { mask_number = c.keep_mask.new.latest.mask_number; mask = c.keep_mask.new.latest.mask; content_number = Some c.args.t; content = c.swap.new.x }) c.take_over.new.self c.keep.new.self
+remembered c some =
+    let at = (goal.at.After-swap c).After-keep_mask in
+    elim c.if-quiet.branch [
+      | then-quiet w ↦
+          let k = kept_is w.tells_both.result _ c.args.bytes.now c.keep.new.self (rw w.keep-is at c.keep.ensures) some in
+          told_both at (and_parts (tells_mask c.in_ok-kind.kind) (tells_content c.in_ok-kind.kind) (sym w.tells_both.ensures ∙ k.0)).0 (sym c.tells_content.ensures ∙ c.if-not-tells_content.false) w.if-quiet.true c.keep.new.self c.take_over.new.self c.swap.new.x k.1 c.take_over.ensures.same c.swap.ensures.x_after
+      | else-quiet w ↦ absurd (false≢true (sym w.if-quiet.false ∙ (kept_is c.is_quiet-quiet.result _ c.args.bytes.now c.keep.new.self (rw w.keep-is at c.keep.ensures) some).0))
+    ]
+
+pub invariant_of-self-2 : goal.invariant_of-self-2
+invariant_of-self-2 c =
+    let kept = remembered (goal.at.invariant_of-self-2 c).After-swap in
+    search (rules, kept)

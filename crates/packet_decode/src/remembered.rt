@@ -1,0 +1,55 @@
+//! The data of a packet that are remembered, to be compared with those of the next one.
+
+ghost use Rattle.std.specs.Prelude.{◌≡◌, ◌≢◌, ◌↔◌, IsTrue, [], nat_le, ◌&&◌, if◌then◌else◌, length};
+
+use std::marker::Model;
+
+/// The most bytes that are remembered.
+const MOST_BYTES: usize = 64;
+
+/// At most 64 bytes of data that are remembered. Contracts see these bytes; no bytes stand for nothing remembered.
+#[derive(Debug, Drop)]
+pub struct Remembered {
+    size: usize,
+    bytes: [u8; MOST_BYTES],
+}
+
+impl Model for Remembered {
+    ghost use Rattle.std.specs.Prelude.{ℕ, List, ◌≤◌, take};
+
+    ghost Value = { List ℕ };
+
+    ghost view = { λ r. take r.size r.bytes };
+
+    ghost invariant = { λ r. r.size ≤ 64 };
+}
+
+impl Remembered {
+    /// Nothing is remembered.
+    pub fn nothing() -> Remembered
+        ensures { result ≡ [] }
+    {
+        Remembered {
+            size: 0,
+            bytes: [0; MOST_BYTES],
+        }
+    }
+
+    /// Remembers these bytes if they can be repeated and are few enough, and else nothing.
+    pub fn keep(&mut self, bytes: &[u8], can_repeat: bool)
+        ensures { self.new ≡ (if can_repeat && nat_le (length bytes.now) 64 then bytes.now else []) }
+    {
+        self.size = 0;
+        if can_repeat && bytes.len() <= MOST_BYTES {
+            self.bytes[..bytes.len()].copy_from_slice(bytes);
+            self.size = bytes.len();
+        }
+    }
+
+    /// Whether something is remembered, and it is these bytes.
+    pub fn is(&self, bytes: &[u8]) -> bool
+        ensures { IsTrue result ↔ ((self.now ≡ bytes.now) × (self.now ≢ [])) }
+    {
+        self.size > 0 && &self.bytes[..self.size] == bytes
+    }
+}
