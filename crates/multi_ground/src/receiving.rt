@@ -1,17 +1,17 @@
 //! A store of several streams that is being received, packet by packet.
 
-ghost use Rattle.std.specs.Prelude.{◌≡◌, ℕ, ◌+◌, ◌-◌, ◌^◌, ◌<◌, ◌≤◌, ◌∷◌, ◌++◌, [], List, length, take, true, IfOk, OnOk, OnErr, vec_len};
+ghost use Rattle.std.specs.Prelude.{◌≡◌, ℕ, ◌+◌, ◌-◌, ◌^◌, ◌<◌, ◌≤◌, ◌∷◌, ◌++◌, [], List, length, true, IfOk, OnOk, OnErr, vec_len};
 ghost use Rattle.desk_ports.specs.Meanings.{HasWriteCause};
 ghost use Rattle.desk_ports.specs.Turns.{AreReady, Wrote, WroteFront};
 ghost use Rattle.desk_ports.specs.Courses.{to_report};
-ghost use Rattle.packet_store.specs.SpacePackets.{IsHeader, Packet, header_of};
+ghost use Rattle.packet_store.specs.SpacePackets.{Packet};
 
 use crate::ground::MultiGround;
 use crate::writing::{LINE_BYTES, shape_row, write_arrival, write_tagged};
 use bit_vectors::{NoMemory, zero_bytes};
 use desk_ports::{Desk, Failed, Outlet, Run, Turn, write_all};
 use ground_chain::{RestoreFault, end_row};
-use packet_store::{Header, StoreReader, WalkFault, read_header};
+use packet_store::{StoreReader, WalkFault, first_header};
 use side_tables::Streams;
 use std::alloc::Global;
 
@@ -141,13 +141,4 @@ impl MultiReceiving {
         }
         write_all(desk, Outlet::Report, shape_row(self.shapes).as_bytes())
     }
-}
-
-/// The header that some bytes begin with.
-fn first_header(bytes: &[u8]) -> Header
-    requires { 6 ≤ length bytes.now }
-    ensures fields { IsHeader result }
-    ensures spelled { take 6 bytes.now ≡ header_of result }
-{
-    read_header(&[bytes[0], bytes[1], bytes[2], bytes[3], bytes[4], bytes[5]])
 }

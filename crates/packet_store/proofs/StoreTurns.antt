@@ -16,7 +16,7 @@ use Rattle.packet_store.specs.SpacePackets.{Packet}
 use Rattle.packet_store.specs.Walks.{Walk, walk_from}
 use Rattle.packet_store.specs.Faults.{stop_of}
 use Rattle.packet_store.specs.StoreReader.{ReaderState, walk_on, Takes, Stops, AfterFault}
-use Rattle.packet_store.specs.StoreWorks.{StoreWork, course_on, work_on, work_telling}
+use Rattle.packet_store.specs.StoreWorks.{StoreWork, course_on, work_on}
 use Rattle.packet_store.proofs.Walks.{walk_from-none}
 
 -- ---- the store is not read on
@@ -97,17 +97,3 @@ Finishes-on s done is none moved at_end wrote = Finishes-end is (IsLast-on _ s _
 -- and if a write failed, only a prefix of it was written
 pub IsCutShort-end-on : {A : Type 0} {k : StoreWork A} {work : Work A WalkFault} (s : ReaderState) {a b d : Meanings} {last : Outputs} {answer : A} → IsDone k last answer → work ≡ work_on k s → s.ahead ≡ [] → Moves a b inlet.Main [] → IsAtEnd (left a inlet.Main) → WroteFront b d last → IsCutShort work.course a d
 IsCutShort-end-on s done is none moved at_end front = IsCutShort-end is (IsLast-on _ s _ _ done none) moved at_end front
-
--- ---- work of which another answer is told
-
--- a step of the work is one of what is told of it
-pub Steps-map : {A B F : Type 0} (value : A → B) {work next : Work A F} {taken : List ℕ} {outputs : Outputs} → Steps work next taken outputs → Steps (work_telling value work) (work_telling value next) taken outputs
-Steps-map value steps = record { course = steps.course; answer = λ rest. ap value (steps.answer rest) }
-
--- and so is its last part
-pub IsLast-map : {A B F : Type 0} (value : A → B) {work : Work A F} {last : Outputs} {answer : A} → IsLast work last answer → IsLast (work_telling value work) last (value answer)
-IsLast-map value ends = record { course = ends.course; answer = ap value ends.answer }
-
--- all of it is done, and the answer has the value that is told
-pub Finishes-map : {A B F : Type 0} (value : A → B) {work : Work A F} {a b : Meanings} {answer : A} → Finishes work a b answer → Finishes (work_telling value work) a b (value answer)
-Finishes-map value done = record { ends = done.ends; answered = ap value done.answered }

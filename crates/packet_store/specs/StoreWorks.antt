@@ -22,7 +22,3 @@ course_on k s bytes = record {
 -- the work over the rest of a store
 abbrev pub work_on : {A : Type 0} → StoreWork A → ReaderState → Work A WalkFault
 work_on k s = record { course = course_on k s; answer = λ bytes. k.answer (walk_on s bytes).packets }
-
--- the same work, if of its answer only this value is told
-abbrev pub work_telling : {A B F : Type 0} → (A → B) → Work A F → Work B F
-work_telling value work = record { course = work.course; answer = λ bytes. value (work.answer bytes) }

@@ -1,6 +1,6 @@
 //! The primary header of a Space Packet.
 
-ghost use Rattle.std.specs.Prelude.{◌≡◌, ◌+◌, ◌<◌, ◌≤◌};
+ghost use Rattle.std.specs.Prelude.{◌≡◌, ◌+◌, ◌<◌, ◌≤◌, length, take};
 ghost use Rattle.packet_store.specs.SpacePackets.{IsHeader, header_of, header_bytes, is_chosen, is_misshapen, period};
 
 /// The bytes of a primary header.
@@ -95,4 +95,13 @@ pub fn read_header(bytes: &[u8; HEADER_BYTES]) -> Header
         count: u16::from_be_bytes([bytes[2] & 0b11_1111, bytes[3]]),
         length: u16::from_be_bytes([bytes[4], bytes[5]]),
     }
+}
+
+/// The header that some bytes begin with.
+pub fn first_header(bytes: &[u8]) -> Header
+    requires { 6 ≤ length bytes.now }
+    ensures fields { IsHeader result }
+    ensures spelled { take 6 bytes.now ≡ header_of result }
+{
+    read_header(&[bytes[0], bytes[1], bytes[2], bytes[3], bytes[4], bytes[5]])
 }

@@ -9,7 +9,7 @@ mod reader;
 mod writer;
 
 pub use fault::{StoreFault, StoreKind, WalkFault};
-pub use header::{Header, PERIOD, header_bytes, read_header};
+pub use header::{Header, PERIOD, first_header, header_bytes, read_header};
 pub use laws::{
     good_packets_are_walked, only_good_packets_are_read, packets_are_told_apart, stores_are_walked,
     walks_are_exact, walks_of_fronts, worked_walks,

@@ -4,24 +4,15 @@ ghost use Rattle.std.specs.Prelude.{◌≡◌, ◌+◌, ◌<◌, ◌≤◌, [], 
 ghost use Rattle.std.specs.Io.KnownBytes.{IsAtEnd};
 ghost use Rattle.desk_ports.specs.Meanings.{IsReadyIn, left};
 ghost use Rattle.desk_ports.specs.ReadAhead.{ReadsOn};
-ghost use Rattle.packet_store.specs.SpacePackets.{IsHeader, header_of};
+ghost use Rattle.packet_store.specs.SpacePackets.{header_of};
 ghost use Rattle.packet_store.specs.Walks.{IsGood};
 ghost use Rattle.packet_store.specs.Answers.{IfGiven, OnEnd};
 ghost use Rattle.packet_store.specs.Faults.{HasStoreCause};
 ghost use Rattle.packet_store.specs.Reading.{AfterUnread, BeginsWithPacket, front_packet};
 
 use crate::fault::StoreFault;
-use crate::header::{HEADER_BYTES, Header, read_header};
+use crate::header::{HEADER_BYTES, Header, first_header};
 use desk_ports::{Desk, Inlet, ReadAhead};
-
-/// The header that some bytes begin with.
-fn first_header(bytes: &[u8]) -> Header
-    requires { 6 ≤ length bytes.now }
-    ensures fields { IsHeader result }
-    ensures spelled { take 6 bytes.now ≡ header_of result }
-{
-    read_header(&[bytes[0], bytes[1], bytes[2], bytes[3], bytes[4], bytes[5]])
-}
 
 /// Makes sure that the whole packet at this offset is ahead, and tells its header. `None`: the input is at its end.
 #[inline(always)]

@@ -1,6 +1,6 @@
 //! Decimals: plain ones, and signed ones.
 
-ghost use Rattle.std.specs.Prelude.{◌≡◌, ◌<◌, ◌≤◌, IfSome};
+ghost use Rattle.std.specs.Prelude.{◌≡◌, ◌^◌, ◌<◌, ◌≤◌, IfSome, unsigned_abs};
 ghost use Rattle.std.specs.Str.{all_ascii_digits};
 ghost use Rattle.side_tables.specs.Numbers.{is_plain_decimal, number_of, signed_number_of};
 
@@ -52,7 +52,8 @@ pub fn wide_number(text: &[u8], low: u64, high: u64) -> Option<u64>
 /// The number that a decimal says, from -9,223,372,036,854,775,808 to 18,446,744,073,709,551,615: a plain one, or `-` and
 /// a plain one above 0.
 pub fn signed_number(text: &[u8]) -> Option<i128>
-    ensures { result ≡ signed_number_of text.now }
+    ensures number { result ≡ signed_number_of text.now }
+    ensures bound { IfSome result (λ number. unsigned_abs number < 2 ^ 64) }
 {
     if let [b'-', digits @ ..] = text {
         let below = wide_number(digits, 1, 9_223_372_036_854_775_808)?;
