@@ -3,4 +3,5 @@ pub mod Moves
 pub mod NewMasks
 pub mod Standing
 pub mod StepByStep
-mod Unmoved
+pub mod Moving
+pub mod Unmoved

@@ -1,7 +1,7 @@
 -- Mask, build and change vectors (CCSDS 124.0-B-1), each as a question about the whole history.
-use Rattle.std.specs.Prelude.{◌≡◌, ◌≢◌, ℕ, zero, suc, ◌+◌, ◌-◌, ◌<◌, ◌≤◌, ◌==◌, Bool, false, not, ◌&&◌, ◌||◌, if◌then◌else◌, List, map, reverse, find, unwrap_or, length, replicate, slice_index_or}
+use Rattle.std.specs.Prelude.{◌≡◌, ◌≢◌, ℕ, zero, suc, ◌+◌, ◌-◌, ◌<◌, ◌≤◌, ◌==◌, Bool, false, not, ◌&&◌, ◌||◌, if◌then◌else◌, List, map, reverse, find, unwrap_or, length, replicate, slice_index_or, true, Contains}
 use Rattle.std.specs.List.{range_with_len, list_any}
-use Rattle.std.specs.Bool.{OnTrue}
+use Rattle.std.specs.Bool.{OnFalse, OnTrue}
 use Rattle.bit_vectors.specs.Vectors.{IsVector, xor_bits, or_bits}
 use Rattle.mask_update.specs.Histories.{History, input_at, flags_at, latest_step}
 
@@ -90,13 +90,27 @@ pub record StandsFor (h : History) (value : Running) : Type 0 where
   pub change : value.change ≡ change_at h (latest_step h)
   pub taken : value.taken ≡ length h.steps
 
--- The running vectors have the same length, which is a valid one, and the number of inputs is within its bound. Before
--- the first input there is no change.
+-- What the running vectors become, place by place, if these places move and there is no new mask. What the change had
+-- before stays in it.
+pub record HaveMoved (moves : ℕ → Bool) (old new : Running) : Type 0 where
+  pub previous : (place : ℕ) → slice_index_or new.previous place false ≡ (if slice_index_or old.previous place false then not (moves place) else moves place)
+  pub build : (place : ℕ) → slice_index_or new.build place false ≡ (slice_index_or old.build place false || moves place)
+  pub mask : (place : ℕ) → slice_index_or new.mask place false ≡ (slice_index_or old.mask place false || moves place)
+  pub change : (place : ℕ) → slice_index_or new.change place false ≡ (slice_index_or old.change place false || (moves place && not (slice_index_or old.mask place false)))
+  pub previous_len : length new.previous ≡ length old.previous
+  pub build_len : length new.build ≡ length old.build
+  pub mask_len : length new.mask ≡ length old.mask
+  pub change_len : length new.change ≡ length old.change
+  pub taken : new.taken ≡ old.taken
+
+-- The running vectors have the same length, which is a valid one, and the number of inputs is within its bound. It is
+-- known whether there is a change; before the first input there is none.
 pub record AreRunning (previous build mask change : List Bool) (still : Bool) (taken : ℕ) : Type 0 where
   pub vector : IsVector mask
   pub previous_len : length previous ≡ length mask
   pub build_len : length build ≡ length mask
   pub change_len : length change ≡ length mask
   pub no_change : OnTrue still (change ≡ replicate (length mask) false)
+  pub some_change : OnFalse still (Contains change true)
   pub most : taken ≤ 4294967296
   pub start : taken ≡ 0 → change ≡ replicate (length mask) false

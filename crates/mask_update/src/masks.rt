@@ -1,9 +1,12 @@
 //! The running vectors.
 
-ghost use Rattle.std.specs.Prelude.{◌≡◌, ◌+◌, ◌<◌, ◌≤◌, false, length, replicate, IfOk};
+ghost use Rattle.std.specs.Prelude.{◌≡◌, ◌+◌, ◌-◌, ◌*◌, ◌/◌, ◌%◌, ◌<◌, ◌≤◌, ◌==◌, ◌&&◌, ◌↔◌, nat_le, nat_lt, true, false, length, replicate, slice_index_or, Contains, IsTrue, IfOk};
+ghost use Rattle.std.specs.Bool.{OnFalse, OnTrue};
+ghost use Rattle.std.specs.Int.{bit_at};
 ghost use Rattle.mask_update.specs.Histories.{History, Step, latest_step, no_steps, with_step};
-ghost use Rattle.bit_vectors.specs.Vectors.{IsVector, xor_bits};
-ghost use Rattle.mask_update.specs.Masks.{StandsFor, build_at, change_at, mask_at, next_build, next_mask};
+ghost use Rattle.bit_vectors.specs.Vectors.{IsVector, NoneIsOne, or_bits, xor_bits};
+ghost use Rattle.bit_vectors.specs.Words.{word_count, HasNoSpareBit};
+ghost use Rattle.mask_update.specs.Masks.{HaveMoved, StandsFor, build_at, change_at, mask_at, next_build, next_mask};
 
 use bit_vectors::{Bits, NoMemory};
 use std::alloc::Global;
@@ -18,7 +21,7 @@ pub struct Masks {
     build: Bits,
     mask: Bits,
     change: Bits,
-    /// The change has no 1 if this is true. It may also have none if this is false.
+    /// The change has no 1.
     still: bool,
     taken: u64,
 }
@@ -62,8 +65,9 @@ impl Masks {
     }
 
     /// Takes the next input, which has as many places as the mask. With `new_mask` the mask becomes the build
-    /// vector; the first input can't ask for that.
-    pub fn step(&mut self, input: &Bits, new_mask: bool)
+    /// vector; the first input can't ask for that. Returns whether it is the previous input once more, with no new
+    /// mask: then the mask is kept.
+    pub fn step(&mut self, input: &Bits, new_mask: bool) -> bool
         requires places { length input.now ≡ length self.old.mask }
         requires most { self.old.taken < 4294967296 }
         requires first { self.old.taken ≡ 0 → new_mask ≡ false }
@@ -74,19 +78,26 @@ impl Masks {
         // The first input changes nothing.
         ensures first { self.old.taken ≡ 0
             → self.new.change ≡ replicate (length self.new.mask) false }
+        ensures again { IsTrue result
+            ↔ ((0 < self.old.taken) × (new_mask ≡ false) × (self.old.previous ≡ input.now)) }
+        ensures kept { OnTrue result (self.new.mask ≡ self.old.mask) }
+        ensures previous { self.new.previous ≡ input.now }
         ensures places { length self.new.mask ≡ length self.old.mask }
         ensures taken { self.new.taken ≡ self.old.taken + 1 }
     {
-        if self.taken > 0 {
-            self.advance(input, new_mask);
+        let again = if self.taken > 0 {
+            self.advance(input, new_mask)
         } else {
             self.previous.copy_from(input);
-        }
+            false
+        };
         self.taken += 1;
+        again
     }
 
-    /// The standard's recurrences. An input equal to the previous one, with no new mask, keeps mask and build.
-    fn advance(&mut self, input: &Bits, new_mask: bool)
+    /// The standard's recurrences. Without a new mask only the words that changed are written. An input equal to the
+    /// previous one, with no new mask, keeps mask and build: returns whether it is so.
+    fn advance(&mut self, input: &Bits, new_mask: bool) -> bool
         requires places { length input.now ≡ length self.old.mask }
         requires some { 0 < self.old.taken }
         ensures build { let moved = xor_bits self.old.previous input.now in
@@ -95,35 +106,113 @@ impl Masks {
             self.new.mask ≡ next_mask new_mask moved self.old.build self.old.mask }
         ensures change { self.new.change ≡ xor_bits self.old.mask self.new.mask }
         ensures previous { self.new.previous ≡ input.now }
+        ensures again { IsTrue result ↔ ((new_mask ≡ false) × (self.old.previous ≡ input.now)) }
         ensures places { length self.new.mask ≡ length self.old.mask }
         ensures taken { self.new.taken ≡ self.old.taken }
     {
         if !new_mask && self.previous.same(input) {
-            self.stay();
-            return;
+            self.clear_change();
+            return true;
         }
-        self.still = false;
+        if !new_mask {
+            self.move_places(input);
+            return false;
+        }
         self.previous.xor_in(input);
         self.change.copy_from(&self.mask);
-        if new_mask {
-            self.mask.copy_from(&self.build);
-            self.build.clear();
-        } else {
-            self.build.or_in(&self.previous);
-        }
+        self.mask.copy_from(&self.build);
+        self.build.clear();
         self.mask.or_in(&self.previous);
         self.change.xor_in(&self.mask);
         self.previous.copy_from(input);
+        self.still = self.change.is_zero();
+        false
     }
 
-    /// Nothing changed.
-    fn stay(&mut self)
+    fn clear_change(&mut self)
         ensures { self.new ≡ record self.old { change = replicate (length self.old.mask) false } }
     {
         if !self.still {
             self.change.clear();
             self.still = true;
         }
+    }
+
+    /// The recurrences without a new mask, in one walk. Words are compared eight at a time.
+    fn move_places(&mut self, input: &Bits)
+        requires places { length input.now ≡ length self.old.mask }
+        requires some { 0 < self.old.taken }
+        ensures build { let moved = xor_bits self.old.previous input.now in
+            self.new.build ≡ or_bits self.old.build moved }
+        ensures mask { let moved = xor_bits self.old.previous input.now in
+            self.new.mask ≡ or_bits self.old.mask moved }
+        ensures change { self.new.change ≡ xor_bits self.old.mask self.new.mask }
+        ensures previous { self.new.previous ≡ input.now }
+        ensures places { length self.new.mask ≡ length self.old.mask }
+        ensures taken { self.new.taken ≡ self.old.taken }
+    {
+        self.clear_change();
+        let count = self.mask.word_count();
+        for block in 0..count / 8 {
+            let from = 8 * block;
+            let to = from + 8;
+            if !self.is_unmoved(input, from, to) {
+                self.move_words(input, from, to);
+            }
+        }
+        self.move_words(input, count / 8 * 8, count);
+    }
+
+    /// Whether the input differs from the previous one in none of the words from `from` up to, but not including, `to`.
+    fn is_unmoved(&self, input: &Bits, from: u32, to: u32) -> bool
+        requires places { length input.now ≡ length self.now.mask }
+        requires order { from ≤ to }
+        requires to { to ≤ word_count (length self.now.mask) }
+        ensures { let moved = xor_bits self.now.previous input.now in
+            IsTrue result ↔ NoneIsOne moved (64 * from) (64 * to) }
+    {
+        let mut any = 0;
+        for index in from..to {
+            any |= self.previous.word(index) ^ input.word(index);
+        }
+        any == 0
+    }
+
+    /// Moves the places of the words from `from` up to, but not including, `to` at which the input differs from the
+    /// previous one.
+    fn move_words(&mut self, input: &Bits, from: u32, to: u32)
+        requires places { length input.now ≡ length self.old.mask }
+        requires some { 0 < self.old.taken }
+        requires order { from ≤ to }
+        requires to { to ≤ word_count (length self.old.mask) }
+        ensures { let moved = xor_bits self.old.previous input.now in
+            HaveMoved (λ place. nat_le from (place / 64) && (nat_lt (place / 64) to
+            && slice_index_or moved place false)) self.old self.new }
+    {
+        for index in from..to {
+            let moved = self.previous.word(index) ^ input.word(index);
+            if moved != 0 {
+                self.move_word(index, moved);
+            }
+        }
+    }
+
+    /// Moves the places that are 1 in the word `moved` with this number.
+    fn move_word(&mut self, index: u32, moved: u64)
+        requires some { 0 < self.old.taken }
+        requires index { index < word_count (length self.old.mask) }
+        requires spare { HasNoSpareBit (length self.old.mask) index moved }
+        ensures { HaveMoved (λ place. (place / 64 == index) && (bit_at moved (63 - place % 64) == 1))
+            self.old self.new }
+    {
+        let mask = self.mask.word(index);
+        let fresh = moved & !mask;
+        self.previous
+            .set_word(index, self.previous.word(index) ^ moved);
+        self.build.set_word(index, self.build.word(index) | moved);
+        self.mask.set_word(index, mask | moved);
+        self.change.set_word(index, self.change.word(index) | fresh);
+        self.still = self.still && fresh == 0;
     }
 
     /// The mask vector: 1 at the places that are not predictable. Before the first input it is the first mask.
@@ -154,6 +243,14 @@ impl Masks {
         ensures places { length result.now ≡ length self.now.mask }
     {
         &self.change
+    }
+
+    /// Whether the latest input did not change the mask.
+    pub fn is_still(&self) -> bool
+        ensures zero { OnTrue result (self.now.change ≡ replicate (length self.now.change) false) }
+        ensures some { OnFalse result (Contains self.now.change true) }
+    {
+        self.still
     }
 
     /// The number of inputs taken, at most 4,294,967,296.

@@ -92,3 +92,16 @@ pub form_bits-most : (f : ℕ) (form : Form) → 1 ≤ f → f ≤ 49152 → len
 unfolding form_bits
 form_bits-most f form some most recent_len sent_len len =
     omega (arith, length-append (change_bits form) (data_bits form.sent form.content), change_bits-most form, data_bits-most f form.sent form.content some most sent_len len)
+
+pub form_bits-some : (form : Form) → 0 < length (form_bits form)
+unfolding form_bits change_bits
+form_bits-some form =
+    let there = list_any (λ bit. bit) form.recent && nat_lt 0 form.level in
+    let rest = cond there (direction_bits form.recent form.directions) [] in
+    omega (
+      arith,
+      length-append (change_bits form) (data_bits form.sent form.content),
+      length-append (run_bits form.recent) (number_bits 4 form.level ++ rest),
+      length-append (number_bits 4 form.level) rest,
+      length-number_bits 4 form.level,
+    )

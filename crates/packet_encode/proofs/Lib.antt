@@ -3,3 +3,4 @@ pub mod Directions
 pub mod Earlier
 pub mod Deliveries
 pub mod OfHistories
+pub mod Plain

@@ -1,9 +1,9 @@
 //! Worked packets, through the encoder.
 
-ghost use Rattle.std.specs.Prelude.{◌≡◌, ◌+◌, ◌*◌, ◌≤◌, length};
+ghost use Rattle.std.specs.Prelude.{◌≡◌, ◌≤◌, length};
 
-use crate::{Encoder, room};
-use bit_vectors::{BitPen, Bits, Flags, NoMemory, byte_len};
+use crate::Encoder;
+use bit_vectors::{Bits, Flags, NoMemory, byte_len};
 use std::alloc::Global;
 use std::test::Fail;
 
@@ -25,17 +25,15 @@ const WHOLE: Flags = Flags {
     r: true,
 };
 
-/// An encoder with its input and its pen.
+/// An encoder with its input.
 #[derive(Drop)]
 struct Sender {
     encoder: Encoder,
     input: Bits,
-    pen: BitPen,
     robust: u8,
     is_ready: bool,
     ghost most: { robust ≤ 7 },
     ghost places: { length input ≡ length encoder.masks.mask },
-    ghost room: { 10 * length input + 43 ≤ pen.room },
 }
 
 impl Sender {
@@ -47,7 +45,6 @@ impl Sender {
         Ok(Sender {
             encoder: Encoder::open(alloc, places, &input)?,
             input,
-            pen: BitPen::with_room(alloc, room(places))?,
             robust: robust.min(7),
             is_ready,
         })
@@ -62,10 +59,8 @@ impl Sender {
         {
             return false;
         }
-        self.pen.clear();
-        self.encoder
-            .encode(&self.input, flags, self.robust, &mut self.pen);
-        self.pen.bytes() == data
+        self.encoder.encode(&self.input, flags, self.robust);
+        self.encoder.bytes() == data
     }
 }
 
@@ -120,6 +115,27 @@ fn not_robust(alloc: Global) -> Result<bool, NoMemory> {
     )
 }
 
+// Equal inputs: the level rises to 15, and from then on each packet is the one before, but if the input changes at a place
+// of the mask, if mask and whole content are sent, and after that.
+fn equal_inputs(alloc: Global) -> Result<bool, NoMemory> {
+    let mut sender = Sender::open(alloc, 8, 0, &[0x0F])?;
+    let mut is_right = sender.packs(&[0xA6], NONE, &[0x81, 0x61, 0x5C, 0x6A, 0x60]);
+    for level in 1..16 {
+        is_right = is_right && sender.packs(&[0xA6], NONE, &[0x82 | level << 2, 0xC0]);
+    }
+    Ok(
+        is_right
+            && sender.packs(&[0xA6], NONE, &[0xBE, 0xC0])
+            && sender.packs(&[0xA6], NONE, &[0xBE, 0xC0])
+            && sender.packs(&[0xA7], NONE, &[0xBF, 0xC0])
+            && sender.packs(&[0xA7], NONE, &[0xBF, 0xC0])
+            && sender.packs(&[0xA6], NONE, &[0xBE, 0xC0])
+            && sender.packs(&[0xA6], WHOLE, &[0xBD, 0x61, 0x5C, 0x6A, 0x60])
+            && sender.packs(&[0xA6], NONE, &[0xBE, 0xC0])
+            && sender.packs(&[0xA6], NONE, &[0xBE, 0xC0]),
+    )
+}
+
 // One place, and thirteen.
 fn other_lengths(alloc: Global) -> Result<bool, NoMemory> {
     let mut one = Sender::open(alloc, 1, 0, &[0x00])?;
@@ -138,6 +154,7 @@ fn worked_packets(rt: HostRuntime) -> Result<(), Fail> {
     assert!(rt; new_masks(rt.alloc())?);
     assert!(rt; whole_again(rt.alloc())?);
     assert!(rt; not_robust(rt.alloc())?);
+    assert!(rt; equal_inputs(rt.alloc())?);
     assert!(rt; other_lengths(rt.alloc())?);
     Ok(())
 }
@@ -147,15 +164,11 @@ fn worked_packets(rt: HostRuntime) -> Result<(), Fail> {
 fn longest_vectors(rt: HostRuntime) -> Result<(), Fail> {
     let mut input = Bits::zeros(rt.alloc(), 49_152)?;
     let mut encoder = Encoder::open(rt.alloc(), 49_152, &input)?;
-    let mut pen = BitPen::with_room(rt.alloc(), room(49_152))?;
-    encoder.encode(&input, NONE, 0, &mut pen);
-    assert_eq!(rt; pen.len(), 49_192);
-    assert_eq!(rt; pen.bytes().len(), 6_149);
+    encoder.encode(&input, NONE, 0);
+    assert_eq!(rt; encoder.bytes().len(), 6_149);
     let bytes = vec![in rt.alloc(); 0xAA; 6_144]?;
     assert!(rt; input.load(&bytes).is_ok());
-    pen.clear();
-    encoder.encode(&input, WHOLE, 0, &mut pen);
-    assert_eq!(rt; pen.len(), 294_959);
-    assert_eq!(rt; pen.bytes().len(), 36_870);
+    encoder.encode(&input, WHOLE, 0);
+    assert_eq!(rt; encoder.bytes().len(), 36_870);
     Ok(())
 }

@@ -1,7 +1,7 @@
 -- The marks of the latest sixteen steps, and the changes that are marked.
 use Rattle.std.proofs.Common.{◌≡◌, ℕ, zero, suc, ◌+◌, ◌-◌, ◌*◌, ◌/◌, ◌%◌, ◌^◌, ◌<◌, ◌≤◌, Bool, true, false, cond, eqb, if◌then◌else◌, List, [], ◌∷◌, ◌++◌, length, drop, replicate, get_or, bit_or, count_ones, w16, refl, sym, ap, ◌∙◌, inl, inr, arith, add-one, subst}
-use Rattle.std.specs.Prelude.{Contains, IsTrue, not, ◌↔◌}
-use Rattle.std.specs.Bool.{OnFalse}
+use Rattle.std.specs.Prelude.{Contains, not}
+use Rattle.std.specs.Bool.{OnFalse, OnTrue}
 use Rattle.std.specs.Int.{bit_at, trailing_zeros}
 use Rattle.std.specs.Int.Count.{trailing_of_zero}
 use Rattle.std.specs.List.{count_by, range_with_len}
@@ -185,8 +185,8 @@ pub changes_of-quiet : (f n : ℕ) (slots : List (List Bool)) (back : ℕ) → l
 changes_of-quiet f n slots back len lt set = changes_of-back f n slots back len lt ∙ ap (λ (b : Bool). if b then change_back slots back else replicate f false) set
 
 -- whether a change is marked
-pub unmarked_zeros : (zero : Bool) (change : List Bool) → IsTrue zero ↔ (change ≡ replicate (length change) false) → not zero ≡ false → change ≡ replicate (length change) false
-unmarked_zeros true change zeros quiet = zeros.0 refl
+pub unmarked_zeros : (zero : Bool) (change : List Bool) → OnTrue zero (change ≡ replicate (length change) false) → not zero ≡ false → change ≡ replicate (length change) false
+unmarked_zeros true change zeros quiet = zeros
 unmarked_zeros false change zeros quiet = let other : true ≡ false = quiet in cc
 
 pub marked_one : (zero : Bool) (change : List Bool) → OnFalse zero (Contains change true) → not zero ≡ true → Contains change true

@@ -71,10 +71,13 @@ impl Window {
         })
     }
 
-    /// Takes the change of the mask at the next step, whether it takes a new mask, and the required robustness of its
-    /// packet, at most 7. The first step does not change the mask and takes no new one.
-    pub fn step(&mut self, change: &Bits, new_mask: bool, robust: u8)
+    /// Takes the change of the mask at the next step, which has no 1 exactly if `still` says so, whether the step takes a
+    /// new mask, and the required robustness of its packet, at most 7. The first step does not change the mask and
+    /// takes no new one.
+    pub fn step(&mut self, change: &Bits, still: bool, new_mask: bool, robust: u8)
         requires places { length change.now ≡ length self.old.recent }
+        requires zero { OnTrue still (change.now ≡ replicate (length change.now) false) }
+        requires some { OnFalse still (Contains change.now true) }
         requires most { self.old.taken < 4294967296 }
         requires first_change { self.old.taken ≡ 0
             → change.now ≡ replicate (length change.now) false }
@@ -88,7 +91,7 @@ impl Window {
         ensures taken { self.new.taken ≡ self.old.taken + 1 }
     {
         let most = self.taken.min(MOST_LEVEL) as u8;
-        let changed = !change.is_zero();
+        let changed = !still;
         scan::push_change(&mut self.changes, change, changed);
         self.changed = marks::pushed(self.changed, changed);
         self.new_masks = marks::pushed(self.new_masks, new_mask);

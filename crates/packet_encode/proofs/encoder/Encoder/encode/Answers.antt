@@ -1,102 +1,194 @@
-use Rattle.std.proofs.Common.{◌≡◌, ℕ, ◌<◌, ◌++◌, length, cond, refl, ap, sym, ◌∙◌, subst, arith}
+use Rattle.std.proofs.Common.{◌≡◌, ℕ, ◌+◌, ◌*◌, ◌<◌, ◌≤◌, true, false, length, replicate, Option, Some, None, refl, ap, sym, ◌∙◌, subst, arith}
+use Rattle.std.specs.Prelude.{IfSome}
+use Rattle.std.proofs.lemmas.Bool.{OnTrue_at, false≢true}
 use Rattle.bit_vectors.specs.declared.flags.Flags.{Flags}
-use Rattle.bit_vectors.specs.Vectors.{or_bits, padded}
+use Rattle.bit_vectors.specs.Vectors.{padded}
 use Rattle.mask_update.specs.Histories.{History, Step, flags_after, flags_at, input_at, latest_step, step_at, step_of}
-use Rattle.mask_update.specs.Masks.{change_at, mask_at}
+use Rattle.mask_update.specs.Masks.{Running, change_at, mask_at}
 use Rattle.mask_update.specs.Masks.{StandsFor as MasksStandFor}
 use Rattle.mask_update.proofs.Standing.{latest_step-with_step, step_at-last}
 use Rattle.robust_window.specs.Changes.{latest_change, level_of, recent_of, twice_of}
 use Rattle.robust_window.specs.Histories.{level_at, mask_step_at, mask_steps, recent_at, twice_at}
+use Rattle.robust_window.specs.Window.{WindowState}
 use Rattle.robust_window.specs.Window.{StandsFor as WindowStandsFor}
 use Rattle.robust_window.proofs.Earlier.{latest_change-is, mask_steps-push}
-use Rattle.packet_encode.specs.Encoder.{EncoderState, StandsFor}
-use Rattle.packet_encode.specs.Forms.{change_bits, data_bits, form_bits}
-use Rattle.packet_encode.specs.Packets.{sent_content, form_at, form_of, sent_of, with_next_input}
-use Rattle.packet_encode.proofs.OfHistories.{form_of-most, form_of-same, written_is}
+use Rattle.packet_encode.specs.Encoder.{EncoderState, StandsFor, no_flags, plain_form}
+use Rattle.packet_encode.specs.Forms.{Form, form_bits}
+use Rattle.packet_encode.specs.Packets.{form_at, form_of, with_next_input}
+use Rattle.packet_encode.proofs.Bounds.{form_bits-some}
+use Rattle.packet_encode.proofs.OfHistories.{form_of-most, form_of-same}
+use Rattle.packet_encode.proofs.Plain.{plain_form-is}
 use Rattle.packet_encode.proofs.encoder.Encoder.encode.Goals as goal
+use Rattle.packet_encode.proofs.encoder.Encoder.encode.Goals.{After-plain_level-plain, then-again, else-again}
 
-abbrev step : goal.After-put_data → History → Step
-step c h = step_of (λ _. c.args.flags) (λ _. c.args.robust) (length h.steps, c.args.input.now)
+module _ (c : After-plain_level-plain) where
+  abbrev masks : Running
+  masks = c.step-again.new.self
 
-abbrev after : goal.After-put_data → History → History
-after c h = with_next_input h c.args.robust c.args.input.now c.args.flags
+  abbrev window : WindowState
+  window = c.step.new.self
 
-flags_are : (c : goal.After-put_data) (h : History) → StandsFor h c.args.self.now → flags_after c.args.robust (length h.steps) c.args.flags ≡ c.forced-flags.result
-flags_are c h stands = ap (λ n. flags_after c.args.robust n c.args.flags) (sym stands.masks.taken) ∙ sym c.forced-flags.ensures
+  -- the form of the packet
+  abbrev form : Form
+  form = form_of masks.mask window.recent window.level window.twice c.args.input.now c.forced-flags.result
 
-masks_stand : (c : goal.After-put_data) (h : History) → StandsFor h c.args.self.now → MasksStandFor (after c h) c.step.new.self
-masks_stand c h stands =
-    c.step.ensures.stands h (step c h) (subst (λ (e : EncoderState). MasksStandFor h e.masks) (sym c.self.view_is) stands.masks) refl (ap (λ (f : Flags). f.p) (flags_are c h stands))
+  same_places : length masks.mask ≡ length c.self.inside.masks.mask
+  same_places = c.step-again.ensures.places
 
-latest : (c : goal.After-put_data) (h : History) → latest_step (after c h) ≡ length h.steps
-latest c h = latest_step-with_step h (step c h)
+  mask_len : length masks.mask ≡ length c.args.input.now
+  mask_len = same_places ∙ ap (λ (e : EncoderState). length e.masks.mask) c.self.view_is ∙ sym c.requires.places
 
-last : (c : goal.After-put_data) (h : History) → step_at (after c h) (length h.steps) ≡ step c h
-last c h = step_at-last h (step c h)
+  recent_len : length window.recent ≡ length masks.mask
+  recent_len = c.step.ensures.places ∙ c.self.invariant.places ∙ sym same_places
 
-window_stands : (c : goal.After-put_data) (h : History) → StandsFor h c.args.self.now → WindowStandsFor (mask_steps (after c h)) c.step-2.new.self
-window_stands c h stands =
-    subst (λ steps. WindowStandsFor steps c.step-2.new.self) (sym (mask_steps-push h (step c h)))
-    (c.step-2.ensures.stands (mask_steps h) (mask_step_at (after c h) (length h.steps))
-    (subst (λ (e : EncoderState). WindowStandsFor (mask_steps h) e.window) (sym c.self.view_is) stands.window)
-    (sym (c.change.ensures.change (after c h) (masks_stand c h stands) ∙ ap (change_at (after c h)) (latest c h)))
-    (ap (λ (s : Step). s.flags.p) (last c h) ∙ ap (λ (f : Flags). f.p) (flags_are c h stands))
-    (ap (λ (s : Step). s.robust) (last c h)))
+  module _ (h : History) (stands : StandsFor h c.args.self.now) where
+    abbrev step : Step
+    step = step_of (λ _. c.args.flags) (λ _. c.args.robust) (length h.steps, c.args.input.now)
 
--- the bits that were written are those of a form
-written : (c : goal.After-put_data) → c.put_data.new.pen.bits ≡ form_bits (form_of c.step.new.self.mask c.step-2.new.self.recent c.step-2.new.self.level c.step-2.new.self.twice c.args.input.now c.forced-flags.result)
-written c =
-    written_is c.put_data.new.pen.bits c.put_changes-wide.new.pen.bits c.mask-mask.result.now c.step-2.new.self.recent c.step-2.new.self.level c.step-2.new.self.twice c.args.input.now c.forced-flags.result c.put_changes-wide.result
-    (c.put_changes-wide.ensures.bits (form_of c.mask-mask.result.now c.step-2.new.self.recent c.step-2.new.self.level c.step-2.new.self.twice c.args.input.now c.forced-flags.result) refl refl refl
-    ∙ ap (λ bits. bits ++ change_bits (form_of c.mask-mask.result.now c.step-2.new.self.recent c.step-2.new.self.level c.step-2.new.self.twice c.args.input.now c.forced-flags.result)) c.requires.empty)
-    c.put_changes-wide.ensures.wide
-    (c.put_data.ensures.bits
-    ∙ ap (λ v. c.put_changes-wide.new.pen.bits ++ data_bits (sent_of c.forced-flags.result.f c.mask-mask.result.now) (sent_content c.forced-flags.result.r c.args.input.now (cond c.put_changes-wide.result (or_bits c.mask-mask.result.now v) c.mask-mask.result.now)))
-    c.recent-recent.ensures.kept)
-    ∙ ap (λ v. form_bits (form_of v c.step-2.new.self.recent c.step-2.new.self.level c.step-2.new.self.twice c.args.input.now c.forced-flags.result)) c.mask-mask.ensures.kept
+    abbrev after : History
+    after = with_next_input h c.args.robust c.args.input.now c.args.flags
 
-pub returns-clause-stands : goal.returns-clause-stands
-returns-clause-stands c = λ h stands. record { masks = masks_stand c h stands; window = window_stands c h stands }
-
--- the form is that of the history's last step
-bits_are : (c : goal.After-put_data) (h : History) → StandsFor h c.args.self.now → c.put_data.new.pen.bits ≡ form_bits (form_at (after c h) (length h.steps))
-bits_are c h stands = written c ∙ ap form_bits
-    (form_of-same c.step.new.self.mask (mask_at (after c h) t) c.step-2.new.self.recent (recent_at (after c h) t) c.step-2.new.self.level (level_at (after c h) t)
-    c.step-2.new.self.twice (twice_at (after c h) t) c.args.input.now (input_at (after c h) t) c.forced-flags.result (flags_at (after c h) t)
-    (sym c.mask-mask.ensures.kept ∙ c.mask-mask.ensures.mask (after c h) (masks_stand c h stands) ∙ ap (mask_at (after c h)) (latest c h))
-    (window.recent some ∙ ap (recent_of (mask_steps (after c h))) at)
-    (window.level some ∙ ap (level_of (mask_steps (after c h))) at)
-    (window.twice some ∙ ap (twice_of (mask_steps (after c h))) at)
-    (ap (λ (s : Step). s.input) (sym (last c h)))
-    (sym (flags_are c h stands) ∙ ap (λ (s : Step). s.flags) (sym (last c h))))
-  where
-    t : ℕ
+    abbrev t : ℕ
     t = length h.steps
 
-    window : WindowStandsFor (mask_steps (after c h)) c.step-2.new.self
-    window = window_stands c h stands
+    flags_are : flags_after c.args.robust t c.args.flags ≡ c.forced-flags.result
+    flags_are = ap (λ n. flags_after c.args.robust n c.args.flags) (sym stands.masks.taken) ∙ sym c.forced-flags.ensures
 
-    at : latest_change (mask_steps (after c h)) ≡ t
-    at = latest_change-is (after c h) ∙ latest c h
+    masks_stand : MasksStandFor after masks
+    masks_stand = c.step-again.ensures.stands h step (subst (λ (e : EncoderState). MasksStandFor h e.masks) (sym c.self.view_is) stands.masks) refl (ap (λ (f : Flags). f.p) flags_are)
 
-    some : 0 < length (mask_steps (after c h))
-    some = omega (arith, window.taken, c.step-2.ensures.taken)
+    latest : latest_step after ≡ t
+    latest = latest_step-with_step h step
 
-pub returns-clause-bits : goal.returns-clause-bits
-returns-clause-bits c = bits_are c
+    last : step_at after t ≡ step
+    last = step_at-last h step
 
-pub returns-clause-packet : goal.returns-clause-packet
-returns-clause-packet c = λ h stands. ap padded (bits_are c h stands)
+    window_stands : WindowStandsFor (mask_steps after) window
+    window_stands =
+        subst (λ steps. WindowStandsFor steps window) (sym (mask_steps-push h step))
+        (c.step.ensures.stands (mask_steps h) (mask_step_at after t)
+        (subst (λ (e : EncoderState). WindowStandsFor (mask_steps h) e.window) (sym c.self.view_is) stands.window)
+        (sym (c.change.ensures.change after masks_stand ∙ ap (change_at after) latest))
+        (ap (λ (s : Step). s.flags.p) last ∙ ap (λ (f : Flags). f.p) flags_are)
+        (ap (λ (s : Step). s.robust) last))
 
-pub returns-clause-most : goal.returns-clause-most
-returns-clause-most c =
-    let mask_len : length c.step.new.self.mask ≡ length c.args.input.now =
-    c.step.ensures.places ∙ ap (λ (e : EncoderState). length e.masks.mask) c.self.view_is ∙ sym c.requires.places in
-    let recent_len : length c.step-2.new.self.recent ≡ length c.args.input.now =
-    c.step-2.ensures.places ∙ c.self.invariant.places ∙ ap (λ (e : EncoderState). length e.masks.mask) c.self.view_is ∙ sym c.requires.places in
-    omega (
-      arith,
-      ap length (written c),
-      form_of-most c.step.new.self.mask c.step-2.new.self.recent c.step-2.new.self.level c.step-2.new.self.twice c.args.input.now c.forced-flags.result (length c.args.input.now)
-          (omega (arith, c.mask-mask.ensures.vector.0, ap length c.mask-mask.ensures.kept)) (omega (arith, c.mask-mask.ensures.vector.1, ap length c.mask-mask.ensures.kept)) mask_len recent_len refl,
-    )
+    -- it is that of the history's last step
+    form_is : form ≡ form_at after t
+    form_is =
+        form_of-same masks.mask (mask_at after t) window.recent (recent_at after t) window.level (level_at after t)
+        window.twice (twice_at after t) c.args.input.now (input_at after t) c.forced-flags.result (flags_at after t)
+        (masks_stand.mask ∙ ap (mask_at after) latest)
+        (window_stands.recent some ∙ ap (recent_of (mask_steps after)) at)
+        (window_stands.level some ∙ ap (level_of (mask_steps after)) at)
+        (window_stands.twice some ∙ ap (twice_of (mask_steps after)) at)
+        (ap (λ (s : Step). s.input) (sym last))
+        (sym flags_are ∙ ap (λ (s : Step). s.flags) (sym last))
+      where
+        at : latest_change (mask_steps after) ≡ t
+        at = latest_change-is after ∙ latest
+
+        some : 0 < length (mask_steps after)
+        some = omega (arith, window_stands.taken, c.step.ensures.taken)
+
+  most : length (form_bits form) ≤ 10 * length c.args.input.now + 43
+  most =
+      omega (
+        arith,
+        form_of-most masks.mask window.recent window.level window.twice c.args.input.now c.forced-flags.result (length c.args.input.now)
+            (omega (arith, c.self.invariant.vector.0, same_places, mask_len)) (omega (arith, c.self.invariant.vector.1, same_places, mask_len)) mask_len (recent_len ∙ mask_len) refl,
+      )
+
+  -- if it is plain
+  plain : (n : ℕ) → c.plain_level-plain.result ≡ Some n → form ≡ plain_form masks n
+  plain n is =
+      let level = (c.plain_level-plain.ensures n).0 is in
+      plain_form-is masks masks.mask window.recent window.level window.twice c.args.input.now c.forced-flags.result n level.0 level.1 level.2 level.3 refl (sym c.step-again.ensures.previous) recent_len
+
+  -- if it comes again, the pen has it already
+  kept : c.step-again.result ≡ true → (n : ℕ) → c.plain_level-plain.result ≡ Some n → c.self.inside.plain ≡ Some n → c.self.inside.pen.bits ≡ form_bits form
+  kept again n is was =
+      let mask = OnTrue_at again c.step-again.ensures.kept in
+      let previous = (c.step-again.ensures.again.0 again).2 ∙ sym c.step-again.ensures.previous in
+      subst (λ level. IfSome level (λ k. c.self.inside.pen.bits ≡ form_bits (plain_form c.self.inside.masks k))) was c.self.invariant.bits
+      ∙ (λ i. form_bits (form_of (sym mask i) (replicate (length (sym mask i)) false) n false (previous i) no_flags))
+      ∙ ap form_bits (sym (plain n is))
+
+-- it was written
+written : (c : goal.After-write_packet) → c.write_packet.new.pen.bits ≡ form_bits (form (goal.at.invariant_of-self c).After-plain_level-plain)
+written c = c.write_packet.ensures.bits
+
+pub invariant_of-self : goal.invariant_of-self
+invariant_of-self c =
+    let d = (goal.at.invariant_of-self c).After-plain_level-plain in
+    record {
+      vector = (omega (arith, c.self.invariant.vector.0, same_places d), omega (arith, c.self.invariant.vector.1, same_places d));
+      places = recent_len d;
+      taken = c.step.ensures.taken ∙ ap (λ n. n + 1) c.self.invariant.taken ∙ sym c.step-again.ensures.taken;
+      spare_places = c.write_packet.ensures.spare ∙ c.self.invariant.spare_places ∙ sym (same_places d);
+      room = c.write_packet.ensures.room ∙ c.self.invariant.room ∙ ap (λ n. 10 * n + 43) (sym (same_places d));
+      bits = bits_in c.plain_level-plain.result refl;
+    }
+  where
+    bits_in : (level : Option ℕ) → c.plain_level-plain.result ≡ level → IfSome level (λ n. c.write_packet.new.pen.bits ≡ form_bits (plain_form c.step-again.new.self n))
+    bits_in None is = tt
+    bits_in (Some n) is = written c ∙ ap form_bits (plain (goal.at.invariant_of-self c).After-plain_level-plain n is)
+
+pub returns-then-not-is_level-clause-stands : goal.returns-then-not-is_level-clause-stands
+returns-then-not-is_level-clause-stands c = λ h stands.
+    let d = (goal.at.returns-then-not-is_level-clause-stands c).After-plain_level-plain in
+    record { masks = masks_stand d h stands; window = window_stands d h stands }
+
+pub returns-then-not-is_level-clause-bits : goal.returns-then-not-is_level-clause-bits
+returns-then-not-is_level-clause-bits c = λ h stands.
+    let d = (goal.at.returns-then-not-is_level-clause-bits c).After-plain_level-plain in
+    written c ∙ ap form_bits (form_is d h stands)
+
+pub returns-then-not-is_level-clause-packet : goal.returns-then-not-is_level-clause-packet
+returns-then-not-is_level-clause-packet c = λ h stands.
+    let d = (goal.at.returns-then-not-is_level-clause-packet c).After-plain_level-plain in
+    ap padded (written c ∙ ap form_bits (form_is d h stands))
+
+pub returns-then-not-is_level-clause-some : goal.returns-then-not-is_level-clause-some
+returns-then-not-is_level-clause-some c =
+    let d = (goal.at.returns-then-not-is_level-clause-some c).After-plain_level-plain in
+    omega (arith, ap length (written c), form_bits-some (form d))
+
+pub returns-then-not-is_level-clause-most : goal.returns-then-not-is_level-clause-most
+returns-then-not-is_level-clause-most c =
+    let d = (goal.at.returns-then-not-is_level-clause-most c).After-plain_level-plain in
+    omega (arith, ap length (written c), most d)
+
+-- the pen has it already
+given : (c : goal.Else-not-is_level) → c.self.inside.pen.bits ≡ form_bits (form (goal.at.returns-else-not-is_level-clause-bits c).After-plain_level-plain)
+given c =
+    elim c.if-again.branch [
+      | then-again w ↦
+          let is = w.is_level.ensures.0 (sym w.value-is ∙ c.if-not-is_level.false) in
+          kept (goal.at.returns-else-not-is_level-clause-bits c).After-plain_level-plain w.if-again.true is.0 is.1 is.2
+      | else-again w ↦ absurd (false≢true (sym w.if-again.false ∙ sym w.value-is ∙ c.if-not-is_level.false))
+    ]
+
+pub returns-else-not-is_level-clause-stands : goal.returns-else-not-is_level-clause-stands
+returns-else-not-is_level-clause-stands c = λ h stands.
+    let d = (goal.at.returns-else-not-is_level-clause-stands c).After-plain_level-plain in
+    record { masks = masks_stand d h stands; window = window_stands d h stands }
+
+pub returns-else-not-is_level-clause-bits : goal.returns-else-not-is_level-clause-bits
+returns-else-not-is_level-clause-bits c = λ h stands.
+    let d = (goal.at.returns-else-not-is_level-clause-bits c).After-plain_level-plain in
+    given c ∙ ap form_bits (form_is d h stands)
+
+pub returns-else-not-is_level-clause-packet : goal.returns-else-not-is_level-clause-packet
+returns-else-not-is_level-clause-packet c = λ h stands.
+    let d = (goal.at.returns-else-not-is_level-clause-packet c).After-plain_level-plain in
+    ap padded (given c ∙ ap form_bits (form_is d h stands))
+
+pub returns-else-not-is_level-clause-some : goal.returns-else-not-is_level-clause-some
+returns-else-not-is_level-clause-some c =
+    let d = (goal.at.returns-else-not-is_level-clause-some c).After-plain_level-plain in
+    omega (arith, ap length (given c), form_bits-some (form d))
+
+pub returns-else-not-is_level-clause-most : goal.returns-else-not-is_level-clause-most
+returns-else-not-is_level-clause-most c =
+    let d = (goal.at.returns-else-not-is_level-clause-most c).After-plain_level-plain in
+    omega (arith, ap length (given c), most d)

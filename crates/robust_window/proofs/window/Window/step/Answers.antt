@@ -18,35 +18,35 @@ recent_len c =
 change_len : (c : goal.After-self-6-1) → length c.args.change.now ≡ length c.self.inside.recent
 change_len c = c.requires.places ∙ ap (λ (k : WindowState). length k.recent) (sym c.self.view_is)
 
-slots_are : (c : goal.After-self-6-1) → c.push_change.new.changes.items ≡ drop 1 c.self.inside.changes.items ++ (if not c.is_zero-changed.result then c.args.change.now else change_back c.self.inside.changes.items 15) ∷ []
+slots_are : (c : goal.After-self-6-1) → c.push_change.new.changes.items ≡ drop 1 c.self.inside.changes.items ++ (if not c.args.still then c.args.change.now else change_back c.self.inside.changes.items 15) ∷ []
 slots_are c = ap (λ (b : Buffer (List Bool)). b.items) c.push_change.ensures
 
 -- a change that isn't marked is zero
-quiet_change : (c : goal.After-self-6-1) → not c.is_zero-changed.result ≡ false → c.args.change.now ≡ replicate (length c.self.inside.recent) false
-quiet_change c quiet = unmarked_zeros c.is_zero-changed.result c.args.change.now c.is_zero-changed.ensures.zero quiet ∙ ap (λ (n : ℕ). replicate n false) (change_len c)
+quiet_change : (c : goal.After-self-6-1) → not c.args.still ≡ false → c.args.change.now ≡ replicate (length c.self.inside.recent) false
+quiet_change c quiet = unmarked_zeros c.args.still c.args.change.now c.requires.zero quiet ∙ ap (λ (n : ℕ). replicate n false) (change_len c)
 
 changes_are : (c : goal.After-self-6-1) → let f = length c.self.inside.recent in changes_of f c.pushed-self-inside.result c.push_change.new.changes.items ≡ drop 1 (changes_of f c.self.inside.changed c.self.inside.changes.items) ++ c.args.change.now ∷ []
 changes_are c =
     let f = length c.self.inside.recent in
     let slots = c.self.inside.changes.items in
     ap (changes_of f c.pushed-self-inside.result) (slots_are c)
-    ∙ changes_of-pushed f c.self.inside.changed c.pushed-self-inside.result slots c.args.change.now (change_back slots 15) (not c.is_zero-changed.result) c.self.invariant.slots c.pushed-self-inside.ensures (quiet_change c)
+    ∙ changes_of-pushed f c.self.inside.changed c.pushed-self-inside.result slots c.args.change.now (change_back slots 15) (not c.args.still) c.self.invariant.slots c.pushed-self-inside.ensures (quiet_change c)
 
 pub returns-clause-places : goal.returns-clause-places
 returns-clause-places c = recent_len c ∙ ap (λ (k : WindowState). length k.recent) c.self.view_is
 
 slots_len : (c : goal.After-self-6-1) → length c.push_change.new.changes.items ≡ 16
-slots_len c = ap length (slots_are c) ∙ length-pushed c.self.inside.changes.items (if not c.is_zero-changed.result then c.args.change.now else change_back c.self.inside.changes.items 15) c.self.invariant.slots
+slots_len c = ap length (slots_are c) ∙ length-pushed c.self.inside.changes.items (if not c.args.still then c.args.change.now else change_back c.self.inside.changes.items 15) c.self.invariant.slots
 
 -- a change that is marked has a 1
 pub gather-self-inside-requires-clause-marked : goal.gather-self-inside-requires-clause-marked
 gather-self-inside-requires-clause-marked c =
-    marked-after c.self.inside.changed c.pushed-self-inside.result c.self.inside.changes.items c.push_change.new.changes.items c.args.change.now c.is_zero-changed.result (ap (λ (b : Buffer (List Bool)). b.items) c.push_change.ensures)
-    c.self.invariant.slots c.pushed-self-inside.ensures c.is_zero-changed.ensures.some c.self.invariant.marked
+    marked-after c.self.inside.changed c.pushed-self-inside.result c.self.inside.changes.items c.push_change.new.changes.items c.args.change.now c.args.still (ap (λ (b : Buffer (List Bool)). b.items) c.push_change.ensures)
+    c.self.invariant.slots c.pushed-self-inside.ensures c.requires.some c.self.invariant.marked
 
 marked_are : (c : goal.After-self-6-1) → AreMarked c.pushed-self-inside.result c.push_change.new.changes.items
-marked_are c = marked-after c.self.inside.changed c.pushed-self-inside.result c.self.inside.changes.items c.push_change.new.changes.items c.args.change.now c.is_zero-changed.result (slots_are c) c.self.invariant.slots c.pushed-self-inside.ensures
-    c.is_zero-changed.ensures.some c.self.invariant.marked
+marked_are c = marked-after c.self.inside.changed c.pushed-self-inside.result c.self.inside.changes.items c.push_change.new.changes.items c.args.change.now c.args.still (slots_are c) c.self.invariant.slots c.pushed-self-inside.ensures
+    c.requires.some c.self.invariant.marked
 
 slot_len : (mark : Bool) (change kept : List Bool) (f : ℕ) → length change ≡ f → length kept ≡ f → length (if mark then change else kept) ≡ f
 slot_len true change kept f one other = one
@@ -67,8 +67,8 @@ invariant_of-self c =
       slots = slots_len c;
       places =
           subst (All fits) (sym (slots_are c))
-          (All-pushed fits slots (if not c.is_zero-changed.result then c.args.change.now else kept) places
-          (slot_len (not c.is_zero-changed.result) c.args.change.now kept (length c.gather-self-inside.new.recent) (change_len c ∙ sym same) last));
+          (All-pushed fits slots (if not c.args.still then c.args.change.now else kept) places
+          (slot_len (not c.args.still) c.args.change.now kept (length c.gather-self-inside.new.recent) (change_len c ∙ sym same) last));
       marked = marked_are c;
       zeros_are = c.self.invariant.zeros_are ∙ ap (λ (n : ℕ). replicate n false) (sym same);
       zero = subst (λ (n : ℕ). OnTrue c.gather-self-inside.result (c.gather-self-inside.new.recent ≡ replicate n false)) (sym same) c.gather-self-inside.ensures.zero;
