@@ -8,12 +8,12 @@ import tempfile
 import threading
 
 from rows import COMPRESS, PLAYED, RECORDING, REPORT, STORE, WRITE
-from runner import ended, got, put, wait_for
+from runner import LIMIT, ended, got, put, wait_for
 
 OLD = b"yesterday"
 FROM_PIPE = "compress in=- out=y bits=8 apid=100 robust=1"
 RESTORE_PIPE = "restore in=- out=y report=z bits=8 apid=100"
-# Recordings of packets of 1,024 bits, of which the system gets some of the store before the end.
+# Packets of 1,024 bits, each whole, so that the system gets much of the store before the end.
 MUCH = "compress in=- out=y bits=1024 apid=100 robust=7 plan=s"
 
 
@@ -139,7 +139,7 @@ def wants_memory(runner):
     text is a megabyte more."""
     def limited(words, folder, size):
         limit = lambda: resource.setrlimit(resource.RLIMIT_AS, (size, size))
-        return subprocess.run([runner.program] + words, cwd=folder, capture_output=True, preexec_fn=limit, timeout=60)
+        return subprocess.run([runner.program] + words, cwd=folder, capture_output=True, preexec_fn=limit, timeout=LIMIT)
     folder = tempfile.mkdtemp(dir=runner.room)
     put(os.path.join(folder, "x"), RECORDING, folder)
     put(os.path.join(folder, "s"), b"", folder)

@@ -10,7 +10,7 @@ import time
 
 NOBODY = 65534
 # The seconds that anything may take. What takes longer is killed, and its row fails.
-LIMIT = 30
+LIMIT = 60
 
 
 class Runner:
