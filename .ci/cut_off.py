@@ -56,6 +56,17 @@ def is_killed_with_report(runner):
     return None
 
 
+def keeps_runs_apart(runner):
+    """Whether of two runs at once over one name the first is refused, whose part the second replaced, and the second is whole."""
+    first = Waiting(runner, FROM_PIPE, {"y": OLD}, ["y.part"])
+    node = os.lstat(first.path("y.part")).st_ino
+    second = runner.start(FROM_PIPE.split(), cwd=first.folder, stdin=subprocess.PIPE, stdout=subprocess.PIPE, stderr=subprocess.PIPE)
+    wait_for(lambda: os.path.lexists(first.path("y.part")) and os.lstat(first.path("y.part")).st_ino != node)
+    found = [ended(first.program, RECORDING), first.got("y"), ended(second, RECORDING), first.got("y", "y.part")]
+    fits = found == [(1, b"", WRITE), [OLD], (0, b"", b""), [STORE, None]]
+    return None if fits else f"they ended with {found}"
+
+
 def appears_whole(runner):
     """Whether the names have what stood there until the input ends, and then what is whole."""
     run = Waiting(runner, RESTORE_PIPE, {"y": OLD, "z": OLD}, ["y.part", "z.part"])
@@ -157,7 +168,7 @@ def tries():
     killed = [(f"a run that is ended by {number.name}", lambda runner, number=number: is_killed(runner, number))
               for number in (signal.SIGKILL, signal.SIGTERM, signal.SIGINT, signal.SIGHUP)]
     return killed + [
-        ("a run with a report that is killed", is_killed_with_report), ("outputs that appear when they are whole", appears_whole),
+        ("a run with a report that is killed", is_killed_with_report), ("two runs at once over one name", keeps_runs_apart), ("outputs that appear when they are whole", appears_whole),
         ("an output whose folder is closed before its end", cannot_rename),
         ("a link that appears in the place of an earlier part", is_not_led_away), ("an output that can't be written whole", keeps_name),
         ("a pipe whose reader goes away", loses_reader), ("no memory", wants_memory)]

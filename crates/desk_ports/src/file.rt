@@ -8,7 +8,7 @@ ghost use Rattle.desk_ports.specs.Meanings.{nothing_told, Adds, Begins, HasReadC
 ghost use Rattle.desk_ports.specs.FileDesk.{file_counts, file_meanings, gathered, gathered_at, is_live, is_opened_sink, is_pending, is_standard_input, is_standard_output, names_standard_input, names_standard_output, other_sink, other_source, sink_at, source_at, waits, waits_at, IsHandedOn, KeepsOutlets, SameInlets, SameOutlets};
 
 use crate::desk::{Desk, Failed, Inlet, Outlet};
-use crate::part::{Node, Part};
+use crate::part::{Node, Part, refused};
 use crate::progress::Progress;
 use crate::read_faults::ReadFaults;
 use crate::write_faults::WriteFaults;
@@ -108,6 +108,11 @@ fn is_standard_output(name: &str) -> bool
     matches!(name, "-" | "/dev/stdout" | "/dev/fd/1" | "/proc/self/fd/1")
 }
 
+// Which file of the system standard output is.
+fn standard_output(rt: &HostRuntime) -> Option<Node> {
+    Node::named(rt, "/dev/stdout")
+}
+
 // Where the bytes of an outlet go. They are gathered, and handed to the system when there are enough. An output that is
 // written to a part, a file beside its name, waits for its name.
 #[derive(Drop)]
@@ -118,18 +123,22 @@ enum Sink {
 }
 
 impl Sink {
-    // What stands under the name is not changed.
-    fn open(rt: &HostRuntime, name: &str, inputs: &[Option<Node>], other: &Sink) -> io::Result<Sink>
+    // What stands under the name is not changed. It fails if it would take the place of one of the `spared` files, or of
+    // the other output.
+    fn open(rt: &HostRuntime, name: &str, spared: &[Option<Node>], other: &Sink) -> io::Result<Sink>
         ensures opened { IfOk result (λ sink. IsTrue (is_opened_sink sink)) }
         ensures none { IfOk result (λ sink. gathered sink ≡ []) }
         ensures standard { IfOk result
             (λ sink. is_standard_output sink ≡ names_standard_output name.now) }
     {
         if is_standard_output(name) {
+            if other.replaces(rt, standard_output(rt)) {
+                return Err(refused());
+            }
             let stdout = BufWriter::with_capacity(rt.alloc(), GATHERED, rt.stdout())?;
             return Ok(Sink::StandardOutput(stdout));
         }
-        let (file, part) = Part::open(rt, name, inputs, other.part())?;
+        let (file, part) = Part::open(rt, name, spared, other.node(rt), other.part())?;
         let file = BufWriter::with_capacity(rt.alloc(), GATHERED, file)?;
         Ok(Sink::File(file, part))
     }
@@ -137,6 +146,22 @@ impl Sink {
     // Whether it is standard output, and that is a terminal.
     fn is_terminal(&self, rt: &HostRuntime) -> bool {
         matches!(self, Sink::StandardOutput(_)) && rt.stdout().is_terminal()
+    }
+
+    // Which file of the system it is, unless it is written to under its own name.
+    fn node(&self, rt: &HostRuntime) -> Option<Node> {
+        match self {
+            Sink::StandardOutput(_) => standard_output(rt),
+            Sink::Nothing | Sink::File(..) => self.part().map(|part| part.node()),
+        }
+    }
+
+    // Whether it is the part that a file is, or that will take the file's place.
+    fn replaces(&self, rt: &HostRuntime, node: Option<Node>) -> bool {
+        match (self.part(), node) {
+            (Some(part), Some(node)) => part.concerns(rt, node),
+            _ => false,
+        }
     }
 
     // The part that waits for its name.
@@ -293,12 +318,16 @@ impl<'a> FileDesk<'a> {
         ensures standard { IfOk result
             (λ sink. is_standard_output sink ≡ names_standard_output name.now) }
     {
-        let inputs = [self.side.node(self.rt)?, self.input.node(self.rt)?];
+        let spared = [
+            self.side.node(self.rt)?,
+            self.input.node(self.rt)?,
+            standard_output(self.rt),
+        ];
         let other = match outlet {
             Outlet::Main => &self.report,
             Outlet::Report => &self.output,
         };
-        Sink::open(self.rt, name, &inputs, other)
+        Sink::open(self.rt, name, &spared, other)
     }
 }
 

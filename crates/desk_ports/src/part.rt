@@ -41,11 +41,13 @@ impl Part {
     /// Opens what an output is written to: the file that has this name, if it is a device, a pipe or something else that
     /// is not a regular file, and otherwise a part beside the name. Nothing that exists under the name is changed.
     ///
-    /// It fails if the part would have to replace one of the `inputs`, or the other output or its part.
+    /// It fails if the part would have to replace one of the `spared` files, or the other output or what that is written
+    /// to, which is the file `taken`.
     pub fn open(
         rt: &HostRuntime,
         name: &str,
-        inputs: &[Option<Node>],
+        spared: &[Option<Node>],
+        taken: Option<Node>,
         other: Option<&Part>,
     ) -> io::Result<(File, Option<Part>)> {
         match OpenOptions::new().write(true).open(rt, name) {
@@ -54,15 +56,15 @@ impl Part {
                 if !metadata.is_file() {
                     return Ok((standing, None));
                 }
-                if is_part(Node::of(&metadata), other) {
+                if taken == Some(Node::of(&metadata)) {
                     return Err(refused());
                 }
-                let (file, part) = Part::beside(rt, name, inputs, other)?;
+                let (file, part) = Part::beside(rt, name, spared, taken, other)?;
                 file.set_permissions(metadata.permissions())?;
                 Ok((file, Some(part)))
             }
             Err(error) if error.kind() == io::ErrorKind::NotFound => {
-                let (file, part) = Part::beside(rt, name, inputs, other)?;
+                let (file, part) = Part::beside(rt, name, spared, taken, other)?;
                 Ok((file, Some(part)))
             }
             Err(error) => Err(error),
@@ -73,12 +75,13 @@ impl Part {
     fn beside(
         rt: &HostRuntime,
         name: &str,
-        inputs: &[Option<Node>],
+        spared: &[Option<Node>],
+        taken: Option<Node>,
         other: Option<&Part>,
     ) -> io::Result<(File, Part)> {
         let target = target_of(rt, name)?;
         let own = format!(in rt.alloc(); "{target}.part")?;
-        remove_standing(rt, &own, inputs, other)?;
+        remove_standing(rt, &own, spared, taken, other)?;
         let file = OpenOptions::new()
             .write(true)
             .create_new(true)
@@ -91,8 +94,23 @@ impl Part {
         Ok((file, Part { own, target, node }))
     }
 
-    /// Gives the part the name that it waits for. What existed under that name is then gone.
+    /// Which file it is.
+    pub fn node(&self) -> Node {
+        self.node
+    }
+
+    /// Whether a file is the part, or the one that the part will replace.
+    pub fn concerns(&self, rt: &HostRuntime, node: Node) -> bool {
+        self.node == node || is_target(rt, node, Some(self))
+    }
+
+    /// Gives the part the name that it waits for. What existed under that name is then gone. It fails if another file has
+    /// come in the part's place, as that of another run over the same name.
     pub fn take_name(&self, rt: &HostRuntime) -> io::Result<()> {
+        let standing = fs::symlink_metadata(rt, &self.own)?;
+        if Node::of(&standing) != self.node {
+            return Err(refused());
+        }
         fs::rename(rt, &self.own, &self.target)
     }
 }
@@ -107,12 +125,13 @@ fn target_of(rt: &HostRuntime, name: &str) -> io::Result<String> {
     Ok(format!(in rt.alloc(); "{}", path.display())?)
 }
 
-/// Removes what exists under the name of a part. It is an earlier part, and not an input, a link or a part of the other
-/// output.
+/// Removes what exists under the name of a part. It is an earlier part, and not a spared file, a link, or what the other
+/// output is or is written to.
 fn remove_standing(
     rt: &HostRuntime,
     own: &str,
-    inputs: &[Option<Node>],
+    spared: &[Option<Node>],
+    taken: Option<Node>,
     other: Option<&Part>,
 ) -> io::Result<()> {
     match fs::symlink_metadata(rt, own) {
@@ -120,19 +139,14 @@ fn remove_standing(
         Err(error) => Err(error),
         Ok(standing) => {
             let node = Node::of(&standing);
-            let is_input = inputs.contains(&Some(node));
-            let is_other = is_part(node, other) || is_target(rt, node, other);
-            if !standing.is_file() || is_input || is_other {
+            let is_spared = spared.contains(&Some(node));
+            let is_other = taken == Some(node) || is_target(rt, node, other);
+            if !standing.is_file() || is_spared || is_other {
                 return Err(refused());
             }
             fs::remove_file(rt, own)
         }
     }
-}
-
-/// Whether the file is the part of the other output.
-fn is_part(node: Node, other: Option<&Part>) -> bool {
-    other.is_some_and(|part| part.node == node)
 }
 
 /// Whether the file is the one that the other output's part will replace.
@@ -143,8 +157,8 @@ fn is_target(rt: &HostRuntime, node: Node, other: Option<&Part>) -> bool {
     }
 }
 
-/// Why a part is not made.
-fn refused() -> io::Error {
+/// Why a part is not made, or doesn't take its name.
+pub fn refused() -> io::Error {
     io::Error::new(
         io::ErrorKind::AlreadyExists,
         "the part of an output would replace another file",

@@ -12,8 +12,9 @@ ghost use Rattle.pocket_cmd.specs.Status.{exit_number};
 
 use desk_ports::{Desk, Failed, FileDesk};
 use pocket_cmd::{Refusal, Status, exit_code, pocket};
+use std::fs::File;
 use std::process::ExitCode;
-use std::{env, io};
+use std::{env, fs, io};
 
 /// No verb has as many words, so a command line that is cut here is refused just as the whole one is.
 const MOST_WORDS: usize = 1000;
@@ -103,6 +104,11 @@ impl Asked {
 }
 
 fn main(rt: HostRuntime) -> ExitCode {
+    let _stand_ins = [
+        stand_in(&rt, "/dev/fd/0"),
+        stand_in(&rt, "/dev/fd/1"),
+        stand_in(&rt, "/dev/fd/2"),
+    ];
     match command_line(&rt) {
         Ok(line) => answer(&rt, words(&line)),
         Err(error) if error.kind() == io::ErrorKind::OutOfMemory => {
@@ -112,6 +118,15 @@ fn main(rt: HostRuntime) -> ExitCode {
             let _ = eprintln!(rt; "pocket: words cannot be read");
             ExitCode::from(NO_WORDS)
         }
+    }
+}
+
+/// Something in the place of a standard stream that is closed, so that no file that is opened later is taken for it: a
+/// folder, which can't be read or written as a file is.
+fn stand_in(rt: &HostRuntime, stream: &str) -> Option<File> {
+    match fs::metadata(rt, stream) {
+        Ok(_) => None,
+        Err(_) => fs::open(rt, "/").ok(),
     }
 }
 
