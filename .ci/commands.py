@@ -9,6 +9,7 @@ program as nobody, so that a folder can be closed to it; some rows need a file o
 """
 
 import os
+import signal
 import subprocess
 import sys
 import tempfile
@@ -88,6 +89,9 @@ def main():
         sys.exit(__doc__)
     passed = failed = 0
     os.umask(0o022)
+    # Whoever starts this may ignore a signal, as nohup does, and the program would ignore it too.
+    for number in (signal.SIGHUP, signal.SIGINT, signal.SIGTERM, signal.SIGQUIT):
+        signal.signal(number, signal.SIG_DFL)
     with tempfile.TemporaryDirectory(prefix="pocket-commands-") as room:
         runner = Runner(sys.argv[1], room)
         for name, attempt in tries_of(runner):
