@@ -1,6 +1,6 @@
 //! Making packets from inputs.
 
-ghost use Rattle.std.specs.Prelude.{◌≡◌, ℕ, ◌↔◌, ◌+◌, ◌*◌, ◌<◌, ◌≤◌, false, length, replicate, IfOk, IsTrue, Some};
+ghost use Rattle.std.specs.Prelude.{[], ◌≡◌, ℕ, ◌↔◌, ◌+◌, ◌*◌, ◌<◌, ◌≤◌, false, length, replicate, IfOk, IsTrue, Some};
 ghost use Rattle.bit_vectors.specs.Vectors.{byte_count, padded, vector_bytes};
 ghost use Rattle.mask_update.specs.Histories.{History, flags_after, no_steps};
 ghost use Rattle.packet_encode.specs.Encoder.{StandsFor};
@@ -55,6 +55,8 @@ impl Encoder {
         ensures stands { IfOk result (λ encoder. StandsFor (no_steps mask.now) encoder) }
         ensures places { IfOk result (λ encoder. length encoder.masks.mask ≡ f) }
         ensures taken { IfOk result (λ encoder. encoder.masks.taken ≡ 0) }
+        // There is no packet yet.
+        ensures bits { IfOk result (λ encoder. encoder.bits ≡ []) }
     {
         Ok(Encoder {
             masks: Masks::open(alloc, mask)?,
