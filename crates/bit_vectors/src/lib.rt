@@ -20,6 +20,3 @@ pub use flags::Flags;
 pub use laws::{bytes_and_vectors, numbers_and_bits};
 pub use pen::BitPen;
 pub use room::zero_bytes;
-
-#[cfg(test)]
-mod tests;

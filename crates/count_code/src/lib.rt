@@ -13,6 +13,3 @@ pub use laws::{counts_are_completed, long_words, no_word_begins_another};
 pub use matching::match_count;
 pub use reading::take_count;
 pub use writing::{count_len, put_count, put_end};
-
-#[cfg(test)]
-mod tests;

@@ -31,6 +31,3 @@ pub use quiet::QuietDesk;
 pub use row::{ROW_BYTES, Row};
 pub use transfer::{fill, write_all};
 pub use turns::{Run, Turn, drive};
-
-#[cfg(test)]
-mod tests;

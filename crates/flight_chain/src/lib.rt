@@ -15,6 +15,3 @@ pub use laws::{
     walks_of_front_recordings, whole_recordings_owe_their_store, worked_recordings,
 };
 pub use reading::{Unread, read_input};
-
-#[cfg(test)]
-mod tests;

@@ -46,6 +46,3 @@ pub use restorer::Restorer;
 pub use tallied::Tallied;
 pub use unwrap::Unwrap;
 pub use verdict::{Kind, Lost, Verdict};
-
-#[cfg(test)]
-mod tests;

@@ -9,6 +9,3 @@ pub use laws::{
     worked_masks,
 };
 pub use masks::Masks;
-
-#[cfg(test)]
-mod tests;

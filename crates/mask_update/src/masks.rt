@@ -129,6 +129,7 @@ impl Masks {
         false
     }
 
+    /// Makes the change vector zeros, which takes a walk over it only if the input before changed the mask.
     fn clear_change(&mut self)
         ensures { self.new ≡ record self.old { change = replicate (length self.old.mask) false } }
     {

@@ -20,6 +20,3 @@ pub use laws::{
     reading_is_exact, sound_answers_agree, states_keep_their_places, viable_bits_begin_data,
     worked_packets,
 };
-
-#[cfg(test)]
-mod tests;

@@ -13,6 +13,3 @@ pub use laws::{
     no_packet_is_given_up, packets_have_room, packets_of_the_past, worked_forms, worked_packets,
     written_packets,
 };
-
-#[cfg(test)]
-mod tests;

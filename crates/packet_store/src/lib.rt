@@ -16,6 +16,3 @@ pub use laws::{
 };
 pub use reader::{StoreReader, Taken};
 pub use writer::StoreWriter;
-
-#[cfg(test)]
-mod tests;

@@ -10,6 +10,3 @@ pub use laws::{
     earlier_steps_stay, effective_level, new_mask_twice, recent_changes, worked_window,
 };
 pub use window::Window;
-
-#[cfg(test)]
-mod tests;

@@ -90,6 +90,3 @@ pub fn carry_first(alloc: Global, f: u32, mask: &Bits, input: &Bits) -> Result<D
     let _ = carry(&mut encoder, input, &mut decoder);
     Ok(decoder)
 }
-
-#[cfg(test)]
-mod tests;

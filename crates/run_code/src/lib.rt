@@ -20,6 +20,3 @@ pub use laws::{
 };
 pub use matching::match_runs;
 pub use runs::{put_runs, take_runs};
-
-#[cfg(test)]
-mod tests;

@@ -26,6 +26,3 @@ pub use span::Span;
 pub use streams::Streams;
 pub use table::Table;
 pub use text::{MOST_BYTES, read_rows};
-
-#[cfg(test)]
-mod tests;

@@ -10,6 +10,3 @@ mod trial;
 
 pub use laws::{trials_are_valid, worked_trial};
 pub use trial::{Summary, run_trial};
-
-#[cfg(test)]
-mod tests;

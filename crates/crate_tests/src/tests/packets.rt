@@ -3,9 +3,9 @@
 ghost use Rattle.std.specs.Prelude.{◌≤◌, codes, IsTrue};
 ghost use Rattle.desk_ports.specs.Meanings.{IsReadyIn};
 
-use super::*;
 use bit_vectors::NoMemory;
 use desk_ports::{Desk, Failed, Inlet, MemDesk, Outlet};
+use packet_store::{PERIOD, StoreFault, StoreReader, StoreWriter, header_bytes, read_header};
 use std::alloc::Global;
 use std::test::Fail;
 

@@ -1,7 +1,7 @@
 //! The window over worked histories.
 
-use crate::Window;
 use bit_vectors::Bits;
+use robust_window::Window;
 use std::test::Fail;
 
 #[test]

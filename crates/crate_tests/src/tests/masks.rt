@@ -1,7 +1,7 @@
 //! A worked history, at several lengths.
 
-use crate::Masks;
 use bit_vectors::Bits;
+use mask_update::Masks;
 use std::test::Fail;
 
 // The last bits of a step's input and of mask, build and change after it. All other bits are 0.

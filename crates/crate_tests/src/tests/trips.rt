@@ -1,7 +1,7 @@
 //! A first packet, read back.
 
-use crate::carry_first;
 use bit_vectors::{Bits, NoMemory};
+use round_trip::carry_first;
 use std::alloc::Global;
 use std::test::Fail;
 

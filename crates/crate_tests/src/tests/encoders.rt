@@ -2,8 +2,8 @@
 
 ghost use Rattle.std.specs.Prelude.{◌≡◌, ◌≤◌, length};
 
-use crate::Encoder;
 use bit_vectors::{Bits, Flags, NoMemory, byte_len};
+use packet_encode::Encoder;
 use std::alloc::Global;
 use std::test::Fail;
 
@@ -102,14 +102,20 @@ fn whole_again(alloc: Global) -> Result<bool, NoMemory> {
     )
 }
 
-// No robustness is required: with a first mask, and with level 0 at the last packet.
+// No robustness is required, and there is a first mask.
+fn masked(alloc: Global) -> Result<bool, NoMemory> {
+    let mut sender = Sender::open(alloc, 8, 0, &[0x0F])?;
+    Ok(
+        sender.packs(&[0xA5], NONE, &[0x81, 0x61, 0x5C, 0x6A, 0x50])
+            && sender.packs(&[0xA6], NONE, &[0x86, 0xC0]),
+    )
+}
+
+// No robustness is required; the last packet has level 0.
 fn not_robust(alloc: Global) -> Result<bool, NoMemory> {
-    let mut masked = Sender::open(alloc, 8, 0, &[0x0F])?;
     let mut sender = Sender::open(alloc, 8, 0, &[0x00])?;
     Ok(
-        masked.packs(&[0xA5], NONE, &[0x81, 0x61, 0x5C, 0x6A, 0x50])
-            && masked.packs(&[0xA6], NONE, &[0x86, 0xC0])
-            && sender.packs(&[0x00], NONE, &[0x81, 0xB8, 0xC0, 0x00])
+        sender.packs(&[0x00], NONE, &[0x81, 0xB8, 0xC0, 0x00])
             && sender.packs(&[0x01], NONE, &[0x42, 0xC0])
             && sender.packs(&[0x03], NONE, &[0xC0, 0x83, 0x80]),
     )
@@ -136,16 +142,20 @@ fn equal_inputs(alloc: Global) -> Result<bool, NoMemory> {
     )
 }
 
-// One place, and thirteen.
-fn other_lengths(alloc: Global) -> Result<bool, NoMemory> {
-    let mut one = Sender::open(alloc, 1, 0, &[0x00])?;
-    let mut thirteen = Sender::open(alloc, 13, 0, &[0x00, 0x00])?;
+// One place.
+fn one_place(alloc: Global) -> Result<bool, NoMemory> {
+    let mut sender = Sender::open(alloc, 1, 0, &[0x00])?;
     Ok(
-        one.packs(&[0x80], NONE, &[0x81, 0xA8])
-            && one.packs(&[0x00], NONE, &[0x42, 0x80])
-            && one.packs(&[0x80], NONE, &[0x83])
-            && thirteen.packs(&[0x12, 0x38], NONE, &[0x81, 0xB9, 0x62, 0x47]),
+        sender.packs(&[0x80], NONE, &[0x81, 0xA8])
+            && sender.packs(&[0x00], NONE, &[0x42, 0x80])
+            && sender.packs(&[0x80], NONE, &[0x83]),
     )
+}
+
+// Thirteen places.
+fn thirteen_places(alloc: Global) -> Result<bool, NoMemory> {
+    let mut sender = Sender::open(alloc, 13, 0, &[0x00, 0x00])?;
+    Ok(sender.packs(&[0x12, 0x38], NONE, &[0x81, 0xB9, 0x62, 0x47]))
 }
 
 #[test]
@@ -153,22 +163,42 @@ fn worked_packets(rt: HostRuntime) -> Result<(), Fail> {
     assert!(rt; levels(rt.alloc())?);
     assert!(rt; new_masks(rt.alloc())?);
     assert!(rt; whole_again(rt.alloc())?);
+    assert!(rt; masked(rt.alloc())?);
     assert!(rt; not_robust(rt.alloc())?);
     assert!(rt; equal_inputs(rt.alloc())?);
-    assert!(rt; other_lengths(rt.alloc())?);
+    assert!(rt; one_place(rt.alloc())?);
+    assert!(rt; thirteen_places(rt.alloc())?);
     Ok(())
 }
 
+// How many bytes the packet of the next input has, of an encoder of the most places, if that may be asked.
+fn size_of_next(sender: &mut Sender, input: &[u8], flags: Flags) -> Option<usize> {
+    if sender.encoder.taken() >= 4_294_967_296
+        || input.len() != byte_len(sender.input.len()) as usize
+        || sender.input.load(input).is_err()
+    {
+        return None;
+    }
+    sender.encoder.encode(&sender.input, flags, sender.robust);
+    Some(sender.encoder.bytes().len())
+}
+
 // The longest vectors: a packet of zeros, and one in which every second place has moved.
+fn longest_sizes(sender: &mut Sender, zeros: &[u8], moved: &[u8]) -> [Option<usize>; 2] {
+    [
+        size_of_next(sender, zeros, NONE),
+        size_of_next(sender, moved, WHOLE),
+    ]
+}
+
 #[test]
 fn longest_vectors(rt: HostRuntime) -> Result<(), Fail> {
-    let mut input = Bits::zeros(rt.alloc(), 49_152)?;
-    let mut encoder = Encoder::open(rt.alloc(), 49_152, &input)?;
-    encoder.encode(&input, NONE, 0);
-    assert_eq!(rt; encoder.bytes().len(), 6_149);
-    let bytes = vec![in rt.alloc(); 0xAA; 6_144]?;
-    assert!(rt; input.load(&bytes).is_ok());
-    encoder.encode(&input, WHOLE, 0);
-    assert_eq!(rt; encoder.bytes().len(), 36_870);
+    let zeros = vec![in rt.alloc(); 0; 6_144]?;
+    let moved = vec![in rt.alloc(); 0xAA; 6_144]?;
+    let mut sender = Sender::open(rt.alloc(), 49_152, 0, &zeros)?;
+    assert_eq!(rt;
+        longest_sizes(&mut sender, &zeros, &moved),
+        [Some(6_149), Some(36_870)]
+    );
     Ok(())
 }

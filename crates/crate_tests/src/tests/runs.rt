@@ -1,11 +1,11 @@
 //! Words worked by hand, each way, and the first wrong bit of others. Only `has_ones` has a loop over places; it
 //! looks at each place of a short vector.
 
-use crate::{
+use bit_vectors::{BitEye, BitFault, BitPen, Bits, NoMemory};
+use run_code::{
     edges, from_edges, match_runs, put_extract, put_inverse_up, put_runs, take_into,
     take_inverse_up, take_runs,
 };
-use bit_vectors::{BitEye, BitFault, BitPen, Bits, NoMemory};
 use std::alloc::Global;
 use std::test::Fail;
 

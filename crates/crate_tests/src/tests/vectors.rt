@@ -3,7 +3,7 @@
 
 ghost use Rattle.std.specs.Prelude.{◌<◌, ◌≤◌};
 
-use crate::{BitEye, BitFault, BitPen, Bits, NoMemory, SpareBit, byte_len};
+use bit_vectors::{BitEye, BitFault, BitPen, Bits, NoMemory, SpareBit, byte_len};
 use std::alloc::Global;
 use std::test::Fail;
 

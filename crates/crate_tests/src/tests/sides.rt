@@ -1,7 +1,7 @@
 //! Texts of schedules, scripts and streams, with what they must mean.
 
-use crate::{CopyRow, FlagRow, Lookup, Schedule, Script, SideFault, Streams, signed_number};
 use bit_vectors::Flags;
+use side_tables::{CopyRow, FlagRow, Lookup, Schedule, Script, SideFault, Streams, signed_number};
 use std::alloc::Global;
 use std::test::Fail;
 

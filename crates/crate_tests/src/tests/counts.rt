@@ -1,7 +1,7 @@
 //! The words of counts, and the first faults of others, by worked examples.
 
-use crate::{Count, count_len, match_count, put_count, put_end, take_count};
 use bit_vectors::{BitEye, BitFault, BitPen};
+use count_code::{Count, count_len, match_count, put_count, put_end, take_count};
 use std::test::Fail;
 
 #[test]

@@ -1,10 +1,10 @@
 //! A trial by its numbers, and what it holds, worked out by hand.
 
-use crate::{Summary, run_trial};
 use bit_vectors::NoMemory;
 use desk_ports::MemDesk;
 use std::alloc::Global;
 use std::test::Fail;
+use trial_chain::{Summary, run_trial};
 
 /// The six names, and what the trial of three packets of 8 bits from the seed 0 holds under each, in which packet 1 is
 /// dropped.

@@ -2,8 +2,8 @@
 
 ghost use Rattle.std.specs.Prelude.{◌≤◌};
 
-use super::*;
 use bit_vectors::{Bits, NoMemory};
+use flight_chain::Flight;
 use side_tables::Schedule;
 use std::alloc::Global;
 use std::test::Fail;

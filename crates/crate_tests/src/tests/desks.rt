@@ -2,8 +2,10 @@
 
 ghost use Rattle.std.specs.Prelude.{IsTrue};
 
-use super::*;
 use bit_vectors::NoMemory;
+use desk_ports::{
+    Call, Desk, Failed, FileDesk, Inlet, MemDesk, Outlet, Run, Turn, drive, fill, write_all,
+};
 use std::alloc::Global;
 use std::fs;
 use std::test::Fail;

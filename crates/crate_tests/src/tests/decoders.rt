@@ -1,8 +1,8 @@
 //! Packets of 8 places, with their data and answers worked out by hand, and by an external script that asks which forms
 //! and fronts begin with the bits.
 
-use crate::{Decoder, Reading};
 use bit_vectors::{BitFault, Bits};
+use packet_decode::{Decoder, Reading};
 use std::test::Fail;
 
 /// The data of packets, each with its number and the answer that it must have, and what a decoder that reads
