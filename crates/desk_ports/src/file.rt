@@ -311,6 +311,42 @@ impl<'a> FileDesk<'a> {
         }
     }
 
+    // Before a read at the inlet: if it may wait, hands everything to the system that was gathered.
+    fn clear_way(&mut self, inlet: Inlet)
+        ensures handed { OnTrue (is_live (source_at self.old inlet)) (IsHandedOn self.new) }
+        ensures steady { OnFalse (is_live (source_at self.old inlet))
+            (SameOutlets self.old self.new × (is_pending self.new ≡ is_pending self.old)) }
+        ensures pending { IsTrue (is_pending self.old) → IsTrue (is_pending self.new) }
+        ensures counts { file_counts self.new ≡ file_counts self.old }
+        ensures meaning { file_meanings self.new ≡ file_meanings self.old }
+        ensures outlets { KeepsOutlets self.old self.new }
+        ensures inlets { SameInlets self.old self.new }
+    {
+        if self.is_live(inlet) {
+            self.flush();
+        }
+    }
+
+    // Reads once. If that may wait, everything that was gathered was handed to the system before.
+    fn read_once(&mut self, inlet: Inlet, buf: &mut [u8]) -> io::Result<usize>
+        requires open { IsReadyIn (file_meanings self.old) inlet }
+        requires handed { OnTrue (is_live (source_at self.old inlet)) (IsHandedOn self.old) }
+        ensures within { IfOk result (λ n. n ≤ length buf.old) }
+        ensures standard { is_standard_input (source_at self.new inlet)
+            ≡ is_standard_input (source_at self.old inlet) }
+        ensures live { is_live (source_at self.new inlet) ≡ is_live (source_at self.old inlet) }
+        ensures other { other_source self.new inlet ≡ other_source self.old inlet }
+        ensures outlets { SameOutlets self.old self.new }
+        ensures pending { is_pending self.new ≡ is_pending self.old }
+        ensures counts { file_counts self.new ≡ file_counts self.old }
+        ensures meaning { file_meanings self.new ≡ file_meanings self.old }
+    {
+        match inlet {
+            Inlet::Side => self.side.read(buf),
+            Inlet::Main => self.input.read(buf),
+        }
+    }
+
     // Opens what the bytes of an outlet go to.
     fn open_sink(&self, outlet: Outlet, name: &str) -> io::Result<Sink>
         ensures opened { IfOk result (λ sink. IsTrue (is_opened_sink sink)) }
@@ -418,13 +454,8 @@ impl<'a> Desk for FileDesk<'a> {
         ensures pending { IsTrue (is_pending self.old) → IsTrue (is_pending self.new) }
         ensures outlets { KeepsOutlets self.old self.new }
     {
-        if self.is_live(inlet) {
-            self.flush();
-        }
-        let moved = match inlet {
-            Inlet::Side => self.side.read(buf),
-            Inlet::Main => self.input.read(buf),
-        };
+        self.clear_way(inlet);
+        let moved = self.read_once(inlet, buf);
         if let (Inlet::Main, Ok(bytes)) = (inlet, &moved) {
             self.progress.count(self.rt, *bytes);
         }
