@@ -155,6 +155,9 @@ fn answer(rt: &HostRuntime, words: &[String]) -> ExitCode
     // Words that give no command, and ask nothing of the program, end it with 2.
     ensures no_command { (word : ℕ) → asked_by (map string_bytes words.now) ≡ None
         → command_of (seen words.now) ≡ Err word → exit_status result ≡ 2 }
+    // If they ask nothing of it, it ends with 2 only for such words.
+    ensures wrong { asked_by (map string_bytes words.now) ≡ None → exit_status result ≡ 2
+        → (word : ℕ) × (command_of (seen words.now) ≡ Err word) }
     // It ends with 0 only if the words are right or ask something of the program.
     ensures done { exit_status result ≡ 0
         → IsSome (asked_by (map string_bytes words.now))
