@@ -1,6 +1,6 @@
 #!/usr/bin/env python3
 """Tries pictures/draw.py, and holds the pictures, the caller and the names that docs/ shows to what is drawn and to what is
-proved, and the manual page and README.md to the program's help. Run alone it draws the pictures anew."""
+proved, and the manual page and docs/OPERATING.md to the program's help. Run alone it draws the pictures anew."""
 
 import os
 import subprocess
@@ -8,6 +8,8 @@ import sys
 import tempfile
 import xml.etree.ElementTree as xml
 
+import auditor
+import calls
 import names
 import page
 from table import table
@@ -160,8 +162,18 @@ def names_are_found():
     return "; ".join(names.unknown()) or None
 
 
+def auditor_is_told():
+    """Whether docs/HEADLINE.md lists every definition on which the headline stands."""
+    return auditor.differences()
+
+
+def calls_are_told():
+    """Whether docs/CALLING.md has the form of each public call."""
+    return calls.differences()
+
+
 def page_agrees():
-    """Whether the manual page and README.md have what the program's help has."""
+    """Whether the manual page, docs/OPERATING.md and README.md have what the program's help has."""
     return "; ".join(page.differences()) or None
 
 
@@ -171,7 +183,8 @@ def tries():
         ("the picture table.svg", lambda: is_held("table.svg", draw_table(*sample()))), ("tables", draws_tables),
         ("pictures of each line", draws_each), ("pictures of forecasts", draws_forecasts), ("refused listings and forecasts", refuses),
         ("the caller that is shown", quotes_the_caller),
-        ("laws, clauses and definitions of the documents", names_are_found), ("help, manual page and README", page_agrees)]
+        ("laws, clauses and definitions of the documents", names_are_found), ("the form of each public call", calls_are_told), ("what an auditor reads", auditor_is_told),
+        ("help, manual page and README", page_agrees)]
 
 
 if __name__ == "__main__":

@@ -114,10 +114,28 @@ STANDING = [
     case("a folder as the output", compress("f"), 1, err=WRITE, before={"x": RECORDING, "f": "folder"}),
     case("a folder as the report", restore(report="f"), 1, err=WRITE, before={"x": PLAYED, "y": OLD, "f": "folder"}, after={"y.part": b""}),
     case("in a folder that can't be written", compress("f/y"), 1, err=WRITE, before={"x": RECORDING, "f": "closed folder"}),
-    case("the input as output, spelled otherwise", compress("./x"), before={"x": RECORDING}, after={"x": STORE}),
-    case("a hard link to the input as output", compress("h"), before={"x": RECORDING, "h": ("hard", "x")}, after={"x": RECORDING, "h": STORE}),
-    case("a refused run over the input", refused("./x"), 4, err=CUT_TEXT, before={"x": CUT}, after={"x": CUT, "x.part": CUT_PART}),
-    case("the report over the input", restore(report="./x"), before={"x": PLAYED}, after={"x": REPORT, "y": RESTORED}),
+    case("an output that standard output leads to as well", restore(report="z"), stdout="z", before={"x": PLAYED, "z": OLD}, after={"y": RESTORED, "z": REPORT}),
+]
+
+# The name of an output is that of a file which the command reads: it is refused before anything is written.
+READ_OVER = [
+    case("the input as output, spelled otherwise", compress("./x"), 1, err=WRITE, before={"x": RECORDING}),
+    case("the input as output, spelled otherwise, over an earlier part", compress("./x"), 1, err=WRITE, before={"x": RECORDING, "x.part": OLD}),
+    case("a hard link to the input as output", compress("h"), 1, err=WRITE, before={"x": RECORDING, "h": ("hard", "x")}),
+    case("a link to the input as output", compress("l"), 1, err=WRITE, before={"x": RECORDING, "l": ("link", "x")}),
+    case("the input is a link to the output", compress("y"), 1, err=WRITE, before={"y": RECORDING, "x": ("link", "y")}),
+    case("a cut recording as output", refused("./x"), 1, err=WRITE, before={"x": CUT}),
+    case("the report over the input", restore(report="./x"), 1, err=WRITE, before={"x": PLAYED}, after={"y.part": b""}),
+    case("the schedule as output", compress("./s") + " plan=s", 1, err=WRITE, before={"x": RECORDING, "s": b"3,3,1,fr\n"}),
+    case("the script as output", "play in=x out=./s report=z apid=100 script=s", 1, err=WRITE, before={"x": STORE, "s": b"drop,2,2,1\n"}),
+    case("the script as report", "play in=x out=y report=./s apid=100 script=s", 1, err=WRITE, before={"x": STORE, "s": b"drop,2,2,1\n"}, after={"y.part": b""}),
+    case("the schedule of a forecast as output", "forecast out=./s packets=6 robust=1 plan=s script=x", 1, err=WRITE, before={"s": b"5,5,1,fr\n", "x": b"drop,2,3,1\n"}),
+    case("the script of a forecast as output", "forecast out=./x packets=6 robust=1 plan=s script=x", 1, err=WRITE, before={"s": b"5,5,1,fr\n", "x": b"drop,2,3,1\n"}),
+    case("the streams as output", MULTI.replace("=y", "=./s"), 1, err=WRITE, before={"x": TWO_STREAMS, "s": STREAMS}),
+    case("the fields as output of a table", TABLE.replace("=y", "=./s"), 1, err=WRITE, before={"x": b"", "s": b"field,0,8,u,a\n"}),
+    case("standard input as output", compress("x", "-"), 1, err=WRITE, stdin="x", before={"x": RECORDING}),
+    case("standard input as report", restore(report="x", inlet="-"), 1, err=WRITE, stdin="x", before={"x": PLAYED}, after={"y.part": b""}),
+    case("standard input with the script as output", "play in=x out=s report=z apid=100 script=-", 1, err=WRITE, stdin="s", before={"x": STORE, "s": b"drop,2,2,1\n"}),
 ]
 
 # Names, and the folders in which the parts stand.
@@ -149,7 +167,6 @@ NAMES = [
 
 # Links stay links: the part stands beside the file to which they lead.
 LINKS = [
-    case("a link to the input as output", compress("l"), before={"x": RECORDING, "l": ("link", "x")}, after={"x": STORE}),
     case("a link into a subfolder", compress("l"), before={"x": RECORDING, "f": "folder", "f/y": OLD, "l": ("link", "f/y")}, after={"f/y": STORE}),
     case("a link into a subfolder, and a mode", compress("l"), before={"x": RECORDING, "f": "folder", "f/y": ("mode", 0o606, OLD), "l": ("link", "f/y")},
          after={"f/y": STORE}, modes={"f/y": 0o606}),
@@ -228,4 +245,4 @@ UNREAD = [
     case("a script of a forecast that is a folder", "forecast out=y packets=6 robust=1 plan=s script=x", 1, err=READ, before={"s": b"", "x": "folder"}),
 ]
 
-FILES = PARTS + TAKEN_PARTS + STANDING + NAMES + LINKS + DEVICES + UNREAD
+FILES = PARTS + TAKEN_PARTS + STANDING + READ_OVER + NAMES + LINKS + DEVICES + UNREAD

@@ -1,7 +1,8 @@
 #!/usr/bin/env python3
-"""Holds the manual page, docs/pocket.1, and README.md to the program's help, which crates/pocket/src/main.rt has: the same verbs, each
-with the same keys, the same ranges and the same exit numbers. Run alone, it prints what differs. If `mandoc` is there, the page has to be
-clean for it."""
+"""Holds the manual page, docs/pocket.1, and docs/OPERATING.md to the program's help, which crates/pocket/src/main.rt has: the same verbs,
+each with the same keys, the same ranges and the same exit numbers; README.md has the verbs, and the completions of the shells have the
+verbs with their keys. Run alone, it prints what differs. If `mandoc`
+is there, the page has to be clean for it."""
 
 import os
 import re
@@ -63,37 +64,46 @@ def exits_of_help(text):
 
 
 def with_commas(number):
-    """A number as README.md writes it: one of more than four digits has commas, and so may one of four."""
+    """A number as docs/OPERATING.md writes it: one of more than four digits has commas, and so may one of four."""
     return f"{int(number):,}" if len(number) > 4 else number
 
 
-def readme_lacks(readme, verbs, ranges, exits):
-    """What README.md doesn't have of these."""
+def day_lacks(day, verbs, ranges, exits):
+    """What docs/OPERATING.md doesn't have of these."""
     for verb, keys in verbs.items():
-        if f"**`{verb}`**" not in readme:
-            yield f"README.md tells of no verb {verb}"
-        yield from (f"README.md names no key {key}" for key in keys if f"`{key}`" not in readme and f" {key}=" not in readme)
+        if f"**`{verb}`**" not in day:
+            yield f"docs/OPERATING.md tells of no verb {verb}"
+        yield from (f"docs/OPERATING.md names no key {key}" for key in keys if f"`{key}`" not in day and f" {key}=" not in day)
     for key, pairs in ranges.items():
         for low, high in pairs:
             wanted = {f"{low} to {with_commas(high)}", f"{low} to {int(high):,}"}
-            if not any(it in readme for it in wanted):
-                yield f"README.md has no range {low} to {high} of {key}"
-    yield from (f"README.md has no exit number {it}" for it in exits if f"\n| {it} |" not in readme)
+            if not any(it in day for it in wanted):
+                yield f"docs/OPERATING.md has no range {low} to {high} of {key}"
+    yield from (f"docs/OPERATING.md has no exit number {it}" for it in exits if f"\n| {it} |" not in day)
+
+
+def verbs_of_completions(text):
+    """The keys of each verb that a completion has."""
+    return {verb: {key.rstrip("=") for key in keys.split()} for verb, keys in re.findall(r'^ +\[?([a-z]+)\]?[ =]"([a-z= ]+)"$', text, re.M)}
 
 
 def differences():
     """What differs."""
     help_text = text_of("crates/pocket/src/main.rt").split('const HELP: &str = "\\\n')[1].split('";')[0]
-    page, readme = text_of("docs/pocket.1"), text_of("README.md")
+    page, day, readme = text_of("docs/pocket.1"), text_of("docs/OPERATING.md"), text_of("README.md")
     verbs, ranges, exits = verbs_of_help(help_text), ranges_of_help(help_text), exits_of_help(help_text)
     if verbs_of_page(page) != verbs:
         yield f"the verbs of the page are {verbs_of_page(page)}, and those of the help {verbs}"
     if ranges_of_page(page) != ranges:
         yield f"the ranges of the page are {ranges_of_page(page)}, and those of the help {ranges}"
+    for name in ("completions/pocket.bash", "completions/_pocket"):
+        if verbs_of_completions(text_of(name)) != {verb: set(keys) for verb, keys in verbs.items()}:
+            yield f"{name} has other verbs or keys: {verbs_of_completions(text_of(name))}"
     listed = re.findall(r"^\.It (\d)$", page.split(".Sh EXIT STATUS")[1].split(".Sh ")[0], re.M)
     if listed != exits:
         yield f"the exit numbers of the page are {listed}, and those of the help {exits}"
-    yield from readme_lacks(readme, verbs, ranges, exits)
+    yield from day_lacks(day, verbs, ranges, exits)
+    yield from (f"README.md has no verb {verb}" for verb in verbs if f"\n| `{verb}` |" not in readme)
     if shutil.which("mandoc"):
         ran = subprocess.run(["mandoc", "-Tlint", os.path.join(TOP, "docs", "pocket.1")], capture_output=True, text=True, check=False)
         yield from ran.stdout.splitlines()
@@ -101,7 +111,7 @@ def differences():
 
 def main():
     found = list(differences())
-    print("\n".join(found) or "help, manual page and README.md agree")
+    print("\n".join(found) or "help, manual page, docs/OPERATING.md and README.md agree")
     return 1 if found else 0
 
 

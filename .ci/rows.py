@@ -41,6 +41,16 @@ SUMMARY = b"packets 3\nrecording 3\nstore 29\nplayed 19\ndelivered 2\nwritten 2\
 # What --help prints, to the last byte.
 with open(os.path.join(documents.ROOT, ".ci", "help.txt"), "rb") as file:
     HELP = file.read()
+# What is printed of a verb: the lines of the help on it and its keys, and then its formats.
+RESTORE_HELP = b"".join(HELP.splitlines(True)[4:6]) + b"Keys:\n" + b"".join(
+    line for line in HELP.splitlines(True) if line.startswith((b"    in, ", b"    out, ", b"    bits  ", b"    apid  "))) + b"""\
+Formats:
+    STORE    Space Packets, one after the other
+    PACKETS  packets of F bits, each in whole bytes with spare bits 0, and nothing between
+    REPORT   rows first,last,cause,value, the last one end,arrived,written,repeats
+Example:
+    pocket restore in=played.store out=packets report=report.csv bits=64 apid=100
+"""
 # The seed, the packets, the bits of a packet and the required robustness.
 TRIALS = [(1, 10000, 1024, 2), (4294967295, 10000, 4096, 7), (7, 1, 1, 0), (3, 500, 13, 0), (20, 2000, 8, 1)]
 
@@ -107,8 +117,9 @@ VERBS = [
          after={"y": bytes.fromhex("B0B1B1B3"), "z": HEADER + b"end,4,4,0\nlate,0\n", "y.part": None, "z.part": None}),
     case("late beyond the window", "late in=x out=y report=- bits=8 apid=100 window=0", out=HEADER + b"1,1,lost,0\nend,3,3,0\nlate,1\n",
          before={"x": bytes.fromhex("0064C000000385B8D6000064C002000144C00064C0010003424B8D620064C0030002C085C0")}, after={"y": bytes.fromhex("B0B1B3")}),
-    case("version", "--version", out=b"pocket 1.0.0\n"),
+    case("version", "--version", out=b"pocket 1.1.0\n"),
     case("help", "--help", out=HELP),
+    case("help of a verb", "restore --help", out=RESTORE_HELP),
 ]
 
 # Words that are wrong, by the index of the first one that is.
@@ -142,7 +153,10 @@ WORDS = [
     case("standard input twice", "play in=- out=y report=z apid=100 script=-", 2, err=wrong(5)),
     case("more than a thousand words", COMPRESS.split() + ["x"] * 1200, 2, err=wrong(6), before={"x": RECORDING}),
     case("help before a verb", "--help compress", 2, err=wrong(0)),
-    case("help after a verb", "compress --help", 2, err=wrong(1)),
+    case("help after no verb", "compres --help", 2, err=wrong(0)),
+    case("help after a verb and a word", "compress in=x --help", 2, err=wrong(2)),
+    case("help before a word of a verb", "compress --help in=x", 2, err=wrong(1)),
+    case("version after a verb", "compress --version", 2, err=wrong(1)),
     case("help and version", "--help --version", 2, err=wrong(0)),
     case("a word that is no UTF-8", [b"\xff"], 7, err=b"pocket: words cannot be read\n"),
     case("a name that is no UTF-8", [b"compress", b"in=\xff"], 7, err=b"pocket: words cannot be read\n"),

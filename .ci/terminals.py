@@ -1,4 +1,5 @@
-"""How far a run is, told on a terminal: when it is told and when it isn't, how often, and that the line is taken away."""
+"""What is told on a terminal alone. How far a run is: when it is told and when it isn't, how often, and that the line is taken away.
+And the second line after a refusal."""
 
 import os
 import pty
@@ -8,7 +9,7 @@ import subprocess
 import threading
 import time
 
-from rows import COMPRESS
+from rows import COMPRESS, FORECAST, PLAY, RESTORE, SHOW, STORE
 from runner import LIMIT, ended
 
 # What takes the line away.
@@ -89,7 +90,7 @@ def tells_before_refusals(runner):
     """Whether the line is taken away before a refusal."""
     size = (1 << 20) + 1
     status, told, _ = watched(runner, LONG, {"x": bytes(size)})
-    refusal = b"pocket: recording ends inside packet 8192\r\n"
+    refusal = b"pocket: recording ends inside packet 8192\r\npocket: what came before stands in y.part\r\n"
     fits = status == 4 and told.endswith(refusal) and is_told(told[:-len(refusal)], size)
     return None if fits else f"it ended with {status} and told {told[:300]}"
 
@@ -126,7 +127,56 @@ def is_silent(runner):
     return None if found == (0, b"", b"") else f"it ended with {found}"
 
 
+HELPS = "pocket --help has the verbs and their keys"
+NUMBER = "; digits alone, without a zero in front"
+# Words, the files before them, the exit number, and both lines on a terminal.
+SECOND_LINES = [
+    ("", {}, 2, "word 0 is wrong", HELPS),
+    ("help", {}, 2, "word 0 is wrong", HELPS),
+    ("-h", {}, 2, "word 0 is wrong", HELPS),
+    ("retsore in=x", {}, 2, "word 0 is wrong", "retsore is no verb: did you mean restore"),
+    ("zzzzzzz", {}, 2, "word 0 is wrong", "zzzzzzz is no verb; the verbs are compress play restore show trial multi late table forecast"),
+    (COMPRESS.replace("bits=8", "bits=08"), {}, 2, "word 3 is wrong", "bits=08: the bits of a packet, 1 to 49152, of trial 1 to 4096" + NUMBER),
+    (COMPRESS.replace("apid=100", "apid=2047"), {}, 2, "word 4 is wrong", "apid=2047: the APID, 0 to 2046" + NUMBER),
+    ("restore in=a out=b report=c bits=8", {}, 2, "word 5 is wrong", "apid= is missing: the APID, 0 to 2046"),
+    ("compress", {}, 2, "word 1 is wrong", "in= is missing: a file to read, or - for standard input"),
+    ("restore in=a out=a report=c bits=8 apid=100", {}, 2, "word 2 is wrong", "out=a: another key has this name"),
+    ("restore in=a in=b", {}, 2, "word 2 is wrong", "in=b: an earlier word has this key"),
+    ("restore in=", {}, 2, "word 1 is wrong", "in=: a file to read, or - for standard input"),
+    ("show in=x pakets=3", {}, 2, "word 2 is wrong", "show has no key pakets; the keys of show are in out bits apid"),
+    ("show in", {}, 2, "word 1 is wrong", "in has no =; the keys of show are in out bits apid"),
+    ("compress mask=123 in=a out=b bits=13 apid=1 robust=2", {}, 2, "word 1 is wrong",
+     "mask=123: the first mask, two hexadecimal digits for each byte of a packet"),
+    (SHOW, {}, 1, "reading failed", "x: No such file or directory (os error 2)"),
+    (SHOW.replace("in=x", "in=."), {}, 1, "reading failed", ".: Is a directory (os error 21)"),
+    (PLAY, {"x": STORE}, 1, "reading failed", "s: No such file or directory (os error 2)"),
+    (SHOW.replace("out=y", "out=no/y"), {"x": STORE}, 1, "writing failed", "no/y: No such file or directory (os error 2)"),
+    (SHOW.replace("out=y", "out=."), {"x": STORE}, 1, "writing failed", ".: Is a directory (os error 21)"),
+    (SHOW.replace("out=y", "out=./x"), {"x": STORE}, 1, "writing failed", "./x: the command reads this file"),
+    (PLAY, {"x": STORE, "s": b"drop,1,2,1\n\ndro\x1bp,2,2,1\n"}, 3, "side row 2 is wrong", "dro?p,2,2,1"),
+    (FORECAST, {"s": b"", "x": b"drop,2,1,1\n"}, 3, "script row 1 is wrong", "drop,2,1,1"),
+    (COMPRESS.replace("bits=8", "bits=16"), {"x": b"abc"}, 4, "recording ends inside packet 1", "what came before stands in y.part"),
+    (RESTORE, {"x": STORE[:-1]}, 4, "store packet at byte 28 is cut", "what came before stands in y.part and z.part"),
+    # There is no second line where nothing is known, where the text came from standard input, or where a quote may hide the end of a row.
+    (PLAY.replace("script=s", "script=-"), {"x": STORE}, 3, "side row 1 is wrong", None),
+    (PLAY, {"x": STORE, "s": b'"drop",2,1,1\n'}, 3, "side row 1 is wrong", None),
+    (SHOW.replace("out=y", "out=/dev/full"), {"x": STORE}, 1, "writing failed", None),
+]
+
+
+def explains(runner):
+    """Whether a refusal has this second line."""
+    for words, before, status, first, second in SECOND_LINES:
+        wanted = "".join(f"pocket: {line}\r\n" for line in (first, second) if line).encode()
+        pieces = 1 if "script=-" in words else 0
+        found = watched(runner, words, before, pieces=pieces)[:2]
+        if found != (status, wanted):
+            return f"{words} ended with {found[0]} and told {found[1][:300]}"
+    return None
+
+
 def tries():
     """What is tried: each with its name, and a function that takes the runner and gives what is wrong, or None."""
     return [("progress", tells), ("progress of a pipe", tells_of_pipes), ("progress before a refusal", tells_before_refusals),
-            ("progress at most ten times a second", tells_seldom), ("progress that is hidden", hides), ("progress without a terminal", is_silent)]
+            ("progress at most ten times a second", tells_seldom), ("progress that is hidden", hides), ("progress without a terminal", is_silent),
+            ("second lines of refusals", explains)]

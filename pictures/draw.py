@@ -245,7 +245,7 @@ def check_report(text, values, count, limits):
 
 
 def strip(name, values, limit, top, left):
-    """A field over the packets' numbers: its values, its limits as lines, and a mark at each value out of them."""
+    """A field over the packets' places in the recording: its values, its limits as lines, and a mark at each value out of them."""
     low, high = min(values + list(limit or ())), max(values + list(limit or ()))
     at = lambda value: top + HIGH - (HIGH * (value - low) / (high - low) if high > low else HIGH / 2)
     across = lambda t: left + WIDE * (t + 0.5) / len(values)
@@ -279,7 +279,7 @@ def draw_table(text, report, fields):
     if bottom > 40:
         step = max(1, 10 ** (len(str(count)) - 1) // (1 if count >= 4 * 10 ** (len(str(count)) - 1) else 5))
         parts += [words(left + WIDE * (t + 0.5) / count, bottom + 16, str(t), 10, "middle") for t in range(0, count, step)]
-        parts.append(words(left, bottom + 36, "Dashed lines: limits. Triangle up: a value above its limit; triangle down: one below it. Under the strips: the packets' numbers.", 11))
+        parts.append(words(left, bottom + 36, "Dashed lines: limits. Triangle up: a value above its limit; triangle down: one below it. Under the strips: the packets' places in the recording.", 11))
     return picture(left + WIDE + 90, bottom + 50, title, [words(14, 22, title, 14, weight="bold"), *parts])
 
 

@@ -153,6 +153,24 @@ module _ (bytes new : List ℕ) (capacity words word held room value width : ℕ
       rw (words_before bytes new words (joined_word word value held width) (omega (arith, h.within, h.bytes_fit)) has, joined_bits word value held width (omega arith) h.small h.clean fits)
       (sym (append_assoc (bits_of (take (8 * words) bytes)) (number_bits held (word / 2 ^ (64 - held))) (number_bits width value)))
 
+-- a word after the words of other bytes, with as many bits of it as they have
+module _ (bytes others new : List ℕ) (capacity words word held room other_capacity other_words other_word other_held other_room : ℕ) (h : HasRoom bytes capacity words word held room) (o : HasRoom others other_capacity other_words other_word other_held other_room) (within : 64 * other_words + other_held ≤ room)
+    (same : length new ≡ length bytes) (has : HasWord others new other_words other_word) where
+  pub HasRoom-copied : HasRoom new capacity other_words other_word other_held room
+  HasRoom-copied = record {
+    within = within;
+    most = h.most;
+    bytes_fit = same ∙ h.bytes_fit;
+    taken = h.taken;
+    short = o.short;
+    small = o.small;
+    clean = o.clean;
+    kept = λ some. rw (words_before others new other_words other_word (omega (arith, o.within, o.bytes_fit)) has) has;
+  }
+
+  pub written-copied : written_bits new other_words other_word other_held ≡ written_bits others other_words other_word other_held
+  written-copied = rw (words_before others new other_words other_word (omega (arith, o.within, o.bytes_fit)) has) refl
+
 -- bytes with two words written after the given number of bytes
 abbrev pub HasWords : List ℕ → List ℕ → ℕ → ℕ → ℕ → Type 0
 HasWords bytes new words first second = take (8 * words + 16) new ≡ take (8 * words) bytes ++ to_be_bytes w64 first ++ to_be_bytes w64 second

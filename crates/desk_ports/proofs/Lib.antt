@@ -4,6 +4,7 @@ pub mod ReadAheads
 pub mod Runs
 pub mod Courses
 pub mod Steps
+pub mod Parts
 pub mod Logs
 pub mod Cursors
 pub mod Held

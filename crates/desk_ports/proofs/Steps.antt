@@ -96,7 +96,7 @@ WroteFront-report a b bytes cut = record { stand = to_report cut.front; wrote = 
 
 -- ---- a turn
 
-Ran-taken : (a b c : Meanings) (taken : List ℕ) (outputs : Outputs) → Moves a b inlet.Main taken → Wrote b c outputs → Ran a c taken outputs.output outputs.report
+pub Ran-taken : (a b c : Meanings) (taken : List ℕ) (outputs : Outputs) → Moves a b inlet.Main taken → Wrote b c outputs → Ran a c taken outputs.output outputs.report
 Ran-taken a b c taken outputs moves wrote = subst (λ (l : List ℕ). Ran a c l outputs.output outputs.report) (append-nil taken) (Ran-then a b c taken [] [] outputs.output [] outputs.report (Ran-moves a b taken moves) wrote)
 
 -- bytes were taken, and all that is owed for them was written
@@ -128,7 +128,7 @@ IsCutShort-wrote work next a b outputs steps front = IsCutShort-front work next 
 
 -- ---- the end
 
-Went-end : (a b c : Meanings) (stand : Outputs) → Moves a b inlet.Main [] → IsAtEnd (left a inlet.Main) → Wrote b c stand → Went a c [] stand
+pub Went-end : (a b c : Meanings) (stand : Outputs) → Moves a b inlet.Main [] → IsAtEnd (left a inlet.Main) → Wrote b c stand → Went a c [] stand
 Went-end a b c stand moves at_end wrote =
     let ran = Ran-taken a b c [] stand moves wrote in
     record { taken = []; rest = []; split = refl; told = IfSome-IsAtEnd (left c inlet.Main) (subst IsAtEnd (ran.input ∙ sym (prepend_known-none (left c inlet.Main))) at_end); ran = ran }

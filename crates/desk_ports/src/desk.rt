@@ -11,7 +11,7 @@ use thiserror::Error;
 #[error("the desk failed")]
 pub struct Failed;
 
-/// Where bytes come in: the side input (a schedule or a script) or the main one.
+/// Where bytes come in: the side input (a schedule, a script, streams or fields) or the main one.
 #[derive(Clone, Copy, Debug, PartialEq, Eq)]
 pub enum Inlet {
     Side,

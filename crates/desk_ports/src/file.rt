@@ -108,11 +108,6 @@ fn is_standard_output(name: &str) -> bool
     matches!(name, "-" | "/dev/stdout" | "/dev/fd/1" | "/proc/self/fd/1")
 }
 
-// Which file of the system standard output is.
-fn standard_output(rt: &HostRuntime) -> Option<Node> {
-    Node::named(rt, "/dev/stdout")
-}
-
 // Where the bytes of an outlet go. They are gathered, and handed to the system when there are enough. An output that is
 // written to a part, a file beside its name, waits for its name.
 #[derive(Drop)]
@@ -123,22 +118,22 @@ enum Sink {
 }
 
 impl Sink {
-    // What stands under the name is not changed. It fails if it would take the place of one of the `spared` files, or of
-    // the other output.
-    fn open(rt: &HostRuntime, name: &str, spared: &[Option<Node>], other: &Sink) -> io::Result<Sink>
+    // What stands under the name is not changed. It fails if it would take the place of one of the files that are `read`,
+    // or of the other output.
+    fn open(rt: &HostRuntime, name: &str, read: &[Option<Node>], other: &Sink) -> io::Result<Sink>
         ensures opened { IfOk result (λ sink. IsTrue (is_opened_sink sink)) }
         ensures none { IfOk result (λ sink. gathered sink ≡ []) }
         ensures standard { IfOk result
             (λ sink. is_standard_output sink ≡ names_standard_output name.now) }
     {
         if is_standard_output(name) {
-            if other.replaces(rt, standard_output(rt)) {
+            if other.replaces(rt, Node::standard_output(rt)) {
                 return Err(refused());
             }
             let stdout = BufWriter::with_capacity(rt.alloc(), GATHERED, rt.stdout())?;
             return Ok(Sink::StandardOutput(stdout));
         }
-        let (file, part) = Part::open(rt, name, spared, other.node(rt), other.part())?;
+        let (file, part) = Part::open(rt, name, read, other.node(rt), other.part())?;
         let file = BufWriter::with_capacity(rt.alloc(), GATHERED, file)?;
         Ok(Sink::File(file, part))
     }
@@ -151,7 +146,7 @@ impl Sink {
     // Which file of the system it is, unless it is written to under its own name.
     fn node(&self, rt: &HostRuntime) -> Option<Node> {
         match self {
-            Sink::StandardOutput(_) => standard_output(rt),
+            Sink::StandardOutput(_) => Node::standard_output(rt),
             Sink::Nothing | Sink::File(..) => self.part().map(|part| part.node()),
         }
     }
@@ -354,16 +349,12 @@ impl<'a> FileDesk<'a> {
         ensures standard { IfOk result
             (λ sink. is_standard_output sink ≡ names_standard_output name.now) }
     {
-        let spared = [
-            self.side.node(self.rt)?,
-            self.input.node(self.rt)?,
-            standard_output(self.rt),
-        ];
+        let read = [self.side.node(self.rt)?, self.input.node(self.rt)?];
         let other = match outlet {
             Outlet::Main => &self.report,
             Outlet::Report => &self.output,
         };
-        Sink::open(self.rt, name, &spared, other)
+        Sink::open(self.rt, name, &read, other)
     }
 }
 

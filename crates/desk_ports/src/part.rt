@@ -20,6 +20,11 @@ impl Node {
         }
     }
 
+    /// The node of standard output.
+    pub fn standard_output(rt: &HostRuntime) -> Option<Node> {
+        Node::named(rt, "/dev/stdout")
+    }
+
     /// The node of the file that has this name, or of the file that a link of this name points to.
     pub fn named(rt: &HostRuntime, name: &str) -> Option<Node> {
         let metadata = fs::metadata(rt, name).ok()?;
@@ -41,12 +46,12 @@ impl Part {
     /// Opens what an output is written to: the file that has this name, if it is a device, a pipe or something else that
     /// is not a regular file, and otherwise a part beside the name. Nothing that exists under the name is changed.
     ///
-    /// It fails if the part would have to replace one of the `spared` files, or the other output or what that is written
-    /// to, which is the file `taken`.
+    /// It fails if one of the files that are `read` has this name, by whatever link, or if the part would have to replace
+    /// one of them, or the other output or what that is written to, which is the file `taken`.
     pub fn open(
         rt: &HostRuntime,
         name: &str,
-        spared: &[Option<Node>],
+        read: &[Option<Node>],
         taken: Option<Node>,
         other: Option<&Part>,
     ) -> io::Result<(File, Option<Part>)> {
@@ -56,15 +61,16 @@ impl Part {
                 if !metadata.is_file() {
                     return Ok((standing, None));
                 }
-                if taken == Some(Node::of(&metadata)) {
+                let node = Some(Node::of(&metadata));
+                if taken == node || read.contains(&node) {
                     return Err(refused());
                 }
-                let (file, part) = Part::beside(rt, name, spared, taken, other)?;
+                let (file, part) = Part::beside(rt, name, read, taken, other)?;
                 file.set_permissions(metadata.permissions())?;
                 Ok((file, Some(part)))
             }
             Err(error) if error.kind() == io::ErrorKind::NotFound => {
-                let (file, part) = Part::beside(rt, name, spared, taken, other)?;
+                let (file, part) = Part::beside(rt, name, read, taken, other)?;
                 Ok((file, Some(part)))
             }
             Err(error) => Err(error),
@@ -75,13 +81,13 @@ impl Part {
     fn beside(
         rt: &HostRuntime,
         name: &str,
-        spared: &[Option<Node>],
+        read: &[Option<Node>],
         taken: Option<Node>,
         other: Option<&Part>,
     ) -> io::Result<(File, Part)> {
         let target = target_of(rt, name)?;
         let own = format!(in rt.alloc(); "{target}.part")?;
-        remove_standing(rt, &own, spared, taken, other)?;
+        remove_standing(rt, &own, read, taken, other)?;
         let file = OpenOptions::new()
             .write(true)
             .create_new(true)
@@ -125,12 +131,12 @@ fn target_of(rt: &HostRuntime, name: &str) -> io::Result<String> {
     Ok(format!(in rt.alloc(); "{}", path.display())?)
 }
 
-/// Removes what exists under the name of a part. It is an earlier part, and not a spared file, a link, or what the other
-/// output is or is written to.
+/// Removes what exists under the name of a part. It is an earlier part, and not a file that is read, standard output, a
+/// link, or what the other output is or is written to.
 fn remove_standing(
     rt: &HostRuntime,
     own: &str,
-    spared: &[Option<Node>],
+    read: &[Option<Node>],
     taken: Option<Node>,
     other: Option<&Part>,
 ) -> io::Result<()> {
@@ -139,9 +145,9 @@ fn remove_standing(
         Err(error) => Err(error),
         Ok(standing) => {
             let node = Node::of(&standing);
-            let is_spared = spared.contains(&Some(node));
+            let is_used = read.contains(&Some(node)) || Node::standard_output(rt) == Some(node);
             let is_other = taken == Some(node) || is_target(rt, node, other);
-            if !standing.is_file() || is_spared || is_other {
+            if !standing.is_file() || is_used || is_other {
                 return Err(refused());
             }
             fs::remove_file(rt, own)
@@ -161,6 +167,6 @@ fn is_target(rt: &HostRuntime, node: Node, other: Option<&Part>) -> bool {
 pub fn refused() -> io::Error {
     io::Error::new(
         io::ErrorKind::AlreadyExists,
-        "the part of an output would replace another file",
+        "an output would replace another file of the run",
     )
 }

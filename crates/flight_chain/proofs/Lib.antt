@@ -6,3 +6,4 @@ mod Readings
 mod CompressCourses
 mod Flights
 pub mod RecordTurns
+pub mod RecordParts

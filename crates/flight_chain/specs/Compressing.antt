@@ -1,5 +1,5 @@
 -- What compressing a recording owes: the store of its history.
-use Rattle.std.specs.Prelude.{◌≡◌, ℕ, ◌%◌, ◌≤◌, Bool, true, false, List, [], ◌∷◌, ◌++◌, length, unwrap_or}
+use Rattle.std.specs.Prelude.{◌≡◌, ℕ, ◌+◌, ◌*◌, ◌%◌, ◌≤◌, Bool, true, false, List, [], ◌∷◌, ◌++◌, length, unwrap_or}
 use Rattle.bit_vectors.specs.Vectors.{IsVector}
 use Rattle.desk_ports.specs.declared.desk.Outlet.{Outlet}
 use Rattle.desk_ports.specs.declared.desk.Outlet.TheVariants as outlet
@@ -104,11 +104,12 @@ left_to_compress k inputs = record {
 abbrev pub rest_work : Compression → List (List Bool) → List ℕ → Work ℕ RecordFault
 rest_work k inputs ahead = work_on (left_to_compress k inputs) k.places (length inputs) ahead
 
--- the input has as many places as the mask
+-- the input has as many places as the mask, and the pen has room for its packet
 pub record IsCompressing (s : Compressing) : Type 0 where
   pub vector : IsVector s.input
   pub robust : s.robust ≤ 7
   pub places : length s.encoder.masks.mask ≡ length s.input
+  pub pen : s.pen.room ≡ 10 * length s.input + 43
 
 -- this work is owed: that of the rest of the recording, when some inputs are taken
 pub record Owes (s : Compressing) (work : Work ℕ RecordFault) : Type 0 where

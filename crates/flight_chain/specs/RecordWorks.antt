@@ -1,6 +1,7 @@
 -- Work over a recording, defined by the walk over it.
 use Rattle.std.specs.Prelude.{ℕ, Bool, List, ◌++◌}
 use Rattle.desk_ports.specs.Courses.{Outputs, Course, Work}
+use Rattle.desk_ports.specs.Parts.{if_whole}
 use Rattle.flight_chain.specs.declared.fault.RecordFault.{RecordFault}
 use Rattle.flight_chain.specs.Recordings.{RecordingWalk, recording_walk_from}
 
@@ -25,3 +26,12 @@ course_on k f t ahead bytes = record {
 -- the work over the rest of a recording
 abbrev pub work_on : {A : Type 0} → RecordWork A → ℕ → ℕ → List ℕ → Work A RecordFault
 work_on k f t ahead = record { course = course_on k f t ahead; answer = λ bytes. k.answer (walk_on f t ahead bytes).inputs }
+
+-- the parts that inputs owe, and, if the recording is whole, those that are owed last
+pub record RecordParts : Type 0 where
+  pub before : List (List Bool) → List Outputs
+  pub after : List (List Bool) → List Outputs
+
+-- the parts that are owed for the rest of a recording
+abbrev pub parts_on : RecordParts → ℕ → ℕ → List ℕ → List ℕ → List Outputs
+parts_on k f t ahead bytes = k.before (walk_on f t ahead bytes).inputs ++ if_whole (walk_on f t ahead bytes).ending (k.after (walk_on f t ahead bytes).inputs)

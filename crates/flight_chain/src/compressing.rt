@@ -10,15 +10,15 @@ ghost use Rattle.flight_chain.specs.Stores.{data_at};
 
 use crate::fault::{FlightFault, RecordFault};
 use crate::reading::read_input;
-use bit_vectors::{Bits, NoMemory};
+use bit_vectors::{BitPen, Bits, NoMemory};
 use desk_ports::{Desk, Failed, Outlet, ReadAhead, Run, Turn};
-use packet_encode::Encoder;
+use packet_encode::{Encoder, room};
 use packet_store::{PERIOD, StoreWriter};
 use side_tables::{Lookup, Schedule};
 use std::alloc::Global;
 
 /// An encoder with its schedule, the required robustness of packets to which that gives none, and the writer of its
-/// store; what is read of the recording, and a vector for an input.
+/// store; what is read of the recording, a vector for an input, and a pen for its packet.
 #[derive(Debug, Drop)]
 pub struct Compressing {
     encoder: Encoder,
@@ -27,6 +27,7 @@ pub struct Compressing {
     writer: StoreWriter,
     ahead: ReadAhead,
     input: Bits,
+    pen: BitPen,
 }
 
 impl Run for Compressing {
@@ -36,9 +37,14 @@ impl Run for Compressing {
 
     type Data = RecordFault;
 
+    ghost use Rattle.desk_ports.specs.declared.desk.Outlet.TheVariants as outlet;
     ghost use Rattle.flight_chain.specs.Compressing.{Owes, is_main, stop_by};
 
     ghost owes = { Owes };
+
+    ghost owes_parts = { λ _ _. ⊥ };
+
+    ghost first = { outlet.Main };
 
     ghost stop_of = { stop_by };
 
@@ -86,11 +92,12 @@ impl Compressing {
     {
         Ok(Compressing {
             encoder: Encoder::open(alloc, f, mask)?,
-            plan: Lookup::new(plan),
+            plan: Lookup::open(alloc, plan)?,
             robust,
             writer: StoreWriter::open(alloc, apid)?,
             ahead: ReadAhead::open(alloc)?,
             input: Bits::zeros(alloc, f)?,
+            pen: BitPen::with_room(alloc, room(f))?,
         })
     }
 
@@ -119,10 +126,12 @@ impl Compressing {
         ensures input { self.new.input ≡ self.old.input }
         ensures ahead { self.new.ahead ≡ self.old.ahead }
     {
+        self.pen.clear();
         let given = self.plan.at(t);
         let robust = given.robust.unwrap_or(self.robust);
-        self.encoder.encode(&self.input, given.flags, robust);
+        self.encoder
+            .encode(&self.input, given.flags, robust, &mut self.pen);
         let count = (u64::from(t) % PERIOD) as u16;
-        self.writer.put(desk, count, self.encoder.bytes())
+        self.writer.put(desk, count, self.pen.bytes())
     }
 }

@@ -2,5 +2,3 @@ pub mod Sure
 pub mod Foresight
 pub mod Longest
 pub mod Rows
-pub mod Claimed
-pub mod LastRows

@@ -3,4 +3,3 @@ pub mod Stretches
 pub mod Texts
 pub mod Outlooks
 pub mod Worked
-pub mod Ranks

@@ -1,5 +1,5 @@
 -- What is kept of the packets so far.
-use Rattle.std.specs.Prelude.{◌≡◌, ◌<◌, ◌≤◌, ℕ, zero, suc, false, length, slice_index_or, List, [], Option, Some, None, if◌then◌else◌}
+use Rattle.std.specs.Prelude.{◌≡◌, ◌≤◌, ℕ, zero, suc, List, [], Option, Some, None, if◌then◌else◌}
 use Rattle.std.specs.List.{flat_map}
 use Rattle.std.specs.Option.{option_map_or}
 use Rattle.side_tables.specs.declared.rows.CopyRow.{CopyRow}
@@ -31,17 +31,6 @@ pub record IsForeseenAs (p : Prospect) (t : ℕ) (foreseen : Foreseen) : Type 0 
   pub content : foreseen.content ≡ (p.flags t).r
   pub robust : foreseen.robust ≡ p.robust t
   pub copies : foreseen.copies ≡ p.copies t
-
-abbrev pub no_foreseen : Foreseen
-no_foreseen = record { mask = false; content = false; robust = 0; copies = 0 }
-
-abbrev pub foreseen_at : List Foreseen → ℕ → Foreseen
-foreseen_at all t = slice_index_or all t no_foreseen
-
--- this is what the prospect says of the first packets
-pub record AreForeseen (p : Prospect) (all : List Foreseen) : Type 0 where
-  pub each : (t : ℕ) → t < length all → IsForeseenAs p t (foreseen_at all t)
-  pub few : (t : ℕ) → t < length all → (foreseen_at all t).copies ≤ 9
 
 -- the latest of the first t packets whose mask is sure, and the latest sure one
 abbrev pub latest_at : Prospect → ℕ → Latest
@@ -80,8 +69,7 @@ pub record ForecastState : Type 0 where
   pub packets : ℕ
   pub outlook : OutlookState
 
--- a forecast of so many packets, and how many they can be
-pub record IsForecast (count : ℕ) (forecast : ForecastState) : Type 0 where
-  pub all : forecast.packets ≡ count
-  pub some : 1 ≤ count
-  pub most : count ≤ 1000000
+-- how many packets there can be
+pub record IsCount (packets : ℕ) : Type 0 where
+  pub some : 1 ≤ packets
+  pub most : packets ≤ 1000000

@@ -29,13 +29,13 @@ pub struct Forecast {
 
 impl Model for Forecast {
     ghost use Rattle.std.specs.Prelude.{◌≡◌};
-    ghost use Rattle.forecast.specs.Outlooks.{ForecastState, IsForecast};
+    ghost use Rattle.forecast.specs.Outlooks.{ForecastState, IsCount};
 
     ghost Value = { ForecastState };
 
-    ghost view = { λ f. f.foresight };
+    ghost view = { λ f. record { packets = f.packets; outlook = f.foresight } };
 
-    ghost invariant = { λ f. IsForecast f.packets f.foresight };
+    ghost invariant = { λ f. IsCount f.packets };
 }
 
 impl Forecast {
@@ -56,7 +56,7 @@ impl Forecast {
           outlook = record { plan = plan; robust = robust; script = script };
         }) }
     {
-        let foresight = Foresight::open(alloc, packets, robust, plan, script)?;
+        let foresight = Foresight::open(alloc, robust, plan, script)?;
         Ok(Forecast { packets, foresight })
     }
 
@@ -71,21 +71,21 @@ impl Forecast {
             (λ sure. sure ≡ sure_count (foresees self.outlook) self.packets) }
         ensures cause { HasWriteCause (D.counts desk.old) (D.counts desk.new) result }
     {
-        write_text(desk, &self.foresight, self.packets)
+        let mut foresight = self.foresight;
+        write_text(desk, &mut foresight, self.packets)
     }
 }
 
 /// Writes the forecast for so many packets, and tells how many are sure.
-fn write_text<D: Desk>(desk: &mut D, foresight: &Foresight, packets: u32) -> Result<u64, Failed>
+fn write_text<D: Desk>(desk: &mut D, foresight: &mut Foresight, packets: u32) -> Result<u64, Failed>
     requires ready { IsReadyOut (D.meaning desk.old) Outlet.Main }
     requires some { 1 ≤ packets }
     requires most { packets ≤ 1000000 }
-    requires all { packets ≤ foresight.now.packets }
     ensures added { OnOk result (Adds (D.meaning desk.old) (D.meaning desk.new) Outlet.Main
-        (forecast_text (foresees foresight.now.outlook) packets)) }
+        (forecast_text (foresees foresight.old) packets)) }
     ensures front { OnErr result (AddsFront (D.meaning desk.old) (D.meaning desk.new)
-        Outlet.Main (forecast_text (foresees foresight.now.outlook) packets)) }
-    ensures sure { IfOk result (λ sure. sure ≡ sure_count (foresees foresight.now.outlook) packets) }
+        Outlet.Main (forecast_text (foresees foresight.old) packets)) }
+    ensures sure { IfOk result (λ sure. sure ≡ sure_count (foresees foresight.old) packets) }
     ensures cause { HasWriteCause (D.counts desk.old) (D.counts desk.new) result }
 {
     write_all(desk, Outlet::Main, HEADER.as_bytes())?;
@@ -97,19 +97,19 @@ fn write_text<D: Desk>(desk: &mut D, foresight: &Foresight, packets: u32) -> Res
 /// Writes a line for each stretch of so many packets, and tells what is kept of them.
 fn write_stretches<D: Desk>(
     desk: &mut D,
-    foresight: &Foresight,
+    foresight: &mut Foresight,
     packets: u32,
 ) -> Result<Running, Failed>
     requires ready { IsReadyOut (D.meaning desk.old) Outlet.Main }
     requires some { 1 ≤ packets }
     requires most { packets ≤ 1000000 }
-    requires all { packets ≤ foresight.now.packets }
     ensures added { OnOk result (Adds (D.meaning desk.old) (D.meaning desk.new) Outlet.Main
-        (stretch_rows (fate_of (foresees foresight.now.outlook)) packets)) }
+        (stretch_rows (fate_of (foresees foresight.old)) packets)) }
     ensures front { OnErr result (AddsFront (D.meaning desk.old) (D.meaning desk.new) Outlet.Main
-        (stretch_rows (fate_of (foresees foresight.now.outlook)) packets)) }
+        (stretch_rows (fate_of (foresees foresight.old)) packets)) }
     ensures running { IfOk result
-        (λ running. running ≡ running_at (foresees foresight.now.outlook) packets) }
+        (λ running. running ≡ running_at (foresees foresight.old) packets) }
+    ensures same { foresight.new ≡ foresight.old }
     ensures cause { HasWriteCause (D.counts desk.old) (D.counts desk.new) result }
 {
     let mut running = Running::none();
@@ -123,20 +123,20 @@ fn write_stretches<D: Desk>(
 /// Takes the packet `t`, and writes the line of the stretch that ends just before it, if one does.
 fn write_next<D: Desk>(
     desk: &mut D,
-    foresight: &Foresight,
+    foresight: &mut Foresight,
     running: &mut Running,
     t: u32,
 ) -> Result<(), Failed>
     requires ready { IsReadyOut (D.meaning desk.old) Outlet.Main }
     requires few { t < 1000000 }
-    requires inside { t < foresight.now.packets }
-    requires running { running.old ≡ running_at (foresees foresight.now.outlook) t }
+    requires running { running.old ≡ running_at (foresees foresight.old) t }
     requires right { IsTally running.old.tally }
     ensures added { OnOk result (Adds (D.meaning desk.old) (D.meaning desk.new) Outlet.Main
-        (row_of (ended_before (fate_of (foresees foresight.now.outlook)) t))) }
+        (row_of (ended_before (fate_of (foresees foresight.old)) t))) }
     ensures front { OnErr result (AddsFront (D.meaning desk.old) (D.meaning desk.new) Outlet.Main
-        (row_of (ended_before (fate_of (foresees foresight.now.outlook)) t))) }
-    ensures running { running.new ≡ running_at (foresees foresight.now.outlook) (t + 1) }
+        (row_of (ended_before (fate_of (foresees foresight.old)) t))) }
+    ensures running { running.new ≡ running_at (foresees foresight.old) (t + 1) }
+    ensures same { foresight.new ≡ foresight.old }
     ensures right { IsTally running.new.tally }
     ensures cause { HasWriteCause (D.counts desk.old) (D.counts desk.new) result }
 {

@@ -1,12 +1,10 @@
 //! What is known of packets before there is a recording.
 
-ghost use Rattle.std.specs.Prelude.{◌≡◌, ◌≤◌, ◌<◌, IfOk, length};
-ghost use Rattle.forecast.specs.Outlooks.{AreForeseen, foresees};
-ghost use Rattle.forecast.specs.Prospects.{prospect_of};
+ghost use Rattle.std.specs.Prelude.{◌≡◌, ◌≤◌, IfOk};
+ghost use Rattle.forecast.specs.Outlooks.{IsForeseenAs, foresees};
 
-use crate::columns::Columns;
 use bit_vectors::NoMemory;
-use side_tables::{Schedule, Script};
+use side_tables::{CopyLookup, Lookup, Schedule, Script};
 use std::alloc::Global;
 use std::marker::Model;
 
@@ -23,86 +21,54 @@ pub struct Foreseen {
     pub copies: u8,
 }
 
-/// A schedule, the required robustness of packets to which it gives none, a script, and what they say of each of the
-/// first packets. Contracts see how many packets these are, and the rows of both.
+/// A schedule, the required robustness of packets to which it gives none, and a script. Contracts see the rows of both.
 #[derive(Debug, Drop)]
 pub struct Foresight {
-    plan: Schedule,
+    plan: Lookup,
     robust: u8,
-    script: Script,
-    foreseen: Vec<Foreseen>,
+    script: CopyLookup,
 }
 
 impl Model for Foresight {
-    ghost use Rattle.std.specs.Prelude.{length};
-    ghost use Rattle.forecast.specs.Outlooks.{AreForeseen, ForecastState};
-    ghost use Rattle.forecast.specs.Prospects.{prospect_of};
+    ghost use Rattle.forecast.specs.Outlooks.{OutlookState};
 
-    ghost Value = { ForecastState };
+    ghost Value = { OutlookState };
 
-    ghost view = { λ s. record {
-      packets = length s.foreseen.items;
-      outlook = record { plan = s.plan; robust = s.robust; script = s.script };
-    } };
-
-    ghost invariant = { λ s. AreForeseen (prospect_of s.plan s.robust s.script) s.foreseen.items };
+    ghost view = { λ s. record { plan = s.plan; robust = s.robust; script = s.script } };
 }
 
 impl Foresight {
-    ghost use Rattle.forecast.specs.Outlooks.{IsForeseenAs};
-
-    /// What is foreseen of so many packets, at most 1,000,000, under a schedule, a required robustness of at most 7, and a
-    /// script.
+    /// What is foreseen under a schedule, a required robustness and a script. Takes all memory that `at` needs.
     pub fn open(
         alloc: Global,
-        packets: u32,
         robust: u8,
         plan: Schedule,
         script: Script,
     ) -> Result<Foresight, NoMemory>
-        requires few { packets ≤ 1000000 }
-        requires robust { robust ≤ 7 }
-        ensures { IfOk result (λ foresight. foresight ≡ record {
-          packets = packets;
-          outlook = record { plan = plan; robust = robust; script = script };
-        }) }
+        ensures { IfOk result
+            (λ foresight. foresight ≡ record { plan = plan; robust = robust; script = script }) }
     {
-        let foreseen = foreseen_of(alloc, packets, robust, &plan, &script)?;
         Ok(Foresight {
-            plan,
+            plan: Lookup::open(alloc, plan)?,
             robust,
-            script,
-            foreseen,
+            script: CopyLookup::open(alloc, script)?,
         })
     }
 
-    /// What is foreseen of the packet `t`.
-    pub fn at(&self, t: u32) -> Foreseen
-        requires { t < self.now.packets }
-        ensures foreseen { IsForeseenAs (foresees self.now.outlook) t result }
+    /// What is foreseen of the packet `t`. It takes no memory.
+    pub fn at(&mut self, t: u32) -> Foreseen
+        ensures foreseen { IsForeseenAs (foresees self.old) t result }
         ensures copies { result.copies ≤ 9 }
+        ensures same { self.new ≡ self.old }
     {
-        self.foreseen[t as usize]
+        let given = self.plan.at(t);
+        let robust = given.robust.unwrap_or(self.robust);
+        let forced = t <= u32::from(robust);
+        Foreseen {
+            mask: forced || given.flags.f,
+            content: forced || given.flags.r,
+            robust,
+            copies: self.script.at(t),
+        }
     }
-}
-
-/// What is foreseen of each of so many packets.
-fn foreseen_of(
-    alloc: Global,
-    packets: u32,
-    robust: u8,
-    plan: &Schedule,
-    script: &Script,
-) -> Result<Vec<Foreseen>, NoMemory>
-    requires few { packets ≤ 1000000 }
-    ensures len { IfOk result (λ all. length all.items ≡ packets) }
-    ensures foreseen { IfOk result
-        (λ all. AreForeseen (prospect_of plan.now robust script.now) all.items) }
-{
-    let columns = Columns::open(alloc, packets, plan, script)?;
-    let mut foreseen = Vec::new(alloc);
-    for t in 0..packets {
-        foreseen.push(columns.at(t, packets, robust, plan, script))?;
-    }
-    Ok(foreseen)
 }

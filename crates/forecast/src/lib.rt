@@ -1,14 +1,11 @@
 //! What will be written under a schedule and a loss, whatever the recording is.
 #![tactic(auto)]
 
-mod claims;
-mod columns;
 mod fate;
 mod forecast;
 mod foreseen;
 mod latest;
 mod laws;
-mod ranks;
 mod running;
 mod stretch;
 

@@ -1,11 +1,12 @@
 -- What is written of one arrival: its rows, and then its content.
-use Rattle.std.proofs.Common.{◌≡◌, ℕ, Bool, true, false, if◌then◌else◌, List, [], Option, refl, sym, ap, ◌∙◌, subst, append-nil}
+use Rattle.std.proofs.Common.{◌≡◌, inl, inr, ℕ, Bool, true, false, if◌then◌else◌, List, [], Option, refl, sym, ap, ◌∙◌, subst, append-nil}
 use Rattle.bit_vectors.specs.Vectors.{vector_bytes}
 use Rattle.desk_ports.specs.declared.desk.Outlet.TheVariants as outlet
 use Rattle.desk_ports.specs.Meanings.{Meanings, Adds, AddsFront}
 use Rattle.desk_ports.specs.Runs.{Ran}
 use Rattle.desk_ports.specs.Courses.{to_report}
-use Rattle.desk_ports.specs.Turns.{Wrote, WroteFront}
+use Rattle.desk_ports.specs.Turns.{Wrote}
+use Rattle.desk_ports.specs.Parts.{WroteFrontBy}
 use Rattle.desk_ports.proofs.Runs.{Ran-then, Ran-adds, Ran-notes}
 use Rattle.packet_decode.specs.State.{KnownVector, State}
 use Rattle.packet_decode.specs.Decoding.{Decoding, latest_content, vector_of}
@@ -47,19 +48,22 @@ pub wrote_rows : (a b : Meanings) (j : Judged) → Adds a b outlet.Report (verdi
 wrote_rows a b j first is = subst (λ (l : List ℕ). Ran a b [] l (verdict_rows j.verdict)) is (Ran-notes a b (verdict_rows j.verdict) first)
 
 -- a front of the rows
-pub front_rows : (a b : Meanings) (j : Judged) → AddsFront a b outlet.Report (verdict_rows j.verdict) → WroteFront a b (restored_texts.parts j)
+pub front_rows : (a b : Meanings) (j : Judged) → AddsFront a b outlet.Report (verdict_rows j.verdict) → WroteFrontBy outlet.Report a b (restored_texts.parts j)
 front_rows a b j cut = record {
   stand = to_report cut.front;
   wrote = Ran-notes a b cut.front cut.added;
-  fronts = record { rest = record { output = written_bytes j; report = cut.rest }; joined = λ i. record { output = written_bytes j; report = cut.joined i } };
+  front = record { fronts = record { rest = record { output = written_bytes j; report = cut.rest }; joined = λ i. record { output = written_bytes j; report = cut.joined i } }; order = inl refl };
 }
 
 -- the rows, and a front of the content
-pub front_content : (a b c : Meanings) (j : Judged) (bytes : List ℕ) → Adds a b outlet.Report (verdict_rows j.verdict) → AddsFront b c outlet.Main bytes → bytes ≡ written_bytes j → WroteFront a c (restored_texts.parts j)
+pub front_content : (a b c : Meanings) (j : Judged) (bytes : List ℕ) → Adds a b outlet.Report (verdict_rows j.verdict) → AddsFront b c outlet.Main bytes → bytes ≡ written_bytes j → WroteFrontBy outlet.Report a c (restored_texts.parts j)
 front_content a b c j bytes first cut is =
     let rows = verdict_rows j.verdict in
     record {
       stand = record { output = cut.front; report = verdict_rows j.verdict };
       wrote = rows_then a b c (verdict_rows j.verdict) cut.front first cut.added;
-      fronts = record { rest = record { output = cut.rest; report = [] }; joined = λ i. record { output = (cut.joined ∙ is) i; report = append-nil (verdict_rows j.verdict) i } };
+      front = record {
+        fronts = record { rest = record { output = cut.rest; report = [] }; joined = λ i. record { output = (cut.joined ∙ is) i; report = append-nil (verdict_rows j.verdict) i } };
+        order = inr refl;
+      };
     }

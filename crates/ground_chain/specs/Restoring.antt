@@ -1,11 +1,13 @@
 -- What restoring a store owes: the run over its packets of the chosen APID.
-use Rattle.std.specs.Prelude.{◌≡◌, ℕ, List, ◌++◌, map, Option, Some, vec_len}
+use Rattle.std.specs.Prelude.{◌≡◌, ℕ, List, [], ◌∷◌, ◌++◌, map, Option, Some, vec_len}
 use Rattle.std.specs.List.{filter}
 use Rattle.std.specs.Vec.{vec_capacity}
 use Rattle.bit_vectors.specs.Vectors.{byte_count}
 use Rattle.desk_ports.specs.Stop.{Stop}
 use Rattle.desk_ports.specs.Stop as stop
-use Rattle.desk_ports.specs.Courses.{Course, Work, to_report}
+use Rattle.desk_ports.specs.declared.desk.Outlet.TheVariants as outlet
+use Rattle.desk_ports.specs.Courses.{Course, Outputs, Work, to_report}
+use Rattle.desk_ports.specs.Parts.{if_whole}
 use Rattle.packet_store.specs.declared.fault.WalkFault.{WalkFault}
 use Rattle.packet_store.specs.SpacePackets.{Packet, is_chosen}
 use Rattle.packet_store.specs.Walks.{walk}
@@ -51,9 +53,18 @@ abbrev pub stop_by : RestoreFault → Stop WalkFault
 stop_by (restore.Store fault) = stop_of fault
 stop_by restore.WriteFault = stop.WriteFault
 
--- what is written of the arrivals: the rows of each, and its content if it is written
+-- what is written of the arrivals: the rows of each, and then its content if it is written
 abbrev pub restored_texts : Texts
-restored_texts = record { parts = λ judged. record { output = written_bytes judged; report = verdict_rows judged.verdict }; last = λ restored. to_report (end_row restored) }
+restored_texts = record {
+  parts = λ judged. record { output = written_bytes judged; report = verdict_rows judged.verdict };
+  last = λ restored. to_report (end_row restored);
+  first = outlet.Report;
+}
+
+-- the same part by part: the report's header, what is written of each arrival, and if the store is whole the report's last row
+abbrev pub restore_parts : ℕ → ℕ → List ℕ → List Outputs
+restore_parts f apid store =
+    to_report header_row ∷ map restored_texts.parts (store_run f apid store) ++ if_whole (walk (Some apid) store).ending (to_report (end_row (restored_of (store_run f apid store))) ∷ [])
 
 -- there is room for the bytes of a content of f places, and never more room, so that no memory is taken
 pub record HasContentRoom (reporting : Reporting) (f : ℕ) : Type 0 where

@@ -3,7 +3,8 @@
 ghost use Rattle.std.specs.Prelude.{◌≡◌, ℕ, Bool, OnOk, OnErr};
 ghost use Rattle.desk_ports.specs.declared.desk.Outlet.{Outlet};
 ghost use Rattle.desk_ports.specs.Meanings.{HasWriteCause};
-ghost use Rattle.desk_ports.specs.Turns.{AreReady, Wrote, WroteFront};
+ghost use Rattle.desk_ports.specs.Turns.{AreReady, Wrote};
+ghost use Rattle.desk_ports.specs.Parts.{WroteFrontBy};
 ghost use Rattle.ground_chain.specs.Accounts.{Texts};
 ghost use Rattle.ground_chain.specs.Reception.{AgreesWith};
 ghost use Rattle.ground_chain.specs.Run.{Judged};
@@ -15,8 +16,8 @@ use packet_decode::Decoder;
 
 /// What is written of a run over arrivals.
 ///
-/// `texts` is what is written of each judged arrival, and finally of the numbers of the run, `writes` the outlets that
-/// are written, and `has_room` that there is room for vectors of so many places.
+/// `texts` is what is written of each judged arrival, and finally of the numbers of the run, and the outlet that is written
+/// first each time, `writes` the outlets that are written, and `has_room` that there is room for vectors of so many places.
 pub trait Account: Drop {
     ghost texts: { Texts };
 
@@ -37,7 +38,8 @@ pub trait Account: Drop {
             → OnOk result (Wrote (D.meaning desk.old) (D.meaning desk.new) (texts.parts judged)) }
         ensures front { (judged : Judged) → judged.verdict ≡ verdict.now → AgreesWith decoder.now judged
             → OnErr result
-            (WroteFront (D.meaning desk.old) (D.meaning desk.new) (texts.parts judged)) }
+            (WroteFrontBy texts.first (D.meaning desk.old) (D.meaning desk.new)
+            (texts.parts judged)) }
         ensures room { has_room self.new decoder.now.places }
         ensures cause { HasWriteCause (D.counts desk.old) (D.counts desk.new) result };
 
@@ -47,6 +49,7 @@ pub trait Account: Drop {
         ensures wrote { OnOk result
             (Wrote (D.meaning desk.old) (D.meaning desk.new) (texts.last restored.now)) }
         ensures front { OnErr result
-            (WroteFront (D.meaning desk.old) (D.meaning desk.new) (texts.last restored.now)) }
+            (WroteFrontBy texts.first (D.meaning desk.old) (D.meaning desk.new)
+            (texts.last restored.now)) }
         ensures cause { HasWriteCause (D.counts desk.old) (D.counts desk.new) result };
 }

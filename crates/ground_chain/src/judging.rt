@@ -2,7 +2,8 @@
 
 ghost use Rattle.std.specs.Prelude.{◌≡◌, ◌^◌, ◌<◌, ◌≤◌, IfOk, OnOk, OnErr, length};
 ghost use Rattle.desk_ports.specs.Meanings.{HasWriteCause};
-ghost use Rattle.desk_ports.specs.Turns.{AreReady, Wrote, WroteFront};
+ghost use Rattle.desk_ports.specs.Turns.{AreReady, Wrote};
+ghost use Rattle.desk_ports.specs.Parts.{WroteFrontBy};
 ghost use Rattle.ground_chain.specs.Reception.{next_judged};
 ghost use Rattle.ground_chain.specs.Reckoning.{Judges, nothing_judged};
 
@@ -54,7 +55,7 @@ impl<A: Account> Judging<A> {
         ensures judges { Judges self.old self.new count bytes.now }
         ensures wrote { OnOk result (Wrote (D.meaning desk.old) (D.meaning desk.new)
             (A.texts.parts (next_judged self.old.reception count bytes.now))) }
-        ensures front { OnErr result (WroteFront (D.meaning desk.old) (D.meaning desk.new)
+        ensures front { OnErr result (WroteFrontBy A.texts.first (D.meaning desk.old) (D.meaning desk.new)
             (A.texts.parts (next_judged self.old.reception count bytes.now))) }
         ensures cause { HasWriteCause (D.counts desk.old) (D.counts desk.new) result }
     {
@@ -67,7 +68,7 @@ impl<A: Account> Judging<A> {
         requires ready { AreReady A.writes (D.meaning desk.old) }
         ensures wrote { OnOk result (Wrote (D.meaning desk.old) (D.meaning desk.new)
             (A.texts.last self.now.restored)) }
-        ensures front { OnErr result (WroteFront (D.meaning desk.old) (D.meaning desk.new)
+        ensures front { OnErr result (WroteFrontBy A.texts.first (D.meaning desk.old) (D.meaning desk.new)
             (A.texts.last self.now.restored)) }
         ensures cause { HasWriteCause (D.counts desk.old) (D.counts desk.new) result }
     {

@@ -10,7 +10,8 @@ ghost use Rattle.ground_chain.specs.Listing.{IsToldAlike, listed_texts, listing_
 ghost use Rattle.ground_chain.specs.Receiving.{store_course};
 ghost use Rattle.ground_chain.specs.Report.{HasContent, HasRowNumbers, header_row, is_repeat, is_unwritten, own_row, restored_of, run_bytes, run_report, run_rows, written_bytes};
 ghost use Rattle.ground_chain.specs.Sound.{IsExactRun, IsSoundRun, but_for_faults};
-ghost use Rattle.ground_chain.specs.Restoring.{restore_course, restored_texts, store_run};
+ghost use Rattle.ground_chain.specs.Restoring.{restore_course, restore_parts, restored_texts, store_run};
+ghost use Rattle.desk_ports.specs.Parts.{put_all};
 ghost use Rattle.ground_chain.specs.Worked.{arrival, written_verdict};
 ghost use Rattle.desk_ports.specs.Courses.{AreFronts, written_first, owed, to_output, to_report};
 ghost use Rattle.packet_store.specs.Walks.{walk};
@@ -141,6 +142,11 @@ pub fn fronts_owe_fronts()
     ensures listed { (f apid : ℕ) (front rest : List ℕ) → All (λ b. b < 256) front →
         AreFronts (listing_course f apid front).before
         (listing_course f apid (front ++ rest)).before }
+{}
+
+/// What is owed part by part is, one part after another, what is owed.
+pub fn parts_are_owed()
+    ensures { (f apid : ℕ) (store : List ℕ) → put_all (restore_parts f apid store) ≡ owed (restore_course f apid store) }
 {}
 
 /// Report and listing are accounts of one run: what a store owes as either is what is written of the same verdicts.

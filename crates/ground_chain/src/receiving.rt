@@ -26,9 +26,13 @@ impl<A: Account> Run for Receiving<A> {
     type Data = WalkFault;
 
     ghost use Rattle.ground_chain.specs.Restoring.{stop_by};
-    ghost use Rattle.ground_chain.specs.Receiving.{Owes};
+    ghost use Rattle.ground_chain.specs.Receiving.{Owes, OwesParts};
 
     ghost owes = { Owes A.texts };
+
+    ghost owes_parts = { OwesParts A.texts };
+
+    ghost first = { A.texts.first };
 
     ghost stop_of = { stop_by };
 

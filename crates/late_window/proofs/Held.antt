@@ -1,14 +1,18 @@
 -- The held arrivals, judged one after another.
 use Rattle.std.proofs.Common.{◌≡◌, ℕ, ◌+◌, ◌<◌, ◌≤◌, List, [], ◌∷◌, ◌++◌, length, take, refl, sym, ap, ◌∙◌, subst, append_assoc, length-append, arith}
 use Rattle.desk_ports.specs.Meanings.{Meanings}
-use Rattle.desk_ports.specs.Courses.{put}
-use Rattle.desk_ports.specs.Turns.{Wrote, WroteFront}
+use Rattle.desk_ports.specs.declared.desk.Outlet.TheVariants as outlet
+use Rattle.desk_ports.specs.Courses.{Outputs}
+use Rattle.desk_ports.specs.Turns.{Wrote}
+use Rattle.desk_ports.specs.Parts.{WroteWithin}
+use Rattle.ground_chain.specs.Restoring.{restored_texts}
+use Rattle.ground_chain.proofs.Reckonings.{put_all-parts}
 use Rattle.ground_chain.specs.Reckoning.{Reckoning}
 use Rattle.late_window.specs.declared.late.LateArrivals.{LateArrivals}
 use Rattle.late_window.specs.Numbers.{Numbered}
 use Rattle.late_window.specs.Lines.{Line, given_up, without_first}
-use Rattle.late_window.specs.Late.{AreJudged, held_parts}
-use Rattle.late_window.proofs.Judgings.{AreJudged-then, Wrote-then, WroteFront-more, WroteFront-next, held_parts-then, packets-judged}
+use Rattle.late_window.specs.Late.{AreJudged, held_each, held_parts, run_of}
+use Rattle.late_window.proofs.Judgings.{AreJudged-then, Wrote-then, WroteWithin-more, WroteWithin-next, held_each-then, held_parts-then, packets-judged}
 
 -- the first of them were judged, and what there is to write of these was written
 pub record JudgedPart (start now : LateArrivals) (a b : Meanings) : Type 0 where
@@ -41,22 +45,21 @@ JudgedPart-next start now next a b c part line judged late wrote =
       late = late ∙ part.late;
     }
 
--- what there is to write of all of them is that of these, and then of the others
-parts-split : (start now : LateArrivals) (a b : Meanings) (part : JudgedPart start now a b) → held_parts start.judging start.sorter.line.held ≡ put (held_parts start.judging part.done) (held_parts now.judging now.sorter.line.held)
-parts-split start now a b part = ap (held_parts start.judging) (sym part.split) ∙ held_parts-then part.judged now.sorter.line.held
-
--- and if a write of the next one failed, a front of it was written
-pub JudgedPart-front : (start now : LateArrivals) (a b c : Meanings) (part : JudgedPart start now a b) → WroteFront b c (held_parts now.judging (take 1 now.sorter.line.held))
-    → (mid : Reckoning) → AreJudged now.judging mid (take 1 now.sorter.line.held) → WroteFront a c (held_parts start.judging start.sorter.line.held)
+-- if a write of the next one failed, all of these and a front of it were written
+pub JudgedPart-front : (start now : LateArrivals) (a b c : Meanings) (part : JudgedPart start now a b) → WroteWithin outlet.Report b c (held_each now.judging (take 1 now.sorter.line.held))
+    → (mid : Reckoning) → AreJudged now.judging mid (take 1 now.sorter.line.held) → WroteWithin outlet.Report a c (held_each start.judging start.sorter.line.held)
 JudgedPart-front start now a b c part cut mid judged =
     let one = take 1 now.sorter.line.held in
     let others = (given_up now.sorter.line).held in
-    let rest : held_parts now.judging now.sorter.line.held ≡ put (held_parts now.judging one) (held_parts mid others) =
-    ap (held_parts now.judging) (sym (held-split now.sorter.line)) ∙ held_parts-then judged others in
-    let all = parts-split start now a b part ∙ ap (put (held_parts start.judging part.done)) rest in
-    subst (WroteFront a c) (sym all)
-    (WroteFront-next a b c (held_parts start.judging part.done) (put (held_parts now.judging one) (held_parts mid others)) part.wrote
-    (WroteFront-more b c (held_parts now.judging one) (held_parts mid others) cut))
+    let done = held_each start.judging part.done in
+    let rest : held_each now.judging now.sorter.line.held ≡ held_each now.judging one ++ held_each mid others =
+    ap (held_each now.judging) (sym (held-split now.sorter.line)) ∙ held_each-then judged others in
+    let all : held_each start.judging start.sorter.line.held ≡ done ++ (held_each now.judging one ++ held_each mid others) =
+    ap (held_each start.judging) (sym part.split) ∙ (held_each-then part.judged now.sorter.line.held ∙ ap (λ (l : List Outputs). done ++ l) rest) in
+    let before = subst (λ (o : Outputs). Wrote a b o) (sym (put_all-parts restored_texts (run_of start.judging part.done))) part.wrote in
+    subst (λ (l : List Outputs). WroteWithin outlet.Report a c l) (sym all)
+    (WroteWithin-next outlet.Report a b c done (held_each now.judging one ++ held_each mid others) before
+    (WroteWithin-more outlet.Report b c (held_each now.judging one) (held_each mid others) cut))
 
 -- there is room for the next one in the numbers of the run
 pub few-left : (start now : LateArrivals) (a b : Meanings) (part : JudgedPart start now a b) (most : ℕ) → start.judging.restored.packets + length start.sorter.line.held ≤ most → 0 < length now.sorter.line.held → now.judging.restored.packets < most

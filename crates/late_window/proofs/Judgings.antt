@@ -4,9 +4,11 @@ use Rattle.std.proofs.lemmas.List.{length-map, map-append}
 use Rattle.std.proofs.lemmas.List.Concat.{flat_map-append}
 use Rattle.desk_ports.specs.Meanings.{Meanings}
 use Rattle.desk_ports.specs.Courses.{Outputs, put}
-use Rattle.desk_ports.specs.Turns.{Wrote, WroteFront}
+use Rattle.desk_ports.specs.Turns.{Wrote}
+use Rattle.desk_ports.specs.declared.desk.Outlet.{Outlet}
+use Rattle.desk_ports.specs.Parts.{WroteWithin, put_all}
+use Rattle.desk_ports.proofs.Parts.{EndsWithin-after, EndsWithin-then}
 use Rattle.desk_ports.proofs.Runs.{Ran-then}
-use Rattle.desk_ports.proofs.Courses.{AreFronts-put, AreFronts-then}
 use Rattle.ground_chain.specs.declared.restored.Restored.{Restored}
 use Rattle.ground_chain.specs.Run.{Judged, known_from, run_from}
 use Rattle.ground_chain.specs.Report.{added, restored_of}
@@ -18,7 +20,7 @@ use Rattle.ground_chain.proofs.Runs.{known_from-append, run_from-append}
 use Rattle.ground_chain.proofs.Counted.{added-assoc, restored_of-append, run_packets}
 use Rattle.late_window.specs.Numbers.{Numbered}
 use Rattle.late_window.specs.Order.{arrival_of}
-use Rattle.late_window.specs.Late.{AreJudged, held_parts, run_of}
+use Rattle.late_window.specs.Late.{AreJudged, held_each, held_parts, run_of}
 
 -- what is written of one part and of another
 pub all_parts-append : (texts : Texts) (xs ys : List Judged) → all_parts texts (xs ++ ys) ≡ put (all_parts texts xs) (all_parts texts ys)
@@ -39,6 +41,9 @@ module _ {a b : Reckoning} {xs : List Numbered} (first : AreJudged a b xs) where
 
   pub held_parts-then : (ys : List Numbered) → held_parts a (xs ++ ys) ≡ put (held_parts a xs) (held_parts b ys)
   held_parts-then ys = ap (all_parts restored_texts) (run_of-then ys) ∙ all_parts-append restored_texts (run_of a xs) (run_of b ys)
+
+  pub held_each-then : (ys : List Numbered) → held_each a (xs ++ ys) ≡ held_each a xs ++ held_each b ys
+  held_each-then ys = ap (λ (l : List Judged). map restored_texts.parts l) (run_of-then ys) ∙ map-append restored_texts.parts (run_of a xs) (run_of b ys)
 
   -- and so do its numbers
   pub added-then : (ys : List Numbered) → added a.restored (restored_of (run_of a (xs ++ ys))) ≡ added b.restored (restored_of (run_of b ys))
@@ -71,10 +76,10 @@ AreJudged-then a b c xs ys first next =
 pub Wrote-then : (a b c : Meanings) (xs ys : Outputs) → Wrote a b xs → Wrote b c ys → Wrote a c (put xs ys)
 Wrote-then a b c xs ys first next = Ran-then a b c [] [] xs.output ys.output xs.report ys.report first next
 
--- a front of the next part
-pub WroteFront-next : (a b c : Meanings) (xs ys : Outputs) → Wrote a b xs → WroteFront b c ys → WroteFront a c (put xs ys)
-WroteFront-next a b c xs ys first cut = record { stand = put xs cut.stand; wrote = Wrote-then a b c xs cut.stand first cut.wrote; fronts = AreFronts-put xs cut.stand ys cut.fronts }
+-- a front of the next parts
+pub WroteWithin-next : (first : Outlet) (a b c : Meanings) (xs ys : List Outputs) → Wrote a b (put_all xs) → WroteWithin first b c ys → WroteWithin first a c (xs ++ ys)
+WroteWithin-next first a b c xs ys before cut = record { stand = put (put_all xs) cut.stand; wrote = Wrote-then a b c (put_all xs) cut.stand before cut.wrote; within = EndsWithin-after xs cut.within }
 
--- a front of the first part
-pub WroteFront-more : (a b : Meanings) (xs ys : Outputs) → WroteFront a b xs → WroteFront a b (put xs ys)
-WroteFront-more a b xs ys cut = record { stand = cut.stand; wrote = cut.wrote; fronts = AreFronts-then cut.stand xs ys cut.fronts }
+-- a front of the first parts
+pub WroteWithin-more : (first : Outlet) (a b : Meanings) (xs ys : List Outputs) → WroteWithin first a b xs → WroteWithin first a b (xs ++ ys)
+WroteWithin-more first a b xs ys cut = record { stand = cut.stand; wrote = cut.wrote; within = EndsWithin-then ys cut.within }

@@ -15,8 +15,8 @@ use Rattle.late_window.specs.declared.late.LateArrivals.{LateArrivals}
 use Rattle.late_window.specs.Numbers.{Numbered, highest_with, near_number, numbered_from}
 use Rattle.late_window.specs.Order.{arrival_of}
 use Rattle.late_window.specs.Lines.{Line, given_from, holding, is_below, late_from, line_after, next_line, settled, surplus, without_first}
-use Rattle.late_window.specs.Late.{IsWithinLimits, Sorts, arrival_parts, done_of, given_at, given_left, held_left, held_parts, last_parts, last_rows, numbered_at, parts_left, run_left, run_of}
-use Rattle.late_window.proofs.Judgings.{added-then, held_parts-then, packets-judged, run_of-then}
+use Rattle.late_window.specs.Late.{IsWithinLimits, Sorts, arrival_each, arrival_parts, done_of, each_left, given_at, given_left, held_each, held_left, held_parts, last_each, last_parts, last_rows, row_parts, numbered_at, parts_left, run_left, run_of}
+use Rattle.late_window.proofs.Judgings.{added-then, held_each-then, held_parts-then, packets-judged, run_of-then}
 use Rattle.late_window.proofs.Placing.{length-placed}
 
 pub length-run_of : (r : Reckoning) (given : List Numbered) → length (run_of r given) ≡ length given
@@ -37,6 +37,9 @@ module _ {old new : LateArrivals} {a : Arrival} (is : Sorts old new a) (later : 
 
   pub parts-next : parts_left old (a ∷ later) ≡ put (arrival_parts old a) (parts_left new later)
   parts-next = ap (held_parts old.judging) given-next ∙ held_parts-then is.judged (given_left new later)
+
+  pub each-next : each_left old (a ∷ later) ≡ arrival_each old a ++ each_left new later
+  each-next = ap (held_each old.judging) given-next ∙ held_each-then is.judged (given_left new later)
 
   late-next : old.late + late_from old.sorter.line (numbered_from old.numbers (a ∷ later)) ≡ new.late + late_from new.sorter.line (numbered_from new.numbers later)
   late-next =
@@ -60,6 +63,9 @@ module _ {old new : LateArrivals} {a : Arrival} (is : Sorts old new a) (later : 
 
   pub last-next : last_parts old (a ∷ later) ≡ last_parts new later
   last-next = λ i. put (all_parts restored_texts (rest-next i)) (to_report (last_rows (done-next i)))
+
+  pub last_each-next : last_each old (a ∷ later) ≡ last_each new later
+  last_each-next = λ i. map restored_texts.parts (rest-next i) ++ row_parts (done-next i)
 
 -- ---- its numbers stay within their limits
 

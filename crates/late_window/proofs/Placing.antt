@@ -1,9 +1,9 @@
 -- An arrival among others in order: where it stands, and that the order stays.
-use Rattle.std.proofs.Common.{◌≡◌, ℕ, zero, suc, ◌+◌, ◌-◌, ◌<◌, ◌≤◌, ltb, Bool, true, false, if◌then◌else◌, List, [], ◌∷◌, ◌++◌, length, take, drop, get_or, refl, sym, ap, ◌∙◌, subst, arith}
-use Rattle.std.specs.List.{insert, remove}
+use Rattle.std.proofs.Common.{◌≡◌, ℕ, zero, suc, ◌+◌, ◌-◌, ◌<◌, ◌≤◌, ltb, Bool, true, false, if◌then◌else◌, List, [], ◌∷◌, ◌++◌, length, take, drop, get_or, set, refl, sym, ap, ◌∙◌, subst, arith}
+use Rattle.std.specs.List.{insert, remove, swap}
 use Rattle.std.proofs.lemmas.Bool.{ltb-true, ltb-false, lt-ltb, le-ltb}
 use Rattle.std.proofs.lemmas.List.{drop-take, length-append, length-drop, length-take-le, take-append-drop, take-append-le, take_at}
-use Rattle.std.proofs.lemmas.List.Edits.{insert-append_left, length-insert}
+use Rattle.std.proofs.lemmas.List.Edits.{insert-append_left, length-insert, swap_is}
 use Rattle.late_window.specs.Numbers.{Numbered}
 use Rattle.late_window.specs.Order.{placed}
 use Rattle.late_window.specs.Lines.{AreFrom, AreRising}
@@ -72,7 +72,7 @@ pub placed-before : (a : Numbered) (arrivals : List Numbered) → AreFrom (a.num
 placed-before a [] from = refl
 placed-before a (b ∷ arrivals) from = ap (λ (before : Bool). placed_by before a b arrivals) (lt-ltb a.number b.number (omega (arith, from.0)))
 
-pub placed-insert : (a : Numbered) (arrivals : List Numbered) (at : ℕ) → AreUpTo a.number (take at arrivals) → AreFrom (a.number + 1) (drop at arrivals) → placed a arrivals ≡ insert arrivals at a
+placed-insert : (a : Numbered) (arrivals : List Numbered) (at : ℕ) → AreUpTo a.number (take at arrivals) → AreFrom (a.number + 1) (drop at arrivals) → placed a arrivals ≡ insert arrivals at a
 placed-insert a arrivals at before after =
     ap (placed a) (sym (take-append-drop at arrivals))
     ∙ (placed-after a (take at arrivals) (drop at arrivals) before ∙ ap (λ (l : List Numbered). take at arrivals ++ l) (placed-before a (drop at arrivals) after))
@@ -90,16 +90,47 @@ AreUpTo-front t (a ∷ arrivals) (suc at) d rising lt le =
     let here = AreFrom-at a.number arrivals at d rising.0 (omega (arith, lt)) in
     (omega (arith, here, le), AreUpTo-front t arrivals at d rising.1 (omega (arith, lt)) le)
 
+pub AreFrom-before : (t : ℕ) (arrivals : List Numbered) (at : ℕ) (d : Numbered) → at < length arrivals → t ≤ (get_or arrivals at d).number → AreFrom t (drop (suc at) arrivals) → AreFrom t (drop at arrivals)
+AreFrom-before t [] at d lt le from = absurd (omega (arith, lt))
+AreFrom-before t (a ∷ arrivals) zero d lt le from = (le, from)
+AreFrom-before t (a ∷ arrivals) (suc at) d lt le from = AreFrom-before t arrivals at d (omega (arith, lt)) le from
+
 -- ---- among places
 
--- an arrival put in order among the first places, in the place after them
-pub held-inserted : (places : List Numbered) (held at : ℕ) (a : Numbered) → held < length places → at ≤ held → take (held + 1) (insert (remove places held) at a) ≡ insert (take held places) at a
+-- one in the place of another
+pub set-inserted : (places : List Numbered) (at : ℕ) (a : Numbered) → at < length places → set places at a ≡ insert (remove places at) at a
+set-inserted [] at a lt = absurd (omega (arith, lt))
+set-inserted (b ∷ places) zero a lt = refl
+set-inserted (b ∷ places) (suc at) a lt = ap (λ (l : List Numbered). b ∷ l) (set-inserted places at a (omega (arith, lt)))
+
+-- one that was put in, and the one before it, in each other's place
+pub swap-inserted : (others : List Numbered) (at : ℕ) (a : Numbered) → at < length others → swap (insert others (suc at) a) at (suc at) ≡ insert others at a
+swap-inserted [] at a lt = absurd (omega (arith, lt))
+swap-inserted (b ∷ others) zero a lt = refl
+swap-inserted (b ∷ others) (suc at) a lt =
+    let more = insert others (suc at) a in
+    let size : length more ≡ length others + 1 = length-insert others (suc at) a (omega (arith, lt)) in
+    ap (λ (l : List Numbered). b ∷ l) (swap_is more at (suc at) b (omega (arith, lt, size)) (omega (arith, lt, size)) ∙ swap-inserted others at a (omega (arith, lt)))
+
+-- what stands before it
+pub read-inserted : (places : List Numbered) (held at : ℕ) (a d : Numbered) → at < held → held < length places → get_or (insert (remove places held) (suc at) a) at d ≡ get_or (take held places) at d
+read-inserted [] held at a d le lt = absurd (omega (arith, lt))
+read-inserted (b ∷ places) zero at a d le lt = absurd (omega (arith, le))
+read-inserted (b ∷ places) (suc held) zero a d le lt = refl
+read-inserted (b ∷ places) (suc held) (suc at) a d le lt = read-inserted places held at a d (omega (arith, le)) (omega (arith, lt))
+
+-- among the first places
+held-inserted : (places : List Numbered) (held at : ℕ) (a : Numbered) → held < length places → at ≤ held → take (held + 1) (insert (remove places held) at a) ≡ insert (take held places) at a
 held-inserted places held at a lt le =
     let front : length (take held places) ≡ held = length-take-le held places (omega (arith, lt)) in
     let within : at ≤ length (take held places) = omega (arith, le, front) in
     let size : length (insert (take held places) at a) ≡ held + 1 = omega (arith, length-insert (take held places) at a within, front) in
     ap (take (held + 1)) (insert-append_left (take held places) (drop (suc held) places) at a within)
     ∙ take_at (insert (take held places) at a) (drop (suc held) places) (held + 1) size
+
+-- an arrival put in order among the first places, in the place after them
+pub held-placed : (places : List Numbered) (held at : ℕ) (a : Numbered) → held < length places → at ≤ held → AreUpTo a.number (take at (take held places)) → AreFrom (a.number + 1) (drop at (take held places)) → take (held + 1) (insert (remove places held) at a) ≡ placed a (take held places)
+held-placed places held at a lt le before after = held-inserted places held at a lt le ∙ sym (placed-insert a (take held places) at before after)
 
 -- the first of the places goes to the end
 pub length-rotated : (places : List Numbered) → length (drop 1 places ++ take 1 places) ≡ length places

@@ -1,9 +1,11 @@
 -- What a store owes is owed from its first packet on.
-use Rattle.std.proofs.Common.{◌≡◌, ℕ, ◌-◌, List, [], ◌++◌, length, take, drop, map, Some, None, refl, sym, ap, ◌∙◌, subst, append-nil, append_assoc, arith}
+use Rattle.std.proofs.Common.{◌≡◌, ℕ, ◌-◌, List, [], ◌∷◌, ◌++◌, length, take, drop, map, Some, None, refl, sym, ap, ◌∙◌, subst, append-nil, append_assoc, arith}
 use Rattle.std.proofs.lemmas.List.{map-append, take-append-drop, take_at}
 use Rattle.std.proofs.lemmas.List.Concat.{flat_map-append}
 use Rattle.desk_ports.specs.Courses.{by_ending, owed, put, to_report, written_first}
 use Rattle.desk_ports.specs.Turns.{Steps}
+use Rattle.desk_ports.specs.Parts.{if_whole}
+use Rattle.packet_store.specs.StoreWorks.{parts_on}
 use Rattle.packet_store.specs.Walks.{walk}
 use Rattle.ground_chain.specs.Run.{Arrival, Judged, known_from, run, run_from}
 use Rattle.ground_chain.specs.Report.{end_row, header_row, restored_of, run_bytes, run_report, run_rows, written_bytes, verdict_rows}
@@ -18,8 +20,8 @@ use Rattle.late_window.specs.declared.run.LateRun.{LateRun}
 use Rattle.late_window.specs.Numbers.{Numbered, numbered}
 use Rattle.late_window.specs.Order.{arrival_of, in_order, late_count, ordered}
 use Rattle.late_window.specs.Rows.{late_row}
-use Rattle.late_window.specs.Late.{done_of, given_left, held_left, last_parts, last_rows, nothing_late, parts_left, run_left, run_of}
-use Rattle.late_window.specs.Restoring.{IsUnread, Owes, judged_before, late_course, late_done, late_state, late_work, nothing_read, ordered_run, rest_work, store_arrivals}
+use Rattle.late_window.specs.Late.{done_of, each_left, given_left, held_left, last_each, last_parts, last_rows, nothing_late, parts_left, row_parts, run_left, run_of}
+use Rattle.late_window.specs.Restoring.{IsUnread, Owes, judged_before, late_course, late_done, late_parts, late_state, late_work, parts_to_sort, nothing_read, ordered_run, rest_work, store_arrivals}
 use Rattle.late_window.proofs.Lefts.{length-run_of}
 use Rattle.late_window.proofs.Orders.{given-count, late-is-count, order-is}
 
@@ -63,6 +65,15 @@ module _ (f window : ℕ) (arrivals : List Arrival) where
   pub last-all : put (all_parts restored_texts (drop (judged_before window (run f (ordered window arrivals))) (run f (ordered window arrivals)))) (to_report (last_rows (done_of (nothing_late f window) arrivals))) ≡ last_parts (nothing_late f window) arrivals
   last-all = λ i. put (all_parts restored_texts (drop (before-count i) (run-all i))) (to_report (last_rows (done_of (nothing_late f window) arrivals)))
 
+  -- the same part by part
+  each-all : map restored_texts.parts (take (judged_before window (run f (ordered window arrivals))) (run f (ordered window arrivals))) ≡ each_left (nothing_late f window) arrivals
+  each-all =
+      let s = nothing_late f window in
+      ap (λ (l : List Judged). map restored_texts.parts l) ((λ i. take (before-count i) (run-all i)) ∙ take-run s.judging (given_left s arrivals) (held_left s arrivals))
+
+  last_each-all : map restored_texts.parts (drop (judged_before window (run f (ordered window arrivals))) (run f (ordered window arrivals))) ++ row_parts done-by ≡ last_each (nothing_late f window) arrivals
+  last_each-all = λ i. map restored_texts.parts (drop (before-count i) (run-all i)) ++ row_parts (done-all i)
+
 -- ---- a store
 
 -- what it owes is owed after the report's first line
@@ -83,6 +94,19 @@ pub Steps-unread : (r : LateRun) → IsUnread r → let s = late_state r in Step
 Steps-unread r is =
     let s = late_state r in
     subst (λ (x : LateRun). Steps (late_work s.places s.apid s.window) (rest_work x) [] (to_report header_row)) (sym is) (Steps-none s.places s.apid s.window)
+
+parts-none : (f apid window : ℕ) (store : List ℕ) → late_parts f apid window store ≡ to_report header_row ∷ parts_on (parts_to_sort (nothing_read f apid window)) (nothing_read f apid window).reader store
+parts-none f apid window store =
+    let arrivals = store_arrivals apid store in
+    let before = each-all f window arrivals in
+    let after = last_each-all f window arrivals in
+    λ i. to_report header_row ∷ before i ++ if_whole (walk (Some apid) store).ending (after i)
+
+-- and part by part
+pub late_parts-unread : (r : LateRun) → IsUnread r → let s = late_state r in (store : List ℕ) → late_parts s.places s.apid s.window store ≡ to_report header_row ∷ parts_on (parts_to_sort r) r.reader store
+late_parts-unread r is = λ store.
+    let s = late_state r in
+    subst (λ (x : LateRun). late_parts s.places s.apid s.window store ≡ to_report header_row ∷ parts_on (parts_to_sort x) x.reader store) (sym is) (parts-none s.places s.apid s.window store)
 
 -- nothing is read
 pub Owes-unread : (r : LateRun) → IsUnread r → Owes r (rest_work r)

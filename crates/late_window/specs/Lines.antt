@@ -79,6 +79,12 @@ pub record Sorting : Type 0 where
 abbrev pub nothing : Numbered
 nothing = record { number = 0; body = [] }
 
+-- the data of a place lie within its room, and there is never more room, so that no memory is taken
+pub record IsPlace (size room capacity : ℕ) : Type 0 where
+  pub within : size ≤ 65536
+  pub whole : room ≡ 65536
+  pub taken : capacity ≡ 65536
+
 -- each arrival has a number that is at most that of all after it
 abbrev pub AreFrom : ℕ → List Numbered → Type 0
 AreFrom t [] = Unit {0}
@@ -95,10 +101,11 @@ sorting_of window held released places = record {
   out = (slice_index_or places window nothing).body;
 }
 
--- One place more than the window is large, in a room that never grows. The held arrivals are in order.
+-- One place more than the window is large, and there is never more room, so that no memory is taken. The held arrivals are
+-- in order.
 pub record IsSorter (window held : ℕ) (slots : List Numbered) (capacity : ℕ) : Type 0 where
   pub most : window ≤ 64
   pub places : length slots ≡ window + 1
-  pub room : window + 1 ≤ capacity
+  pub taken : capacity ≡ window + 1
   pub within : held ≤ window + 1
   pub rising : AreRising (take held slots)

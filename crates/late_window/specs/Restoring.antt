@@ -1,9 +1,10 @@
 -- What restoring a store owes whose packets may come late: the run over its packets of the chosen APID, in order.
-use Rattle.std.specs.Prelude.{◌≡◌, ℕ, ◌-◌, ◌^◌, ◌≤◌, IsTrue, List, length, take, drop, Some, unwrap_or}
-use Rattle.desk_ports.specs.Courses.{Course, Work, put, to_report}
+use Rattle.std.specs.Prelude.{◌≡◌, ℕ, ◌-◌, ◌^◌, ◌≤◌, IsTrue, List, ◌∷◌, ◌++◌, length, take, drop, map, Some, unwrap_or}
+use Rattle.desk_ports.specs.Courses.{Course, Outputs, Work, put, to_report}
+use Rattle.desk_ports.specs.Parts.{if_whole}
 use Rattle.packet_store.specs.declared.fault.WalkFault.{WalkFault}
 use Rattle.packet_store.specs.StoreReader.{opened}
-use Rattle.packet_store.specs.StoreWorks.{StoreWork, work_on}
+use Rattle.packet_store.specs.StoreWorks.{StoreParts, StoreWork, parts_on, work_on}
 use Rattle.packet_store.specs.Walks.{walk}
 use Rattle.ground_chain.specs.Run.{Arrival, Judged, run}
 use Rattle.ground_chain.specs.Report.{header_row, restored_of}
@@ -13,7 +14,7 @@ use Rattle.late_window.specs.declared.done.LateDone.{LateDone}
 use Rattle.late_window.specs.declared.run.LateRun.{LateRun}
 use Rattle.late_window.specs.Numbers.{numbered}
 use Rattle.late_window.specs.Order.{late_count, ordered}
-use Rattle.late_window.specs.Late.{IsWithinLimits, done_of, last_parts, last_rows, nothing_late, parts_left}
+use Rattle.late_window.specs.Late.{IsWithinLimits, done_of, each_left, last_each, last_parts, last_rows, nothing_late, parts_left, row_parts}
 
 -- the packets of the APID in a store, as they arrive
 abbrev pub store_arrivals : ℕ → List ℕ → List Arrival
@@ -44,6 +45,15 @@ late_course f apid window store =
       after = put (all_parts restored_texts (drop (judged_before window judged) judged)) (to_report (last_rows (late_done f apid window store)));
       ending = (walk (Some apid) store).ending;
     }
+
+-- The same part by part: the report's header, what is written of each arrival that is judged before the end, and if the store
+-- is whole that of the others and the report's last two rows.
+abbrev pub late_parts : ℕ → ℕ → ℕ → List ℕ → List Outputs
+late_parts f apid window store =
+    let judged = ordered_run f apid window store in
+    to_report header_row
+    ∷ map restored_texts.parts (take (judged_before window judged) judged)
+    ++ if_whole (walk (Some apid) store).ending (map restored_texts.parts (drop (judged_before window judged) judged) ++ row_parts (late_done f apid window store))
 
 -- the work of restoring it
 abbrev pub late_work : ℕ → ℕ → ℕ → Work LateDone WalkFault
@@ -77,6 +87,17 @@ left_to_sort r = record {
 
 abbrev pub rest_work : LateRun → Work LateDone WalkFault
 rest_work r = work_on (left_to_sort r) r.reader
+
+-- the same part by part
+abbrev pub parts_to_sort : LateRun → StoreParts
+parts_to_sort r = record {
+  before = λ packets. each_left r.arrivals (arrivals_of r.reader.chosen packets);
+  after = λ packets. last_each r.arrivals (arrivals_of r.reader.chosen packets);
+}
+
+-- these parts are owed: those of the rest of the store
+abbrev pub OwesParts : LateRun → (List ℕ → List Outputs) → Type 0
+OwesParts r parts_of = parts_of ≡ parts_on (parts_to_sort r) r.reader
 
 -- this work is owed: that of the rest of the store
 pub record Owes (r : LateRun) (work : Work LateDone WalkFault) : Type 0 where

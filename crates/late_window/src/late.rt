@@ -2,9 +2,10 @@
 
 ghost use Rattle.std.specs.Prelude.{◌≡◌, ◌+◌, ◌-◌, ◌^◌, ◌<◌, ◌≤◌, ◌*◌, [], length, take, true, IfOk, IfErr, OnOk, OnErr};
 ghost use Rattle.desk_ports.specs.Meanings.{HasWriteCause};
-ghost use Rattle.desk_ports.specs.Turns.{AreReady, Wrote, WroteFront};
+ghost use Rattle.desk_ports.specs.Turns.{AreReady, Wrote};
+ghost use Rattle.desk_ports.specs.Parts.{WroteWithin};
 ghost use Rattle.ground_chain.specs.Run.{Arrival};
-ghost use Rattle.late_window.specs.Late.{AreJudged, IsWithinLimits, Sorts, arrival_parts, held_parts, last_parts, given_at, done_of, nothing_late};
+ghost use Rattle.late_window.specs.Late.{AreJudged, IsWithinLimits, Sorts, arrival_each, arrival_parts, held_each, held_parts, last_each, last_parts, given_at, done_of, nothing_late};
 ghost use Rattle.late_window.specs.Lines.{given_up};
 
 use crate::done::LateDone;
@@ -58,8 +59,8 @@ impl LateArrivals {
         ensures sorts { Sorts self.old self.new (record { count = count; body = bytes.now }) }
         ensures wrote { OnOk result (Wrote (D.meaning desk.old) (D.meaning desk.new)
             (arrival_parts self.old (record { count = count; body = bytes.now }))) }
-        ensures front { OnErr result (WroteFront (D.meaning desk.old) (D.meaning desk.new)
-            (arrival_parts self.old (record { count = count; body = bytes.now }))) }
+        ensures front { OnErr result (WroteWithin Outlet.Report (D.meaning desk.old) (D.meaning desk.new)
+            (arrival_each self.old (record { count = count; body = bytes.now }))) }
         ensures cause { HasWriteCause (D.counts desk.old) (D.counts desk.new) result }
     {
         let t = self.numbers.next(count);
@@ -84,8 +85,8 @@ impl LateArrivals {
         ensures others { self.new ≡ record self.old { sorter = self.new.sorter; judging = self.new.judging } }
         ensures wrote { OnOk result (Wrote (D.meaning desk.old) (D.meaning desk.new)
             (held_parts self.old.judging (take 1 self.old.sorter.line.held))) }
-        ensures front { OnErr result (WroteFront (D.meaning desk.old) (D.meaning desk.new)
-            (held_parts self.old.judging (take 1 self.old.sorter.line.held))) }
+        ensures front { OnErr result (WroteWithin Outlet.Report (D.meaning desk.old) (D.meaning desk.new)
+            (held_each self.old.judging (take 1 self.old.sorter.line.held))) }
         ensures cause { HasWriteCause (D.counts desk.old) (D.counts desk.new) result }
     {
         self.sorter.release();
@@ -102,8 +103,8 @@ impl LateArrivals {
         ensures late { self.new.late ≡ self.old.late }
         ensures wrote { OnOk result (Wrote (D.meaning desk.old) (D.meaning desk.new)
             (held_parts self.old.judging self.old.sorter.line.held)) }
-        ensures front { OnErr result (WroteFront (D.meaning desk.old) (D.meaning desk.new)
-            (held_parts self.old.judging self.old.sorter.line.held)) }
+        ensures front { OnErr result (WroteWithin Outlet.Report (D.meaning desk.old) (D.meaning desk.new)
+            (held_each self.old.judging self.old.sorter.line.held)) }
         ensures cause { HasWriteCause (D.counts desk.old) (D.counts desk.new) result }
     {
         while self.sorter.held() > 0 {
@@ -119,8 +120,8 @@ impl LateArrivals {
         ensures done { IfOk result (λ done. done ≡ done_of self.old []) }
         ensures wrote { OnOk result (Wrote (D.meaning desk.old) (D.meaning desk.new)
             (last_parts self.old [])) }
-        ensures front { OnErr result (WroteFront (D.meaning desk.old) (D.meaning desk.new)
-            (last_parts self.old [])) }
+        ensures front { OnErr result (WroteWithin Outlet.Report (D.meaning desk.old) (D.meaning desk.new)
+            (last_each self.old [])) }
         ensures cause { HasWriteCause (D.counts desk.old) (D.counts desk.new) result }
     {
         self.judge_held(desk)?;

@@ -14,7 +14,8 @@ ghost use Rattle.ground_chain.specs.Report.{header_row, run_bytes, run_report};
 ghost use Rattle.late_window.specs.Numbers.{IsNear, Numbered, near_number, numbered};
 ghost use Rattle.late_window.specs.Order.{IsSorting, IsWithin, arrival_of, in_order, kept, late_count, ordered, sorted};
 ghost use Rattle.late_window.specs.Lines.{empty_line, given_from, late_from, line_after};
-ghost use Rattle.late_window.specs.Restoring.{late_course, late_done, ordered_run, store_arrivals};
+ghost use Rattle.late_window.specs.Restoring.{late_course, late_done, late_parts, ordered_run, store_arrivals};
+ghost use Rattle.desk_ports.specs.Parts.{put_all};
 ghost use Rattle.late_window.specs.Rows.{late_row};
 ghost use Rattle.late_window.specs.Worked.{swapped};
 
@@ -67,6 +68,11 @@ pub fn whole_stores_owe_their_order()
           report = run_report (ordered_run f apid window store)
               ++ late_row (late_done f apid window store).late;
         } }
+{}
+
+/// What is owed part by part is, one part after another, what is owed.
+pub fn parts_are_owed()
+    ensures { (f apid window : ℕ) (store : List ℕ) → put_all (late_parts f apid window store) ≡ owed (late_course f apid window store) }
 {}
 
 /// If the packets of a valid history come late by no more than the window, and none is far from those before it, then the

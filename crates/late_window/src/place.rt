@@ -19,14 +19,16 @@ pub struct Place {
 }
 
 impl Model for Place {
-    ghost use Rattle.std.specs.Prelude.{◌≡◌, ◌≤◌, take, length};
+    ghost use Rattle.std.specs.Prelude.{take, vec_len};
+    ghost use Rattle.std.specs.Vec.{vec_capacity};
     ghost use Rattle.late_window.specs.Numbers.{Numbered};
+    ghost use Rattle.late_window.specs.Lines.{IsPlace};
 
     ghost Value = { Numbered };
 
     ghost view = { λ p. record { number = p.number; body = take p.size p.room.items } };
 
-    ghost invariant = { λ p. (p.size ≤ 65536) × (length p.room.items ≡ 65536) };
+    ghost invariant = { λ p. IsPlace p.size (vec_len p.room) (vec_capacity p.room) };
 }
 
 impl Place {

@@ -1,10 +1,8 @@
 //! Arrivals that are held until it is their turn.
 
-ghost use Rattle.std.specs.Prelude.{◌≡◌, ◌+◌, ◌-◌, ◌<◌, ◌≤◌, ℕ, List, [], ◌∷◌, length, take, nat_lt, not, slice_index_or, unwrap_or, Some, IsSome, IfOk};
+ghost use Rattle.std.specs.Prelude.{◌≡◌, ◌+◌, ◌-◌, ◌<◌, ◌≤◌, [], ◌∷◌, length, take, nat_lt, not, slice_index_or, unwrap_or, Some, IsSome, IfOk};
 ghost use Rattle.std.specs.Bool.{OnFalse, OnTrue};
-ghost use Rattle.std.specs.List.{insert};
-ghost use Rattle.std.specs.VecDeque.{deque_len, deque_capacity};
-ghost use Rattle.late_window.specs.Numbers.{Numbered};
+ghost use Rattle.std.specs.VecDeque.{deque_capacity};
 ghost use Rattle.late_window.specs.Lines.{AreRising, empty_line, given_up, holding, is_below, nothing};
 ghost use Rattle.late_window.specs.Order.{placed};
 
@@ -140,39 +138,21 @@ fn last(places: &VecDeque<Place>) -> &Place
     }
 }
 
-/// Puts an arrival in order among the first `held` places, in the room of the place after them.
+/// Puts an arrival in order among the first `held` places: into the place after them, which then goes before all whose
+/// numbers are greater. It takes no memory.
 fn hold(places: &mut VecDeque<Place>, held: usize, t: u64, bytes: &[u8])
     requires place { held < length places.old.items }
-    requires room { length places.old.items ≤ deque_capacity places.old }
     requires rising { AreRising (take held places.old.items) }
     requires size { length bytes.now ≤ 65536 }
     ensures held { take (held + 1) places.new.items
         ≡ placed (record { number = t; body = bytes.now }) (take held places.old.items) }
     ensures places { length places.new.items ≡ length places.old.items }
-    ensures room { length places.new.items ≤ deque_capacity places.new }
+    ensures room { deque_capacity places.new ≡ deque_capacity places.old }
 {
-    let Some(mut place) = places.remove(held) else {
-        unreachable!()
-    };
-    place.fill(t, bytes);
-    let at = turn_of(places, held, t);
-    let Ok(()) = places.insert(at, place) else {
-        unreachable!()
-    };
-}
-
-/// The place of a number among the first `held` ones, after all that are no greater.
-fn turn_of(places: &VecDeque<Place>, held: usize, t: u64) -> usize
-    requires places { held ≤ length places.now.items }
-    requires rising { AreRising (take held places.now.items) }
-    ensures within { result ≤ held }
-    ensures turn { (body : List ℕ) →
-        let a : Numbered = record { number = t; body = body } in
-        placed a (take held places.now.items) ≡ insert (take held places.now.items) result a }
-{
+    places[held].fill(t, bytes);
     let mut at = held;
     while at > 0 && t < places[at - 1].number() {
+        places.swap(at - 1, at);
         at -= 1;
     }
-    at
 }

@@ -11,14 +11,14 @@ use crate::report::write_report;
 use bit_vectors::NoMemory;
 use desk_ports::{Desk, Failed, Outlet, Run, Turn, write_all};
 use packet_store::{StoreReader, WalkFault};
-use side_tables::Script;
+use side_tables::{CopyLookup, Script};
 use std::alloc::Global;
 
 /// A reader, the script, and the numbers so far.
 #[derive(Debug, Drop)]
 pub struct Playing {
     reader: StoreReader,
-    script: Script,
+    script: CopyLookup,
     tally: Tally,
 }
 
@@ -29,9 +29,14 @@ impl Run for Playing {
 
     type Data = WalkFault;
 
+    ghost use Rattle.desk_ports.specs.declared.desk.Outlet.TheVariants as outlet;
     ghost use Rattle.loss_player.specs.Playing.{Owes, stop_by};
 
     ghost owes = { Owes };
+
+    ghost owes_parts = { λ _ _. ⊥ };
+
+    ghost first = { outlet.Main };
 
     ghost stop_of = { stop_by };
 
@@ -60,7 +65,7 @@ impl Playing {
         let reader = StoreReader::open(alloc, apid)?;
         Ok(Playing {
             reader,
-            script,
+            script: CopyLookup::open(alloc, script)?,
             tally: Tally::none(),
         })
     }
@@ -92,7 +97,7 @@ impl Playing {
         ensures counts { HasCounted self.old self.new true }
         ensures counted { IsCounted self.new }
     {
-        let copies = self.script.times(self.tally.played.packets as u32);
+        let copies = self.script.at(self.tally.played.packets as u32);
         self.tally.count(copies);
         copies
     }

@@ -1,10 +1,11 @@
 -- One more step does not change the definitions for the earlier steps, and the running vectors follow it.
-use Rattle.std.proofs.Common.{◌≡◌, ℕ, zero, suc, ◌+◌, ◌<◌, ◌≤◌, Bool, false, List, [], ◌∷◌, length, replicate, get_or, refl, sym, ap, ◌∙◌, arith}
-use Rattle.std.specs.Prelude.{if◌then◌else◌, not}
+use Rattle.std.proofs.Common.{◌≡◌, ℕ, zero, suc, ◌+◌, ◌-◌, ◌<◌, ◌≤◌, Bool, false, List, [], ◌∷◌, length, replicate, get_or, refl, sym, subst, ap, ◌∙◌, arith}
+use Rattle.std.specs.Prelude.{◌↔◌, IsTrue, if◌then◌else◌, not}
+use Rattle.std.proofs.lemmas.Bool.{false≢true}
 use Rattle.std.proofs.lemmas.List.{get_or_append_left, get_or_at, length_push}
 use Rattle.bit_vectors.specs.Vectors.{xor_bits}
 use Rattle.mask_update.specs.Histories.{History, Step, input_at, latest_step, no_step, no_steps, step_at, with_step}
-use Rattle.mask_update.specs.Masks.{Running, StandsFor, build_at, change_at, mask_at, has_moved, latest_new_mask, new_mask_at, next_build, next_mask, second_latest_new_mask, input_bit}
+use Rattle.mask_update.specs.Masks.{ComesAgain, Running, StandsFor, build_at, change_at, mask_at, has_moved, latest_new_mask, new_mask_at, next_build, next_mask, second_latest_new_mask, input_bit}
 use Rattle.mask_update.proofs.StepByStep.{build_at-suc, build_at-zero, length-mask_at, mask_at-suc, mask_at-zero, moved_at, moved_is, vector_of_same}
 
 pub step_at-before : (h : History) (step : Step) (t : ℕ) → t < length h.steps → step_at (with_step h step) t ≡ step_at h t
@@ -67,30 +68,32 @@ change_at-before h step (suc t) le =
     ∙ ap (xor_bits (mask_at h t)) (mask_at-before h step (suc t) le)
     ∙ change_at-suc h t
 
-pub StandsFor-none : (first_mask : List Bool) (value : Running) → value.build ≡ replicate (length first_mask) false → value.mask ≡ first_mask → value.change ≡ replicate (length first_mask) false → value.taken ≡ 0 → StandsFor (no_steps first_mask) value
-StandsFor-none first_mask value build mask change taken =
+pub StandsFor-none : (first_mask : List Bool) (value : Running) → value.build ≡ replicate (length first_mask) false → value.mask ≡ first_mask → value.change ≡ replicate (length first_mask) false → value.again ≡ false → value.taken ≡ 0 → StandsFor (no_steps first_mask) value
+StandsFor-none first_mask value build mask change again taken =
     record {
       previous = λ lt. absurd (omega arith);
       build = build ∙ sym (build_at-zero (no_steps first_mask));
       mask = mask ∙ sym (mask_at-zero (no_steps first_mask) refl);
       change = change ∙ sym (change_at-zero (no_steps first_mask));
+      again = (λ is. absurd (false≢true (sym again ∙ is)), λ comes. absurd (omega (arith, comes.0)));
       taken = taken;
     }
 
 -- the values that the definitions give at step t are the running vectors of a history that ends there
-stands_at : (h : History) (value : Running) (t : ℕ) → latest_step h ≡ t → value.previous ≡ input_at h t → value.build ≡ build_at h t → value.mask ≡ mask_at h t → value.change ≡ change_at h t → value.taken ≡ length h.steps → StandsFor h value
-stands_at h value t at previous build mask change taken =
+stands_at : (h : History) (value : Running) (t : ℕ) → latest_step h ≡ t → value.previous ≡ input_at h t → value.build ≡ build_at h t → value.mask ≡ mask_at h t → value.change ≡ change_at h t → (IsTrue value.again ↔ ComesAgain h t) → value.taken ≡ length h.steps → StandsFor h value
+stands_at h value t at previous build mask change again taken =
     record {
       previous = λ lt. previous ∙ ap (input_at h) (sym at);
       build = build ∙ ap (build_at h) (sym at);
       mask = mask ∙ ap (mask_at h) (sym at);
       change = change ∙ ap (change_at h) (sym at);
+      again = subst (λ n. IsTrue value.again ↔ ComesAgain h n) (sym at) again;
       taken = taken;
     }
 
 -- the first input does not change the running vectors
-pub StandsFor-first : (h : History) (step : Step) (old new : Running) → StandsFor h old → old.taken ≡ 0 → new.previous ≡ step.input → new.build ≡ old.build → new.mask ≡ old.mask → new.change ≡ old.change → new.taken ≡ 1 → StandsFor (with_step h step) new
-StandsFor-first h step old new s start previous build mask change taken =
+pub StandsFor-first : (h : History) (step : Step) (old new : Running) → StandsFor h old → old.taken ≡ 0 → new.previous ≡ step.input → new.build ≡ old.build → new.mask ≡ old.mask → new.change ≡ old.change → new.again ≡ false → new.taken ≡ 1 → StandsFor (with_step h step) new
+StandsFor-first h step old new s start previous build mask change again taken =
     let none : length h.steps ≡ 0 = sym s.taken ∙ start in
     let at : latest_step h ≡ 0 = omega arith in
     let last : step_at (with_step h step) 0 ≡ step = ap (step_at (with_step h step)) (sym none) ∙ step_at-last h step in
@@ -99,11 +102,12 @@ StandsFor-first h step old new s start previous build mask change taken =
     (build ∙ s.build ∙ ap (build_at h) at ∙ build_at-zero h ∙ sym (build_at-zero (with_step h step)))
     (mask ∙ s.mask ∙ ap (mask_at h) at ∙ sym (mask_at-start h step))
     (change ∙ s.change ∙ ap (change_at h) at ∙ change_at-zero h ∙ sym (change_at-zero (with_step h step)))
+    (λ is. absurd (false≢true (sym again ∙ is)), λ comes. absurd (omega (arith, comes.0)))
     (taken ∙ omega (arith, length_push h.steps step))
 
 -- each later input updates them by the recurrences
-pub StandsFor-next : (h : History) (step : Step) (old new : Running) → StandsFor h old → 0 < old.taken → length old.previous ≡ length old.mask → length step.input ≡ length old.mask → new.previous ≡ step.input → new.build ≡ next_build step.flags.p (xor_bits old.previous step.input) old.build → new.mask ≡ next_mask step.flags.p (xor_bits old.previous step.input) old.build old.mask → new.change ≡ xor_bits old.mask new.mask → new.taken ≡ old.taken + 1 → StandsFor (with_step h step) new
-StandsFor-next h step old new s some len input_len previous build mask change taken = next_in (latest_step h) refl
+pub StandsFor-next : (h : History) (step : Step) (old new : Running) → StandsFor h old → 0 < old.taken → length old.previous ≡ length old.mask → length step.input ≡ length old.mask → new.previous ≡ step.input → new.build ≡ next_build step.flags.p (xor_bits old.previous step.input) old.build → new.mask ≡ next_mask step.flags.p (xor_bits old.previous step.input) old.build old.mask → new.change ≡ xor_bits old.mask new.mask → (IsTrue new.again ↔ ((step.flags.p ≡ false) × (old.previous ≡ step.input))) → new.taken ≡ old.taken + 1 → StandsFor (with_step h step) new
+StandsFor-next h step old new s some len input_len previous build mask change again taken = next_in (latest_step h) refl
   where
     next_in : (t : ℕ) → latest_step h ≡ t → StandsFor (with_step h step) new
     next_in t at =
@@ -114,6 +118,7 @@ StandsFor-next h step old new s some len input_len previous build mask change ta
         let was : old.previous ≡ input_at after t = s.previous (omega (arith, s.taken)) ∙ ap (input_at h) at ∙ sym (ap (λ (x : Step). x.input) before) in
         let is : step.input ≡ input_at after (suc t) = sym (ap (λ (x : Step). x.input) last) in
         let new_mask : step.flags.p ≡ new_mask_at after (suc t) = sym (ap (λ (x : Step). x.flags.p) last) in
+        let back : suc t - 1 ≡ t = omega arith in
         let places : length old.mask ≡ h.places = ap length s.mask ∙ length-mask_at h (latest_step h) in
         let moved : xor_bits old.previous step.input ≡ moved_at after (suc t) =
         ap (λ v. xor_bits v step.input) was ∙ ap (xor_bits (input_at after t)) is
@@ -133,5 +138,8 @@ StandsFor-next h step old new s some len input_len previous build mask change ta
         ∙ ap (λ v. next_build (new_mask_at after (suc t)) (moved_at after (suc t)) v) build_was
         ∙ sym (build_at-suc after t))
         mask_is
-        (change ∙ ap (λ v. xor_bits v new.mask) mask_was ∙ ap (xor_bits (mask_at after t)) mask_is ∙ change_at-suc after t)
+        (change ∙ ap (λ v. xor_bits v new.mask) mask_was ∙ ap (xor_bits (mask_at after t)) mask_is ∙ change_at-suc after t) (
+          λ told. let comes = again.0 told in (omega arith, sym new_mask ∙ comes.0, ap (input_at after) back ∙ sym was ∙ comes.1 ∙ is),
+          λ comes. again.1 (new_mask ∙ comes.1, was ∙ ap (input_at after) (sym back) ∙ comes.2 ∙ sym is),
+        )
         (taken ∙ omega (arith, s.taken, length_push h.steps step))

@@ -1,5 +1,5 @@
 -- Mask, build and change vectors (CCSDS 124.0-B-1), each as a question about the whole history.
-use Rattle.std.specs.Prelude.{◌≡◌, ◌≢◌, ℕ, zero, suc, ◌+◌, ◌-◌, ◌<◌, ◌≤◌, ◌==◌, Bool, false, not, ◌&&◌, ◌||◌, if◌then◌else◌, List, map, reverse, find, unwrap_or, length, replicate, slice_index_or, true, Contains}
+use Rattle.std.specs.Prelude.{◌≡◌, ◌≢◌, ℕ, zero, suc, ◌+◌, ◌-◌, ◌<◌, ◌≤◌, ◌==◌, ◌↔◌, Bool, false, not, IsTrue, ◌&&◌, ◌||◌, if◌then◌else◌, List, map, reverse, find, unwrap_or, length, replicate, slice_index_or, true, Contains}
 use Rattle.std.specs.List.{range_with_len, list_any}
 use Rattle.std.specs.Bool.{OnFalse, OnTrue}
 use Rattle.bit_vectors.specs.Vectors.{IsVector, xor_bits, or_bits}
@@ -74,12 +74,18 @@ next_build new_mask moved build = if new_mask then replicate (length build) fals
 abbrev pub next_mask : Bool → List Bool → List Bool → List Bool → List Bool
 next_mask new_mask moved build mask = or_bits (if new_mask then build else mask) moved
 
--- The running vectors: the latest input, build, mask and change, and how many inputs were taken.
+-- the input of the step is that of the step before once more, and the step takes no new mask
+abbrev pub ComesAgain : History → ℕ → Type 0
+ComesAgain h t = (1 ≤ t) × (new_mask_at h t ≡ false) × (input_at h (t - 1) ≡ input_at h t)
+
+-- The running vectors: the latest input, build, mask and change, whether that input came again, and how many inputs were
+-- taken.
 pub record Running : Type 0 where
   pub previous : List Bool
   pub build : List Bool
   pub mask : List Bool
   pub change : List Bool
+  pub again : Bool
   pub taken : ℕ
 
 -- the running vectors are what the history gives at its latest step
@@ -88,6 +94,7 @@ pub record StandsFor (h : History) (value : Running) : Type 0 where
   pub build : value.build ≡ build_at h (latest_step h)
   pub mask : value.mask ≡ mask_at h (latest_step h)
   pub change : value.change ≡ change_at h (latest_step h)
+  pub again : IsTrue value.again ↔ ComesAgain h (latest_step h)
   pub taken : value.taken ≡ length h.steps
 
 -- What the running vectors become, place by place, if these places move and there is no new mask. What the change had

@@ -6,7 +6,7 @@ ghost use Rattle.std.specs.Int.{bit_at};
 ghost use Rattle.mask_update.specs.Histories.{History, Step, latest_step, no_steps, with_step};
 ghost use Rattle.bit_vectors.specs.Vectors.{IsVector, NoneIsOne, or_bits, xor_bits};
 ghost use Rattle.bit_vectors.specs.Words.{word_count, HasNoSpareBit};
-ghost use Rattle.mask_update.specs.Masks.{HaveMoved, StandsFor, build_at, change_at, mask_at, next_build, next_mask};
+ghost use Rattle.mask_update.specs.Masks.{ComesAgain, HaveMoved, StandsFor, build_at, change_at, mask_at, next_build, next_mask};
 
 use bit_vectors::{Bits, NoMemory};
 use std::alloc::Global;
@@ -23,6 +23,7 @@ pub struct Masks {
     change: Bits,
     /// The change has no 1.
     still: bool,
+    again: bool,
     taken: u64,
 }
 
@@ -36,6 +37,7 @@ impl Model for Masks {
       build = m.build;
       mask = m.mask;
       change = m.change;
+      again = m.again;
       taken = m.taken;
     } };
 
@@ -60,14 +62,14 @@ impl Masks {
             mask: first_mask,
             change: Bits::zeros(alloc, places)?,
             still: true,
+            again: false,
             taken: 0,
         })
     }
 
     /// Takes the next input, which has as many places as the mask. With `new_mask` the mask becomes the build
-    /// vector; the first input can't ask for that. Returns whether it is the previous input once more, with no new
-    /// mask: then the mask is kept.
-    pub fn step(&mut self, input: &Bits, new_mask: bool) -> bool
+    /// vector; the first input can't ask for that.
+    pub fn step(&mut self, input: &Bits, new_mask: bool)
         requires places { length input.now ≡ length self.old.mask }
         requires most { self.old.taken < 4294967296 }
         requires first { self.old.taken ≡ 0 → new_mask ≡ false }
@@ -78,9 +80,10 @@ impl Masks {
         // The first input changes nothing.
         ensures first { self.old.taken ≡ 0
             → self.new.change ≡ replicate (length self.new.mask) false }
-        ensures again { IsTrue result
+        // An input that comes again keeps the mask.
+        ensures again { IsTrue self.new.again
             ↔ ((0 < self.old.taken) × (new_mask ≡ false) × (self.old.previous ≡ input.now)) }
-        ensures kept { OnTrue result (self.new.mask ≡ self.old.mask) }
+        ensures kept { OnTrue self.new.again (self.new.mask ≡ self.old.mask) }
         ensures previous { self.new.previous ≡ input.now }
         ensures places { length self.new.mask ≡ length self.old.mask }
         ensures taken { self.new.taken ≡ self.old.taken + 1 }
@@ -91,8 +94,8 @@ impl Masks {
             self.previous.copy_from(input);
             false
         };
+        self.again = again;
         self.taken += 1;
-        again
     }
 
     /// The standard's recurrences. Without a new mask only the words that changed are written. An input equal to the
@@ -252,6 +255,16 @@ impl Masks {
         ensures some { OnFalse result (Contains self.now.change true) }
     {
         self.still
+    }
+
+    /// Whether the latest input came again: it is the one before it once more, and took no new mask. Before the first
+    /// input it is false, and at the first.
+    pub fn is_again(&self) -> bool
+        ensures again { (h : History) → StandsFor h self.now
+            → IsTrue result ↔ ComesAgain h (latest_step h) }
+        ensures kept { result ≡ self.now.again }
+    {
+        self.again
     }
 
     /// The number of inputs taken, at most 4,294,967,296.

@@ -10,3 +10,4 @@ pub mod ContentsApart
 pub mod Lines
 pub mod RowsApart
 pub mod Restored
+pub mod PlayedStreams

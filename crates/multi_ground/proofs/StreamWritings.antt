@@ -1,17 +1,19 @@
 -- What is written of one arrival of a stream: its rows, and then its Space Packet.
-use Rattle.std.proofs.Common.{◌≡◌, ℕ, ◌%◌, ◌<◌, Bool, true, false, if◌then◌else◌, List, [], ◌∷◌, ◌++◌, length, codes, refl, sym, ap, ◌∙◌, subst, append-nil, arith}
+use Rattle.std.proofs.Common.{◌≡◌, inl, inr, ℕ, ◌%◌, ◌<◌, Bool, true, false, if◌then◌else◌, List, [], ◌∷◌, ◌++◌, length, codes, refl, sym, ap, ◌∙◌, subst, append-nil, arith}
 use Rattle.std.specs.Fmt.{decimal}
 use Rattle.std.proofs.lemmas.List.Concat.{flat_map-cons}
 use Rattle.desk_ports.specs.declared.desk.Outlet.TheVariants as outlet
 use Rattle.desk_ports.specs.Meanings.{Meanings, Adds, AddsFront}
 use Rattle.desk_ports.specs.Runs.{Ran}
 use Rattle.desk_ports.specs.Courses.{Outputs, to_report}
-use Rattle.desk_ports.specs.Turns.{Wrote, WroteFront}
+use Rattle.desk_ports.specs.Turns.{Wrote}
+use Rattle.desk_ports.specs.Parts.{WroteWithin}
 use Rattle.desk_ports.proofs.Runs.{Ran-then, Ran-adds, Ran-notes}
+use Rattle.desk_ports.proofs.Parts.{WroteWithin-one}
 use Rattle.packet_store.specs.SpacePackets.{period, space_packet}
 use Rattle.ground_chain.specs.Report.{content_bytes, is_written_kind, written_bytes}
 use Rattle.multi_ground.specs.MultiRun.{StreamJudged}
-use Rattle.multi_ground.specs.MultiOutputs.{outputs_of, tagged, tagged_rows, written_packet}
+use Rattle.multi_ground.specs.MultiOutputs.{arrival_parts, outputs_of, tagged, tagged_rows, written_packet}
 
 -- a row that is not empty, after its APID and a comma
 pub tagged-some : (apid : ℕ) (row : List ℕ) → 0 < length row → (decimal apid ++ codes ",") ++ row ≡ tagged apid row
@@ -50,17 +52,23 @@ module _ (a b : Meanings) (j : StreamJudged) (first : Adds a b outlet.Report (ta
   wrote_all c bytes next is = subst (Wrote a c) (one_output j) (subst (λ (l : List ℕ). Ran a c [] l (tagged_rows j)) is (rows_then a b c (tagged_rows j) bytes first next))
 
   -- the rows, and a front of the packet
-  pub front_packet : (c : Meanings) (bytes : List ℕ) → AddsFront b c outlet.Main bytes → bytes ≡ written_packet j → WroteFront a c (outputs_of (j ∷ []))
-  front_packet c bytes cut is = subst (WroteFront a c) (one_output j) (record {
+  pub front_packet : (c : Meanings) (bytes : List ℕ) → AddsFront b c outlet.Main bytes → bytes ≡ written_packet j → WroteWithin outlet.Report a c (arrival_parts (j ∷ []))
+  front_packet c bytes cut is = WroteWithin-one (record {
     stand = record { output = cut.front; report = tagged_rows j };
     wrote = rows_then a b c (tagged_rows j) cut.front first cut.added;
-    fronts = record { rest = record { output = cut.rest; report = [] }; joined = λ i. record { output = (cut.joined ∙ is) i; report = append-nil (tagged_rows j) i } };
+    front = record {
+      fronts = record { rest = record { output = cut.rest; report = [] }; joined = λ i. record { output = (cut.joined ∙ is) i; report = append-nil (tagged_rows j) i } };
+      order = inr refl;
+    };
   })
 
 -- a front of the rows
-pub front_rows : (a b : Meanings) (j : StreamJudged) → AddsFront a b outlet.Report (tagged_rows j) → WroteFront a b (outputs_of (j ∷ []))
-front_rows a b j cut = subst (WroteFront a b) (one_output j) (record {
+pub front_rows : (a b : Meanings) (j : StreamJudged) → AddsFront a b outlet.Report (tagged_rows j) → WroteWithin outlet.Report a b (arrival_parts (j ∷ []))
+front_rows a b j cut = WroteWithin-one (record {
   stand = to_report cut.front;
   wrote = Ran-notes a b cut.front cut.added;
-  fronts = record { rest = record { output = written_packet j; report = cut.rest }; joined = λ i. record { output = written_packet j; report = cut.joined i } };
+  front = record {
+    fronts = record { rest = record { output = written_packet j; report = cut.rest }; joined = λ i. record { output = written_packet j; report = cut.joined i } };
+    order = inl refl;
+  };
 })

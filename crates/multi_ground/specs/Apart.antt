@@ -10,7 +10,7 @@ use Rattle.packet_store.specs.SpacePackets.{Packet, period, plain_packet}
 use Rattle.packet_store.specs.Walks.{walk}
 use Rattle.side_tables.specs.declared.rows.StreamRow.{StreamRow}
 use Rattle.side_tables.specs.Streams.{stream_at}
-use Rattle.ground_chain.specs.Run.{Judged, run}
+use Rattle.ground_chain.specs.Run.{Arrival, Judged, run}
 use Rattle.ground_chain.specs.Report.{content_bytes, end_row, is_written_kind, restored_of, run_bytes, run_rows}
 use Rattle.multi_ground.specs.MultiRun.{StreamJudged, multi_run, shape_count, stream_arrivals}
 use Rattle.multi_ground.specs.MultiOutputs.{end_rows, multi_header, outputs_of, shape_row}
@@ -58,9 +58,13 @@ multi_report streams packets = multi_header ++ (outputs_of (multi_run streams pa
 
 -- ---- a whole store
 
+-- the arrivals of the stream with an APID in a store
+abbrev pub arrivals_on : ℕ → List ℕ → List Arrival
+arrivals_on apid store = stream_arrivals apid (walk None store).packets
+
 -- the run over the arrivals of a stream in a store
 abbrev pub stream_run : StreamRow → List ℕ → List Judged
-stream_run stream store = run stream.bits (stream_arrivals stream.apid (walk None store).packets)
+stream_run stream store = run stream.bits (arrivals_on stream.apid store)
 
 -- an output and a report have of a stream what the run over its arrivals alone gives
 pub record HasStream (stream : StreamRow) (store output report : List ℕ) : Type 0 where

@@ -16,19 +16,22 @@ use std::alloc::Global;
 use std::marker::Model;
 
 /// The arrivals of several streams so far, each stream judged by itself. Contracts see what is kept of each, in the order
-/// of the streams.
+/// of the streams. There is no room for another stream, so that an arrival takes no memory.
 #[derive(Debug, Drop)]
 pub struct MultiGround {
     streams: Vec<Tallied>,
 }
 
 impl Model for MultiGround {
-    ghost use Rattle.std.specs.Prelude.{List};
+    ghost use Rattle.std.specs.Prelude.{◌≡◌, List, vec_len};
+    ghost use Rattle.std.specs.Vec.{vec_capacity};
     ghost use Rattle.ground_chain.specs.Reckoning.{Reckoning};
 
     ghost Value = { List Reckoning };
 
     ghost view = { λ g. g.streams.items };
+
+    ghost invariant = { λ g. vec_capacity g.streams ≡ vec_len g.streams };
 }
 
 impl MultiGround {
@@ -37,9 +40,10 @@ impl MultiGround {
         ensures { IfOk result
             (λ opened. opened ≡ map (λ (row : StreamRow). nothing_judged row.bits) streams.now) }
     {
-        let mut grounds = Vec::new(alloc);
-        for index in 0..streams.count() {
-            grounds.push(Tallied::open(alloc, streams.bits(index))?)?;
+        let count = streams.count();
+        let mut grounds = Vec::with_capacity(alloc, count as usize)?;
+        for index in 0..count {
+            grounds.push_reserved(Tallied::open(alloc, streams.bits(index))?);
         }
         Ok(MultiGround { streams: grounds })
     }

@@ -1,20 +1,26 @@
 //! What the definitions of the streams in a store mean.
 
-ghost use Rattle.std.specs.Prelude.{◌≡◌, ◌^◌, ◌<◌, ◌≤◌, ◌∷◌, ◌++◌, [], codes, ℕ, All, List, None, length};
+ghost use Rattle.std.specs.Prelude.{◌≡◌, ◌^◌, ◌<◌, ◌≤◌, ◌∷◌, ◌++◌, [], codes, ℕ, All, List, None, Some, length};
 ghost use Rattle.desk_ports.specs.Courses.{AreFronts, owed};
 ghost use Rattle.packet_store.specs.SpacePackets.{Packet};
 ghost use Rattle.packet_store.specs.Walks.{IsGood, walk};
 ghost use Rattle.side_tables.specs.declared.rows.StreamRow.{StreamRow};
 ghost use Rattle.side_tables.specs.Streams.{AreStreams, stream_at};
+ghost use Rattle.packet_encode.specs.Deliveries.{arrivals};
+ghost use Rattle.flight_chain.specs.Stores.{store_of};
 ghost use Rattle.loss_player.specs.Gaps.{AreGapsShort};
+ghost use Rattle.loss_player.specs.Played.{played_bytes};
 ghost use Rattle.mask_update.specs.Histories.{History, IsValid};
 ghost use Rattle.ground_chain.specs.Deliveries.{history_arrivals, report_text, restored_bytes};
 ghost use Rattle.ground_chain.specs.Report.{end_row, header_row, restored_of, run_bytes, run_rows};
 ghost use Rattle.ground_chain.specs.Run.{run};
-ghost use Rattle.multi_ground.specs.Apart.{HasStream, contents_on, judged_with, multi_report, packets_from, rows_on};
-ghost use Rattle.multi_ground.specs.MultiOutputs.{multi_course, multi_header, multi_work, outputs_of};
+ghost use Rattle.multi_ground.specs.Apart.{HasStream, arrivals_on, contents_on, judged_with, multi_report, packets_from, rows_on};
+ghost use Rattle.multi_ground.specs.MultiOutputs.{multi_course, multi_header, multi_parts, multi_work, outputs_of};
+ghost use Rattle.desk_ports.specs.Parts.{put_all};
 ghost use Rattle.multi_ground.specs.MultiRun.{multi_run, stream_arrivals};
 ghost use Rattle.multi_ground.specs.Worked.{two_streams, two_stream_store};
+
+use packet_store::WalkFault;
 
 /// No stream sees another: what is said of the arrivals of a stream is the run over these arrivals alone.
 pub fn streams_are_apart()
@@ -76,14 +82,36 @@ pub fn fronts_owe_fronts()
         (multi_course streams (front ++ rest)).before }
 {}
 
-/// If the arrivals of a stream are those of a history whose packets arrive so often, with gaps that are shorter than the
-/// period of the sequence counts, it is restored as the history alone would be: its contents are the inputs of the packets
-/// that are written, and its lines, after the header of a report, the report of all others.
+/// What is owed part by part is, one part after another, what is owed.
+pub fn parts_are_owed()
+    ensures { (streams : List StreamRow) (store : List ℕ) → put_all (multi_parts streams store) ≡ owed (multi_course streams store) }
+{}
+
+/// The played store of a valid history is whole in the walk for no APID too, and the arrivals on its APID are the packets of
+/// the history, each as often as its copies say; more copies than a store may have packets are too many.
+pub fn played_streams_arrive()
+    ensures whole { (h : History) (copies : ℕ → ℕ) (apid : ℕ) → IsValid h → apid ≤ 2046
+        → length (arrivals copies (length h.steps)) ≤ 2 ^ 32
+        → (walk None (played_bytes copies apid (store_of h apid))).ending ≡ None }
+    ensures arrive { (h : History) (copies : ℕ → ℕ) (apid : ℕ) → IsValid h → apid ≤ 2046
+        → length (arrivals copies (length h.steps)) ≤ 2 ^ 32
+        → arrivals_on apid (played_bytes copies apid (store_of h apid)) ≡ history_arrivals h copies }
+    ensures too_many { (h : History) (copies : ℕ → ℕ) (apid : ℕ) → IsValid h → apid ≤ 2046
+        → 2 ^ 32 < length (arrivals copies (length h.steps))
+        → (walk None (played_bytes copies apid (store_of h apid))).ending ≡ Some WalkFault.TooMany }
+{}
+
+/// If the arrivals of a stream in a store, whatever other packets stand in it, are those of the played store of a valid
+/// history, with gaps that are shorter than the period of the sequence counts, it is restored as that store alone would be:
+/// its contents are the inputs of the packets that are written, and its lines, after the header of a report, the report of all
+/// others.
 pub fn played_streams_are_restored()
     ensures { (stream : StreamRow) (store output report : List ℕ) (h : History) (copies : ℕ → ℕ)
-        → HasStream stream store output report → IsValid h → h.places ≡ stream.bits
-        → AreGapsShort copies (length h.steps)
-        → stream_arrivals stream.apid (walk None store).packets ≡ history_arrivals h copies
+        → HasStream stream store output report → stream.apid ≤ 2046 → IsValid h
+        → h.places ≡ stream.bits → AreGapsShort copies (length h.steps)
+        → length (arrivals copies (length h.steps)) ≤ 2 ^ 32
+        → arrivals_on stream.apid store
+        ≡ arrivals_on stream.apid (played_bytes copies stream.apid (store_of h stream.apid))
         → (contents_on stream.apid output ≡ restored_bytes h copies)
         × (header_row ++ rows_on stream.apid report ≡ report_text h copies) }
 {}

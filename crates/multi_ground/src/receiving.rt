@@ -4,6 +4,7 @@ ghost use Rattle.std.specs.Prelude.{◌≡◌, ℕ, ◌+◌, ◌-◌, ◌^◌, �
 ghost use Rattle.desk_ports.specs.Meanings.{HasWriteCause};
 ghost use Rattle.desk_ports.specs.Turns.{AreReady, Wrote, WroteFront};
 ghost use Rattle.desk_ports.specs.Courses.{to_report};
+ghost use Rattle.desk_ports.specs.Parts.{WroteWithin};
 ghost use Rattle.packet_store.specs.SpacePackets.{Packet};
 
 use crate::ground::MultiGround;
@@ -34,9 +35,14 @@ impl Run for MultiReceiving {
     type Data = WalkFault;
 
     ghost use Rattle.ground_chain.specs.Restoring.{stop_by};
-    ghost use Rattle.multi_ground.specs.Receiving.{Owes};
+    ghost use Rattle.desk_ports.specs.declared.desk.Outlet.TheVariants as outlet;
+    ghost use Rattle.multi_ground.specs.Receiving.{Owes, OwesParts};
 
     ghost owes = { Owes };
+
+    ghost owes_parts = { OwesParts };
+
+    ghost first = { outlet.Report };
 
     ghost stop_of = { stop_by };
 
@@ -55,8 +61,8 @@ impl Run for MultiReceiving {
 }
 
 impl MultiReceiving {
-    ghost use Rattle.multi_ground.specs.Receiving.{HasRead, HasReceived, IsReceiving, IsUnread, JudgesOne, next_of, outputs_after};
-    ghost use Rattle.multi_ground.specs.MultiOutputs.{last_rows, outputs_of};
+    ghost use Rattle.multi_ground.specs.Receiving.{HasRead, HasReceived, IsReceiving, IsUnread, JudgesOne, next_of, outputs_after, parts_after};
+    ghost use Rattle.multi_ground.specs.MultiOutputs.{arrival_parts, last_rows, outputs_of};
 
     /// Nothing is read. Takes all memory of the run.
     pub fn open(alloc: Global, streams: Streams) -> Result<MultiReceiving, NoMemory>
@@ -84,8 +90,8 @@ impl MultiReceiving {
             → OnOk result (Wrote (D.meaning desk.old) (D.meaning desk.new)
             (outputs_after self.old.streams packets p)) }
         ensures front { (p : Packet) (packets : List Packet) → HasRead self.old p → HasReceived self.old packets
-            → OnErr result (WroteFront (D.meaning desk.old) (D.meaning desk.new)
-            (outputs_after self.old.streams packets p)) }
+            → OnErr result (WroteWithin Outlet.Report (D.meaning desk.old) (D.meaning desk.new)
+            (parts_after self.old.streams packets p)) }
         ensures reader { self.new.reader ≡ self.old.reader }
         ensures streams { self.new.streams ≡ self.old.streams }
         ensures cause { HasWriteCause (D.counts desk.old) (D.counts desk.new) result }
@@ -112,8 +118,8 @@ impl MultiReceiving {
         ensures judges { JudgesOne self.old self.new index count self.old.reader.body }
         ensures wrote { OnOk result (Wrote (D.meaning desk.old) (D.meaning desk.new)
             (outputs_of (next_of self.old index count self.old.reader.body ∷ []))) }
-        ensures front { OnErr result (WroteFront (D.meaning desk.old) (D.meaning desk.new)
-            (outputs_of (next_of self.old index count self.old.reader.body ∷ []))) }
+        ensures front { OnErr result (WroteWithin Outlet.Report (D.meaning desk.old) (D.meaning desk.new)
+            (arrival_parts (next_of self.old index count self.old.reader.body ∷ []))) }
         ensures cause { HasWriteCause (D.counts desk.old) (D.counts desk.new) result }
     {
         let verdict = self.arrivals.arrive(index, count, self.reader.body());

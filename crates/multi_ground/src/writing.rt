@@ -4,13 +4,14 @@ ghost use Rattle.std.specs.Prelude.{◌≡◌, ◌+◌, ◌%◌, ◌≤◌, ◌+
 ghost use Rattle.std.specs.Fmt.{decimal};
 ghost use Rattle.bit_vectors.specs.Vectors.{vector_bytes};
 ghost use Rattle.desk_ports.specs.Meanings.{IsReadyOut, Adds, AddsFront, HasWriteCause};
-ghost use Rattle.desk_ports.specs.Turns.{AreReady, Wrote, WroteFront};
+ghost use Rattle.desk_ports.specs.Turns.{AreReady, Wrote};
+ghost use Rattle.desk_ports.specs.Parts.{WroteWithin};
 ghost use Rattle.packet_decode.specs.Decoding.{latest_content};
 ghost use Rattle.packet_store.specs.SpacePackets.{period, space_packet};
 ghost use Rattle.ground_chain.specs.Reception.{AgreesWith};
 ghost use Rattle.ground_chain.specs.Report.{lost_row, own_row};
 ghost use Rattle.ground_chain.specs.Run.{Judged};
-ghost use Rattle.multi_ground.specs.MultiOutputs.{multi_header, outputs_of, shape_row, tagged};
+ghost use Rattle.multi_ground.specs.MultiOutputs.{arrival_parts, multi_header, outputs_of, shape_row, tagged};
 
 use bit_vectors::byte_len;
 use desk_ports::{Desk, Failed, Outlet, Row, write_all};
@@ -50,8 +51,8 @@ pub fn write_arrival<D: Desk>(
         → OnOk result (Wrote (D.meaning desk.old) (D.meaning desk.new)
         (outputs_of (record { apid = apid; judged = judged } ∷ []))) }
     ensures front { (judged : Judged) → judged.verdict ≡ verdict.now → AgreesWith decoder.now judged
-        → OnErr result (WroteFront (D.meaning desk.old) (D.meaning desk.new)
-        (outputs_of (record { apid = apid; judged = judged } ∷ []))) }
+        → OnErr result (WroteWithin Outlet.Report (D.meaning desk.old) (D.meaning desk.new)
+        (arrival_parts (record { apid = apid; judged = judged } ∷ []))) }
     ensures cause { HasWriteCause (D.counts desk.old) (D.counts desk.new) result }
 {
     write_rows(desk, apid, verdict)?;

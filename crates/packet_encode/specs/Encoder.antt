@@ -12,11 +12,10 @@ use Rattle.robust_window.specs.Window.{StandsFor as WindowStandsFor}
 use Rattle.packet_encode.specs.Forms.{Form, form_bits}
 use Rattle.packet_encode.specs.Packets.{form_of}
 
--- the running vectors, the window over their changes, and the bits of the latest packet
+-- the running vectors, and the window over their changes
 pub record EncoderState : Type 0 where
   pub masks : Running
   pub window : WindowState
-  pub bits : List Bool
 
 -- masks and window are those of the history
 pub record StandsFor (h : History) (value : EncoderState) : Type 0 where
@@ -31,12 +30,12 @@ no_flags = record { p = false; f = false; r = false }
 abbrev pub plain_form : Running → ℕ → Form
 plain_form masks level = form_of masks.mask (replicate (length masks.mask) false) level false masks.previous no_flags
 
--- Masks and window have taken the same number of steps, of vectors of the same length. The pen has room for a packet. If a
--- level is kept, its bits are those of a plain form at that level.
-pub record IsEncoder (masks : Running) (window : WindowState) (spare : List Bool) (pen : PenState) (plain : Option ℕ) : Type 0 where
+-- Masks and window have taken the same number of steps, of vectors of the same length. What is kept has room for a packet.
+-- If a level is kept, its bits are those of a plain form of the latest input at that level.
+pub record IsEncoder (masks : Running) (window : WindowState) (spare : List Bool) (kept : PenState) (plain : Option ℕ) : Type 0 where
   pub vector : IsVector masks.mask
   pub places : length window.recent ≡ length masks.mask
   pub taken : window.taken ≡ masks.taken
   pub spare_places : length spare ≡ length masks.mask
-  pub room : pen.room ≡ 10 * length masks.mask + 43
-  pub bits : IfSome plain (λ level. pen.bits ≡ form_bits (plain_form masks level))
+  pub room : kept.room ≡ 10 * length masks.mask + 43
+  pub bits : IfSome plain (λ level. kept.bits ≡ form_bits (plain_form masks level))

@@ -1,11 +1,14 @@
 //! Making packets from inputs.
 
-ghost use Rattle.std.specs.Prelude.{[], ◌≡◌, ℕ, ◌↔◌, ◌+◌, ◌*◌, ◌<◌, ◌≤◌, false, length, replicate, IfOk, IsTrue, Some};
-ghost use Rattle.bit_vectors.specs.Vectors.{byte_count, padded, vector_bytes};
+ghost use Rattle.std.specs.Prelude.{List, [], ◌∷◌, ◌++◌, ◌≡◌, ℕ, ◌↔◌, ◌+◌, ◌*◌, ◌<◌, ◌≤◌, false, length, replicate, IfOk, IfSome, IsTrue, Some};
+ghost use Rattle.bit_vectors.specs.Vectors.{padded};
 ghost use Rattle.mask_update.specs.Histories.{History, flags_after, no_steps};
+ghost use Rattle.robust_window.specs.Changes.{MaskStep};
+ghost use Rattle.robust_window.specs.Window.{StandsFor as WindowStandsFor};
 ghost use Rattle.packet_encode.specs.Encoder.{StandsFor};
 ghost use Rattle.packet_encode.specs.Forms.{form_bits};
 ghost use Rattle.packet_encode.specs.Packets.{form_at, form_of, packet_at, with_next_input};
+ghost use Rattle.robust_window.specs.Histories.{level_at};
 
 use crate::changes::put_changes;
 use crate::data::put_data;
@@ -22,16 +25,26 @@ const FORCED: Flags = Flags {
     r: true,
 };
 
+/// The room for each packet of an input of `f` places: at most 491,563 bits.
+pub fn room(f: u32) -> u32
+    requires some { 1 ≤ f }
+    requires most { f ≤ 49152 }
+    ensures room { result ≡ 10 * f + 43 }
+    ensures most { result ≤ 491563 }
+{
+    10 * f + 43
+}
+
 /// Makes the packet of each input (CCSDS 124.0-B-1). It keeps the running vectors and the latest changes, but not the
-/// history. Contracts see them, and say which histories they stand for. It also keeps the latest packet, which it gives
-/// again if the next one has the same bits.
+/// history. Contracts see them, and say which histories they stand for. It also keeps the latest packet if that has no
+/// recent change, no mask and no whole content, to copy it if the next one has the same bits.
 #[derive(Debug, Drop)]
 pub struct Encoder {
     masks: Masks,
     window: Window,
     spare: Bits,
-    pen: BitPen,
-    /// The level of the packet in the pen if it has no recent change, no mask and no whole content.
+    kept: BitPen,
+    /// The level of the packet that is kept, if one is.
     plain: Option<u8>,
 }
 
@@ -40,14 +53,14 @@ impl Model for Encoder {
 
     ghost Value = { EncoderState };
 
-    ghost view = { λ e. record { masks = e.masks; window = e.window; bits = e.pen.bits } };
+    ghost view = { λ e. record { masks = e.masks; window = e.window } };
 
-    ghost invariant = { λ e. IsEncoder e.masks e.window e.spare e.pen e.plain };
+    ghost invariant = { λ e. IsEncoder e.masks e.window e.spare e.kept e.plain };
 }
 
 impl Encoder {
     /// Starts with this mask of `f` places and no input taken. Allocates the memory for every vector that `encode` fills,
-    /// and for the longest packet, of 10 f + 43 bits.
+    /// and for the packet that it keeps.
     pub fn open(alloc: Global, f: u32, mask: &Bits) -> Result<Encoder, NoMemory>
         requires some { 1 ≤ f }
         requires most { f ≤ 49152 }
@@ -55,66 +68,70 @@ impl Encoder {
         ensures stands { IfOk result (λ encoder. StandsFor (no_steps mask.now) encoder) }
         ensures places { IfOk result (λ encoder. length encoder.masks.mask ≡ f) }
         ensures taken { IfOk result (λ encoder. encoder.masks.taken ≡ 0) }
-        // There is no packet yet.
-        ensures bits { IfOk result (λ encoder. encoder.bits ≡ []) }
     {
         Ok(Encoder {
             masks: Masks::open(alloc, mask)?,
             window: Window::open(alloc, f)?,
             spare: Bits::zeros(alloc, f)?,
-            pen: BitPen::with_room(alloc, 10 * f + 43)?,
+            kept: BitPen::with_room(alloc, room(f))?,
             plain: None,
         })
     }
 
-    /// Takes the next input, its flags and its required robustness, at most 7, and makes its packet. A packet whose number
-    /// is at most its required robustness is forced to carry mask and whole content and to take no new mask.
-    pub fn encode(&mut self, input: &Bits, flags: Flags, robust: u8)
+    /// Takes the next input, its flags and its required robustness, at most 7, and leaves the packet's bits in `pen`,
+    /// which is empty and has room for them. A packet whose number is at most its required robustness is forced to carry
+    /// mask and whole content and to take no new mask.
+    pub fn encode(&mut self, input: &Bits, flags: Flags, robust: u8, pen: &mut BitPen)
         requires places { length input.now ≡ length self.old.masks.mask }
         requires most { self.old.masks.taken < 4294967296 }
         requires robust { robust ≤ 7 }
+        requires empty { pen.old.bits ≡ [] }
+        requires room { 10 * length input.now + 43 ≤ pen.old.room }
         // If it stood for some history, it now stands for that history with this input, these flags, after forcing, and
         // this required robustness added.
         ensures stands { (h : History) → StandsFor h self.old
             → StandsFor (with_next_input h robust input.now flags) self.new }
-        // The bits are exactly those of the form of its last step, which are, filled up to whole bytes, the packet.
+        // The pen has exactly the bits of the form of its last step, which are, filled up to whole bytes, the packet.
         ensures bits { (h : History) → StandsFor h self.old
-            → self.new.bits ≡ form_bits
+            → pen.new.bits ≡ form_bits
             (form_at (with_next_input h robust input.now flags) (length h.steps)) }
         ensures packet { (h : History) → StandsFor h self.old
-            → padded self.new.bits
+            → padded pen.new.bits
             ≡ packet_at (with_next_input h robust input.now flags) (length h.steps) }
-        ensures some { 0 < length self.new.bits }
-        ensures most { length self.new.bits ≤ 10 * length input.now + 43 }
+        ensures some { 0 < length pen.new.bits }
+        ensures most { length pen.new.bits ≤ 10 * length input.now + 43 }
+        ensures room { pen.new.room ≡ pen.old.room }
         ensures places { length self.new.masks.mask ≡ length self.old.masks.mask }
         ensures taken { self.new.masks.taken ≡ self.old.masks.taken + 1 }
     {
         let flags = self.forced(flags, robust);
-        let again = self.masks.step(input, flags.p);
-        let still = self.masks.is_still();
-        self.window
-            .step(self.masks.change(), still, flags.p, robust);
+        self.masks.step(input, flags.p);
+        step_window(&mut self.window, &self.masks, flags.p, robust);
         let plain = plain_level(&self.window, flags);
-        if !(again && is_level(plain, self.plain)) {
-            self.plain = plain;
+        if self.masks.is_again() && is_level(plain, self.plain) {
+            pen.copy_from(&self.kept);
+        } else {
             write_packet(
-                &mut self.pen,
+                pen,
                 input,
                 flags,
                 &self.masks,
                 &self.window,
                 &mut self.spare,
             );
+            keep(&mut self.kept, pen, plain);
+            self.plain = plain;
         }
     }
 
-    /// The latest packet, in whole bytes.
-    pub fn bytes(&self) -> &[u8]
-        ensures bytes { result.now ≡ vector_bytes self.now.bits }
-        ensures len { length result.now ≡ byte_count (length self.now.bits) }
-        ensures most { length result.now ≤ 65536 }
+    /// The effective robustness level of the latest packet. At least one input was taken.
+    pub fn level(&self) -> u8
+        requires { 0 < self.now.masks.taken }
+        ensures level { (h : History) (t : ℕ) → StandsFor h self.now → length h.steps ≡ t + 1
+            → result ≡ level_at h t }
+        ensures most { result ≤ 15 }
     {
-        self.pen.bytes()
+        self.window.effective()
     }
 
     /// The flags of the next packet, which is forced if its number is at most its required robustness.
@@ -138,8 +155,30 @@ impl Encoder {
     }
 }
 
-/// Writes the packet of this input after masks and window have taken a step, in place of what the pen has. `spare` may
-/// then have any bits.
+/// Takes the latest change of the masks. Without one, no vector is looked at.
+fn step_window(window: &mut Window, masks: &Masks, new_mask: bool, robust: u8)
+    requires places { length masks.now.mask ≡ length window.old.recent }
+    requires most { window.old.taken < 4294967296 }
+    requires first_change { window.old.taken ≡ 0
+        → masks.now.change ≡ replicate (length masks.now.mask) false }
+    requires first_new_mask { window.old.taken ≡ 0 → new_mask ≡ false }
+    requires robust { robust ≤ 7 }
+    ensures stands { (steps : List MaskStep) (step : MaskStep)
+        → WindowStandsFor steps window.old → step.change ≡ masks.now.change
+        → step.new_mask ≡ new_mask → step.robust ≡ robust
+        → WindowStandsFor (steps ++ step ∷ []) window.new }
+    ensures places { length window.new.recent ≡ length window.old.recent }
+    ensures taken { window.new.taken ≡ window.old.taken + 1 }
+{
+    let change = masks.change();
+    if masks.is_still() {
+        window.step_still(new_mask, robust);
+    } else {
+        window.step(change, new_mask, robust);
+    }
+}
+
+/// Writes the packet of this input after masks and window have taken a step. `spare` may then have any bits.
 fn write_packet(
     pen: &mut BitPen,
     input: &Bits,
@@ -148,6 +187,7 @@ fn write_packet(
     window: &Window,
     spare: &mut Bits,
 )
+    requires empty { pen.old.bits ≡ [] }
     requires taken { 0 < window.now.taken }
     requires places { length masks.now.mask ≡ length input.now }
     requires recent { length window.now.recent ≡ length input.now }
@@ -160,10 +200,20 @@ fn write_packet(
     ensures room { pen.new.room ≡ pen.old.room }
     ensures spare { length spare.new ≡ length spare.old }
 {
-    pen.clear();
     let mask = masks.mask();
     let wide = put_changes(pen, mask, window);
     put_data(pen, input, flags, mask, window.recent(), wide, spare);
+}
+
+/// Keeps the packet in the pen if it has a level.
+fn keep(kept: &mut BitPen, pen: &BitPen, plain: Option<u8>)
+    requires { length pen.now.bits ≤ kept.old.room }
+    ensures bits { IfSome plain (λ level. kept.new.bits ≡ pen.now.bits) }
+    ensures room { kept.new.room ≡ kept.old.room }
+{
+    if plain.is_some() {
+        kept.copy_from(pen);
+    }
 }
 
 /// The level of a packet with these flags if it has no recent change, no mask and no whole content.

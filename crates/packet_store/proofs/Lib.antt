@@ -2,3 +2,4 @@ pub mod Packets
 pub mod Walks
 pub mod Reading
 pub mod StoreTurns
+pub mod StoreParts

@@ -3,5 +3,6 @@ pub mod Rows
 pub mod Grammar
 pub mod Faults
 pub mod Texts
+pub mod Line
 pub mod Tabling
 pub mod Worked

@@ -6,7 +6,8 @@ ghost use Rattle.flight_chain.specs.Recordings.{recording_of, recording_walk};
 ghost use Rattle.param_table.specs.Cells.{cell_in, first_bit, number_in, signed_if, sum_by_weight};
 ghost use Rattle.param_table.specs.Grammar.{bad_text_row, text_columns};
 ghost use Rattle.param_table.specs.Texts.{limit_text, table_text};
-ghost use Rattle.param_table.specs.Tabling.{Tabulation, table_course};
+ghost use Rattle.param_table.specs.Tabling.{Tabulation, table_course, table_parts};
+ghost use Rattle.desk_ports.specs.Parts.{put_all};
 ghost use Rattle.param_table.specs.Worked.{worked_columns, worked_packets};
 
 /// A number is the sum of its bits, each by its weight: the first has the greatest, half of 2 to the power of the width, and
@@ -31,6 +32,11 @@ pub fn whole_recordings_owe_their_texts()
 pub fn fronts_owe_fronts()
     ensures { (k : Tabulation) (front rest : List ℕ) → 1 ≤ k.places →
         AreFronts (table_course k front).before (table_course k (front ++ rest)).before }
+{}
+
+/// What is owed part by part is, one part after another, what is owed.
+pub fn parts_are_owed()
+    ensures { (k : Tabulation) (recording : List ℕ) → put_all (table_parts k recording) ≡ owed (table_course k recording) }
 {}
 
 /// A worked side text and recording: two packets of 16 places with two fields, one of which has a limit that the first

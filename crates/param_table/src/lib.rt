@@ -18,7 +18,8 @@ pub use cells::cell;
 pub use fault::TableFault;
 pub use fields::Fields;
 pub use laws::{
-    fronts_owe_fronts, numbers_are_sums, whole_recordings_owe_their_texts, worked_tables,
+    fronts_owe_fronts, numbers_are_sums, parts_are_owed, whole_recordings_owe_their_texts,
+    worked_tables,
 };
 pub use name::Name;
 pub use rows::{Column, FieldRow, Limit};

@@ -21,13 +21,15 @@ pub struct Line {
 }
 
 impl Model for Line {
-    ghost use Rattle.std.specs.Prelude.{◌≡◌, ◌≤◌, List, ℕ, length, drop};
+    ghost use Rattle.std.specs.Prelude.{List, ℕ, drop, length};
+    ghost use Rattle.std.specs.Vec.{vec_capacity};
+    ghost use Rattle.param_table.specs.Line.{IsLine};
 
     ghost Value = { List ℕ };
 
     ghost view = { λ line. drop line.start line.bytes.items };
 
-    ghost invariant = { λ line. (line.start ≤ 8481) × (length line.bytes.items ≡ 8481) };
+    ghost invariant = { λ line. IsLine line.start (length line.bytes.items) (vec_capacity line.bytes) };
 }
 
 impl Line {

@@ -3,9 +3,10 @@
 ghost use Rattle.std.specs.Prelude.{◌≡◌, ◌≤◌, IfOk};
 ghost use Rattle.desk_ports.specs.Meanings.{IsReadyIn, IsReadyOut};
 ghost use Rattle.desk_ports.specs.Courses.{AfterRun, HasCause, by_stop};
+ghost use Rattle.desk_ports.specs.Parts.{InParts};
 ghost use Rattle.param_table.specs.Faults.{stop_by};
 ghost use Rattle.param_table.specs.Rows.{AreColumns};
-ghost use Rattle.param_table.specs.Tabling.{table_work};
+ghost use Rattle.param_table.specs.Tabling.{table_parts, table_work};
 
 use crate::fault::TableFault;
 use crate::fields::Fields;
@@ -56,6 +57,10 @@ impl Tabler {
         ensures ran { AfterRun (table_work self) (D.meaning desk.old) (D.meaning desk.new)
             (by_stop stop_by result) }
         ensures cause { HasCause (D.counts desk.old) (D.counts desk.new) (by_stop stop_by result) }
+        // The line of a packet is written before its rows. So if a write failed, then up to some packet all lines and rows
+        // stand, and of the next one a prefix of its line, or its line and a prefix of its rows.
+        ensures order { InParts Outlet.Main (table_parts self) (D.meaning desk.old)
+            (D.meaning desk.new) (by_stop stop_by result) }
     {
         let mut tabling = self.tabling;
         write_headers(desk, &mut tabling.line, tabling.fields.columns())?;

@@ -32,9 +32,14 @@ impl Run for Tabling {
     type Data = RecordFault;
 
     ghost use Rattle.param_table.specs.Faults.{stop_by};
-    ghost use Rattle.param_table.specs.Tabling.{Owes};
+    ghost use Rattle.desk_ports.specs.declared.desk.Outlet.TheVariants as outlet;
+    ghost use Rattle.param_table.specs.Tabling.{Owes, OwesParts};
 
     ghost owes = { Owes };
+
+    ghost owes_parts = { OwesParts };
+
+    ghost first = { outlet.Main };
 
     ghost stop_of = { stop_by };
 

@@ -3,7 +3,8 @@
 ghost use Rattle.std.specs.Prelude.{◌≡◌, ◌+◌, ◌≤◌, ◌^◌, ◌<◌, length, is_some, IfOk, OnOk, OnErr};
 ghost use Rattle.std.specs.Option.{option_to_list};
 ghost use Rattle.desk_ports.specs.Meanings.{Adds, AddsFront, HasWriteCause, IsReadyOut};
-ghost use Rattle.desk_ports.specs.Turns.{Wrote, WroteFront};
+ghost use Rattle.desk_ports.specs.Turns.{Wrote};
+ghost use Rattle.desk_ports.specs.Parts.{WroteFrontBy};
 ghost use Rattle.param_table.specs.Rows.{AreColumns, IsColumn};
 ghost use Rattle.param_table.specs.Texts.{end_row, packet_violations, violation_of, violation_rows};
 ghost use Rattle.param_table.specs.Tabling.{headers, packet_texts};
@@ -30,7 +31,7 @@ pub fn write_headers<D: Desk>(
     ensures wrote { OnOk result
         (Wrote (D.meaning desk.old) (D.meaning desk.new) (headers columns.now)) }
     ensures front { OnErr result
-        (WroteFront (D.meaning desk.old) (D.meaning desk.new) (headers columns.now)) }
+        (WroteFrontBy Outlet.Main (D.meaning desk.old) (D.meaning desk.new) (headers columns.now)) }
     ensures cause { HasWriteCause (D.counts desk.old) (D.counts desk.new) result }
 {
     put_names(line, columns);
@@ -51,7 +52,7 @@ pub fn write_packet<D: Desk>(
     requires columns { AreColumns (length packet.now) columns.now }
     ensures wrote { OnOk result (Wrote (D.meaning desk.old) (D.meaning desk.new)
         (packet_texts columns.now (t, packet.now))) }
-    ensures front { OnErr result (WroteFront (D.meaning desk.old) (D.meaning desk.new)
+    ensures front { OnErr result (WroteFrontBy Outlet.Main (D.meaning desk.old) (D.meaning desk.new)
         (packet_texts columns.now (t, packet.now))) }
     ensures found { IfOk result
         (λ found. found ≡ length (packet_violations columns.now (t, packet.now))) }

@@ -1,5 +1,5 @@
 -- What the program itself answers, and what it leaves at its desk of files.
-use Rattle.std.specs.Prelude.{◌≡◌, ℕ, ◌≤◌, ◌⊎◌, List, [], ◌∷◌, codes, Option, Some, None, Result, Err, if◌then◌else◌, take, map}
+use Rattle.std.specs.Prelude.{◌≡◌, ℕ, ◌≤◌, ◌⊎◌, List, [], ◌∷◌, codes, ◌&&◌, Option, Some, None, is_some, Result, Err, if◌then◌else◌, take, map}
 use Rattle.std.specs.Str.{bytes_eq}
 use Rattle.std.specs.String.{string_bytes}
 use Rattle.std.specs.declared.string.String.{String}
@@ -9,6 +9,7 @@ use Rattle.desk_ports.specs.FileDesk.{file_counts, gathered_at}
 use Rattle.pocket_cmd.specs.declared.status.Refusal.TheVariants.{WriteFault}
 use Rattle.pocket_cmd.specs.declared.status.Status.{Status}
 use Rattle.pocket_cmd.specs.declared.status.Status.TheVariants.{Done, Refused}
+use Rattle.pocket_cmd.specs.Verbs.{verb_of}
 use Rattle.pocket.specs.declared.Asked.{Asked}
 use Rattle.pocket.specs.declared.Asked.TheVariants as asked
 
@@ -19,11 +20,16 @@ asked_of word =
     else if bytes_eq word (codes "--version") then Some asked.Version
     else None
 
--- what the program is asked by the only word
+-- what a word asks after a first word: the help of that, if it is a verb
+abbrev pub asked_of_verb : List ℕ → List ℕ → Option Asked
+asked_of_verb verb word = if is_some (verb_of verb) && bytes_eq word (codes "--help") then Some asked.VerbHelp else None
+
+-- what the program is asked by the only word, or by the second of two
 abbrev pub asked_by : List (List ℕ) → Option Asked
 asked_by [] = None
 asked_by (word ∷ []) = asked_of word
-asked_by (word ∷ next ∷ rest) = None
+asked_by (verb ∷ word ∷ []) = asked_of_verb verb word
+asked_by (word ∷ next ∷ third ∷ rest) = None
 
 -- the words that are looked at
 abbrev pub seen : {Z : Type 0} → List (String Z) → List (List ℕ)

@@ -1,20 +1,27 @@
 //! The program `pocket`: its words, the desk of files, and how it ends.
 #![tactic(auto)]
 
-ghost use Rattle.std.specs.Prelude.{◌≡◌, ℕ, ◌≤◌, ◌↔◌, ◌⊎◌, drop, length, map, take, Err, IsSome, None};
+ghost use Rattle.std.specs.Prelude.{◌≡◌, ℕ, ◌≤◌, ◌↔◌, ◌⊎◌, drop, is_some, length, map, take, Err, IsSome, None};
 ghost use Rattle.std.specs.Process.{exit_status};
 ghost use Rattle.std.specs.String.{string_bytes};
 ghost use Rattle.desk_ports.specs.FileDesk.{file_counts};
 ghost use Rattle.desk_ports.specs.Meanings.{nothing_told};
-ghost use Rattle.pocket.specs.Program.{GathersNothing, IsHandedOver, answered, asked_by, asked_of, seen};
+ghost use Rattle.pocket.specs.Program.{GathersNothing, IsHandedOver, answered, asked_by, asked_of, asked_of_verb, seen};
 ghost use Rattle.pocket_cmd.specs.Command.{HasCommand, command_of};
 ghost use Rattle.pocket_cmd.specs.Status.{exit_number};
+ghost use Rattle.pocket_cmd.specs.Verbs.{verb_of};
 
+mod advice;
+mod causes;
+mod verb_help;
+
+use advice::advise;
 use desk_ports::{Desk, Failed, FileDesk};
 use pocket_cmd::{Refusal, Status, exit_code, pocket};
 use std::fs::File;
 use std::process::ExitCode;
 use std::{env, fs, io};
+use verb_help::print_help;
 
 /// No verb has as many words, so a command line that is cut here is refused just as the whole one is.
 const MOST_WORDS: usize = 1000;
@@ -63,22 +70,25 @@ Exit numbers:
     5  out of memory
     7  the words cannot be read";
 
-const VERSION: &str = "pocket 1.0.0";
+const VERSION: &str = "pocket 1.1.0";
 
 /// What the program is asked about itself.
 #[derive(Clone, Copy, Debug, PartialEq, Eq)]
 enum Asked {
     Help,
     Version,
+    /// The help of the verb before it.
+    VerbHelp,
 }
 
 impl Asked {
-    /// What the only word asks.
+    /// What the only word asks, or the word after a verb.
     fn by(words: &[String]) -> Option<Asked>
         ensures { result ≡ asked_by (map string_bytes words.now) }
     {
         match words {
             [word] => Asked::of(word.as_str()),
+            [verb, word] => Asked::of_verb(verb.as_str(), word.as_str()),
             _ => None,
         }
     }
@@ -94,13 +104,35 @@ impl Asked {
         }
     }
 
-    /// The text that answers it.
-    fn text(self) -> &'static str {
-        match self {
-            Asked::Help => HELP,
-            Asked::Version => VERSION,
+    /// What a word asks after a first word.
+    fn of_verb(verb: &str, word: &str) -> Option<Asked>
+        ensures { result ≡ asked_of_verb verb.now word.now }
+    {
+        if is_verb(verb) && word == "--help" {
+            Some(Asked::VerbHelp)
+        } else {
+            None
         }
     }
+
+    /// Prints what answers it, after these words.
+    fn print(self, rt: &HostRuntime, words: &[String]) -> io::Result<()> {
+        match (self, words) {
+            (Asked::Version, _) => println!(rt; "{VERSION}"),
+            (Asked::VerbHelp, [verb, ..]) => print_help(rt, verb.as_str()),
+            _ => println!(rt; "{HELP}"),
+        }
+    }
+}
+
+/// Whether a word names a verb.
+fn is_verb(word: &str) -> bool
+    ensures { result ≡ is_some (verb_of word.now) }
+{
+    matches!(
+        word,
+        "compress" | "play" | "restore" | "show" | "trial" | "multi" | "late" | "table" | "forecast"
+    )
 }
 
 fn main(rt: HostRuntime) -> ExitCode {
@@ -112,7 +144,7 @@ fn main(rt: HostRuntime) -> ExitCode {
     match command_line(&rt) {
         Ok(line) => answer(&rt, words(&line)),
         Err(error) if error.kind() == io::ErrorKind::OutOfMemory => {
-            ended(&rt, Status::Refused(Refusal::NoMemory))
+            ended(&rt, &[], Status::Refused(Refusal::NoMemory))
         }
         Err(_) => {
             let _ = eprintln!(rt; "pocket: words cannot be read");
@@ -164,11 +196,11 @@ fn answer(rt: &HostRuntime, words: &[String]) -> ExitCode
         ⊎ HasCommand (take 1000 words.now) (λ _. Unit {0}) }
 {
     match Asked::by(words) {
-        Some(asked) => printed(rt, asked.text()),
+        Some(asked) => printed(rt, asked.print(rt, words)),
         None => {
             let mut desk = FileDesk::new(rt);
             let status = run(rt, first_words(words), &mut desk);
-            ended(rt, status)
+            ended(rt, words, status)
         }
     }
 }
@@ -213,20 +245,21 @@ fn first_words(words: &[String]) -> &[String]
     &words[..MOST_WORDS.min(words.len())]
 }
 
-/// Prints a text on standard output.
-fn printed(rt: &HostRuntime, text: &str) -> ExitCode {
-    match println!(rt; "{text}") {
+/// The exit number after something was printed on standard output.
+fn printed(rt: &HostRuntime, print: io::Result<()>) -> ExitCode {
+    match print {
         Ok(()) => ExitCode::SUCCESS,
-        Err(_) => ended(rt, Status::Refused(Refusal::WriteFault)),
+        Err(_) => ended(rt, &[], Status::Refused(Refusal::WriteFault)),
     }
 }
 
-/// Prints a refusal on standard error, and gives the exit number.
-fn ended(rt: &HostRuntime, status: Status) -> ExitCode
+/// Prints a refusal on standard error, and on a terminal what these words have to do with it; and gives the exit number.
+fn ended(rt: &HostRuntime, words: &[String], status: Status) -> ExitCode
     ensures { exit_status result ≡ exit_number status }
 {
     if let Status::Refused(refusal) = &status {
         let _ = eprintln!(rt; "pocket: {refusal}");
+        advise(rt, words, refusal);
     }
     ExitCode::from(exit_code(&status))
 }

@@ -443,7 +443,7 @@ run_kept names course start new written e =
 
 -- a command that is done
 pub kept_as_made : (command : Command) (old new : Meanings) → AreApart (names_of command) → Stands command old new None → AreKeptAsMade (names_of command) new
-kept_as_made command old new apart e = by_script (bad_script_row_of command) e.after where
+kept_as_made command old new apart e = by_script (bad_script_row_of command) e.after.1 where
   names : Names
   names = names_of command
 

@@ -17,7 +17,7 @@ use Rattle.pocket_cmd.specs.Command.{Command, Names}
 use Rattle.pocket_cmd.specs.Courses.{bad_row_of, bad_script_row_of, course_of, names_of}
 use Rattle.pocket_cmd.specs.Jobs.{AfterMaking, IsJobOf, job_course}
 use Rattle.pocket_cmd.specs.Openings.{IsText, input_given, with_text}
-use Rattle.pocket_cmd.specs.Outcome.{AfterClass, AfterCommand, AfterNames, AfterText, AfterTextClass, IsAnsweredBy, IsBegun, IsNotBegun, IsRowAnswered, IsScriptRefused, IsTextRight, OnceAllRead, answer_by, by_row, by_script, by_text, left_to_open}
+use Rattle.pocket_cmd.specs.Outcome.{AfterClass, AfterCommand, AfterNames, AfterText, AfterTextClass, IsAnsweredBy, IsBegun, IsNotBegun, IsScriptRefused, IsTextRight, OnceAllRead, answer_by, by_row, by_script, by_text, left_to_open}
 use Rattle.pocket_cmd.specs.Status.{Class, HasClassCause, HasStatusCause, IsEnded, class_of, refusal_for, refused_by, status_by, status_of}
 use Rattle.pocket_cmd.specs.Status as class
 use Rattle.pocket_cmd.proofs.Delivered.{text_is}
@@ -35,14 +35,14 @@ module _ (job : Job) (names : Names) (course : List ℕ → Course DataFault) (o
   run-made new None made r e = moved names course old made e where
     moved : (names : Names) (course : List ℕ → Course DataFault) (start : Meanings) → IsJobOf job names course start mid → AfterNames names (job_course job) mid new r → AfterNames names course start new r
     moved names course start is e = subst (λ course. AfterNames names course start new r) is.owes (subst (λ m. AfterNames names (job_course job) m new r) is.is e)
-  run-made new (Some bad_row) made r e = record { text = made.text; told = made.told; after = (made.after.0, moved (left_to_open (Some bad_row) names) (λ _. course made.text) (with_text old inlet.Main names.input) made.after.1 e) } where
+  run-made new (Some bad_row) made r e = record { text = made.text; told = made.told; within = made.within; after = (made.after.0, moved (left_to_open (Some bad_row) names) (λ _. course made.text) (with_text old inlet.Main names.input) made.after.1 e) } where
     moved : (names : Names) (course : List ℕ → Course DataFault) (start : Meanings) → IsJobOf job names course start mid → AfterNames names (job_course job) mid new r → AfterNames names course start new r
     moved names course start is e = subst (λ course. AfterNames names course start new r) is.owes (subst (λ m. AfterNames names (job_course job) m new r) is.is e)
 
 pub IsEnded-made : (command : Command) (text : List ℕ) (job : Job) (old mid new : Meanings) (answer : Result (Unit {0}) Refusal) → AfterMaking command text old mid (Ok job)
     → IsEnded (AfterNames (left_to_open (bad_script_row_of command) (names_of command)) (job_course job) mid new) answer → IsEnded (IsBegun command text old new) answer
 IsEnded-made command text job old mid new answer made e =
-    record { ended = e.ended; over = run-made job (names_of command) (course_of command text) old mid new (bad_script_row_of command) made.1 e.ended e.over; answered = e.answered }
+    record { ended = e.ended; over = (made.0, run-made job (names_of command) (course_of command text) old mid new (bad_script_row_of command) made.1 e.ended e.over); answered = e.answered }
 
 -- ---- the answer of a run
 
@@ -65,14 +65,14 @@ status-begun names course (Some bad_row) old new counts after r input e cause to
     let same : e.text ≡ input = text_is (input_given old names.input) e.text input e.told told in
     subst (λ text. status_by (refused_by r) ≡ by_script (Some bad_row) text (status_of (course text).ending)) same
     (status-run (left_to_open (Some bad_row) names) (λ _. course e.text) (with_text old inlet.Main names.input) new counts after r [] e.after.1 cause refl reads writes
-    ∙ sym (by_text-right inlet.Main bad_row e.text (status_of (course e.text).ending) e.after.0))
+    ∙ sym (by_text-right inlet.Main bad_row e.text (status_of (course e.text).ending) (e.within, e.after.0)))
 
 -- if the side text is a table, the answer is that of the course
-pub IsAnsweredBy-run : (command : Command) (text : List ℕ) (old new : Meanings) (counts after : Counts) (answer : Result (Unit {0}) Refusal) → bad_row_of command text ≡ None → IsEnded (IsBegun command text old new) answer
+pub IsAnsweredBy-run : (command : Command) (text : List ℕ) (old new : Meanings) (counts after : Counts) (answer : Result (Unit {0}) Refusal) → IsEnded (IsBegun command text old new) answer
     → HasStatusCause counts after (status_by answer) → IsAnsweredBy command text old counts after answer
-IsAnsweredBy-run command text old new counts after answer rows e cause = subst (IsAnsweredBy command text old counts after) (sym e.answered) (λ input told memory reads writes.
-    status-begun (names_of command) (course_of command text) (bad_script_row_of command) old new counts after e.ended input e.over (subst (λ r. HasStatusCause counts after (status_by r)) e.answered cause) told reads writes
-    ∙ ap (λ o. by_row inlet.Side o (by_script (bad_script_row_of command) input (status_of (course_of command text input).ending))) (sym rows))
+IsAnsweredBy-run command text old new counts after answer e cause = subst (IsAnsweredBy command text old counts after) (sym e.answered) (λ input told memory reads writes.
+    status-begun (names_of command) (course_of command text) (bad_script_row_of command) old new counts after e.ended input e.over.1 (subst (λ r. HasStatusCause counts after (status_by r)) e.answered cause) told reads writes
+    ∙ ap (λ o. by_row inlet.Side o (by_script (bad_script_row_of command) input (status_of (course_of command text input).ending))) (sym e.over.0))
 
 -- ---- a run that was not begun
 
@@ -104,31 +104,9 @@ AfterTextClass-not_begun command text old new class.Writing (inl e) = absurd e.0
 AfterTextClass-not_begun command text old new class.Writing (inr e) = absurd (not_writing (bad_script_row_of command) (names_of command).input old new e.1)
 AfterTextClass-not_begun command text old new class.Memory e = e
 
--- a record of the side text that is no row is answered
-pub no_row : {o : Option ℕ} {row : ℕ} → o ≡ None → o ≡ Some row → ⊥
-no_row none some = cc
-
-same_row : {o : Option ℕ} {one other : ℕ} → o ≡ Some one → o ≡ Some other → one ≡ other
-same_row one other = cc
-
 module _ (command : Command) (text : List ℕ) (old new : Meanings) where
   abbrev pub IsRefused : Refusal → Type 0
   IsRefused why = IsNotBegun command text old new (class_of why)
-
-  pub IsRowAnswered-not_begun : (why : Refusal) → IsRefused why → IsRowAnswered command text (Err why)
-  IsRowAnswered-not_begun why (inr e) = λ row bad memory. absurd (no_row e.0 bad)
-  IsRowAnswered-not_begun (refusal.BadSide n) (inl e) = λ row bad memory. ap (λ n. Refused (refusal.BadSide n)) (same_row e.0 bad)
-  IsRowAnswered-not_begun refusal.NoMemory (inl e) = λ row bad memory. absurd (memory refl)
-  IsRowAnswered-not_begun (refusal.BadWords word) (inl e) = absurd e.0
-  IsRowAnswered-not_begun refusal.SideTooLong (inl e) = absurd e.0
-  IsRowAnswered-not_begun refusal.ScriptTooLong (inl e) = absurd e.0
-  IsRowAnswered-not_begun (refusal.BadScript n) (inl e) = absurd e.0
-  IsRowAnswered-not_begun refusal.ReadFault (inl e) = absurd e.0
-  IsRowAnswered-not_begun refusal.WriteFault (inl e) = absurd e.0
-  IsRowAnswered-not_begun (refusal.CutRecord n) (inl e) = absurd e.0
-  IsRowAnswered-not_begun (refusal.SpareBit n) (inl e) = absurd e.0
-  IsRowAnswered-not_begun (refusal.BadStore byte kind) (inl e) = absurd e.0
-  IsRowAnswered-not_begun refusal.TooMany (inl e) = absurd e.0
 
   -- the answer to an input that is told
   abbrev pub IsAnswerTo : Counts → Counts → Refusal → Type 0
@@ -145,8 +123,8 @@ module _ (command : Command) (text : List ℕ) (old new : Meanings) where
       sym (ap (λ b. cond b (Refused refusal.ScriptTooLong) (by_row inlet.Main (bad_row input) status)) (longer input long))
   script-answer (Some bad_row) (class.Row n) input status e told =
       let same : e.text ≡ input = text_is (input_given old (names_of command).input) e.text input e.told told in
-      let within : length input ≤ 1048576 = subst (λ text. length text ≤ 1048576) same e.after.0 in
-      let bad : bad_row input ≡ Some n = subst (λ text. bad_row text ≡ Some n) same e.after.1 in
+      let within : length input ≤ 1048576 = subst (λ text. length text ≤ 1048576) same e.within in
+      let bad : bad_row input ≡ Some n = subst (λ text. bad_row text ≡ Some n) same e.after.0 in
       sym (ap (λ b. cond b (Refused refusal.ScriptTooLong) (by_row inlet.Main (bad_row input) status)) (short input within) ∙ ap (λ o. by_row inlet.Main o status) bad)
 
   main-answer : (bad : class.BadText) (input : List ℕ) → (bad_row_of command text ≡ None) × IsScriptRefused (bad_script_row_of command) (names_of command).input old new (class.Text inlet.Main bad) → input_given old (names_of command).input ≡ Some input
@@ -182,7 +160,7 @@ module _ (command : Command) (text : List ℕ) (old new : Meanings) where
 
 pub AfterCommand-read : (command : Command) (old new : Meanings) (text : List ℕ) (r : Result (Unit {0}) Refusal) → IsText old inlet.Side (names_of command).side text → length text ≤ 1048576
     → AfterText command text (with_text old inlet.Side (names_of command).side) new r → AfterCommand command old new r
-AfterCommand-read command old new text (Ok done) told within e = record { text = text; told = told; after = e }
+AfterCommand-read command old new text (Ok done) told within e = record { text = text; told = told; within = within; after = e }
 AfterCommand-read command old new text (Err refusal) told within e = by_class (class_of refusal) e where
   start : Meanings
   start = with_text old inlet.Side (names_of command).side
@@ -191,11 +169,11 @@ AfterCommand-read command old new text (Err refusal) told within e = by_class (c
   by_class (class.Word word) e = e
   by_class (class.Text inlet.Side class.Long) (inl e) = absurd e.0
   by_class (class.Text inlet.Side class.Long) (inr e) = absurd (not_side (bad_script_row_of command) (names_of command).input start new class.Long e.1)
-  by_class (class.Text inlet.Side (class.Row row)) (inl e) = record { text = text; told = told; after = (within, e.0, e.1) }
+  by_class (class.Text inlet.Side (class.Row row)) (inl e) = record { text = text; told = told; within = within; after = (e.0, e.1) }
   by_class (class.Text inlet.Side (class.Row row)) (inr e) = absurd (not_side (bad_script_row_of command) (names_of command).input start new (class.Row row) e.1)
   by_class (class.Text inlet.Main bad) (inl e) = absurd e.0
-  by_class (class.Text inlet.Main bad) (inr e) = record { text = text; told = told; after = e }
-  by_class (class.Data fault) e = record { text = text; told = told; after = e }
-  by_class class.Reading e = inr (record { text = text; told = told; after = e })
-  by_class class.Writing e = record { text = text; told = told; after = e }
-  by_class class.Memory e = inr (record { text = text; told = told; after = e })
+  by_class (class.Text inlet.Main bad) (inr e) = record { text = text; told = told; within = within; after = e }
+  by_class (class.Data fault) e = record { text = text; told = told; within = within; after = e }
+  by_class class.Reading e = inr (record { text = text; told = told; within = within; after = e })
+  by_class class.Writing e = record { text = text; told = told; within = within; after = e }
+  by_class class.Memory e = inr (record { text = text; told = told; within = within; after = e })

@@ -73,4 +73,4 @@ pub HasWritten-stands : (command : Command) (old new : Meanings) (text input : L
     → HasWritten (names_of command) (owed (course_of command text input)) new
 HasWritten-stands command old new text input e side_told input_told =
     subst (λ t. HasWritten (names_of command) (owed (course_of command t input)) new) (text_is (side_given old (names_of command).side) e.text text e.told side_told)
-    (all_written (names_of command) (course_of command e.text) (bad_script_row_of command) (with_text old inlet.Side (names_of command).side) new input e.after (given-with_side old (names_of command).side (names_of command).input ∙ input_told))
+    (all_written (names_of command) (course_of command e.text) (bad_script_row_of command) (with_text old inlet.Side (names_of command).side) new input e.after.1 (given-with_side old (names_of command).side (names_of command).input ∙ input_told))

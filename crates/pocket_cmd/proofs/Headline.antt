@@ -30,7 +30,7 @@ HasWritten-played : (r : RestoreValues) (h : History) (copies : ℕ → ℕ) (ol
     → HasWritten (names_of (Restore r)) (record { output = restored_bytes h copies; report = report_text h copies }) new
 HasWritten-played r h copies old new chosen played stands =
     let store : List ℕ = played_bytes copies r.apid (store_of h r.apid) in
-    let ending = ending_is (names_of (Restore r)) (course_of (Restore r) stands.text) old new None store stands.after played.told in
+    let ending = ending_is (names_of (Restore r)) (course_of (Restore r) stands.text) old new None store stands.after.1 played.told in
     let whole = unmapped of_store (walk (Some r.apid) store).ending ending in
     let owed_is = subst (λ f. owed (restore_course f r.apid store) ≡ record { output = restored_bytes h copies; report = report_text h copies }) played.places (owed-played h copies r.apid played.valid chosen played.gaps whole) in
     subst (λ (all : Outputs). HasWritten (names_of (Restore r)) all new) (sym (owed-with_fault of_store (restore_course r.bits r.apid store)) ∙ owed_is)

@@ -52,7 +52,7 @@ side_alone (Some bad_row) old new e = only_texts old new new.side old.input e
 refused_texts : (script : Option (List ℕ → Option ℕ)) (side input : Option (List ℕ)) (old new : Meanings) (bad : class.BadText) → IsScriptRefused script input (with_text old inlet.Side side) new (class.Text inlet.Main bad) → KeepsAllButTexts script old new
 refused_texts None side input old new bad e = absurd e
 refused_texts (Some bad_row) side input old new class.Long e = keeps_texts side input old new e.keeps
-refused_texts (Some bad_row) side input old new (class.Row row) e = keeps_texts side input old new (reads_input input (with_text old inlet.Side side) new e.after.2)
+refused_texts (Some bad_row) side input old new (class.Row row) e = keeps_texts side input old new (reads_input input (with_text old inlet.Side side) new e.after.1)
 
 unfound_texts : (script : Option (List ℕ → Option ℕ)) (side input : Option (List ℕ)) (old new : Meanings) → IsScriptRefused script input (with_text old inlet.Side side) new class.Memory → KeepsAllButTexts script old new
 unfound_texts None side input old new e = absurd e
@@ -127,19 +127,19 @@ held-all_read (Some bad_row) names course start new After each e =
 held-command : (command : Command) (old new : Meanings) (why : DataFault) → Stands command old new (Some why) → new.held ≡ old.held
 held-command command old new why e =
     held-all_read (bad_script_row_of command) (names_of command) (course_of command e.text) (with_text old inlet.Side (names_of command).side) new (λ names course start. RunStands names course start new (Some why))
-    (λ names course start run. held-stands names course start new why run) e.after
+    (λ names course start run. held-stands names course start new why run) e.after.1
     ∙ held-with_side old (names_of command).side
 
 held-script : (script : Option (List ℕ → Option ℕ)) (input : Option (List ℕ)) (start new : Meanings) → IsScriptRefused script input start new class.Reading → new.held ≡ start.held
 held-script None input start new e = absurd e
-held-script (Some bad_row) input start new e = held-keeps_script input start new e
+held-script (Some bad_row) input start new e = held-keeps_script input start new e.0
 
 held-reading : (command : Command) (text : List ℕ) (start new : Meanings) → AfterTextClass command text start new class.Reading → new.held ≡ start.held
 held-reading command text start new (inl (inl e)) = absurd e.0
 held-reading command text start new (inl (inr e)) = held-script (bad_script_row_of command) (names_of command).input start new e.1
 held-reading command text start new (inr e) =
     held-all_read (bad_script_row_of command) (names_of command) (course_of command text) start new (λ names course start. HasRunReadFailed names course start new)
-    (λ names course start run. held-unread names course start new run) e
+    (λ names course start run. held-unread names course start new run) e.1
 
 -- ---- after a failed writing
 
@@ -239,14 +239,14 @@ unwritten_all (Some bad_row) names course start new e = by_run (unwritten_run le
   by_run (inr half) = inr (record {
     report = half.report;
     done = half.done;
-    stands = record { text = e.text; told = e.told; after = (e.after.0, half.stands) };
+    stands = record { text = e.text; told = e.told; within = e.within; after = (e.after.0, half.stands) };
     output = half.output;
     reported = half.reported;
     kept = half.kept ∙ λ i. kept_after (held-with_script start names.input i) (option_map (λ _. names.output) (name-with_script start names.input i)) (made new outlet.Main);
   })
 
 unwritten_leaves : (command : Command) (old new : Meanings) → HasWriteFailed command old new → KeepsNames old new ⊎ IsOutputKept command old new
-unwritten_leaves command old new e = by_run (unwritten_all (bad_script_row_of command) names (course_of command e.text) start new e.after) where
+unwritten_leaves command old new e = by_run (unwritten_all (bad_script_row_of command) names (course_of command e.text) start new e.after.1) where
   names : Names
   names = names_of command
 
@@ -258,7 +258,7 @@ unwritten_leaves command old new e = by_run (unwritten_all (bad_script_row_of co
   by_run (inl kept) = inl (kept ∙ held-with_side old names.side)
   by_run (inr half) = inr (record {
     report = half.report;
-    made_as_done = record { done = half.done; stands = record { text = e.text; told = e.told; after = half.stands }; output = half.output; report = half.reported };
+    made_as_done = record { done = half.done; stands = record { text = e.text; told = e.told; within = e.within; after = (e.after.0, half.stands) }; output = half.output; report = half.reported };
     kept = half.kept ∙ λ i. kept_after (held-with_side old names.side i) (option_map (λ _. names.output) (name-with_side old names.side i)) (made new outlet.Main);
   })
 
@@ -267,9 +267,9 @@ unwritten_leaves command old new e = by_run (unwritten_all (bad_script_row_of co
 pub Leaves-refused : (command : Command) (old new : Meanings) (why : Class) → AfterClass command old new why → LeavesByClass command old new why
 Leaves-refused command old new (class.Word word) e = absurd e
 Leaves-refused command old new (class.Text inlet.Side class.Long) e = keeps_side (names_of command).side old new e.keeps
-Leaves-refused command old new (class.Text inlet.Side (class.Row row)) e = reads_side (names_of command).side old new e.after.2
+Leaves-refused command old new (class.Text inlet.Side (class.Row row)) e = reads_side (names_of command).side old new e.after.1
 Leaves-refused command old new (class.Text inlet.Main bad) e = refused_texts (bad_script_row_of command) (names_of command).side (names_of command).input old new bad e.after.1
-Leaves-refused command old new class.Reading (inl e) = held-keeps (names_of command).side old new e.1
+Leaves-refused command old new class.Reading (inl e) = held-keeps (names_of command).side old new e.1.0
 Leaves-refused command old new class.Reading (inr e) =
     held-reading command e.text (with_text old inlet.Side (names_of command).side) new e.after ∙ held-with_side old (names_of command).side
 Leaves-refused command old new class.Writing e = unwritten_leaves command old new e

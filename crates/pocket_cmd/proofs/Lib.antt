@@ -11,6 +11,7 @@ pub mod CutOff
 pub mod Begun
 mod Delivered
 mod Kept
+mod TextsFirst
 mod Sided
 mod Headline
 mod Compositions

@@ -29,10 +29,10 @@ unread-trial t old new (inr e) = by_run e.after where
   by_run : AfterTextClass (Trial t) e.text old new class.Reading → ⊥
   by_run (inl (inl not_begun)) = not_begun.0
   by_run (inl (inr not_begun)) = not_begun.1
-  by_run (inr run) = unread-run (course_of (Trial t) e.text) t old new run
+  by_run (inr run) = unread-run (course_of (Trial t) e.text) t old new run.1
 
 ended-trial : (t : TrialValues) (old new : Meanings) (fault : DataFault) → Stands (Trial t) old new (Some fault) → ⊥
-ended-trial t old new fault e = none e.after.after.ran.ends where
+ended-trial t old new fault e = none e.after.1.after.ran.ends where
   none : ◌≡◌ {A = Option DataFault} None (Some fault) → ⊥
   none e = cc
 
@@ -41,7 +41,7 @@ refused-trial t old new (refusal.BadWords word) e = absurd e
 refused-trial t old new refusal.SideTooLong e = absurd (long-trial t old new e)
 refused-trial t old new refusal.ScriptTooLong e = absurd e.after.1
 refused-trial t old new (refusal.BadScript row) e = absurd e.after.1
-refused-trial t old new (refusal.BadSide row) e = absurd (row-trial e.after.1) where
+refused-trial t old new (refusal.BadSide row) e = absurd (row-trial e.after.0) where
   row-trial : ◌≡◌ {A = Option ℕ} None (Some row) → ⊥
   row-trial e = cc
 refused-trial t old new refusal.ReadFault e = absurd (unread-trial t old new e)

@@ -1,5 +1,5 @@
 -- What a command answers whose side input was not read.
-use Rattle.std.proofs.Common.{◌≡◌, ℕ, ◌<◌, ◌≤◌, true, cond, List, length, Some, IfSome, Result, Err, inl, inr, refl, sym, ap, subst, arith}
+use Rattle.std.proofs.Common.{◌≡◌, ℕ, ◌<◌, true, cond, List, length, Some, IfSome, Err, refl, sym, ap, subst, arith}
 use Rattle.std.specs.Prelude.{nat_lt}
 use Rattle.std.proofs.lemmas.Bool.Decides.{nat_tests}
 use Rattle.desk_ports.specs.declared.desk.Inlet.TheVariants as inlet
@@ -8,12 +8,11 @@ use Rattle.desk_ports.proofs.Faults.{Rose-reads}
 use Rattle.pocket_cmd.specs.declared.text.TextFault.{TextFault}
 use Rattle.pocket_cmd.specs.declared.text.TextFault.TheVariants as unread
 use Rattle.pocket_cmd.specs.declared.status.Status.TheVariants.{Refused}
-use Rattle.pocket_cmd.specs.declared.status.Refusal.{Refusal}
 use Rattle.pocket_cmd.specs.declared.status.Refusal.TheVariants as refusal
 use Rattle.pocket_cmd.specs.Command.{Command}
-use Rattle.pocket_cmd.specs.Courses.{bad_row_of, names_of}
-use Rattle.pocket_cmd.specs.Openings.{HasTextCause, IsText, IsTextCutOff, IsTextLong, IsTextUnread, side_given}
-use Rattle.pocket_cmd.specs.Outcome.{IsAnswered, IsRowAnswered, IsRowFirstOf, IsSideAnswered, answer_by}
+use Rattle.pocket_cmd.specs.Courses.{names_of}
+use Rattle.pocket_cmd.specs.Openings.{HasTextCause, IsTextLong, side_given}
+use Rattle.pocket_cmd.specs.Outcome.{IsAnswered, answer_by}
 use Rattle.pocket_cmd.specs.Status.{refusal_at}
 
 -- a text that is told is as long as that
@@ -23,9 +22,6 @@ long_told command old text long told = subst (λ o. IfSome o (λ bytes. 1048576 
 longer : (text : List ℕ) → 1048576 < length text → nat_lt 1048576 (length text) ≡ true
 longer text h = grind (arith, nat_tests)
 
-not_both : (text : List ℕ) → length text ≤ 1048576 → 1048576 < length text → ⊥
-not_both text within long = omega arith
-
 -- the answer is that of the side text and of the input
 pub IsAnswered-unread : (command : Command) (old : Meanings) (counts after : Counts) (fault : TextFault) → (fault ≡ unread.TooLong → IsTextLong old inlet.Side (names_of command).side) → HasTextCause {T = Unit {0}} counts after (Err fault)
     → IsAnswered command old counts after (Err (refusal_at inlet.Side fault))
@@ -33,23 +29,3 @@ IsAnswered-unread command old counts after unread.TooLong long cause = λ text i
     sym (ap (λ b. cond b (Refused refusal.SideTooLong) (answer_by command text input)) (longer text (long_told command old text (long refl) told)))
 IsAnswered-unread command old counts after unread.ReadFault long cause = λ text input told given memory reads writes. absurd (reads (Rose-reads counts after cause))
 IsAnswered-unread command old counts after unread.NoMemory long cause = λ text input told given memory reads writes. absurd (memory refl)
-
--- and a text that is too long is answered
-pub IsSideAnswered-unread : (command : Command) (old : Meanings) (counts after : Counts) (fault : TextFault) → (fault ≡ unread.TooLong → IsTextLong old inlet.Side (names_of command).side) → HasTextCause {T = Unit {0}} counts after (Err fault)
-    → IsSideAnswered command old counts after (Err (refusal_at inlet.Side fault))
-IsSideAnswered-unread command old counts after unread.TooLong long cause = λ text told memory reads. (λ _. refl, λ within. absurd (not_both text within (long_told command old text (long refl) told)))
-IsSideAnswered-unread command old counts after unread.ReadFault long cause = λ text told memory reads. absurd (reads (Rose-reads counts after cause))
-IsSideAnswered-unread command old counts after unread.NoMemory long cause = λ text told memory reads. absurd (memory refl)
-
--- a record of the text that is no row is answered, unless reading failed
-pub IsRowFirst-unread : (command : Command) (old new : Meanings) (fault : TextFault) → (fault ≡ unread.TooLong → IsTextLong old inlet.Side (names_of command).side) → (fault ≡ unread.ReadFault → IsTextUnread 1048577 old inlet.Side (names_of command).side new)
-    → IsRowFirstOf command old new (Err (refusal_at inlet.Side fault))
-IsRowFirst-unread command old new unread.TooLong long cut_off = λ text row told within bad memory. absurd (not_both text within (long_told command old text (long refl) told))
-IsRowFirst-unread command old new unread.ReadFault long cut_off = λ text row told within bad memory. inr (refl, subst (λ o. IfSome o (λ text. IsTextCutOff 1048577 old inlet.Side text new)) told (cut_off refl))
-IsRowFirst-unread command old new unread.NoMemory long cut_off = λ text row told within bad memory. absurd (memory refl)
-
--- if it is read, it is answered
-pub IsRowFirst-read : (command : Command) (old new : Meanings) (read : List ℕ) (answer : Result (Unit {0}) Refusal) → IsText old inlet.Side (names_of command).side read → IsRowAnswered command read answer → IsRowFirstOf command old new answer
-IsRowFirst-read command old new read answer is answered = λ text row told within bad memory.
-    let same : read ≡ text = subst (λ o. IfSome o (λ bytes. read ≡ bytes)) told is in
-    inl (answered row (subst (λ text. bad_row_of command text ≡ Some row) (sym same) bad) memory)

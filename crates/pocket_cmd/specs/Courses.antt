@@ -19,6 +19,18 @@ use Rattle.pocket_cmd.specs.Faults.{DataFault, of_recording, of_store}
 use Rattle.pocket_cmd.specs.Command.{Command, Compress, Play, Restore, Show, Trial, Multi, Late, Table, Forecast, CompressValues, ForecastValues, Names, TableValues}
 use Rattle.pocket_cmd.specs.Summary.{summary_by}
 
+-- the names that a command opens
+abbrev pub names_of : Command → Names
+names_of (Compress c) = record { side = c.plan; input = Some c.input; output = c.output; report = None }
+names_of (Play p) = record { side = Some p.script; input = Some p.input; output = p.output; report = Some p.report }
+names_of (Restore r) = record { side = None; input = Some r.input; output = r.output; report = Some r.report }
+names_of (Show s) = record { side = None; input = Some s.input; output = s.output; report = None }
+names_of (Trial t) = record { side = None; input = None; output = t.output; report = None }
+names_of (Multi m) = record { side = Some m.streams; input = Some m.input; output = m.output; report = Some m.report }
+names_of (Late l) = record { side = None; input = Some l.input; output = l.output; report = Some l.report }
+names_of (Table t) = record { side = Some t.fields; input = Some t.input; output = t.output; report = Some t.report }
+names_of (Forecast f) = record { side = Some f.plan; input = Some f.script; output = f.output; report = None }
+
 -- the same course, its fault named otherwise
 abbrev pub with_fault : {F G : Type 0} → (F → G) → Course F → Course G
 with_fault name course = record { before = course.before; after = course.after; ending = option_map name course.ending }
@@ -39,10 +51,9 @@ text_course text = record { before = no_outputs; after = to_output text; ending 
 abbrev pub forecast_by_texts : ForecastValues → List ℕ → List ℕ → List ℕ
 forecast_by_texts f plan script = forecast_text (prospect_of (schedule_rows_of plan) f.robust (copy_rows_of script)) f.packets
 
--- What a command is to do: the names that it opens, the number of the first record of a side text that is no row, the same of an
--- input that is a text too, and what it owes, by the text of its side input, for an input.
+-- What a command is to do: the number of the first record of a side text that is no row, the same of an input that is a text too,
+-- and what it owes, by the text of its side input, for an input.
 pub record Errand : Type 0 where
-  pub names : Names
   pub bad_row : List ℕ → Option ℕ
   pub bad_script_row : Option (List ℕ → Option ℕ)
   pub course : List ℕ → List ℕ → Course DataFault
@@ -53,62 +64,50 @@ no_row text = None
 
 abbrev pub errand_of : Command → Errand
 errand_of (Compress c) = record {
-  names = record { side = c.plan; input = Some c.input; output = c.output; report = None };
   bad_row = bad_schedule_row;
   bad_script_row = None;
   course = λ text input. with_fault of_recording (compress_course (compression_by c text) input);
 }
 errand_of (Play p) = record {
-  names = record { side = Some p.script; input = Some p.input; output = p.output; report = Some p.report };
   bad_row = bad_copy_row;
   bad_script_row = None;
   course = λ text input. with_fault of_store (play_course (copies_of (copy_rows_of text)) p.apid input);
 }
 errand_of (Restore r) = record {
-  names = record { side = None; input = Some r.input; output = r.output; report = Some r.report };
   bad_row = no_row;
   bad_script_row = None;
   course = λ text input. with_fault of_store (restore_course r.bits r.apid input);
 }
 errand_of (Show s) = record {
-  names = record { side = None; input = Some s.input; output = s.output; report = None };
   bad_row = no_row;
   bad_script_row = None;
   course = λ text input. with_fault of_store (listing_course s.bits s.apid input);
 }
 errand_of (Trial t) = record {
-  names = record { side = None; input = None; output = t.output; report = None };
   bad_row = no_row;
   bad_script_row = None;
   course = λ text input. text_course (summary_by t);
 }
 errand_of (Multi m) = record {
-  names = record { side = Some m.streams; input = Some m.input; output = m.output; report = Some m.report };
   bad_row = bad_stream_row;
   bad_script_row = None;
   course = λ text input. with_fault of_store (multi_course (streams_of text) input);
 }
 errand_of (Late l) = record {
-  names = record { side = None; input = Some l.input; output = l.output; report = Some l.report };
   bad_row = no_row;
   bad_script_row = None;
   course = λ text input. with_fault of_store (late_course l.bits l.apid l.window input);
 }
 errand_of (Table t) = record {
-  names = record { side = Some t.fields; input = Some t.input; output = t.output; report = Some t.report };
   bad_row = bad_text_row t.bits;
   bad_script_row = None;
   course = λ text input. with_fault of_recording (table_course (tabulation_by t text) input);
 }
 errand_of (Forecast f) = record {
-  names = record { side = Some f.plan; input = Some f.script; output = f.output; report = None };
   bad_row = bad_schedule_row;
   bad_script_row = Some bad_copy_row;
   course = λ plan script. text_course (forecast_by_texts f plan script);
 }
-
-abbrev pub names_of : Command → Names
-names_of command = (errand_of command).names
 
 abbrev pub bad_row_of : Command → List ℕ → Option ℕ
 bad_row_of command text = (errand_of command).bad_row text

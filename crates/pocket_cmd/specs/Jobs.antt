@@ -21,7 +21,7 @@ use Rattle.pocket_cmd.specs.declared.status.Refusal.{Refusal}
 use Rattle.pocket_cmd.specs.Command.{Command, Names}
 use Rattle.pocket_cmd.specs.Courses.{bad_row_of, bad_script_row_of, course_of, names_of, text_course, with_fault}
 use Rattle.pocket_cmd.specs.Faults.{DataFault, of_recording, of_store}
-use Rattle.pocket_cmd.specs.Outcome.{IsNotBegun, IsTextRight, OnceAllRead, OnceTextRead}
+use Rattle.pocket_cmd.specs.Outcome.{IsNotBegun, OnceAllRead, OnceTextRead}
 use Rattle.pocket_cmd.specs.Status.{HasClassCause, class_of}
 use Rattle.pocket_cmd.specs.Unfed.{EndsBy, IsCutOffBy, IsCutShortBy}
 
@@ -80,4 +80,4 @@ HasMakingCause old new (Err refusal) = HasClassCause old new (class_of refusal)
 
 -- an input of this name is a right text, which is read; and this holds of it
 abbrev pub IsScriptRead : Option (List ℕ) → (List ℕ → Option ℕ) → Meanings → Meanings → (List ℕ → Type 0) → Type 0
-IsScriptRead name bad_row old new Holds = OnceTextRead inlet.Main name old (λ text start. IsTextRight bad_row text × Holds text × (new ≡ start))
+IsScriptRead name bad_row old new Holds = OnceTextRead inlet.Main name old (λ text start. (bad_row text ≡ None) × Holds text × (new ≡ start))

@@ -16,7 +16,7 @@ use Rattle.pocket_cmd.specs.Courses.{course_of, bad_row_of, bad_script_row_of, n
 use Rattle.pocket_cmd.specs.Unfed.{EndsBy, IsCutOffBy, IsCutShortBy}
 use Rattle.pocket_cmd.specs.Status.{BadText, Class, class_of, refusal_for, status_of, status_by}
 use Rattle.pocket_cmd.specs.Status as class
-use Rattle.pocket_cmd.specs.Openings.{AreKept, IsText, IsTextLong, IsTextReadTo, IsTextCutOff, KeepsAllBut, with_text, all_opened, all_finished, IsHalfOpened, IsHalfKept, input_given, side_given}
+use Rattle.pocket_cmd.specs.Openings.{AreKept, IsText, IsTextLong, IsTextReadTo, IsTextCutOff, IsTextUnread, KeepsAllBut, with_text, all_opened, all_finished, IsHalfOpened, IsHalfKept, input_given, side_given}
 
 -- ---- after all texts
 
@@ -82,10 +82,12 @@ AfterNames names course old new (Err WriteFault) = HasRunWriteFailed names cours
 
 -- ---- after the side input
 
--- a text that comes over this inlet is this, if the desk tells it, and is read; and this holds by the text from there on
+-- a text that comes over this inlet is this, if the desk tells it, is within its limit, and is read; and this holds by the
+-- text from there on
 pub record OnceTextRead (i : Inlet) (name : Option (List ℕ)) (old : Meanings) (After : List ℕ → Meanings → Type 0) : Type 0 where
   pub text : List ℕ
   pub told : IsText old i name text
+  pub within : length text ≤ 1048576
   pub after : After text (with_text old i name)
 
 -- it is too long, it was read to its limit and one byte, and nothing changed but that
@@ -97,7 +99,11 @@ pub record IsTooLong (i : Inlet) (name : Option (List ℕ)) (old new : Meanings)
 -- what is wrong with it, whose first record that is no row is this, and what stands then
 abbrev pub HasBadText : Inlet → Option (List ℕ) → (List ℕ → Option ℕ) → Meanings → Meanings → BadText → Type 0
 HasBadText i name bad_row old new class.Long = IsTooLong i name old new
-HasBadText i name bad_row old new (class.Row row) = OnceTextRead i name old (λ text start. (length text ≤ 1048576) × (bad_row text ≡ Some row) × (new ≡ start))
+HasBadText i name bad_row old new (class.Row row) = OnceTextRead i name old (λ text start. (bad_row text ≡ Some row) × (new ≡ start))
+
+-- reading it failed, and nothing changed but what comes over this inlet, of which a front was read, if the desk tells it
+abbrev pub HasTextReadFailed : Inlet → Option (List ℕ) → Meanings → Meanings → Type 0
+HasTextReadFailed i name old new = KeepsAllBut i name old new × IsTextUnread 1048577 old i name new
 
 -- it is within its limit, and each of its records is a row
 abbrev pub IsTextRight : (List ℕ → Option ℕ) → List ℕ → Type 0
@@ -113,7 +119,7 @@ left_to_open (Some bad_row) names = record names { input = None }
 abbrev pub OnceAllRead : Option (List ℕ → Option ℕ) → Names → (List ℕ → Course DataFault) → Meanings → (Names → (List ℕ → Course DataFault) → Meanings → Type 0) → Type 0
 OnceAllRead None names course old After = After names course old
 OnceAllRead (Some bad_row) names course old After =
-    OnceTextRead inlet.Main names.input old (λ text start. IsTextRight bad_row text × After (left_to_open (Some bad_row) names) (λ _. course text) start)
+    OnceTextRead inlet.Main names.input old (λ text start. (bad_row text ≡ None) × After (left_to_open (Some bad_row) names) (λ _. course text) start)
 
 -- a side text is refused at its first record that is no row, if that is this; or memory was not found
 abbrev pub IsRowRefused : Option ℕ → Class → Type 0
@@ -132,7 +138,7 @@ IsTextRefused bad_row input old new (class.Text inlet.Main bad) = HasBadText inl
 IsTextRefused bad_row input old new (class.Text inlet.Side bad) = ⊥
 IsTextRefused bad_row input old new (class.Word word) = ⊥
 IsTextRefused bad_row input old new (class.Data fault) = ⊥
-IsTextRefused bad_row input old new class.Reading = KeepsAllBut inlet.Main input old new
+IsTextRefused bad_row input old new class.Reading = HasTextReadFailed inlet.Main input old new
 IsTextRefused bad_row input old new class.Writing = ⊥
 IsTextRefused bad_row input old new class.Memory = KeepsAllBut inlet.Main input old new
 
@@ -147,10 +153,11 @@ IsNotBegun command text old new why =
     (IsRowRefused (bad_row_of command text) why × (new ≡ old))
     ⊎ ((bad_row_of command text ≡ None) × IsScriptRefused (bad_script_row_of command) (names_of command).input old new why)
 
--- the same, if its run was begun, by how that ended
+-- the same, if its run was begun, by how that ended: a run is begun only after a side text that is right
 abbrev pub IsBegun : Command → List ℕ → Meanings → Meanings → Result (Unit {0}) (Stop DataFault) → Type 0
 IsBegun command text old new ended =
-    OnceAllRead (bad_script_row_of command) (names_of command) (course_of command text) old (λ names course start. AfterNames names course start new ended)
+    (bad_row_of command text ≡ None)
+    × OnceAllRead (bad_script_row_of command) (names_of command) (course_of command text) old (λ names course start. AfterNames names course start new ended)
 
 abbrev pub AfterTextClass : Command → List ℕ → Meanings → Meanings → Class → Type 0
 AfterTextClass command text old new (class.Word word) = ⊥
@@ -170,17 +177,18 @@ AfterText command text old new (Err refusal) = AfterTextClass command text old n
 abbrev pub OnceSideRead : Command → Meanings → (List ℕ → Meanings → Type 0) → Type 0
 OnceSideRead command old After = OnceTextRead inlet.Side (names_of command).side old After
 
--- The course of the input ends so, and all that it owes stands; nothing else changed but what reading the texts, opening and
--- finishing change.
+-- The side text is right, the course of the input ends so, and all that it owes stands; nothing else changed but what reading
+-- the texts, opening and finishing change.
 abbrev pub Stands : Command → Meanings → Meanings → Option DataFault → Type 0
 Stands command old new ending = OnceSideRead command old (λ text start.
-    OnceAllRead (bad_script_row_of command) (names_of command) (course_of command text) start (λ names course start. RunStands names course start new ending))
+    (bad_row_of command text ≡ None)
+    × OnceAllRead (bad_script_row_of command) (names_of command) (course_of command text) start (λ names course start. RunStands names course start new ending))
 
--- reading failed: nothing changed but the side input, or but an input that is a text; or what is owed for the bytes that were
--- moved before the failing read stands, and nothing is kept. So a command that reads nothing has no such answer.
+-- reading failed: that of the side input, or of an input that is a text, and nothing changed but these; or what is owed for the
+-- bytes that were moved before the failing read stands, and nothing is kept. So a command that reads nothing has no such answer.
 abbrev pub HasReadFailed : Command → Meanings → Meanings → Type 0
 HasReadFailed command old new =
-    (IsSome (names_of command).side × KeepsAllBut inlet.Side (names_of command).side old new)
+    (IsSome (names_of command).side × HasTextReadFailed inlet.Side (names_of command).side old new)
     ⊎ OnceSideRead command old (λ text start. AfterTextClass command text start new class.Reading)
 
 -- writing failed: an output was not opened; or a front of what is owed stands, and nothing is kept; or the outputs were not
@@ -252,32 +260,27 @@ IsAnswered command m old new result =
     → status_by result ≢ Refused refusal.NoMemory → ¬ Rose old.reads new.reads → ¬ Rose old.writes new.writes
     → status_by result ≡ answer_to command text input
 
--- ---- the side text
+-- ---- a text in which something is wrong
 
--- an answer refuses a side text exactly if it is too long, and exactly at its first record that is no row
-pub record IsSideJudged (command : Command) (text : List ℕ) (status : Status) : Type 0 where
-  pub too_long : (status ≡ Refused refusal.SideTooLong) ↔ (1048576 < length text)
-  pub bad_row : (row : ℕ) → (status ≡ Refused (refusal.BadSide row)) ↔ ((length text ≤ 1048576) × (bad_row_of command text ≡ Some row))
+-- this is wrong with a text
+abbrev pub IsTextBad : (List ℕ → Option ℕ) → List ℕ → BadText → Type 0
+IsTextBad bad_row text class.Long = 1048576 < length text
+IsTextBad bad_row text (class.Row row) = (length text ≤ 1048576) × (bad_row text ≡ Some row)
 
--- if this record of the side text is the first that is no row, and memory was found, that is the answer
-abbrev pub IsRowAnswered : Command → List ℕ → Result (Unit {0}) Refusal → Type 0
-IsRowAnswered command text result =
-    (row : ℕ) → bad_row_of command text ≡ Some row → status_by result ≢ Refused refusal.NoMemory → status_by result ≡ Refused (refusal.BadSide row)
+-- an answer refuses a side text exactly for what is wrong with it
+abbrev pub IsSideJudged : Command → List ℕ → Status → Type 0
+IsSideJudged command text status = (bad : BadText) → (status ≡ Refused (refusal_for inlet.Side bad)) ↔ IsTextBad (bad_row_of command) text bad
 
--- if the side text is told, memory was found and no reading failed, a text that is too long and a record that is no row
--- are answered
-abbrev pub IsSideAnswered : Command → Meanings → Counts → Counts → Result (Unit {0}) Refusal → Type 0
-IsSideAnswered command m old new result =
-    (text : List ℕ) → side_given m (names_of command).side ≡ Some text → status_by result ≢ Refused refusal.NoMemory → ¬ Rose old.reads new.reads
-    → (1048576 < length text → status_by result ≡ Refused refusal.SideTooLong) × (length text ≤ 1048576 → IsRowAnswered command text result)
+-- reading this text failed, and then the desk is as before, or a front of the text was read and nothing else changed
+abbrev pub IsTextLost : Inlet → Meanings → List ℕ → Meanings → Status → Type 0
+IsTextLost i old text new status = (status ≡ Refused refusal.ReadFault) × IsTextCutOff 1048577 old i text new
 
--- this record that is no row is answered, or a failed reading, and then the desk is as after one of the side input
-abbrev pub IsRowFirst : Meanings → List ℕ → ℕ → Meanings → Status → Type 0
-IsRowFirst old text row new status =
-    (status ≡ Refused (refusal.BadSide row)) ⊎ ((status ≡ Refused refusal.ReadFault) × IsTextCutOff 1048577 old inlet.Side text new)
+-- what is wrong with this text is answered, or reading it failed
+abbrev pub IsTextFirst : Inlet → Meanings → List ℕ → BadText → Meanings → Status → Type 0
+IsTextFirst i old text bad new status = (status ≡ Refused (refusal_for i bad)) ⊎ IsTextLost i old text new status
 
--- the same, if this is the side text and memory was found
-abbrev pub IsRowFirstOf : Command → Meanings → Meanings → Result (Unit {0}) Refusal → Type 0
-IsRowFirstOf command old new result =
-    (text : List ℕ) (row : ℕ) → side_given old (names_of command).side ≡ Some text → length text ≤ 1048576
-    → bad_row_of command text ≡ Some row → status_by result ≢ Refused refusal.NoMemory → IsRowFirst old text row new (status_by result)
+-- The same of an input that is a text too, after the side text of this name: reading the side text failed, or it is read, and
+-- what is wrong with the input is answered, or reading that failed.
+abbrev pub IsScriptFirst : Option (List ℕ) → Meanings → List ℕ → List ℕ → BadText → Meanings → Status → Type 0
+IsScriptFirst side old text input bad new status =
+    IsTextLost inlet.Side old text new status ⊎ IsTextFirst inlet.Main (with_text old inlet.Side side) input bad new status

@@ -6,7 +6,7 @@ ghost use Rattle.mask_update.specs.Histories.{History, IsValid};
 ghost use Rattle.side_tables.specs.Grammar.{copy_rows_of, schedule_rows_of};
 ghost use Rattle.side_tables.specs.Rows.{copies_of};
 ghost use Rattle.side_tables.specs.Streams.{stream_at, streams_of};
-ghost use Rattle.multi_ground.specs.Apart.{HasStream};
+ghost use Rattle.multi_ground.specs.Apart.{HasStream, arrivals_on, contents_on, rows_on};
 ghost use Rattle.packet_encode.specs.Deliveries.{WrittenAt, arrivals};
 ghost use Rattle.packet_store.specs.Walks.{walk};
 ghost use Rattle.forecast.specs.Prospects.{IsSure, prospect_of};
@@ -18,7 +18,7 @@ ghost use Rattle.loss_player.specs.Gaps.{AreGapsShort};
 ghost use Rattle.loss_player.specs.Played.{played_bytes, played_of};
 ghost use Rattle.loss_player.specs.Report.{play_report};
 ghost use Rattle.ground_chain.specs.Deliveries.{arrival_at, report_text, restored_bytes};
-ghost use Rattle.ground_chain.specs.Report.{run_bytes, run_report};
+ghost use Rattle.ground_chain.specs.Report.{header_row, run_bytes, run_report};
 ghost use Rattle.late_window.specs.Deliveries.{IsLateDelivery};
 ghost use Rattle.late_window.specs.Restoring.{late_done, ordered_run, store_arrivals};
 ghost use Rattle.late_window.specs.Rows.{late_row};
@@ -92,7 +92,8 @@ pub fn tables_owe_their_texts()
 {}
 
 /// What `multi` owes for a whole store is a store of Space Packets again, and a report. No stream sees another: its contents in
-/// that store, and its lines of that report, are those of the run over its own arrivals.
+/// that store, and its lines of that report, are those of the run over its own arrivals. If these are the arrivals of the played
+/// store of a valid history, that is the inputs of the packets that are written, and the report of all others.
 pub fn streams_are_restored_apart()
     ensures whole { (m : MultiValues) (streams store : List ℕ) → All (λ b. b < 256) store
         → IsInputWhole (Multi m) store
@@ -101,6 +102,16 @@ pub fn streams_are_restored_apart()
         → IsInputWhole (Multi m) store → index < length (streams_of streams)
         → let all = owed (course_of (Multi m) streams store) in
         HasStream (stream_at (streams_of streams) index) store all.output all.report }
+    ensures restored { (m : MultiValues) (streams store : List ℕ) (index : ℕ) (h : History)
+        (copies : ℕ → ℕ) → All (λ b. b < 256) store → IsInputWhole (Multi m) store
+        → index < length (streams_of streams) → let stream = stream_at (streams_of streams) index in
+        IsValid h → h.places ≡ stream.bits → AreGapsShort copies (length h.steps)
+        → length (arrivals copies (length h.steps)) ≤ 2 ^ 32
+        → arrivals_on stream.apid store
+        ≡ arrivals_on stream.apid (played_bytes copies stream.apid (store_of h stream.apid))
+        → let all = owed (course_of (Multi m) streams store) in
+        (contents_on stream.apid all.output ≡ restored_bytes h copies)
+        × (header_row ++ rows_on stream.apid all.report ≡ report_text h copies) }
 {}
 
 /// A forecast owes its text for a schedule and a script. What it calls sure is written of any recording of so many packets

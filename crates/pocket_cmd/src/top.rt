@@ -3,17 +3,18 @@ ghost use Rattle.std.specs.Prelude.{◌≡◌, ◌≢◌, ◌<◌, ◌≤◌, �
 ghost use Rattle.std.specs.String.{string_bytes};
 ghost use Rattle.pocket_cmd.specs.Apart.{AreKeptAsMade};
 ghost use Rattle.pocket_cmd.specs.Faults.{DataFault as Fault};
-ghost use Rattle.pocket_cmd.specs.Command.{Command as Told, Restore, RestoreValues, HasCommand, IsCommandOf, command_of};
+ghost use Rattle.pocket_cmd.specs.Command.{Command as Told, Forecast, ForecastValues, Restore, RestoreValues, HasCommand, IsCommandOf, command_of};
 ghost use Rattle.pocket_cmd.specs.Courses.{bad_row_of, names_of};
 ghost use Rattle.mask_update.specs.Histories.{History};
+ghost use Rattle.side_tables.specs.Grammar.{bad_copy_row};
 ghost use Rattle.ground_chain.specs.Deliveries.{report_text, restored_bytes};
 ghost use Rattle.pocket_cmd.specs.Delivery.{HasWritten, IsPlayedStore, IsSideRight, IsInputWhole};
 ghost use Rattle.desk_ports.specs.declared.desk.Inlet.TheVariants as inlet;
 ghost use Rattle.desk_ports.specs.Meanings.{Rose, left};
 ghost use Rattle.pocket_cmd.specs.Kept.{Leaves};
 ghost use Rattle.pocket_cmd.specs.Openings.{AreTold, side_given};
-ghost use Rattle.pocket_cmd.specs.Outcome.{AfterRefusal, IsRowFirst, IsSideJudged, NoneRose, Stands, answer_to};
-ghost use Rattle.pocket_cmd.specs.Status.{HasStatusCause, status_of};
+ghost use Rattle.pocket_cmd.specs.Outcome.{AfterRefusal, IsScriptFirst, IsSideJudged, IsTextBad, IsTextFirst, NoneRose, Stands, answer_to};
+ghost use Rattle.pocket_cmd.specs.Status.{BadText, HasStatusCause, status_of};
 ghost use Rattle.pocket_cmd.specs.Words.{AssignsOneOf, read_keys, written_keys};
 
 use crate::status::{Refusal, Status};
@@ -42,8 +43,8 @@ use std::alloc::Global;
 /// - `forecast` tells which packets will be written, whatever the recording is. It takes `packets` (1 to 1,000,000), `robust`,
 ///   `plan` and `script`.
 ///
-/// What the side input, a schedule or a script, says is looked at before any other name is opened; the script of `forecast` is
-/// looked at next. A text has at most 1,048,576 bytes.
+/// What the side input, a schedule, a script, streams or fields, says is looked at before any other name is opened; the script
+/// of `forecast` is looked at next. A text has at most 1,048,576 bytes.
 pub fn pocket<D: Desk>(alloc: Global, words: &[String], desk: &mut D) -> Status
     requires few { length words.now < 2 ^ 32 }
 
@@ -94,14 +95,24 @@ pub fn pocket<D: Desk>(alloc: Global, words: &[String], desk: &mut D) -> Status
         → result ≡ Status.Refused Refusal.SideTooLong
         → left (D.meaning desk.new) inlet.Side ≡ Some (drop 1048577 text) }
 
-    // If the side text is told, is no longer than its limit and has a record that is no row, and memory was found, the
-    // first such record is answered at every desk; or ReadFault, and then the desk is as before, or a front of the text
-    // was read and nothing else has changed. That may be all of it, since the read that finds the end can fail.
-    ensures bad_row { (command : Told) (text : List ℕ) (row : ℕ) → IsCommandOf words.now command
+    // If the side text is told and too long, or has a record that is no row, and memory was found, that is answered at
+    // every desk; or ReadFault, and then the desk is as before, or a front of the text was read and nothing else has
+    // changed. That may be all of it, since the read that finds the end can fail.
+    ensures bad_side { (command : Told) (text : List ℕ) (bad : BadText) → IsCommandOf words.now command
         → side_given (D.meaning desk.old) (names_of command).side ≡ Some text
-        → length text ≤ 1048576 → bad_row_of command text ≡ Some row
+        → IsTextBad (bad_row_of command) text bad → result ≢ Status.Refused Refusal.NoMemory
+        → IsTextFirst inlet.Side (D.meaning desk.old) text bad (D.meaning desk.new) result }
+
+    // The same of the script of a forecast, if both texts are told and nothing is wrong with the schedule: what is wrong
+    // with the script is answered; or ReadFault, of the schedule, or of the script once the schedule was read to its
+    // end.
+    ensures bad_script { (f : ForecastValues) (plan script : List ℕ) (bad : BadText)
+        → IsCommandOf words.now (Forecast f)
+        → AreTold (names_of (Forecast f)) (D.meaning desk.old) plan script
+        → IsSideRight (Forecast f) plan → IsTextBad bad_copy_row script bad
         → result ≢ Status.Refused Refusal.NoMemory
-        → IsRowFirst (D.meaning desk.old) text row (D.meaning desk.new) result }
+        → IsScriptFirst (Some f.plan) (D.meaning desk.old) plan script bad
+        (D.meaning desk.new) result }
 
     // If both inputs are told, memory was found and no count rose, the answer is that of the side text and of the
     // input's course.

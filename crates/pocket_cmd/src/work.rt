@@ -2,7 +2,7 @@
 ghost use Rattle.std.specs.Prelude.{◌≤◌, length, IsTrue, IfSome};
 ghost use Rattle.pocket_cmd.specs.Command.{view_command};
 ghost use Rattle.pocket_cmd.specs.Courses.{names_of};
-ghost use Rattle.pocket_cmd.specs.Outcome.{AfterCommand, AfterText, IsAnswered, IsAnsweredBy, IsRowAnswered, IsRowFirstOf, IsSideAnswered};
+ghost use Rattle.pocket_cmd.specs.Outcome.{AfterCommand, AfterText, IsAnswered, IsAnsweredBy};
 ghost use Rattle.pocket_cmd.specs.Status.{HasStatusCause, status_by};
 
 use crate::job::Job;
@@ -28,10 +28,6 @@ pub fn perform<D: Desk>(alloc: Global, command: &Command<'_>, desk: &mut D) -> R
     ensures cause { HasStatusCause (D.counts desk.old) (D.counts desk.new) (status_by result) }
     ensures ends { IsAnswered (view_command command.now) (D.meaning desk.old) (D.counts desk.old)
         (D.counts desk.new) result }
-    ensures side_text { IsSideAnswered (view_command command.now) (D.meaning desk.old)
-        (D.counts desk.old) (D.counts desk.new) result }
-    ensures bad_row { IsRowFirstOf (view_command command.now) (D.meaning desk.old)
-        (D.meaning desk.new) result }
 {
     match text_at(alloc, desk, Inlet::Side, command.names().side) {
         Ok(text) => perform_with(alloc, command, &text, desk),
@@ -58,7 +54,6 @@ fn perform_with<D: Desk>(
     ensures cause { HasStatusCause (D.counts desk.old) (D.counts desk.new) (status_by result) }
     ensures ends { IsAnsweredBy (view_command command.now) text.now (D.meaning desk.old)
         (D.counts desk.old) (D.counts desk.new) result }
-    ensures row { IsRowAnswered (view_command command.now) text.now result }
 {
     match Job::of(alloc, command, text, desk) {
         Ok(job) => run(desk, &command.names_left(), job),

@@ -169,6 +169,25 @@ module _ {A : Type 0} where
   length-where_marked (m ∷ marks) [] nothing len = absurd (omega arith)
   length-where_marked (m ∷ marks) (s ∷ slots) nothing len = ap suc (length-where_marked marks slots nothing (omega arith))
 
+  where_marked-none : (slots : List A) (nothing : A) → where_marked (replicate (length slots) false) slots nothing ≡ replicate (length slots) nothing
+  where_marked-none [] nothing = refl
+  where_marked-none (s ∷ slots) nothing = ap (λ (l : List A). nothing ∷ l) (where_marked-none slots nothing)
+
+marks-none : marks_of 0 ≡ replicate 16 false
+unfolding number_bits
+marks-none = refl
+
+-- without a mark all are zeros, and so they are with one more that is
+pub changes_of-none : (f n : ℕ) (slots : List (List Bool)) → length slots ≡ 16 → n ≡ 0 → changes_of f n slots ≡ drop 1 (changes_of f n slots) ++ replicate f false ∷ []
+changes_of-none f n slots len none =
+    let zeros = replicate f false in
+    let all : changes_of f n slots ≡ replicate 16 zeros =
+    ap (λ (m : ℕ). changes_of f m slots) none
+    ∙ ap (λ (ms : List Bool). where_marked ms slots zeros) (marks-none ∙ ap (λ (k : ℕ). replicate k false) (sym len))
+    ∙ where_marked-none slots zeros
+    ∙ ap (λ (k : ℕ). replicate k zeros) len in
+    all ∙ ap (λ (l : List (List Bool)). drop 1 l ++ zeros ∷ []) (sym all)
+
 pub length-changes_of : (f n : ℕ) (slots : List (List Bool)) → length slots ≡ 16 → length (changes_of f n slots) ≡ 16
 length-changes_of f n slots len = length-where_marked (marks_of n) slots (replicate f false) (length-marks n ∙ sym len) ∙ len
 

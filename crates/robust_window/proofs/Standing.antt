@@ -9,7 +9,7 @@ use Rattle.circular_buffer.specs.Buffer.{keep_last}
 use Rattle.mask_update.specs.Masks.{vector_of}
 use Rattle.mask_update.proofs.StepByStep.{vector_of_same}
 use Rattle.robust_window.specs.Changes.{IsQuiet, MaskStep, changes_place, latest_change, level_of, mask_step, most_level, no_mask_step, recent_of, steps_from, takes_new_mask, twice_of}
-use Rattle.robust_window.specs.Window.{HoldsLatest, WindowState, StandsFor, change_back, new_mask_back}
+use Rattle.robust_window.specs.Window.{Advances, HoldsLatest, WindowState, StandsFor, change_back, new_mask_back}
 use Rattle.robust_window.proofs.Levels.{is_quiet-one, is_quiet-zeros, level_of-is}
 use Rattle.robust_window.proofs.Ranges.{any_back, count_back}
 use Rattle.robust_window.proofs.Scanning.{gathered}
@@ -202,3 +202,31 @@ StandsFor-next steps step old new stands moves =
         }))
         ∙ ap (λ a. nat_le 2 (count_by (takes_new_mask after) (steps_from a (t + 1)))) from
         ∙ twice_of-is after t new.level level
+
+-- the same with the values as they are made once the change is taken
+pub StandsFor-advanced : (steps : List MaskStep) (step : MaskStep) (old mid new : WindowState) → StandsFor steps old → length old.changes ≡ 16 → step.robust ≤ 7 → length step.change ≡ length old.recent → (old.taken ≡ 0 → step.change ≡ replicate (length step.change) false)
+    → mid ≡ record old { changes = drop 1 old.changes ++ step.change ∷ [] } → Advances mid new step.new_mask step.robust → StandsFor (steps ++ step ∷ []) new
+StandsFor-advanced steps step old mid new stands full robust places start mid_is a =
+    StandsFor-next steps step old new stands (record {
+      full = full;
+      flags_full = ap (λ (k : WindowState). length k.new_masks) (sym mid_is) ∙ a.flags_full;
+      robust_most = robust;
+      places = places;
+      start = start;
+      changes = a.changes ∙ ap (λ (k : WindowState). k.changes) mid_is;
+      new_masks = a.new_masks ∙ ap (λ (k : WindowState). drop 1 k.new_masks ++ step.new_mask ∷ []) mid_is;
+      recent =
+          a.recent ∙ ap (λ (v : List (List Bool)). gathered (length mid.recent) v (step.robust + 1)) (sym a.changes)
+          ∙ ap (λ (k : WindowState). gathered (length k.recent) new.changes (step.robust + 1)) mid_is;
+      recent_len = a.recent_len ∙ ap (λ (k : WindowState). length k.recent) mid_is;
+      level_least = a.level_least;
+      level_most = omega (arith, a.level_most, ap (λ (k : WindowState). k.taken) mid_is);
+      quiet = λ back above within.
+          let zeros : change_back new.changes back ≡ replicate (length mid.recent) false = ap (λ (v : List (List Bool)). change_back v back) a.changes ∙ a.quiet back above within in
+          zeros ∙ ap (λ n. replicate n false) (sym (ap length zeros ∙ length-replicate (length mid.recent) false));
+      stops = λ less.
+          subst (λ (v : List (List Bool)). Contains (change_back v (new.level + 1)) true) (sym a.changes)
+          (a.stops (omega (arith, less, ap (λ (k : WindowState). k.taken) mid_is)));
+      twice = a.twice;
+      taken = a.taken ∙ ap (λ (k : WindowState). k.taken + 1) mid_is;
+    })

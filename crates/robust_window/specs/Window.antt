@@ -1,9 +1,11 @@
 -- What a window keeps, and which changes it stands for.
-use Rattle.std.specs.Prelude.{◌≡◌, ℕ, ◌-◌, ◌<◌, ◌≤◌, ◌==◌, Bool, true, false, if◌then◌else◌, List, [], ◌∷◌, length, replicate, All, Contains, slice_index_or}
+use Rattle.std.specs.Prelude.{◌≡◌, ℕ, ◌+◌, ◌-◌, ◌<◌, ◌≤◌, ◌==◌, nat_le, max, min, Bool, true, false, if◌then◌else◌, List, [], ◌∷◌, ◌++◌, length, drop, replicate, count_by, All, Contains, slice_index_or}
+use Rattle.std.specs.List.{list_any, range_with_len}
 use Rattle.std.specs.Bool.{OnFalse, OnTrue}
 use Rattle.std.specs.Int.{bit_at}
 use Rattle.circular_buffer.specs.Buffer.{Buffer}
 use Rattle.bit_vectors.specs.Vectors.{IsVector, number_bits}
+use Rattle.mask_update.specs.Masks.{vector_of}
 use Rattle.robust_window.specs.Changes.{MaskStep, IsQuiet, latest_change, mask_step, takes_new_mask, recent_of, level_of, twice_of}
 
 -- The latest sixteen changes and new-mask flags, the oldest first; the values at the latest step; and how many steps were
@@ -66,6 +68,21 @@ pub record StandsFor (steps : List MaskStep) (value : WindowState) : Type 0 wher
   pub level : 0 < length steps → value.level ≡ level_of steps (latest_change steps)
   pub twice : 0 < length steps → value.twice ≡ twice_of steps (latest_change steps)
   pub taken : value.taken ≡ length steps
+
+-- What a window becomes at a step whose change is the latest of those kept already: the recent changes, the effective
+-- robustness level and 'twice' by what is kept.
+pub record Advances (old new : WindowState) (new_mask : Bool) (robust : ℕ) : Type 0 where
+  pub changes : new.changes ≡ old.changes
+  pub flags_full : length old.new_masks ≡ 16
+  pub new_masks : new.new_masks ≡ drop 1 old.new_masks ++ new_mask ∷ []
+  pub recent : new.recent ≡ vector_of (length old.recent) (λ place. list_any (λ back. slice_index_or (change_back old.changes back) place false) (range_with_len 0 (robust + 1)))
+  pub recent_len : length new.recent ≡ length old.recent
+  pub level_least : robust ≤ new.level
+  pub level_most : new.level ≤ max robust (min old.taken 15)
+  pub quiet : (back : ℕ) → robust < back → back ≤ new.level → change_back old.changes back ≡ replicate (length old.recent) false
+  pub stops : new.level < max robust (min old.taken 15) → Contains (change_back old.changes (new.level + 1)) true
+  pub twice : new.twice ≡ nat_le 2 (count_by (new_mask_back new.new_masks) (range_with_len 0 (new.level + 1)))
+  pub taken : new.taken ≡ old.taken + 1
 
 -- what is marked is a change with a 1
 abbrev pub AreMarked : ℕ → List (List Bool) → Type 0

@@ -28,22 +28,30 @@ pub(crate) fn zero_changes(alloc: Global, f: u32) -> Result<HeapCircularBuffer<B
     Ok(changes)
 }
 
-/// Puts the latest change in place of the oldest one, which has the same number of places. If it is not marked, the slot
-/// keeps what it has.
-pub(crate) fn push_change(changes: &mut HeapCircularBuffer<Bits>, change: &Bits, marked: bool)
+/// Puts the latest change in place of the oldest one, which has the same number of places.
+pub(crate) fn push_change(changes: &mut HeapCircularBuffer<Bits>, change: &Bits)
     requires full { length changes.old.items ≡ 16 }
     requires capacity { changes.old.capacity ≡ 16 }
     requires places { All (λ kept. length kept ≡ length change.now) changes.old.items }
-    ensures { changes.new
-        ≡ buffer (drop 1 changes.old.items
-        ++ (if marked then change.now else change_back changes.old.items 15) ∷ []) 16 }
+    ensures { changes.new ≡ buffer (drop 1 changes.old.items ++ change.now ∷ []) 16 }
 {
     let Some(mut oldest) = changes.pop_front() else {
         unreachable!()
     };
-    if marked {
-        oldest.copy_from(change);
-    }
+    oldest.copy_from(change);
+    changes.push_back(oldest);
+}
+
+/// Puts the oldest slot in place of the latest one, as it is.
+pub(crate) fn keep_oldest(changes: &mut HeapCircularBuffer<Bits>)
+    requires full { length changes.old.items ≡ 16 }
+    requires capacity { changes.old.capacity ≡ 16 }
+    ensures { changes.new
+        ≡ buffer (drop 1 changes.old.items ++ change_back changes.old.items 15 ∷ []) 16 }
+{
+    let Some(oldest) = changes.pop_front() else {
+        unreachable!()
+    };
     changes.push_back(oldest);
 }
 

@@ -1,9 +1,9 @@
 //! The window over the latest changes of a mask.
 
-ghost use Rattle.std.specs.Prelude.{◌≡◌, ◌+◌, ◌-◌, ◌<◌, ◌≤◌, List, [], ◌∷◌, ◌++◌, length, replicate, true, false, Contains, IfOk};
+ghost use Rattle.std.specs.Prelude.{◌≡◌, ◌+◌, ◌-◌, ◌<◌, ◌≤◌, List, [], ◌∷◌, ◌++◌, length, drop, replicate, true, false, Contains, IfOk};
 ghost use Rattle.std.specs.Bool.{OnFalse, OnTrue};
 ghost use Rattle.robust_window.specs.Changes.{MaskStep, latest_change, level_of, mask_step, recent_of, twice_of};
-ghost use Rattle.robust_window.specs.Window.{StandsFor};
+ghost use Rattle.robust_window.specs.Window.{Advances, StandsFor};
 
 use crate::{marks, scan};
 use bit_vectors::{Bits, NoMemory};
@@ -71,13 +71,10 @@ impl Window {
         })
     }
 
-    /// Takes the change of the mask at the next step, which has no 1 exactly if `still` says so, whether the step takes a
-    /// new mask, and the required robustness of its packet, at most 7. The first step does not change the mask and
-    /// takes no new one.
-    pub fn step(&mut self, change: &Bits, still: bool, new_mask: bool, robust: u8)
+    /// Takes the change of the mask at the next step, whether the step takes a new mask, and the required robustness of its
+    /// packet, at most 7. The first step does not change the mask and takes no new one.
+    pub fn step(&mut self, change: &Bits, new_mask: bool, robust: u8)
         requires places { length change.now ≡ length self.old.recent }
-        requires zero { OnTrue still (change.now ≡ replicate (length change.now) false) }
-        requires some { OnFalse still (Contains change.now true) }
         requires most { self.old.taken < 4294967296 }
         requires first_change { self.old.taken ≡ 0
             → change.now ≡ replicate (length change.now) false }
@@ -90,10 +87,64 @@ impl Window {
         ensures places { length self.new.recent ≡ length self.old.recent }
         ensures taken { self.new.taken ≡ self.old.taken + 1 }
     {
+        if change.is_zero() {
+            self.step_still(new_mask, robust);
+        } else {
+            self.push(change);
+            self.advance(new_mask, robust);
+        }
+    }
+
+    /// The same for a step that does not change the mask: it looks at no vector for that.
+    #[inline(always)]
+    pub fn step_still(&mut self, new_mask: bool, robust: u8)
+        requires most { self.old.taken < 4294967296 }
+        requires first_new_mask { self.old.taken ≡ 0 → new_mask ≡ false }
+        requires robust { robust ≤ 7 }
+        // If it stood for some changes, it now stands for these and one more, of zeros.
+        ensures stands { (steps : List MaskStep) (step : MaskStep) → StandsFor steps self.old
+            → step.change ≡ replicate (length self.old.recent) false → step.new_mask ≡ new_mask
+            → step.robust ≡ robust → StandsFor (steps ++ step ∷ []) self.new }
+        ensures places { length self.new.recent ≡ length self.old.recent }
+        ensures taken { self.new.taken ≡ self.old.taken + 1 }
+    {
+        self.push_still();
+        self.advance(new_mask, robust);
+    }
+
+    /// Puts the latest change, which has a 1, in place of the oldest one.
+    fn push(&mut self, change: &Bits)
+        requires places { length change.now ≡ length self.old.recent }
+        requires some { Contains change.now true }
+        ensures change { self.new
+            ≡ record self.old { changes = drop 1 self.old.changes ++ change.now ∷ [] } }
+        ensures full { length self.old.changes ≡ 16 }
+    {
+        scan::push_change(&mut self.changes, change);
+        self.changed = marks::pushed(self.changed, true);
+    }
+
+    /// Puts a change without a 1 in place of the oldest one, by its mark alone. If no change is marked, all have none
+    /// already.
+    fn push_still(&mut self)
+        ensures change { let zeros = replicate (length self.old.recent) false in
+            self.new ≡ record self.old { changes = drop 1 self.old.changes ++ zeros ∷ [] } }
+        ensures full { length self.old.changes ≡ 16 }
+    {
+        if self.changed != 0 {
+            scan::keep_oldest(&mut self.changes);
+            self.changed = marks::pushed(self.changed, false);
+        }
+    }
+
+    /// Makes the values at a step whose change is taken already.
+    #[inline(always)]
+    fn advance(&mut self, new_mask: bool, robust: u8)
+        requires most { self.old.taken < 4294967296 }
+        requires robust { robust ≤ 7 }
+        ensures { Advances self.old self.new new_mask robust }
+    {
         let most = self.taken.min(MOST_LEVEL) as u8;
-        let changed = !still;
-        scan::push_change(&mut self.changes, change, changed);
-        self.changed = marks::pushed(self.changed, changed);
         self.new_masks = marks::pushed(self.new_masks, new_mask);
         self.quiet = scan::gather(
             &self.changes,

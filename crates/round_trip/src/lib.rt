@@ -1,7 +1,7 @@
 //! A small caller of the encoder and the decoder: an input is encoded, and its packet is read back.
 #![tactic(auto)]
 
-ghost use Rattle.std.specs.Prelude.{◌≡◌, ℕ, ◌+◌, ◌<◌, ◌≤◌, false, length, replicate, true, Option, Ok, IfSome, IfOk};
+ghost use Rattle.std.specs.Prelude.{◌≡◌, ℕ, ◌+◌, ◌*◌, ◌<◌, ◌≤◌, [], false, length, replicate, true, Option, Ok, IfSome, IfOk};
 ghost use Rattle.bit_vectors.specs.Vectors.{padded};
 ghost use Rattle.mask_update.specs.Histories.{History};
 ghost use Rattle.mask_update.specs.Masks.{mask_at};
@@ -13,9 +13,9 @@ ghost use Rattle.packet_encode.specs.Packets.{packet_at};
 ghost use Rattle.robust_window.specs.Histories.{level_at, recent_at};
 ghost use Rattle.round_trip.specs.Carrying.{AreInStep, with_input};
 
-use bit_vectors::{BitFault, Bits, Flags, NoMemory};
+use bit_vectors::{BitFault, BitPen, Bits, Flags, NoMemory};
 use packet_decode::{Decoder, Reading};
-use packet_encode::Encoder;
+use packet_encode::{Encoder, room};
 use std::alloc::Global;
 
 /// The flags of a packet that carries its mask and whole content.
@@ -29,6 +29,7 @@ const WHOLE: Flags = Flags {
 pub fn carry(
     encoder: &mut Encoder,
     input: &Bits,
+    pen: &mut BitPen,
     decoder: &mut Decoder,
 ) -> Result<Reading, BitFault>
     requires places { length input.now ≡ length encoder.old.masks.mask }
@@ -38,6 +39,8 @@ pub fn carry(
         (λ last. last < encoder.old.masks.taken) }
     requires later_mask { IfSome (latest_mask_number decoder.old.state)
         (λ last. last < encoder.old.masks.taken) }
+    requires empty { pen.old.bits ≡ [] }
+    requires room { 10 * length input.now + 43 ≤ pen.old.room }
     // Whatever the decoder knows, the answer is the exact one to this packet.
     ensures exact { (h : History) → StandsFor h encoder.old → let t = length h.steps in
         IsExactAnswer decoder.old.places decoder.old.state t
@@ -64,13 +67,14 @@ pub fn carry(
         → StandsFor (with_input h input.now) encoder.new }
     ensures encoder_places { length encoder.new.masks.mask ≡ length encoder.old.masks.mask }
     ensures taken { encoder.new.masks.taken ≡ encoder.old.masks.taken + 1 }
-    // Its bits are the packet, in whole bytes.
+    // The pen has the packet, in whole bytes.
     ensures packet { (h : History) → StandsFor h encoder.old
-        → padded encoder.new.bits ≡ packet_at (with_input h input.now) (length h.steps) }
+        → padded pen.new.bits ≡ packet_at (with_input h input.now) (length h.steps) }
+    ensures room { pen.new.room ≡ pen.old.room }
 {
     let number = encoder.taken();
-    encoder.encode(input, WHOLE, 0);
-    decoder.read(number, encoder.bytes())
+    encoder.encode(input, WHOLE, 0, pen);
+    decoder.read(number, pen.bytes())
 }
 
 /// A decoder that has read the first packet of a sender with this first mask of `f` places and this input.
@@ -86,7 +90,8 @@ pub fn carry_first(alloc: Global, f: u32, mask: &Bits, input: &Bits) -> Result<D
     ensures places { IfOk result (λ decoder. decoder.places ≡ f) }
 {
     let mut encoder = Encoder::open(alloc, f, mask)?;
+    let mut pen = BitPen::with_room(alloc, room(f))?;
     let mut decoder = Decoder::open(alloc, f)?;
-    let _ = carry(&mut encoder, input, &mut decoder);
+    let _ = carry(&mut encoder, input, &mut pen, &mut decoder);
     Ok(decoder)
 }

@@ -1,4 +1,3 @@
-pub mod Orders
 pub mod Places
 pub mod Records
 pub mod RowTexts
@@ -6,3 +5,5 @@ pub mod Numbers
 pub mod RowKinds
 pub mod RowBounds
 pub mod StreamRows
+pub mod Claimed
+pub mod LastRows

@@ -1,7 +1,7 @@
 pub mod Spans
 pub mod Rows
-pub mod Order
-pub mod Tables
+pub mod Ranks
+pub mod Columns
 pub mod Texts
 pub mod Numbers
 pub mod Grammar

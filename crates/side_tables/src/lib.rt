@@ -1,12 +1,14 @@
 //! Side texts: tables that give flags, required robustness and copies to packets by their number, and lists of streams.
 #![tactic(auto)]
 
+mod claims;
+mod columns;
 mod decimal;
 mod fault;
 mod grammar;
 mod laws;
 mod lookup;
-mod order;
+mod ranks;
 mod rows;
 mod schedule;
 mod script;
@@ -18,7 +20,7 @@ mod text;
 pub use decimal::{number, signed_number, wide_number};
 pub use fault::SideFault;
 pub use laws::{robustness_of_texts, streams_of_texts};
-pub use lookup::{Lookup, Planned};
+pub use lookup::{CopyLookup, Lookup, Planned};
 pub use rows::{CopyRow, FlagRow, RobustRow, RowGrammar, StreamRow, TableRow};
 pub use schedule::Schedule;
 pub use script::Script;

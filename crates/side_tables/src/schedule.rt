@@ -6,7 +6,7 @@ ghost use Rattle.side_tables.specs.Rows.{IsFlagRow, IsRobustRow, IsScheduleRow, 
 
 use crate::fault::SideFault;
 use crate::grammar::ScheduleText;
-use crate::rows::{FlagRow, RobustRow, ScheduleRow};
+use crate::rows::{FlagRow, RobustRow, ScheduleRow, TableRow};
 use crate::table::Table;
 use crate::text::read_rows;
 use bit_vectors::{Flags, NoMemory};
@@ -71,25 +71,16 @@ impl Schedule {
             }
         }
         Ok(Schedule {
-            flags: Table::of_rows(alloc, flags)?,
-            robust: Table::of_rows(alloc, robust)?,
+            flags: Table::of_rows(flags),
+            robust: Table::of_rows(robust),
         })
     }
 
-    /// The flags of all flag rows that name the packet, combined.
+    /// The flags of all flag rows that name the packet, combined. It looks at all rows.
     pub fn flags(&self, t: u32) -> Flags
         ensures { result ≡ flags_of self.now.flags t }
     {
-        let mut flags = Flags {
-            p: false,
-            f: false,
-            r: false,
-        };
-        let rows = self.flags.rows();
-        for place in self.flags.naming(t) {
-            flags = joined(flags, rows[place].flags);
-        }
-        flags
+        flags_in(self.flags.rows(), t)
     }
 
     /// The required robustness of the packet, at most 7: what the last `robust` row that names it says, or none if
@@ -118,7 +109,7 @@ impl Schedule {
         self.robust.rows()
     }
 
-    /// A number `result` such that no packet in `t..result` is given anything. If there are many rows, it may be `t`.
+    /// A number `result` such that no packet in `t..result` is given anything. If there are many rows, it is `t`.
     pub fn next_named(&self, t: u32) -> u32
         ensures least { t ≤ result }
         ensures nothing { GiveNothing self.now t result }
@@ -126,6 +117,20 @@ impl Schedule {
         let flags = self.flags.next_named(t);
         flags.min(self.robust.next_named(t))
     }
+}
+
+/// The flags of all rows that name the packet, combined.
+fn flags_in(rows: &[FlagRow], t: u32) -> Flags
+    requires { All IsFlagRow rows.now }
+    ensures { result ≡ flags_of rows.now t }
+{
+    let mut flags = Flags::default();
+    for row in rows {
+        if row.span().names(t) {
+            flags = joined(flags, row.flags);
+        }
+    }
+    flags
 }
 
 /// The flags that are set in at least one of the two.

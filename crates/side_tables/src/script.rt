@@ -28,10 +28,11 @@ impl Table<CopyRow> {
             → bad_copy_row text.now ≡ Some row }
     {
         let rows = read_rows(alloc, &ScriptText, text)?;
-        Ok(Table::of_rows(alloc, rows)?)
+        Ok(Table::of_rows(rows))
     }
 
-    /// How many copies of the packet arrive, at most 9: what the last row that names it says, or one if none does.
+    /// How many copies of the packet arrive, at most 9: what the last row that names it says, or one if none does. It looks
+    /// at all rows.
     pub fn times(&self, t: u32) -> u8
         ensures copies { result ≡ copies_of self.now t }
         ensures most { result ≤ 9 }

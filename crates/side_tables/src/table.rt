@@ -1,10 +1,9 @@
-//! Tables: rows that name packets by their numbers, and those of them that name one packet.
+//! Tables: rows that name packets by their numbers.
 
-ghost use Rattle.std.specs.Prelude.{◌≡◌, ℕ, ◌<◌, ◌≤◌, [], All, IfOk, IfSome};
+ghost use Rattle.std.specs.Prelude.{◌≡◌, ℕ, ◌<◌, ◌≤◌, false, All, IfOk, IfSome};
 ghost use Rattle.side_tables.specs.Rows.{last_row};
-ghost use Rattle.side_tables.specs.Tables.{ArePlacesNaming};
+ghost use Rattle.side_tables.specs.Spans.{names};
 
-use crate::order::{OrderEntry, PlacesAt, next_named, order_of, places_at};
 use crate::rows::TableRow;
 use bit_vectors::NoMemory;
 use std::alloc::Global;
@@ -14,19 +13,21 @@ use std::marker::Model;
 #[derive(Debug, Drop)]
 pub struct Table<R: TableRow> {
     rows: Vec<R>,
-    order: Vec<OrderEntry>,
 }
 
 impl<R: TableRow> Model for Table<R> {
-    ghost use Rattle.std.specs.Prelude.{List};
-    ghost use Rattle.side_tables.specs.Tables.{IsTable};
+    ghost use Rattle.std.specs.Prelude.{List, All};
 
     ghost Value = { List R };
 
     ghost view = { λ t. t.rows.items };
 
-    ghost invariant = { λ t. IsTable R.is_right R.span_of t.rows.items t.order.items };
+    ghost invariant = { λ t. All R.is_right t.rows.items };
 }
+
+/// How many rows are looked at one after another for each packet. If there are more, the ranks of many packets are found
+/// together.
+pub const FEW: usize = 8;
 
 impl<R: TableRow> Table<R> {
     /// The table with these rows.
@@ -35,16 +36,15 @@ impl<R: TableRow> Table<R> {
         ensures { IfOk result (λ table. table ≡ rows.now) }
     {
         let rows = Vec::from_slice(alloc, rows)?;
-        Table::of_rows(alloc, rows)
+        Ok(Table::of_rows(rows))
     }
 
     /// The table that owns these rows.
-    pub(crate) fn of_rows(alloc: Global, rows: Vec<R>) -> Result<Table<R>, NoMemory>
+    pub(crate) fn of_rows(rows: Vec<R>) -> Table<R>
         requires { All R.is_right rows.items }
-        ensures { IfOk result (λ table. table ≡ rows.items) }
+        ensures { result ≡ rows.items }
     {
-        let order = order_of(alloc, &rows)?;
-        Ok(Table { rows, order })
+        Table { rows }
     }
 
     /// The rows in order.
@@ -55,27 +55,55 @@ impl<R: TableRow> Table<R> {
         &self.rows
     }
 
-    /// The places of the rows that name the packet, in any order.
-    pub(crate) fn naming(&self, t: u32) -> PlacesAt<'_>
-        ensures { ArePlacesNaming R.span_of self.now t result }
-    {
-        places_at(&self.order, t)
-    }
-
-    /// The last row that names the packet.
+    /// The last row that names the packet. It looks at all rows.
     pub(crate) fn latest(&self, t: u32) -> Option<R>
         ensures row { result ≡ last_row R.span_of self.now t }
         ensures right { IfSome result R.is_right }
     {
-        let place = self.naming(t).max()?;
-        Some(self.rows[place])
+        latest_of(&self.rows, t)
     }
 
-    /// A number `result` such that no row names a packet in `t..result`.
+    /// A number `result` such that no row names a packet in `t..result`. If there are many rows, it is `t`.
     pub(crate) fn next_named(&self, t: u32) -> u32
         ensures least { t ≤ result }
-        ensures none { (n : ℕ) → t ≤ n → n < result → ArePlacesNaming R.span_of self.now n [] }
+        ensures none { (n : ℕ) → t ≤ n → n < result
+            → All (λ row. names (R.span_of row) n ≡ false) self.now }
     {
-        next_named(&self.order, t)
+        if self.rows.len() > FEW {
+            return t;
+        }
+        next_of(&self.rows, t)
     }
+}
+
+/// The last row that names the packet.
+fn latest_of<R: TableRow>(rows: &[R], t: u32) -> Option<R>
+    requires { All R.is_right rows.now }
+    ensures row { result ≡ last_row R.span_of rows.now t }
+    ensures right { IfSome result R.is_right }
+{
+    let mut latest = None;
+    for row in rows {
+        if row.span().names(t) {
+            latest = Some(*row);
+        }
+    }
+    latest
+}
+
+/// A number `result` such that no row names a packet in `t..result`.
+fn next_of<R: TableRow>(rows: &[R], t: u32) -> u32
+    requires { All R.is_right rows.now }
+    ensures least { t ≤ result }
+    ensures none { (n : ℕ) → t ≤ n → n < result
+        → All (λ row. names (R.span_of row) n ≡ false) rows.now }
+{
+    let mut next = u32::MAX;
+    for row in rows {
+        next = match row.span().next(t) {
+            Some(named) => next.min(named),
+            None => next,
+        };
+    }
+    next
 }

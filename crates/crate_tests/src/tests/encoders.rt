@@ -1,9 +1,9 @@
 //! Worked packets, through the encoder.
 
-ghost use Rattle.std.specs.Prelude.{◌≡◌, ◌≤◌, length};
+ghost use Rattle.std.specs.Prelude.{◌≡◌, ◌+◌, ◌*◌, ◌≤◌, length};
 
-use bit_vectors::{Bits, Flags, NoMemory, byte_len};
-use packet_encode::Encoder;
+use bit_vectors::{BitPen, Bits, Flags, NoMemory, byte_len};
+use packet_encode::{Encoder, room};
 use std::alloc::Global;
 use std::test::Fail;
 
@@ -25,14 +25,16 @@ const WHOLE: Flags = Flags {
     r: true,
 };
 
-/// An encoder with its input.
+/// An encoder with its input and a pen for its packet.
 #[derive(Drop)]
 struct Sender {
     encoder: Encoder,
     input: Bits,
+    pen: BitPen,
     robust: u8,
     is_ready: bool,
     ghost most: { robust ≤ 7 },
+    ghost room: { pen.room ≡ 10 * length input + 43 },
     ghost places: { length input ≡ length encoder.masks.mask },
 }
 
@@ -45,6 +47,7 @@ impl Sender {
         Ok(Sender {
             encoder: Encoder::open(alloc, places, &input)?,
             input,
+            pen: BitPen::with_room(alloc, room(places))?,
             robust: robust.min(7),
             is_ready,
         })
@@ -59,8 +62,10 @@ impl Sender {
         {
             return false;
         }
-        self.encoder.encode(&self.input, flags, self.robust);
-        self.encoder.bytes() == data
+        self.pen.clear();
+        self.encoder
+            .encode(&self.input, flags, self.robust, &mut self.pen);
+        self.pen.bytes() == data
     }
 }
 
@@ -179,8 +184,11 @@ fn size_of_next(sender: &mut Sender, input: &[u8], flags: Flags) -> Option<usize
     {
         return None;
     }
-    sender.encoder.encode(&sender.input, flags, sender.robust);
-    Some(sender.encoder.bytes().len())
+    sender.pen.clear();
+    sender
+        .encoder
+        .encode(&sender.input, flags, sender.robust, &mut sender.pen);
+    Some(sender.pen.bytes().len())
 }
 
 // The longest vectors: a packet of zeros, and one in which every second place has moved.

@@ -4,7 +4,8 @@ use bit_vectors::Bits;
 use mask_update::Masks;
 use std::test::Fail;
 
-// The last bits of a step's input and of mask, build and change after it. All other bits are 0.
+// The last bits of a step's input and of mask, build and change after it, and whether the input came again. All other
+// bits are 0.
 #[derive(Clone, Copy)]
 struct Row {
     input: bool,
@@ -12,15 +13,17 @@ struct Row {
     mask: bool,
     build: bool,
     change: bool,
+    again: bool,
 }
 
-const fn step_row(input: bool, new_mask: bool, [mask, build, change]: [bool; 3]) -> Row {
+const fn step_row(input: bool, new_mask: bool, [mask, build, change, again]: [bool; 4]) -> Row {
     Row {
         input,
         new_mask,
         mask,
         build,
         change,
+        again,
     }
 }
 
@@ -41,16 +44,18 @@ fn follow(masks: &mut Masks, zeros: &Bits, last: &Bits, row: Row) -> bool {
     is_last_alone(masks.mask(), row.mask)
         && is_last_alone(masks.build(), row.build)
         && is_last_alone(masks.change(), row.change)
+        && masks.is_still() != row.change
+        && masks.is_again() == row.again
 }
 
 fn run(masks: &mut Masks, zeros: &Bits, last: &Bits) -> bool {
     let rows = [
-        step_row(false, false, [false, false, false]),
-        step_row(true, false, [true, true, true]),
-        step_row(true, false, [true, true, false]),
-        step_row(true, true, [true, false, false]),
-        step_row(true, false, [true, false, false]),
-        step_row(true, true, [false, false, true]),
+        step_row(false, false, [false, false, false, false]),
+        step_row(true, false, [true, true, true, false]),
+        step_row(true, false, [true, true, false, true]),
+        step_row(true, true, [true, false, false, false]),
+        step_row(true, false, [true, false, false, true]),
+        step_row(true, true, [false, false, true, false]),
     ];
     for row in rows {
         if !follow(masks, zeros, last, row) {

@@ -1,7 +1,9 @@
 //! Texts of schedules, scripts and streams, with what they must mean.
 
 use bit_vectors::Flags;
-use side_tables::{CopyRow, FlagRow, Lookup, Schedule, Script, SideFault, Streams, signed_number};
+use side_tables::{
+    CopyLookup, CopyRow, FlagRow, Lookup, Schedule, Script, SideFault, Streams, signed_number,
+};
 use std::alloc::Global;
 use std::test::Fail;
 
@@ -68,17 +70,61 @@ fn schedules(rt: HostRuntime) -> Result<(), Fail> {
     Ok(())
 }
 
-/// A lookup gives what its schedule gives, in whatever order it is asked.
+/// Numbers that are asked for, also far ahead and back again.
+const NUMBERS: [u32; 19] = [
+    0,
+    1,
+    3,
+    4,
+    5,
+    8,
+    9,
+    10,
+    13,
+    14,
+    30,
+    2,
+    9,
+    29,
+    199,
+    200,
+    70_000,
+    201,
+    u32::MAX,
+];
+
+/// A lookup gives what its schedule gives, of few rows and of many, in whatever order it is asked.
 #[test]
 fn lookups(rt: HostRuntime) -> Result<(), Fail> {
-    let text = b"robust,7,9,1,3\n4,30,5,p\n9,9,1,rf";
-    let schedule = Schedule::read(rt.alloc(), text)?;
-    let mut lookup = Lookup::new(Schedule::read(rt.alloc(), text)?);
-    let numbers = [0, 1, 3, 4, 5, 8, 9, 10, 13, 14, 30, 2, 9, 29, u32::MAX];
-    for t in numbers {
-        let given = lookup.at(t);
-        assert_eq!(rt; given.flags, schedule.flags(t));
-        assert_eq!(rt; given.robust, schedule.robust(t));
+    let few = "robust,7,9,1,3\n4,30,5,p\n9,9,1,rf";
+    let many =
+        "0,4294967295,1,p\n0,4294967295,5,f\n4,30,5,r\n9,9,1,rf\n2,200,3,p\n5,70000,5,r\n0,8,2,f\n3,3,1,p\n\
+                8,4294967295,7,rf\nrobust,0,300,1,2\nrobust,7,9,1,3\nrobust,9,29,4,0";
+    for text in [few, many] {
+        let schedule = Schedule::read(rt.alloc(), text.as_bytes())?;
+        let mut lookup = Lookup::open(rt.alloc(), Schedule::read(rt.alloc(), text.as_bytes())?)?;
+        for t in NUMBERS {
+            let given = lookup.at(t);
+            assert_eq!(rt; given.flags, schedule.flags(t));
+            assert_eq!(rt; given.robust, schedule.robust(t));
+        }
+    }
+    Ok(())
+}
+
+/// So does one of a script.
+#[test]
+fn lookups_of_copies(rt: HostRuntime) -> Result<(), Fail> {
+    let few = "drop,2,200,3\nrepeat,9,9,1,8";
+    let many =
+        "repeat,0,4294967295,1,1\ndrop,2,200,3\nrepeat,9,9,1,8\ndrop,4,30,5\nrepeat,0,70000,10,2\ndrop,13,13,1\n\
+                repeat,13,13,1,3\ndrop,0,0,1\nrepeat,8,4294967295,7,4";
+    for text in [few, many] {
+        let script = Script::read(rt.alloc(), text.as_bytes())?;
+        let mut lookup = CopyLookup::open(rt.alloc(), Script::read(rt.alloc(), text.as_bytes())?)?;
+        for t in NUMBERS {
+            assert_eq!(rt; lookup.at(t), script.times(t));
+        }
     }
     Ok(())
 }

@@ -26,7 +26,7 @@ module _ (c : goal.After-read) (h : History) (stands : StandsFor h c.args.encode
   number = c.taken-number.ensures.inputs h stands
 
   bits : bits_of c.bytes.result.now ≡ packet_at after t
-  bits = ap bits_of c.bytes.ensures.bytes ∙ bits_of-vector_bytes c.encode.new.self.bits ∙ c.encode.ensures.packet h stands
+  bits = ap bits_of c.bytes.ensures.bytes ∙ bits_of-vector_bytes c.encode.new.pen.bits ∙ c.encode.ensures.packet h stands
 
   exact : IsExactAnswer c.args.decoder.now.places c.args.decoder.now.state t (packet_at after t) c.read.result
   exact = subst (λ n. IsExactAnswer c.args.decoder.now.places c.args.decoder.now.state n (packet_at after t) c.read.result) number

@@ -6,4 +6,4 @@ use Rattle.forecast.proofs.forecast.write_next.Goals as goal
 
 pub take-ended-requires-clause-sure : goal.take-ended-requires-clause-sure
 take-ended-requires-clause-sure g c =
-    subst (λ (n : ℕ). n ≤ c.args.t) (sym (ap (λ (r : Running). r.sure) c.requires.running)) (sure_count-most (foresees c.args.foresight.now.outlook) c.args.t)
+    subst (λ (n : ℕ). n ≤ c.args.t) (sym (ap (λ (r : Running). r.sure) c.requires.running)) (sure_count-most (foresees c.args.foresight.now) c.args.t)

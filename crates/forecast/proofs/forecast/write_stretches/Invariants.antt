@@ -12,9 +12,10 @@ invariant-loop-t g l =
     let meaning = g.D.Desk.meaning in
     let counts = g.D.Desk.counts in
     record {
-      added : Adds (meaning l.fn.desk) (meaning l.desk) outlet.Main (rows_at (fate_of (foresees l.foresight.outlook)) l.t);
+      added : Adds (meaning l.fn.desk) (meaning l.desk) outlet.Main (rows_at (fate_of (foresees l.fn.foresight)) l.t);
       ready : IsReadyOut (meaning l.desk) outlet.Main;
-      running : l.running ≡ running_at (foresees l.foresight.outlook) l.t;
+      running : l.running ≡ running_at (foresees l.fn.foresight) l.t;
       right : IsTally l.running.tally;
+      same : l.foresight ≡ l.fn.foresight;
       steady : counts l.desk ≡ counts l.fn.desk;
     }

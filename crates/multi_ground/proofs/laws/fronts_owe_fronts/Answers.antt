@@ -1,11 +1,11 @@
-use Rattle.std.proofs.Common.{◌≡◌, ℕ, List, [], ◌++◌, length, None, sym, ap, ◌∙◌, arith}
+use Rattle.std.proofs.Common.{◌≡◌, [], ◌++◌, length, None, sym, ap, ◌∙◌, arith}
 use Rattle.std.specs.List.{flat_map}
 use Rattle.std.proofs.lemmas.Grind.{flat_map-append}
 use Rattle.desk_ports.specs.Courses.{to_report}
 use Rattle.desk_ports.proofs.Courses.{AreFronts-put}
 use Rattle.packet_store.specs.Walks.{walk}
 use Rattle.packet_store.proofs.Walks.{IsLonger-walk_from}
-use Rattle.multi_ground.specs.MultiRun.{StreamJudged, multi_run, multi_run_from}
+use Rattle.multi_ground.specs.MultiRun.{multi_run, multi_run_from}
 use Rattle.multi_ground.specs.MultiOutputs.{multi_header, outputs_of, tagged_rows, written_packet}
 use Rattle.multi_ground.proofs.MultiRuns.{multi_run_from-append}
 use Rattle.multi_ground.proofs.laws.fronts_owe_fronts.Goals as goal

@@ -12,7 +12,7 @@ returns-clause-bits c =
     let form : Form = form_of mask window.recent window.level window.twice c.args.input.now c.args.flags in
     let changes = c.put_changes-wide in
     written_is c.put_data.new.pen.bits changes.new.pen.bits mask window.recent window.level window.twice c.args.input.now c.args.flags changes.result
-    (changes.ensures.bits form refl refl refl ∙ ap (λ bits. bits ++ change_bits form) c.clear.ensures.bits)
+    (changes.ensures.bits form refl refl refl ∙ ap (λ bits. bits ++ change_bits form) c.requires.empty)
     changes.ensures.wide
     (c.put_data.ensures.bits
     ∙ ap (λ v. changes.new.pen.bits ++ data_bits (sent_of c.args.flags.f mask) (sent_content c.args.flags.r c.args.input.now (cond changes.result (or_bits mask v) mask))) c.recent.ensures.kept)

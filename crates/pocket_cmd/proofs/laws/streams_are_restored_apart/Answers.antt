@@ -1,11 +1,12 @@
-use Rattle.std.proofs.Common.{◌≡◌, ℕ, List, None, subst}
+use Rattle.std.proofs.Common.{◌≡◌, ℕ, ◌<◌, ◌≤◌, List, length, None, subst}
 use Rattle.desk_ports.specs.Courses.{Outputs, owed}
 use Rattle.packet_store.specs.Walks.{walk}
-use Rattle.side_tables.specs.Streams.{stream_at, streams_of}
+use Rattle.side_tables.specs.Streams.{no_stream, stream_at, streams_of}
 use Rattle.side_tables.specs.Texts.{records_of}
 use Rattle.side_tables.proofs.StreamRows.{rows_of-streams}
 use Rattle.multi_ground.specs.Apart.{HasStream}
 use Rattle.multi_ground.specs.MultiOutputs.{multi_course}
+use Rattle.multi_ground.proofs.PlayedStreams.{restored-played}
 use Rattle.multi_ground.proofs.Restored.{owed-store, owed-stream}
 use Rattle.pocket_cmd.specs.Command.{Multi, MultiValues}
 use Rattle.pocket_cmd.specs.Courses.{course_of}
@@ -30,3 +31,11 @@ pub returns-clause-each : goal.returns-clause-each
 returns-clause-each c = λ m text store index bytes whole within.
     subst (λ (o : Outputs). HasStream (stream_at (streams_of text) index) store o.output o.report) (same_owed m text store)
     (owed-stream (streams_of text) (rows_of-streams (records_of text)) store bytes (whole_walk m text store whole) index within)
+
+-- a stream has an APID of packets
+apid_most : (text : List ℕ) (index : ℕ) → index < length (streams_of text) → (stream_at (streams_of text) index).apid ≤ 2046
+apid_most text index within = ((rows_of-streams (records_of text)).right index no_stream within).apid
+
+pub returns-clause-restored : goal.returns-clause-restored
+returns-clause-restored c = λ m text store index h copies bytes whole within valid places short few arrive.
+    restored-played (stream_at (streams_of text) index) store _ _ h copies (returns-clause-each c m text store index bytes whole within) (apid_most text index within) valid places short few arrive

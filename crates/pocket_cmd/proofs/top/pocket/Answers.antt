@@ -1,9 +1,10 @@
-use Rattle.std.proofs.Common.{None, map, sym, ◌∙◌, subst}
+use Rattle.std.proofs.Common.{Some, None, map, sym, ◌∙◌, subst}
 use Rattle.std.specs.String.{string_bytes}
+use Rattle.desk_ports.specs.declared.desk.Inlet.TheVariants as inlet
 use Rattle.pocket_cmd.specs.declared.status.Refusal.TheVariants as refusal
 use Rattle.pocket_cmd.specs.Command.{Restore, view_command}
 use Rattle.pocket_cmd.specs.Courses.{names_of}
-use Rattle.pocket_cmd.specs.Outcome.{Stands, AfterCommand, AfterRefusal, IsRowFirst, IsRowFirstOf, IsSideAnswered, IsSideJudged}
+use Rattle.pocket_cmd.specs.Outcome.{Stands, AfterCommand, AfterRefusal, IsScriptFirst, IsSideJudged, IsTextFirst}
 use Rattle.pocket_cmd.proofs.Apart.{AreApart-command_of, kept_as_made}
 use Rattle.pocket_cmd.specs.Status.{class_of}
 use Rattle.pocket_cmd.proofs.Given.{IsCommand-command_of}
@@ -11,6 +12,7 @@ use Rattle.pocket_cmd.proofs.Granted.{same_command, side_granted, input_granted,
 use Rattle.pocket_cmd.proofs.Performed.{AfterRefusal-answer, Stands-answer}
 use Rattle.pocket_cmd.proofs.Kept.{Leaves-refused}
 use Rattle.pocket_cmd.proofs.Sided.{IsSideJudged-answer, left-too_long}
+use Rattle.pocket_cmd.proofs.TextsFirst.{script-first, side-first}
 use Rattle.pocket_cmd.proofs.Headline.{Done-whole, HasWritten-restored}
 use Rattle.pocket_cmd.proofs.top.pocket.Goals as goal
 
@@ -98,8 +100,7 @@ returns-in-Ok-clause-side_text g c = λ command text is told memory reads.
     subst (IsSideJudged command text) (sym c.into.ensures)
     (IsSideJudged-answer command text old (g.D.Desk.meaning c.perform.new.desk) (g.D.Desk.counts c.args.desk.now) (g.D.Desk.counts c.perform.new.desk) c.perform.result
     (subst (λ command. AfterCommand command old (g.D.Desk.meaning c.perform.new.desk) c.perform.result) same c.perform.ensures.after)
-    (subst (λ command. IsSideAnswered command old (g.D.Desk.counts c.args.desk.now) (g.D.Desk.counts c.perform.new.desk) c.perform.result) same c.perform.ensures.side_text)
-    told (λ e. memory (c.into.ensures ∙ e)) reads)
+    c.perform.ensures.cause told (λ e. memory (c.into.ensures ∙ e)) reads)
 
 pub returns-in-Ok-clause-read_no_further : goal.returns-in-Ok-clause-read_no_further
 returns-in-Ok-clause-read_no_further g c = λ command text is told long.
@@ -111,13 +112,24 @@ returns-in-Ok-clause-read_no_further g c = λ command text is told long.
 pub returns-in-Err-clause-read_no_further : goal.returns-in-Err-clause-read_no_further
 returns-in-Err-clause-read_no_further g c = λ command text is told long. absurd (not_both is (sym c.in-Err.ensures))
 
-pub returns-in-Ok-clause-bad_row : goal.returns-in-Ok-clause-bad_row
-returns-in-Ok-clause-bad_row g c = λ command text row is told within bad memory.
+pub returns-in-Ok-clause-bad_side : goal.returns-in-Ok-clause-bad_side
+returns-in-Ok-clause-bad_side g c = λ command text bad is told wrong memory.
     let old = g.D.Desk.meaning c.args.desk.now in
     let new = g.D.Desk.meaning c.perform.new.desk in
-    subst (IsRowFirst old text row new) (sym c.into.ensures)
-    ((subst (λ command. IsRowFirstOf command old new c.perform.result) (same_command (sym c.in-Ok.ensures) is) c.perform.ensures.bad_row)
-    text row told within bad (λ e. memory (c.into.ensures ∙ e)))
+    subst (IsTextFirst inlet.Side old text bad new) (sym c.into.ensures)
+    (side-first command old new text told bad wrong c.perform.result
+    (subst (λ command. AfterCommand command old new c.perform.result) (same_command (sym c.in-Ok.ensures) is) c.perform.ensures.after) (λ e. memory (c.into.ensures ∙ e)))
 
-pub returns-in-Err-clause-bad_row : goal.returns-in-Err-clause-bad_row
-returns-in-Err-clause-bad_row g c = λ command text row is told within bad memory. absurd (not_both is (sym c.in-Err.ensures))
+pub returns-in-Err-clause-bad_side : goal.returns-in-Err-clause-bad_side
+returns-in-Err-clause-bad_side g c = λ command text bad is told wrong memory. absurd (not_both is (sym c.in-Err.ensures))
+
+pub returns-in-Ok-clause-bad_script : goal.returns-in-Ok-clause-bad_script
+returns-in-Ok-clause-bad_script g c = λ f plan script bad is told right wrong memory.
+    let old = g.D.Desk.meaning c.args.desk.now in
+    let new = g.D.Desk.meaning c.perform.new.desk in
+    subst (IsScriptFirst (Some f.plan) old plan script bad new) (sym c.into.ensures)
+    (script-first f old new plan script told right bad wrong c.perform.result
+    (subst (λ command. AfterCommand command old new c.perform.result) (same_command (sym c.in-Ok.ensures) is) c.perform.ensures.after) (λ e. memory (c.into.ensures ∙ e)))
+
+pub returns-in-Err-clause-bad_script : goal.returns-in-Err-clause-bad_script
+returns-in-Err-clause-bad_script g c = λ f plan script bad is told right wrong memory. absurd (not_both is (sym c.in-Err.ensures))

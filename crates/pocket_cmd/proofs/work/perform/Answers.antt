@@ -3,10 +3,10 @@ use Rattle.desk_ports.specs.declared.desk.Inlet.TheVariants as inlet
 use Rattle.pocket_cmd.specs.declared.text.TextFault.TheVariants as unread
 use Rattle.pocket_cmd.specs.Command.{Names, view_command}
 use Rattle.pocket_cmd.specs.Courses.{names_of}
-use Rattle.pocket_cmd.specs.Openings.{IsText, IsTextLong, IsTextUnread, with_text}
-use Rattle.pocket_cmd.specs.Outcome.{AfterText, IsAnswered, IsRowAnswered, IsRowFirstOf, IsSideAnswered}
+use Rattle.pocket_cmd.specs.Openings.{IsText, IsTextLong, with_text}
+use Rattle.pocket_cmd.specs.Outcome.{AfterText, IsAnswered}
 use Rattle.pocket_cmd.proofs.Begun.{AfterCommand-read}
-use Rattle.pocket_cmd.proofs.Unread.{IsAnswered-unread, IsRowFirst-read, IsRowFirst-unread, IsSideAnswered-unread}
+use Rattle.pocket_cmd.proofs.Unread.{IsAnswered-unread}
 use Rattle.pocket_cmd.proofs.work.perform.Goals as goal
 
 pub returns-in-Err-clause-ends : goal.returns-in-Err-clause-ends
@@ -17,32 +17,6 @@ returns-in-Err-clause-ends g c =
     let after = g.D.Desk.counts c.text_at.new.desk in
     let long : c.in-Err.fault ≡ unread.TooLong → IsTextLong old inlet.Side _ = λ e. subst (λ (names : Names). IsTextLong old inlet.Side names.side) c.names.ensures (c.in-Err.ensures.long (ap Err e)) in
     subst (λ r. IsAnswered command old counts after (Err r)) (sym c.unread.ensures) (IsAnswered-unread command old counts after c.in-Err.fault long c.in-Err.ensures.cause)
-
-pub returns-in-Err-clause-side_text : goal.returns-in-Err-clause-side_text
-returns-in-Err-clause-side_text g c =
-    let command = view_command c.args.command.now in
-    let old = g.D.Desk.meaning c.args.desk.now in
-    let counts = g.D.Desk.counts c.args.desk.now in
-    let after = g.D.Desk.counts c.text_at.new.desk in
-    let long : c.in-Err.fault ≡ unread.TooLong → IsTextLong old inlet.Side _ = λ e. subst (λ (names : Names). IsTextLong old inlet.Side names.side) c.names.ensures (c.in-Err.ensures.long (ap Err e)) in
-    subst (λ r. IsSideAnswered command old counts after (Err r)) (sym c.unread.ensures) (IsSideAnswered-unread command old counts after c.in-Err.fault long c.in-Err.ensures.cause)
-
-pub returns-in-Err-clause-bad_row : goal.returns-in-Err-clause-bad_row
-returns-in-Err-clause-bad_row g c =
-    let command = view_command c.args.command.now in
-    let old = g.D.Desk.meaning c.args.desk.now in
-    let new = g.D.Desk.meaning c.text_at.new.desk in
-    let long : c.in-Err.fault ≡ unread.TooLong → IsTextLong old inlet.Side _ = λ e. subst (λ (names : Names). IsTextLong old inlet.Side names.side) c.names.ensures (c.in-Err.ensures.long (ap Err e)) in
-    let cut_off : c.in-Err.fault ≡ unread.ReadFault → IsTextUnread 1048577 old inlet.Side _ new = λ e. subst (λ (names : Names). IsTextUnread 1048577 old inlet.Side names.side new) c.names.ensures (c.in-Err.ensures.cut_off (ap Err e)) in
-    subst (λ r. IsRowFirstOf command old new (Err r)) (sym c.unread.ensures) (IsRowFirst-unread command old new c.in-Err.fault long cut_off)
-
-pub returns-in-Ok-clause-bad_row : goal.returns-in-Ok-clause-bad_row
-returns-in-Ok-clause-bad_row g c =
-    let command = view_command c.args.command.now in
-    let old = g.D.Desk.meaning c.args.desk.now in
-    IsRowFirst-read command old (g.D.Desk.meaning c.perform_with.new.desk) c.in-Ok.text.items c.perform_with.result
-    (subst (λ (names : Names). IsText old inlet.Side names.side c.in-Ok.text.items) c.names.ensures c.in-Ok.ensures.text)
-    (subst (λ text. IsRowAnswered command text c.perform_with.result) c.deref.ensures.value c.perform_with.ensures.row)
 
 pub returns-in-Ok-clause-after : goal.returns-in-Ok-clause-after
 returns-in-Ok-clause-after g c =

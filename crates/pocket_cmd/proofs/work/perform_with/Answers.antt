@@ -3,7 +3,7 @@ use Rattle.pocket_cmd.specs.Command.{Names, view_command}
 use Rattle.pocket_cmd.specs.Jobs.{job_course}
 use Rattle.pocket_cmd.specs.Outcome.{AfterNames}
 use Rattle.pocket_cmd.specs.Status.{HasStatusCause, IsEnded, class_of, status_by}
-use Rattle.pocket_cmd.proofs.Begun.{AfterTextClass-not_begun, IsAnsweredBy-run, IsEnded-made, IsRowAnswered-not_begun, answer-not_begun, no_row}
+use Rattle.pocket_cmd.proofs.Begun.{AfterTextClass-not_begun, IsAnsweredBy-run, IsEnded-made, answer-not_begun}
 use Rattle.pocket_cmd.proofs.Performed.{AfterText-run}
 use Rattle.pocket_cmd.proofs.work.perform_with.Goals as goal
 
@@ -24,16 +24,13 @@ returns-in-Ok-clause-ends g c =
     let new = g.D.Desk.meaning c.run.new.desk in
     let after = g.D.Desk.counts c.run.new.desk in
     let named = subst (λ (names : Names). IsEnded (AfterNames names (job_course c.in-Ok.job) mid new) c.run.result) c.names_left.ensures c.run.ensures.ran in
-    IsAnsweredBy-run command c.args.text.now old new (g.D.Desk.counts c.args.desk.now) after c.run.result c.in-Ok.ensures.after.0
+    IsAnsweredBy-run command c.args.text.now old new (g.D.Desk.counts c.args.desk.now) after c.run.result
     (IsEnded-made command c.args.text.now c.in-Ok.job old mid new c.run.result c.in-Ok.ensures.after named)
     (subst (λ counts. HasStatusCause counts after (status_by c.run.result)) c.in-Ok.ensures.cause c.run.ensures.cause)
 
 pub returns-in-Ok-clause-cause : goal.returns-in-Ok-clause-cause
 returns-in-Ok-clause-cause g c =
     subst (λ counts. HasStatusCause counts (g.D.Desk.counts c.run.new.desk) (status_by c.run.result)) c.in-Ok.ensures.cause c.run.ensures.cause
-
-pub returns-in-Ok-clause-row : goal.returns-in-Ok-clause-row
-returns-in-Ok-clause-row g c = λ row bad memory. absurd (no_row c.in-Ok.ensures.after.0 bad)
 
 pub returns-in-Err-clause-after : goal.returns-in-Err-clause-after
 returns-in-Err-clause-after g c =
@@ -43,7 +40,3 @@ pub returns-in-Err-clause-ends : goal.returns-in-Err-clause-ends
 returns-in-Err-clause-ends g c = λ input told memory reads writes.
     answer-not_begun (view_command c.args.command.now) c.args.text.now (g.D.Desk.meaning c.args.desk.now) (g.D.Desk.meaning c.of.new.desk) (g.D.Desk.counts c.args.desk.now) (g.D.Desk.counts c.of.new.desk)
     c.in-Err.refusal c.in-Err.ensures.after c.in-Err.ensures.cause input told memory reads
-
-pub returns-in-Err-clause-row : goal.returns-in-Err-clause-row
-returns-in-Err-clause-row g c =
-    IsRowAnswered-not_begun (view_command c.args.command.now) c.args.text.now (g.D.Desk.meaning c.args.desk.now) (g.D.Desk.meaning c.of.new.desk) c.in-Err.refusal c.in-Err.ensures.after

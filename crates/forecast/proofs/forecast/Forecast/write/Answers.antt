@@ -1,4 +1,4 @@
-use Rattle.std.proofs.Common.{◌≡◌, ℕ, OnOk, OnErr, IfOk, sym, subst}
+use Rattle.std.proofs.Common.{◌≡◌, OnOk, OnErr, IfOk, subst}
 use Rattle.desk_ports.specs.declared.desk.Outlet.TheVariants as outlet
 use Rattle.desk_ports.specs.Meanings.{Adds, AddsFront}
 use Rattle.forecast.specs.Outlooks.{ForecastState, foresees}
@@ -9,17 +9,13 @@ pub returns-clause-added : goal.returns-clause-added
 returns-clause-added g c =
     let a = g.D.Desk.meaning c.args.desk.now in
     let b = g.D.Desk.meaning c.write_text.new.desk in
-    let text = subst (λ (n : ℕ). OnOk c.write_text.result (Adds a b outlet.Main (forecast_text (foresees c.self.inside.foresight.outlook) n))) (sym c.self.invariant.all) c.write_text.ensures.added in
-    subst (λ (f : ForecastState). OnOk c.write_text.result (Adds a b outlet.Main (forecast_text (foresees f.outlook) f.packets))) c.self.view_is text
+    subst (λ (f : ForecastState). OnOk c.write_text.result (Adds a b outlet.Main (forecast_text (foresees f.outlook) f.packets))) c.self.view_is c.write_text.ensures.added
 
 pub returns-clause-front : goal.returns-clause-front
 returns-clause-front g c =
     let a = g.D.Desk.meaning c.args.desk.now in
     let b = g.D.Desk.meaning c.write_text.new.desk in
-    let text = subst (λ (n : ℕ). OnErr c.write_text.result (AddsFront a b outlet.Main (forecast_text (foresees c.self.inside.foresight.outlook) n))) (sym c.self.invariant.all) c.write_text.ensures.front in
-    subst (λ (f : ForecastState). OnErr c.write_text.result (AddsFront a b outlet.Main (forecast_text (foresees f.outlook) f.packets))) c.self.view_is text
+    subst (λ (f : ForecastState). OnErr c.write_text.result (AddsFront a b outlet.Main (forecast_text (foresees f.outlook) f.packets))) c.self.view_is c.write_text.ensures.front
 
 pub returns-clause-sure : goal.returns-clause-sure
-returns-clause-sure g c =
-    let sure = subst (λ (n : ℕ). IfOk c.write_text.result (λ sure. sure ≡ sure_count (foresees c.self.inside.foresight.outlook) n)) (sym c.self.invariant.all) c.write_text.ensures.sure in
-    subst (λ (f : ForecastState). IfOk c.write_text.result (λ sure. sure ≡ sure_count (foresees f.outlook) f.packets)) c.self.view_is sure
+returns-clause-sure g c = subst (λ (f : ForecastState). IfOk c.write_text.result (λ sure. sure ≡ sure_count (foresees f.outlook) f.packets)) c.self.view_is c.write_text.ensures.sure

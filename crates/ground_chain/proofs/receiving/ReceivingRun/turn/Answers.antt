@@ -1,11 +1,16 @@
-use Rattle.std.proofs.Common.{refl, ap, arith}
+use Rattle.std.proofs.Common.{[], ◌∷◌, refl, sym, ap, subst, arith}
 use Rattle.std.proofs.lemmas.Result.{err_from_is_err_and}
 use Rattle.desk_ports.proofs.Runs.{Ran-none}
+use Rattle.desk_ports.specs.Courses.{Outputs}
+use Rattle.desk_ports.specs.Turns.{Wrote}
 use Rattle.desk_ports.proofs.Steps.{AreReady-moved}
+use Rattle.desk_ports.proofs.Parts.{WroteFront-by, WroteWithin-one, put_all-one}
 use Rattle.packet_store.proofs.StoreTurns.{AfterStop-on, Advances-on, IsCutShort-on, Finishes-on, IsCutShort-end-on}
-use Rattle.ground_chain.specs.Receiving.{left_to_receive}
+use Rattle.packet_store.proofs.StoreParts.{AdvancesParts-on, IsCutWithin-on, IsCutWithin-end-on, StopsWithin-on}
+use Rattle.ground_chain.specs.Reception.{next_judged}
+use Rattle.ground_chain.specs.Receiving.{left_to_receive, parts_left}
 use Rattle.ground_chain.specs.declared.restored.Restored.{Restored}
-use Rattle.ground_chain.proofs.RestCourses.{IsDone-received, Owes-next, Reads-judged, Reads-passed}
+use Rattle.ground_chain.proofs.RestCourses.{EndsWithin-received, IsDone-received, Owes-next, Reads-judged, Reads-passed, ReadsParts-judged, ReadsParts-passed}
 use Rattle.ground_chain.proofs.receiving.ReceivingRun.turn.Goals as goal
 
 -- the store is not read on
@@ -27,7 +32,7 @@ returns-in_err-end-clause-turned g c = λ work owes.
     let s = c.args.self.now in
     let told = rw c.in_default.is at c.in_ok-taken.ensures in
     let p = err_from_is_err_and c.from_residual-in_err-end.result c.from_residual-in_err-end.ensures.1 in
-    rw (p.1, p.2) (IsCutShort-end-on s.reader (IsDone-received g.A.Account.texts s) owes.work_is told.ahead told.none told.at_end c.in_err-end.ensures.front)
+    rw (p.1, p.2) (IsCutShort-end-on s.reader (IsDone-received g.A.Account.texts s) owes.work_is told.ahead told.none told.at_end (WroteFront-by c.in_err-end.ensures.front))
 
 pub returns-in_default-clause-turned : goal.returns-in_default-clause-turned
 returns-in_default-clause-turned g c = λ work owes.
@@ -51,7 +56,7 @@ returns-in_err-arrive-clause-turned g c = λ work owes.
     let reads = Reads-judged g.A.Account.texts s t (meaning c.args.desk.now) (meaning c.next.new.desk) c.in-Some.taken told.some c.if-taken.true judges in
     let p = err_from_is_err_and c.from_residual-in_err-arrive.result c.from_residual-in_err-arrive.ensures.1 in
     let front = rw c.body-body.ensures at c.in_err-arrive.ensures.front in
-    rw (p.1, p.2) (IsCutShort-on reads owes.work_is front)
+    rw (p.1, p.2) (IsCutShort-on reads owes.work_is (WroteFront-by front))
 
 pub returns-in_ok-arrive-clause-turned : goal.returns-in_ok-arrive-clause-turned
 returns-in_ok-arrive-clause-turned g c = λ work owes.
@@ -77,3 +82,56 @@ returns-else-taken-clause-turned g c = λ work owes.
     let told = rw c.in-Some.is at c.in_ok-taken.ensures in
     let reads = Reads-passed texts s reader a b c.in-Some.taken told.some c.if-taken.false in
     Advances-on reads owes.work_is (Ran-none b) (Owes-next texts s (record s { reader = reader }) a b c.in-Some.taken work owes told.some (omega arith))
+
+-- ---- part by part
+
+pub returns-in_err-taken-clause-parts : goal.returns-in_err-taken-clause-parts
+returns-in_err-taken-clause-parts g c = λ parts_of owes.
+    let meaning = g.D.Desk.meaning in
+    let p = err_from_is_err_and c.from_residual.result c.from_residual.ensures.1 in
+    rw (p.1, p.2) (StopsWithin-on g.A.Account.texts.first parts_of (meaning c.args.desk.now) (meaning c.next.new.desk) c.in_err-taken.field-0.0)
+
+pub returns-in_err-end-clause-parts : goal.returns-in_err-end-clause-parts
+returns-in_err-end-clause-parts g c = λ parts_of owes.
+    let s = c.args.self.now in
+    let texts = g.A.Account.texts in
+    let told = rw c.in_default.is at c.in_ok-taken.ensures in
+    let front = c.in_err-end.ensures.front in
+    let p = err_from_is_err_and c.from_residual-in_err-end.result c.from_residual-in_err-end.ensures.1 in
+    rw (p.1, p.2) (IsCutWithin-end-on (parts_left texts s) s.reader refl owes told.ahead told.none told.at_end (record { stand = front.stand; wrote = front.wrote; within = EndsWithin-received texts s front.front }))
+
+pub returns-in_err-arrive-clause-parts : goal.returns-in_err-arrive-clause-parts
+returns-in_err-arrive-clause-parts g c = λ parts_of owes.
+    let s = c.args.self.now in
+    let t = record s { reader = c.next.new.self; judging = c.arrive.new.self } in
+    let meaning = g.D.Desk.meaning in
+    let told = rw c.in-Some.is at c.in_ok-taken.ensures in
+    let judges = rw c.body-body.ensures at c.arrive.ensures.judges in
+    let reads = ReadsParts-judged g.A.Account.texts s t (meaning c.args.desk.now) (meaning c.next.new.desk) c.in-Some.taken told.some c.if-taken.true judges in
+    let p = err_from_is_err_and c.from_residual-in_err-arrive.result c.from_residual-in_err-arrive.ensures.1 in
+    let front = rw c.body-body.ensures at c.in_err-arrive.ensures.front in
+    rw (p.1, p.2) (IsCutWithin-on reads owes (WroteWithin-one front))
+
+pub returns-in_ok-arrive-clause-parts : goal.returns-in_ok-arrive-clause-parts
+returns-in_ok-arrive-clause-parts g c = λ parts_of owes.
+    let s = c.args.self.now in
+    let t = record s { reader = c.next.new.self; judging = c.arrive.new.self } in
+    let texts = g.A.Account.texts in
+    let a = g.D.Desk.meaning c.args.desk.now in
+    let b = g.D.Desk.meaning c.next.new.desk in
+    let d = g.D.Desk.meaning c.arrive.new.desk in
+    let told = rw c.in-Some.is at c.in_ok-taken.ensures in
+    let judges = rw c.body-body.ensures at c.arrive.ensures.judges in
+    let reads = ReadsParts-judged texts s t a b c.in-Some.taken told.some c.if-taken.true judges in
+    let part = texts.parts (next_judged s.judging.reception c.in-Some.taken.count c.next.new.self.body) in
+    let wrote = rw c.body-body.ensures at c.in_ok-arrive.ensures.wrote in
+    AdvancesParts-on (part ∷ []) reads owes (subst (λ (o : Outputs). Wrote b d o) (sym (put_all-one part)) wrote) refl
+
+pub returns-else-taken-clause-parts : goal.returns-else-taken-clause-parts
+returns-else-taken-clause-parts g c = λ parts_of owes.
+    let s = c.args.self.now in
+    let a = g.D.Desk.meaning c.args.desk.now in
+    let b = g.D.Desk.meaning c.next.new.desk in
+    let told = rw c.in-Some.is at c.in_ok-taken.ensures in
+    let reads = ReadsParts-passed g.A.Account.texts s c.next.new.self a b c.in-Some.taken told.some c.if-taken.false in
+    AdvancesParts-on [] reads owes (Ran-none b) refl

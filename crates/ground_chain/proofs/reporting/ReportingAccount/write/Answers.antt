@@ -1,7 +1,7 @@
 use Rattle.std.proofs.Common.{[], false, ◌≡◌, true, refl, sym, ap, ◌∙◌, subst}
 use Rattle.desk_ports.specs.declared.desk.Outlet.TheVariants as outlet
 use Rattle.desk_ports.specs.Meanings.{Adds, AddsFront}
-use Rattle.desk_ports.specs.Turns.{WroteFront}
+use Rattle.desk_ports.specs.Parts.{WroteFrontBy}
 use Rattle.desk_ports.proofs.Runs.{Ran-notes, Ran-ready_out}
 use Rattle.desk_ports.proofs.Transfers.{OnErr-always}
 use Rattle.ground_chain.specs.declared.verdict.Verdict.{Verdict}
@@ -26,7 +26,7 @@ returns-in_err-write_rows-clause-front g c = λ judged verdict shows.
     let b = g.D.Desk.meaning c.write_rows.new.desk in
     let rows = ap verdict_rows (sym verdict) in
     let front = front_rows a b judged (subst (AddsFront a b outlet.Report) rows c.in_err-write_rows.ensures.front) in
-    OnErr-always c.from_residual.result (WroteFront a b (restored_texts.parts judged)) front
+    OnErr-always c.from_residual.result (WroteFrontBy outlet.Report a b (restored_texts.parts judged)) front
 
 pub returns-in_err-write_content-clause-front : goal.returns-in_err-write_content-clause-front
 returns-in_err-write_content-clause-front g c = λ judged verdict shows.
@@ -37,7 +37,7 @@ returns-in_err-write_content-clause-front g c = λ judged verdict shows.
     let kind : is_written_kind judged.verdict.kind ≡ true = ap (λ (v : Verdict). is_written_kind v.kind) verdict ∙ (sym c.is_written.ensures ∙ c.if-is_written.true) in
     let content = content_written judged c.args.decoder.now kind shows in
     let front = front_content a b d judged _ (subst (Adds a b outlet.Report) rows c.in_ok-write_rows.ensures.added) c.in_err-write_content.ensures.front content in
-    OnErr-always c.from_residual-in_err-write_content.result (WroteFront a d (restored_texts.parts judged)) front
+    OnErr-always c.from_residual-in_err-write_content.result (WroteFrontBy outlet.Report a d (restored_texts.parts judged)) front
 
 pub returns-else-is_written-clause-wrote : goal.returns-else-is_written-clause-wrote
 returns-else-is_written-clause-wrote g c = λ judged verdict shows.

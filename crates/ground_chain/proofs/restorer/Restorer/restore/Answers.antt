@@ -4,6 +4,9 @@ use Rattle.desk_ports.specs.declared.desk.Outlet.TheVariants as outlet
 use Rattle.desk_ports.specs.Meanings.{Meanings, Adds, AddsFront, Counts}
 use Rattle.desk_ports.specs.Courses.{AfterRun, HasCause, IsCutShort, by_stop, to_report}
 use Rattle.desk_ports.specs.Turns.{Reaches, Steps}
+use Rattle.desk_ports.specs.Parts.{InParts, IsCutWithin}
+use Rattle.desk_ports.proofs.Parts.{InParts-after, IsCutWithin-wrote, ReachesParts-wrote, WroteFrontBy-report}
+use Rattle.packet_store.specs.StoreWorks.{parts_on}
 use Rattle.desk_ports.proofs.Runs.{Ran-notes}
 use Rattle.desk_ports.proofs.Steps.{AfterRun-after, IsCutShort-wrote, Reaches-wrote, WroteFront-report}
 use Rattle.mask_update.specs.Histories.{History}
@@ -13,10 +16,10 @@ use Rattle.ground_chain.specs.declared.receiving.Receiving.{Receiving}
 use Rattle.ground_chain.specs.declared.reporting.Reporting.{Reporting}
 use Rattle.ground_chain.specs.Deliveries.{IsDelivered, IsPlayed}
 use Rattle.ground_chain.specs.Report.{header_row}
-use Rattle.ground_chain.specs.Restoring.{RestorerState, restore_course, restore_work, restored_texts, stop_by}
-use Rattle.ground_chain.specs.Receiving.{IsUnread, receiving_state, rest_work}
+use Rattle.ground_chain.specs.Restoring.{RestorerState, restore_course, restore_parts, restore_work, restored_texts, stop_by}
+use Rattle.ground_chain.specs.Receiving.{IsUnread, parts_left, receiving_state, rest_work}
 use Rattle.ground_chain.proofs.DeliveredRuns.{IsDelivered-done, IsOk-run}
-use Rattle.ground_chain.proofs.RestCourses.{Owes-unread, Steps-unread, restore_course-is}
+use Rattle.ground_chain.proofs.RestCourses.{Owes-unread, Steps-unread, restore_course-is, restore_parts-unread}
 use Rattle.ground_chain.proofs.restorer.Restorer.restore.Goals as goal
 
 unread : (s : Receiving Reporting) → IsUnread s → Steps (restore_work (receiving_state s).places (receiving_state s).apid) (rest_work restored_texts s) [] (to_report header_row)
@@ -49,6 +52,32 @@ returns-clause-ran g c =
     let k = receiving_state s in
     let ran = c.drive.ensures.ran (rest_work restored_texts s) (Owes-unread restored_texts s c.self.invariant) in
     subst (λ (r : RestorerState). AfterRun (restore_work r.places r.apid) a d (by_stop stop_by c.drive.result)) c.self.view_is (AfterRun-after (restore_work k.places k.apid) (rest_work restored_texts s) a b d (by_stop stop_by c.drive.result) (header s a b c.as_bytes.result.now c.self.invariant c.as_bytes.ensures.value c.in_ok-write_all.ensures.added) ran)
+
+-- ---- the order
+
+pub returns-in_err-write_all-clause-order : goal.returns-in_err-write_all-clause-order
+returns-in_err-write_all-clause-order g c =
+    let a = g.D.Desk.meaning c.args.desk.now in
+    let b = g.D.Desk.meaning c.write_all.new.desk in
+    let s = c.self.inside.receiving in
+    let k = receiving_state s in
+    let front = WroteFrontBy-report a b header_row (subst (AddsFront a b outlet.Report) c.as_bytes.ensures.value c.in_err-write_all.ensures.front) in
+    let cut = IsCutWithin-wrote outlet.Report (restore_parts k.places k.apid) (parts_on (parts_left restored_texts s) s.reader) a b (to_report header_row) (restore_parts-unread s c.self.invariant) front in
+    let p = err_from_is_err_and c.from_residual.result c.from_residual.ensures.1 in
+    rw (p.1, p.2) (subst (λ (r : RestorerState). IsCutWithin outlet.Report (restore_parts r.places r.apid) a b) c.self.view_is cut)
+
+pub returns-clause-order : goal.returns-clause-order
+returns-clause-order g c =
+    let a = g.D.Desk.meaning c.args.desk.now in
+    let b = g.D.Desk.meaning c.write_all.new.desk in
+    let d = g.D.Desk.meaning c.drive.new.desk in
+    let s = c.self.inside.receiving in
+    let k = receiving_state s in
+    let here = parts_on (parts_left restored_texts s) s.reader in
+    let wrote = Ran-notes a b header_row (subst (Adds a b outlet.Report) c.as_bytes.ensures.value c.in_ok-write_all.ensures.added) in
+    let reached = ReachesParts-wrote (restore_parts k.places k.apid) here a b (to_report header_row) (restore_parts-unread s c.self.invariant) wrote in
+    subst (λ (r : RestorerState). InParts outlet.Report (restore_parts r.places r.apid) a d (by_stop stop_by c.drive.result)) c.self.view_is
+    (InParts-after outlet.Report (restore_parts k.places k.apid) here a b d (by_stop stop_by c.drive.result) reached (c.drive.ensures.parts here refl))
 
 delivered : (f apid : ℕ) (h : History) (copies : ℕ → ℕ) (a b : Meanings) (result : Result Restored RestoreFault) → IsPlayed f apid h copies a → AfterRun (restore_work f apid) a b (by_stop stop_by result)
     → IfOk result (λ restored. IsDelivered h copies restored a b)

@@ -1,17 +1,20 @@
-use Rattle.std.proofs.Common.{◌≡◌, ℕ, List, subst}
+use Rattle.std.proofs.Common.{◌≡◌, ℕ, List, refl, subst}
 use Rattle.std.proofs.lemmas.Result.{err_from_is_err_and}
 use Rattle.desk_ports.specs.declared.desk.Outlet.TheVariants as outlet
 use Rattle.desk_ports.specs.Meanings.{Meanings, Adds, AddsFront, Counts}
 use Rattle.desk_ports.specs.Courses.{AfterRun, HasCause, IsCutShort, by_stop, to_report}
 use Rattle.desk_ports.specs.Turns.{Reaches}
+use Rattle.desk_ports.specs.Parts.{InParts, IsCutWithin}
+use Rattle.desk_ports.proofs.Parts.{InParts-after, IsCutWithin-wrote, ReachesParts-wrote, WroteFrontBy-report}
+use Rattle.packet_store.specs.StoreWorks.{parts_on}
 use Rattle.desk_ports.proofs.Runs.{Ran-notes}
 use Rattle.desk_ports.proofs.Steps.{AfterRun-after, IsCutShort-wrote, Reaches-wrote, WroteFront-report}
 use Rattle.ground_chain.specs.Report.{header_row}
 use Rattle.ground_chain.specs.Restoring.{stop_by}
 use Rattle.late_window.specs.declared.run.LateRun.{LateRun}
-use Rattle.late_window.specs.Restoring.{IsUnread, LateState, late_course, late_state, late_work, rest_work}
+use Rattle.late_window.specs.Restoring.{IsUnread, LateState, late_course, late_parts, late_state, late_work, parts_to_sort, rest_work}
 use Rattle.late_window.proofs.Delivered.{IsLateDelivered-run, IsOk-run}
-use Rattle.late_window.proofs.Wholes.{Owes-unread, Steps-unread}
+use Rattle.late_window.proofs.Wholes.{Owes-unread, Steps-unread, late_parts-unread}
 use Rattle.late_window.proofs.restorer.LateRestorer.restore.Goals as goal
 
 pub returns-in_err-write_all-clause-ran : goal.returns-in_err-write_all-clause-ran
@@ -41,6 +44,32 @@ returns-clause-ran g c =
     let k = late_state r in
     let ran = c.drive.ensures.ran (rest_work r) (Owes-unread r c.self.invariant) in
     subst (λ (s : LateState). AfterRun (late_work s.places s.apid s.window) a d (by_stop stop_by c.drive.result)) c.self.view_is (AfterRun-after (late_work k.places k.apid k.window) (rest_work r) a b d (by_stop stop_by c.drive.result) (header r a b c.as_bytes.result.now c.self.invariant c.as_bytes.ensures.value c.in_ok-write_all.ensures.added) ran)
+
+-- ---- the order
+
+pub returns-in_err-write_all-clause-order : goal.returns-in_err-write_all-clause-order
+returns-in_err-write_all-clause-order g c =
+    let a = g.D.Desk.meaning c.args.desk.now in
+    let b = g.D.Desk.meaning c.write_all.new.desk in
+    let r = c.self.inside.run in
+    let k = late_state r in
+    let front = WroteFrontBy-report a b header_row (subst (AddsFront a b outlet.Report) c.as_bytes.ensures.value c.in_err-write_all.ensures.front) in
+    let cut = IsCutWithin-wrote outlet.Report (late_parts k.places k.apid k.window) (parts_on (parts_to_sort r) r.reader) a b (to_report header_row) (late_parts-unread r c.self.invariant) front in
+    let p = err_from_is_err_and c.from_residual.result c.from_residual.ensures.1 in
+    rw (p.1, p.2) (subst (λ (s : LateState). IsCutWithin outlet.Report (late_parts s.places s.apid s.window) a b) c.self.view_is cut)
+
+pub returns-clause-order : goal.returns-clause-order
+returns-clause-order g c =
+    let a = g.D.Desk.meaning c.args.desk.now in
+    let b = g.D.Desk.meaning c.write_all.new.desk in
+    let d = g.D.Desk.meaning c.drive.new.desk in
+    let r = c.self.inside.run in
+    let k = late_state r in
+    let here = parts_on (parts_to_sort r) r.reader in
+    let wrote = Ran-notes a b header_row (subst (Adds a b outlet.Report) c.as_bytes.ensures.value c.in_ok-write_all.ensures.added) in
+    let reached = ReachesParts-wrote (late_parts k.places k.apid k.window) here a b (to_report header_row) (late_parts-unread r c.self.invariant) wrote in
+    subst (λ (s : LateState). InParts outlet.Report (late_parts s.places s.apid s.window) a d (by_stop stop_by c.drive.result)) c.self.view_is
+    (InParts-after outlet.Report (late_parts k.places k.apid k.window) here a b d (by_stop stop_by c.drive.result) reached (c.drive.ensures.parts here refl))
 
 pub returns-clause-headline : goal.returns-clause-headline
 returns-clause-headline g c = λ h copies played.

@@ -16,7 +16,7 @@ invariant_of-self c =
     record {
       most = c.self.invariant.most;
       places = c.hold.ensures.places ∙ c.self.invariant.places;
-      room = omega (arith, c.hold.ensures.room, c.hold.ensures.places, c.self.invariant.places);
+      taken = c.hold.ensures.room ∙ c.self.invariant.taken;
       within = omega (arith, size, window, front, c.requires.room);
       rising = subst AreRising (sym c.hold.ensures.held) (AreRising-placed a (take held places) c.self.invariant.rising);
     }

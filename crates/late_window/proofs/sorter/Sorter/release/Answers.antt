@@ -16,7 +16,7 @@ invariant_of-self c =
     record {
       most = c.self.invariant.most;
       places = size ∙ c.self.invariant.places;
-      room = omega (arith, c.rotate_left.ensures.capacity, c.self.invariant.room);
+      taken = c.rotate_left.ensures.capacity ∙ c.self.invariant.taken;
       within = omega arith;
       rising = subst (λ (l : List Numbered). AreRising (take (held - 1) l)) (sym c.rotate_left.ensures.items) (AreRising-rotated places held some (omega (arith, c.self.invariant.within, c.self.invariant.places)) c.self.invariant.rising);
     }

@@ -8,14 +8,14 @@ returns-clause-counts c =
     let s = c.args.self.now in
     record {
       reader_is = refl;
-      script_is = refl;
-      packets = tally_packets (copies_of s.script) s.tally c.count.new.self c.times-copies.result c.requires.counted.counted c.times-copies.ensures.copies c.count.ensures.counted;
+      script_is = c.at-copies.ensures.same;
+      packets = tally_packets (copies_of s.script) s.tally c.count.new.self c.at-copies.result c.requires.counted.counted c.at-copies.ensures.copies c.count.ensures.counted;
     }
 
 pub returns-clause-counted : goal.returns-clause-counted
 returns-clause-counted c =
     let s = c.args.self.now in
-    record {
-      counted = tally_counted (copies_of s.script) s.tally c.count.new.self c.times-copies.result c.requires.counted.counted c.times-copies.ensures.copies c.count.ensures.counted;
+    rw c.at-copies.ensures.same (record {
+      counted = tally_counted (copies_of s.script) s.tally c.count.new.self c.at-copies.result c.requires.counted.counted c.at-copies.ensures.copies c.count.ensures.counted;
       right = c.count.ensures.right;
-    }
+    })

@@ -70,7 +70,7 @@ invariant_of-self c =
 
 pub returns : goal.returns
 returns c =
-    let new : Running = record { previous = c.set_word.new.self; build = c.set_word-2.new.self; mask = c.set_word-3.new.self; change = c.set_word-4.new.self; taken = c.self.inside.taken } in
+    let new : Running = record { previous = c.set_word.new.self; build = c.set_word-2.new.self; mask = c.set_word-3.new.self; change = c.set_word-4.new.self; again = c.self.inside.again; taken = c.self.inside.taken } in
     let fresh = bit_and c.args.moved (bit_not w64 c.word-mask.result) in
     subst (λ (old : Running). HaveMoved (in_word c.args.index c.args.moved) old new) c.self.view_is (record {
       previous = word_written bit_xor _ Bitwise-xor c.args.index c.word.result c.args.moved (omega arith) c.self.inside.previous c.set_word.new.self xor_none c.word.ensures c.set_word.ensures.word c.set_word.ensures.others;

@@ -3,4 +3,4 @@ use Rattle.mask_update.proofs.Standing.{StandsFor-none}
 use Rattle.mask_update.proofs.masks.Masks.open.Goals as goal
 
 pub returns-clause-stands : goal.returns-clause-stands
-returns-clause-stands c = StandsFor-none c.args.mask.now _ (search rules) (search rules) (search rules) (search rules)
+returns-clause-stands c = StandsFor-none c.args.mask.now _ (search rules) (search rules) (search rules) (search rules) (search rules)

@@ -25,7 +25,10 @@ returns-clause-stands c = λ h s stands input new_mask.
           (ap (λ (v : Running). v.mask) same ∙ w.advance-again.ensures.mask
           ∙ ap (λ b. next_mask b (xor_bits c.args.self.now.previous c.args.input.now) c.args.self.now.build c.args.self.now.mask) (sym new_mask)
           ∙ ap (λ v. next_mask s.flags.p v c.args.self.now.build c.args.self.now.mask) moved)
-          (ap (λ (v : Running). v.change) same ∙ w.advance-again.ensures.change ∙ ap (λ (v : Running). xor_bits c.args.self.now.mask v.mask) (sym same))
+          (ap (λ (v : Running). v.change) same ∙ w.advance-again.ensures.change ∙ ap (λ (v : Running). xor_bits c.args.self.now.mask v.mask) (sym same)) (
+            λ told. let comes = w.advance-again.ensures.again.0 (sym w.again-is ∙ told) in (new_mask ∙ comes.0, comes.1 ∙ sym input),
+            λ comes. w.again-is ∙ w.advance-again.ensures.again.1 (sym new_mask ∙ comes.0, comes.1 ∙ input),
+          )
           (ap (λ (v : Running). v.taken + 1) same ∙ ap (λ n. n + 1) w.advance-again.ensures.taken)
       | else-self-gt0 w ↦
           let same = c.self-2.view_is ∙ w.self-is in
@@ -35,6 +38,7 @@ returns-clause-stands c = λ h s stands input new_mask.
           (ap (λ (v : Running). v.build) same ∙ ap (λ (v : Running). v.build) c.self.view_is)
           (ap (λ (v : Running). v.mask) same ∙ ap (λ (v : Running). v.mask) c.self.view_is)
           (ap (λ (v : Running). v.change) same ∙ ap (λ (v : Running). v.change) c.self.view_is)
+          w.again-is
           (omega arith)
     ]
 

@@ -3,4 +3,4 @@ use Rattle.std.proofs.lemmas.List.{drop_all}
 use Rattle.param_table.proofs.line.Line.clear.Goals as goal
 
 pub returns : goal.returns
-returns c = drop_all 8481 c.self.inside.bytes.items (omega (arith, c.self.invariant.1))
+returns c = drop_all 8481 c.self.inside.bytes.items (omega (arith, c.self.invariant.whole))

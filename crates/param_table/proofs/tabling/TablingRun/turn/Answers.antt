@@ -1,16 +1,21 @@
-use Rattle.std.proofs.Common.{ℕ, List, refl, ap, ◌+◌, length, subst, ◌∙◌}
+use Rattle.std.proofs.Common.{ℕ, List, [], ◌∷◌, refl, sym, ap, ◌+◌, length, subst, ◌∙◌}
 use Rattle.std.proofs.lemmas.Result.{err_from_is_err_and}
 use Rattle.desk_ports.specs.declared.desk.Outlet.TheVariants as outlet
 use Rattle.desk_ports.proofs.Runs.{Ran-notes}
 use Rattle.desk_ports.proofs.Steps.{AreReady-moved, WroteFront-report}
 use Rattle.flight_chain.proofs.RecordTurns.{Advances-on, Finishes-on, IsCutShort-on, IsCutShort-end-on}
-use Rattle.desk_ports.specs.Turns.{Wrote, WroteFront}
-use Rattle.flight_chain.specs.RecordWorks.{work_on}
+use Rattle.desk_ports.specs.Turns.{Wrote}
+use Rattle.desk_ports.specs.Courses.{Outputs}
+use Rattle.desk_ports.specs.Parts.{WroteFrontBy, WroteWithin}
+use Rattle.desk_ports.proofs.Parts.{WroteFront-by, WroteWithin-one, put_all-one}
+use Rattle.flight_chain.proofs.RecordParts.{AdvancesParts-on, IsCutWithin-on, IsCutWithin-end-on}
+use Rattle.flight_chain.specs.RecordWorks.{parts_on, work_on}
 use Rattle.param_table.specs.declared.rows.Column.{Column}
 use Rattle.param_table.specs.declared.tabling.Tabling.{Tabling}
-use Rattle.param_table.specs.Tabling.{Owes, left_to_tabulate, packet_texts}
+use Rattle.param_table.specs.Tabling.{Owes, left_to_tabulate, packet_texts, parts_left}
 use Rattle.param_table.specs.Texts.{end_row, packet_violations}
-use Rattle.param_table.proofs.TableCourses.{AfterStop-table, IsDone-table, Owes-next, ReadsInput-table}
+use Rattle.param_table.proofs.TableCourses.{AfterStop-table, IsDone-table, Owes-next, ReadsInput-table, ReadsParts-table, StopsWithin-table, last-table}
+use Rattle.param_table.proofs.Writings.{WroteFrontBy-rows}
 use Rattle.param_table.proofs.tabling.TablingRun.turn.Goals as goal
 
 -- the recording is not read on
@@ -64,9 +69,9 @@ returns-in_err-self-clause-turned g c = λ work owes.
     let packet = c.read_input.new.input in
     let told = rw c.in-Some.is at c.in_ok-t.ensures in
     let reads = ReadsInput-table s c.in-Some.t c.read_input.new.ahead a b packet told.number told.taken in
-    let front = subst (λ (columns : List Column). WroteFront b d (packet_texts columns (c.in-Some.t, packet))) c.columns-columns.ensures c.in_err-self.ensures.front in
+    let front = subst (λ (columns : List Column). WroteFrontBy outlet.Main b d (packet_texts columns (c.in-Some.t, packet))) c.columns-columns.ensures c.in_err-self.ensures.front in
     let p = err_from_is_err_and c.from_residual-in_err-self.result c.from_residual-in_err-self.ensures.1 in
-    rw (p.1, p.2) (IsCutShort-on reads owes.work_is front)
+    rw (p.1, p.2) (IsCutShort-on reads owes.work_is (WroteFront-by front))
 
 pub returns-clause-turned : goal.returns-clause-turned
 returns-clause-turned g c = λ work owes.
@@ -83,3 +88,51 @@ returns-clause-turned g c = λ work owes.
     let new : Tabling = record { fields = s.fields; taken = s.taken + 1; found = s.found + c.in_ok-self.field-0; ahead = after; packet = packet; line = c.write_packet.new.line } in
     let owed = Owes-next s new packet after c.in_ok-self.field-0 owes.right told.taken.few c.in_ok-self.ensures.few told.taken.places refl refl refl refl refl in
     Advances-on reads owes.work_is wrote (subst (λ (n : ℕ). Owes new (work_on (left_to_tabulate s.fields (s.taken + 1) (s.found + n)) (length s.packet) (s.taken + 1) after)) count owed)
+
+-- ---- part by part
+
+pub returns-in_err-t-clause-parts : goal.returns-in_err-t-clause-parts
+returns-in_err-t-clause-parts g c = λ parts_of owes.
+    let a = g.D.Desk.meaning c.args.desk.now in
+    let b = g.D.Desk.meaning c.read_input.new.desk in
+    let p = err_from_is_err_and c.from_residual.result c.from_residual.ensures.1 in
+    rw (p.1, p.2) (StopsWithin-table parts_of a b c.in_err-t.field-0.0)
+
+pub returns-in_err-write_end-clause-parts : goal.returns-in_err-write_end-clause-parts
+returns-in_err-write_end-clause-parts g c = λ parts_of owes.
+    let s = c.args.self.now in
+    let b = g.D.Desk.meaning c.read_input.new.desk in
+    let d = g.D.Desk.meaning c.write_end.new.desk in
+    let told = rw c.in_default.is at c.in_ok-t.ensures in
+    let p = err_from_is_err_and c.from_residual-in_err-write_end.result c.from_residual-in_err-write_end.ensures.1 in
+    let cut = subst (λ (l : List Outputs). WroteWithin outlet.Main b d l) (sym (last-table s.fields s.taken s.found)) (WroteWithin-one (WroteFrontBy-rows b d (end_row s.taken s.found) c.in_err-write_end.ensures.front)) in
+    rw (p.1, p.2) (IsCutWithin-end-on (parts_left s.fields s.taken s.found) (length s.packet) s.taken refl owes told.ahead told.none told.at_end cut)
+
+pub returns-in_err-self-clause-parts : goal.returns-in_err-self-clause-parts
+returns-in_err-self-clause-parts g c = λ parts_of owes.
+    let s = c.args.self.now in
+    let a = g.D.Desk.meaning c.args.desk.now in
+    let b = g.D.Desk.meaning c.read_input.new.desk in
+    let d = g.D.Desk.meaning c.write_packet.new.desk in
+    let packet = c.read_input.new.input in
+    let told = rw c.in-Some.is at c.in_ok-t.ensures in
+    let reads = ReadsParts-table s c.in-Some.t c.read_input.new.ahead a b packet told.number told.taken in
+    let front = subst (λ (columns : List Column). WroteFrontBy outlet.Main b d (packet_texts columns (c.in-Some.t, packet))) c.columns-columns.ensures c.in_err-self.ensures.front in
+    let p = err_from_is_err_and c.from_residual-in_err-self.result c.from_residual-in_err-self.ensures.1 in
+    rw (p.1, p.2) (IsCutWithin-on reads owes (WroteWithin-one front))
+
+pub returns-clause-parts : goal.returns-clause-parts
+returns-clause-parts g c = λ parts_of owes.
+    let s = c.args.self.now in
+    let a = g.D.Desk.meaning c.args.desk.now in
+    let b = g.D.Desk.meaning c.read_input.new.desk in
+    let d = g.D.Desk.meaning c.write_packet.new.desk in
+    let packet = c.read_input.new.input in
+    let after = c.read_input.new.ahead in
+    let told = rw c.in-Some.is at c.in_ok-t.ensures in
+    let reads = ReadsParts-table s c.in-Some.t after a b packet told.number told.taken in
+    let wrote = subst (λ (columns : List Column). Wrote b d (packet_texts columns (c.in-Some.t, packet))) c.columns-columns.ensures c.in_ok-self.ensures.wrote in
+    let count = c.in_ok-self.ensures.found ∙ ap (λ (columns : List Column). length (packet_violations columns (c.in-Some.t, packet))) c.columns-columns.ensures in
+    let part = packet_texts s.fields (c.in-Some.t, packet) in
+    let places = told.taken.places in
+    AdvancesParts-on (part ∷ []) reads owes (subst (λ (o : Outputs). Wrote b d o) (sym (put_all-one part)) wrote) (λ i. parts_on (parts_left s.fields (s.taken + 1) (s.found + sym count i)) (sym places i) (s.taken + 1) after)

@@ -92,6 +92,7 @@ forecast_made words text old new forecast name named rows read =
       record {
         text = e.text;
         told = e.told;
+        within = e.within;
         after = (e.after.0, record { owes = ap (λ forecast. job_course (job.Forecast forecast)) e.after.1; reads = refl; reports = refl; is = e.after.2 });
       },
     )

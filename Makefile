@@ -1,0 +1,64 @@
+# make lib: libpocket.a, libpocket.so and pocket.pc, in the folder build. It takes the proved library crates/pocket_c/out/libpocket_c.a,
+# which the toolchain's `rt lib` makes in crates/pocket_c, and the toolchain's heap, c/liblibc_c.a in the folder KIT.
+# make lib TARGET=aarch64-linux-gnu, or riscv64-linux-gnu: the library for another processor (library/targets.mk).
+# make install: the header, the libraries, the Python module, and the program with its manual page and completions if
+# crates/pocket/out/pocket is there; make install-program: the program alone.
+# make deb: a Debian package of the program, in the folder build.
+PREFIX = /usr/local
+DESTDIR =
+BUILD = build
+KIT = $(shell dirname "$$(dirname "$$(readlink -f "$$(command -v rt)")")")
+PROVED = crates/pocket_c/out/libpocket_c.a
+PROGRAM = crates/pocket/out/pocket
+HEAP = $(KIT)/c/liblibc_c.a
+VERSION = $(shell sed -n 's/^const VERSION: &str = "pocket \(.*\)";/\1/p' crates/pocket/src/main.rt)
+PYTHON = $(shell python3 -c 'import sys; print("python%d.%d" % sys.version_info[:2])')
+PLACE = $(DESTDIR)$(PREFIX)
+
+ifdef TARGET
+include library/targets.mk
+else
+lib: $(BUILD)/libpocket.a $(BUILD)/libpocket.so $(BUILD)/pocket.pc
+endif
+
+$(PROVED):
+	@command -v rt > /dev/null || { echo "make lib needs the toolchain's rt on the path, or $(PROVED)"; exit 1; }
+	cd crates/pocket_c && rt lib
+
+$(HEAP):
+	@echo "make lib needs the toolchain's heap: $(HEAP) is not there; put rt on the path, or name its folder by KIT="; exit 1
+
+$(BUILD)/libpocket.a: $(PROVED) $(HEAP)
+	mkdir -p $(BUILD) && rm -f $@ && cp $(PROVED) $@
+	cd $(BUILD) && ar x $(HEAP) heap.pic.o && ar rs libpocket.a heap.pic.o && rm heap.pic.o
+
+$(BUILD)/libpocket.so: $(BUILD)/libpocket.a library/pocket.map
+	$(CC) -shared -Wl,-soname,libpocket.so -Wl,--version-script,library/pocket.map -o $@ -Wl,--whole-archive $< -Wl,--no-whole-archive
+
+$(BUILD)/pocket.pc: library/pocket.pc.in
+	mkdir -p $(BUILD) && sed 's|@PREFIX@|$(PREFIX)|; s|@VERSION@|$(VERSION)|' $< > $@
+
+install: lib
+	install -D -m 644 library/pocket.h $(PLACE)/include/pocket.h
+	install -D -m 644 $(BUILD)/libpocket.a $(PLACE)/lib/libpocket.a
+	install -D -m 755 $(BUILD)/libpocket.so $(PLACE)/lib/libpocket.so
+	install -D -m 644 $(BUILD)/pocket.pc $(PLACE)/lib/pkgconfig/pocket.pc
+	install -D -m 644 -t $(PLACE)/lib/$(PYTHON)/site-packages/pocket library/python/pocket/*.py
+	if [ -f $(PROGRAM) ]; then $(MAKE) --no-print-directory install-program; fi
+
+install-program:
+	install -D -m 755 $(PROGRAM) $(PLACE)/bin/pocket
+	install -D -m 644 docs/pocket.1 $(PLACE)/share/man/man1/pocket.1
+	install -D -m 644 completions/pocket.bash $(PLACE)/share/bash-completion/completions/pocket
+	install -D -m 644 completions/_pocket $(PLACE)/share/zsh/vendor-completions/_pocket
+
+deb:
+	packaging/deb.sh $(PROGRAM) $(BUILD)
+
+test: lib
+	python3 .ci/library.py $(dir $(PROVED)) $(PROGRAM)
+
+clean:
+	rm -rf $(BUILD)
+
+.PHONY: lib install install-program deb test clean

@@ -1,0 +1,16 @@
+//! Both ends of a link, call by call: a sender that makes the packet of each input, and a receiver that judges each packet
+//! that arrives. Every argument is answered.
+#![tactic(auto)]
+
+mod fault;
+mod laws;
+mod receiver;
+mod sender;
+
+pub use fault::{OpenFault, ReceiveFault, SendFault};
+pub use laws::{
+    deliveries_are_received, sent_inputs_are_received, sent_packets_are_stored,
+    vectors_are_their_bytes, verdicts_are_those_of_restoring,
+};
+pub use receiver::Receiver;
+pub use sender::{Sender, Sent};

@@ -1,0 +1,213 @@
+//! The sending end.
+
+ghost use Rattle.std.specs.Prelude.{◌≡◌, ℕ, ◌+◌, ◌^◌, ◌<◌, ◌≤◌, ◌↔◌, ◌⊎◌, Err, length, drop, take, IfOk, IsOk, IsTrue, OnOk, OnErr};
+ghost use Rattle.bit_vectors.specs.Vectors.{byte_count};
+ghost use Rattle.mask_update.specs.Histories.{History, no_steps};
+ghost use Rattle.packet_encode.specs.Encoder.{StandsFor};
+ghost use Rattle.packet_encode.specs.Packets.{with_next_input};
+ghost use Rattle.robust_window.specs.Histories.{level_at};
+ghost use Rattle.flight_chain.specs.Stores.{data_at};
+ghost use Rattle.packet_calls.specs.Sending.{Fits, HasSpareBit, MaskFits, MaskHasSpareBit, first_mask, given, room_bits, room_bytes, vector_in};
+
+use crate::fault::{OpenFault, SendFault};
+use bit_vectors::{BitPen, Bits, Flags, byte_len};
+use packet_encode::{Encoder, room};
+use std::alloc::Global;
+use std::marker::Model;
+
+/// The greatest required robustness.
+const MOST_ROBUST: u8 = 7;
+
+/// The most packets that a sender makes.
+const MOST_PACKETS: u64 = 4294967296;
+
+/// What was sent.
+#[derive(Clone, Copy, Debug, PartialEq, Eq)]
+pub struct Sent {
+    /// The number of data bytes of the packet.
+    pub len: usize,
+    /// Its effective robustness level, from 0 to 15.
+    pub level: u8,
+}
+
+/// Makes the packet of each input (CCSDS 124.0-B-1). Contracts see the running vectors and the latest changes, say which
+/// histories they stand for, and see the room for a packet's bits, which is taken once.
+#[derive(Debug, Drop)]
+pub struct Sender {
+    encoder: Encoder,
+    input: Bits,
+    pen: BitPen,
+}
+
+impl Model for Sender {
+    ghost use Rattle.packet_calls.specs.Sending.{IsSender, SenderState};
+
+    ghost Value = { SenderState };
+
+    ghost view = { λ s. record { encoder = s.encoder; room = s.pen.room } };
+
+    ghost invariant = { λ s. IsSender s.encoder s.input s.pen };
+}
+
+impl Sender {
+    /// Starts with 1 to 49,152 places, and with the mask that these bytes spell, or one of zeros. Takes all memory that later
+    /// calls need.
+    pub fn open(alloc: Global, places: u32, mask: Option<&[u8]>) -> Result<Sender, OpenFault>
+        ensures stands { IfOk result
+            (λ sender. StandsFor (no_steps (first_mask places (given mask.entry))) sender.encoder) }
+        ensures places { IfOk result (λ sender. length sender.encoder.masks.mask ≡ places) }
+        ensures taken { IfOk result (λ sender. sender.encoder.masks.taken ≡ 0) }
+        ensures room { IfOk result (λ sender. sender.room ≡ room_bits places) }
+        ensures bad_places { (result ≡ Err OpenFault.Places) ↔ ((places ≡ 0) ⊎ (49152 < places)) }
+        ensures misfit { (result ≡ Err OpenFault.MaskLength)
+            ↔ ((1 ≤ places) × (places ≤ 49152) × (MaskFits places (given mask.entry) → ⊥)) }
+        // A spare bit is looked at after the memory for the mask was found.
+        ensures spared { result ≡ Err OpenFault.MaskSpareBit
+            → (1 ≤ places) × (places ≤ 49152) × MaskFits places (given mask.entry)
+            × MaskHasSpareBit places (given mask.entry) }
+        ensures right { IsOk result → MaskFits places (given mask.entry)
+            × (MaskHasSpareBit places (given mask.entry) → ⊥) }
+    {
+        if places == 0 || places > 49152 {
+            return Err(OpenFault::Places);
+        }
+        if !mask_fits(places, mask) {
+            return Err(OpenFault::MaskLength);
+        }
+        let mut input = Bits::zeros(alloc, places)?;
+        if let Some(mask) = mask {
+            if input.load(mask).is_err() {
+                return Err(OpenFault::MaskSpareBit);
+            }
+        }
+        let encoder = Encoder::open(alloc, places, &input)?;
+        let pen = BitPen::with_room(alloc, room(places))?;
+        Ok(Sender {
+            encoder,
+            input,
+            pen,
+        })
+    }
+
+    /// Takes the next input, its flags and its required robustness, at most 7, and writes its packet into the first bytes of
+    /// `out`. It takes no memory.
+    pub fn send(
+        &mut self,
+        input: &[u8],
+        flags: Flags,
+        robust: u8,
+        out: &mut [u8],
+    ) -> Result<Sent, SendFault>
+        ensures taken { let f = length self.old.encoder.masks.mask in
+            IsOk result ↔ (Fits f input.now × (HasSpareBit f input.now → ⊥) × (robust ≤ 7)
+            × (room_bytes f ≤ length out.old) × (self.old.encoder.masks.taken < 2 ^ 32)) }
+        ensures misfit { (result ≡ Err SendFault.InputLength)
+            ↔ (Fits (length self.old.encoder.masks.mask) input.now → ⊥) }
+        ensures spare { let f = length self.old.encoder.masks.mask in
+            (result ≡ Err SendFault.SpareBit) ↔ (Fits f input.now × HasSpareBit f input.now) }
+        ensures robust { let f = length self.old.encoder.masks.mask in
+            (result ≡ Err SendFault.Robust)
+            ↔ (Fits f input.now × (HasSpareBit f input.now → ⊥) × (7 < robust)) }
+        ensures no_room { let f = length self.old.encoder.masks.mask in
+            (result ≡ Err SendFault.NoRoom)
+            ↔ (Fits f input.now × (HasSpareBit f input.now → ⊥) × (robust ≤ 7)
+            × (length out.old < room_bytes f)) }
+        ensures too_many { let f = length self.old.encoder.masks.mask in
+            (result ≡ Err SendFault.TooMany)
+            ↔ (Fits f input.now × (HasSpareBit f input.now → ⊥) × (robust ≤ 7)
+            × (room_bytes f ≤ length out.old) × (2 ^ 32 ≤ self.old.encoder.masks.taken)) }
+        ensures unchanged { OnErr result (self.new ≡ self.old) }
+        ensures untouched { OnErr result (out.new ≡ out.old) }
+        // If it stood for some history, it now stands for that history with this input, these flags, after forcing, and
+        // this required robustness added.
+        ensures stands { OnOk result ((h : History) → StandsFor h self.old.encoder
+            → StandsFor (with_next_input h robust
+            (vector_in (length self.old.encoder.masks.mask) input.now) flags) self.new.encoder) }
+        // The packet is that of the history's last step, and is followed by what stood in the room.
+        ensures packet { IfOk result (λ sent. (h : History) → StandsFor h self.old.encoder
+            → take sent.len out.new ≡ data_at
+            (with_next_input h robust (vector_in (length self.old.encoder.masks.mask) input.now) flags)
+            (length h.steps)) }
+        ensures level { IfOk result (λ sent. (h : History) → StandsFor h self.old.encoder
+            → sent.level ≡ level_at
+            (with_next_input h robust (vector_in (length self.old.encoder.masks.mask) input.now) flags)
+            (length h.steps)) }
+        ensures some { IfOk result (λ sent. 1 ≤ sent.len) }
+        ensures most { IfOk result (λ sent. sent.len ≤ room_bytes (length self.old.encoder.masks.mask)) }
+        ensures rest { IfOk result (λ sent. drop sent.len out.new ≡ drop sent.len out.old) }
+        ensures places { length self.new.encoder.masks.mask ≡ length self.old.encoder.masks.mask }
+        // No memory is taken: the room stays.
+        ensures room { self.new.room ≡ self.old.room }
+        ensures counted { OnOk result (self.new.encoder.masks.taken ≡ self.old.encoder.masks.taken + 1) }
+    {
+        if input.len() != self.input_len() as usize {
+            return Err(SendFault::InputLength);
+        }
+        if self.input.load(input).is_err() {
+            return Err(SendFault::SpareBit);
+        }
+        if robust > MOST_ROBUST {
+            return Err(SendFault::Robust);
+        }
+        if out.len() < self.packet_room() as usize {
+            return Err(SendFault::NoRoom);
+        }
+        if self.encoder.taken() >= MOST_PACKETS {
+            return Err(SendFault::TooMany);
+        }
+        self.pen.clear();
+        self.encoder
+            .encode(&self.input, flags, robust, &mut self.pen);
+        let bytes = self.pen.bytes();
+        out[..bytes.len()].copy_from_slice(bytes);
+        Ok(Sent {
+            len: bytes.len(),
+            level: self.encoder.level(),
+        })
+    }
+
+    /// The number of places of the vectors.
+    pub fn places(&self) -> u32
+        ensures places { result ≡ length self.now.encoder.masks.mask }
+        ensures some { 1 ≤ result }
+        ensures most { result ≤ 49152 }
+    {
+        self.input.len()
+    }
+
+    /// The number of bytes of an input.
+    pub fn input_len(&self) -> u32
+        ensures { result ≡ byte_count (length self.now.encoder.masks.mask) }
+    {
+        byte_len(self.places())
+    }
+
+    /// The room for any packet, in bytes: at most 61,446.
+    pub fn packet_room(&self) -> u32
+        ensures room { result ≡ room_bytes (length self.now.encoder.masks.mask) }
+        ensures most { result ≤ 61446 }
+    {
+        room(self.places()).div_ceil(8)
+    }
+
+    /// The number of packets that were sent, at most 4,294,967,296.
+    pub fn taken(&self) -> u64
+        ensures inputs { (h : History) → StandsFor h self.now.encoder → result ≡ length h.steps }
+        ensures kept { result ≡ self.now.encoder.masks.taken }
+        ensures most { result ≤ 4294967296 }
+    {
+        self.encoder.taken()
+    }
+}
+
+/// Whether no mask is given, or one that has as many bytes as its places need.
+fn mask_fits(places: u32, mask: Option<&[u8]>) -> bool
+    requires some { 1 ≤ places }
+    requires most { places ≤ 49152 }
+    ensures { IsTrue result ↔ MaskFits places (given mask.entry) }
+{
+    match mask {
+        Some(bytes) => bytes.len() == byte_len(places) as usize,
+        None => true,
+    }
+}

@@ -1,0 +1,6 @@
+pub mod Owned
+pub mod Statuses
+pub mod Kinds
+pub mod Verdicts
+pub mod Bench
+pub mod Running

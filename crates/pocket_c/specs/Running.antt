@@ -1,0 +1,60 @@
+-- What running a command at a desk in memory leaves, by its answer: the clauses of `pocket` over this desk.
+use Rattle.std.specs.Prelude.{◌≡◌, ◌≢◌, ◌↔◌, ℕ, List, [], Option, drop, Ok, Err, Some}
+use Rattle.mask_update.specs.Histories.{History}
+use Rattle.ground_chain.specs.Deliveries.{report_text, restored_bytes}
+use Rattle.side_tables.specs.Grammar.{bad_copy_row}
+use Rattle.desk_ports.specs.declared.desk.Inlet.TheVariants as inlet
+use Rattle.desk_ports.specs.Meanings.{Rose, left}
+use Rattle.desk_ports.specs.MemState.{mem_counts, mem_meanings}
+use Rattle.pocket_cmd.specs.Apart.{AreKeptAsMade}
+use Rattle.pocket_cmd.specs.Command.{Command, Forecast, ForecastValues, Restore, RestoreValues, command_of}
+use Rattle.pocket_cmd.specs.Courses.{bad_row_of, names_of}
+use Rattle.pocket_cmd.specs.Delivery.{HasWritten, IsPlayedStore, IsSideRight, IsInputWhole}
+use Rattle.pocket_cmd.specs.Faults.{DataFault}
+use Rattle.pocket_cmd.specs.Kept.{Leaves}
+use Rattle.pocket_cmd.specs.Openings.{AreTold, side_given}
+use Rattle.pocket_cmd.specs.Outcome.{AfterRefusal, IsScriptFirst, IsSideJudged, IsTextBad, IsTextFirst, NoneRose, Stands, answer_to}
+use Rattle.pocket_cmd.specs.Status.{BadText, HasStatusCause, status_of}
+use Rattle.pocket_cmd.specs.declared.status.Refusal.{Refusal}
+use Rattle.pocket_cmd.specs.declared.status.Refusal.TheVariants as refusal
+use Rattle.pocket_cmd.specs.declared.status.Status.{Status}
+use Rattle.pocket_cmd.specs.declared.status.Status.TheVariants as status
+use Rattle.pocket_c.specs.Bench.{BenchState}
+
+-- the words give this command
+abbrev pub Gives : BenchState → Command → Type 0
+Gives bench command = command_of bench.words ≡ Ok command
+
+pub record HasRun (old new : BenchState) (answer : Status) : Type 0 where
+  pub words : new.words ≡ []
+  pub bad_words : (word : ℕ) → (answer ≡ status.Refused (refusal.BadWords word)) ↔ (command_of old.words ≡ Err word)
+  pub not_called : (word : ℕ) → answer ≡ status.Refused (refusal.BadWords word) → mem_meanings new.desk ≡ mem_meanings old.desk
+  pub stands : (ending : Option DataFault) → answer ≡ status_of ending
+      → (command : Command) × Gives old command × Stands command (mem_meanings old.desk) (mem_meanings new.desk) ending
+  pub refused : (why : Refusal) (command : Command) → answer ≡ status.Refused why → Gives old command
+      → AfterRefusal command (mem_meanings old.desk) (mem_meanings new.desk) why
+  pub leaves : (why : Refusal) (command : Command) → answer ≡ status.Refused why → Gives old command
+      → Leaves command (mem_meanings old.desk) (mem_meanings new.desk) why
+  pub kept : (command : Command) → answer ≡ status.Done → Gives old command → AreKeptAsMade (names_of command) (mem_meanings new.desk)
+  pub side_text : (command : Command) (text : List ℕ) → Gives old command
+      → side_given (mem_meanings old.desk) (names_of command).side ≡ Some text → answer ≢ status.Refused refusal.NoMemory
+      → ¬ Rose (mem_counts old.desk).reads (mem_counts new.desk).reads → IsSideJudged command text answer
+  pub read_no_further : (command : Command) (text : List ℕ) → Gives old command
+      → side_given (mem_meanings old.desk) (names_of command).side ≡ Some text → answer ≡ status.Refused refusal.SideTooLong
+      → left (mem_meanings new.desk) inlet.Side ≡ Some (drop 1048577 text)
+  pub bad_side : (command : Command) (text : List ℕ) (bad : BadText) → Gives old command
+      → side_given (mem_meanings old.desk) (names_of command).side ≡ Some text → IsTextBad (bad_row_of command) text bad
+      → answer ≢ status.Refused refusal.NoMemory → IsTextFirst inlet.Side (mem_meanings old.desk) text bad (mem_meanings new.desk) answer
+  pub bad_script : (f : ForecastValues) (plan script : List ℕ) (bad : BadText) → Gives old (Forecast f)
+      → AreTold (names_of (Forecast f)) (mem_meanings old.desk) plan script → IsSideRight (Forecast f) plan → IsTextBad bad_copy_row script bad
+      → answer ≢ status.Refused refusal.NoMemory
+      → IsScriptFirst (Some f.plan) (mem_meanings old.desk) plan script bad (mem_meanings new.desk) answer
+  pub ends : (command : Command) (text input : List ℕ) → Gives old command → AreTold (names_of command) (mem_meanings old.desk) text input
+      → answer ≢ status.Refused refusal.NoMemory → NoneRose (mem_counts old.desk) (mem_counts new.desk) → answer ≡ answer_to command text input
+  pub complete : (command : Command) (text input : List ℕ) → Gives old command → AreTold (names_of command) (mem_meanings old.desk) text input
+      → IsSideRight command text → IsInputWhole command input → answer ≢ status.Refused refusal.NoMemory
+      → NoneRose (mem_counts old.desk) (mem_counts new.desk) → answer ≡ status.Done
+  pub headline : (r : RestoreValues) (h : History) (copies : ℕ → ℕ) → Gives old (Restore r) → IsPlayedStore r h copies (mem_meanings old.desk)
+      → answer ≡ status.Done
+      → HasWritten (names_of (Restore r)) (record { output = restored_bytes h copies; report = report_text h copies }) (mem_meanings new.desk)
+  pub cause : HasStatusCause (mem_counts old.desk) (mem_counts new.desk) answer

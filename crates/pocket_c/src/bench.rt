@@ -1,0 +1,96 @@
+//! A desk in memory at which commands are run.
+
+ghost use Rattle.std.specs.Prelude.{◌≡◌, ◌<◌, ◌↔◌, ◌++◌, ◌∷◌, [], IsTrue, OnOk, OnErr, length};
+ghost use Rattle.std.specs.FinMap as map;
+ghost use Rattle.desk_ports.specs.Meanings.{kept_at};
+ghost use Rattle.desk_ports.specs.MemState.{empty_desk};
+ghost use Rattle.pocket_c.specs.Running.{HasRun};
+
+use bit_vectors::NoMemory;
+use desk_ports::MemDesk;
+use pocket_cmd::{Status, pocket};
+use std::alloc::Global;
+use std::marker::Model;
+
+/// No command has as many words.
+const MOST_WORDS: usize = 1000;
+
+/// A desk in memory, and the words of the next command. Contracts see both.
+#[derive(Debug, Drop)]
+pub struct Bench {
+    alloc: Global,
+    desk: MemDesk,
+    words: Vec<String>,
+}
+
+impl Model for Bench {
+    ghost use Rattle.std.specs.Prelude.{◌≤◌, length, map};
+    ghost use Rattle.std.specs.String.{string_bytes};
+    ghost use Rattle.pocket_c.specs.Bench.{BenchState, bench_code};
+
+    ghost Value = { BenchState };
+
+    ghost coded = { bench_code };
+
+    ghost view = { λ b. record { desk = b.desk; words = map string_bytes b.words.items } };
+
+    ghost invariant = { λ b. length b.words.items ≤ 1000 };
+}
+
+impl Bench {
+    /// Nothing is kept, and there is no word. It takes no memory.
+    pub fn new(alloc: Global) -> Bench
+        ensures { result ≡ record { desk = empty_desk; words = [] } }
+    {
+        Bench {
+            alloc,
+            desk: MemDesk::new(alloc),
+            words: Vec::new(alloc),
+        }
+    }
+
+    /// Keeps the bytes under the name.
+    pub fn put(&mut self, name: &str, bytes: &[u8]) -> Result<(), NoMemory>
+        ensures ok { OnOk result (self.new ≡ record self.old {
+          desk = record self.old.desk { held = map.insert self.old.desk.held name.now bytes.now };
+        }) }
+        ensures err { OnErr result (self.new ≡ self.old) }
+    {
+        self.desk.put(name, bytes)
+    }
+
+    /// What is kept under the name, or nothing if the name was never put or written.
+    pub fn get(&self, name: &str) -> &[u8]
+        ensures { result.now ≡ kept_at self.now.desk.held name.now }
+    {
+        self.desk.get(name)
+    }
+
+    /// Whether there is room for another word.
+    pub fn has_room(&self) -> bool
+        ensures { IsTrue result ↔ (length self.now.words < 1000) }
+    {
+        self.words.len() < MOST_WORDS
+    }
+
+    /// Adds a word to those of the next command.
+    pub fn word(&mut self, word: &str) -> Result<(), NoMemory>
+        requires { length self.old.words < 1000 }
+        ensures ok { OnOk result
+            (self.new ≡ record self.old { words = self.old.words ++ word.now ∷ [] }) }
+        ensures err { OnErr result (self.new ≡ self.old) }
+    {
+        let word = String::from_str(self.alloc, word)?;
+        self.words.push(word)?;
+        Ok(())
+    }
+
+    /// Runs the command of the words, after which there is no word.
+    pub fn run(&mut self) -> Status
+        ensures { HasRun self.old self.new result }
+    {
+        let status = pocket(self.alloc, &self.words, &mut self.desk);
+        self.words.clear();
+        status
+    }
+}

@@ -1,0 +1,93 @@
+//! What C holds: a handle, which owns a value on the heap, or nothing.
+
+ghost use Rattle.std.specs.Prelude.{◌≡◌, Option, Some, None};
+ghost use Rattle.std.specs.Coded.{coded_option};
+ghost use Rattle.std.specs.Option.{option_map};
+ghost use Rattle.pocket_c.specs.Owned.{owned};
+ghost use Rattle.pocket_c.specs.contracts.held.Held.{the_row};
+
+use crate::bench::Bench;
+use crate::loose::Loose;
+use packet_calls::{Receiver, Sender};
+use std::alloc::Global;
+use std::marker::Model;
+use std::mem::replace;
+use std::ptr::null_mut;
+
+/// What a handle may hold.
+#[derive(Debug, Drop)]
+pub enum Held {
+    Sender(Sender),
+    Receiver(Receiver),
+    Bench(Bench),
+}
+
+/// A handle. Zeros are one that holds nothing. Contracts see what it holds.
+#[repr(C)]
+pub struct Handle {
+    at: *mut u8,
+    state: usize,
+    pub ghost held: { Option the_row.Denot } by { coded_option the_row.coded },
+}
+
+impl Model for Handle {
+    ghost also_owns = { λ h. owned the_row h.state h.at h.held };
+}
+
+impl Handle {
+    /// A handle that holds nothing.
+    fn shut() -> Handle
+        ensures { result.held ≡ None }
+    {
+        Handle {
+            at: null_mut(),
+            state: 0,
+        }
+    }
+
+    /// A handle that holds what a box holds.
+    fn holding(loose: Loose<Held, Global>) -> Handle
+        ensures { result.held ≡ Some loose.value }
+    {
+        let Loose { at, alloc: _ } = loose;
+        Handle {
+            at: at as *mut u8,
+            state: 1,
+        }
+    }
+
+    /// What it holds, as a pointer.
+    fn into_loose(self, alloc: Global) -> Option<Loose<Held, Global>>
+        ensures { option_map (λ l. l.value) result ≡ self.held }
+    {
+        let Handle { at, state } = self;
+        if state == 0 {
+            None
+        } else {
+            Some(Loose {
+                at: at as *mut Held,
+                alloc,
+            })
+        }
+    }
+
+    /// Takes out what it holds.
+    pub(crate) fn take(&mut self, alloc: Global) -> Option<Box<Held>>
+        ensures took { option_map (λ l. l.value) result ≡ self.old.held }
+        ensures shut { self.new.held ≡ None }
+    {
+        match replace(self, Handle::shut()).into_loose(alloc) {
+            Some(loose) => Some(loose.into_box()),
+            None => None,
+        }
+    }
+
+    /// Puts a value in place of what it holds.
+    pub(crate) fn put(&mut self, alloc: Global, value: Box<Held>)
+        ensures { self.new.held ≡ Some value.value }
+    {
+        if let Some(loose) = replace(self, Handle::holding(Loose::of(value))).into_loose(alloc) {
+            drop(loose.into_box());
+        }
+    }
+}

@@ -1,0 +1,20 @@
+//! The calls of the library for C: senders, receivers and desks in memory, each behind a
+//! handle.
+#![tactic(auto)]
+
+mod bench;
+mod desk;
+mod handle;
+mod held;
+mod loose;
+mod receiver;
+mod sender;
+mod status;
+
+pub use bench::Bench;
+pub use desk::{pocket_desk_open, pocket_get, pocket_put, pocket_run, pocket_word};
+pub use handle::pocket_close;
+pub use held::{Handle, Held};
+pub use receiver::{Counts, Finding, pocket_counts, pocket_receive, pocket_receiver_open};
+pub use sender::{pocket_send, pocket_sender_open};
+pub use status::Status;

@@ -1,0 +1,283 @@
+//! The calls of a receiver.
+
+ghost use Rattle.std.specs.Prelude.{◌≡◌, ℕ, ◌^◌, ◌<◌, ◌≤◌, ◌↔◌, ◌⊎◌, ◌++◌, ◌∷◌, [], List, Err, None, Some, length, drop, IfOk, IsOk, OnOk, OnErr};
+ghost use Rattle.bit_vectors.specs.Vectors.{byte_count};
+ghost use Rattle.packet_store.specs.SpacePackets.{period};
+ghost use Rattle.ground_chain.specs.Reception.{next_judged};
+ghost use Rattle.ground_chain.specs.Reckoning.{HasJudged, Judges, Reckoning, nothing_judged};
+ghost use Rattle.ground_chain.specs.Report.{written_bytes};
+ghost use Rattle.ground_chain.specs.Run.{Arrival};
+ghost use Rattle.pocket_c.specs.Kinds.{HasOtherThanReceiver};
+ghost use Rattle.pocket_c.specs.Statuses.{number_of};
+ghost use Rattle.pocket_c.specs.Verdicts.{counts_of, finding_of, first_lost, kind_number, lost_number, mask_known, value_of};
+
+use crate::held::{Handle, Held};
+use crate::status::Status;
+use bit_vectors::BitFault;
+use ground_chain::{Kind, Lost, Restored, Verdict};
+use packet_calls::Receiver;
+use std::alloc::Global;
+
+/// What is found of an arrival, as C sees it.
+#[repr(C)]
+#[derive(Clone, Copy, Debug, PartialEq, Eq)]
+pub struct Finding {
+    /// The packet's number, from 0.
+    pub number: u64,
+    /// The first number that did not arrive before it, and 0 if none is missing.
+    pub first_lost: u64,
+    /// How many numbers did not arrive before it.
+    pub lost: u64,
+    /// 0 if it is written, 1 for a repeat, 2 if nothing is known yet, 3 for a gap, 4 for a wrong bit, 5 for an early end.
+    pub kind: u32,
+    /// The effective robustness level at a gap, the bit's number at a wrong bit or an early end, and otherwise 0.
+    pub value: u32,
+    /// Its mask became known, and its content did not.
+    pub mask_alone: bool,
+}
+
+/// The numbers of the arrivals so far, as C sees them.
+#[repr(C)]
+#[derive(Clone, Copy, Debug, PartialEq, Eq)]
+pub struct Counts {
+    /// The packets that arrived, repeats too.
+    pub packets: u64,
+    /// The packets that were written.
+    pub written: u64,
+    /// The repeats.
+    pub repeats: u64,
+    /// The packets up to the last arrival that are not written.
+    pub listed: u64,
+}
+
+/// What C sees of a verdict.
+fn found_by(verdict: &Verdict) -> Finding
+    ensures { result ≡ finding_of verdict.now }
+{
+    let (first_lost, lost) = lost_before(verdict.lost);
+    let (kind, value) = numbers_of(verdict.kind);
+    Finding {
+        number: verdict.t,
+        first_lost,
+        lost,
+        kind,
+        value,
+        mask_alone: is_mask_alone(verdict.kind),
+    }
+}
+
+/// The first lost number, and how many there are.
+fn lost_before(lost: Option<Lost>) -> (u64, u64)
+    ensures first { result.0 ≡ first_lost lost }
+    ensures count { result.1 ≡ lost_number lost }
+{
+    match lost {
+        None => (0, 0),
+        Some(lost) => (
+            lost.first,
+            lost.last.saturating_sub(lost.first).saturating_add(1),
+        ),
+    }
+}
+
+/// The number of a kind, and what belongs to it.
+fn numbers_of(kind: Kind) -> (u32, u32)
+    ensures kind { result.0 ≡ kind_number kind }
+    ensures value { result.1 ≡ value_of kind }
+{
+    match kind {
+        Kind::Written => (0, 0),
+        Kind::Repeat => (1, 0),
+        Kind::Unsynced { .. } => (2, 0),
+        Kind::Gap { level, .. } => (3, u32::from(level)),
+        Kind::Refused {
+            fault: BitFault::Wrong { bit },
+        } => (4, bit),
+        Kind::Refused {
+            fault: BitFault::EndsEarly { bit },
+        } => (5, bit),
+    }
+}
+
+/// Whether the mask of an arrival became known, and its content did not.
+fn is_mask_alone(kind: Kind) -> bool
+    ensures { result ≡ mask_known kind }
+{
+    match kind {
+        Kind::Unsynced { mask } => mask,
+        Kind::Gap { mask, .. } => mask,
+        Kind::Written | Kind::Repeat | Kind::Refused { .. } => false,
+    }
+}
+
+/// Opens a receiver in a handle that holds nothing.
+fn open(alloc: Global, handle: &mut Handle, places: u32) -> Status
+    ensures open { (result ≡ Status.Open) ↔ (handle.old.held ≡ None → ⊥) }
+    ensures places { (result ≡ Status.Places)
+        ↔ ((handle.old.held ≡ None) × ((places ≡ 0) ⊎ (49152 < places))) }
+    ensures opened { result ≡ Status.Done
+        → (r : Reckoning) × (handle.new.held ≡ Some (Held.Receiver r))
+        × (r ≡ nothing_judged places) × HasJudged places [] r }
+    ensures unchanged { (result ≡ Status.Done → ⊥) → handle.new.held ≡ handle.old.held }
+{
+    if let Some(held) = handle.take(alloc) {
+        handle.put(alloc, held);
+        return Status::Open;
+    }
+    match Receiver::open(alloc, places) {
+        Ok(receiver) => match Box::new(alloc, Held::Receiver(receiver)) {
+            Ok(held) => {
+                handle.put(alloc, held);
+                Status::Done
+            }
+            Err(_) => Status::NoMemory,
+        },
+        Err(fault) => fault.into(),
+    }
+}
+
+/// Judges an arrival by the receiver that a handle holds.
+fn receive(
+    alloc: Global,
+    handle: &mut Handle,
+    count: u16,
+    bytes: &[u8],
+    out: &mut [u8],
+) -> Result<Verdict, Status>
+    ensures closed { (result ≡ Err Status.Closed) ↔ (handle.old.held ≡ None) }
+    ensures other { (result ≡ Err Status.OtherKind) ↔ HasOtherThanReceiver handle.old.held }
+    ensures taken { (r : Reckoning) → handle.old.held ≡ Some (Held.Receiver r) → IsOk result
+        ↔ ((count < period) × (length bytes.now ≤ 65536)
+        × (byte_count r.reception.decoder.places ≤ length out.old)
+        × (r.restored.packets < 2 ^ 32)) }
+    ensures fault { result ≡ Err Status.Done → ⊥ }
+    ensures unchanged { OnErr result (handle.new.held ≡ handle.old.held) }
+    ensures untouched { OnErr result (out.new ≡ out.old) }
+    ensures verdict { (r : Reckoning) → handle.old.held ≡ Some (Held.Receiver r) → IfOk result
+        (λ verdict. verdict ≡ (next_judged r.reception count bytes.now).verdict) }
+    ensures stands { (r : Reckoning) → handle.old.held ≡ Some (Held.Receiver r)
+        → OnOk result ((next : Reckoning) × (handle.new.held ≡ Some (Held.Receiver next))
+        × Judges r next count bytes.now
+        × ((f : ℕ) (arrivals : List Arrival) → HasJudged f arrivals r
+        → HasJudged f (arrivals ++ record { count = count; body = bytes.now } ∷ []) next)) }
+    ensures content { (r : Reckoning) → handle.old.held ≡ Some (Held.Receiver r) → OnOk result
+        (let content = written_bytes (next_judged r.reception count bytes.now) in
+        out.new ≡ content ++ drop (length content) out.old) }
+{
+    let Some(mut held) = handle.take(alloc) else {
+        return Err(Status::Closed);
+    };
+    let verdict = match &mut *held {
+        Held::Receiver(receiver) => match receiver.receive(count, bytes, out) {
+            Ok(verdict) => Ok(verdict),
+            Err(fault) => Err(Status::from(fault)),
+        },
+        Held::Sender(_) | Held::Bench(_) => Err(Status::OtherKind),
+    };
+    handle.put(alloc, held);
+    verdict
+}
+
+/// The numbers of the receiver that a handle holds.
+fn restored(alloc: Global, handle: &mut Handle) -> Result<Restored, Status>
+    ensures closed { (result ≡ Err Status.Closed) ↔ (handle.old.held ≡ None) }
+    ensures other { (result ≡ Err Status.OtherKind) ↔ HasOtherThanReceiver handle.old.held }
+    ensures fault { result ≡ Err Status.Done → ⊥ }
+    ensures told { (r : Reckoning) → handle.old.held ≡ Some (Held.Receiver r)
+        → IsOk result × IfOk result (λ restored. restored ≡ r.restored) }
+    ensures unchanged { handle.new.held ≡ handle.old.held }
+{
+    let Some(held) = handle.take(alloc) else {
+        return Err(Status::Closed);
+    };
+    let told = match &*held {
+        Held::Receiver(receiver) => Ok(*receiver.restored()),
+        Held::Sender(_) | Held::Bench(_) => Err(Status::OtherKind),
+    };
+    handle.put(alloc, held);
+    told
+}
+
+/// Opens a receiver of vectors of 1 to 49,152 places in a handle that holds nothing. It takes all memory that later calls
+/// need.
+#[unsafe(no_mangle)]
+pub extern "C" fn pocket_receiver_open(alloc: Global, handle: &mut Handle, places: u32) -> u32
+    ensures open { (result ≡ number_of Status.Open) ↔ (handle.old.held ≡ None → ⊥) }
+    ensures places { (result ≡ number_of Status.Places)
+        ↔ ((handle.old.held ≡ None) × ((places ≡ 0) ⊎ (49152 < places))) }
+    ensures opened { result ≡ number_of Status.Done
+        → (r : Reckoning) × (handle.new.held ≡ Some (Held.Receiver r))
+        × (r ≡ nothing_judged places) × HasJudged places [] r }
+    ensures unchanged { (result ≡ number_of Status.Done → ⊥)
+        → handle.new.held ≡ handle.old.held }
+{
+    open(alloc, handle, places).number()
+}
+
+/// Judges the next arrival by the receiver that a handle holds: `finding` tells what is found of it, and if it is written its
+/// content is in the first bytes of `out`. It takes no memory.
+#[unsafe(no_mangle)]
+pub extern "C" fn pocket_receive(
+    alloc: Global,
+    handle: &mut Handle,
+    count: u16,
+    bytes: &[u8],
+    out: &mut [u8],
+    found: &mut Finding,
+) -> u32
+    ensures closed { (result ≡ number_of Status.Closed) ↔ (handle.old.held ≡ None) }
+    ensures other { (result ≡ number_of Status.OtherKind)
+        ↔ HasOtherThanReceiver handle.old.held }
+    ensures taken { (r : Reckoning) → handle.old.held ≡ Some (Held.Receiver r)
+        → (result ≡ number_of Status.Done) ↔ ((count < period) × (length bytes.now ≤ 65536)
+        × (byte_count r.reception.decoder.places ≤ length out.old)
+        × (r.restored.packets < 2 ^ 32)) }
+    ensures unchanged { (result ≡ number_of Status.Done → ⊥)
+        → (handle.new.held ≡ handle.old.held) × (out.new ≡ out.old) × (found.new ≡ found.old) }
+    ensures found { (r : Reckoning) → handle.old.held ≡ Some (Held.Receiver r)
+        → result ≡ number_of Status.Done
+        → found.new ≡ finding_of (next_judged r.reception count bytes.now).verdict }
+    ensures stands { (r : Reckoning) → handle.old.held ≡ Some (Held.Receiver r)
+        → result ≡ number_of Status.Done
+        → (next : Reckoning) × (handle.new.held ≡ Some (Held.Receiver next))
+        × Judges r next count bytes.now
+        × ((f : ℕ) (arrivals : List Arrival) → HasJudged f arrivals r
+        → HasJudged f (arrivals ++ record { count = count; body = bytes.now } ∷ []) next) }
+    ensures content { (r : Reckoning) → handle.old.held ≡ Some (Held.Receiver r)
+        → result ≡ number_of Status.Done
+        → let content = written_bytes (next_judged r.reception count bytes.now) in
+        out.new ≡ content ++ drop (length content) out.old }
+{
+    match receive(alloc, handle, count, bytes, out) {
+        Ok(verdict) => {
+            *found = found_by(&verdict);
+            Status::Done.number()
+        }
+        Err(status) => status.number(),
+    }
+}
+
+/// The numbers of the arrivals so far of the receiver that a handle holds.
+#[unsafe(no_mangle)]
+pub extern "C" fn pocket_counts(alloc: Global, handle: &mut Handle, told: &mut Counts) -> u32
+    ensures closed { (result ≡ number_of Status.Closed) ↔ (handle.old.held ≡ None) }
+    ensures other { (result ≡ number_of Status.OtherKind)
+        ↔ HasOtherThanReceiver handle.old.held }
+    ensures told { (r : Reckoning) → handle.old.held ≡ Some (Held.Receiver r)
+        → (result ≡ number_of Status.Done) × (told.new ≡ counts_of r.restored) }
+    ensures unchanged { handle.new.held ≡ handle.old.held }
+    ensures untold { (result ≡ number_of Status.Done → ⊥) → told.new ≡ told.old }
+{
+    match restored(alloc, handle) {
+        Ok(restored) => {
+            *told = Counts {
+                packets: restored.packets,
+                written: restored.written,
+                repeats: restored.repeats,
+                listed: restored.listed,
+            };
+            Status::Done.number()
+        }
+        Err(status) => status.number(),
+    }
+}

@@ -1,0 +1,61 @@
+use Rattle.std.proofs.Common.{◌≡◌, ℕ, ◌+◌, ◌<◌, ◌≤◌, List, [], ◌∷◌, ◌++◌, length, Bool, true, false, drop, replicate, subst, sym, ap, ◌∙◌, arith}
+use Rattle.std.specs.Prelude.{Contains}
+use Rattle.std.specs.Bool.{OnTrue}
+use Rattle.robust_window.specs.Window.{WindowState, change_back, changes_of}
+use Rattle.robust_window.proofs.Marking.{changes_of-marked, changes_of-quiet, length-marks}
+use Rattle.robust_window.proofs.Scanning.{gathered, length-gathered}
+use Rattle.robust_window.proofs.window.Window.advance.Goals as goal
+use Rattle.robust_window.proofs.window.Window.advance.Goals.{After-gather-self-inside}
+
+recent_len : (c : After-gather-self-inside) → length c.gather-self-inside.new.recent ≡ length c.self.inside.recent
+recent_len c =
+    let f = length c.self.inside.recent in
+    ap length c.gather-self-inside.ensures.recent ∙ length-gathered f (changes_of f c.self.inside.changed c.self.inside.changes.items) (c.args.robust + 1)
+
+pub invariant_of-self : goal.invariant_of-self
+invariant_of-self c =
+    let same : length c.gather-self-inside.new.recent ≡ length c.self.inside.recent = recent_len (goal.at.invariant_of-self c).After-gather-self-inside in
+    let taken : c.self.inside.taken ≡ c.args.self.now.taken = ap (λ (k : WindowState). k.taken) c.self.view_is in
+    record {
+      vector = (omega (arith, c.self.invariant.vector.0), omega (arith, c.self.invariant.vector.1));
+      full = c.self.invariant.full;
+      slots = c.self.invariant.slots;
+      places = λ k d lt. c.self.invariant.places k d lt ∙ sym same;
+      marked = c.self.invariant.marked;
+      zeros_are = c.self.invariant.zeros_are ∙ ap (λ (n : ℕ). replicate n false) (sym same);
+      zero = subst (λ (n : ℕ). OnTrue c.gather-self-inside.result (c.gather-self-inside.new.recent ≡ replicate n false)) (sym same) c.gather-self-inside.ensures.zero;
+      some = c.gather-self-inside.ensures.some;
+      level_most = omega (arith, c.requires.robust, c.quiet_level-self-inside.ensures.most);
+      taken_most = omega arith;
+    }
+
+pub returns : goal.returns
+returns c =
+    let d = (goal.at.returns c).After-gather-self-inside in
+    let was = sym c.self.view_is in
+    let taken_is : c.args.self.now.taken ≡ c.self.inside.taken = ap (λ (k : WindowState). k.taken) was in
+    let f = length c.self.inside.recent in
+    let marks = c.self.inside.changed in
+    let slots = c.self.inside.changes.items in
+    let changes = changes_of f marks slots in
+    let level = c.quiet_level-self-inside.result in
+    let most : level ≤ 15 = omega (arith, c.requires.robust, c.quiet_level-self-inside.ensures.most) in
+    record {
+      changes = ap (λ (n : ℕ). changes_of n marks slots) (recent_len d) ∙ ap (λ (k : WindowState). k.changes) c.self.view_is;
+      flags_full = ap (λ (k : WindowState). length k.new_masks) was ∙ length-marks c.self.inside.new_masks;
+      new_masks = c.pushed-self-inside.ensures ∙ ap (λ (k : WindowState). drop 1 k.new_masks ++ c.args.new_mask ∷ []) c.self.view_is;
+      recent = c.gather-self-inside.ensures.recent ∙ ap (λ (k : WindowState). gathered (length k.recent) k.changes (c.args.robust + 1)) c.self.view_is;
+      recent_len = recent_len d ∙ ap (λ (k : WindowState). length k.recent) c.self.view_is;
+      level_least = omega (arith, c.quiet_level-self-inside.ensures.least);
+      level_most = omega (arith, c.quiet_level-self-inside.ensures.most);
+      quiet = λ back above within.
+          subst (λ (k : WindowState). change_back k.changes back ≡ replicate (length k.recent) false) c.self.view_is
+          (changes_of-quiet f marks slots back c.self.invariant.slots (omega arith) (c.quiet_level-self-inside.ensures.quiet back (omega arith) within));
+      stops = λ less.
+          let next : level + 1 < 16 = omega (arith, less, c.requires.robust) in
+          let set = c.quiet_level-self-inside.ensures.stops (omega arith) in
+          subst (λ (k : WindowState). Contains (change_back k.changes (level + 1)) true) c.self.view_is
+          (subst (λ (v : List Bool). Contains v true) (sym (changes_of-marked f marks slots (level + 1) c.self.invariant.slots next set)) (c.self.invariant.marked (level + 1) next set));
+      twice = c.has_two-self-inside.ensures;
+      taken = omega arith;
+    }

@@ -1,0 +1,242 @@
+/*
+ * pocket.h: POCKET+ packets (CCSDS 124.0-B-1, in this project's profile) from C99 and C++.
+ *
+ * Where the proof ends. The functions behind this header are written in Rattle and proved: what each answers, gives and leaves
+ * unchanged. Not proved are this header, its checks of null, strlen, the compiler, the linker, memmove, memset, malloc and free.
+ * For x86-64, 64-bit ARM and RISC-V (rv64gc), all with the little end first. For x86-64 the library is proved by the gate. For
+ * aarch64 it is proved and compiled for that target by the toolchain, outside the gate. For riscv64 it is compiled another way:
+ * compared, not proved. Processors of 32 bits are left out, since sizes have 64 bits in what is proved, and those with the big
+ * end first (LEON) too, since a word of 64 bits is read as it lies in memory. Accesses on aarch64 and riscv64 are aligned unless
+ * the library was built with unaligned=1.
+ *
+ * A sender makes the packet of each input. A receiver judges each packet that arrives: it gives its content, or why there is
+ * none. At a desk in memory the nine commands of the program are run, over bytes that are kept under names. Inputs and contents are
+ * vectors of 1 to 49,152 bits, the first bit the most significant one of the first byte; the bits after the last one, in the last
+ * byte, are 0. The header of a Space Packet (CCSDS 133.0-B-2) is not part of a packet's data.
+ *
+ * The caller owes what no proof sees: each pointer points to as many bytes as its length says, or to one object of its type;
+ * what a call writes stays apart from all else that it is given; a handle is used by one call at a time, and its members, by no
+ * one else; a copy of an open handle is not used. Nothing else: each other argument that can be wrong is answered.
+ * Opening a sender or a receiver takes memory (malloc), all that later calls need: they take none. A desk takes memory as it is used.
+ * Only pocket_close gives it back.
+ */
+#ifndef POCKET_H
+#define POCKET_H
+
+#include <stddef.h>
+#include <stdint.h>
+#include <string.h>
+#ifndef __cplusplus
+#include <stdbool.h>
+#endif
+
+#if SIZE_MAX != UINT64_MAX || !defined(__BYTE_ORDER__) || __BYTE_ORDER__ != __ORDER_LITTLE_ENDIAN__
+#error "pocket is for processors of 64 bits with the little end first"
+#endif
+
+#ifdef __cplusplus
+extern "C" {
+#endif
+
+#define POCKET_MOST_BITS 49152u         /* of an input */
+#define POCKET_MOST_ROBUSTNESS 7u       /* the greatest required robustness */
+#define POCKET_MOST_LEVEL 15u           /* the greatest effective robustness level */
+#define POCKET_MOST_COUNT 16383u        /* the greatest sequence count */
+#define POCKET_MOST_WORDS 1000u         /* of a command */
+#define POCKET_TEXT_BYTES 128u          /* room for the text of a refusal */
+#define POCKET_MOST_DATA 65536u         /* bytes of the data of a packet that arrives */
+#define POCKET_INPUT_BYTES(bits) (((size_t)(bits) + 7u) / 8u)                 /* of an input or a content */
+#define POCKET_PACKET_BYTES(bits) ((10u * (size_t)(bits) + 43u + 7u) / 8u)    /* room for each packet's data, at most 61,446 */
+
+/* What a call answers. After each answer but POCKET_DONE nothing has changed: not the handle, nor what a call writes, but for the
+ * length that pocket_get tells with POCKET_NO_ROOM. */
+typedef enum pocket_status {
+    POCKET_DONE = 0,
+    POCKET_NO_MEMORY = 1,       /* malloc gave no memory */
+    POCKET_IS_CLOSED = 2,       /* the handle holds nothing */
+    POCKET_IS_OPEN = 3,         /* the handle to open holds something */
+    POCKET_OTHER_KIND = 4,      /* the handle holds something, and not what the call needs */
+    POCKET_BITS = 5,            /* the number of bits is not from 1 to 49,152 */
+    POCKET_MASK_LENGTH = 6,     /* the first mask has not POCKET_INPUT_BYTES(bits) bytes */
+    POCKET_MASK_SPARE_BIT = 7,  /* a bit after the last one of the first mask is 1 */
+    POCKET_INPUT_LENGTH = 8,    /* the input has not POCKET_INPUT_BYTES(bits) bytes */
+    POCKET_SPARE_BIT = 9,       /* a bit after the last one of the input is 1 */
+    POCKET_ROBUSTNESS = 10,     /* the required robustness is above 7 */
+    POCKET_NO_ROOM = 11,        /* fewer than POCKET_PACKET_BYTES(bits) bytes for a packet, POCKET_INPUT_BYTES(bits) for a content,
+                                   POCKET_TEXT_BYTES for a text, or as many as are kept under a name */
+    POCKET_TOO_MANY = 12,       /* 4,294,967,296 packets were sent or received */
+    POCKET_COUNT = 13,          /* the sequence count is above 16,383 */
+    POCKET_TOO_LONG = 14,       /* the packet has more than 65,536 bytes of data */
+    POCKET_NO_TEXT = 15,        /* a name or a word is not UTF-8 */
+    POCKET_TOO_MANY_WORDS = 16, /* the command has 1,000 words */
+    POCKET_NULL = 255           /* a pointer is null, answered by this header; null with the length 0 is no byte */
+} pocket_status;
+
+/* A sender, a receiver or a desk, or nothing if all is zero: pocket_handle s = POCKET_NOTHING. */
+typedef struct pocket_handle {
+    void *at;
+    size_t state;
+} pocket_handle;
+#define POCKET_NOTHING {0, 0}
+
+typedef enum pocket_kind {
+    POCKET_WRITTEN = 0,         /* its content is known, and was given */
+    POCKET_REPEAT = 1,          /* of the packet before it */
+    POCKET_UNSYNCED = 2,        /* nothing is known that it builds on */
+    POCKET_GAP = 3,             /* more packets before it are missing than its level allows */
+    POCKET_WRONG = 4,           /* a bit of its data is no packet's */
+    POCKET_EARLY = 5            /* its data end too early */
+} pocket_kind;
+
+/* What is found of a packet that arrived. */
+typedef struct pocket_finding {
+    uint64_t number;            /* of the packet, from 0; of a repeat that of the latest packet */
+    uint64_t first_lost;        /* the first number before it that did not arrive, 0 if none is missing */
+    uint64_t lost;              /* how many numbers before it did not arrive */
+    uint32_t kind;              /* a pocket_kind */
+    uint32_t value;             /* its level at a gap, the number of the bit if wrong, of all bits if early; otherwise 0 */
+    bool mask_alone;            /* unsynced or a gap, and its mask became known */
+} pocket_finding;
+
+/* The numbers of the arrivals so far. */
+typedef struct pocket_tally {
+    uint64_t packets;           /* that arrived, repeats too */
+    uint64_t written;
+    uint64_t repeats;
+    uint64_t listed;            /* packets up to the latest arrival that are not written */
+} pocket_tally;
+
+uint32_t pocket_sender_open(pocket_handle *handle, uint32_t bits, const uint8_t *mask, size_t mask_length);
+uint32_t pocket_send(pocket_handle *handle, const uint8_t *input, size_t input_length, bool new_mask, bool send_mask, bool whole,
+                     uint8_t robustness, uint8_t *data, size_t room, size_t *length, uint8_t *level);
+uint32_t pocket_receiver_open(pocket_handle *handle, uint32_t bits);
+uint32_t pocket_receive(pocket_handle *handle, uint16_t count, const uint8_t *data, size_t length, uint8_t *content, size_t room,
+                        pocket_finding *finding);
+uint32_t pocket_counts(pocket_handle *handle, pocket_tally *tally);
+uint32_t pocket_desk_open(pocket_handle *handle);
+uint32_t pocket_put(pocket_handle *handle, const uint8_t *name, size_t name_length, const uint8_t *bytes, size_t length);
+uint32_t pocket_word(pocket_handle *handle, const uint8_t *word, size_t length);
+uint32_t pocket_run(pocket_handle *handle, uint8_t *text, size_t room, size_t *length, uint8_t *exit_number);
+uint32_t pocket_get(pocket_handle *handle, const uint8_t *name, size_t name_length, uint8_t *bytes, size_t room, size_t *length);
+uint32_t pocket_close(pocket_handle *handle);
+
+#define POCKET_BYTES_ARE_NULL(at, length) ((at) == NULL && (length) != 0u)
+#define POCKET_NO_BYTES(at) ((at) == NULL ? (const uint8_t *)"" : (at))
+
+/* Opens a sender of inputs of so many bits, with a first mask, or one of zeros if mask_length is 0. Takes memory.
+ * POCKET_IS_OPEN, BITS, MASK_LENGTH, MASK_SPARE_BIT, NO_MEMORY. */
+static inline pocket_status pocket_checked_sender_open(pocket_handle *handle, uint32_t bits, const uint8_t *mask, size_t mask_length)
+{
+    if (handle == NULL || POCKET_BYTES_ARE_NULL(mask, mask_length))
+        return POCKET_NULL;
+    return (pocket_status)pocket_sender_open(handle, bits, POCKET_NO_BYTES(mask), mask_length);
+}
+
+/* Makes the packet of the next input. new_mask: from here on the mask has the bits that turned after the new mask before this one.
+ * send_mask: the packet carries its mask. whole: it carries its whole content, which needs nothing that was sent before; with
+ * send_mask it is where a receiver may begin. robustness, 0 to 7: how many packets in a row may be
+ * lost before this one, at least; the first packets up to this number carry mask and content, whatever is asked. The data are the
+ * first *length bytes of data, and *level is how many packets before this one may be missing. Takes no memory.
+ * POCKET_IS_CLOSED, OTHER_KIND, INPUT_LENGTH, SPARE_BIT, ROBUSTNESS, NO_ROOM, TOO_MANY: the first that is so. */
+static inline pocket_status pocket_checked_send(pocket_handle *handle, const uint8_t *input, size_t input_length, bool new_mask,
+                                                bool send_mask, bool whole, uint8_t robustness, uint8_t *data, size_t room,
+                                                size_t *length, uint8_t *level)
+{
+    static uint8_t nothing;
+    if (handle == NULL || length == NULL || level == NULL || POCKET_BYTES_ARE_NULL(input, input_length) ||
+        POCKET_BYTES_ARE_NULL(data, room))
+        return POCKET_NULL;
+    return (pocket_status)pocket_send(handle, POCKET_NO_BYTES(input), input_length, new_mask, send_mask, whole, robustness,
+                                      data == NULL ? &nothing : data, room, length, level);
+}
+
+/* Opens a receiver of contents of so many bits. Takes memory. POCKET_IS_OPEN, BITS, NO_MEMORY. */
+static inline pocket_status pocket_checked_receiver_open(pocket_handle *handle, uint32_t bits)
+{
+    return handle == NULL ? POCKET_NULL : (pocket_status)pocket_receiver_open(handle, bits);
+}
+
+/* Judges the next packet that arrived, by its sequence count and its data: *finding tells what is found, and if it is written the
+ * content is in the first POCKET_INPUT_BYTES(bits) bytes of content; otherwise content is as it was. Takes no memory.
+ * POCKET_IS_CLOSED, OTHER_KIND, COUNT, TOO_LONG, NO_ROOM, TOO_MANY: the first that is so. */
+static inline pocket_status pocket_checked_receive(pocket_handle *handle, uint16_t count, const uint8_t *data, size_t length,
+                                                   uint8_t *content, size_t room, pocket_finding *finding)
+{
+    static uint8_t nothing;
+    if (handle == NULL || finding == NULL || POCKET_BYTES_ARE_NULL(data, length) || POCKET_BYTES_ARE_NULL(content, room))
+        return POCKET_NULL;
+    return (pocket_status)pocket_receive(handle, count, POCKET_NO_BYTES(data), length, content == NULL ? &nothing : content, room,
+                                         finding);
+}
+
+/* Tells the numbers of a receiver's arrivals so far. Takes no memory. POCKET_IS_CLOSED, OTHER_KIND. */
+static inline pocket_status pocket_checked_counts(pocket_handle *handle, pocket_tally *tally)
+{
+    return handle == NULL || tally == NULL ? POCKET_NULL : (pocket_status)pocket_counts(handle, tally);
+}
+
+/* Opens a desk at which nothing is kept, and there is no word. Takes memory. POCKET_IS_OPEN, NO_MEMORY. */
+static inline pocket_status pocket_checked_desk_open(pocket_handle *handle)
+{
+    return handle == NULL ? POCKET_NULL : (pocket_status)pocket_desk_open(handle);
+}
+
+/* Keeps bytes at a desk under a name, in place of what was kept under it. Takes memory.
+ * POCKET_NO_TEXT, IS_CLOSED, OTHER_KIND, NO_MEMORY: the first that is so. */
+static inline pocket_status pocket_checked_put(pocket_handle *handle, const char *name, const uint8_t *bytes, size_t length)
+{
+    if (handle == NULL || name == NULL || POCKET_BYTES_ARE_NULL(bytes, length))
+        return POCKET_NULL;
+    return (pocket_status)pocket_put(handle, (const uint8_t *)name, strlen(name), POCKET_NO_BYTES(bytes), length);
+}
+
+/* Adds a word to those of the next command: first the verb, then its words in any order, as in compress in=A out=B bits=64 apid=100
+ * robust=2. Takes memory. POCKET_NO_TEXT, IS_CLOSED, OTHER_KIND, TOO_MANY_WORDS, NO_MEMORY: the first that is so. */
+static inline pocket_status pocket_checked_word(pocket_handle *handle, const char *word)
+{
+    return handle == NULL || word == NULL ? POCKET_NULL : (pocket_status)pocket_word(handle, (const uint8_t *)word, strlen(word));
+}
+
+/* Runs the command of the words, which reads what is kept under the names that it has, and keeps what it writes under others. Then
+ * there is no word. *exit_number is the exit number of the program: 0 if the command was done, otherwise it was refused, and the first
+ * *length bytes of text say why (1 and 5 may be for want of memory). Takes memory. POCKET_NO_ROOM, IS_CLOSED, OTHER_KIND: the first that is so. */
+static inline pocket_status pocket_checked_run(pocket_handle *handle, char *text, size_t room, size_t *length, uint8_t *exit_number)
+{
+    if (handle == NULL || text == NULL || length == NULL || exit_number == NULL)
+        return POCKET_NULL;
+    return (pocket_status)pocket_run(handle, (uint8_t *)text, room, length, exit_number);
+}
+
+/* Gives what is kept under a name, nothing if it was never put or written, in the first *length bytes of bytes. If there is no room for
+ * it, *length tells how much is needed. Takes no memory. POCKET_NO_TEXT, IS_CLOSED, OTHER_KIND, NO_ROOM: the first that is so. */
+static inline pocket_status pocket_checked_get(pocket_handle *handle, const char *name, uint8_t *bytes, size_t room, size_t *length)
+{
+    static uint8_t nothing;
+    if (handle == NULL || name == NULL || length == NULL || POCKET_BYTES_ARE_NULL(bytes, room))
+        return POCKET_NULL;
+    return (pocket_status)pocket_get(handle, (const uint8_t *)name, strlen(name), bytes == NULL ? &nothing : bytes, room, length);
+}
+
+/* Gives back all memory of what the handle holds. It then holds nothing, and may be opened again. POCKET_IS_CLOSED. */
+static inline pocket_status pocket_checked_close(pocket_handle *handle)
+{
+    return handle == NULL ? POCKET_NULL : (pocket_status)pocket_close(handle);
+}
+
+/* A call by its plain name is the checked one. */
+#define pocket_sender_open pocket_checked_sender_open
+#define pocket_send pocket_checked_send
+#define pocket_receiver_open pocket_checked_receiver_open
+#define pocket_receive pocket_checked_receive
+#define pocket_counts pocket_checked_counts
+#define pocket_desk_open pocket_checked_desk_open
+#define pocket_put pocket_checked_put
+#define pocket_word pocket_checked_word
+#define pocket_run pocket_checked_run
+#define pocket_get pocket_checked_get
+#define pocket_close pocket_checked_close
+
+#ifdef __cplusplus
+}
+#endif
+#endif

@@ -1,0 +1,53 @@
+"""python3 -m pocket bits=BITS apid=APID: shows what is found of the Space Packets of standard input, each as it arrives.
+
+The lines are those of the command `show`, but that a written packet has its content alone.
+"""
+
+import sys
+
+from . import Arrival, Kind, PocketError, Receiver, space_packets
+
+WORDS = {"bits": range(1, 49153), "apid": range(2047)}
+
+
+def lines(arrival: Arrival):
+    """What is lost before an arrival, and what is found of it."""
+    if arrival.lost:
+        yield f"{arrival.lost[0]}-{arrival.lost[-1]} lost"
+    name = arrival.kind.name.lower()
+    if arrival.kind == Kind.WRITTEN:
+        yield f"{arrival.number} written {arrival.content.hex()}"
+    elif arrival.kind in (Kind.REPEAT, Kind.UNSYNCED):
+        yield f"{arrival.number} {name}"
+    else:
+        yield f"{arrival.number} {name} {arrival.value}"
+
+
+def chosen(words):
+    """The numbers that the words give, or the end with a text."""
+    given = dict(word.partition("=")[::2] for word in words)
+    if set(given) != set(WORDS) or len(words) != len(WORDS):
+        sys.exit(__doc__)
+    for key, allowed in WORDS.items():
+        if not (given[key].isdecimal() and len(given[key]) < 6 and int(given[key]) in allowed):
+            sys.exit(f"pocket: {key} is a number from {allowed[0]} to {allowed[-1]}")
+    return int(given["bits"]), int(given["apid"])
+
+
+def main():
+    bits, apid = chosen(sys.argv[1:])
+    try:
+        with Receiver(bits) as receiver:
+            for packet in space_packets(open(0, "rb", buffering=0), apid):
+                for line in lines(receiver.receive(packet.count, packet.data)):
+                    print(line, flush=True)
+            counts = receiver.counts()
+            print(f"end {counts.packets} {counts.written} {counts.repeats}")
+    except PocketError as refusal:
+        sys.exit(f"pocket: {refusal}")
+    except BrokenPipeError:
+        sys.exit(1)
+
+
+if __name__ == "__main__":
+    main()

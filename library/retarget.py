@@ -1,0 +1,164 @@
+#!/usr/bin/env python3
+"""Builds the library for another processor: library/retarget.py TARGET FOLDER writes FOLDER/libpocket_c.a.
+
+- aarch64-linux-gnu is a target of the toolchain: `rattle build` proves the crate pocket_c for it, over the libraries that the gate has
+  proved (crates/*/out/rlib), and has its module compiled by the clang of the folder of tools that it is given. Here that clang calls
+  this file, which keeps the module (FOLDER/module.bc) and calls the toolchain's own, with one flag more: all accesses are aligned. What
+  `rattle build` said, whose last line tells what is proved, is FOLDER/build.log.
+- riscv64-linux-gnu is none: library/retarget.py riscv64-linux-gnu FOLDER MODULE takes a module that was kept, turns its text
+  (FOLDER/turned.ll), and has the toolchain's clang compile that: its data layout, its triple, the attributes that name a processor or a
+  way of the other one, the one instruction that only the other one has, and narrow results, which a caller on RISC-V takes to be
+  widened. So it is compiled another way: compared (.ci/processors.py), not proved.
+
+With POCKET_UNALIGNED=1 in the environment, accesses that are not aligned are left to the processor.
+"""
+
+import os
+import re
+import shutil
+import subprocess
+import sys
+
+TOP = os.path.dirname(os.path.dirname(os.path.abspath(__file__)))
+CRATE = "pocket_c"
+ARM, RISC_V = "aarch64-linux-gnu", "riscv64-linux-gnu"
+STRICT = ["-mno-strict-align" if os.environ.get("POCKET_UNALIGNED") else "-mstrict-align"]
+
+TRIPLE = "riscv64-unknown-linux-gnu"
+LAYOUT = "e-m:e-p:64:64-i64:64-i128:128-n32:64-S128"
+# Those of the toolchain's flags for aarch64 that have a meaning on RISC-V, and the processor: rv64gc, with doubles in registers.
+RISC_V_FLAGS = [
+    f"--target={TRIPLE}", "-march=rv64gc", "-mabi=lp64d", "-O3", "-fPIC", "-ffunction-sections", "-fdata-sections",
+    "-mllvm", "-no-trap-after-noreturn", "-mllvm", "-trap-unreachable", "-mllvm", "-disable-machine-licm",
+    "-mllvm", "-disable-postra-machine-licm", "-mllvm", "-sink-common-insts=false", "--no-default-config", "-Werror",
+]
+
+# Attributes that name a processor, or how its stack is probed.
+ATTRIBUTES = re.compile(r' "(?:target-cpu|target-features|tune-cpu|probe-stack|stack-probe-size)"(?:="[^"]*")?')
+# The line of a function that is seen outside and whose result has fewer bits than a register.
+RESULT = re.compile(r"^(define|declare)((?: (?!internal|private)[a-z_]+)*) (i1|i8|i16|i32) (?=@)", re.M)
+# Numbers of 32 bits are widened by their sign on RISC-V, whatever C calls them; all others by zeros.
+WIDENED = {"i1": "zeroext", "i8": "zeroext", "i16": "zeroext", "i32": "signext"}
+# The one instruction of the module that only the other processor has, the sums of neighbours in two vectors, and the same in plain words.
+SUMS = "@llvm.aarch64.neon.addp.v16i8"
+DECLARED = re.compile(rf"^declare <16 x i8> {re.escape(SUMS)}\(.*$", re.M)
+CHOSEN = "shufflevector <16 x i8> %a, <16 x i8> %b, <16 x i32> <{}>"
+SUMMED = f"""define internal <16 x i8> @neighbours(<16 x i8> %a, <16 x i8> %b) alwaysinline {{
+  %even = {CHOSEN.format(", ".join(f"i32 {place}" for place in range(0, 32, 2)))}
+  %odd = {CHOSEN.format(", ".join(f"i32 {place}" for place in range(1, 32, 2)))}
+  %sums = add <16 x i8> %even, %odd
+  ret <16 x i8> %sums
+}}"""
+
+
+def turned(text):
+    """The text of a module for aarch64, for riscv64."""
+    for name, value in (("datalayout", LAYOUT), ("triple", TRIPLE)):
+        text, times = re.subn(f'^target {name} = "[^"]*"', f'target {name} = "{value}"', text, flags=re.M)
+        if times != 1:
+            sys.exit(f"the module has {times} lines 'target {name}'")
+    text = ATTRIBUTES.sub("", text)
+    text, times = RESULT.subn(lambda it: f"{it[1]}{it[2]} {WIDENED[it[3]]} {it[3]} ", text)
+    if times == 0:
+        sys.exit("the module has no narrow result: its text has another form")
+    text = DECLARED.sub(SUMMED, text).replace(SUMS, "@neighbours")
+    if "@llvm.aarch64." in text:
+        sys.exit("the module has an instruction that RISC-V has not")
+    return text
+
+
+def turn(module, folder, tools):
+    """Compiles a module that was kept for riscv64."""
+    clang, object_file, archive = f"{tools}/clang", f"{folder}/{CRATE}.o", f"{folder}/lib{CRATE}.a"
+    written = [clang, "-x", "ir", module, "-S", "-emit-llvm", "-Xclang", "-disable-llvm-passes", "-o", "-", "--target=aarch64-unknown-linux-gnu"]
+    text = subprocess.run(written, check=True, capture_output=True, text=True, errors="surrogateescape").stdout
+    with open(f"{folder}/turned.ll", "w", encoding="utf-8", errors="surrogateescape") as file:
+        file.write(turned(text))
+    subprocess.run([clang, *RISC_V_FLAGS, *STRICT, "-c", "-x", "ir", f"{folder}/turned.ll", "-o", object_file], check=True)
+    if os.path.exists(archive):
+        os.remove(archive)
+    subprocess.run([f"{tools}/llvm-ar", "rcsD", archive, object_file], check=True)
+    return 0
+
+
+def compile_kept(words, clang, module):
+    """What `rattle build` takes for clang: keeps the module that it hands on first, and compiles with one flag more."""
+    for word in words:
+        if word.endswith(".bc") and os.path.isfile(word):
+            shutil.copyfile(word, module)
+    return subprocess.run([clang, *words, *STRICT]).returncode
+
+
+def rows():
+    """The crates, and what each stands on, of crates.txt."""
+    with open(f"{TOP}/crates.txt", encoding="utf-8") as file:
+        lines = (line.partition("#")[0].partition(":") for line in file)
+        return {name.split()[0]: uses.split() for name, _, uses in lines if name.strip()}
+
+
+def below(crate, uses):
+    """The crates of this repository on which a crate stands, itself left out."""
+    found = {}
+    for name in uses[crate]:
+        if name in uses:
+            found.update(dict.fromkeys([name, *below(name, uses)]))
+    return found
+
+
+def build_words(kit):
+    """The words of `rattle build` for the crate, as `rt lib` says them."""
+    uses = rows()
+    rlib = lambda it: f"{TOP}/crates/{it}/out/rlib" if it in uses else f"{kit}/rlibs"
+    words = ["--crate-name", CRATE, "src/lib.rt"]
+    for name in ["std", *uses[CRATE]]:
+        words += ["--extern", f"{name}={rlib(name)}/{name}.rlib"]
+    words += ["-L", f"dependency={kit}/rlibs"]
+    for name in below(CRATE, uses):
+        words += ["-L", f"dependency={rlib(name)}"]
+    words += ["--antt-project", f"{kit}/rattle/logic/antt-project.json", "--logic-built", f"{kit}/logic_built"]
+    kept = f"{TOP}/crates/{CRATE}/out/incremental"
+    return words + ["--incremental", kept, "--jobs", "1", "--links", f"{CRATE}=", "--crate-type", "staticlib"]
+
+
+def wrapped(kit, folder):
+    """A folder of tools in which clang calls this file. `rattle build` hands it no environment, so what it needs is written into it."""
+    made, tools = f"{folder}/toolchain", f"{kit}/toolchain"
+    shutil.rmtree(made, ignore_errors=True)
+    os.makedirs(f"{made}/bin")
+    os.symlink(f"{tools}/lib", f"{made}/lib")
+    for name in os.listdir(f"{tools}/bin"):
+        if name != "clang":
+            os.symlink(f"{tools}/bin/{name}", f"{made}/bin/{name}")
+    with open(f"{made}/bin/clang", "w", encoding="utf-8") as file:
+        file.write(f"#!{sys.executable} -B\nimport sys\nsys.path.insert(0, {TOP + '/library'!r})\nimport retarget\nretarget.STRICT = {STRICT!r}\n")
+        file.write(f"sys.exit(retarget.compile_kept(sys.argv[1:], {tools + '/bin/clang'!r}, {folder + '/module.bc'!r}))\n")
+    os.chmod(f"{made}/bin/clang", 0o755)
+    return made
+
+
+def build(folder, kit):
+    """Proves and builds the crate for aarch64; gives the status of `rattle build`, and prints its last line."""
+    words = ["rattle", "build", *build_words(kit), "--target", "aarch64-unknown-linux-gnu"]
+    tools = wrapped(kit, folder)
+    words += ["--toolchain", tools, "-o", f"{folder}/lib{CRATE}.a"]
+    with open(f"{folder}/build.log", "w+", encoding="utf-8", errors="replace") as log:
+        ran = subprocess.run(words, cwd=f"{TOP}/crates/{CRATE}", stdout=log, stderr=subprocess.STDOUT)
+        shutil.rmtree(tools)  # it has links, which the gate refuses
+        log.seek(0)
+        lines = log.read().splitlines()
+    print("\n".join(lines[-1:] if ran.returncode == 0 else lines[-20:]))
+    return ran.returncode
+
+
+def main():
+    rattle = shutil.which("rattle")
+    if not rattle or sys.argv[1:2] not in ([ARM], [RISC_V]) or len(sys.argv) != (4 if sys.argv[1] == RISC_V else 3):
+        sys.exit(__doc__ if rattle else "the toolchain's rattle is not on the path")
+    kit = os.path.dirname(os.path.dirname(os.path.realpath(rattle)))
+    folder = os.path.abspath(sys.argv[2])
+    os.makedirs(folder, exist_ok=True)
+    return build(folder, kit) if sys.argv[1] == ARM else turn(sys.argv[3], folder, f"{kit}/toolchain/bin")
+
+
+if __name__ == "__main__":
+    sys.exit(main())
