@@ -1,10 +1,12 @@
 #!/usr/bin/env python3
-"""Builds the library for another processor: library/retarget.py TARGET FOLDER writes FOLDER/libpocket_c.a.
+"""Builds the library for a processor, over the libraries that the gate has proved: library/retarget.py TARGET FOLDER writes
+FOLDER/libpocket_c.a.
 
-- aarch64-linux-gnu is a target of the toolchain: `rattle build` proves the crate pocket_c for it, over the libraries that the gate has
-  proved (crates/*/out/rlib), and has its module compiled by the clang of the folder of tools that it is given. Here that clang calls
-  this file, which keeps the module (FOLDER/module.bc) and calls the toolchain's own, with one flag more: all accesses are aligned. What
-  `rattle build` said, whose last line tells what is proved, is FOLDER/build.log.
+- x86_64-linux-gnu is what `rt lib` makes in crates/pocket_c, but `rt lib` proves the libraries below anew if no check of its own has
+  kept them, and the gate keeps none of those. Here `rattle build` takes the gate's (crates/*/out/rlib), and proves the crate alone.
+- aarch64-linux-gnu is a target of the toolchain: `rattle build` proves the crate for it, and has its module compiled by the clang of the
+  folder of tools that it is given. Here that clang calls this file, which keeps the module (FOLDER/module.bc) and calls the toolchain's
+  own, with one flag more: all accesses are aligned. What `rattle build` said, whose last line tells what is proved, is FOLDER/build.log.
 - riscv64-linux-gnu is none: library/retarget.py riscv64-linux-gnu FOLDER MODULE takes a module that was kept, turns its text
   (FOLDER/turned.ll), and has the toolchain's clang compile that: its data layout, its triple, the attributes that name a processor or a
   way of the other one, the one instruction that only the other one has, and narrow results, which a caller on RISC-V takes to be
@@ -21,7 +23,7 @@ import sys
 
 TOP = os.path.dirname(os.path.dirname(os.path.abspath(__file__)))
 CRATE = "pocket_c"
-ARM, RISC_V = "aarch64-linux-gnu", "riscv64-linux-gnu"
+NATIVE, ARM, RISC_V = "x86_64-linux-gnu", "aarch64-linux-gnu", "riscv64-linux-gnu"
 STRICT = ["-mno-strict-align" if os.environ.get("POCKET_UNALIGNED") else "-mstrict-align"]
 
 TRIPLE = "riscv64-unknown-linux-gnu"
@@ -117,7 +119,8 @@ def build_words(kit):
         words += ["-L", f"dependency={rlib(name)}"]
     words += ["--antt-project", f"{kit}/rattle/logic/antt-project.json", "--logic-built", f"{kit}/logic_built"]
     kept = f"{TOP}/crates/{CRATE}/out/incremental"
-    return words + ["--incremental", kept, "--jobs", "1", "--links", f"{CRATE}=", "--crate-type", "staticlib"]
+    jobs = str(len(os.sched_getaffinity(0)))
+    return words + ["--incremental", kept, "--jobs", jobs, "--links", f"{CRATE}=", "--crate-type", "staticlib"]
 
 
 def wrapped(kit, folder):
@@ -136,28 +139,43 @@ def wrapped(kit, folder):
     return made
 
 
-def build(folder, kit):
-    """Proves and builds the crate for aarch64; gives the status of `rattle build`, and prints its last line."""
-    words = ["rattle", "build", *build_words(kit), "--target", "aarch64-unknown-linux-gnu"]
-    tools = wrapped(kit, folder)
-    words += ["--toolchain", tools, "-o", f"{folder}/lib{CRATE}.a"]
+def build(folder, words):
+    """Has `rattle build` prove and build the crate into a folder; gives its status, and prints its last line."""
+    archive = f"{folder}/lib{CRATE}.a"
+    if os.path.exists(archive):
+        os.remove(archive)
+    os.makedirs(f"{TOP}/crates/{CRATE}/out", exist_ok=True)
     with open(f"{folder}/build.log", "w+", encoding="utf-8", errors="replace") as log:
-        ran = subprocess.run(words, cwd=f"{TOP}/crates/{CRATE}", stdout=log, stderr=subprocess.STDOUT)
-        shutil.rmtree(tools)  # it has links, which the gate refuses
+        ran = subprocess.run(["rattle", "build", *words, "-o", archive], cwd=f"{TOP}/crates/{CRATE}", stdout=log, stderr=subprocess.STDOUT)
         log.seek(0)
         lines = log.read().splitlines()
     print("\n".join(lines[-1:] if ran.returncode == 0 else lines[-20:]))
     return ran.returncode
 
 
+def build_native(folder, kit):
+    """Proves and builds the crate for x86-64, with the tools that `rt lib` takes."""
+    return build(folder, [*build_words(kit), "--toolchain", f"{kit}/toolchain", "--backend", "llvm"])
+
+
+def build_arm(folder, kit):
+    """Proves and builds the crate for aarch64."""
+    tools = wrapped(kit, folder)
+    status = build(folder, [*build_words(kit), "--target", "aarch64-unknown-linux-gnu", "--toolchain", tools])
+    shutil.rmtree(tools)  # it has links, which the gate refuses
+    return status
+
+
 def main():
     rattle = shutil.which("rattle")
-    if not rattle or sys.argv[1:2] not in ([ARM], [RISC_V]) or len(sys.argv) != (4 if sys.argv[1] == RISC_V else 3):
+    if not rattle or sys.argv[1:2] not in ([NATIVE], [ARM], [RISC_V]) or len(sys.argv) != (4 if sys.argv[1] == RISC_V else 3):
         sys.exit(__doc__ if rattle else "the toolchain's rattle is not on the path")
     kit = os.path.dirname(os.path.dirname(os.path.realpath(rattle)))
     folder = os.path.abspath(sys.argv[2])
     os.makedirs(folder, exist_ok=True)
-    return build(folder, kit) if sys.argv[1] == ARM else turn(sys.argv[3], folder, f"{kit}/toolchain/bin")
+    if sys.argv[1] == RISC_V:
+        return turn(sys.argv[3], folder, f"{kit}/toolchain/bin")
+    return (build_native if sys.argv[1] == NATIVE else build_arm)(folder, kit)
 
 
 if __name__ == "__main__":
