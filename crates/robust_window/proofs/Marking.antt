@@ -1,7 +1,6 @@
 -- The marks of the latest sixteen steps, and the changes that are marked.
 use Rattle.std.proofs.Common.{◌≡◌, ℕ, zero, suc, ◌+◌, ◌-◌, ◌*◌, ◌/◌, ◌%◌, ◌^◌, ◌<◌, ◌≤◌, Bool, true, false, cond, eqb, if◌then◌else◌, List, [], ◌∷◌, ◌++◌, length, drop, replicate, get_or, bit_or, count_ones, w16, refl, sym, ap, ◌∙◌, inl, inr, arith, add-one, subst}
-use Rattle.std.specs.Prelude.{Contains, not}
-use Rattle.std.specs.Bool.{OnFalse, OnTrue}
+use Rattle.std.specs.Prelude.{Contains}
 use Rattle.std.specs.Int.{bit_at, trailing_zeros}
 use Rattle.std.specs.Int.Count.{trailing_of_zero}
 use Rattle.std.specs.List.{count_by, range_with_len}
@@ -203,15 +202,6 @@ changes_of-marked f n slots back len lt set = changes_of-back f n slots back len
 pub changes_of-quiet : (f n : ℕ) (slots : List (List Bool)) (back : ℕ) → length slots ≡ 16 → back < 16 → mark_back n back ≡ false → change_back (changes_of f n slots) back ≡ replicate f false
 changes_of-quiet f n slots back len lt set = changes_of-back f n slots back len lt ∙ ap (λ (b : Bool). if b then change_back slots back else replicate f false) set
 
--- whether a change is marked
-pub unmarked_zeros : (zero : Bool) (change : List Bool) → OnTrue zero (change ≡ replicate (length change) false) → not zero ≡ false → change ≡ replicate (length change) false
-unmarked_zeros true change zeros quiet = zeros
-unmarked_zeros false change zeros quiet = let other : true ≡ false = quiet in cc
-
-pub marked_one : (zero : Bool) (change : List Bool) → OnFalse zero (Contains change true) → not zero ≡ true → Contains change true
-marked_one true change one marked = let other : false ≡ true = marked in cc
-marked_one false change one marked = one
-
 same_change : (f : ℕ) (change kept : List Bool) (mark : Bool) → (mark ≡ false → change ≡ replicate f false) → (if mark then (if mark then change else kept) else replicate f false) ≡ change
 same_change f change kept true quiet = refl
 same_change f change kept false quiet = sym (quiet refl)
@@ -237,9 +227,3 @@ marked-pushed old new slots change kept mark len marks one marked zero lt set =
 marked-pushed old new slots change kept mark len marks one marked (suc back) lt set =
     let was : mark_back old back ≡ true = sym (marks-back old back (omega arith)) ∙ (sym (earlier_pushed (marks_of old) mark false back (length-marks old) (omega arith)) ∙ (ap (λ (l : List Bool). new_mask_back l (suc back)) (sym marks) ∙ (marks-back new (suc back) lt ∙ set))) in
     subst (λ (v : List Bool). Contains v true) (sym (earlier_pushed slots (if mark then change else kept) [] back len (omega arith))) (marked back (omega arith) was)
-
--- the same of the slots after a step, whose change is marked if it isn't zero
-pub marked-after : (old new : ℕ) (slots after : List (List Bool)) (change : List Bool) (none : Bool) → after ≡ drop 1 slots ++ (if not none then change else change_back slots 15) ∷ [] → length slots ≡ 16
-    → marks_of new ≡ drop 1 (marks_of old) ++ not none ∷ [] → OnFalse none (Contains change true) → AreMarked old slots → AreMarked new after
-marked-after old new slots after change none is len marks one marked =
-    subst (AreMarked new) (sym is) (marked-pushed old new slots change (change_back slots 15) (not none) len marks (marked_one none change one) marked)

@@ -84,22 +84,6 @@ Takes-then named rank a b d one two = record {
   own = λ n. own-then (named n ≡ true) (cell_at a n).rank (cell_at b n).rank (cell_at d n).rank rank (one.own n) (two.own n);
 }
 
--- nothing is taken
-pub Takes-none : (named : ℕ → Bool) (rank : ℕ) (cells : List Cell) → Takes named rank cells cells
-Takes-none named rank cells = record { len = refl; grown = λ n. omega arith; own = λ n. inl refl }
-
-own_by : (named other : ℕ → Bool) (n a b rank : ℕ) → named n ≡ other n → (b ≡ a) ⊎ (named n ≡ true) × (b ≡ rank) → (b ≡ a) ⊎ (other n ≡ true) × (b ≡ rank)
-own_by named other n a b rank same (inl was) = inl was
-own_by named other n a b rank same (inr is) = inr (sym same ∙ is.0, is.1)
-
--- the same numbers, named otherwise
-pub Takes-by : (named other : ℕ → Bool) (rank : ℕ) (old new : List Cell) → ((n : ℕ) → named n ≡ other n) → Takes named rank old new → Takes other rank old new
-Takes-by named other rank old new same takes = record {
-  len = takes.len;
-  grown = takes.grown;
-  own = λ n. own_by named other n (cell_at old n).rank (cell_at new n).rank rank (same n) (takes.own n);
-}
-
 -- the numbers from t on, in steps
 abbrev pub steps_from : ℕ → ℕ → Span
 steps_from t step = record { first = t; last = 4294967295; step = step }

@@ -1,9 +1,8 @@
 -- What rows that are looked at one after another say of a number.
-use Rattle.std.proofs.Common.{◌≡◌, ℕ, zero, suc, ◌<◌, Bool, true, false, ◌||◌, ◌&&◌, cond, List, [], ◌∷◌, ◌++◌, length, get_or, find, reverse, Option, Some, None, All, refl, sym, ap, ◌∙◌, arith}
+use Rattle.std.proofs.Common.{◌≡◌, ℕ, zero, suc, ◌<◌, Bool, true, false, ◌||◌, ◌&&◌, cond, List, [], ◌∷◌, ◌++◌, length, get_or, find, reverse, Option, Some, None, All, refl, ◌∙◌, arith}
 use Rattle.std.specs.List.{list_any}
 use Rattle.std.proofs.lemmas.List.{reverse-append}
 use Rattle.std.proofs.lemmas.List.Elements.{All-get_or, All-head, All-tail}
-use Rattle.std.proofs.lemmas.List.Folds.{list_any-append}
 use Rattle.bit_vectors.specs.declared.flags.Flags.{Flags}
 use Rattle.side_tables.specs.declared.rows.FlagRow.{FlagRow}
 use Rattle.side_tables.specs.declared.span.Span.{Span}
@@ -15,43 +14,8 @@ use Rattle.side_tables.specs.Rows.{flag_span, flags_of, gives_flag, last_row, no
 abbrev pub no_row : FlagRow
 no_row = record { first = 0; last = 0; step = 0; flags = no_flags }
 
-flag_more : (flag : Flags → Bool) (rows : List FlagRow) (row : FlagRow) (t : ℕ) → list_any (gives_flag flag t) (rows ++ row ∷ []) ≡ (list_any (gives_flag flag t) rows || gives_flag flag t row)
-flag_more flag rows row t =
-    list_any-append (gives_flag flag t) rows (row ∷ []) ∙ ap (λ last. list_any (gives_flag flag t) rows || last) (alone (gives_flag flag t row)) where
-      alone : (b : Bool) → (b || false) ≡ b
-      alone true = refl
-      alone false = refl
-
 together : (flags others : Flags) → flags.p ≡ others.p → flags.f ≡ others.f → flags.r ≡ others.r → flags ≡ others
 together flags others p f r = λ i. record { p = p i; f = f i; r = r i }
-
-more_by : (so_far is flag new : Bool) → is ≡ true → new ≡ (so_far || flag) → new ≡ (so_far || (is && flag))
-more_by so_far true flag new named same = same
-more_by so_far false flag new named same = absurd cc
-
--- one more row, which names the number
-pub flags_of-named : (rows : List FlagRow) (row : FlagRow) (t : ℕ) (flags new : Flags) → flags ≡ flags_of rows t → names (flag_span row) t ≡ true
-    → new.p ≡ (flags.p || row.flags.p) → new.f ≡ (flags.f || row.flags.f) → new.r ≡ (flags.r || row.flags.r) → new ≡ flags_of (rows ++ row ∷ []) t
-flags_of-named rows row t flags new so_far named p f r =
-    let is = names (flag_span row) t in
-    together new (flags_of (rows ++ row ∷ []) t)
-    (more_by flags.p is row.flags.p new.p named p ∙ (ap (λ (k : Flags). k.p || (is && row.flags.p)) so_far ∙ sym (flag_more (λ flags. flags.p) rows row t)))
-    (more_by flags.f is row.flags.f new.f named f ∙ (ap (λ (k : Flags). k.f || (is && row.flags.f)) so_far ∙ sym (flag_more (λ flags. flags.f) rows row t)))
-    (more_by flags.r is row.flags.r new.r named r ∙ (ap (λ (k : Flags). k.r || (is && row.flags.r)) so_far ∙ sym (flag_more (λ flags. flags.r) rows row t)))
-
-no_more : (so_far is flag : Bool) → is ≡ false → so_far ≡ (so_far || (is && flag))
-no_more true is flag none = refl
-no_more false false flag none = refl
-no_more false true flag none = absurd cc
-
--- one more row, which doesn't
-pub flags_of-other : (rows : List FlagRow) (row : FlagRow) (t : ℕ) (flags : Flags) → flags ≡ flags_of rows t → names (flag_span row) t ≡ false → flags ≡ flags_of (rows ++ row ∷ []) t
-flags_of-other rows row t flags so_far other =
-    let is = names (flag_span row) t in
-    so_far ∙ together (flags_of rows t) (flags_of (rows ++ row ∷ []) t)
-    (no_more (flags_of rows t).p is row.flags.p other ∙ sym (flag_more (λ flags. flags.p) rows row t))
-    (no_more (flags_of rows t).f is row.flags.f other ∙ sym (flag_more (λ flags. flags.f) rows row t))
-    (no_more (flags_of rows t).r is row.flags.r other ∙ sym (flag_more (λ flags. flags.r) rows row t))
 
 none_given : (is flag rest : Bool) → is ≡ false → rest ≡ false → (is && flag || rest) ≡ false
 none_given false flag rest other none = none
@@ -99,10 +63,6 @@ find-reverse_last p (x ∷ rows) zero d inside passes later =
 find-reverse_last p (x ∷ rows) (suc place) d inside passes later =
     let rest = find-reverse_last p rows place d (omega arith) passes (λ k after within. later (suc k) (omega arith) (omega arith)) in
     find-reverse p x rows ∙ rw rest refl
-
--- one more row
-pub last_row-push : {R : Type 0} (span_of : R → Span) (rows : List R) (row : R) (t : ℕ) → last_row span_of (rows ++ row ∷ []) t ≡ cond (names (span_of row) t) (Some row) (last_row span_of rows t)
-last_row-push span_of rows row t = ap (find (λ row. names (span_of row) t)) (reverse-append rows (row ∷ []))
 
 -- if no row names the number, there is no last one that does
 pub last_row-none : {R : Type 0} (span_of : R → Span) (rows : List R) (t : ℕ) → All (λ row. names (span_of row) t ≡ false) rows → last_row span_of rows t ≡ None
