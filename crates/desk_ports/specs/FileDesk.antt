@@ -9,10 +9,10 @@ use Rattle.desk_ports.specs.declared.desk.Inlet.TheVariants as inlet
 use Rattle.desk_ports.specs.declared.desk.Outlet.{Outlet}
 use Rattle.desk_ports.specs.declared.desk.Outlet.TheVariants as outlet
 use Rattle.desk_ports.specs.declared.file.FileDesk.{FileDesk}
-use Rattle.desk_ports.specs.declared.file.Source.{Source}
-use Rattle.desk_ports.specs.declared.file.Source.TheVariants as source
-use Rattle.desk_ports.specs.declared.file.Sink.{Sink}
-use Rattle.desk_ports.specs.declared.file.Sink.TheVariants as sink
+use Rattle.desk_ports.specs.declared.source.Source.{Source}
+use Rattle.desk_ports.specs.declared.source.Source.TheVariants as source
+use Rattle.desk_ports.specs.declared.sink.Sink.{Sink}
+use Rattle.desk_ports.specs.declared.sink.Sink.TheVariants as sink
 use Rattle.desk_ports.specs.Meanings.{Meanings, Counts, untold}
 
 abbrev pub is_opened_source : Source → Bool

@@ -13,6 +13,8 @@ mod progress;
 mod quiet;
 mod read_faults;
 mod row;
+mod sink;
+mod source;
 mod transfer;
 mod turns;
 mod write_faults;
