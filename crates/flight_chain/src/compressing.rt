@@ -1,6 +1,6 @@
 //! A recording that is being compressed, packet by packet.
 
-ghost use Rattle.std.specs.Prelude.{◌≡◌, ◌+◌, ◌-◌, ◌%◌, ◌^◌, ◌<◌, ◌≤◌, [], length, IfOk, OnOk, OnErr};
+ghost use Rattle.std.specs.Prelude.{◌≡◌, ◌+◌, ◌*◌, ◌-◌, ◌%◌, ◌^◌, ◌<◌, ◌≤◌, [], length, replicate, false, IfOk, OnOk, OnErr};
 ghost use Rattle.desk_ports.specs.Meanings.{IsReadyOut, HasWriteCause, Adds, AddsFront};
 ghost use Rattle.mask_update.specs.Histories.{History};
 ghost use Rattle.packet_encode.specs.Encoder.{StandsFor};
@@ -90,14 +90,16 @@ impl Compressing {
             }) []) }
         ensures ahead { IfOk result (λ compressing. compressing.ahead ≡ []) }
     {
+        let (ahead, input) = reading(alloc, f)?;
+        let (writer, pen) = writing(alloc, f, apid)?;
         Ok(Compressing {
             encoder: Encoder::open(alloc, f, mask)?,
             plan: Lookup::open(alloc, plan)?,
             robust,
-            writer: StoreWriter::open(alloc, apid)?,
-            ahead: ReadAhead::open(alloc)?,
-            input: Bits::zeros(alloc, f)?,
-            pen: BitPen::with_room(alloc, room(f))?,
+            writer,
+            ahead,
+            input,
+            pen,
         })
     }
 
@@ -134,4 +136,29 @@ impl Compressing {
         let count = (u64::from(t) % PERIOD) as u16;
         self.writer.put(desk, count, self.pen.bytes())
     }
+}
+
+/// What a recording is read with: the bytes that are read ahead, and a vector for an input.
+fn reading(alloc: Global, f: u32) -> Result<(ReadAhead, Bits), NoMemory>
+    requires some { 1 ≤ f }
+    requires most { f ≤ 49152 }
+    ensures ahead { IfOk result (λ made. made.0 ≡ []) }
+    ensures input { IfOk result (λ made. made.1 ≡ replicate f false) }
+{
+    Ok((ReadAhead::open(alloc)?, Bits::zeros(alloc, f)?))
+}
+
+/// What a store is written with: its writer, and a pen for a packet.
+fn writing(alloc: Global, f: u32, apid: u16) -> Result<(StoreWriter, BitPen), NoMemory>
+    requires some { 1 ≤ f }
+    requires most { f ≤ 49152 }
+    requires chosen { apid ≤ 2046 }
+    ensures apid { IfOk result (λ made. made.0.apid ≡ apid) }
+    ensures bits { IfOk result (λ made. made.1.bits ≡ []) }
+    ensures room { IfOk result (λ made. made.1.room ≡ 10 * f + 43) }
+{
+    Ok((
+        StoreWriter::open(alloc, apid)?,
+        BitPen::with_room(alloc, room(f))?,
+    ))
 }
