@@ -1,0 +1,2 @@
+'use strict';
+async function tell_tests() {}

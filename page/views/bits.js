@@ -1,0 +1,102 @@
+'use strict';
+// Vectors and data of packets as bytes in hexadecimal and as bits.
+
+const BYTES_A_ROW = 8;
+const ROWS_AT_ONCE = 64;
+
+function from_hex(text) {
+  const bytes = new Uint8Array(text.length >> 1);
+  for (let place = 0; place < bytes.length; place += 1) bytes[place] = parseInt(text.substr(2 * place, 2), 16);
+  return bytes;
+}
+
+function to_hex(bytes) {
+  return Array.from(bytes, (byte) => byte.toString(16).padStart(2, '0')).join(' ');
+}
+
+// Hexadecimal digits in pairs, of long ones the beginning.
+function hex_words(text) {
+  const most = 64;
+  const shown = to_hex(from_hex(text.slice(0, 2 * most)));
+  return text.length > 2 * most ? `${shown} .. (${grouped(text.length / 2)} bytes)` : shown;
+}
+
+function bit_at(bytes, place) {
+  return (bytes[place >> 3] >> (7 - (place & 7))) & 1;
+}
+
+// The places at which a vector has a one, in words.
+function ones_words(bytes, most = 12) {
+  const places = [];
+  let count = 0;
+  for (let place = 0; place < 8 * bytes.length; place += 1) {
+    if (!bit_at(bytes, place)) continue;
+    if (count < most) places.push(place);
+    count += 1;
+  }
+  if (count === 0) return 'no place';
+  return `${counted(count, 'place', 'places')}: ${places.join(', ')}${count > most ? ' ..' : ''}`;
+}
+
+// The bits of one row of bytes: bits of the same kind stand in one part. `kind_of` gives the class of a bit by its place.
+function bit_row(bytes, from, bits, kind_of) {
+  const row = document.createDocumentFragment(), hex = bytes.subarray(from, from + BYTES_A_ROW);
+  row.append(element('span', { class: 'place' }, String(8 * from).padStart(7) + '  '), to_hex(hex).padEnd(3 * BYTES_A_ROW + 1));
+  let text = '', kind = '';
+  const flush = () => {
+    if (text) row.append(kind ? element('span', { class: kind }, text) : text);
+    text = '';
+  };
+  for (let place = 8 * from; place < Math.min(bits, 8 * (from + hex.length)); place += 1) {
+    const now = kind_of(place);
+    if (now !== kind) flush();
+    kind = now;
+    text += bit_at(bytes, place);
+    if (place % 8 === 7) {
+      flush();
+      row.append(' ');
+    }
+  }
+  flush();
+  row.append('\n');
+  return row;
+}
+
+// Bytes with their bits, in rows of eight bytes; `after_row` gives what stands below the row of a byte. If there are many rows, a
+// button gives the rest; the row of the bit `wanted` is among those at once.
+function bit_table(bytes, bits, kind_of, wanted = 0, after_row = () => '') {
+  const box = element('div', { class: 'bits', tabindex: '0', 'aria-label': 'Bytes and bits' });
+  const middle = Math.floor(wanted / 8 / BYTES_A_ROW), rows = Math.ceil(bytes.length / BYTES_A_ROW);
+  const first = rows > ROWS_AT_ONCE ? Math.max(0, middle - ROWS_AT_ONCE / 2) : 0;
+  const draw = (from, to) => {
+    const made = [];
+    for (let row = from; row < to; row += 1) made.push(bit_row(bytes, row * BYTES_A_ROW, bits, kind_of), after_row(row * BYTES_A_ROW));
+    fill(box, element('span', { class: 'place' }, '    bit  bytes                    bits\n'), ...made);
+  };
+  const last = Math.min(rows, first + ROWS_AT_ONCE);
+  draw(first, last);
+  if (first > 0 || last < rows) {
+    box.append(element('button', { type: 'button', on_click: () => draw(0, Math.min(rows, 1024)) }, `All ${grouped(rows)} rows`));
+  }
+  return box;
+}
+
+// The content of a written packet: the bits that its mask has, and those that changed lately, are told apart.
+function content_table(content, mask, changes, bits) {
+  return bit_table(content, bits, (place) => {
+    const classes = [];
+    if (mask && bit_at(mask, place)) classes.push('mask');
+    if (bit_at(changes, place)) classes.push('change');
+    return classes.join(' ');
+  });
+}
+
+// The data of a packet that has a first wrong bit: it is marked, with an arrow below, and what follows is faint.
+function wrong_table(data, wrong) {
+  const arrow = (from) => {
+    if (wrong < 8 * from || wrong >= 8 * (from + BYTES_A_ROW)) return '';
+    const inside = wrong - 8 * from, before = 9 + 3 * BYTES_A_ROW + 1 + inside + Math.floor(inside / 8);
+    return element('span', { class: 'arrow' }, `${' '.repeat(before)}▲ bit ${wrong} is the first wrong one\n`);
+  };
+  return bit_table(data, 8 * data.length, (place) => (place === wrong ? 'first-wrong' : place > wrong ? 'after' : ''), wrong, arrow);
+}

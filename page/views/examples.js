@@ -1,0 +1,38 @@
+'use strict';
+// Examples that the page makes itself, by the program's own verbs: a store of a pass, and a recording with its fields.
+
+const EXAMPLE_FIELDS = `field,0,8,u,mode
+field,8,12,u,battery_mV
+field,20,12,s,current_mA
+field,32,8,s,temperature_C
+field,40,16,s,wheel_rpm
+limit,battery_mV,2800,3300
+limit,temperature_C,-10,40
+limit,current_mA,-500,500
+`;
+const EXAMPLE_LOSS = 'drop,23,24,1\ndrop,61,66,1\nrepeat,80,81,1,1\ndrop,101,101,1\ndrop,130,133,1\n';
+
+// Housekeeping of a craft in sun and shadow: so many packets of 64 bits.
+function example_recording(count) {
+  const bytes = new Uint8Array(8 * count);
+  for (let t = 0; t < count; t += 1) {
+    const turn = (t % 90) / 90, is_dark_now = turn > 0.62;
+    const battery = Math.round(is_dark_now ? 3240 - 1350 * (turn - 0.62) : 2760 + 560 * Math.min(1, turn / 0.5));
+    const current = is_dark_now ? -310 + (t % 7) : 420 - Math.round(300 * turn) + (t % 5);
+    const temperature = Math.round(14 + 31 * Math.sin(2 * Math.PI * (turn - 0.18)));
+    const wheel = -12000 + 133 * (t % 180);
+    const words = (BigInt(is_dark_now ? 2 : 1) << 56n) | (BigInt(battery) << 44n) | (BigInt(current & 4095) << 32n) | (BigInt(temperature & 255) << 24n) | (BigInt(wheel & 65535) << 8n) | BigInt(t & 3);
+    new DataView(bytes.buffer).setBigUint64(8 * t, words);
+  }
+  return bytes;
+}
+
+// The store of that recording as it comes over a link that loses and repeats packets, with one packet damaged on its way.
+function example_store() {
+  const plan = bytes_of('20,179,20,p\n45,179,45,fr\n');
+  const made = run_program(['compress', 'in=recording', 'out=store', 'bits=64', 'apid=100', 'robust=2', 'plan=plan'], { recording: example_recording(180), plan });
+  const played = run_program(['play', 'in=store', 'out=played', 'report=report', 'script=loss', 'apid=100'], { store: made.outputs.store, loss: bytes_of(EXAMPLE_LOSS) });
+  const { played: store } = played.outputs, places = arrivals_of(store, 100);
+  store[places[148] + 6] ^= 0x10;
+  return store;
+}

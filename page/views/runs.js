@@ -1,0 +1,177 @@
+'use strict';
+// Runs of packets that have one state, out of a forecast, a listing or a report. A million packets are a few lists of numbers.
+
+// What can become of a packet, from the best to the worst: its word, letter, fill, the colour of its letter, and what it means.
+// Letters and colours are those of pictures/draw.py.
+const STATES = [
+  { word: 'sure', letter: '', fill: '#a6d3f2', ink: '#000000', told: 'written, whatever the recording is' },
+  { word: 'open', letter: '?', fill: '#f5e663', ink: '#000000', told: 'it arrives, and the recording decides' },
+  { word: 'lost', letter: 'L', fill: '#ffffff', ink: '#000000', told: 'no copy of it arrives' },
+];
+const FINDINGS = [
+  { word: 'written', letter: '', fill: '#a6d3f2', ink: '#000000', told: 'given back; the bar is its level' },
+  { word: 'lost', letter: 'L', fill: '#ffffff', ink: '#000000', told: 'did not arrive' },
+  { word: 'gap', letter: 'G', fill: '#f5e663', ink: '#000000', told: 'its level does not reach back to what is known' },
+  { word: 'unsynced', letter: 'U', fill: '#e69f00', ink: '#000000', told: 'nothing is known that it builds on' },
+  { word: 'early', letter: 'E', fill: '#5b2a6e', ink: '#ffffff', told: 'its data end too early' },
+  { word: 'wrong', letter: 'W', fill: '#a63c00', ink: '#ffffff', told: 'its data are no packet\'s' },
+];
+const [WRITTEN, LOST, GAP, UNSYNCED, EARLY, WRONG] = [0, 1, 2, 3, 4, 5];
+const [SURE, OPEN, GONE] = [0, 1, 2];
+const NO_LEVEL = 255;
+const HALF_KNOWN = 1; // of a written packet the content alone is known, of another one the mask alone
+
+class Runs {
+  constructor(kinds) {
+    this.kinds = kinds;
+    this.size = 0;
+    this.total = 0; // packets
+    this.first = new Float64Array(256);
+    this.line = new Float64Array(256); // where its line begins
+    this.arrival = new Uint32Array(256); // how many arrivals are before it
+    this.kind = new Uint8Array(256);
+    this.level = new Uint8Array(256);
+    this.half = new Uint8Array(256);
+    this.repeats = new Uint32Array(256);
+    this.totals = kinds.map(() => 0);
+    this.end = null; // the numbers of the last line, if it is there
+  }
+
+  add(first, last, kind, line = 0) {
+    if (this.size === this.first.length) this.grow();
+    const place = this.size++;
+    this.first[place] = first;
+    this.kind[place] = kind;
+    this.line[place] = line;
+    this.level[place] = NO_LEVEL;
+    this.total = last + 1;
+    this.totals[kind] += last - first + 1;
+    return place;
+  }
+
+  grow() {
+    for (const name of ['first', 'line', 'arrival', 'kind', 'level', 'half', 'repeats']) this[name] = with_room(this[name], 2 * this.size);
+  }
+
+  last(place) {
+    return (place + 1 < this.size ? this.first[place + 1] : this.total) - 1;
+  }
+
+  // The place of the run that has the packet of this number.
+  place_of(number) {
+    let low = 0, high = this.size - 1;
+    while (low < high) {
+      const middle = (low + high + 1) >> 1;
+      if (this.first[middle] <= number) low = middle;
+      else high = middle - 1;
+    }
+    return low;
+  }
+
+  kind_at(number) {
+    return this.kind[this.place_of(number)];
+  }
+
+  // The nearest packet after this one (or before it) that is in another run and not of the best kind; -1 if there is none.
+  next_bad(number, way) {
+    for (let place = this.place_of(number) + way; place >= 0 && place < this.size; place += way) {
+      if (this.kind[place] > 0) return this.first[place];
+    }
+    return -1;
+  }
+
+  bytes() {
+    return this.first.length * (8 + 8 + 4 + 1 + 1 + 1 + 4);
+  }
+}
+
+// The runs of a forecast, and what its last two lines say.
+function read_forecast(bytes) {
+  const runs = new Runs(STATES), reader = new Reader(bytes);
+  reader.next_line();
+  while (reader.is_digit()) {
+    const line = reader.at, first = reader.number();
+    reader.at += 1;
+    const last = reader.number();
+    const letter = bytes[reader.at + 1];
+    runs.add(first, last, letter === 115 ? SURE : letter === 111 ? OPEN : GONE, line);
+    reader.next_line();
+  }
+  runs.gaps = reader.line().split(',').slice(1);
+  runs.end = reader.line().split(',').slice(1).map(Number);
+  return runs;
+}
+
+// What the word of an arrival's line says: its kind, or -1 for a repeat. `written` and `wrong` differ at their third letter.
+function finding_at(bytes, at) {
+  const letter = bytes[at];
+  if (letter === 119) return bytes[at + 2] === 105 ? WRITTEN : WRONG;
+  return letter === 103 ? GAP : letter === 117 ? UNSYNCED : letter === 101 ? EARLY : -1;
+}
+
+// Whether one half alone is known of the packet in this line: no mask of a written one, or the mask of another.
+function is_half_known(bytes, reader, kind) {
+  if (kind === WRITTEN) return bytes[bytes.indexOf(32, reader.at + 1) + 1] === 45;
+  return (kind === GAP || kind === UNSYNCED) && bytes[reader.at] === 32;
+}
+
+// Takes the line of an arrival; gives whether it is one more run.
+function read_arrival(reader, runs, number, line) {
+  const { bytes } = reader, kind = finding_at(bytes, reader.at);
+  if (kind < 0) {
+    runs.repeats[runs.size - 1] += 1;
+    return;
+  }
+  const place = runs.add(number, number, kind, line);
+  runs.arrival[place] = runs.arrivals;
+  reader.at = kind === UNSYNCED ? reader.at + 8 : bytes.indexOf(32, reader.at) + 1;
+  const value = kind === UNSYNCED ? 0 : reader.number();
+  if (kind === WRITTEN || kind === GAP) runs.level[place] = value;
+  if (is_half_known(bytes, reader, kind)) runs.half[place] = HALF_KNOWN;
+}
+
+// The runs of a listing: a run for each arrival and for each range of lost packets.
+function read_listing(bytes) {
+  const runs = new Runs(FINDINGS), reader = new Reader(bytes);
+  runs.arrivals = 0;
+  while (reader.is_digit()) {
+    const line = reader.at, number = reader.number();
+    const is_range = bytes[reader.at] === 45;
+    reader.at += 1;
+    if (is_range) {
+      runs.add(number, reader.number(), LOST, line);
+    } else {
+      read_arrival(reader, runs, number, line);
+      runs.arrivals += 1;
+    }
+    reader.next_line();
+  }
+  if (!reader.is_done()) runs.end = reader.line().split(' ').slice(1).map(Number);
+  return runs;
+}
+
+// The runs of packets that a report of `restore` or `late` names, and of those between, which are written. `written` is how many
+// packets the recording has. What is no such report of it is answered as a text.
+function read_report(text, written) {
+  const lines = text.split('\n'), runs = new Runs(FINDINGS);
+  if (lines[0].trim() !== 'first,last,cause,value') return 'The report is none of restore or late: its first line is not first,last,cause,value.';
+  for (let row = 1; row < lines.length; row += 1) {
+    const [first, last, cause, more] = lines[row].trim().split(',');
+    if (first === 'end') {
+      if (Number(cause) !== written) return `The report is of another recording: it says that ${cause} packets were written, and the recording has ${written}.`;
+      if (runs.total - named_in(runs) < written) runs.add(runs.total, runs.total + written - (runs.total - named_in(runs)) - 1, WRITTEN);
+      runs.end = [Number(last), Number(cause), Number(more)];
+      return runs;
+    }
+    const kind = FINDINGS.findIndex((finding) => finding.word === cause);
+    if (kind < 1 || !(Number(first) >= runs.total) || !(Number(last) >= Number(first))) return `Line ${row + 1} of the report is no row of it: ${lines[row].slice(0, 60)}`;
+    if (Number(first) > runs.total) runs.add(runs.total, Number(first) - 1, WRITTEN);
+    runs.add(Number(first), Number(last), kind);
+  }
+  return 'The report has no last row (end): the store was not read to its end.';
+}
+
+// How many packets are in runs that are not written.
+function named_in(runs) {
+  return runs.totals.reduce((sum, count) => sum + count, 0) - runs.totals[WRITTEN];
+}

@@ -1,0 +1,132 @@
+'use strict';
+// What part of all packets is seen, and which packet is the chosen one. Strips and curves that belong together share one.
+
+class Span {
+  constructor() {
+    this.total = 0;
+    this.first = 0; // the packet at the left edge; it may be a fraction
+    this.width = 1; // so many packets are seen
+    this.at = 0; // the chosen packet
+    this.from = null; // where a choice of several begins
+    this.watchers = [];
+  }
+
+  watch(told) {
+    this.watchers.push(told);
+  }
+
+  tell() {
+    for (const told of this.watchers) told();
+  }
+
+  // There are so many packets now. What is seen stays if there are as many as before.
+  set_total(total) {
+    const is_all = this.width >= this.total || total < this.total;
+    this.total = total;
+    if (is_all || total === 0) [this.first, this.width] = [0, Math.max(1, total)];
+    this.at = Math.max(0, Math.min(this.at, total - 1));
+    this.from = null;
+    this.hold();
+  }
+
+  hold() {
+    this.width = Math.max(1, Math.min(this.width, Math.max(1, this.total)));
+    this.first = Math.max(0, Math.min(this.first, this.total - this.width));
+  }
+
+  // Sees `factor` times as many packets, with the place `about` where it was.
+  zoom(factor, about = this.at + 0.5) {
+    const old = this.width;
+    this.width = Math.max(1, Math.min(old * factor, Math.max(1, this.total)));
+    this.first = about - ((about - this.first) * this.width) / old;
+    this.hold();
+    this.tell();
+  }
+
+  see_all() {
+    [this.first, this.width] = [0, Math.max(1, this.total)];
+    this.tell();
+  }
+
+  move(packets) {
+    this.first += packets;
+    this.hold();
+    this.tell();
+  }
+
+  // Chooses a packet, and brings it into sight. With `more` the choice grows from where it began.
+  go(at, more = false) {
+    if (this.total === 0) return;
+    this.from = more ? this.from ?? this.at : null;
+    this.at = Math.max(0, Math.min(Math.round(at), this.total - 1));
+    if (this.at < this.first) this.first = this.at;
+    if (this.at + 1 > this.first + this.width) this.first = this.at + 1 - this.width;
+    this.hold();
+    this.tell();
+  }
+
+  // The first and the last packet of the choice.
+  chosen() {
+    const other = this.from ?? this.at;
+    return [Math.min(this.at, other), Math.max(this.at, other)];
+  }
+
+  // The packet at the share `share` of the width, from 0 to 1.
+  packet_at(share) {
+    return Math.max(0, Math.min(Math.floor(this.first + share * this.width), this.total - 1));
+  }
+}
+
+// What a key does to a span; gives whether it is a key for it.
+function steer_by_key(span, event) {
+  if (event.ctrlKey || event.metaKey || event.altKey) return false;
+  const leap = Math.max(1, Math.round(span.width / 10));
+  const moves = { ArrowLeft: -1, ArrowRight: 1, PageUp: -leap, PageDown: leap, Home: -Infinity, End: Infinity };
+  const zooms = { '+': 0.5, '=': 0.5, ArrowUp: 0.5, '-': 2, _: 2, ArrowDown: 2 };
+  if (event.key in moves) {
+    const step = moves[event.key];
+    span.go(step === -Infinity ? 0 : step === Infinity ? span.total - 1 : span.at + step, event.shiftKey);
+  } else if (event.key in zooms) {
+    span.zoom(zooms[event.key]);
+  } else if (event.key === '0') {
+    span.see_all();
+  } else {
+    return false;
+  }
+  return true;
+}
+
+// Has a canvas steer a span by wheel, pointer and keys. `left` and `right` are its margins; `more.key` takes the keys of the view,
+// and `more.drag` is told of a drag's first and last packet.
+function steer(canvas, span, left, right, more = {}) {
+  const share = (event) => {
+    const box = canvas.getBoundingClientRect();
+    return (event.clientX - box.left - left) / Math.max(1, box.width - left - right);
+  };
+  canvas.addEventListener('wheel', (event) => {
+    event.preventDefault();
+    if (event.shiftKey || Math.abs(event.deltaX) > Math.abs(event.deltaY)) span.move(((event.deltaX || event.deltaY) / 600) * span.width);
+    else span.zoom(Math.exp(Math.max(-60, Math.min(60, event.deltaY)) / 200), span.first + Math.max(0, Math.min(1, share(event))) * span.width);
+  }, { passive: false });
+  canvas.addEventListener('keydown', (event) => {
+    if (span.total > 0 && (steer_by_key(span, event) || (more.key && more.key(event)))) event.preventDefault();
+  });
+  canvas.addEventListener('pointerdown', (event) => {
+    canvas.focus();
+    span.go(span.packet_at(share(event)), event.shiftKey && !more.drag);
+    if (more.drag && span.total > 0) {
+      canvas.setPointerCapture(event.pointerId);
+      span.pressed = { at: span.at, x: event.clientX };
+    }
+  });
+  canvas.addEventListener('pointermove', (event) => {
+    const moved = span.pressed && Math.abs(event.clientX - span.pressed.x) > 3;
+    if (moved) span.from = span.pressed.at;
+    span.go(span.packet_at(share(event)), Boolean(moved) || span.from !== null);
+  });
+  canvas.addEventListener('pointerup', (event) => {
+    const moved = span.pressed && Math.abs(event.clientX - span.pressed.x) > 3;
+    span.pressed = null;
+    if (moved && more.drag) more.drag(...span.chosen(), event.shiftKey);
+  });
+}

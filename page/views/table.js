@@ -1,0 +1,128 @@
+'use strict';
+// The table of a recording's fields as lists of numbers, and where its packets stand among all numbers.
+
+const [WITHIN, BELOW, ABOVE] = [0, 1, 2];
+
+// The table that `table` writes: its fields' names, a list of values for each, and where the line of each packet begins.
+function read_table(bytes) {
+  const reader = new Reader(bytes), names = reader.line().split(',').slice(1);
+  let count = 0;
+  for (let at = bytes.indexOf(10, reader.at); at >= 0; at = bytes.indexOf(10, at + 1)) count += 1;
+  const line = new Float64Array(count), fields = names.map((name) => new_field(name, count));
+  for (let t = 0; t < count; t += 1) {
+    line[t] = reader.at;
+    reader.number();
+    for (const field of fields) {
+      reader.at += 1;
+      field.values[t] = reader.signed();
+    }
+    reader.at += 1;
+  }
+  for (const field of fields) [field.low, field.high] = ends_of(field.values);
+  return { bytes, count, fields, line };
+}
+
+function new_field(name, count) {
+  return { name, values: new Float64Array(count), out: new Uint8Array(count), outside: 0, limit: null, low: 0, high: 0 };
+}
+
+function ends_of(values) {
+  let low = Infinity, high = -Infinity;
+  for (const value of values) {
+    if (value < low) low = value;
+    if (value > high) high = value;
+  }
+  return values.length ? [low, high] : [0, 0];
+}
+
+// Marks in the table what its report lists out of the limits; gives which packets have such a value.
+function mark_outside(table, bytes) {
+  const reader = new Reader(bytes), any = new Uint8Array(table.count);
+  const by_name = new Map(table.fields.map((field) => [field.name, field]));
+  reader.next_line();
+  while (reader.is_digit()) {
+    const [t, name, value, low] = reader.line().split(',');
+    const field = by_name.get(name);
+    field.out[t] = BigInt(value) < BigInt(low) ? BELOW : ABOVE;
+    field.outside += 1;
+    any[t] = 1;
+  }
+  return any;
+}
+
+// The limits that the text of the fields gives, as texts and as numbers.
+function mark_limits(table, text) {
+  for (const [word, name, low, high] of fields_of(text)) {
+    const field = word === 'limit' && table.fields.find((one) => one.name === name);
+    if (field) field.limit = { low: Number(low), high: Number(high), words: `${low} to ${high}`, low_word: low, high_word: high };
+  }
+}
+
+// The values of a packet of the table as they stand there.
+function cells_of(table, t) {
+  const reader = new Reader(table.bytes);
+  reader.at = table.line[t];
+  return reader.line().split(',').slice(1);
+}
+
+// Between the numbers of packets and their places in a recording: of some runs those that are written are there, one after the other.
+class Places {
+  constructor(runs) {
+    this.runs = runs;
+    this.before = new Float64Array(runs.size + 1);
+    for (let run = 0; run < runs.size; run += 1) {
+      this.before[run + 1] = this.before[run] + (runs.kind[run] === WRITTEN ? runs.last(run) - runs.first[run] + 1 : 0);
+    }
+  }
+
+  // How many written packets have a lesser number.
+  written_before(number) {
+    const { runs } = this;
+    if (runs.size === 0 || number <= 0) return 0;
+    if (number >= runs.total) return this.before[runs.size];
+    const run = runs.place_of(number);
+    return this.before[run] + (runs.kind[run] === WRITTEN ? number - runs.first[run] : 0);
+  }
+
+  // The place of a packet in the recording, or -1.
+  of(number) {
+    return this.runs.kind_at(number) === WRITTEN ? this.written_before(number) : -1;
+  }
+
+  // The number of the packet at a place.
+  number_of(place) {
+    let low = 0, high = this.runs.size - 1;
+    while (low < high) {
+      const middle = (low + high) >> 1;
+      if (this.before[middle + 1] > place) high = middle;
+      else low = middle + 1;
+    }
+    return this.runs.first[low] + place - this.before[low];
+  }
+}
+
+// What of a field stands in each column of a picture: the least and the greatest value, the first and the last, and whether one of
+// them is out of its limits. If there is room, each packet is a column of its own.
+function columns_of(field, places, span, wide) {
+  const each = span.width / wide, columns = [];
+  const step = each <= 1 ? 1 : each, start = each <= 1 ? Math.floor(span.first) : span.first;
+  for (let low = start; low < span.first + span.width && low < span.total; low += step) {
+    const from = places.written_before(Math.ceil(low)), to = places.written_before(Math.min(span.total, Math.ceil(low + step)));
+    if (to === from) continue;
+    const column = { from: Math.max(0, (low - span.first) / each), to: Math.min(wide, (low + step - span.first) / each), begin: from, end: to };
+    columns.push(Object.assign(column, summary_of(field, from, to)));
+  }
+  return columns;
+}
+
+function summary_of({ values, out }, from, to) {
+  let low = values[from], high = low, is_below = false, is_above = false;
+  for (let t = from; t < to; t += 1) {
+    const value = values[t];
+    if (value < low) low = value;
+    if (value > high) high = value;
+    if (out[t] === BELOW) is_below = true;
+    else if (out[t] === ABOVE) is_above = true;
+  }
+  return { low, high, first: values[from], last: values[to - 1], is_below, is_above };
+}
