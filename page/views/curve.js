@@ -61,7 +61,7 @@ class Curve {
     this.draw_line(pen);
     this.draw_outside(pen);
     this.draw_scale(pen);
-    draw_choice(pen, span, STRIP.left, wide, CURVE.top - 2, CURVE.bottom + 2);
+    draw_choice(pen, span, STRIP.left, wide, CURVE.top - 4, CURVE.bottom + 4, false);
   }
 
   // Packets that are not in the recording: a band with their letter.
@@ -137,16 +137,14 @@ class Curve {
     }
   }
 
+  // The numbers of the least and the greatest value, at the left.
   draw_scale(pen) {
     const { faint, ground } = colours(), { low, high } = this.scale;
-    pen.save();
-    pen.strokeStyle = ground;
-    pen.lineWidth = 3;
-    for (const [value, y] of low === high ? [[low, 46]] : [[high, CURVE.top + 8], [low, CURVE.bottom]]) {
+    for (const [value, y] of low === high ? [[low, 46]] : [[high, CURVE.top + 6], [low, CURVE.bottom + 2]]) {
       pen.font = `10px ${FACE}`;
-      pen.strokeText(String(value), STRIP.left + 4, y);
+      pen.fillStyle = ground;
+      pen.fillRect(STRIP.left + 1, y - 10, pen.measureText(String(value)).width + 6, 12);
       write(pen, String(value), STRIP.left + 4, y, faint, 10);
     }
-    pen.restore();
   }
 }

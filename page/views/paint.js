@@ -96,8 +96,8 @@ function draw_whole(pen, span, left, wide, y) {
   pen.fillRect(left + Math.min(wide - seen, (wide * span.first) / span.total), y, seen, 4);
 }
 
-// A mark at the chosen packet, and the choice of several.
-function draw_choice(pen, span, left, wide, top, bottom) {
+// A mark at the chosen packet, and the choice of several; on a strip with pointers above and below.
+function draw_choice(pen, span, left, wide, top, bottom, is_strip) {
   const { curve, choice, paper } = colours();
   const each = wide / span.width, [from, to] = span.chosen();
   const start = Math.max(0, (from - span.first) * each), end = Math.min(wide, (to + 1 - span.first) * each);
@@ -107,6 +107,11 @@ function draw_choice(pen, span, left, wide, top, bottom) {
   }
   const x = left + (span.at - span.first) * each, width = Math.max(each, 2);
   if (x + width < left - 1 || x > left + wide + 1) return;
+  if (!is_strip) {
+    pen.fillStyle = choice;
+    pen.fillRect(x, top, width, bottom - top);
+    return;
+  }
   for (const [colour, line] of [[paper, 5], [curve, 2.5]]) {
     pen.strokeStyle = colour;
     pen.lineWidth = line;

@@ -9,7 +9,7 @@ const STATES = [
   { word: 'lost', letter: 'L', fill: '#ffffff', ink: '#000000', told: 'no copy of it arrives' },
 ];
 const FINDINGS = [
-  { word: 'written', letter: '', fill: '#a6d3f2', ink: '#000000', told: 'given back; the bar is its level' },
+  { word: 'written', letter: '', fill: '#a6d3f2', ink: '#000000', told: 'given back' },
   { word: 'lost', letter: 'L', fill: '#ffffff', ink: '#000000', told: 'did not arrive' },
   { word: 'gap', letter: 'G', fill: '#f5e663', ink: '#000000', told: 'its level does not reach back to what is known' },
   { word: 'unsynced', letter: 'U', fill: '#e69f00', ink: '#000000', told: 'nothing is known that it builds on' },

@@ -34,13 +34,20 @@ class Span {
     this.first = Math.max(0, Math.min(this.first, this.total - this.width));
   }
 
-  // Sees `factor` times as many packets, with the place `about` where it was.
-  zoom(factor, about = this.at + 0.5) {
-    const old = this.width;
+  // Sees `factor` times as many packets, with the place `about` where it was; without it the chosen packet stays in sight.
+  zoom(factor, about = null) {
+    const old = this.width, middle = about ?? this.at + 0.5;
     this.width = Math.max(1, Math.min(old * factor, Math.max(1, this.total)));
-    this.first = about - ((about - this.first) * this.width) / old;
+    this.first = middle - ((middle - this.first) * this.width) / old;
+    if (about === null) this.sight();
     this.hold();
     this.tell();
+  }
+
+  // Brings the chosen packet into sight.
+  sight() {
+    if (this.at < this.first) this.first = this.at;
+    if (this.at + 1 > this.first + this.width) this.first = this.at + 1 - this.width;
   }
 
   see_all() {
@@ -59,8 +66,7 @@ class Span {
     if (this.total === 0) return;
     this.from = more ? this.from ?? this.at : null;
     this.at = Math.max(0, Math.min(Math.round(at), this.total - 1));
-    if (this.at < this.first) this.first = this.at;
-    if (this.at + 1 > this.first + this.width) this.first = this.at + 1 - this.width;
+    this.sight();
     this.hold();
     this.tell();
   }

@@ -4,11 +4,15 @@
 const views = {};
 let remembering = 0;
 
+function address_of(asked) {
+  return '#' + ['packets', 'robust', 'plan', 'script'].map((name) => `${name}=${encodeURIComponent(asked[name]).replace(/%2C/g, ',')}`).join('&');
+}
+
 // Puts the forecast's texts into the page's address, so that a link shows the same.
 function remember(asked) {
   clearTimeout(remembering);
   remembering = setTimeout(() => {
-    const address = '#' + ['packets', 'robust', 'plan', 'script'].map((name) => `${name}=${encodeURIComponent(asked[name]).replace(/%2C/g, ',')}`).join('&');
+    const address = address_of(asked);
     if (location.hash !== address && location.hash !== '#tests') history.replaceState(null, '', address);
   }, 300);
 }

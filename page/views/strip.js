@@ -1,7 +1,7 @@
 'use strict';
 // A strip of packets by number, on a canvas. Below a pixel the worst packet there is drawn, so no loss is ever hidden.
 
-const STRIP = { height: 142, left: 10, right: 10, marks: 34, rail: 38, top: 44, bottom: 92, whole: 126 };
+const STRIP = { height: 132, left: 10, right: 10, marks: 34, rail: 38, top: 44, bottom: 92, whole: 120 };
 
 // The parts of a strip from left to right, each of one kind: `from` and `to` in units of the page from its left edge. If several
 // packets share a unit, the worst of them counts there.
@@ -78,7 +78,7 @@ class Strip {
     for (const one of parts) this.draw_part(pen, one);
     this.draw_cells(pen, wide);
     this.draw_letters(pen, parts, wide);
-    draw_choice(pen, this.span, STRIP.left, wide, STRIP.top, STRIP.bottom);
+    draw_choice(pen, this.span, STRIP.left, wide, STRIP.top, STRIP.bottom, true);
     this.draw_drag(pen);
   }
 
@@ -107,13 +107,13 @@ class Strip {
     if (each < 5) return;
     for (let number = Math.floor(span.first); number < Math.min(span.total, span.first + span.width); number += 1) {
       const x = left + (number - span.first) * each, place = runs.place_of(number);
-      pen.fillStyle = colours().edge;
+      pen.fillStyle = each < 9 ? 'rgba(0, 0, 0, 0.12)' : colours().edge;
       if (x > left) pen.fillRect(Math.round(x), top, 1, bottom - top);
       const level = runs.level[place], ink = runs.kinds[runs.kind[place]].ink;
       if (level !== NO_LEVEL && level > 0) {
         const bar = ((bottom - top - 2) * level) / 15;
         pen.fillStyle = LEVEL_BAR;
-        pen.fillRect(x + 1, bottom - 1 - bar, Math.min(6, each * 0.4), bar);
+        pen.fillRect(x + 1, bottom - 1 - bar, Math.max(2, Math.min(6, each * 0.4)), bar);
       }
       if (each >= 14) this.draw_marks(pen, place, x + each, ink);
       if (each >= 44 && level !== NO_LEVEL) write(pen, `level ${level}`, x + each / 2, bottom - 6, ink, 10, 'middle');
