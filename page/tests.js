@@ -114,6 +114,7 @@ function test_refused_row(id, text, line, program) {
   const faults = [differs('the line that is marked', wrong && wrong.textContent, `✗ ${line}`), differs('the text area', part(id).getAttribute('aria-invalid'), 'true')];
   if (!note.textContent.startsWith(`Line ${line}, `) || !note.textContent.endsWith(`The program says: ${program}.`)) faults.push(`the refusal is ${note.textContent}`);
   faults.push(differs('the strip', says('forecast-strip'), `no picture: ${program}`), differs('what is drawn', views.forecast.strip.runs, null));
+  faults.push(differs('the old advice', part('robust-rows').childElementCount + part('rows-told').textContent, '0'));
   views.forecast.put(EXAMPLE);
   faults.push(differs('after mending', `${note.hidden} ${says('forecast-strip').startsWith('packet ')}`, 'true true'));
   return faults.filter(Boolean).join('; ');

@@ -73,7 +73,7 @@ class Curve {
       pen.fillStyle = width < 3 ? hatch : paper;
       pen.fillRect(x, CURVE.top - 4, width, high);
       if (width >= 3) draw_hatch(pen, x, CURVE.top - 4, width, high, hatch);
-      if (width >= 14) write(pen, runs.kinds[one.kind].letter, x + width / 2, 57, faint, 14, 'middle', 'bold');
+      if (width >= 14) write(pen, runs.kinds[one.kind].letter, x + width / 2, 57, faint, 14, 'center', 'bold');
     }
   }
 

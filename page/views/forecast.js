@@ -102,6 +102,7 @@ class ForecastView {
       this.advise();
     } else {
       this.strip.clear(text);
+      for (const id of ['robust-rows', 'robust-told', 'rows-told']) fill(part(id));
     }
     this.sum();
     this.point();

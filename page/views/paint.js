@@ -81,7 +81,7 @@ function draw_axis(pen, span, left, wide, y, is_above) {
     if (x > left + wide - 1) break;
     pen.fillStyle = faint;
     pen.fillRect(Math.round(x), is_above ? y - 4 : y, 1, 5);
-    write(pen, grouped(tick), Math.max(x, left + 4), is_above ? y - 7 : y + 16, faint, 11, x - left < 12 ? 'start' : 'middle');
+    write(pen, grouped(tick), Math.max(x, left + 4), is_above ? y - 7 : y + 16, faint, 11, x - left < 12 ? 'start' : 'center');
   }
 }
 

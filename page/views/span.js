@@ -8,6 +8,8 @@ class Span {
     this.width = 1; // so many packets are seen
     this.at = 0; // the chosen packet
     this.from = null; // where a choice of several begins
+    this.kept = null; // what was chosen, while another packet is looked at
+    this.is_dragged = false;
     this.watchers = [];
   }
 
@@ -71,6 +73,28 @@ class Span {
     this.tell();
   }
 
+  // Looks at a packet for a while; what was chosen comes back with `look_away`.
+  look(at) {
+    this.kept ??= this.at;
+    if (at === this.at) return;
+    this.at = at;
+    this.tell();
+  }
+
+  look_away() {
+    if (this.kept === null) return;
+    this.at = Math.max(0, Math.min(this.kept, this.total - 1));
+    this.kept = null;
+    this.tell();
+  }
+
+  // Chooses from one packet to another while a drag goes on.
+  drag(from, to) {
+    this.is_dragged = true;
+    this.from = from;
+    this.go(to, true);
+  }
+
   // The first and the last packet of the choice.
   chosen() {
     const other = this.from ?? this.at;
@@ -102,8 +126,8 @@ function steer_by_key(span, event) {
   return true;
 }
 
-// Has a canvas steer a span by wheel, pointer and keys. `left` and `right` are its margins; `more.key` takes the keys of the view,
-// and `more.drag` is told of a drag's first and last packet.
+// Has a canvas steer a span by wheel, keys and pointer. `left` and `right` are its margins; `more.key` takes the keys of the view, and
+// `more.drag` is told of a drag's first and last packet. Without it a drag moves what is seen.
 function steer(canvas, span, left, right, more = {}) {
   const share = (event) => {
     const box = canvas.getBoundingClientRect();
@@ -115,24 +139,41 @@ function steer(canvas, span, left, right, more = {}) {
     else span.zoom(Math.exp(Math.max(-60, Math.min(60, event.deltaY)) / 200), span.first + Math.max(0, Math.min(1, share(event))) * span.width);
   }, { passive: false });
   canvas.addEventListener('keydown', (event) => {
-    if (span.total > 0 && (steer_by_key(span, event) || (more.key && more.key(event)))) event.preventDefault();
+    if (span.total === 0 || !(steer_by_key(span, event) || (more.key && more.key(event)))) return;
+    span.kept = null;
+    event.preventDefault();
   });
+  steer_by_pointer(canvas, span, share, more);
+}
+
+// The packet under the pointer is looked at until the pointer leaves; a press chooses it.
+function steer_by_pointer(canvas, span, share, more) {
+  let pressed = null;
+  const is_moved = (event) => pressed !== null && (pressed.is_moved ||= Math.abs(event.clientX - pressed.x) > 3);
   canvas.addEventListener('pointerdown', (event) => {
+    if (span.total === 0 || event.button !== 0) return;
     canvas.focus();
-    span.go(span.packet_at(share(event)), event.shiftKey && !more.drag);
-    if (more.drag && span.total > 0) {
-      canvas.setPointerCapture(event.pointerId);
-      span.pressed = { at: span.at, x: event.clientX };
-    }
+    canvas.setPointerCapture(event.pointerId);
+    span.kept = null;
+    span.go(span.packet_at(share(event)));
+    pressed = { at: span.at, x: event.clientX, first: span.first, share: share(event), is_moved: false };
   });
   canvas.addEventListener('pointermove', (event) => {
-    const moved = span.pressed && Math.abs(event.clientX - span.pressed.x) > 3;
-    if (moved) span.from = span.pressed.at;
-    span.go(span.packet_at(share(event)), Boolean(moved) || span.from !== null);
+    if (span.total === 0) return;
+    if (is_moved(event)) {
+      if (more.drag) span.drag(pressed.at, span.packet_at(share(event)));
+      else span.move(pressed.first + (pressed.share - share(event)) * span.width - span.first);
+    } else if (pressed === null && span.from === null) {
+      span.look(span.packet_at(share(event)));
+    }
+  });
+  canvas.addEventListener('pointerleave', () => {
+    if (pressed === null) span.look_away();
   });
   canvas.addEventListener('pointerup', (event) => {
-    const moved = span.pressed && Math.abs(event.clientX - span.pressed.x) > 3;
-    span.pressed = null;
-    if (moved && more.drag) more.drag(...span.chosen(), event.shiftKey);
+    const is_drag = is_moved(event) && more.drag;
+    pressed = null;
+    span.is_dragged = false;
+    if (is_drag) more.drag(...span.chosen(), event.shiftKey);
   });
 }

@@ -68,7 +68,7 @@ class Strip {
     if (!pen) return;
     const wide = pen.width - STRIP.left - STRIP.right;
     if (!this.runs) {
-      write(pen, this.refusal, pen.width / 2, 72, colours().faint, 13, 'middle');
+      write(pen, this.refusal, pen.width / 2, 72, colours().faint, 13, 'center');
       return;
     }
     draw_axis(pen, this.span, STRIP.left, wide, 20, true);
@@ -105,6 +105,10 @@ class Strip {
   draw_cells(pen, wide) {
     const { runs, span } = this, each = wide / span.width, { top, bottom, left } = STRIP;
     if (each < 5) return;
+    pen.save();
+    pen.beginPath();
+    pen.rect(left, top, wide, bottom - top);
+    pen.clip();
     for (let number = Math.floor(span.first); number < Math.min(span.total, span.first + span.width); number += 1) {
       const x = left + (number - span.first) * each, place = runs.place_of(number);
       pen.fillStyle = each < 9 ? 'rgba(0, 0, 0, 0.12)' : colours().edge;
@@ -116,8 +120,9 @@ class Strip {
         pen.fillRect(x + 1, bottom - 1 - bar, Math.max(2, Math.min(6, each * 0.4)), bar);
       }
       if (each >= 14) this.draw_marks(pen, place, x + each, ink);
-      if (each >= 44 && level !== NO_LEVEL) write(pen, `level ${level}`, x + each / 2, bottom - 6, ink, 10, 'middle');
+      if (each >= 60 && level !== NO_LEVEL) write(pen, `level ${level}`, x + each / 2 + 3, bottom - 6, ink, 10, 'center');
     }
+    pen.restore();
   }
 
   draw_marks(pen, place, right, ink) {
@@ -145,10 +150,10 @@ class Strip {
       const kind = this.runs.kinds[one.kind], middle = STRIP.left + (one.from + one.to) / 2;
       if (!kind.letter) continue;
       if (one.to - one.from >= 14) {
-        write(pen, kind.letter, middle, 74, kind.ink, 17, 'middle', 'bold');
-        if (each >= 44) write(pen, kind.word, middle, STRIP.bottom - 6, kind.ink, 10, 'middle');
+        write(pen, kind.letter, middle, 74, kind.ink, 17, 'center', 'bold');
+        if (each >= 60) write(pen, kind.word, middle, STRIP.bottom - 6, kind.ink, 10, 'center');
       } else if (middle - 5 > free) {
-        write(pen, kind.letter, middle, STRIP.marks, ink, 11, 'middle', 'bold');
+        write(pen, kind.letter, middle, STRIP.marks, ink, 11, 'center', 'bold');
         free = middle + 6;
       }
     }
@@ -156,8 +161,8 @@ class Strip {
 
   // What a drag would make, while the pointer is down.
   draw_drag(pen) {
-    const word = this.span.pressed && this.span.from !== null ? this.drag_word(...this.span.chosen()) : '';
-    if (word) write(pen, word, pen.width / 2, STRIP.whole + 10, colours().ink, 12, 'middle', 'bold');
+    const word = this.span.is_dragged ? this.drag_word(...this.span.chosen()) : '';
+    if (word) write(pen, word, pen.width / 2, STRIP.whole + 10, colours().ink, 12, 'center', 'bold');
   }
 }
 
