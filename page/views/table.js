@@ -35,17 +35,39 @@ function ends_of(values) {
   return values.length ? [low, high] : [0, 0];
 }
 
+// Whether a name stands in the bytes at this place, before a comma.
+function is_name_at(bytes, at, name) {
+  for (let place = 0; place < name.length; place += 1) {
+    if (bytes[at + place] !== name[place]) return false;
+  }
+  return bytes[at + name.length] === 44;
+}
+
+// Whether the line of a report is of a value below the low limit. Numbers that are too near to tell are compared exactly.
+function is_below(reader) {
+  const start = reader.at, value = reader.signed();
+  reader.at += 1;
+  const low = reader.signed();
+  if (value !== low) return value < low;
+  const [exact, bound] = text_of(reader.bytes.subarray(start, reader.at)).split(',').map(BigInt);
+  return exact < bound;
+}
+
 // Marks in the table what its report lists out of the limits; gives which packets have such a value.
 function mark_outside(table, bytes) {
-  const reader = new Reader(bytes), any = new Uint8Array(table.count);
-  const by_name = new Map(table.fields.map((field) => [field.name, field]));
+  const reader = new Reader(bytes), any = new Uint8Array(table.count), { fields } = table;
+  const names = fields.map((field) => bytes_of(field.name));
+  let place = 0;
   reader.next_line();
   while (reader.is_digit()) {
-    const [t, name, value, low] = reader.line().split(',');
-    const field = by_name.get(name);
-    field.out[t] = BigInt(value) < BigInt(low) ? BELOW : ABOVE;
-    field.outside += 1;
+    const t = reader.number();
+    reader.at += 1;
+    while (!is_name_at(bytes, reader.at, names[place])) place = (place + 1) % names.length;
+    reader.at += names[place].length + 1;
+    fields[place].out[t] = is_below(reader) ? BELOW : ABOVE;
+    fields[place].outside += 1;
     any[t] = 1;
+    reader.next_line();
   }
   return any;
 }
