@@ -89,6 +89,39 @@ function test_keys() {
   return [...faults, differs('what was taken back', part('script').value, EXAMPLE.script)].filter(Boolean).join('; ');
 }
 
+function point(id, type, share, more = {}) {
+  const box = part(id).getBoundingClientRect();
+  const clientX = box.left + STRIP.left + share * (box.width - STRIP.left - STRIP.right);
+  part(id).dispatchEvent(new PointerEvent(type, { clientX, clientY: box.top + 60, pointerId: 1, button: 0, bubbles: true, cancelable: true, ...more }));
+}
+
+// A pointer looks at a packet and leaves it again; a drag makes a loss, or with Shift a row of whole content.
+function test_pointer() {
+  views.forecast.put(EXAMPLE);
+  press('forecast-strip', '0', 'Home');
+  part('forecast-strip').setPointerCapture = () => {};
+  point('forecast-strip', 'pointermove', 0.2505);
+  const faults = [differs('under the pointer', says('forecast-strip').slice(0, 18), 'packet 250 is open')];
+  point('forecast-strip', 'pointerleave', 0.2505);
+  faults.push(differs('after it left', says('forecast-strip').slice(0, 16), 'packet 0 is sure'));
+  for (const shiftKey of [false, true]) {
+    point('forecast-strip', 'pointerdown', 0.7005, { shiftKey });
+    point('forecast-strip', 'pointermove', 0.7035, { shiftKey });
+    point('forecast-strip', 'pointerup', 0.7035, { shiftKey });
+  }
+  delete part('forecast-strip').setPointerCapture;
+  faults.push(differs('the loss', part('script').value, `${EXAMPLE.script}drop,700,703,1\n`), differs('the whole ones', part('plan').value, `${EXAMPLE.plan}700,703,1,fr\n`));
+  return faults.filter(Boolean).join('; ');
+}
+
+// A packet can be open for its mask alone: whole content after a loss tells no mask.
+function test_mask_alone() {
+  views.forecast.put({ packets: '10', robust: '0', plan: '5,5,1,r\n', script: 'drop,3,3,1\n' });
+  views.forecast.span.go(7);
+  const wanted = 'packet 7 is open: it arrives, and the recording decides. The latest sure packet before it is 5; after that packet 6 builds on a mask that is not sure';
+  return differs('packet 7', says('forecast-strip'), wanted);
+}
+
 async function test_why() {
   views.forecast.put(EXAMPLE);
   views.forecast.span.go(250);
@@ -160,6 +193,9 @@ function test_wrong_bit() {
   faults.push(differs('the bit', wrong && wrong.textContent, '1'), differs('the sum', part('store-sum').textContent, '166 of 180 packets given back; 169 arrived, 2 repeats among them.'));
   press('store-strip', 'Home');
   faults.push(differs('the content', part('store-words').textContent.includes(to_hex(example_recording(1))), true));
+  part('to-forecast').click();
+  faults.push(differs('its losses', part('script').value, 'drop,23,24,1\ndrop,61,66,1\ndrop,101,101,1\ndrop,130,133,1\n'), differs('its packets', part('packets').value, '180'));
+  show_view('store');
   return faults.filter(Boolean).join('; ');
 }
 
@@ -223,6 +259,8 @@ function test_million_values() {
 const PAGE_TESTS = [
   ['the words of ten packets', test_ten_packets],
   ['keys on the strip', test_keys],
+  ['a pointer on the strip', test_pointer],
+  ['a packet that is open for its mask', test_mask_alone],
   ['why a packet is open', test_why],
   ['what makes all sure', test_advice],
   ['a refused row of the schedule', () => test_refused_row('plan', '20,999,20,p\n\n50,999,50,x\n', 3, 'side row 2 is wrong')],
@@ -256,6 +294,9 @@ async function run_tests(cases) {
 // Runs the tests, and writes a line for each into the page.
 async function tell_tests() {
   const told = await run_tests(typeof CASES === 'undefined' ? [] : CASES), failed = told.filter((one) => !one.passed).length;
+  show_view('forecast');
+  views.forecast.put(EXAMPLE);
+  views.forecast.begin();
   const lines = told.map(({ name, passed, told: why }) => (passed ? `ok ${name}` : `FAILED ${name}: ${why}`));
   part('tests').hidden = false;
   fill(part('tests'), [...lines, `${told.length - failed} passed, ${failed} failed`].join('\n'));

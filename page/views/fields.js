@@ -1,8 +1,6 @@
 'use strict';
 // The numbers in a recording: its fields over the packets' numbers, with their limits.
 
-const MOST_CELLS = 60000000;
-
 class FieldsView {
   constructor() {
     this.span = new Span();
@@ -13,8 +11,9 @@ class FieldsView {
     this.strip.clear('no recording yet');
     this.span.watch(() => this.point());
     pictures.push({ draw: () => this.curves.forEach((curve) => curve.draw()) });
-    take_files(part('fields-drop'), part('recording-file'), (files) => this.take(files));
-    take_files(part('fields-drop'), part('report-file'), (files) => this.take_report(files[0]));
+    take_drops(part('fields-drop'), (files) => this.take(files));
+    take_choice(part('recording-file'), (files) => this.take(files));
+    take_choice(part('report-file'), (files) => this.take_report(files[0]));
     part('fields-bits').addEventListener('input', () => this.later());
     part('fields-example').addEventListener('click', () => this.example());
     part('drop-report').addEventListener('click', () => this.open(this.name, this.recording, part('fields-bits').value, ''));

@@ -96,7 +96,7 @@ class ForecastView {
     part('undo').disabled = this.before.length === 0;
     const { status, text, runs } = forecast(this.asked);
     this.refuse(text);
-    this.runs = runs;
+    Object.assign(this, { runs, refused: text });
     if (status === 0) {
       this.strip.show(runs);
       this.advise();
@@ -121,7 +121,7 @@ class ForecastView {
     const { runs } = this;
     fill_legend(part('forecast-legend'), runs);
     if (!runs) {
-      fill(part('forecast-sum'), 'No forecast, until the texts are mended.');
+      fill(part('forecast-sum'), `No forecast: ${this.refused}.`);
       fill(part('forecast-gaps'));
       return;
     }

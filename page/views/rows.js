@@ -1,9 +1,16 @@
 'use strict';
 // Side texts that are typed: a text area with the numbers of its lines, at which a refusal stands at its row.
 
+const latest_records = { text: '', records: [] };
+
 // Where each record of a text begins and ends, by its lines from 0, as the program reads records: empty lines are none, and a line
 // within quotes goes on.
 function records_of(text) {
+  if (text !== latest_records.text) Object.assign(latest_records, { text, records: find_records(text) });
+  return latest_records.records;
+}
+
+function find_records(text) {
   const records = [];
   let line = 0, start = 0, first = 0, is_quoted = false;
   for (let at = 0; at <= text.length; at += 1) {
@@ -74,6 +81,10 @@ class Rows {
       this.number_lines();
       typed();
     });
+    take_drops(box, async (files) => {
+      this.text = text_of(await read_file(files[0]));
+      typed();
+    });
     this.area.addEventListener('scroll', () => {
       this.gutter.scrollTop = this.area.scrollTop;
     });
@@ -99,6 +110,9 @@ class Rows {
   number_lines() {
     const count = this.area.value.split('\n').length, most = Math.min(count, 20000);
     const is_wrong = (line) => this.wrong && line >= this.wrong.first && line <= this.wrong.last;
+    const numbered = `${count} ${this.wrong ? `${this.wrong.first} ${this.wrong.last}` : ''}`;
+    if (numbered === this.numbered) return;
+    this.numbered = numbered;
     const rows = [];
     for (let line = 0; line < most; line += 1) rows.push(element('span', is_wrong(line) ? { class: 'wrong' } : {}, is_wrong(line) ? `✗ ${line + 1}` : `${line + 1}`));
     fill(this.gutter, ...rows);

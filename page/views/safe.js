@@ -51,10 +51,9 @@ function forecast_words(runs, script, at) {
     return `${name} is lost: no copy of it arrives${row ? ` (row ${row.number} of the losses, ${row.text})` : ''}`;
   }
   const { sure, head, lost } = trouble_of(runs, at);
-  const after = sure < 0 ? 'No packet before it is sure' : `The latest sure packet before it is ${grouped(sure)}`;
-  const loss = lost.map(([first, last]) => `${range_words(first, last)} (${last - first + 1} in a row)`).join(' and ');
-  const cause = lost.length ? `after that ${loss} ${lost.length === 1 && lost[0][0] === lost[0][1] ? 'is' : 'are'} lost` : `packet ${grouped(head)} builds on a mask that is not sure`;
-  return `${name} is open: it arrives, and the recording decides. ${after}; ${cause}`;
+  const after = sure < 0 ? 'No packet before it is sure; ' : `The latest sure packet before it is ${grouped(sure)}; after that `;
+  const loss = lost.map(([first, last]) => `${range_words(first, last)} (${last - first + 1} in a row) ${first === last ? 'is' : 'are'} lost`).join(', ');
+  return `${name} is open: it arrives, and the recording decides. ${after}${loss || `packet ${grouped(head)} builds on a mask that is not sure`}`;
 }
 
 // The rows of whole content that make an open packet sure, one for each packet that would have to be whole. Each turn is a forecast.

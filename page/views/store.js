@@ -17,12 +17,14 @@ class StoreView {
     this.strip = new Strip(part('store-strip'), this.span, (at) => this.told(at), { key: (event) => this.key(event) });
     this.strip.clear('no store yet');
     this.span.watch(() => this.point());
-    take_files(part('store-drop'), part('store-file'), (files) => this.take(files));
+    take_drops(part('store-drop'), (files) => this.take(files));
+    take_choice(part('store-file'), (files) => this.take(files));
     for (const id of ['store-bits', 'store-apid']) part(id).addEventListener('input', () => this.later());
     part('store-example').addEventListener('click', () => this.open('the example', example_store(), '64', '100'));
     part('save-report').addEventListener('click', () => save('report.csv', this.restored.outputs.report));
     part('save-recording').addEventListener('click', () => save('restored.rec', this.restored.outputs.recording));
     part('to-fields').addEventListener('click', () => this.to_fields());
+    part('to-forecast').addEventListener('click', () => this.to_forecast());
   }
 
   async take(files) {
@@ -203,6 +205,17 @@ class StoreView {
       this.span.go(at);
       part('store-strip').focus();
     }));
+  }
+
+  // The losses of this pass as the script of a forecast.
+  to_forecast() {
+    const rows = [], { runs } = this;
+    for (let place = 0; place < runs.size; place += 1) {
+      if (runs.kind[place] === LOST) rows.push(`drop,${runs.first[place]},${runs.last(place)},1\n`);
+    }
+    show_view('forecast');
+    views.forecast.change(() => views.forecast.put({ ...views.forecast.texts(), packets: String(runs.total), script: rows.join('') }));
+    views.forecast.begin();
   }
 
   to_fields() {

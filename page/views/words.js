@@ -143,11 +143,8 @@ async function read_file(file) {
   return new Uint8Array(await file.arrayBuffer());
 }
 
-// A part that takes a file: by its chooser, or dropped on `box`.
-function take_files(box, chooser, taken) {
-  chooser.addEventListener('change', () => {
-    if (chooser.files.length) taken(chooser.files);
-  });
+// A part that takes files that are dropped on it.
+function take_drops(box, taken) {
   box.addEventListener('dragover', (event) => {
     event.preventDefault();
     box.classList.add('over');
@@ -158,5 +155,14 @@ function take_files(box, chooser, taken) {
     event.stopPropagation();
     box.classList.remove('over');
     if (event.dataTransfer.files.length) taken(event.dataTransfer.files);
+  });
+}
+
+// A chooser of files.
+function take_choice(chooser, taken) {
+  chooser.addEventListener('change', () => {
+    const files = [...chooser.files];
+    chooser.value = '';
+    if (files.length) taken(files);
   });
 }
