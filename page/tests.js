@@ -70,7 +70,8 @@ function test_ten_packets() {
     views.forecast.span.go(at);
     return differs(`packet ${at}`, says('forecast-strip'), words);
   });
-  return [...faults, differs('the sum', part('forecast-sum').textContent, '821 of 1,000 packets are sure; for 163 the recording decides.')].filter(Boolean).join('; ');
+  faults.push(differs('the sum', part('forecast-sum').textContent, '821 of 1,000 packets are sure; for 163 the recording decides.'));
+  return faults.filter(Boolean).join('; ');
 }
 
 function test_keys() {
@@ -110,7 +111,8 @@ function test_pointer() {
     point('forecast-strip', 'pointerup', 0.7035, { shiftKey });
   }
   delete part('forecast-strip').setPointerCapture;
-  faults.push(differs('the loss', part('script').value, `${EXAMPLE.script}drop,700,703,1\n`), differs('the whole ones', part('plan').value, `${EXAMPLE.plan}700,703,1,fr\n`));
+  faults.push(differs('the loss', part('script').value, `${EXAMPLE.script}drop,700,703,1\n`));
+  faults.push(differs('the whole ones', part('plan').value, `${EXAMPLE.plan}700,703,1,fr\n`));
   return faults.filter(Boolean).join('; ');
 }
 
@@ -118,8 +120,8 @@ function test_pointer() {
 function test_mask_alone() {
   views.forecast.put({ packets: '10', robust: '0', plan: '5,5,1,r\n', script: 'drop,3,3,1\n' });
   views.forecast.span.go(7);
-  const wanted = 'packet 7 is open: it arrives, and the recording decides. The latest sure packet before it is 5; after that packet 6 builds on a mask that is not sure';
-  return differs('packet 7', says('forecast-strip'), wanted);
+  const why = 'The latest sure packet before it is 5; after that packet 6 builds on a mask that is not sure';
+  return differs('packet 7', says('forecast-strip'), `packet 7 is open: it arrives, and the recording decides. ${why}`);
 }
 
 async function test_why() {
@@ -144,9 +146,14 @@ function test_refused_row(id, text, line, program) {
   views.forecast.put(EXAMPLE);
   type(id, text);
   const note = part(`${id}-refusal`), wrong = part(`${id}-box`).querySelector('.gutter .wrong');
-  const faults = [differs('the line that is marked', wrong && wrong.textContent, `✗ ${line}`), differs('the text area', part(id).getAttribute('aria-invalid'), 'true')];
-  if (!note.textContent.startsWith(`Line ${line}, `) || !note.textContent.endsWith(`The program says: ${program}.`)) faults.push(`the refusal is ${note.textContent}`);
-  faults.push(differs('the strip', says('forecast-strip'), `no picture: ${program}`), differs('what is drawn', views.forecast.strip.runs, null));
+  const faults = [
+    differs('the line that is marked', wrong && wrong.textContent, `✗ ${line}`),
+    differs('the text area', part(id).getAttribute('aria-invalid'), 'true'),
+  ];
+  const told = note.textContent;
+  if (!told.startsWith(`Line ${line}, `) || !told.endsWith(`The program says: ${program}.`)) faults.push(`the refusal is ${told}`);
+  faults.push(differs('the strip', says('forecast-strip'), `no picture: ${program}`));
+  faults.push(differs('what is drawn', views.forecast.strip.runs, null));
   faults.push(differs('the old advice', part('robust-rows').childElementCount + part('rows-told').textContent, '0'));
   views.forecast.put(EXAMPLE);
   faults.push(differs('after mending', `${note.hidden} ${says('forecast-strip').startsWith('packet ')}`, 'true true'));
@@ -159,7 +166,8 @@ function test_refused_number() {
   const faults = [differs('packets', part('packets-refusal').textContent, 'A number from 1 to 1,000,000, digits alone.')];
   type('packets', '1000');
   type('robust', '8');
-  faults.push(differs('robust', part('robust-refusal').textContent, 'A number from 0 to 7.'), differs('packets, mended', part('packets-refusal').hidden, true));
+  faults.push(differs('robust', part('robust-refusal').textContent, 'A number from 0 to 7.'));
+  faults.push(differs('packets, mended', part('packets-refusal').hidden, true));
   return faults.filter(Boolean).join('; ');
 }
 
@@ -173,10 +181,14 @@ function test_million() {
   const begin = Date.now();
   views.forecast.put({ packets: '1000000', robust: '2', plan: '1000,999999,1000,pfr\n', script: 'drop,500000,500000,1\n' });
   const { runs, span } = views.forecast, parts = strip_parts(runs, span, 1000);
-  const faults = [differs('the packets', runs.total, 1000000), differs('the loss', parts.some((one) => one.kind === GONE && one.to - one.from >= 1), true)];
+  const faults = [
+    differs('the packets', runs.total, 1000000),
+    differs('the loss', parts.some((one) => one.kind === GONE && one.to - one.from >= 1), true),
+  ];
   faults.push(differs('what is covered', parts.reduce((sum, one) => sum + one.to - one.from, 0), 1000));
   views.forecast.put({ packets: '1000000', robust: '2', plan: '', script: 'drop,1,999999,2\n' });
-  faults.push(differs('the runs', views.forecast.runs.size, 1000000), differs('the sure ones', views.forecast.runs.end[1], views.forecast.runs.totals[SURE]));
+  faults.push(differs('the runs', views.forecast.runs.size, 1000000));
+  faults.push(differs('the sure ones', views.forecast.runs.end[1], views.forecast.runs.totals[SURE]));
   press('forecast-strip', 'End', ...Array(24).fill('+'));
   faults.push(differs('the last packet', says('forecast-strip').slice(0, 22), 'packet 999,999 is lost'));
   views.forecast.put(EXAMPLE);
@@ -190,11 +202,13 @@ function test_wrong_bit() {
   press('store-strip', 'End', 'p');
   const wrong = part('store-words').querySelector('.first-wrong');
   const faults = [differs('the packet', says('store-strip'), 'packet 159 is wrong: its data are no packet\'s from bit 75 on')];
-  faults.push(differs('the bit', wrong && wrong.textContent, '1'), differs('the sum', part('store-sum').textContent, '166 of 180 packets given back; 169 arrived, 2 repeats among them.'));
+  faults.push(differs('the bit', wrong && wrong.textContent, '1'));
+  faults.push(differs('the sum', part('store-sum').textContent, '166 of 180 packets given back; 169 arrived, 2 repeats among them.'));
   press('store-strip', 'Home');
   faults.push(differs('the content', part('store-words').textContent.includes(to_hex(example_recording(1))), true));
   part('to-forecast').click();
-  faults.push(differs('its losses', part('script').value, 'drop,23,24,1\ndrop,61,66,1\ndrop,101,101,1\ndrop,130,133,1\n'), differs('its packets', part('packets').value, '180'));
+  faults.push(differs('its losses', part('script').value, 'drop,23,24,1\ndrop,61,66,1\ndrop,101,101,1\ndrop,130,133,1\n'));
+  faults.push(differs('its packets', part('packets').value, '180'));
   show_view('store');
   return faults.filter(Boolean).join('; ');
 }
@@ -203,7 +217,8 @@ function test_refused_store() {
   const store = example_store();
   views.store.open('a cut store', store.slice(0, store.length - 3), '64', '100');
   const told = part('store-refusal').textContent, faults = [differs('what is drawn', views.store.runs, null)];
-  if (!/^This store is refused: the store ends inside the packet .* The program says: store packet at byte [0-9]+ is cut/.test(told)) faults.push(`the refusal is ${told}`);
+  const wanted = /^This store is refused: the store ends inside the packet .* The program says: store packet at byte [0-9]+ is cut/;
+  if (!wanted.test(told)) faults.push(`the refusal is ${told}`);
   faults.push(differs('the strip', says('store-strip').startsWith('no picture: store packet at byte'), true));
   part('store-refusal').querySelector('button').click();
   return [...faults, differs('what is before it', part('store-sum').textContent.startsWith('165 of 179 packets given back'), true)].filter(Boolean).join('; ');
@@ -219,7 +234,8 @@ function test_disorder() {
   const { runs, listing } = views.store, kept = runs.bytes() + listing.length;
   const faults = [differs('the runs', runs.size, 2000), differs('the packets', runs.total, 999 * 16383 + 1000)];
   if (kept > 1000000) faults.push(`${kept} bytes are kept`);
-  if (!part('store-warning').textContent.startsWith('The sequence counts fall back at 999 packets')) faults.push(`the warning is ${part('store-warning').textContent}`);
+  const warning = part('store-warning').textContent;
+  if (!warning.startsWith('The sequence counts fall back at 999 packets')) faults.push(`the warning is ${warning}`);
   const seconds = (Date.now() - begin) / 1000;
   return faults.concat(seconds > 60 ? `it took ${seconds} seconds` : '').filter(Boolean).join('; ');
 }
@@ -228,15 +244,18 @@ function test_fields() {
   show_view('fields');
   part('fields-example').click();
   press('fields-strip', 'Home', 'ArrowRight');
-  const faults = [differs('the packet', says('fields-strip'), 'packet 1: mode 1; battery_mV 2772, below its limit 2800; current_mA 418; temperature_C -13, below its limit -10; wheel_rpm -11867')];
+  const values = 'mode 1; battery_mV 2772, below its limit 2800; current_mA 418; temperature_C -13, below its limit -10; wheel_rpm -11867';
+  const faults = [differs('the packet', says('fields-strip'), `packet 1: ${values}`)];
   views.fields.span.go(63);
   faults.push(differs('a gap', says('fields-strip'), 'packet 63 is lost: it is not in the recording'));
   faults.push(differs('the curves', document.querySelectorAll('#curves canvas').length, 5));
   views.fields.span.go(52);
-  faults.push(differs('a curve', document.querySelectorAll('#curves canvas')[1].getAttribute('aria-valuetext'), 'packet 52: battery_mV is 3320, above its limit 3300'));
+  const curve = document.querySelectorAll('#curves canvas')[1];
+  faults.push(differs('a curve', curve.getAttribute('aria-valuetext'), 'packet 52: battery_mV is 3320, above its limit 3300'));
   type('fields', 'field,0,8,u,mode\nfield,60,8,u,late\n');
   views.fields.run();
-  faults.push(differs('a refused row', part('fields-box').querySelector('.gutter .wrong').textContent, '✗ 2'), differs('the strip', says('fields-strip'), 'no picture: side row 2 is wrong'));
+  faults.push(differs('a refused row', part('fields-box').querySelector('.gutter .wrong').textContent, '✗ 2'));
+  faults.push(differs('the strip', says('fields-strip'), 'no picture: side row 2 is wrong'));
   views.fields.rows.text = EXAMPLE_FIELDS;
   views.fields.open('the example', views.fields.recording, '64', 'first,last,cause,value\nend,9,9,0\n');
   faults.push(differs('another report', part('fields-refusal').textContent.startsWith('The report is of another recording'), true));
@@ -249,7 +268,10 @@ function test_million_values() {
   views.fields.rows.text = 'field,0,8,u,value\nlimit,value,0,100\n';
   views.fields.open('a million', recording, '8', '');
   const { table, places, span } = views.fields, columns = columns_of(table.fields[0], places, span, 1000);
-  const faults = [differs('the packets', table.count, 1000000), differs('what is seen of the one value', columns.filter((one) => one.is_above && one.high === 200).length, 1)];
+  const faults = [
+    differs('the packets', table.count, 1000000),
+    differs('what is seen of the one value', columns.filter((one) => one.is_above && one.high === 200).length, 1),
+  ];
   press('fields-strip', 'Home', 'n');
   faults.push(differs('the value', says('fields-strip'), 'packet 777,777: value 200, above its limit 100'));
   const seconds = (Date.now() - begin) / 1000;

@@ -21,8 +21,9 @@ function example_recording(count) {
     const current = is_dark_now ? -310 + (t % 7) : 420 - Math.round(300 * turn) + (t % 5);
     const temperature = Math.round(14 + 31 * Math.sin(2 * Math.PI * (turn - 0.18)));
     const wheel = -12000 + 133 * (t % 180);
-    const words = (BigInt(is_dark_now ? 2 : 1) << 56n) | (BigInt(battery) << 44n) | (BigInt(current & 4095) << 32n) | (BigInt(temperature & 255) << 24n) | (BigInt(wheel & 65535) << 8n) | BigInt(t & 3);
-    new DataView(bytes.buffer).setBigUint64(8 * t, words);
+    const fields = [[is_dark_now ? 2 : 1, 56n], [battery, 44n], [current & 4095, 32n], [temperature & 255, 24n], [wheel & 65535, 8n], [t & 3, 0n]];
+    const word = fields.reduce((sum, [value, place]) => sum | (BigInt(value) << place), 0n);
+    new DataView(bytes.buffer).setBigUint64(8 * t, word);
   }
   return bytes;
 }
@@ -31,7 +32,8 @@ function example_recording(count) {
 function example_store() {
   const plan = bytes_of('20,179,20,p\n45,179,45,fr\n');
   const made = run_program(['compress', 'in=recording', 'out=store', 'bits=64', 'apid=100', 'robust=2', 'plan=plan'], { recording: example_recording(180), plan });
-  const played = run_program(['play', 'in=store', 'out=played', 'report=report', 'script=loss', 'apid=100'], { store: made.outputs.store, loss: bytes_of(EXAMPLE_LOSS) });
+  const inputs = { store: made.outputs.store, loss: bytes_of(EXAMPLE_LOSS) };
+  const played = run_program(['play', 'in=store', 'out=played', 'report=report', 'script=loss', 'apid=100'], inputs);
   const { played: store } = played.outputs, places = arrivals_of(store, 100);
   store[places[148] + 6] ^= 0x10;
   return store;

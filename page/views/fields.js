@@ -56,7 +56,8 @@ class FieldsView {
   run() {
     if (!this.recording) return;
     const bits = part('fields-bits').value;
-    const done = run_program(['table', 'in=recording', 'out=table', 'report=outside', 'fields=fields', `bits=${bits}`], { recording: this.recording, fields: bytes_of(this.rows.text) });
+    const inputs = { recording: this.recording, fields: bytes_of(this.rows.text) };
+    const done = run_program(['table', 'in=recording', 'out=table', 'report=outside', 'fields=fields', `bits=${bits}`], inputs);
     let fault = this.refuse(done, bits);
     this.forget();
     if (!fault) fault = this.build(done.outputs);
@@ -72,7 +73,8 @@ class FieldsView {
 
   // Each refusal at what it is of; gives its words, or nothing.
   refuse({ status, text }, bits) {
-    refuse_value(part('fields-bits'), text === 'word 5 is wrong' ? (bits ? 'A number from 1 to 49,152, digits alone.' : 'How many bits has a packet? From 1 to 49,152.') : '');
+    const wanted = bits ? 'A number from 1 to 49,152, digits alone.' : 'How many bits has a packet? From 1 to 49,152.';
+    refuse_value(part('fields-bits'), text === 'word 5 is wrong' ? wanted : '');
     this.rows.refuse(status === 3 ? text : '');
     if (status === 4) return `This is no recording of packets of ${bits} bits: ${text}.`;
     return text;
@@ -108,8 +110,10 @@ class FieldsView {
     }
     const outside = table.fields.reduce((sum, field) => sum + field.outside, 0);
     const missing = this.runs.total - table.count;
-    fill(part('fields-sum'), element('b', {}, `${counted(table.count, 'packet', 'packets')} with ${counted(table.fields.length, 'field', 'fields')}`),
-      `; ${outside ? counted(outside, 'value', 'values') : 'no value is'} out of ${outside === 1 ? 'its' : 'their'} limits${missing ? `; ${grouped(missing)} packets are missing` : ''}.`);
+    const all = `${counted(table.count, 'packet', 'packets')} with ${counted(table.fields.length, 'field', 'fields')}`;
+    const out = outside ? `${counted(outside, 'value is', 'values are')} out of limits` : 'no value is out of limits';
+    const gaps = missing ? `; ${counted(missing, 'packet is', 'packets are')} missing` : '';
+    fill(part('fields-sum'), element('b', {}, all), `; ${out}${gaps}.`);
   }
 
   key(event) {
@@ -142,6 +146,11 @@ class FieldsView {
     return `${name}: ${this.table.fields.map((field, place) => `${field.name} ${cells[place]}${this.out_words(field, t)}`).join('; ') || 'no fields'}`;
   }
 
+  value_row(field, t, cell) {
+    return element('tr', {}, element('th', { scope: 'row' }, field.name), element('td', { class: field.out[t] ? 'number out' : 'number' }, cell),
+      element('td', {}, field.limit ? field.limit.words : '–'), element('td', { class: 'out' }, this.out_words(field, t).replace(', ', '')));
+  }
+
   point() {
     for (const curve of this.curves) curve.draw();
     const box = part('fields-words'), { table } = this;
@@ -155,9 +164,7 @@ class FieldsView {
       return;
     }
     const cells = cells_of(table, t), place = this.report ? `, at place ${grouped(t)} of the recording` : '';
-    const rows = table.fields.map((field, column) => element('tr', {}, element('th', { scope: 'row' }, field.name), element('td', { class: field.out[t] ? 'number out' : 'number' }, cells[column]),
-      element('td', {}, field.limit ? field.limit.words : '–'), element('td', { class: 'out' }, this.out_words(field, t).replace(', ', ''))));
-    const names = ['field', 'value', 'limits', ''].map((name) => element('th', { scope: 'col' }, name));
-    fill(box, element('p', { class: 'state' }, `Packet ${grouped(at)}${place}.`), element('table', {}, element('thead', {}, element('tr', {}, ...names)), element('tbody', {}, ...rows)));
+    const rows = table.fields.map((field, column) => this.value_row(field, t, cells[column]));
+    fill(box, element('p', { class: 'state' }, `Packet ${grouped(at)}${place}.`), table_of(['field', 'value', 'limits', ''], rows));
   }
 }

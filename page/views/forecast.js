@@ -8,6 +8,9 @@ const EXAMPLE = {
   script: 'drop,10,10,1\ndrop,50,51,1\ndrop,190,194,1\ndrop,205,207,1\nrepeat,300,309,1,2\ndrop,530,533,1\ndrop,999,999,1\n',
 };
 
+const LONG_GAP = 'A gap is as long as the period of the sequence counts (16,384), or no packet arrives: the ground can then take a packet '
+  + 'for a repeat, and nothing is promised.';
+
 class ForecastView {
   constructor() {
     this.span = new Span();
@@ -130,7 +133,7 @@ class ForecastView {
     fill(part('forecast-sum'), element('b', {}, `${grouped(sure)} of ${counted(runs.total, 'packet is', 'packets are')} sure`), `${rest}.`);
     const [first, widest] = runs.gaps;
     const is_long = first === '-' || Number(first) > 16383 || Number(widest) > 16383;
-    fill(part('forecast-gaps'), is_long ? 'A gap is as long as the period of the sequence counts (16,384), or no packet arrives: the ground can then take a packet for a repeat, and nothing is promised.' : '');
+    fill(part('forecast-gaps'), is_long ? LONG_GAP : '');
   }
 
   // The chosen packet in words, and after a moment why it is open.
@@ -199,7 +202,10 @@ class ForecastView {
     const is_own = String(robust) === asked.robust, share = (100 * sure) / this.runs.total;
     const bar = element('span', { class: 'bar' }, element('span', { class: 'filled' }));
     bar.firstChild.style.width = `${share}%`;
-    const take = element('button', { type: 'button', disabled: is_own, on_click: () => this.change(() => { part('robust').value = String(robust); }) }, is_own ? 'taken' : 'Take');
+    const put = () => {
+      part('robust').value = String(robust);
+    };
+    const take = element('button', { type: 'button', disabled: is_own, on_click: () => this.change(put) }, is_own ? 'taken' : 'Take');
     return element('tr', is_own ? { class: 'own' } : {}, element('th', { scope: 'row' }, String(robust)), element('td', {}, bar),
       element('td', { class: 'number' }, grouped(sure)), element('td', { class: 'number' }, open ? grouped(open) : 'none'), element('td', {}, take));
   }
@@ -214,7 +220,8 @@ class ForecastView {
       fill(box, `${counted(rows.length, 'row', 'rows')} tried, ${counted(open, 'packet', 'packets')} still open ..`);
       return;
     }
-    const end = open ? `After ${MOST_ROWS} rows ${counted(open, 'packet is', 'packets are')} still open. ` : `With ${rows.length === 1 ? 'this row' : `these ${rows.length} rows`} all that arrive are sure. `;
+    const these = rows.length === 1 ? 'this row' : `these ${rows.length} rows`;
+    const end = open ? `After ${MOST_ROWS} rows ${counted(open, 'packet is', 'packets are')} still open. ` : `With ${these} all that arrive are sure. `;
     fill(box, element('code', { class: 'list' }, rows.join('\n')), end, this.adding(rows));
   }
 }

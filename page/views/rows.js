@@ -61,7 +61,8 @@ const WHY_ROW = {
     return wrong_span(cells[1], cells[2], cells[3]) || 'extra is 1 to 8';
   },
   fields(cells) {
-    if (cells[0] === 'limit') return cells.length === 4 ? 'the name is of a field above it that has no limit yet, and low is at most high' : 'it has four parts: limit,name,low,high';
+    if (cells[0] === 'limit' && cells.length !== 4) return 'it has four parts: limit,name,low,high';
+    if (cells[0] === 'limit') return 'the name is of a field above it that has no limit yet, and low is at most high';
     if (cells[0] !== 'field') return 'it begins with field or limit';
     if (cells.length !== 5) return 'it has five parts: field,place,width,kind,name';
     if (cells[3] !== 'u' && cells[3] !== 's') return 'kind is u or s';
@@ -114,7 +115,9 @@ class Rows {
     if (numbered === this.numbered) return;
     this.numbered = numbered;
     const rows = [];
-    for (let line = 0; line < most; line += 1) rows.push(element('span', is_wrong(line) ? { class: 'wrong' } : {}, is_wrong(line) ? `✗ ${line + 1}` : `${line + 1}`));
+    for (let line = 0; line < most; line += 1) {
+      rows.push(is_wrong(line) ? element('span', { class: 'wrong' }, `✗ ${line + 1}`) : element('span', {}, `${line + 1}`));
+    }
     fill(this.gutter, ...rows);
     this.gutter.scrollTop = this.area.scrollTop;
   }

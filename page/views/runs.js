@@ -164,7 +164,8 @@ function read_report(text, written) {
       return runs;
     }
     const kind = FINDINGS.findIndex((finding) => finding.word === cause);
-    if (kind < 1 || !(Number(first) >= runs.total) || !(Number(last) >= Number(first))) return `Line ${row + 1} of the report is no row of it: ${lines[row].slice(0, 60)}`;
+    const is_row = kind > 0 && Number(first) >= runs.total && Number(last) >= Number(first);
+    if (!is_row) return `Line ${row + 1} of the report is no row of it: ${lines[row].slice(0, 60)}`;
     if (Number(first) > runs.total) runs.add(runs.total, Number(first) - 1, WRITTEN);
     runs.add(Number(first), Number(last), kind);
   }

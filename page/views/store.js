@@ -9,6 +9,14 @@ const WHAT_TO_DO = {
   early: 'Damaged, of another sender, or of another number of bits. A single one counts as lost.',
 };
 
+const WHY_STORE = [
+  [' is cut', 'the store ends inside the packet that begins there'],
+  [' another version', 'the bytes there are no Space Packet\'s'],
+  [' another shape', 'the packet there is a telecommand, has a secondary header or is segmented'],
+];
+const DISORDER = 'packets came in another order than they were sent, and each of these is taken for one 16,384 further on. The verb late puts '
+  + 'them in order.';
+
 class StoreView {
   constructor() {
     this.span = new Span();
@@ -83,11 +91,10 @@ class StoreView {
     const bits = is_new ? 'How many bits has a packet? The sender knows: from 1 to 49,152.' : 'A number from 1 to 49,152, digits alone.';
     refuse_value(part('store-bits'), text === 'word 2 is wrong' ? bits : '');
     refuse_value(part('store-apid'), text === 'word 3 is wrong' ? 'A number from 0 to 2046, digits alone.' : '');
-    const box = part('store-refusal'), cut = / at byte ([0-9]+) is cut/.exec(text);
+    const box = part('store-refusal');
     box.hidden = status === 0 || status === 2;
     if (box.hidden) return;
-    const known = { cut: 'the store ends inside the packet that begins there', version: 'the bytes there are no Space Packet\'s', shape: 'the packet there is a telecommand, has a secondary header or is segmented' };
-    const why = cut ? known.cut : / another version/.test(text) ? known.version : / another shape/.test(text) ? known.shape : '';
+    const why = (WHY_STORE.find(([words]) => text.includes(words)) || ['', ''])[1];
     fill(box, why ? `This store is refused: ${why}. ` : '', element('span', { class: 'program' }, `The program says: ${text}. `));
     const at = / at byte ([0-9]+)/.exec(text);
     if (at && Number(at[1]) > 0) box.append(this.front_button(Number(at[1])));
@@ -116,7 +123,7 @@ class StoreView {
   warning() {
     const { runs } = this, falls = falls_back(this.store, this.places);
     if (runs.total === 0) return 'No packet of this store has this APID.';
-    if (falls) return `The sequence counts fall back at ${counted(falls, 'packet', 'packets')}: packets came in another order than they were sent, and each of these is taken for one 16,384 further on. The verb late puts them in order.`;
+    if (falls) return `The sequence counts fall back at ${counted(falls, 'packet', 'packets')}: ${DISORDER}`;
     if (runs.end[1] === 0) return 'Nothing is given back: the bits of a packet, or the APID, may not be the sender\'s.';
     return '';
   }
@@ -173,10 +180,12 @@ class StoreView {
   details(place, kind) {
     const cells = this.line_of(place).split(' '), start = this.places[this.runs.arrival[place]];
     const end = start + packet_length(this.store, start), data = this.store.subarray(start + 6, end);
-    const facts = [['in the store', `bytes ${grouped(start)} to ${grouped(end - 1)}: a header of 6 bytes, ${to_hex(this.store.subarray(start, start + 6))}, and ${counted(data.length, 'byte', 'bytes')} of data`]];
+    const header = to_hex(this.store.subarray(start, start + 6)), span = `bytes ${grouped(start)} to ${grouped(end - 1)}`;
+    const facts = [['in the store', `${span}: a header of 6 bytes, ${header}, and ${counted(data.length, 'byte', 'bytes')} of data`]];
     if (kind === 'wrong') {
       const wrong = Number(cells[2]), byte = wrong >> 3;
-      facts.push(['first wrong bit', `bit ${grouped(wrong)} of its data: bit ${wrong & 7} of the data's byte ${grouped(byte)}, which is byte ${grouped(start + 6 + byte)} of the store (all counted from 0)`]);
+      const where = `bit ${wrong & 7} of the data's byte ${grouped(byte)}, which is byte ${grouped(start + 6 + byte)} of the store`;
+      facts.push(['first wrong bit', `bit ${grouped(wrong)} of its data: ${where} (all counted from 0)`]);
       return [fact_list(facts), wrong_table(data, wrong)];
     }
     if (kind !== 'written') {
@@ -192,8 +201,8 @@ class StoreView {
     facts.push(['level', `${level}: so many packets before it could be missing`], ['content', hex_words(content)]);
     facts.push(['mask', known ? `${hex_words(mask)} (not predictable: ${ones_words(known)})` : 'not known']);
     facts.push(['recent changes', `${hex_words(changes)} (${ones_words(from_hex(changes))})`], ['data', hex_words(to_hex(data.subarray(0, 70)).replace(/ /g, ''))]);
-    const key = element('p', { class: 'hint' }, 'The content, bit by bit. ', element('span', { class: 'bits' }, element('span', { class: 'mask' }, '1')), ' in the mask: not predictable; ',
-      element('span', { class: 'bits' }, element('span', { class: 'change' }, '1')), ' its mask changed lately.');
+    const bit = (kind) => element('span', { class: 'bits' }, element('span', { class: kind }, '1'));
+    const key = element('p', { class: 'hint' }, 'The content, bit by bit. ', bit('mask'), ' in the mask: not predictable; ', bit('change'), ' its mask changed lately.');
     return [fact_list(facts), key, content_table(from_hex(content), known, from_hex(changes), Number(part('store-bits').value))];
   }
 
@@ -231,14 +240,13 @@ function fact_list(facts) {
 
 // The rows of a report; the first number of each goes to that packet.
 function report_table(text, go) {
-  const rows = text.trimEnd().split('\n').slice(1), most = 500, body = element('tbody');
+  const rows = text.trimEnd().split('\n').slice(1), most = 500, made = [];
   for (const row of rows.slice(0, most)) {
     const [first, last, cause, value] = row.split(',');
     const number = first === 'end' ? 'end' : element('button', { type: 'button', on_click: () => go(Number(first)) }, grouped(first));
     const told = first === 'end' ? [`${grouped(last)} arrived`, `${grouped(cause)} written`, `${grouped(value)} repeats`] : [grouped(last), cause, value];
-    body.append(element('tr', {}, element('td', {}, number), ...told.map((cell) => element('td', {}, cell))));
+    made.push(element('tr', {}, element('td', {}, number), ...told.map((cell) => element('td', {}, cell))));
   }
-  const names = ['first', 'last', 'cause', 'value'].map((name) => element('th', { scope: 'col' }, name));
   const more = rows.length > most ? [element('p', { class: 'hint' }, 'The first rows; the whole report can be saved.')] : [];
-  return element('div', { class: 'report', tabindex: '0', 'aria-label': 'The rows of the report' }, element('table', {}, element('thead', {}, element('tr', {}, ...names)), body), ...more);
+  return element('div', { class: 'report', tabindex: '0', 'aria-label': 'The rows of the report' }, table_of(['first', 'last', 'cause', 'value'], made), ...more);
 }

@@ -42,6 +42,12 @@ function element(tag, given = {}, ...inside) {
   return made;
 }
 
+// A table with these names above its columns, and these rows of it.
+function table_of(names, rows) {
+  const heads = names.map((name) => element('th', { scope: 'col' }, name));
+  return element('table', {}, element('thead', {}, element('tr', {}, ...heads)), element('tbody', {}, ...rows));
+}
+
 // Sets what stands in a part of the page.
 function fill(box, ...inside) {
   box.replaceChildren(...inside);
