@@ -234,6 +234,8 @@ function test_disorder() {
   const { runs, listing } = views.store, kept = runs.bytes() + listing.length;
   const faults = [differs('the runs', runs.size, 2000), differs('the packets', runs.total, 999 * 16383 + 1000)];
   if (kept > 1000000) faults.push(`${kept} bytes are kept`);
+  part('use-late').click();
+  faults.push(differs('after late', part('store-report').querySelectorAll('tbody tr').length > 0 && part('use-late').hidden, true));
   const warning = part('store-warning').textContent;
   if (!warning.startsWith('The sequence counts fall back at 999 packets')) faults.push(`the warning is ${warning}`);
   const seconds = (Date.now() - begin) / 1000;

@@ -33,6 +33,7 @@ class StoreView {
     part('save-recording').addEventListener('click', () => save('restored.rec', this.restored.outputs.recording));
     part('to-fields').addEventListener('click', () => this.to_fields());
     part('to-forecast').addEventListener('click', () => this.to_forecast());
+    part('use-late').addEventListener('click', () => this.restore('late'));
   }
 
   async take(files) {
@@ -50,6 +51,14 @@ class StoreView {
     fill(part('store-apids'), ...apids.map(([value]) => element('option', { value })));
     fill(part('store-offers'), ...(apids.length > 1 ? ['APIDs in it: ', ...apids.slice(0, 40).map(([value, count]) => this.offer(value, count))] : []));
     this.run();
+    if (this.runs) this.begin();
+  }
+
+  // Chooses the first packet that is wrong, or else the first one that is not written.
+  begin() {
+    const { runs } = this, wrong = runs.kind.subarray(0, runs.size).indexOf(WRONG);
+    const at = wrong >= 0 ? runs.first[wrong] : runs.size && runs.kind[0] ? 0 : runs.next_bad(0, 1);
+    if (at >= 0) this.span.go(at);
   }
 
   offer(apid, count) {
@@ -76,12 +85,11 @@ class StoreView {
     if (listed.status !== 0) {
       this.strip.clear(bits === '' ? 'the bits of a packet are to be given' : listed.text);
     } else {
-      this.restored = run_program(['restore', ...given, 'out=recording', 'report=report'], { store: this.store });
       this.listing = listed.outputs.listing;
       this.runs = read_listing(this.listing);
       this.places = arrivals_of(this.store, Number(apid));
       this.strip.show(this.runs);
-      this.show_report();
+      this.restore('restore');
     }
     this.sum();
     this.point();
@@ -206,19 +214,25 @@ class StoreView {
     return [fact_list(facts), key, content_table(from_hex(content), known, from_hex(changes), Number(part('store-bits').value))];
   }
 
-  show_report() {
-    const card = part('store-report-card'), { restored } = this;
-    card.hidden = restored.status !== 0;
-    if (card.hidden) return;
+  // Restores the store in the order in which it came, or by `late` in the order of the counts, and shows the report.
+  restore(verb) {
+    const given = ['in=store', `bits=${part('store-bits').value}`, `apid=${part('store-apid').value}`, 'out=recording', 'report=report'];
+    const restored = run_program([verb, ...given, ...(verb === 'late' ? ['window=64'] : [])], { store: this.store });
+    this.restored = restored;
+    part('store-report-card').hidden = restored.status !== 0;
+    part('use-late').hidden = verb === 'late' || falls_back(this.store, this.places) === 0;
+    fill(part('report-title'), verb === 'late' ? 'Its report, after the packets were put in order' : 'Its report');
+    if (restored.status !== 0) return;
     fill(part('store-report'), report_table(text_of(restored.outputs.report.subarray(0, 100000)), (at) => {
       this.span.go(at);
       part('store-strip').focus();
     }));
   }
 
-  // The losses of this pass as the script of a forecast.
+  // The losses of the report as the script of a forecast, of so many packets as it tells of.
   to_forecast() {
-    const rows = [], { runs } = this;
+    const { report, recording } = this.restored.outputs, rows = [];
+    const runs = read_report(text_of(report), recording.length / Math.ceil(Number(part('store-bits').value) / 8));
     for (let place = 0; place < runs.size; place += 1) {
       if (runs.kind[place] === LOST) rows.push(`drop,${runs.first[place]},${runs.last(place)},1\n`);
     }
@@ -243,8 +257,8 @@ function report_table(text, go) {
   const rows = text.trimEnd().split('\n').slice(1), most = 500, made = [];
   for (const row of rows.slice(0, most)) {
     const [first, last, cause, value] = row.split(',');
-    const number = first === 'end' ? 'end' : element('button', { type: 'button', on_click: () => go(Number(first)) }, grouped(first));
-    const told = first === 'end' ? [`${grouped(last)} arrived`, `${grouped(cause)} written`, `${grouped(value)} repeats`] : [grouped(last), cause, value];
+    const number = first === 'end' || first === 'late' ? first : element('button', { type: 'button', on_click: () => go(Number(first)) }, grouped(first));
+    const told = first === 'end' ? [`${grouped(last)} arrived`, `${grouped(cause)} written`, `${grouped(value)} repeats`] : [grouped(last), cause ?? '', value ?? ''];
     made.push(element('tr', {}, element('td', {}, number), ...told.map((cell) => element('td', {}, cell))));
   }
   const more = rows.length > most ? [element('p', { class: 'hint' }, 'The first rows; the whole report can be saved.')] : [];
