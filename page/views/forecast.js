@@ -141,12 +141,13 @@ class ForecastView {
     const box = part('forecast-words');
     if (!this.runs) {
       this.asking.stop();
+      this.pointed = null;
       fill(box);
       return;
     }
     const words = forecast_words(this.runs, this.asked.script, this.span.at);
-    if (box.dataset.words === words && box.dataset.asked === JSON.stringify(this.asked)) return;
-    Object.assign(box.dataset, { words, asked: JSON.stringify(this.asked) });
+    if (this.pointed && this.pointed.words === words && this.pointed.asked === this.asked) return;
+    this.pointed = { words, asked: this.asked };
     fill(box, element('p', { class: 'state' }, `${words[0].toUpperCase()}${words.slice(1)}.`));
     this.asking.stop();
     if (this.runs.kind_at(this.span.at) === OPEN) this.asking.start(this.explain(this.span.at, box), 160);

@@ -13,7 +13,12 @@ function remember(asked) {
   clearTimeout(remembering);
   remembering = setTimeout(() => {
     const address = address_of(asked);
-    if (location.hash !== address && location.hash !== '#tests') history.replaceState(null, '', address);
+    if (location.hash === address || location.hash === '#tests') return;
+    try {
+      history.replaceState(null, '', address);
+    } catch {
+      history.replaceState(null, '', '#'); // too long for this browser
+    }
   }, 300);
 }
 
