@@ -136,21 +136,16 @@ class ForecastView {
     fill(part('forecast-gaps'), is_long ? LONG_GAP : '');
   }
 
-  // The chosen packet in words, and after a moment why it is open.
+  // The chosen packet in words, and after a moment what would make it sure if it is open.
   point() {
-    const box = part('forecast-words');
-    if (!this.runs) {
-      this.asking.stop();
-      this.pointed = null;
-      fill(box);
-      return;
-    }
-    const words = forecast_words(this.runs, this.asked.script, this.span.at);
+    part('forecast-words').hidden = !this.runs;
+    const words = this.runs ? forecast_words(this.runs, this.asked.script, this.span.at) : '';
     if (this.pointed && this.pointed.words === words && this.pointed.asked === this.asked) return;
     this.pointed = { words, asked: this.asked };
-    fill(box, element('p', { class: 'state' }, `${words[0].toUpperCase()}${words.slice(1)}.`));
     this.asking.stop();
-    if (this.runs.kind_at(this.span.at) === OPEN) this.asking.start(this.explain(this.span.at, box), 160);
+    fill(part('forecast-state'), words ? `${words[0].toUpperCase()}${words.slice(1)}.` : '');
+    fill(part('forecast-tried'));
+    if (this.runs && this.runs.kind_at(this.span.at) === OPEN) this.asking.start(this.explain(this.span.at, part('forecast-tried')), 160);
   }
 
   // What would make an open packet sure, tried by the program.
@@ -171,7 +166,7 @@ class ForecastView {
     } else if (found.heads.length) {
       list.append(element('li', {}, `No robustness up to 7 makes packet ${grouped(found.heads[0])} sure.`));
     }
-    box.append(element('p', { class: 'tried' }, 'Tried by the program:'), list);
+    fill(box, element('p', { class: 'tried' }, 'Tried by the program:'), list);
   }
 
   // A button that adds rows to the schedule.

@@ -170,10 +170,14 @@ function steer_by_pointer(canvas, span, share, more) {
   canvas.addEventListener('pointerleave', () => {
     if (pressed === null) span.look_away();
   });
-  canvas.addEventListener('pointerup', (event) => {
-    const is_drag = is_moved(event) && more.drag;
+  const end = () => {
     pressed = null;
     span.is_dragged = false;
+  };
+  canvas.addEventListener('pointercancel', end);
+  canvas.addEventListener('pointerup', (event) => {
+    const is_drag = is_moved(event) && more.drag;
+    end();
     if (is_drag) more.drag(...span.chosen(), event.shiftKey);
   });
 }
