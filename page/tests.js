@@ -264,6 +264,21 @@ function test_fields() {
   return faults.filter(Boolean).join('; ');
 }
 
+// A recording, its report and its fields, dropped together or one by one, are known by what they hold.
+async function test_files() {
+  const done = run_program(['restore', 'in=store', 'out=recording', 'report=report', 'bits=64', 'apid=100'], { store: example_store() });
+  const { recording, report } = done.outputs, view = views.fields;
+  part('fields-bits').value = '64';
+  await view.take([new File([EXAMPLE_FIELDS], 'fields.csv'), new File([report], 'report.csv'), new File([recording], 'restored.rec')]);
+  const sum = () => part('fields-sum').textContent;
+  const faults = [differs('all three', sum(), '166 packets with 5 fields; 106 values are out of limits; 14 packets are missing.')];
+  await view.take([new File([recording], 'restored.rec')]);
+  faults.push(differs('the recording alone', sum(), '166 packets with 5 fields; 106 values are out of limits.'));
+  await view.take([new File([report], 'report.csv')]);
+  faults.push(differs('its report after it', `${view.runs.total} ${view.table.count}`, '180 166'));
+  return faults.filter(Boolean).join('; ');
+}
+
 function test_million_values() {
   const begin = Date.now(), recording = new Uint8Array(1000000);
   recording[777777] = 200;
@@ -296,6 +311,7 @@ const PAGE_TESTS = [
   ['a cut store', test_refused_store],
   ['a store in disorder', test_disorder],
   ['fields', test_fields],
+  ['files that are dropped', test_files],
   ['a million values', test_million_values],
 ];
 

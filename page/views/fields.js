@@ -21,12 +21,14 @@ class FieldsView {
 
   // Files by what they hold: a report and a text of fields are known by their first words, all else is a recording.
   async take(files) {
+    const found = {};
     for (const file of files) {
       const bytes = await read_file(file), front = text_of(bytes.subarray(0, 40));
-      if (front.startsWith('first,last,cause,value')) this.report = text_of(bytes);
+      if (front.startsWith('first,last,cause,value')) found.report = text_of(bytes);
       else if (/^\s*(field|limit),/.test(front)) this.rows.text = text_of(bytes);
-      else [this.recording, this.name, this.report] = [bytes, file.name, files.length > 1 ? this.report : ''];
+      else Object.assign(found, { recording: bytes, name: file.name });
     }
+    Object.assign(this, found.recording ? { report: '', ...found } : found);
     this.run();
   }
 
