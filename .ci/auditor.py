@@ -108,9 +108,9 @@ def section():
             total += size
             names = ", ".join(f"`{name}`" for name in here)
             rows.append(f"| {crate}/{kind}/{module.removeprefix('declared.').replace('.', '/')}.{suffix} | {names} | {size} |\n")
-    return (HEADING + f"\nWho believes the prover, and wants to know what the clause `headline` of `pocket` says, reads the clause and every definition on which it"
-            f" stands. These are {len(found)} definitions with {total} lines, comments aside, in this order; std's words come with them. The list is made by"
-            " following names (`python3 .ci/auditor.py --write`), and the gate compares it with the sources.\n\n| File | Definitions | Lines |\n|---|---|---|\n"
+    return (HEADING + f"\nWho believes the prover reads the clause `headline` of `pocket` and every definition on which it stands, in this order: {len(found)}"
+            f" definitions with {total} lines, comments aside, and std's words. The list is made by following names (`python3 .ci/auditor.py --write`)."
+            "\n\n| File | Definitions | Lines |\n|---|---|---|\n"
             + "".join(rows))
 
 

@@ -21,7 +21,7 @@ WORD = re.compile(r"^\s*(?:abbrev |unfoldable )?(?:pub )?(?:record |data )?([^\s
 STEP = re.compile(r"\bfn (\w+)|\b(?:ensures|requires)\*? (\w+) \{")
 
 # The pages whose tables and sentences name clauses and laws in parentheses.
-PROVED = {"CONTRACTS.md", "HEADLINE.md", "FIRST_WRONG_BIT.md"}
+PROVED = {"CONTRACTS.md", "HEADLINE.md"}
 
 
 def text(crate, kind, suffix):
