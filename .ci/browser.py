@@ -25,6 +25,9 @@ import browser_cases
 from chromium import Browser
 
 TOP = os.path.dirname(os.path.dirname(os.path.abspath(__file__)))
+sys.path.append(f"{TOP}/page")
+import make
+
 PROGRAM = f"{TOP}/crates/pocket/out/pocket"
 PAGE, MODULE = f"{TOP}/page/pocket.html", f"{TOP}/page/out/pocket.wasm"
 PACKAGES = {"chromium": "chromium", "wasm-opt": "binaryen"}
@@ -78,7 +81,7 @@ def stretches(text):
 
 
 def tell_shipped(browser):
-    """What is wrong with the page as it ships, or None: what it says under the keys, and what it asks for."""
+    """What is wrong with the page as it ships, or None: what it says under the keys and in its foot, and what it asks for."""
     if os.path.getsize(PAGE) > MOST_BYTES:
         return f"it has {os.path.getsize(PAGE)} bytes"
     browser.requests.clear()
@@ -97,6 +100,10 @@ def tell_shipped(browser):
         if not text or not re.search(rf"\b{state}\b", text):
             return f"it says {text or browser.value(said)!r} of packet {number}, which is {state}"
         browser.press("ArrowRight")
+    refused = browser.value("fetch('data:,x').then(() => false, () => true)")
+    foot = browser.value("document.querySelector('footer').innerText")
+    if not refused or not all(words in foot for words in (make.version(), "compared", "not proved")):
+        return f"a request is refused: {refused}; its foot says {foot!r}"
     asked = {url for url in browser.requests if not url.startswith(("about:", "data:", "blob:", f"file://{PAGE}"))}
     return f"it asked for {sorted(asked)}" if asked else None
 

@@ -36,11 +36,11 @@ HELP = "the package binaryen, which has wasm-opt, is not there"
 
 def with_attributes(text, line, name, attributes):
     """The text with attributes of its own for the function that a line defines or declares."""
-    found = re.compile(rf"^({line} .*@{name}\(.*\)) #(\d+)( \{{)?$", re.M)
-    (_, group, _), = found.findall(text) or [(None, None, None)]
-    if group is None:
-        sys.exit(f"the module has no line '{line} .. @{name}'")
-    own = re.search(rf"^attributes #{group} = \{{(.*)\}}$", text, re.M)[1]
+    found = re.compile(rf"^({line} .*@{name}\(.*\)[^#\n]*) #(\d+)(.*)$", re.M)
+    lines = found.findall(text)
+    if len(lines) != 1:
+        sys.exit(f"the module has {len(lines)} lines '{line} .. @{name}'")
+    own = re.search(rf"^attributes #{lines[0][1]} = \{{(.*)\}}$", text, re.M)[1]
     number = 1 + max(int(it) for it in re.findall(r"^attributes #(\d+) =", text, re.M))
     text = found.sub(rf"\1 #{number}\3", text)
     return f"{text}\nattributes #{number} = {{{own}{attributes}}}\n"
