@@ -135,50 +135,62 @@ def tell_picture(browser):
     return "light and dark look the same" if seen[0] == seen[1] else None
 
 
-def main():
-    if len(sys.argv) > 2:
-        sys.exit(__doc__)
-    passed = failed = 0
+class Tally:
+    """How much passed and failed, and a line for each fault."""
 
-    def tell(name, fault):
-        nonlocal passed, failed
-        passed, failed = passed + (fault is None), failed + (fault is not None)
+    def __init__(self):
+        self.passed = self.failed = 0
+
+    def tell(self, name, fault):
+        self.passed, self.failed = self.passed + (fault is None), self.failed + (fault is not None)
         if fault is not None:
             print(f"browser: {name}: {fault}", flush=True)
 
-    def attempt(name, step, *given):
+    def attempt(self, name, step, *given):
+        """Tells what a step finds wrong, or that it raised an error."""
         try:
-            tell(name, step(*given))
+            self.tell(name, step(*given))
         except (RuntimeError, OSError, ValueError, subprocess.SubprocessError) as error:
-            tell(name, f"it raised {error}")
+            self.tell(name, f"it raised {error}")
 
+    def add(self, passed, failed, lines):
+        """Adds what the page's own tests told."""
+        self.passed, self.failed = self.passed + passed, self.failed + failed
+        for line in lines:
+            print(f"browser: {line}", flush=True)
+
+
+def try_all(folder, machine, tally):
+    """Builds the page, and tries it."""
+    made = []
+    tally.attempt(PARTS[0], lambda: made.append(build(folder, machine)))
+    if not made:
+        return
+    browser = Browser(shutil.which("chromium"))
+    try:
+        tally.attempt(PARTS[1], lambda: tally.add(*run_own(browser, made[0])))
+        tally.attempt(PARTS[2], tell_shipped, browser)
+        tally.attempt(PARTS[3], tell_picture, browser)
+    finally:
+        browser.close()
+
+
+def main():
+    if len(sys.argv) > 2:
+        sys.exit(__doc__)
     if not has_tools():
         for name in PARTS:
             print(f"browser: skipped: {name}: Debian's chromium or binaryen is not there", flush=True)
         print(f"0 passed, 0 failed, {len(PARTS)} skipped")
         return
+    tally = Tally()
     with tempfile.TemporaryDirectory(prefix="pocket-browser-") as folder:
         try:
-            page = build(folder, *sys.argv[1:] or [None])
-        except (RuntimeError, OSError, ValueError, subprocess.SubprocessError) as error:
-            tell(PARTS[0], f"it raised {error}")
-            print(f"{passed} passed, {failed} failed")
-            sys.exit(1)
-        tell(PARTS[0], None)
-        browser = Browser(shutil.which("chromium"))
-        try:
-            try:
-                more, less, lines = run_own(browser, page)
-                passed, failed = passed + more, failed + less
-                print("".join(f"browser: {line}\n" for line in lines), end="", flush=True)
-            except RuntimeError as error:
-                tell(PARTS[1], f"it raised {error}")
-            attempt(PARTS[2], tell_shipped, browser)
-            attempt(PARTS[3], tell_picture, browser)
-        finally:
-            browser.close()
-    print(f"{passed} passed, {failed} failed")
-    sys.exit(1 if failed else 0)
+            try_all(folder, sys.argv[1] if sys.argv[1:] else None, tally)
+        except (RuntimeError, OSError) as error:
+            tally.tell("the browser", f"it raised {error}")
+    print(f"{tally.passed} passed, {tally.failed} failed")
+    sys.exit(1 if tally.failed else 0)
 
 
 if __name__ == "__main__":
