@@ -4,6 +4,8 @@
 # make install: the header, the libraries, the Python module, and the program with its manual page and completions if
 # crates/pocket/out/pocket is there; make install-program: the program alone.
 # make deb: a Debian package of the program, in the folder build.
+# make page: the operator's page, page/pocket.html, one file that a browser opens from disk. It takes the toolchain, the gate's libraries
+# (crates/*/out/rlib) and Debian's binaryen.
 PREFIX = /usr/local
 DESTDIR =
 BUILD = build
@@ -55,10 +57,23 @@ install-program:
 deb:
 	packaging/deb.sh $(PROGRAM) $(BUILD)
 
+# The library's module is kept as the library is built (library/retarget.py), and turned (page/module.py).
+MODULE = crates/pocket_c/out/module.bc
+$(MODULE): $(wildcard crates/*/src/*.rt crates/*/src/*/*.rt) crates.txt library/retarget.py
+	python3 library/retarget.py x86_64-linux-gnu $(@D)
+
+page/out/pocket.wasm: $(MODULE) page/module.py library/retarget.py
+	python3 page/module.py $< $@
+
+page/pocket.html: page/out/pocket.wasm page/make.py page/page.html page/style.css $(wildcard page/*.js page/views/*.js)
+	python3 page/make.py $<
+
+page: page/pocket.html
+
 test: lib
 	python3 .ci/library.py $(dir $(PROVED)) $(PROGRAM)
 
 clean:
-	rm -rf $(BUILD)
+	rm -rf $(BUILD) page/out page/pocket.html
 
-.PHONY: lib install install-program deb test clean
+.PHONY: lib install install-program deb page test clean

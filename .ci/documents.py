@@ -6,6 +6,7 @@ import os
 import subprocess
 import sys
 import tempfile
+import time
 import xml.etree.ElementTree as xml
 
 import auditor
@@ -31,13 +32,18 @@ EACH = [(b"0 written 15 00 00 b0", "packet 0: written, level 15, repeated 2 time
         (b"6 unsynced", "packet 6: unsynced"), (b"7 unsynced mask 0f", "packet 7: unsynced, its mask is known"),
         (b"8 wrong 12", "packet 8: wrong, bit 12"), (b"9 early 8", "packet 9: early, bits 8"), (b"end 10 2 2", "")]
 LONG = b"".join(b"%d written %d 00 00 b0\n" % (number, number % 16) for number in range(3000))
+# A store in disorder: each packet seems to come after some sixteen thousand lost ones.
+DISORDER = b"".join(b"%d gap 2\n%d-%d lost\n" % (16384 * number, 16384 * number + 1, 16384 * number + 16383) for number in range(10_000))
+# The bytes that a picture may have, and the seconds that it may take.
+MOST_BYTES, MOST_SECONDS = 1_000_000, 120
 
 # Forecasts, and what their pictures say: of few packets, of one state, of none that arrives, and of the most packets.
 FORECASTS = [
     (FORECAST, ["packet 10: lost", "packets 195 to 199: open", "packets 300 to 399: sure", "packets 400 to 499: sure", "packets 500 to 529: sure"]),
     (b"first,last,state\n0,0,sure\ngaps,0,0\nend,1,1\n", ["1 packets, of which 1 are sure to be written", "packet 0: sure"]),
     (b"first,last,state\n0,3,lost\ngaps,-,0\nend,4,0\n", ["packets 0 to 3: lost"]),
-    (b"first,last,state\n0,1,lost\n2,2,open\n3,4,lost\n5,999999,open\ngaps,2,3\nend,1000000,0\n", ["packet 2: open", "packets 950000 to 999999: open"]),
+    (b"first,last,state\n0,1,lost\n2,2,open\n3,4,lost\n5,999999,open\ngaps,2,3\nend,1000000,0\n",
+     ["packets 0 to 199: 196 open, 4 lost", "packets 200 to 49999: open", "packets 950000 to 999999: open"]),
 ]
 
 # What is refused: the words, the listing, and the fault that is named.
@@ -45,7 +51,7 @@ REFUSED = [
     (["listing"], b"0 written 1 00 00 b0\n1 writen 1 01 01 b1\n", "line 2 is wrong: it is no line of a listing"),
     (["listing"], b"0 written 1 00 00 b0\n2 gap 0\n", "line 2 is wrong: packet 1 comes next"),
     (["listing"], b"0 written 16 00 00 b0\n", "line 1 is wrong: a level is at most 15"),
-    (["listing"], b"0-4294967295 lost\n", "line 1 is wrong: more than 200000 packets"),
+    (["listing"], b"".join(b"%d gap 0\n" % number for number in range(200_001)), "line 200001 is wrong: more than 200000 lines"),
     (["listing"], b"5-4 lost\n", "line 1 is wrong"),
     (["listing"], b"0 gap 0\n1 repeat\n", "line 2 is wrong: it repeats a packet that is not the latest one"),
     (["listing"], LISTING.replace(b"end 3", b"end 4"), "line 5 is wrong: the lines before it have other numbers: 3 3 0"),
@@ -106,6 +112,21 @@ def draws_each():
     long = draw(["listing"], LONG).stdout.decode()
     rows = all(f">{first}</text>" in long for first in range(0, 3000, 100)) and "packet 2999: written, level 7" in titles(["listing"], LONG)
     return None if not missing and rows and "has no last line" in long else f"missing {missing}"
+
+
+def draws_many():
+    """Whether what has no room alone is still seen, and its picture stays small: a store in disorder, a forecast and a table of many packets."""
+    begun, lost = time.monotonic(), b"".join(b"%d,%d,sure\n%d,%d,lost\n" % (10 * t, 10 * t + 8, 10 * t + 9, 10 * t + 9) for t in range(100_000))
+    many = [titles(["listing"], DISORDER), titles(["forecast"], b"first,last,state\n" + lost + b"gaps,0,2\nend,1000000,900000\n")]
+    fields = "field,0,8,u,low\nfield,8,8,u,high\nlimit,high,0,9\n"
+    recording = bytes(value for t in range(200_000) for value in (t % 7, 10 if t % 100 == 99 else 9))
+    drawn = draw_table(fields, *table(recording, fields, 16)).stdout
+    wanted = ["packets 0 to 49152: 4 gap, 49149 lost", "packets 0 to 199: 180 sure, 20 lost"]
+    large = [len(it) for it in (drawn, draw(["listing"], DISORDER).stdout) if len(it) > MOST_BYTES]
+    told = drawn.count(b"values of high above 9, the farthest 10 in packet") if drawn else 0
+    seen = [words for words, found in zip(wanted, many) if words not in found]
+    slow = time.monotonic() - begun
+    return None if not seen and not large and told == 81 and slow < MOST_SECONDS else f"missing {seen}, {large} bytes, {told} marks, {slow:.1f} seconds"
 
 
 def draws_forecasts():
@@ -181,7 +202,7 @@ def tries():
     """What is tried: each with its name, and a function that gives what is wrong, or None."""
     return [(f"the picture {name}", lambda name=name, row=row: is_held(name, draw(*row))) for name, row in DRAWN.items()] + [
         ("the picture table.svg", lambda: is_held("table.svg", draw_table(*sample()))), ("tables", draws_tables),
-        ("pictures of each line", draws_each), ("pictures of forecasts", draws_forecasts), ("refused listings and forecasts", refuses),
+        ("pictures of each line", draws_each), ("pictures of many packets", draws_many), ("pictures of forecasts", draws_forecasts), ("refused listings and forecasts", refuses),
         ("the caller that is shown", quotes_the_caller),
         ("laws, clauses and definitions of the documents", names_are_found), ("the form of each public call", calls_are_told), ("what an auditor reads", auditor_is_told),
         ("help, manual page and README", page_agrees)]

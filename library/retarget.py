@@ -4,9 +4,11 @@ FOLDER/libpocket_c.a.
 
 - x86_64-linux-gnu is what `rt lib` makes in crates/pocket_c, but `rt lib` proves the libraries below anew if no check of its own has
   kept them, and the gate keeps none of those. Here `rattle build` takes the gate's (crates/*/out/rlib), and proves the crate alone.
-- aarch64-linux-gnu is a target of the toolchain: `rattle build` proves the crate for it, and has its module compiled by the clang of the
-  folder of tools that it is given. Here that clang calls this file, which keeps the module (FOLDER/module.bc) and calls the toolchain's
-  own, with one flag more: all accesses are aligned. What `rattle build` said, whose last line tells what is proved, is FOLDER/build.log.
+  It has the crate's module compiled by the clang of the folder of tools that it is given. Here that clang calls this file, which keeps
+  the module (FOLDER/module.bc), from which page/module.py makes that of the page, and calls the toolchain's own. What `rattle build` said,
+  whose last line tells what is proved, is FOLDER/build.log.
+- aarch64-linux-gnu is a target of the toolchain: `rattle build` proves the crate for it too, and clang gets one flag more: all accesses
+  are aligned.
 - riscv64-linux-gnu is none: library/retarget.py riscv64-linux-gnu FOLDER MODULE takes a module that was kept, turns its text
   (FOLDER/turned.ll), and has the toolchain's clang compile that: its data layout, its triple, the attributes that name a processor or a
   way of the other one, the one instruction that only the other one has, and narrow results, which a caller on RISC-V takes to be
@@ -26,7 +28,7 @@ CRATE = "pocket_c"
 NATIVE, ARM, RISC_V = "x86_64-linux-gnu", "aarch64-linux-gnu", "riscv64-linux-gnu"
 STRICT = ["-mno-strict-align" if os.environ.get("POCKET_UNALIGNED") else "-mstrict-align"]
 
-TRIPLE = "riscv64-unknown-linux-gnu"
+ARM_TRIPLE, TRIPLE = "aarch64-unknown-linux-gnu", "riscv64-unknown-linux-gnu"
 LAYOUT = "e-m:e-p:64:64-i64:64-i128:128-n32:64-S128"
 # Those of the toolchain's flags for aarch64 that have a meaning on RISC-V, and the processor: rv64gc, with doubles in registers.
 RISC_V_FLAGS = [
@@ -53,13 +55,24 @@ SUMMED = f"""define internal <16 x i8> @neighbours(<16 x i8> %a, <16 x i8> %b) a
 }}"""
 
 
-def turned(text):
-    """The text of a module for aarch64, for riscv64."""
-    for name, value in (("datalayout", LAYOUT), ("triple", TRIPLE)):
+def retold(text, layout, triple):
+    """The text of a module with another data layout and triple."""
+    for name, value in (("datalayout", layout), ("triple", triple)):
         text, times = re.subn(f'^target {name} = "[^"]*"', f'target {name} = "{value}"', text, flags=re.M)
         if times != 1:
             sys.exit(f"the module has {times} lines 'target {name}'")
-    text = ATTRIBUTES.sub("", text)
+    return text
+
+
+def text_of(module, clang, target):
+    """The text of a module that was kept, which is for the target."""
+    written = [clang, "-x", "ir", module, "-S", "-emit-llvm", "-Xclang", "-disable-llvm-passes", "-o", "-", f"--target={target}"]
+    return subprocess.run(written, check=True, capture_output=True, text=True, errors="surrogateescape").stdout
+
+
+def turned(text):
+    """The text of a module for aarch64, for riscv64."""
+    text = ATTRIBUTES.sub("", retold(text, LAYOUT, TRIPLE))
     text, times = RESULT.subn(lambda it: f"{it[1]}{it[2]} {WIDENED[it[3]]} {it[3]} ", text)
     if times == 0:
         sys.exit("the module has no narrow result: its text has another form")
@@ -72,8 +85,7 @@ def turned(text):
 def turn(module, folder, tools):
     """Compiles a module that was kept for riscv64."""
     clang, object_file, archive = f"{tools}/clang", f"{folder}/{CRATE}.o", f"{folder}/lib{CRATE}.a"
-    written = [clang, "-x", "ir", module, "-S", "-emit-llvm", "-Xclang", "-disable-llvm-passes", "-o", "-", "--target=aarch64-unknown-linux-gnu"]
-    text = subprocess.run(written, check=True, capture_output=True, text=True, errors="surrogateescape").stdout
+    text = text_of(module, clang, ARM_TRIPLE)
     with open(f"{folder}/turned.ll", "w", encoding="utf-8", errors="surrogateescape") as file:
         file.write(turned(text))
     subprocess.run([clang, *RISC_V_FLAGS, *STRICT, "-c", "-x", "ir", f"{folder}/turned.ll", "-o", object_file], check=True)
@@ -83,12 +95,12 @@ def turn(module, folder, tools):
     return 0
 
 
-def compile_kept(words, clang, module):
-    """What `rattle build` takes for clang: keeps the module that it hands on first, and compiles with one flag more."""
+def compile_kept(words, clang, module, flags):
+    """What `rattle build` takes for clang: keeps the module that it hands on first, and compiles with these flags more."""
     for word in words:
         if word.endswith(".bc") and os.path.isfile(word):
             shutil.copyfile(word, module)
-    return subprocess.run([clang, *words, *STRICT]).returncode
+    return subprocess.run([clang, *words, *flags]).returncode
 
 
 def rows():
@@ -123,7 +135,7 @@ def build_words(kit):
     return words + ["--incremental", kept, "--jobs", jobs, "--links", f"{CRATE}=", "--crate-type", "staticlib"]
 
 
-def wrapped(kit, folder):
+def wrapped(kit, folder, flags):
     """A folder of tools in which clang calls this file. `rattle build` hands it no environment, so what it needs is written into it."""
     made, tools = f"{folder}/toolchain", f"{kit}/toolchain"
     shutil.rmtree(made, ignore_errors=True)
@@ -133,8 +145,8 @@ def wrapped(kit, folder):
         if name != "clang":
             os.symlink(f"{tools}/bin/{name}", f"{made}/bin/{name}")
     with open(f"{made}/bin/clang", "w", encoding="utf-8") as file:
-        file.write(f"#!{sys.executable} -B\nimport sys\nsys.path.insert(0, {TOP + '/library'!r})\nimport retarget\nretarget.STRICT = {STRICT!r}\n")
-        file.write(f"sys.exit(retarget.compile_kept(sys.argv[1:], {tools + '/bin/clang'!r}, {folder + '/module.bc'!r}))\n")
+        file.write(f"#!{sys.executable} -B\nimport sys\nsys.path.insert(0, {TOP + '/library'!r})\nimport retarget\n")
+        file.write(f"sys.exit(retarget.compile_kept(sys.argv[1:], {tools + '/bin/clang'!r}, {folder + '/module.bc'!r}, {flags!r}))\n")
     os.chmod(f"{made}/bin/clang", 0o755)
     return made
 
@@ -153,17 +165,22 @@ def build(folder, words):
     return ran.returncode
 
 
+def build_with(folder, kit, words, flags):
+    """Proves and builds the crate by these words, with the tools that `rt lib` takes and with flags more for clang; keeps its module."""
+    tools = wrapped(kit, folder, flags)
+    status = build(folder, [*build_words(kit), *words, "--toolchain", tools])
+    shutil.rmtree(tools)  # it has links, which the gate refuses
+    return status
+
+
 def build_native(folder, kit):
-    """Proves and builds the crate for x86-64, with the tools that `rt lib` takes."""
-    return build(folder, [*build_words(kit), "--toolchain", f"{kit}/toolchain", "--backend", "llvm"])
+    """Proves and builds the crate for x86-64."""
+    return build_with(folder, kit, ["--backend", "llvm"], [])
 
 
 def build_arm(folder, kit):
     """Proves and builds the crate for aarch64."""
-    tools = wrapped(kit, folder)
-    status = build(folder, [*build_words(kit), "--target", "aarch64-unknown-linux-gnu", "--toolchain", tools])
-    shutil.rmtree(tools)  # it has links, which the gate refuses
-    return status
+    return build_with(folder, kit, ["--target", ARM_TRIPLE], STRICT)
 
 
 def main():

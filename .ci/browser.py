@@ -1,0 +1,197 @@
+#!/usr/bin/env python3
+"""Builds the operator's page, and tries it in Debian's Chromium, without a window.
+
+At the top, after the gate's proofs: .ci/browser.py. It makes the page (`make page`), and a second one that has what the program
+crates/pocket/out/pocket does with the commands of .ci/browser_cases.py. That one runs its own tests (page/tests.js): each command byte for
+byte, and what the page says of itself. Then keys are pressed in the page as it ships, what it says of the packet under them is held to
+the program's forecast, and its picture is taken. If Chromium or wasm-opt is not there and can't be had from Debian's packages (as root),
+what needs it is skipped, by name. Its last line is 'N passed, M failed', or 'N passed, M failed, K skipped'.
+
+.ci/browser.py MACHINE takes another file for page/machine.js, to see that the tests fail.
+"""
+
+import base64
+import json
+import os
+import re
+import shutil
+import subprocess
+import sys
+import tempfile
+import zlib
+
+sys.dont_write_bytecode = True
+import browser_cases
+from chromium import Browser
+
+TOP = os.path.dirname(os.path.dirname(os.path.abspath(__file__)))
+sys.path.append(f"{TOP}/page")
+import make
+
+PROGRAM = f"{TOP}/crates/pocket/out/pocket"
+PAGE, MODULE = f"{TOP}/page/pocket.html", f"{TOP}/page/out/pocket.wasm"
+PACKAGES = {"chromium": "chromium", "wasm-opt": "binaryen"}
+LIMIT = 600  # seconds for all tests of the page
+MOST_BYTES = 800_000
+CLOSING = re.compile(r"^(\d+) passed, (\d+) failed$", re.M)
+PARTS = ["the page is built", "the page's own tests", "the page as it ships", "its picture"]
+
+
+def has_tools():
+    """Whether the browser and wasm-opt are there, or could be had."""
+    missing = lambda: [package for name, package in PACKAGES.items() if not shutil.which(name)]
+    if missing() and os.geteuid() == 0 and shutil.which("apt-get"):
+        for words in (["update", "-q"], ["install", "-q", "-y", "--no-install-recommends", *PACKAGES.values(), "fonts-dejavu-core"]):
+            subprocess.run(["apt-get", *words], stdout=subprocess.DEVNULL, stderr=subprocess.DEVNULL, timeout=900)
+    return not missing()
+
+
+def build(folder, machine):
+    """The page as it ships, and the one with the cases in a folder."""
+    made = subprocess.run(["make", "-s", "page"], cwd=TOP, capture_output=True, text=True)
+    if made.returncode:
+        raise RuntimeError((made.stdout + made.stderr)[-600:])
+    found, cases = os.path.join(folder, "tests.html"), os.path.join(folder, "cases.json")
+    with open(cases, "w", encoding="ascii") as file:
+        json.dump(browser_cases.cases(PROGRAM), file)
+    place = f"{TOP}/page" if not machine else shutil.copytree(f"{TOP}/page", os.path.join(folder, "top", "page"))
+    if machine:
+        os.makedirs(os.path.join(folder, "top", "crates", "pocket", "src"))
+        shutil.copyfile(f"{TOP}/crates/pocket/src/main.rt", os.path.join(folder, "top", "crates", "pocket", "src", "main.rt"))
+        shutil.copyfile(machine, os.path.join(place, "machine.js"))
+    subprocess.run([sys.executable, f"{place}/make.py", MODULE, found, cases], check=True)
+    return found
+
+
+def run_own(browser, page):
+    """What the page's own tests tell: how many passed, and the lines of those that failed."""
+    browser.open(f"file://{page}#tests")
+    told = "(document.getElementById('tests')?.textContent ?? '')"
+    text = browser.wait(f"/\\d+ passed, \\d+ failed\\s*$/.test({told}) && {told}", LIMIT)
+    if not text:
+        raise RuntimeError(f"the tests did not end: {browser.value(told)[-300:]!r}, {browser.value('document.body.innerText')[:200]!r}")
+    passed, failed = map(int, CLOSING.findall(text)[-1])
+    lines = [line for line in text.splitlines() if line.startswith("FAILED ")]
+    return passed, max(failed, len(lines)), lines
+
+
+def stretches(text):
+    """The stretches of a forecast: first and last packet, and the state."""
+    return [(int(first), int(last), state) for first, last, state in re.findall(r"^(\d+),(\d+),(sure|open|lost)$", text, re.M)]
+
+
+def tell_shipped(browser):
+    """What is wrong with the page as it ships, or None: what it says under the keys and in its foot, and what it asks for."""
+    if os.path.getsize(PAGE) > MOST_BYTES:
+        return f"it has {os.path.getsize(PAGE)} bytes"
+    browser.requests.clear()
+    address = "#packets=30&robust=1&plan=20,20,1,fr&script=drop,3,3,1%0Adrop,10,13,1"
+    browser.open(f"file://{PAGE}{address}")
+    said = "document.getElementById('forecast-strip')?.getAttribute('aria-valuetext')"
+    if not browser.wait(f"document.querySelector('main')?.hidden === false && {said}", 60):
+        return f"it says nothing: {browser.value('document.body.innerText')[:300]!r}"
+    inputs = {"p": b"20,20,1,fr", "s": b"drop,3,3,1\ndrop,10,13,1"}
+    forecast = browser_cases.ran(PROGRAM, "forecast out=y packets=30 robust=1 plan=p script=s".split(), inputs)[2]["y"].decode()
+    browser.value("document.getElementById('forecast-strip').focus()")
+    browser.press("Home")
+    for number in range(30):
+        state = next(state for first, last, state in stretches(forecast) if first <= number <= last)
+        text = browser.wait(f"(/^packet {number}\\b/i.test({said}) || null) && {said}", 30)
+        if not text or not re.search(rf"\b{state}\b", text):
+            return f"it says {text or browser.value(said)!r} of packet {number}, which is {state}"
+        browser.press("ArrowRight")
+    refused = browser.value("fetch('data:,x').then(() => false, () => true)")
+    foot = browser.value("document.querySelector('footer').innerText")
+    if not refused or not all(words in foot for words in (make.version(), "compared", "not proved")):
+        return f"a request is refused: {refused}; its foot says {foot!r}"
+    asked = {url for url in browser.requests if not url.startswith(("about:", "data:", "blob:", f"file://{PAGE}"))}
+    return f"it asked for {sorted(asked)}" if asked else None
+
+
+def pixels(png):
+    """The rows of a picture, as it was written, unfiltered enough to see whether it is empty."""
+    place, packed = 8, b""
+    while place < len(png):
+        size = int.from_bytes(png[place:place + 4], "big")
+        if png[place + 4:place + 8] == b"IDAT":
+            packed += png[place + 8:place + 8 + size]
+        place += 12 + size
+    return int.from_bytes(png[16:20], "big"), int.from_bytes(png[20:24], "big"), zlib.decompress(packed)
+
+
+def tell_picture(browser):
+    """What is wrong with the pictures in light and dark, or None: their size, and that they show something, each something else."""
+    seen = []
+    for light in ("light", "dark"):
+        browser.ask("Emulation.setEmulatedMedia", features=[{"name": "prefers-color-scheme", "value": light}])
+        browser.value("new Promise(done => requestAnimationFrame(() => requestAnimationFrame(() => done(1))))")
+        png = base64.b64decode(browser.ask("Page.captureScreenshot", format="png")["data"])
+        with open(f"{TOP}/page/out/{light}.png", "wb") as file:
+            file.write(png)
+        width, height, drawn = pixels(png)
+        if width < 1000 or height < 800 or len(set(drawn)) < 20:
+            return f"the {light} one has {width} by {height} pixels, of {len(set(drawn))} values"
+        seen.append(drawn)
+    return "light and dark look the same" if seen[0] == seen[1] else None
+
+
+class Tally:
+    """How much passed and failed, and a line for each fault."""
+
+    def __init__(self):
+        self.passed = self.failed = 0
+
+    def tell(self, name, fault):
+        self.passed, self.failed = self.passed + (fault is None), self.failed + (fault is not None)
+        if fault is not None:
+            print(f"browser: {name}: {fault}", flush=True)
+
+    def attempt(self, name, step, *given):
+        """Tells what a step finds wrong, or that it raised an error."""
+        try:
+            self.tell(name, step(*given))
+        except (RuntimeError, OSError, ValueError, subprocess.SubprocessError) as error:
+            self.tell(name, f"it raised {error}")
+
+    def add(self, passed, failed, lines):
+        """Adds what the page's own tests told."""
+        self.passed, self.failed = self.passed + passed, self.failed + failed
+        for line in lines:
+            print(f"browser: {line}", flush=True)
+
+
+def try_all(folder, machine, tally):
+    """Builds the page, and tries it."""
+    made = []
+    tally.attempt(PARTS[0], lambda: made.append(build(folder, machine)))
+    if not made:
+        return
+    browser = Browser(shutil.which("chromium"))
+    try:
+        tally.attempt(PARTS[1], lambda: tally.add(*run_own(browser, made[0])))
+        tally.attempt(PARTS[2], tell_shipped, browser)
+        tally.attempt(PARTS[3], tell_picture, browser)
+    finally:
+        browser.close()
+
+
+def main():
+    if len(sys.argv) > 2:
+        sys.exit(__doc__)
+    if not has_tools():
+        for name in PARTS:
+            print(f"browser: skipped: {name}: Debian's chromium or binaryen is not there", flush=True)
+        print(f"0 passed, 0 failed, {len(PARTS)} skipped")
+        return
+    tally = Tally()
+    with tempfile.TemporaryDirectory(prefix="pocket-browser-") as folder:
+        try:
+            try_all(folder, sys.argv[1] if sys.argv[1:] else None, tally)
+        except (RuntimeError, OSError) as error:
+            tally.tell("the browser", f"it raised {error}")
+    print(f"{tally.passed} passed, {tally.failed} failed")
+    sys.exit(1 if tally.failed else 0)
+
+
+if __name__ == "__main__":
+    main()

@@ -1,0 +1,104 @@
+"""A Chromium without a window, which is told what to do over a pipe: Debian's own, with nothing beside it."""
+
+import fcntl
+import json
+import os
+import select
+import shutil
+import subprocess
+import tempfile
+import time
+
+FLAGS = ["--headless=new", "--no-sandbox", "--disable-gpu", "--disable-dev-shm-usage", "--no-first-run", "--disable-extensions", "--disable-background-networking",
+         "--disable-component-update", "--disable-sync", "--no-proxy-server", "--hide-scrollbars", "--window-size=1280,1600", "--remote-debugging-pipe"]
+
+
+class Browser:
+    """A browser with one page."""
+
+    def __init__(self, program):
+        self.folder = tempfile.mkdtemp(prefix="pocket-chromium-")
+        self.kept, self.number, self.requests, self.session = b"", 0, [], None
+        theirs, self.to = os.pipe()
+        self.found, back = os.pipe()
+        # The browser reads from its file 3 and writes to its file 4.
+        high = [fcntl.fcntl(it, fcntl.F_DUPFD, 20) for it in (theirs, back)]
+        self.process = subprocess.Popen(["bash", "-c", f'exec "$@" 3<&{high[0]} 4>&{high[1]}', "", program, *FLAGS, f"--user-data-dir={self.folder}", "about:blank"],
+                                        pass_fds=high, stdin=subprocess.DEVNULL, stdout=subprocess.DEVNULL, stderr=subprocess.DEVNULL)
+        for it in (theirs, back, *high):
+            os.close(it)
+        try:
+            self.start()
+        except BaseException:
+            self.close()
+            raise
+
+    def start(self):
+        """Makes the page."""
+        target = self.ask("Target.createTarget", url="about:blank")["targetId"]
+        self.session = self.ask("Target.attachToTarget", targetId=target, flatten=True)["sessionId"]
+        for area in ("Page", "Network", "Runtime"):
+            self.ask(f"{area}.enable")
+
+    def next(self, until):
+        """The next message of the browser."""
+        while b"\0" not in self.kept:
+            ready, _, _ = select.select([self.found], [], [], max(0, until - time.monotonic()))
+            piece = os.read(self.found, 1 << 20) if ready else b""
+            if not piece:
+                raise RuntimeError("the browser ended" if ready else "the browser does not answer")
+            self.kept += piece
+        message, _, self.kept = self.kept.partition(b"\0")
+        return json.loads(message)
+
+    def ask(self, method, limit=120, **given):
+        """What the browser answers; requests that the page makes meanwhile are kept."""
+        self.number += 1
+        asked = {"id": self.number, "method": method, "params": given, **({"sessionId": self.session} if self.session else {})}
+        left = json.dumps(asked).encode() + b"\0"
+        while left:
+            left = left[os.write(self.to, left):]
+        until = time.monotonic() + limit
+        while True:
+            message = self.next(until)
+            if message.get("method") == "Network.requestWillBeSent":
+                self.requests.append(message["params"]["request"]["url"])
+            if message.get("id") == self.number:
+                if "error" in message:
+                    raise RuntimeError(f"{method}: {message['error']}")
+                return message["result"]
+
+    def value(self, expression, limit=120):
+        """The value of an expression in the page."""
+        found = self.ask("Runtime.evaluate", limit, expression=expression, returnByValue=True, awaitPromise=True)
+        if "exceptionDetails" in found:
+            raise RuntimeError(found["exceptionDetails"].get("exception", {}).get("description", str(found["exceptionDetails"]))[:400])
+        return found["result"].get("value")
+
+    def open(self, address):
+        """Opens an address, anew even if only what follows its # differs."""
+        self.ask("Page.navigate", url="about:blank")
+        self.ask("Page.navigate", url=address)
+
+    def wait(self, expression, limit):
+        """Waits until an expression is true in the page, and gives its value; or None."""
+        until = time.monotonic() + limit
+        while time.monotonic() < until:
+            found = self.value(expression, max(1, until - time.monotonic()))
+            if found:
+                return found
+            time.sleep(0.3)
+        return None
+
+    def press(self, key):
+        """Presses a key."""
+        text = {"text": key} if len(key) == 1 else {}
+        for kind in ("keyDown", "keyUp"):
+            self.ask("Input.dispatchKeyEvent", type=kind, key=key, code=key, **(text if kind == "keyDown" else {}))
+
+    def close(self):
+        self.process.kill()
+        self.process.wait()
+        for it in (self.to, self.found):
+            os.close(it)
+        shutil.rmtree(self.folder, ignore_errors=True)
