@@ -17,6 +17,8 @@
  * The caller owes what no proof sees: each pointer points to as many bytes as its length says, or to one object of its type;
  * what a call writes stays apart from all else that it is given; a handle is used by one call at a time, and its members, by no
  * one else; a copy of an open handle is not used. Nothing else: each other argument that can be wrong is answered.
+ * A handle may be passed from thread to thread, one call at a time, each call seen to end before the next one begins (by a lock, or
+ * by the start or join of a thread); different handles may be used by different threads at once.
  * Opening a sender or a receiver takes memory (malloc), all that later calls need: they take none. A desk takes memory as it is used.
  * Only pocket_close gives it back.
  */

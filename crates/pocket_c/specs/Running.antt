@@ -1,8 +1,9 @@
 -- What running a command at a desk in memory leaves, by its answer: the clauses of `pocket` over this desk.
-use Rattle.std.specs.Prelude.{◌≡◌, ◌≢◌, ◌↔◌, ℕ, List, [], Option, drop, Ok, Err, Some}
+use Rattle.std.specs.Prelude.{◌≡◌, ◌≢◌, ◌≤◌, ◌↔◌, ◌⊎◌, ℕ, List, [], Option, drop, Ok, Err, Some}
 use Rattle.mask_update.specs.Histories.{History}
 use Rattle.ground_chain.specs.Deliveries.{report_text, restored_bytes}
 use Rattle.side_tables.specs.Grammar.{bad_copy_row}
+use Rattle.desk_ports.specs.declared.desk.Inlet.{Inlet}
 use Rattle.desk_ports.specs.declared.desk.Inlet.TheVariants as inlet
 use Rattle.desk_ports.specs.Meanings.{Rose, left}
 use Rattle.desk_ports.specs.MemState.{mem_counts, mem_meanings}
@@ -14,7 +15,7 @@ use Rattle.pocket_cmd.specs.Faults.{DataFault}
 use Rattle.pocket_cmd.specs.Kept.{Leaves}
 use Rattle.pocket_cmd.specs.Openings.{AreTold, side_given}
 use Rattle.pocket_cmd.specs.Outcome.{AfterRefusal, IsScriptFirst, IsSideJudged, IsTextBad, IsTextFirst, NoneRose, Stands, answer_to}
-use Rattle.pocket_cmd.specs.Status.{BadText, HasStatusCause, status_of}
+use Rattle.pocket_cmd.specs.Status.{BadText, HasStatusCause, refusal_for, refusal_of, status_of}
 use Rattle.pocket_cmd.specs.declared.status.Refusal.{Refusal}
 use Rattle.pocket_cmd.specs.declared.status.Refusal.TheVariants as refusal
 use Rattle.pocket_cmd.specs.declared.status.Status.{Status}
@@ -58,3 +59,13 @@ pub record HasRun (old new : BenchState) (answer : Status) : Type 0 where
       → answer ≡ status.Done
       → HasWritten (names_of (Restore r)) (record { output = restored_bytes h copies; report = report_text h copies }) (mem_meanings new.desk)
   pub cause : HasStatusCause (mem_counts old.desk) (mem_counts new.desk) answer
+
+-- the answers that an exit number comes with: there are six, and with each of them the clauses hold of an answer of its kind
+pub record HasAnswered (old new : BenchState) (exit : ℕ) : Type 0 where
+  pub most : exit ≤ 5
+  pub done : exit ≡ 0 → HasRun old new status.Done
+  pub outside : exit ≡ 1 → HasRun old new (status.Refused refusal.ReadFault) ⊎ HasRun old new (status.Refused refusal.WriteFault)
+  pub words : exit ≡ 2 → (word : ℕ) × HasRun old new (status.Refused (refusal.BadWords word))
+  pub text : exit ≡ 3 → (place : Inlet) × (bad : BadText) × HasRun old new (status.Refused (refusal_for place bad))
+  pub faults : exit ≡ 4 → (fault : DataFault) × HasRun old new (status.Refused (refusal_of fault))
+  pub memory : exit ≡ 5 → HasRun old new (status.Refused refusal.NoMemory)

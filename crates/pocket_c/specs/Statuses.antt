@@ -1,5 +1,5 @@
--- The numbers of statuses, and which status a fault is.
-use Rattle.std.specs.Prelude.{ℕ}
+-- The numbers of statuses, which of them an answer is, and which status a fault is.
+use Rattle.std.specs.Prelude.{◌≡◌, ℕ, ◌⊎◌, List, [], ◌∷◌}
 use Rattle.packet_calls.specs.declared.fault.OpenFault.{OpenFault}
 use Rattle.packet_calls.specs.declared.fault.OpenFault.TheVariants as open_fault
 use Rattle.packet_calls.specs.declared.fault.SendFault.{SendFault}
@@ -27,6 +27,11 @@ number_of status.Count = 13
 number_of status.TooLong = 14
 number_of status.NoText = 15
 number_of status.TooManyWords = 16
+
+-- the answer is the number of one of these statuses
+abbrev pub IsOneOf : ℕ → List Status → Type 0
+IsOneOf answer [] = ⊥
+IsOneOf answer (status ∷ statuses) = (answer ≡ number_of status) ⊎ IsOneOf answer statuses
 
 abbrev pub of_open : OpenFault → Status
 of_open open_fault.Places = status.Places

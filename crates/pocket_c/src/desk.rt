@@ -9,8 +9,8 @@ ghost use Rattle.pocket_cmd.specs.declared.status.Status.{Status as Answer};
 ghost use Rattle.pocket_cmd.specs.Status.{exit_number};
 ghost use Rattle.pocket_c.specs.Bench.{BenchState};
 ghost use Rattle.pocket_c.specs.Kinds.{HasOtherThanBench};
-ghost use Rattle.pocket_c.specs.Running.{HasRun};
-ghost use Rattle.pocket_c.specs.Statuses.{number_of};
+ghost use Rattle.pocket_c.specs.Running.{HasAnswered, HasRun};
+ghost use Rattle.pocket_c.specs.Statuses.{IsOneOf, number_of};
 
 use crate::bench::Bench;
 use crate::held::{Handle, Held};
@@ -26,7 +26,9 @@ const TEXT_BYTES: usize = 128;
 
 /// Opens a desk in memory, at which nothing is kept, in a handle that holds nothing.
 fn open(alloc: Global, handle: &mut Handle) -> Status
+    ensures only { IsOneOf (number_of result) (Status.Done ∷ Status.NoMemory ∷ Status.Open ∷ []) }
     ensures open { (result ≡ Status.Open) ↔ (handle.old.held ≡ None → ⊥) }
+    ensures right { (result ≡ Status.NoMemory → ⊥) → (result ≡ Status.Done) ↔ (handle.old.held ≡ None) }
     ensures opened { result ≡ Status.Done
         → handle.new.held ≡ Some (Held.Bench (record { desk = empty_desk; words = [] })) }
     ensures unchanged { (result ≡ Status.Done → ⊥) → handle.new.held ≡ handle.old.held }
@@ -46,9 +48,13 @@ fn open(alloc: Global, handle: &mut Handle) -> Status
 
 /// Keeps bytes under a name.
 fn put(alloc: Global, handle: &mut Handle, name: &str, bytes: &[u8]) -> Status
+    ensures only { IsOneOf (number_of result)
+        (Status.Done ∷ Status.Closed ∷ Status.OtherKind ∷ Status.NoMemory ∷ []) }
     ensures closed { (result ≡ Status.Closed) ↔ (handle.old.held ≡ None) }
     ensures other { (result ≡ Status.OtherKind) ↔ HasOtherThanBench handle.old.held }
     ensures text { result ≡ Status.NoText → ⊥ }
+    ensures right { (b : BenchState) → handle.old.held ≡ Some (Held.Bench b)
+        → (result ≡ Status.NoMemory → ⊥) → result ≡ Status.Done }
     ensures done { (b : BenchState) → handle.old.held ≡ Some (Held.Bench b)
         → result ≡ Status.Done → handle.new.held ≡ Some (Held.Bench (record b {
           desk = record b.desk { held = map.insert b.desk.held name.now bytes.now };
@@ -71,11 +77,15 @@ fn put(alloc: Global, handle: &mut Handle, name: &str, bytes: &[u8]) -> Status
 
 /// Adds a word.
 fn word(alloc: Global, handle: &mut Handle, word: &str) -> Status
+    ensures only { IsOneOf (number_of result)
+        (Status.Done ∷ Status.Closed ∷ Status.OtherKind ∷ Status.TooManyWords ∷ Status.NoMemory ∷ []) }
     ensures closed { (result ≡ Status.Closed) ↔ (handle.old.held ≡ None) }
     ensures other { (result ≡ Status.OtherKind) ↔ HasOtherThanBench handle.old.held }
     ensures text { result ≡ Status.NoText → ⊥ }
     ensures full { (b : BenchState) → handle.old.held ≡ Some (Held.Bench b)
         → (result ≡ Status.TooManyWords) ↔ (1000 ≤ length b.words) }
+    ensures right { (b : BenchState) → handle.old.held ≡ Some (Held.Bench b)
+        → (result ≡ Status.NoMemory → ⊥) → (result ≡ Status.Done) ↔ (length b.words < 1000) }
     ensures done { (b : BenchState) → handle.old.held ≡ Some (Held.Bench b)
         → result ≡ Status.Done
         → handle.new.held ≡ Some (Held.Bench (record b { words = b.words ++ word.now ∷ [] })) }
@@ -98,11 +108,13 @@ fn word(alloc: Global, handle: &mut Handle, word: &str) -> Status
 
 /// Runs the command of the words.
 fn run(alloc: Global, handle: &mut Handle) -> Result<pocket_cmd::Status, Status>
+    ensures only { (status : Status) → result ≡ Err status
+        → IsOneOf (number_of status) (Status.Closed ∷ Status.OtherKind ∷ []) }
     ensures closed { (result ≡ Err Status.Closed) ↔ (handle.old.held ≡ None) }
     ensures other { (result ≡ Err Status.OtherKind) ↔ HasOtherThanBench handle.old.held }
     ensures fault { result ≡ Err Status.Done → ⊥ }
     ensures short { result ≡ Err Status.NoRoom → ⊥ }
-    ensures answers { (b : BenchState) → handle.old.held ≡ Some (Held.Bench b) → IsOk result }
+    ensures done { (b : BenchState) → handle.old.held ≡ Some (Held.Bench b) → IsOk result }
     ensures ran { (b : BenchState) → handle.old.held ≡ Some (Held.Bench b)
         → IfOk result (λ answer. (next : BenchState)
         × (handle.new.held ≡ Some (Held.Bench next)) × HasRun b next answer) }
@@ -121,6 +133,8 @@ fn run(alloc: Global, handle: &mut Handle) -> Result<pocket_cmd::Status, Status>
 
 /// Writes what is kept under a name, and tells how long it is.
 fn get(alloc: Global, handle: &mut Handle, name: &str, out: &mut [u8], len: &mut usize) -> Status
+    ensures only { IsOneOf (number_of result)
+        (Status.Done ∷ Status.Closed ∷ Status.OtherKind ∷ Status.NoRoom ∷ []) }
     ensures closed { (result ≡ Status.Closed) ↔ (handle.old.held ≡ None) }
     ensures other { (result ≡ Status.OtherKind) ↔ HasOtherThanBench handle.old.held }
     ensures text { result ≡ Status.NoText → ⊥ }
@@ -150,6 +164,7 @@ fn get(alloc: Global, handle: &mut Handle, name: &str, out: &mut [u8], len: &mut
 
 /// Writes bytes into the room for them, and tells how many they are.
 fn write_out(bytes: &[u8], out: &mut [u8], len: &mut usize) -> Status
+    ensures only { IsOneOf (number_of result) (Status.Done ∷ Status.NoRoom ∷ []) }
     ensures len { len.new ≡ length bytes.now }
     ensures done { (result ≡ Status.Done) ↔ (length bytes.now ≤ length out.old) }
     ensures no_room { (result ≡ Status.NoRoom) ↔ (length out.old < length bytes.now) }
@@ -171,6 +186,7 @@ fn write_text(answer: &pocket_cmd::Status, out: &mut [u8]) -> usize
     requires { TEXT_BYTES ≤ length out.old }
     ensures most { result ≤ TEXT_BYTES }
     ensures none { answer.now ≡ Answer.Done → result ≡ 0 }
+    ensures rest { drop result out.new ≡ drop result out.old }
 {
     let mut text: ArrayString<TEXT_BYTES> = ArrayString::new();
     if let pocket_cmd::Status::Refused(refusal) = answer {
@@ -184,7 +200,10 @@ fn write_text(answer: &pocket_cmd::Status, out: &mut [u8]) -> usize
 /// Opens a desk in memory, at which nothing is kept and there is no word, in a handle that holds nothing.
 #[unsafe(no_mangle)]
 pub extern "C" fn pocket_desk_open(alloc: Global, handle: &mut Handle) -> u32
+    ensures only { IsOneOf result (Status.Done ∷ Status.NoMemory ∷ Status.Open ∷ []) }
     ensures open { (result ≡ number_of Status.Open) ↔ (handle.old.held ≡ None → ⊥) }
+    ensures right { (result ≡ number_of Status.NoMemory → ⊥)
+        → (result ≡ number_of Status.Done) ↔ (handle.old.held ≡ None) }
     ensures opened { result ≡ number_of Status.Done
         → handle.new.held ≡ Some (Held.Bench (record { desk = empty_desk; words = [] })) }
     ensures unchanged { (result ≡ number_of Status.Done → ⊥)
@@ -196,10 +215,15 @@ pub extern "C" fn pocket_desk_open(alloc: Global, handle: &mut Handle) -> u32
 /// Keeps bytes under a name at the desk that a handle holds.
 #[unsafe(no_mangle)]
 pub extern "C" fn pocket_put(alloc: Global, handle: &mut Handle, name: &[u8], bytes: &[u8]) -> u32
+    ensures only { IsOneOf result
+        (Status.NoText ∷ Status.Done ∷ Status.Closed ∷ Status.OtherKind ∷ Status.NoMemory ∷ []) }
     ensures no_text { (result ≡ number_of Status.NoText) ↔ (IsUtf8 name.now → ⊥) }
     ensures closed { IsUtf8 name.now → (result ≡ number_of Status.Closed) ↔ (handle.old.held ≡ None) }
     ensures other { IsUtf8 name.now
         → (result ≡ number_of Status.OtherKind) ↔ HasOtherThanBench handle.old.held }
+    ensures right { (b : BenchState) → handle.old.held ≡ Some (Held.Bench b)
+        → (result ≡ number_of Status.NoMemory → ⊥)
+        → (result ≡ number_of Status.Done) ↔ IsUtf8 name.now }
     ensures done { (b : BenchState) → handle.old.held ≡ Some (Held.Bench b)
         → result ≡ number_of Status.Done → handle.new.held ≡ Some (Held.Bench (record b {
           desk = record b.desk { held = map.insert b.desk.held name.now bytes.now };
@@ -216,12 +240,17 @@ pub extern "C" fn pocket_put(alloc: Global, handle: &mut Handle, name: &[u8], by
 /// Adds a word to those of the next command at the desk that a handle holds.
 #[unsafe(no_mangle)]
 pub extern "C" fn pocket_word(alloc: Global, handle: &mut Handle, text: &[u8]) -> u32
+    ensures only { IsOneOf result
+        (Status.NoText ∷ Status.Done ∷ Status.Closed ∷ Status.OtherKind ∷ Status.TooManyWords ∷ Status.NoMemory ∷ []) }
     ensures no_text { (result ≡ number_of Status.NoText) ↔ (IsUtf8 text.now → ⊥) }
     ensures closed { IsUtf8 text.now → (result ≡ number_of Status.Closed) ↔ (handle.old.held ≡ None) }
     ensures other { IsUtf8 text.now
         → (result ≡ number_of Status.OtherKind) ↔ HasOtherThanBench handle.old.held }
     ensures full { (b : BenchState) → handle.old.held ≡ Some (Held.Bench b) → IsUtf8 text.now
         → (result ≡ number_of Status.TooManyWords) ↔ (1000 ≤ length b.words) }
+    ensures right { (b : BenchState) → handle.old.held ≡ Some (Held.Bench b)
+        → (result ≡ number_of Status.NoMemory → ⊥)
+        → (result ≡ number_of Status.Done) ↔ (IsUtf8 text.now × (length b.words < 1000)) }
     ensures done { (b : BenchState) → handle.old.held ≡ Some (Held.Bench b)
         → result ≡ number_of Status.Done
         → handle.new.held ≡ Some (Held.Bench (record b { words = b.words ++ text.now ∷ [] })) }
@@ -244,16 +273,25 @@ pub extern "C" fn pocket_run(
     len: &mut usize,
     exit: &mut u8,
 ) -> u32
+    ensures only { IsOneOf result (Status.Done ∷ Status.NoRoom ∷ Status.Closed ∷ Status.OtherKind ∷ []) }
     ensures no_room { (result ≡ number_of Status.NoRoom) ↔ (length text.old < 128) }
     ensures closed { 128 ≤ length text.old → (result ≡ number_of Status.Closed) ↔ (handle.old.held ≡ None) }
     ensures other { 128 ≤ length text.old
         → (result ≡ number_of Status.OtherKind) ↔ HasOtherThanBench handle.old.held }
+    ensures done { (b : BenchState) → handle.old.held ≡ Some (Held.Bench b)
+        → (result ≡ number_of Status.Done) ↔ (128 ≤ length text.old) }
     ensures ran { (b : BenchState) → handle.old.held ≡ Some (Held.Bench b)
         → result ≡ number_of Status.Done
         → (answer : Answer) × (next : BenchState) × (exit.new ≡ exit_number answer)
         × (answer ≡ Answer.Done → len.new ≡ 0)
         × (handle.new.held ≡ Some (Held.Bench next)) × HasRun b next answer }
+    // The exit number tells with which answers all of this holds: with 0, that of Done, and so on.
+    ensures answers { (b : BenchState) → handle.old.held ≡ Some (Held.Bench b)
+        → result ≡ number_of Status.Done
+        → (next : BenchState) × (handle.new.held ≡ Some (Held.Bench next))
+        × HasAnswered b next exit.new }
     ensures text_fits { result ≡ number_of Status.Done → len.new ≤ 128 }
+    ensures rest { result ≡ number_of Status.Done → drop len.new text.new ≡ drop len.new text.old }
     ensures unchanged { (result ≡ number_of Status.Done → ⊥)
         → handle.new.held ≡ handle.old.held }
     ensures untouched { (result ≡ number_of Status.Done → ⊥)
@@ -282,10 +320,15 @@ pub extern "C" fn pocket_get(
     out: &mut [u8],
     len: &mut usize,
 ) -> u32
+    ensures only { IsOneOf result
+        (Status.NoText ∷ Status.Done ∷ Status.Closed ∷ Status.OtherKind ∷ Status.NoRoom ∷ []) }
     ensures no_text { (result ≡ number_of Status.NoText) ↔ (IsUtf8 name.now → ⊥) }
     ensures closed { IsUtf8 name.now → (result ≡ number_of Status.Closed) ↔ (handle.old.held ≡ None) }
     ensures other { IsUtf8 name.now
         → (result ≡ number_of Status.OtherKind) ↔ HasOtherThanBench handle.old.held }
+    ensures done { (b : BenchState) → handle.old.held ≡ Some (Held.Bench b)
+        → (result ≡ number_of Status.Done)
+        ↔ (IsUtf8 name.now × (length (kept_at b.desk.held name.now) ≤ length out.old)) }
     ensures no_room { (b : BenchState) → handle.old.held ≡ Some (Held.Bench b) → IsUtf8 name.now
         → (result ≡ number_of Status.NoRoom)
         ↔ (length out.old < length (kept_at b.desk.held name.now)) }

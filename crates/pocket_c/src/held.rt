@@ -10,7 +10,7 @@ use crate::bench::Bench;
 use crate::loose::Loose;
 use packet_calls::{Receiver, Sender};
 use std::alloc::Global;
-use std::marker::Model;
+use std::marker::{Model, Send};
 use std::mem::replace;
 use std::ptr::null_mut;
 
@@ -33,6 +33,9 @@ pub struct Handle {
 impl Model for Handle {
     ghost also_owns = { λ h. owned the_row h.state h.at h.held };
 }
+
+// What a handle owns says the same to every thread (proofs/held/Handle/TheSendSync).
+unsafe impl Send for Handle {}
 
 impl Handle {
     /// A handle that holds nothing.

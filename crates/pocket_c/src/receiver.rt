@@ -8,7 +8,7 @@ ghost use Rattle.ground_chain.specs.Reckoning.{HasJudged, Judges, Reckoning, not
 ghost use Rattle.ground_chain.specs.Report.{written_bytes};
 ghost use Rattle.ground_chain.specs.Run.{Arrival};
 ghost use Rattle.pocket_c.specs.Kinds.{HasOtherThanReceiver};
-ghost use Rattle.pocket_c.specs.Statuses.{number_of};
+ghost use Rattle.pocket_c.specs.Statuses.{IsOneOf, number_of};
 ghost use Rattle.pocket_c.specs.Verdicts.{counts_of, finding_of, first_lost, kind_number, lost_number, mask_known, value_of};
 
 use crate::held::{Handle, Held};
@@ -112,9 +112,13 @@ fn is_mask_alone(kind: Kind) -> bool
 
 /// Opens a receiver in a handle that holds nothing.
 fn open(alloc: Global, handle: &mut Handle, places: u32) -> Status
+    ensures only { IsOneOf (number_of result)
+        (Status.Done ∷ Status.NoMemory ∷ Status.Open ∷ Status.Places ∷ []) }
     ensures open { (result ≡ Status.Open) ↔ (handle.old.held ≡ None → ⊥) }
     ensures places { (result ≡ Status.Places)
         ↔ ((handle.old.held ≡ None) × ((places ≡ 0) ⊎ (49152 < places))) }
+    ensures right { (result ≡ Status.NoMemory → ⊥) → (result ≡ Status.Done)
+        ↔ ((handle.old.held ≡ None) × (1 ≤ places) × (places ≤ 49152)) }
     ensures opened { result ≡ Status.Done
         → (r : Reckoning) × (handle.new.held ≡ Some (Held.Receiver r))
         × (r ≡ nothing_judged places) × HasJudged places [] r }
@@ -144,12 +148,28 @@ fn receive(
     bytes: &[u8],
     out: &mut [u8],
 ) -> Result<Verdict, Status>
+    ensures only { (status : Status) → result ≡ Err status → IsOneOf (number_of status)
+        (Status.Closed ∷ Status.OtherKind ∷ Status.Count ∷ Status.TooLong ∷ Status.NoRoom ∷ Status.TooMany ∷ []) }
     ensures closed { (result ≡ Err Status.Closed) ↔ (handle.old.held ≡ None) }
     ensures other { (result ≡ Err Status.OtherKind) ↔ HasOtherThanReceiver handle.old.held }
     ensures taken { (r : Reckoning) → handle.old.held ≡ Some (Held.Receiver r) → IsOk result
         ↔ ((count < period) × (length bytes.now ≤ 65536)
         × (byte_count r.reception.decoder.places ≤ length out.old)
         × (r.restored.packets < 2 ^ 32)) }
+    ensures count { (r : Reckoning) → handle.old.held ≡ Some (Held.Receiver r)
+        → (result ≡ Err Status.Count) ↔ (period ≤ count) }
+    ensures too_long { (r : Reckoning) → handle.old.held ≡ Some (Held.Receiver r)
+        → (result ≡ Err Status.TooLong)
+        ↔ ((count < period) × (65536 < length bytes.now)) }
+    ensures no_room { (r : Reckoning) → handle.old.held ≡ Some (Held.Receiver r)
+        → (result ≡ Err Status.NoRoom)
+        ↔ ((count < period) × (length bytes.now ≤ 65536)
+        × (length out.old < byte_count r.reception.decoder.places)) }
+    ensures too_many { (r : Reckoning) → handle.old.held ≡ Some (Held.Receiver r)
+        → (result ≡ Err Status.TooMany)
+        ↔ ((count < period) × (length bytes.now ≤ 65536)
+        × (byte_count r.reception.decoder.places ≤ length out.old)
+        × (2 ^ 32 ≤ r.restored.packets)) }
     ensures fault { result ≡ Err Status.Done → ⊥ }
     ensures unchanged { OnErr result (handle.new.held ≡ handle.old.held) }
     ensures untouched { OnErr result (out.new ≡ out.old) }
@@ -157,6 +177,7 @@ fn receive(
         (λ verdict. verdict ≡ (next_judged r.reception count bytes.now).verdict) }
     ensures stands { (r : Reckoning) → handle.old.held ≡ Some (Held.Receiver r)
         → OnOk result ((next : Reckoning) × (handle.new.held ≡ Some (Held.Receiver next))
+        × (next.reception.decoder.places ≡ r.reception.decoder.places)
         × Judges r next count bytes.now
         × ((f : ℕ) (arrivals : List Arrival) → HasJudged f arrivals r
         → HasJudged f (arrivals ++ record { count = count; body = bytes.now } ∷ []) next)) }
@@ -180,6 +201,8 @@ fn receive(
 
 /// The numbers of the receiver that a handle holds.
 fn restored(alloc: Global, handle: &mut Handle) -> Result<Restored, Status>
+    ensures only { (status : Status) → result ≡ Err status
+        → IsOneOf (number_of status) (Status.Closed ∷ Status.OtherKind ∷ []) }
     ensures closed { (result ≡ Err Status.Closed) ↔ (handle.old.held ≡ None) }
     ensures other { (result ≡ Err Status.OtherKind) ↔ HasOtherThanReceiver handle.old.held }
     ensures fault { result ≡ Err Status.Done → ⊥ }
@@ -202,9 +225,12 @@ fn restored(alloc: Global, handle: &mut Handle) -> Result<Restored, Status>
 /// need.
 #[unsafe(no_mangle)]
 pub extern "C" fn pocket_receiver_open(alloc: Global, handle: &mut Handle, places: u32) -> u32
+    ensures only { IsOneOf result (Status.Done ∷ Status.NoMemory ∷ Status.Open ∷ Status.Places ∷ []) }
     ensures open { (result ≡ number_of Status.Open) ↔ (handle.old.held ≡ None → ⊥) }
     ensures places { (result ≡ number_of Status.Places)
         ↔ ((handle.old.held ≡ None) × ((places ≡ 0) ⊎ (49152 < places))) }
+    ensures right { (result ≡ number_of Status.NoMemory → ⊥) → (result ≡ number_of Status.Done)
+        ↔ ((handle.old.held ≡ None) × (1 ≤ places) × (places ≤ 49152)) }
     ensures opened { result ≡ number_of Status.Done
         → (r : Reckoning) × (handle.new.held ≡ Some (Held.Receiver r))
         × (r ≡ nothing_judged places) × HasJudged places [] r }
@@ -225,6 +251,9 @@ pub extern "C" fn pocket_receive(
     out: &mut [u8],
     found: &mut Finding,
 ) -> u32
+    ensures only { IsOneOf result
+        (Status.Done ∷ Status.Closed ∷ Status.OtherKind ∷ Status.Count ∷ Status.TooLong ∷ Status.NoRoom
+        ∷ Status.TooMany ∷ []) }
     ensures closed { (result ≡ number_of Status.Closed) ↔ (handle.old.held ≡ None) }
     ensures other { (result ≡ number_of Status.OtherKind)
         ↔ HasOtherThanReceiver handle.old.held }
@@ -232,6 +261,20 @@ pub extern "C" fn pocket_receive(
         → (result ≡ number_of Status.Done) ↔ ((count < period) × (length bytes.now ≤ 65536)
         × (byte_count r.reception.decoder.places ≤ length out.old)
         × (r.restored.packets < 2 ^ 32)) }
+    ensures count { (r : Reckoning) → handle.old.held ≡ Some (Held.Receiver r)
+        → (result ≡ number_of Status.Count) ↔ (period ≤ count) }
+    ensures too_long { (r : Reckoning) → handle.old.held ≡ Some (Held.Receiver r)
+        → (result ≡ number_of Status.TooLong)
+        ↔ ((count < period) × (65536 < length bytes.now)) }
+    ensures no_room { (r : Reckoning) → handle.old.held ≡ Some (Held.Receiver r)
+        → (result ≡ number_of Status.NoRoom)
+        ↔ ((count < period) × (length bytes.now ≤ 65536)
+        × (length out.old < byte_count r.reception.decoder.places)) }
+    ensures too_many { (r : Reckoning) → handle.old.held ≡ Some (Held.Receiver r)
+        → (result ≡ number_of Status.TooMany)
+        ↔ ((count < period) × (length bytes.now ≤ 65536)
+        × (byte_count r.reception.decoder.places ≤ length out.old)
+        × (2 ^ 32 ≤ r.restored.packets)) }
     ensures unchanged { (result ≡ number_of Status.Done → ⊥)
         → (handle.new.held ≡ handle.old.held) × (out.new ≡ out.old) × (found.new ≡ found.old) }
     ensures found { (r : Reckoning) → handle.old.held ≡ Some (Held.Receiver r)
@@ -240,6 +283,7 @@ pub extern "C" fn pocket_receive(
     ensures stands { (r : Reckoning) → handle.old.held ≡ Some (Held.Receiver r)
         → result ≡ number_of Status.Done
         → (next : Reckoning) × (handle.new.held ≡ Some (Held.Receiver next))
+        × (next.reception.decoder.places ≡ r.reception.decoder.places)
         × Judges r next count bytes.now
         × ((f : ℕ) (arrivals : List Arrival) → HasJudged f arrivals r
         → HasJudged f (arrivals ++ record { count = count; body = bytes.now } ∷ []) next) }
@@ -260,6 +304,7 @@ pub extern "C" fn pocket_receive(
 /// The numbers of the arrivals so far of the receiver that a handle holds.
 #[unsafe(no_mangle)]
 pub extern "C" fn pocket_counts(alloc: Global, handle: &mut Handle, told: &mut Counts) -> u32
+    ensures only { IsOneOf result (Status.Done ∷ Status.Closed ∷ Status.OtherKind ∷ []) }
     ensures closed { (result ≡ number_of Status.Closed) ↔ (handle.old.held ≡ None) }
     ensures other { (result ≡ number_of Status.OtherKind)
         ↔ HasOtherThanReceiver handle.old.held }

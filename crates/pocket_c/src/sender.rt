@@ -1,6 +1,6 @@
 //! The calls of a sender.
 
-ghost use Rattle.std.specs.Prelude.{◌≡◌, ℕ, ◌+◌, ◌^◌, ◌<◌, ◌≤◌, ◌↔◌, ◌⊎◌, Err, None, Some, length, drop, take, IfOk, IsOk, OnOk, OnErr};
+ghost use Rattle.std.specs.Prelude.{◌≡◌, ℕ, ◌+◌, ◌^◌, ◌<◌, ◌≤◌, ◌↔◌, ◌⊎◌, ◌∷◌, [], Err, None, Some, length, drop, take, IfOk, IsOk, OnOk, OnErr};
 ghost use Rattle.mask_update.specs.Histories.{History, no_steps};
 ghost use Rattle.packet_encode.specs.Encoder.{StandsFor};
 ghost use Rattle.packet_encode.specs.Packets.{with_next_input};
@@ -8,7 +8,7 @@ ghost use Rattle.robust_window.specs.Histories.{level_at};
 ghost use Rattle.flight_chain.specs.Stores.{data_at};
 ghost use Rattle.packet_calls.specs.Sending.{Fits, HasSpareBit, MaskFits, MaskHasSpareBit, SenderState, first_mask, given, room_bits, room_bytes, vector_in};
 ghost use Rattle.pocket_c.specs.Kinds.{HasOtherThanSender, flags_by, mask_in};
-ghost use Rattle.pocket_c.specs.Statuses.{number_of};
+ghost use Rattle.pocket_c.specs.Statuses.{IsOneOf, number_of};
 
 use crate::held::{Handle, Held};
 use crate::status::Status;
@@ -18,17 +18,22 @@ use std::alloc::Global;
 
 /// Opens a sender in a handle that holds nothing.
 fn open(alloc: Global, handle: &mut Handle, places: u32, mask: Option<&[u8]>) -> Status
+    ensures only { IsOneOf (number_of result)
+        (Status.Done ∷ Status.NoMemory ∷ Status.Open ∷ Status.Places ∷ Status.MaskLength
+        ∷ Status.MaskSpareBit ∷ []) }
     ensures open { (result ≡ Status.Open) ↔ (handle.old.held ≡ None → ⊥) }
     ensures places { (result ≡ Status.Places)
         ↔ ((handle.old.held ≡ None) × ((places ≡ 0) ⊎ (49152 < places))) }
     ensures misfit { (result ≡ Status.MaskLength)
         ↔ ((handle.old.held ≡ None) × (1 ≤ places) × (places ≤ 49152)
         × (MaskFits places (given mask.entry) → ⊥)) }
-    ensures spared { result ≡ Status.MaskSpareBit
-        → (1 ≤ places) × (places ≤ 49152) × MaskFits places (given mask.entry)
-        × MaskHasSpareBit places (given mask.entry) }
-    ensures right { result ≡ Status.Done → MaskFits places (given mask.entry)
-        × (MaskHasSpareBit places (given mask.entry) → ⊥) }
+    // A spare bit is looked at after the memory for the mask was found.
+    ensures spared { (result ≡ Status.NoMemory → ⊥) → (result ≡ Status.MaskSpareBit)
+        ↔ ((handle.old.held ≡ None) × (1 ≤ places) × (places ≤ 49152)
+        × MaskFits places (given mask.entry) × MaskHasSpareBit places (given mask.entry)) }
+    ensures right { (result ≡ Status.NoMemory → ⊥) → (result ≡ Status.Done)
+        ↔ ((handle.old.held ≡ None) × (1 ≤ places) × (places ≤ 49152)
+        × MaskFits places (given mask.entry) × (MaskHasSpareBit places (given mask.entry) → ⊥)) }
     ensures opened { result ≡ Status.Done
         → (s : SenderState) × (handle.new.held ≡ Some (Held.Sender s))
         × StandsFor (no_steps (first_mask places (given mask.entry))) s.encoder
@@ -61,12 +66,31 @@ fn send(
     robust: u8,
     out: &mut [u8],
 ) -> Result<Sent, Status>
+    ensures only { (status : Status) → result ≡ Err status → IsOneOf (number_of status)
+        (Status.Closed ∷ Status.OtherKind ∷ Status.InputLength ∷ Status.SpareBit ∷ Status.Robust ∷ Status.NoRoom ∷ Status.TooMany ∷ []) }
     ensures closed { (result ≡ Err Status.Closed) ↔ (handle.old.held ≡ None) }
     ensures other { (result ≡ Err Status.OtherKind) ↔ HasOtherThanSender handle.old.held }
     ensures taken { (s : SenderState) → handle.old.held ≡ Some (Held.Sender s)
         → let f = length s.encoder.masks.mask in
         IsOk result ↔ (Fits f input.now × (HasSpareBit f input.now → ⊥) × (robust ≤ 7)
         × (room_bytes f ≤ length out.old) × (s.encoder.masks.taken < 2 ^ 32)) }
+    ensures misfit { (s : SenderState) → handle.old.held ≡ Some (Held.Sender s)
+        → (result ≡ Err Status.InputLength)
+        ↔ (Fits (length s.encoder.masks.mask) input.now → ⊥) }
+    ensures spare { (s : SenderState) → handle.old.held ≡ Some (Held.Sender s)
+        → let f = length s.encoder.masks.mask in (result ≡ Err Status.SpareBit)
+        ↔ (Fits f input.now × HasSpareBit f input.now) }
+    ensures robust { (s : SenderState) → handle.old.held ≡ Some (Held.Sender s)
+        → let f = length s.encoder.masks.mask in (result ≡ Err Status.Robust)
+        ↔ (Fits f input.now × (HasSpareBit f input.now → ⊥) × (7 < robust)) }
+    ensures no_room { (s : SenderState) → handle.old.held ≡ Some (Held.Sender s)
+        → let f = length s.encoder.masks.mask in (result ≡ Err Status.NoRoom)
+        ↔ (Fits f input.now × (HasSpareBit f input.now → ⊥) × (robust ≤ 7)
+        × (length out.old < room_bytes f)) }
+    ensures too_many { (s : SenderState) → handle.old.held ≡ Some (Held.Sender s)
+        → let f = length s.encoder.masks.mask in (result ≡ Err Status.TooMany)
+        ↔ (Fits f input.now × (HasSpareBit f input.now → ⊥) × (robust ≤ 7)
+        × (room_bytes f ≤ length out.old) × (2 ^ 32 ≤ s.encoder.masks.taken)) }
     ensures fault { result ≡ Err Status.Done → ⊥ }
     ensures unchanged { OnErr result (handle.new.held ≡ handle.old.held) }
     ensures untouched { OnErr result (out.new ≡ out.old) }
@@ -84,6 +108,8 @@ fn send(
         → StandsFor h s.encoder → IfOk result (λ sent. sent.level ≡ level_at
         (with_next_input h robust (vector_in (length s.encoder.masks.mask) input.now) flags)
         (length h.steps)) }
+    ensures length { (s : SenderState) → handle.old.held ≡ Some (Held.Sender s) → IfOk result
+        (λ sent. (1 ≤ sent.len) × (sent.len ≤ room_bytes (length s.encoder.masks.mask))) }
     ensures rest { IfOk result (λ sent. drop sent.len out.new ≡ drop sent.len out.old) }
 {
     let Some(mut held) = handle.take(alloc) else {
@@ -109,22 +135,27 @@ pub extern "C" fn pocket_sender_open(
     places: u32,
     mask: &[u8],
 ) -> u32
+    ensures only { IsOneOf result
+        (Status.Done ∷ Status.NoMemory ∷ Status.Open ∷ Status.Places ∷ Status.MaskLength
+        ∷ Status.MaskSpareBit ∷ []) }
     ensures open { (result ≡ number_of Status.Open) ↔ (handle.old.held ≡ None → ⊥) }
     ensures places { (result ≡ number_of Status.Places)
         ↔ ((handle.old.held ≡ None) × ((places ≡ 0) ⊎ (49152 < places))) }
     ensures misfit { (result ≡ number_of Status.MaskLength)
         ↔ ((handle.old.held ≡ None) × (1 ≤ places) × (places ≤ 49152)
         × (MaskFits places (mask_in mask.now) → ⊥)) }
-    ensures spared { result ≡ number_of Status.MaskSpareBit
-        → (1 ≤ places) × (places ≤ 49152) × MaskFits places (mask_in mask.now)
-        × MaskHasSpareBit places (mask_in mask.now) }
+    // A spare bit is looked at after the memory for the mask was found.
+    ensures spared { (result ≡ number_of Status.NoMemory → ⊥) → (result ≡ number_of Status.MaskSpareBit)
+        ↔ ((handle.old.held ≡ None) × (1 ≤ places) × (places ≤ 49152)
+        × MaskFits places (mask_in mask.now) × MaskHasSpareBit places (mask_in mask.now)) }
     ensures opened { result ≡ number_of Status.Done
         → (s : SenderState) × (handle.new.held ≡ Some (Held.Sender s))
         × StandsFor (no_steps (first_mask places (mask_in mask.now))) s.encoder
         × (length s.encoder.masks.mask ≡ places) × (s.encoder.masks.taken ≡ 0)
         × (s.room ≡ room_bits places) }
-    ensures right { result ≡ number_of Status.Done → MaskFits places (mask_in mask.now)
-        × (MaskHasSpareBit places (mask_in mask.now) → ⊥) }
+    ensures right { (result ≡ number_of Status.NoMemory → ⊥) → (result ≡ number_of Status.Done)
+        ↔ ((handle.old.held ≡ None) × (1 ≤ places) × (places ≤ 49152)
+        × MaskFits places (mask_in mask.now) × (MaskHasSpareBit places (mask_in mask.now) → ⊥)) }
     ensures unchanged { (result ≡ number_of Status.Done → ⊥)
         → handle.new.held ≡ handle.old.held }
 {
@@ -153,6 +184,9 @@ pub extern "C" fn pocket_send(
     len: &mut usize,
     level: &mut u8,
 ) -> u32
+    ensures only { IsOneOf result
+        (Status.Done ∷ Status.Closed ∷ Status.OtherKind ∷ Status.InputLength ∷ Status.SpareBit
+        ∷ Status.Robust ∷ Status.NoRoom ∷ Status.TooMany ∷ []) }
     ensures closed { (result ≡ number_of Status.Closed) ↔ (handle.old.held ≡ None) }
     ensures other { (result ≡ number_of Status.OtherKind) ↔ HasOtherThanSender handle.old.held }
     ensures taken { (s : SenderState) → handle.old.held ≡ Some (Held.Sender s)
@@ -160,6 +194,23 @@ pub extern "C" fn pocket_send(
         (result ≡ number_of Status.Done)
         ↔ (Fits f input.now × (HasSpareBit f input.now → ⊥) × (robust ≤ 7)
         × (room_bytes f ≤ length out.old) × (s.encoder.masks.taken < 2 ^ 32)) }
+    ensures misfit { (s : SenderState) → handle.old.held ≡ Some (Held.Sender s)
+        → (result ≡ number_of Status.InputLength)
+        ↔ (Fits (length s.encoder.masks.mask) input.now → ⊥) }
+    ensures spare { (s : SenderState) → handle.old.held ≡ Some (Held.Sender s)
+        → let f = length s.encoder.masks.mask in (result ≡ number_of Status.SpareBit)
+        ↔ (Fits f input.now × HasSpareBit f input.now) }
+    ensures robust { (s : SenderState) → handle.old.held ≡ Some (Held.Sender s)
+        → let f = length s.encoder.masks.mask in (result ≡ number_of Status.Robust)
+        ↔ (Fits f input.now × (HasSpareBit f input.now → ⊥) × (7 < robust)) }
+    ensures no_room { (s : SenderState) → handle.old.held ≡ Some (Held.Sender s)
+        → let f = length s.encoder.masks.mask in (result ≡ number_of Status.NoRoom)
+        ↔ (Fits f input.now × (HasSpareBit f input.now → ⊥) × (robust ≤ 7)
+        × (length out.old < room_bytes f)) }
+    ensures too_many { (s : SenderState) → handle.old.held ≡ Some (Held.Sender s)
+        → let f = length s.encoder.masks.mask in (result ≡ number_of Status.TooMany)
+        ↔ (Fits f input.now × (HasSpareBit f input.now → ⊥) × (robust ≤ 7)
+        × (room_bytes f ≤ length out.old) × (2 ^ 32 ≤ s.encoder.masks.taken)) }
     ensures unchanged { (result ≡ number_of Status.Done → ⊥)
         → (handle.new.held ≡ handle.old.held) × (out.new ≡ out.old)
         × (len.new ≡ len.old) × (level.new ≡ level.old) }
@@ -179,6 +230,9 @@ pub extern "C" fn pocket_send(
         → StandsFor h s.encoder → result ≡ number_of Status.Done → level.new ≡ level_at
         (with_next_input h robust (vector_in (length s.encoder.masks.mask) input.now)
         (flags_by new_mask send_mask whole)) (length h.steps) }
+    ensures length { (s : SenderState) → handle.old.held ≡ Some (Held.Sender s)
+        → result ≡ number_of Status.Done
+        → (1 ≤ len.new) × (len.new ≤ room_bytes (length s.encoder.masks.mask)) }
     ensures rest { result ≡ number_of Status.Done → drop len.new out.new ≡ drop len.new out.old }
 {
     let flags = Flags {
