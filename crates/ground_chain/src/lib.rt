@@ -4,6 +4,7 @@
 mod account;
 mod arrivals;
 mod deliveries;
+mod digits;
 mod fault;
 mod judging;
 mod laws;

@@ -5,6 +5,7 @@ ghost use Rattle.desk_ports.specs.Meanings.{IsReadyOut, Adds, AddsFront, HasWrit
 ghost use Rattle.ground_chain.specs.Listing.{known_with, latest_vectors, mask_text, shown_vectors, vector_digits};
 
 use crate::account::Account;
+use crate::digits::write_digits;
 use crate::lines::{end_line, front_of};
 use crate::restored::Restored;
 use crate::verdict::{Kind, Verdict};
@@ -167,6 +168,6 @@ impl Listing {
         ensures room { HasVectorRoom self.new (length vector.now) }
     {
         vector.store(&mut self.bytes);
-        let _ = hex::encode_to_slice(&self.bytes[..], &mut self.digits);
+        write_digits(&self.bytes, &mut self.digits);
     }
 }

@@ -79,10 +79,10 @@ pub record Sorting : Type 0 where
 abbrev pub nothing : Numbered
 nothing = record { number = 0; body = [] }
 
--- the data of a place lie within its room, and there is never more room, so that no memory is taken
+-- the data of a place lie within its room, and there is never more memory for it, so that none is taken
 pub record IsPlace (size room capacity : ℕ) : Type 0 where
-  pub within : size ≤ 65536
-  pub whole : room ≡ 65536
+  pub within : size ≤ room
+  pub most : room ≤ 65536
   pub taken : capacity ≡ 65536
 
 -- each arrival has a number that is at most that of all after it

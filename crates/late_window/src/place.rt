@@ -1,16 +1,18 @@
 //! A place for one arrival.
 
-ghost use Rattle.std.specs.Prelude.{◌≡◌, ◌++◌, ◌≤◌, length, drop, IfOk};
+ghost use Rattle.std.specs.Prelude.{◌≡◌, ◌++◌, ◌≤◌, length, drop, vec_len, IfOk};
+ghost use Rattle.std.specs.Vec.{vec_capacity};
 ghost use Rattle.late_window.specs.Lines.{nothing};
 
-use bit_vectors::{NoMemory, zero_bytes};
+use bit_vectors::NoMemory;
 use std::alloc::Global;
 use std::marker::Model;
 
 /// The most data bytes that a packet has.
 pub const MOST_BYTES: usize = 65_536;
 
-/// A place for one arrival: its number and its data bytes, in a room that is large enough for any packet.
+/// A place for one arrival: its number and its data bytes. Its room has memory for any packet, and is as long as the longest
+/// packet so far, so that no zeros are written for bytes that never come.
 #[derive(Debug, Drop)]
 pub struct Place {
     number: u64,
@@ -39,7 +41,7 @@ impl Place {
         Ok(Place {
             number: 0,
             size: 0,
-            room: zero_bytes(alloc, MOST_BYTES)?,
+            room: Vec::with_capacity(alloc, MOST_BYTES)?,
         })
     }
 
@@ -48,6 +50,7 @@ impl Place {
         requires { length bytes.now ≤ 65536 }
         ensures { self.new ≡ record { number = number; body = bytes.now } }
     {
+        lengthen(&mut self.room, bytes.len());
         copy_front(&mut self.room, bytes);
         self.number = number;
         self.size = bytes.len();
@@ -66,6 +69,19 @@ impl Place {
         ensures size { length result.now ≤ 65536 }
     {
         &self.room[..self.size]
+    }
+}
+
+/// Lengthens a room to `count` bytes, if it is shorter, within its memory.
+fn lengthen(room: &mut Vec<u8>, count: usize)
+    requires room { count ≤ vec_capacity room.old }
+    requires within { vec_len room.old ≤ vec_capacity room.old }
+    ensures enough { count ≤ vec_len room.new }
+    ensures most { vec_len room.new ≤ vec_capacity room.new }
+    ensures taken { vec_capacity room.new ≡ vec_capacity room.old }
+{
+    for _missing in room.len()..count {
+        room.push_reserved(0);
     }
 }
 
