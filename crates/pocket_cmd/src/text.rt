@@ -1,15 +1,19 @@
 //! The text of a side input, or of an input that is read whole.
-ghost use Rattle.std.specs.Prelude.{◌≡◌, ◌≤◌, ◌<◌, length, take, Some, Err, IsTrue, IsSome, IfSome, IfOk, OnOk, OnErr};
+ghost use Rattle.std.specs.Prelude.{◌≡◌, ◌≢◌, ◌≤◌, ◌<◌, ℕ, List, length, take, Some, Err, IsTrue, IsSome, IfSome, IfOk, IfErr, OnOk, OnErr};
 ghost use Rattle.std.specs.Option.{option_map};
-ghost use Rattle.desk_ports.specs.Meanings.{HasReadCause};
+ghost use Rattle.std.specs.Io.KnownBytes.{IsAtEnd};
+ghost use Rattle.desk_ports.specs.Meanings.{IsReadyIn, Moves, left};
 ghost use Rattle.pocket_cmd.specs.declared.text.TextFault.TheVariants as unread;
 ghost use Rattle.pocket_cmd.specs.Openings.{IsText, IsTextLong, IsTextReadTo, IsTextUnread, HasTextBytes, KeepsAllBut, HasTextCause, with_text};
 
-use desk_ports::{Desk, Failed, Inlet, fill};
+use desk_ports::{Desk, Failed, Inlet};
 use std::alloc::{AllocError, Global};
 
 /// The most bytes of a text.
 const MOST_BYTES: usize = 1_048_576;
+
+/// The bytes of the first room for a text, which is doubled as often as it is full.
+const FIRST_BYTES: usize = 4096;
 
 /// Why a text is not read.
 #[derive(Clone, Copy, Debug, PartialEq, Eq)]
@@ -91,7 +95,7 @@ fn text_of<D: Desk>(
         (KeepsAllBut inlet (Some name.now) (D.meaning desk.old) (D.meaning desk.new)) }
     ensures cause { HasTextCause (D.counts desk.old) (D.counts desk.new) result }
 {
-    let mut text = room(alloc)?;
+    let mut text = vec![in alloc; 0; FIRST_BYTES]?;
     let moved = read_text(desk, inlet, name, &mut text)?;
     if moved > MOST_BYTES {
         return Err(TextFault::TooLong);
@@ -100,35 +104,77 @@ fn text_of<D: Desk>(
     Ok(text)
 }
 
-/// Room for a text and one more byte.
-fn room(alloc: Global) -> Result<Vec<u8>, AllocError>
-    ensures { IfOk result (λ room. length room.items ≡ 1048577) }
-{
-    vec![in alloc; 0; MOST_BYTES + 1]
-}
-
-/// Opens an inlet, and reads until the room is full or the input is at its end. Tells how many bytes were moved.
+/// Opens an inlet, and reads into a room, which grows with the text, until it holds more than a text may have or the input
+/// is at its end. Tells how many bytes were moved.
 fn read_text<D: Desk>(
     desk: &mut D,
     inlet: Inlet,
     name: &str,
-    room: &mut [u8],
-) -> Result<usize, Failed>
-    requires { IsTrue ((D.meaning desk.old).grants_in name.now) }
-    ensures within { IfOk result (λ n. n ≤ length room.old) }
+    room: &mut Vec<u8>,
+) -> Result<usize, TextFault>
+    requires granted { IsTrue ((D.meaning desk.old).grants_in name.now) }
+    requires most { length room.old.items ≤ 1048577 }
+    ensures within { IfOk result (λ n. n ≤ length room.new.items) }
+    ensures most { IfOk result (λ n. n ≤ 1048577) }
     ensures front { IfOk result (λ n. HasTextBytes (D.meaning desk.old) inlet name.now n) }
     ensures moved { IfOk result
         (λ n. IsTextReadTo n (D.meaning desk.old) inlet (Some name.now) (D.meaning desk.new)) }
-    ensures cut_off { OnErr result (IsTextUnread (length room.old)
-        (D.meaning desk.old) inlet (Some name.now) (D.meaning desk.new)) }
-    ensures text { IfOk result (λ n. n < length room.old
-        → IsText (D.meaning desk.old) inlet (Some name.now) (take n room.new)) }
+    ensures cut_off { OnErr result
+        (IsTextUnread 1048577 (D.meaning desk.old) inlet (Some name.now) (D.meaning desk.new)) }
+    ensures text { IfOk result (λ n. n < 1048577
+        → IsText (D.meaning desk.old) inlet (Some name.now) (take n room.new.items)) }
     ensures read { IfOk result
-        (λ n. n < length room.old
+        (λ n. n < 1048577
         → D.meaning desk.new ≡ with_text (D.meaning desk.old) inlet (Some name.now)) }
+    ensures short { IfErr result (λ fault. fault ≢ unread.TooLong) }
     ensures keeps { KeepsAllBut inlet (Some name.now) (D.meaning desk.old) (D.meaning desk.new) }
-    ensures cause { HasReadCause (D.counts desk.old) (D.counts desk.new) result }
+    ensures cause { HasTextCause (D.counts desk.old) (D.counts desk.new) result }
 {
     desk.open_in(inlet, name)?;
-    fill(desk, inlet, room)
+    fill_text(desk, inlet, room)
+}
+
+/// Reads into a room, which grows with the text, until it holds more than a text may have or the input is at its end.
+/// Tells how many bytes were moved to its front. At a fault those that were moved before are lost.
+fn fill_text<D: Desk>(desk: &mut D, inlet: Inlet, room: &mut Vec<u8>) -> Result<usize, TextFault>
+    requires ready { IsReadyIn (D.meaning desk.old) inlet }
+    requires most { length room.old.items ≤ 1048577 }
+    ensures within { IfOk result (λ n. n ≤ length room.new.items) }
+    ensures most { IfOk result (λ n. n ≤ 1048577) }
+    ensures moved { IfOk result
+        (λ n. Moves (D.meaning desk.old) (D.meaning desk.new) inlet (take n room.new.items)) }
+    ensures at_end { IfOk result
+        (λ n. n < 1048577 → IsAtEnd (left (D.meaning desk.new) inlet)) }
+    ensures lost { OnErr result
+        ((bytes : List ℕ) × (length bytes < 1048577)
+        × Moves (D.meaning desk.old) (D.meaning desk.new) inlet bytes) }
+    ensures short { IfErr result (λ fault. fault ≢ unread.TooLong) }
+    ensures cause { HasTextCause (D.counts desk.old) (D.counts desk.new) result }
+{
+    let mut filled = 0;
+    while filled <= MOST_BYTES {
+        widen(room, filled)?;
+        let moved = desk.read(inlet, &mut room[filled..])?;
+        if moved == 0 {
+            break;
+        }
+        filled += moved;
+    }
+    Ok(filled)
+}
+
+/// Doubles a room of which all bytes are filled, but not beyond the bytes of the longest text and one more.
+fn widen(room: &mut Vec<u8>, filled: usize) -> Result<(), AllocError>
+    requires within { filled ≤ length room.old.items }
+    requires most { length room.old.items ≤ 1048577 }
+    requires few { filled ≤ 1048576 }
+    ensures front { take filled room.new.items ≡ take filled room.old.items }
+    ensures left { OnOk result (filled < length room.new.items) }
+    ensures within { filled ≤ length room.new.items }
+    ensures most { length room.new.items ≤ 1048577 }
+{
+    if filled < room.len() {
+        return Ok(());
+    }
+    room.resize((2 * filled).max(FIRST_BYTES).min(MOST_BYTES + 1), 0)
 }
