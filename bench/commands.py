@@ -41,8 +41,8 @@ class Bench:
 
 def prepared(bench, packets, streams=8, window=8, fields=40):
     """Makes the inputs of all verbs, of so many quiet packets of 1,024 bits, and gives the words of each."""
-    bench.store(1024, packets // streams or 1, apid=0)
-    recordings.write_joined(bench.at("joined"), recordings.read(bench.at("store")), streams)
+    bench.store(1024, (packets + streams - 1) // streams, apid=0)
+    recordings.write_joined(bench.at("joined"), recordings.read(bench.at("store")), streams, packets)
     bench.store(1024, packets)
     recordings.write_late(bench.at("late"), recordings.read(bench.at("store")), window)
     for name, text in (("streams", recordings.streams_text(streams, 1024)), ("fields", recordings.fields_text(fields, 1024)),

@@ -84,10 +84,10 @@ def write_late(path, store, window):
             out.writelines(reversed(whole[first:first + window + 1]))
 
 
-def write_joined(path, store, streams):
-    """Writes a store in which each packet of another comes once on each APID, 0 and so on."""
+def write_joined(path, store, streams, packets):
+    """Writes a store of so many packets, in which each of another comes once on each APID, 0 and so on."""
     with open(path, "wb", buffering=1 << 20) as out:
-        for packet, apid in itertools.product(packets_of(store), range(streams)):
+        for packet, apid in itertools.islice(itertools.product(packets_of(store), range(streams)), packets):
             out.write((packet[0] << 8 & 0xF800 | apid).to_bytes(2, "big") + packet[2:])
 
 
