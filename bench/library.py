@@ -4,7 +4,7 @@
 At the top, after the gate's proofs (crates/pocket_c/out and crates/pocket/out); with --unaligned the libraries that leave accesses which are
 not aligned to the processor are measured too. It takes gcc, Debian's cross compilers and qemu-user, and prints what is left out without them.
 The libraries of other processors are built if they are not there (library/targets.mk). Instructions are counted by a plugin of qemu-user
-(instructions.c), on x86-64 too; they are the same in each run, and no times.
+(instructions.c), on x86-64 too, and those of the program beside by valgrind; they are the same in each run, and no times.
 """
 
 import argparse
@@ -97,7 +97,7 @@ class Processor:
 
 
 def by_program(native, program, bits, kind):
-    """The instructions that one packet more costs compress and restore, of the same inputs."""
+    """The instructions that one packet more costs compress and restore, of the same inputs, as valgrind counts them."""
     at, packets, counts = lambda name: os.path.join(native.folder, name), COUNTED[bits], []
     with open(at("plan"), "w", encoding="ascii") as out:
         out.write(f"0,{LAST},1,{KINDS[kind]}\n" if KINDS[kind] else "")
@@ -107,7 +107,7 @@ def by_program(native, program, bits, kind):
         told = [f"bits={bits}", "apid=100"]
         compress = ["compress", f"in={at('rec')}", f"out={at('store')}", f"plan={at('plan')}", "robust=2", *told]
         restore = ["restore", f"in={at('store')}", f"out={at('restored')}", f"report={at('report')}", *told]
-        counts.append([native.count([program, *words]) for words in (compress, restore)])
+        counts.append([measure.instructions([program, *words]) for words in (compress, restore)])
     return [round((twice - once) / packets) for once, twice in zip(*counts)]
 
 
@@ -160,7 +160,7 @@ def show(given, folder):
     measure.show_table("The library: sizes and stacks", ["Bytes", *names], sizes(there))
     measure.show_table("The library: heap", ["Bits of an input", "Bytes of an open sender", "Of an open receiver"], heaps(there))
     aligned = [it for it in there if "unaligned" not in it.name]
-    program = os.path.abspath(given.program) if os.path.exists(given.program) else None
+    program = os.path.abspath(given.program) if os.path.exists(given.program) and measure.can_count() else None
     of = [f"{call}: {it.name}" for call in ("Send", "Receive") for it in aligned]
     heads = ["Bits", "Inputs", "Data, bytes", *of, "`compress`", "`restore`"]
     measure.show_table("The library: instructions for a packet", heads, packets(aligned, program, (8, 1024) if given.quick else COUNTED))

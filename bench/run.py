@@ -4,7 +4,7 @@
 It asserts nothing. Processor time is the program's own and the system's for it together, the least of some runs; memory is the greatest
 that was resident; instructions are counted by valgrind (without it these tables are left out), as what one packet more costs. All inputs
 are made from seeds in a temporary folder of some 600 MB, which is removed. On a quiet machine it takes under ten minutes; --quick takes a
-small part of all, and its times mean little. --beside names a program in plain C of the words of `ref` below, to count it too.
+small part of all, and its times mean little. --beside names a program in plain C, to count it too.
 """
 
 import argparse
