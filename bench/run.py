@@ -10,6 +10,7 @@ small part of all, and its times mean little. --beside names a program in plain 
 import argparse
 import os
 import shutil
+import sys
 import tempfile
 
 import measure
@@ -50,24 +51,30 @@ def timed_kinds(bench, sizes):
         sizes.append((kind.name, kind.bits, packets, size, *parts, *memory))
 
 
+def counted_beside(bench, kind):
+    """The instructions of compress and restore of the program in plain C; what it writes has to be the same."""
+    at, rows = bench.at, [bench.at("plan")] if kind.schedule else []
+    words = [[bench.ref, "compress", at("rec"), at("ref.store"), str(kind.bits), "100", "2", *rows],
+             [bench.ref, "restore", at("ref.store"), at("ref.restored"), at("ref.report"), str(kind.bits), "100"]]
+    counts = [measure.instructions(those) for those in words]
+    if any(recordings.read(at(name)) != recordings.read(at(f"ref.{name}")) for name in ("store", "restored", "report")):
+        sys.exit(f"{kind.name}: {bench.ref} writes something else")
+    return counts
+
+
 def counted_kinds(bench):
     """The rows of the kinds' instructions."""
     for kind in KINDS:
-        packets, once, plain = kind.counted // (10 if bench.quick else 1), [], []
+        packets, own, plain = kind.counted // (10 if bench.quick else 1), [], []
         for turn in (1, 2):
             recordings.record(bench.at("rec"), kind.bits, turn * packets, kind.moves)
-            both = bench.compress(kind.bits, kind.schedule), bench.restore(kind.bits)
-            once.append([measure.instructions(words) for words in both])
-            if bench.ref:
-                bits = str(kind.bits)
-                rows = [bench.at("plan")] if kind.schedule else []
-                words = [[bench.ref, "compress", bench.at("rec"), bench.at("ref.store"), bits, "100", "2", *rows],
-                         [bench.ref, "restore", bench.at("ref.store"), bench.at("ref.out"), bench.at("ref.report"), bits, "100"]]
-                plain.append([measure.instructions(those) for those in words])
-        costs = [(twice - first) / packets for first, twice in zip(*once)]
-        beside = [(twice - first) / packets for first, twice in zip(*plain)] if plain else []
-        yield kind.name, kind.bits, *(it for pair in zip(costs, beside) for it in (*map(round, pair), pair[0] / pair[1])), *(
-            map(round, costs) if not plain else [])
+            own.append([measure.instructions(words) for words in (bench.compress(kind.bits, kind.schedule), bench.restore(kind.bits))])
+            plain.append(counted_beside(bench, kind) if bench.ref else own[-1])
+        row = []
+        for once, twice, once_plain, twice_plain in zip(*own, *plain):
+            cost, beside = (twice - once) / packets, (twice_plain - once_plain) / packets
+            row += [round(cost), round(beside), cost / beside] if bench.ref else [round(cost)]
+        yield kind.name, kind.bits, *row
 
 
 def verbs(bench):
