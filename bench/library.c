@@ -1,8 +1,9 @@
 /* library BITS KIND PACKETS WHAT: sends packets by the library, and receives them, for bench/library.py.
  *
  * KIND, how the inputs move: quiet, one bit turns in each sixteenth packet; noisy, each bit turns with the chance 1/8; turned, all bits
- * turn, and the mask and the whole content are sent; dearest, every second bit turns, so that each is an edge of the mask and a recent
- * change, each packet makes a new mask, and mask and whole content are sent. The required robustness is 2, BITS a multiple of 8.
+ * turn, and the mask and the whole content are sent; dearest, in each byte the bits of CC and of 66 turn, in turn, and each packet makes a
+ * new mask and carries it and its whole content, so that every second bit is an edge of the mask and a recent change. The required
+ * robustness is 2, BITS a multiple of 8.
  *
  * WHAT: inputs, which makes these alone; write, which writes them; send; receive, of all that is sent; stack, which tells how deep each
  * call goes, what it calls of the C library included, compares the contents, and tells what the heap was asked for. It is linked with
@@ -111,11 +112,9 @@ __attribute__((noinline)) static void move(void)
 {
     if (quiet)
         input[0] ^= number % 16 == 1;
-    else if (dearest)
-        memset(input, number % 2 ? 0x66 : 0xCC, bytes);
-    else if (turned)
+    else if (turned || dearest)
         for (size_t at = 0; at < bytes; at++)
-            input[at] ^= 0xFF;
+            input[at] ^= turned ? 0xFF : number % 2 ? 0x66 : 0xCC;
     else
         for (size_t at = 0; at < bytes; at++)
             input[at] ^= (uint8_t)noise();

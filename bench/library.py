@@ -146,7 +146,8 @@ def packets(processors, program, bits_counted):
 def show(given, folder):
     subprocess.run(["gcc", "-shared", "-fPIC", "-O2", "-o", f"{folder}/instructions.so", f"{HERE}/instructions.c"], check=True)
     there, before = [], measure.load()
-    for name, unaligned in [(it, False) for it in EMULATORS] + [(it, True) for it in list(EMULATORS)[1:] if given.unaligned]:
+    wanted = [(it, False) for it in EMULATORS] + [(it, True) for it in EMULATORS if given.unaligned and it != NATIVE]
+    for name, unaligned in wanted if given.others else wanted[:1]:
         one = Processor(name, unaligned, folder)
         missing = one.lacks()
         if missing:
@@ -171,6 +172,7 @@ def main():
     words = argparse.ArgumentParser(description=__doc__, formatter_class=argparse.RawDescriptionHelpFormatter)
     words.add_argument("--program", default=f"{TOP}/crates/pocket/out/pocket", help="the program beside the calls, for x86-64")
     words.add_argument("--unaligned", action="store_true", help="measure (and build) these libraries too")
+    words.add_argument("--native", dest="others", action="store_false", help=f"measure the library of {NATIVE} alone")
     words.add_argument("--quick", action="store_true", help="packets of 8 and 1,024 bits alone")
     given = words.parse_args()
     with tempfile.TemporaryDirectory() as folder:

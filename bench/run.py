@@ -169,21 +169,29 @@ def largest(bench):
         yield f"`forecast`, {name}", f"{rows[0]:,} and {rows[1]:,}", *measure.best(foreseen, rounds)
 
 
-def show(bench):
-    before, sizes, table = measure.load(), [], measure.show_table
+def tables(bench):
+    """The titles, heads and rows of all tables; rows are measured as they are asked for."""
+    sizes = []
     rates = ["`compress`: packets", "MB", "`restore`: packets", "MB", "`gzip -1`: MB", "`gzip -d`", "`zstd -1`", "`zstd -d`", "`cp`"]
-    table("Packets and megabytes in a second of processor time", ["Recording", "Bits", "Packets", *rates], timed_kinds(bench, sizes))
+    yield "Packets and megabytes in a second of processor time", ["Recording", "Bits", "Packets", *rates], timed_kinds(bench, sizes)
     heads = ["Store", "`gzip -1`", "`zstd -1`", "KB of `compress`", "of `restore`"]
-    table("Sizes and memory", ["Recording", "Bits", "Packets", "Bytes", *heads], sizes)
+    yield "Sizes and memory", ["Recording", "Bits", "Packets", "Bytes", *heads], sizes
     heads = ["Packets", "Packets a second", "MB a second", "Instructions for a packet", "of a run over one", "KB"]
-    table("The nine verbs", ["Verb", *heads], verbs(bench))
+    yield "The nine verbs", ["Verb", *heads], verbs(bench)
     if measure.can_count():
         heads = ["`compress`", "C", "Ratio", "`restore`", "C", "Ratio"] if bench.ref else ["`compress`", "`restore`"]
-        table("Instructions for a packet", ["Recording", "Bits", *heads], counted_kinds(bench))
-        table("Growth by packets and bits", ["What grows", "To", "`compress`", "KB", "`restore`", "KB"], of_size(bench))
-        table("Growth by streams, window and fields", ["What grows", "To", "Verb", "Instructions", "KB"], of_one(bench))
-        table("Growth by rows", ["How rows lie", "Rows", "`compress`", "`play`", "`forecast`", "KB of `forecast`"], of_rows(bench))
-    table("The largest trial and forecasts", ["Command", "Rows", "Seconds", "KB"], largest(bench))
+        yield "Instructions for a packet", ["Recording", "Bits", *heads], counted_kinds(bench)
+        yield "Growth by packets and bits", ["What grows", "To", "`compress`", "KB", "`restore`", "KB"], of_size(bench)
+        yield "Growth by streams, window and fields", ["What grows", "To", "Verb", "Instructions", "KB"], of_one(bench)
+        yield "Growth by rows", ["How rows lie", "Rows", "`compress`", "`play`", "`forecast`", "KB of `forecast`"], of_rows(bench)
+    yield "The largest trial and forecasts", ["Command", "Rows", "Seconds", "KB"], largest(bench)
+
+
+def show(bench, only):
+    before = measure.load()
+    for title, heads, rows in tables(bench):
+        if rows and (only in title or isinstance(rows, list)):
+            measure.show_table(title, heads, rows)
     print(f"\nA command that does nothing takes {measure.used(['true']).memory:,} KB.")
     print(measure.told_by("bench/run.py", f", the least of {bench.rounds} rounds{', --quick' if bench.quick else ''}", before))
 
@@ -192,6 +200,7 @@ def main():
     words = argparse.ArgumentParser(description=__doc__, formatter_class=argparse.RawDescriptionHelpFormatter)
     words.add_argument("program", help="the built program, as crates/pocket/out/pocket")
     words.add_argument("--quick", action="store_true", help="a small part of all, to see that it runs")
+    words.add_argument("--only", default="", help="the tables alone whose title has this; sizes come with packets and megabytes")
     words.add_argument("--rounds", type=int, default=5, help="how often a command is timed; the least is shown")
     words.add_argument("--beside", help="a program of plain C to count beside, of the words compress IN OUT BITS APID R [SCHEDULE] and "
                        "restore IN OUT REPORT BITS APID")
@@ -199,7 +208,7 @@ def main():
     given = words.parse_args()
     measure.adopt_orphans()
     with tempfile.TemporaryDirectory(dir=given.folder) as folder:
-        show(Bench(given, folder))
+        show(Bench(given, folder), given.only)
 
 
 if __name__ == "__main__":
