@@ -163,9 +163,10 @@ def show(given, folder):
     aligned = [it for it in there if "unaligned" not in it.name]
     program = os.path.abspath(given.program) if os.path.exists(given.program) and measure.can_count() else None
     of = [f"{call}: {it.name}" for call in ("Send", "Receive") for it in aligned]
-    heads = ["Bits", "Inputs", "Data, bytes", *of, "`compress`", "`restore`"]
+    heads = ["Bits", "Inputs", "Data, bytes at most", *of, "`compress`", "`restore`"]
     measure.show_table("The library: instructions for a packet", heads, packets(aligned, program, (8, 1024) if given.quick else COUNTED))
-    print(measure.told_by("bench/library.py", ", --quick" if given.quick else "", before))
+    how = "".join(f", {word}" for word, is_so in (("--native", not given.others), ("--quick", given.quick)) if is_so)
+    print(measure.told_by("bench/library.py", how, before))
 
 
 def main():
