@@ -9,7 +9,8 @@ outputs of the whole run in their parts, or the first output whole and the secon
 before, and nothing at a name that is none of the command's. A short read or write must change nothing. For each output there
 must be one renaming, one removal of its earlier part, one sync and one change of its mode. A command whose allocations are not
 seen, since they are not those of the C library, is told too.
-Then it counts the calls for one and for a thousand packets. Its status is 1 where something was otherwise.
+Then it counts the calls for one and for a thousand packets, and prints the table of docs/BENCHMARK.md. Its status is 1 where something
+was otherwise.
 """
 
 import os
@@ -131,10 +132,11 @@ def unlike(name, calls, outputs):
     return len(wrong)
 
 
-def fail_all(runner, name):
-    """Lets each call of a command fail; tells how many runs were otherwise than they must be."""
+def fail_all(runner, name, made):
+    """Lets each call of a command fail; tells how many runs were otherwise than they must be, and adds the calls to those made."""
     words, outputs = COMMANDS[name]
     answer, whole, calls = runner.run(words)
+    made[name] = calls
     if answer != (0, ""):
         print(f"{name}: {answer} with no fault")
         return 1
@@ -166,7 +168,7 @@ def span(numbers):
 
 
 def after_opening(calls):
-    """The allocations behind the first read or write that comes after the last opening."""
+    """The allocations after the first read or write that comes after the last opening."""
     rest = calls[calls.rindex("o") + 1:]
     first = min((rest.find(c) for c in "rw" if c in rest), default=len(rest))
     return rest[first:].count("a")
@@ -189,6 +191,14 @@ def count_calls(runner, packets):
     return counts
 
 
+def show_table(made):
+    """Prints how often each command makes each kind of call."""
+    print(f"\n## Failing calls\n\n| | {' | '.join(f'`{name}`' for name in made)} |\n|{'---|' * (1 + len(made))}")
+    for what, kind in (("allocations", "a"), ("openings", "o"), ("reads", "r"), ("writes", "w"),
+                       ("renamings, removals of an earlier part, syncs, changes of mode, of each", "n")):
+        print(f"| {what} | {' | '.join(str(calls.count(kind)) for calls in made.values())} |")
+
+
 def main():
     if len(sys.argv) != 2:
         sys.exit(__doc__)
@@ -197,15 +207,16 @@ def main():
         for name in os.listdir(SAMPLES):
             shutil.copyfile(os.path.join(SAMPLES, name), runner.path(name))
         runner.put("swapped", SWAPPED)
-        wrong = 0
+        wrong, made = 0, {}
         for name in COMMANDS:
-            wrong += fail_all(runner, name)
+            wrong += fail_all(runner, name, made)
             for into in BECOMES.get(name, []):
                 runner.put(into, runner.run(COMMANDS[name][0])[1][0][0])
         one, many = count_calls(runner, 1), count_calls(runner, 1000)
         for (name, few, behind), (_, more, later) in zip(one, many):
             print(f"{name}: {few} allocations for 1 packet, {more} for 1,000; {behind} and {later} after the outputs are opened")
             wrong += (few != more and name not in HOLDING) or behind != 0 or later != 0
+        show_table(made)
         sys.exit(1 if wrong else 0)
 
 

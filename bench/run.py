@@ -1,195 +1,214 @@
 #!/usr/bin/env python3
-"""Times `pocket` beside `gzip -1` and `cp`. docs/BENCHMARK.md tells how to run it and what it printed.
+"""Measures the program, and prints the tables of docs/BENCHMARK.md, ready to paste: python3 bench/run.py PROGRAM > tables.md
 
-It asserts nothing: it makes a recording from a seed, runs each command, and prints what it took.
+It asserts nothing. Processor time is the program's own and the system's for it together, the least of some runs; memory is the greatest
+that was resident; instructions are counted by valgrind (without it these tables are left out), as what one packet more costs. All inputs
+are made from seeds in a temporary folder of some 600 MB, which is removed. On a quiet machine it takes under ten minutes; --quick takes a
+small part of all, and its times mean little. --beside names a program in plain C, to count it too.
 """
 
 import argparse
-import ctypes
 import os
-import platform
-import random
-import subprocess
+import shutil
+import sys
 import tempfile
-import time
 
-BITS = 1024
-WIDTH = BITS // 8
-LAST = 2**32 - 1
-
-# A new mask each 1,000 packets; mask and whole content each 200.
-PLAN = f"1000,{LAST},1000,p\n200,{LAST},200,fr\n"
-
-# Each 101st packet comes twice. Each 53rd is lost, and three in a row out of each 1,000.
-SCRIPT = f"repeat,101,{LAST},101,1\ndrop,53,{LAST},53\n" + "".join(
-    f"drop,{first},{LAST},1000\n" for first in (777, 778, 779)
-)
-
-# Rows of ten packets each, one behind the other, over 100,000 packets.
-ROWED = 100_000
-SHORT_ROWS = "".join(f"{first},{first + 9},5,f\n" for first in range(0, ROWED, 10))
+import measure
+import recordings
+from commands import Bench, prepared
+from recordings import KINDS
 
 
-class Folder:
-    """The folder in which all files of a run lie."""
-
-    def __init__(self, path):
-        self.path = path
-
-    def at(self, name):
-        return os.path.join(self.path, name)
-
-    def size(self, name):
-        return os.path.getsize(self.at(name))
-
-    def write(self, name, text):
-        with open(self.at(name), "w", encoding="ascii") as out:
-            out.write(text)
-
-    def last_line(self, name):
-        with open(self.at(name), encoding="ascii") as lines:
-            return lines.readlines()[-1].strip()
-
-    def record(self, packets, seed):
-        """Writes a recording: a counter of 16 bits, four noisy bits, a byte that is new in one packet out of four,
-        and a quiet rest, of which one bit turns in one packet out of 64."""
-        draw = random.Random(seed)
-        packet = bytearray(draw.randbytes(WIDTH))
-        with open(self.at("recording"), "wb") as out:
-            for number in range(packets):
-                noise = draw.getrandbits(32)
-                packet[0:2] = (number % 65_536).to_bytes(2, "big")
-                packet[2] = packet[2] & 0xF0 | noise & 0x0F
-                if noise >> 8 & 3 == 0:
-                    packet[3] = noise >> 16 & 0xFF
-                if noise >> 24 < 4:
-                    packet[draw.randrange(4, WIDTH)] ^= 1 << draw.randrange(8)
-                out.write(packet)
+def fewer(bench, packets):
+    """How many packets are timed."""
+    return max(packets // 20, 100) if bench.quick else packets
 
 
-def commands(program, folder):
-    """The words of each command, and the name of the file that it reads."""
-    at = folder.at
-    return {
-        "compress": ("recording", [
-            program, "compress", f"in={at('recording')}", f"out={at('store')}", f"bits={BITS}", "apid=100",
-            "robust=2", f"plan={at('plan')}"]),
-        "play": ("store", [
-            program, "play", f"in={at('store')}", f"out={at('played')}", f"report={at('report')}", "apid=100",
-            f"script={at('script')}"]),
-        "restore": ("played", [
-            program, "restore", f"in={at('played')}", f"out={at('restored')}", f"report={at('listing')}",
-            f"bits={BITS}", "apid=100"]),
-    }
+def tools(bench, size):
+    """MB of the recording in a second, of others beside; their outputs are left in the folder."""
+    rec, rate = bench.at("rec"), []
+    for name in ("gzip", "zstd"):
+        if not shutil.which(name):
+            rate += ["-", "-"]
+            continue
+        rate.append(size / measure.best([name, "-1", "-c", rec], bench.rounds, bench.at(name)).seconds / 1e6)
+        rate.append(size / measure.best([name, "-d", "-c", bench.at(name)], bench.rounds).seconds / 1e6)
+    return rate + [size / measure.best(["cp", rec, bench.at("copy")], bench.rounds).seconds / 1e6]
 
 
-def took(words, output):
-    """The seconds that a command takes: by the clock, in its own code, and in the system."""
-    with open(output, "wb") as out:
-        begun = time.perf_counter()
-        child = subprocess.Popen(words, stdout=out)
-        _, status, used = os.wait4(child.pid, 0)
-        clock = time.perf_counter() - begun
-    child.returncode = os.waitstatus_to_exitcode(status)
-    if child.returncode != 0:
-        print(f"{' '.join(words)} ended with {child.returncode}")
-    return clock, used.ru_utime, used.ru_stime
+def timed_kinds(bench, sizes):
+    """The rows of the kinds' times; those of their sizes are added."""
+    for kind in KINDS:
+        packets = fewer(bench, kind.timed)
+        recordings.record(bench.at("rec"), kind.bits, packets, kind.moves)
+        size, rates, memory = bench.size("rec"), [], []
+        for words in (bench.compress(kind.bits, kind.schedule), bench.restore(kind.bits)):
+            took = measure.best(words, bench.rounds)
+            rates += [round(packets / took.seconds), size / took.seconds / 1e6]
+            memory.append(took.memory)
+        yield kind.name, kind.bits, packets, *rates, *tools(bench, size)
+        parts = [f"{100 * bench.size(name) / size:.1f} %" if os.path.exists(bench.at(name)) else "-" for name in ("store", "gzip", "zstd")]
+        sizes.append((kind.name, kind.bits, packets, size, *parts, *memory))
 
 
-def show_time(label, words, rounds, output=os.devnull):
-    """Prints the round of a command that took the least time."""
-    clock, own, system = min(took(words, output) for _ in range(rounds))
-    print(f"{label:36}{clock:8.2f}{own:8.2f}{system:8.2f}", flush=True)
+def counted_beside(bench, kind):
+    """The instructions of compress and restore of the program in plain C; what it writes has to be the same."""
+    at, rows = bench.at, [bench.at("plan")] if kind.schedule else []
+    words = [[bench.ref, "compress", at("rec"), at("ref.store"), str(kind.bits), "100", "2", *rows],
+             [bench.ref, "restore", at("ref.store"), at("ref.restored"), at("ref.report"), str(kind.bits), "100"]]
+    counts = [measure.instructions(those) for those in words]
+    if any(recordings.read(at(name)) != recordings.read(at(f"ref.{name}")) for name in ("store", "restored", "report")):
+        sys.exit(f"{kind.name}: {bench.ref} writes something else")
+    return counts
 
 
-def show_times(program, folder, rounds):
-    print(f"\nSeconds, the best of {rounds}                 clock    code  system")
-    for name, (read, words) in commands(program, folder).items():
-        path = folder.at(read)
-        show_time(f"{name} of the {read}", words, rounds)
-        show_time("  gzip -1 of the same", ["gzip", "-1", "-c", path], rounds, folder.at(read + ".gz"))
-        if name == "restore":
-            piped = ["in=-" if word.startswith("in=") else word for word in words]
-            show_time("  the same from a pipe", ["sh", "-c", 'cat "$0" | "$@"', path, *piped], rounds)
-            show_time("  gzip -d of the recording", ["gzip", "-d", "-c", folder.at("recording.gz")], rounds,
-                      folder.at("copy"))
-        show_time("  cp of the same", ["cp", path, folder.at("copy")], rounds)
+def counted_kinds(bench):
+    """The rows of the kinds' instructions."""
+    for kind in KINDS:
+        packets, own, plain = kind.counted // (10 if bench.quick else 1), [], []
+        for turn in (1, 2):
+            recordings.record(bench.at("rec"), kind.bits, turn * packets, kind.moves)
+            own.append([measure.instructions(words) for words in (bench.compress(kind.bits, kind.schedule), bench.restore(kind.bits))])
+            plain.append(counted_beside(bench, kind) if bench.ref else own[-1])
+        row = []
+        for once, twice, once_plain, twice_plain in zip(*own, *plain):
+            cost, beside = (twice - once) / packets, (twice_plain - once_plain) / packets
+            row += [round(cost), round(beside), cost / beside] if bench.ref else [round(cost)]
+        yield kind.name, kind.bits, *row
 
 
-def show_sizes(folder):
-    whole = folder.size("recording")
-    print("\nBytes                                      of the recording")
-    for name in ["recording", "recording.gz", "store", "store.gz", "played", "played.gz", "restored"]:
-        print(f"{name:24}{folder.size(name):12}{100 * folder.size(name) / whole:10.2f} %")
-    print(f"packets,delivered,dropped,repeats,first,widest: {folder.last_line('report')}")
-    print(f"end,arrivals,written,repeats: {folder.last_line('listing')}")
+def verbs(bench):
+    """The rows of the nine verbs: times of many packets, instructions of one more, of a run over one, and memory."""
+    counted = 200 if bench.quick else 2000
+    counts = []
+    for packets in (1, counted, 2 * counted) if measure.can_count() else ():
+        counts.append([measure.instructions(words) for words in prepared(bench, packets).values()])
+    timed = fewer(bench, 100_000)
+    for place, (name, words) in enumerate(prepared(bench, timed).items()):
+        packets = min(timed, 10_000) if name == "trial" else timed
+        took = measure.best(words, bench.rounds)
+        more = [round((counts[2][place] - counts[1][place]) / counted), counts[0][place]] if counts else ["-", "-"]
+        rate = "-" if name == "forecast" else packets * 128 / took.seconds / 1e6
+        yield name, packets, round(packets / took.seconds), rate, *more, took.memory
 
 
-def show_rows(program, folder, rounds):
-    """What the rows of a schedule cost."""
-    with open(folder.at("recording"), "rb") as whole, open(folder.at("front"), "wb") as out:
-        out.write(whole.read(ROWED * WIDTH))
-    print(f"\nSeconds of compress, {ROWED} packets     clock    code  system")
-    for label, text in [
-        ("no rows", ""),
-        ("10,000 rows of ten packets", SHORT_ROWS),
-        ("a row over all, and these 10,000", f"0,{LAST},7,f\n{SHORT_ROWS}"),
-    ]:
-        folder.write("rows", text)
-        words = [program, "compress", f"in={folder.at('front')}", f"out={folder.at('copy')}", f"bits={BITS}",
-                 "apid=100", "robust=2", f"plan={folder.at('rows')}"]
-        show_time(label, words, rounds)
+def cost(bench, words_of, packets):
+    """The instructions that one packet more costs, and the memory, in kilobytes, of the run over the more: words_of(packets) makes inputs."""
+    counts = [measure.instructions(words_of(turn * packets)) for turn in (1, 2)]
+    return round((counts[1] - counts[0]) / packets), measure.used(words_of(2 * packets)).memory
 
 
-def adopt_orphans():
-    """A command whose parent has ended becomes a child of this script (prctl PR_SET_CHILD_SUBREAPER of Linux)."""
-    ctypes.CDLL(None).prctl(36, 1, 0, 0, 0)
+def of_bits(bench, bits, schedule=""):
+    """What makes the inputs of compress, and of restore, of so many bits."""
+    def compressed(packets):
+        recordings.record(bench.at("rec"), bits, packets)
+        return bench.compress(bits, schedule)
+
+    def restored(packets):
+        bench.store(bits, packets)
+        return bench.restore(bits)
+
+    return compressed, restored
 
 
-def greatest_memory(words):
-    """The greatest resident memory of a command, in kilobytes.
-
-    A shell starts the command and ends. What the system tells of a child counts the memory of its parent as it was
-    started, too, and that of a shell is small.
-    """
-    shell = subprocess.run(["sh", "-c", '"$@" > /dev/null & echo $!', "sh", *words], stdout=subprocess.PIPE, check=True)
-    _, _, used = os.wait4(int(shell.stdout), 0)
-    return used.ru_maxrss
-
-
-def show_memory(program, folder, seed):
-    print("\nGreatest resident memory, kilobytes   compress    play  restore")
-    for packets in (1_000, 1_000_000):
-        folder.record(packets, seed)
-        compress, play, restore = [greatest_memory(words) for _, words in commands(program, folder).values()]
-        print(f"{packets:7} packets of {BITS} bits{compress:17}{play:8}{restore:9}")
-    print(f"A command that does nothing{greatest_memory(['true']):19}")
+def of_size(bench):
+    """The rows of growth by packets and by bits."""
+    of = [("packets of 1,024 bits", 1024, count) for count in (1000, 10_000, 100_000)]
+    of += [("bits of a packet", bits, min(2000, 40_000_000 // bits)) for bits in (1, 8, 64, 1024, 8192, 49_152)]
+    for name, bits, packets in of:
+        compressed, restored = of_bits(bench, bits)
+        packets = max(packets // (10 if bench.quick else 1), 20)
+        both = [cost(bench, words, packets) for words in (compressed, restored)]
+        yield name, 2 * packets if "packets" in name else bits, *both[0], *both[1]
 
 
-def show(program, folder, given):
-    print(f"{platform.system()} {platform.release()}, {os.cpu_count()} processors, load {os.getloadavg()[0]:.1f}")
-    print(f"seed {given.seed}, {given.packets} packets of {BITS} bits")
-    folder.record(given.packets, given.seed)
-    folder.write("plan", PLAN)
-    folder.write("script", SCRIPT)
-    show_times(program, folder, given.rounds)
-    show_sizes(folder)
-    show_rows(program, folder, given.rounds)
-    show_memory(program, folder, given.seed)
-    print(f"\nload at the end {os.getloadavg()[0]:.1f}")
+def of_one(bench):
+    """The rows of growth by streams, window and fields, each of one verb."""
+    packets = 128 if bench.quick else 1280
+    for given, verb, values in (("streams", "multi", (1, 8, 64)), ("window", "late", (0, 8, 64)), ("fields", "table", (1, 10, 40, 256))):
+        for value in values:
+            words_of = lambda count: next(it for name, it in prepared(bench, count, **{given: value}).items() if name.startswith(verb))
+            yield given, value, f"`{verb}`", *cost(bench, words_of, packets)
+
+
+def of_rows(bench):
+    """The rows of growth by the rows of a side text: compress with a schedule, play with a script, and a forecast with both."""
+    for kind in recordings.ROWS:
+        for rows in (1, 100) if bench.quick else (1, 10, 100, 1000, 10_000):
+            schedule, script = recordings.schedule_rows(kind, rows), recordings.script_rows(kind, rows)
+
+            def played(count):
+                bench.store(64, count)
+                recordings.write(bench.at("script"), script)
+                return bench.words("play", **{"in": "@store"}, out="@played", report="@report", apid=100, script="@script")
+
+            def foreseen(count):
+                recordings.write(bench.at("plan"), schedule)
+                recordings.write(bench.at("script"), script)
+                return bench.words("forecast", out="@copy", packets=count, robust=2, plan="@plan", script="@script")
+
+            each = [(of_bits(bench, 64, schedule)[0], 1000), (played, 1000), (foreseen, 10_000)]
+            yield kind, rows, *(cost(bench, words, packets)[0] for words, packets in each), measure.used(foreseen(1_000_000)).memory
+
+
+def largest(bench):
+    """The rows of the largest trial, and of the dearest forecasts that were found: texts of 1 MiB over all of 1,000,000 packets."""
+    last, rounds = 999_999, 1 if bench.quick else 2
+    trial = bench.words("trial", seed=1, packets=10_000, bits=4096, robust=2, out="@copy")
+    foreseen = bench.words("forecast", out="@copy", packets=last + 1, robust=2, plan="@plan", script="@script")
+    yield "`trial` of 10,000 packets of 4,096 bits", "-", *measure.best(trial, bench.rounds)
+    texts = [(f"each step and remainder, rows `{flags}`", f"{{first}},{{last}},{{step}},{flags}\n", "drop,{first},{last},{step}\n")
+             for flags in ("r", "fr")]
+    texts += [("the step 1, rows `r`", "{first},{last},1,r\n", "drop,{first},{last},1\n")]
+    for name, schedule, script in texts:
+        rows = []
+        for side, row in (("plan", schedule), ("script", script)):
+            text = recordings.step_rows(row, last, 2**16 if bench.quick else 2**20)
+            recordings.write(bench.at(side), text)
+            rows.append(text.count("\n"))
+        yield f"`forecast`, {name}", f"{rows[0]:,} and {rows[1]:,}", *measure.best(foreseen, rounds)
+
+
+def tables(bench):
+    """The titles, heads and rows of all tables; rows are measured as they are asked for."""
+    sizes = []
+    rates = ["`compress`: packets", "MB", "`restore`: packets", "MB", "`gzip -1`: MB", "`gzip -d`", "`zstd -1`", "`zstd -d`", "`cp`"]
+    yield "Packets and megabytes in a second of processor time", ["Recording", "Bits", "Packets", *rates], timed_kinds(bench, sizes)
+    heads = ["Store", "`gzip -1`", "`zstd -1`", "KB of `compress`", "of `restore`"]
+    yield "Sizes and memory", ["Recording", "Bits", "Packets", "Bytes", *heads], sizes
+    heads = ["Packets", "Packets a second", "MB a second", "Instructions for a packet", "of a run over one", "KB"]
+    yield "The nine verbs", ["Verb", *heads], verbs(bench)
+    if measure.can_count():
+        heads = ["`compress`", "C", "Ratio", "`restore`", "C", "Ratio"] if bench.ref else ["`compress`", "`restore`"]
+        yield "Instructions for a packet", ["Recording", "Bits", *heads], counted_kinds(bench)
+        yield "Growth by packets and bits", ["What grows", "To", "`compress`", "KB", "`restore`", "KB"], of_size(bench)
+        yield "Growth by streams, window and fields", ["What grows", "To", "Verb", "Instructions", "KB"], of_one(bench)
+        yield "Growth by rows", ["How rows lie", "Rows", "`compress`", "`play`", "`forecast`", "KB of `forecast`"], of_rows(bench)
+    yield "The largest trial and forecasts", ["Command", "Rows", "Seconds", "KB"], largest(bench)
+
+
+def show(bench, only):
+    before = measure.load()
+    for title, heads, rows in tables(bench):
+        if rows and (only in title or isinstance(rows, list)):
+            measure.show_table(title, heads, rows)
+    print(f"\nA command that does nothing takes {measure.used(['true']).memory:,} KB.")
+    print(measure.told_by("bench/run.py", f", the least of {bench.rounds} rounds{', --quick' if bench.quick else ''}", before))
 
 
 def main():
-    words = argparse.ArgumentParser(description="Times pocket beside gzip -1 and cp. It asserts nothing.")
+    words = argparse.ArgumentParser(description=__doc__, formatter_class=argparse.RawDescriptionHelpFormatter)
     words.add_argument("program", help="the built program, as crates/pocket/out/pocket")
-    words.add_argument("--seed", type=int, default=1)
-    words.add_argument("--packets", type=int, default=409_600, help="of the timed recording; 409,600 are 52 MB")
-    words.add_argument("--rounds", type=int, default=3, help="how often a command is timed; the least is shown")
-    words.add_argument("--folder", help="where the files are made, 400 MB; they are removed at the end")
+    words.add_argument("--quick", action="store_true", help="a small part of all, to see that it runs")
+    words.add_argument("--only", default="", help="the tables alone whose title has this; sizes come with packets and megabytes")
+    words.add_argument("--rounds", type=int, default=5, help="how often a command is timed; the least is shown")
+    words.add_argument("--beside", help="a program of plain C to count beside, of the words compress IN OUT BITS APID R [SCHEDULE] and "
+                       "restore IN OUT REPORT BITS APID")
+    words.add_argument("--folder", help="where the files are made, 600 MB; they are removed at the end")
     given = words.parse_args()
-    adopt_orphans()
-    with tempfile.TemporaryDirectory(dir=given.folder) as path:
-        show(os.path.abspath(given.program), Folder(path), given)
+    measure.adopt_orphans()
+    with tempfile.TemporaryDirectory(dir=given.folder) as folder:
+        show(Bench(given, folder), given.only)
 
 
 if __name__ == "__main__":

@@ -1,0 +1,184 @@
+#!/usr/bin/env python3
+"""Measures the library for C on each processor, and prints the tables of docs/BENCHMARK.md: python3 bench/library.py > tables.md
+
+At the top, after the gate's proofs (crates/pocket_c/out and crates/pocket/out); with --unaligned the libraries that leave accesses which are
+not aligned to the processor are measured too. It takes gcc, Debian's cross compilers and qemu-user, and prints what is left out without them.
+The libraries of other processors are built if they are not there (library/targets.mk). Instructions are counted by a plugin of qemu-user
+(instructions.c), on x86-64 too, and those of the program beside by valgrind; they are the same in each run, and no times.
+"""
+
+import argparse
+import os
+import re
+import shutil
+import subprocess
+import sys
+import tempfile
+
+import measure
+from recordings import LAST
+
+HERE = os.path.dirname(os.path.abspath(__file__))
+TOP = os.path.dirname(HERE)
+NATIVE = "x86-64"
+EMULATORS = {NATIVE: "qemu-x86_64", "aarch64": "qemu-aarch64", "riscv64": "qemu-riscv64"}
+ALONE = "pocket_sender_open pocket_send pocket_receiver_open pocket_receive pocket_counts pocket_close".split()
+FLAGS = "-std=c99 -Wall -Wextra -pedantic -Werror -O2 -static -Wl,--gc-sections -Wl,--wrap=rattle_alloc".split()
+
+# How many packets are counted, by their bits, and the kinds of inputs, each with the flags of the program's schedule.
+COUNTED = {8: 1600, 64: 1600, 1024: 480, 8192: 160, 49_152: 32}
+KINDS = {"quiet": "", "noisy": "", "turned": "fr", "dearest": "pfr"}
+
+
+class Processor:
+    """The library of one processor, and what runs it."""
+
+    def __init__(self, name, unaligned, folder):
+        self.name, self.folder = name + (", unaligned" if unaligned else ""), folder
+        self.tools = "" if name == NATIVE else f"{name}-linux-gnu-"
+        self.emulator = EMULATORS[name]
+        self.library = f"{TOP}/crates/pocket_c/out/libpocket_c.a"
+        if name != NATIVE:
+            self.library = f"{TOP}/library/out/{name}-linux-gnu{'-unaligned' * unaligned}/libpocket_c.a"
+            self.make = ["make", "-s", "-f", "library/targets.mk", "lib", f"TARGET={name}-linux-gnu", *["unaligned=1"] * unaligned]
+        self.driver = os.path.join(folder, self.name.replace(", ", "-"))
+
+    def lacks(self):
+        """What there is not, or None."""
+        needed = [self.tools + "gcc", self.emulator]
+        missing = [it for it in needed if not shutil.which(it)]
+        if not missing and not os.path.exists(self.library) and self.name != NATIVE:
+            subprocess.run(self.make, cwd=TOP, stdout=subprocess.DEVNULL)
+        return missing or ([] if os.path.exists(self.library) else [self.library])
+
+    def build(self):
+        sources = [f"{HERE}/library.c", f"{TOP}/library/heap.c", self.library]
+        subprocess.run([self.tools + "gcc", *FLAGS, "-o", self.driver, *sources], check=True)
+
+    def sections(self, path):
+        """The bytes of text and constants in a file of objects, and those of its data."""
+        told = subprocess.run([self.tools + "size", "-A", path], check=True, capture_output=True, text=True).stdout
+        found = re.findall(r"^\.(text|rodata|data|bss)\S* +(\d+) ", told, re.M)
+        of = lambda *names: sum(int(size) for name, size in found if name in names)
+        return of("text", "rodata"), of("data", "bss")
+
+    def alone(self):
+        """The sections of senders and receivers without the desk: of the library, with all that they do not need left out."""
+        made = os.path.join(self.folder, "alone.o")
+        roots = [word for name in ALONE for word in ("-u", name)]
+        subprocess.run([self.tools + "ld", "-r", "--gc-sections", *roots, "-o", made, self.library], check=True)
+        return self.sections(made)
+
+    def count(self, words):
+        """The instructions of one run."""
+        run = subprocess.run([self.emulator, "-plugin", f"{self.folder}/instructions.so", *words], capture_output=True, text=True)
+        found = re.search(r"^instructions (\d+)$", run.stderr, re.M)
+        if run.returncode or not found:
+            sys.exit(f"{' '.join(words)}: {run.returncode} {run.stderr[-300:]}")
+        return int(found.group(1))
+
+    def calls(self, bits, kind):
+        """The instructions of a send and of a receive: what one packet more costs, without the making of its input."""
+        packets = COUNTED[bits]
+        costs = []
+        for what in ("inputs", "send", "receive"):
+            once, twice = (self.count([self.driver, str(bits), kind, str(turn * packets), what]) for turn in (1, 2))
+            costs.append((twice - once) / packets)
+        return round(costs[1] - costs[0]), round(costs[2] - costs[1])
+
+    def stack(self, bits, kind):
+        """What is told of forty packets: the heap, the data of the longest packet, and the deepest stacks."""
+        words = [self.emulator, self.driver, str(bits), kind, "40", "stack"]
+        told = subprocess.run(words, check=True, capture_output=True, text=True).stdout.split()
+        found = {name: int(value) for name, value in zip(told[::2], told[1::2])}
+        if found["later"]:
+            sys.exit(f"{self.name}: a send or a receive asked for memory")
+        return found
+
+
+def by_program(native, program, bits, kind):
+    """The instructions that one packet more costs compress and restore, of the same inputs, as valgrind counts them."""
+    at, packets, counts = lambda name: os.path.join(native.folder, name), COUNTED[bits], []
+    with open(at("plan"), "w", encoding="ascii") as out:
+        out.write(f"0,{LAST},1,{KINDS[kind]}\n" if KINDS[kind] else "")
+    for turn in (1, 2):
+        with open(at("rec"), "wb") as out:
+            subprocess.run([native.driver, str(bits), kind, str(turn * packets), "write"], check=True, stdout=out)
+        told = [f"bits={bits}", "apid=100"]
+        compress = ["compress", f"in={at('rec')}", f"out={at('store')}", f"plan={at('plan')}", "robust=2", *told]
+        restore = ["restore", f"in={at('store')}", f"out={at('restored')}", f"report={at('report')}", *told]
+        counts.append([measure.instructions([program, *words]) for words in (compress, restore)])
+    return [round((twice - once) / packets) for once, twice in zip(*counts)]
+
+
+def sizes(processors):
+    """The rows of sizes and stacks."""
+    alone = [it.alone() for it in processors]
+    whole = [it.sections(it.library) for it in processors]
+    deep = [[it.stack(bits, kind) for bits in (8, 1024, 49_152) for kind in KINDS] for it in processors]
+    yield "senders and receivers alone: text and constants", *(text for text, _ in alone)
+    yield "their data", *(data for _, data in alone)
+    yield "the whole library: text and constants", *(text for text, _ in whole)
+    yield "its data", *(data for _, data in whole)
+    for call in ("opening", "send", "receive"):
+        yield f"deepest stack of {'a' if call != 'opening' else 'an'} {call}", *(max(one[call] for one in each) for each in deep)
+
+
+def heaps(processors):
+    """The rows of the heap of an open sender and receiver; on each processor it has to be the same."""
+    for bits in COUNTED:
+        told = [it.stack(bits, "quiet") for it in processors]
+        if len({(it["sender"], it["receiver"]) for it in told}) != 1:
+            sys.exit(f"the heaps differ: {told}")
+        yield bits, told[0]["sender"], told[0]["receiver"]
+
+
+def packets(processors, program, bits_counted):
+    """The rows of instructions: a send and a receive on each processor, and beside them the program's packet."""
+    for bits in bits_counted:
+        for kind in KINDS:
+            made = [it.calls(bits, kind) for it in processors]
+            beside = by_program(processors[0], program, bits, kind) if program and processors[0].name == NATIVE else ["-", "-"]
+            data = processors[0].stack(bits, kind)["data"]
+            yield bits, kind, data, *(one for one, _ in made), *(one for _, one in made), *beside
+
+
+def show(given, folder):
+    subprocess.run(["gcc", "-shared", "-fPIC", "-O2", "-o", f"{folder}/instructions.so", f"{HERE}/instructions.c"], check=True)
+    there, before = [], measure.load()
+    wanted = [(it, False) for it in EMULATORS] + [(it, True) for it in EMULATORS if given.unaligned and it != NATIVE]
+    for name, unaligned in wanted if given.others else wanted[:1]:
+        one = Processor(name, unaligned, folder)
+        missing = one.lacks()
+        if missing:
+            print(f"left out: {one.name}, since there is no {' '.join(missing)}", flush=True)
+            continue
+        one.build()
+        there.append(one)
+    if not there:
+        sys.exit("there is no library to measure")
+    names = [it.name for it in there]
+    measure.show_table("The library: sizes and stacks", ["Bytes", *names], sizes(there))
+    measure.show_table("The library: heap", ["Bits of an input", "Bytes of an open sender", "Of an open receiver"], heaps(there))
+    aligned = [it for it in there if "unaligned" not in it.name]
+    program = os.path.abspath(given.program) if os.path.exists(given.program) and measure.can_count() else None
+    of = [f"{call}: {it.name}" for call in ("Send", "Receive") for it in aligned]
+    heads = ["Bits", "Inputs", "Data, bytes at most", *of, "`compress`", "`restore`"]
+    measure.show_table("The library: instructions for a packet", heads, packets(aligned, program, (8, 1024) if given.quick else COUNTED))
+    how = "".join(f", {word}" for word, is_so in (("--native", not given.others), ("--quick", given.quick)) if is_so)
+    print(measure.told_by("bench/library.py", how, before))
+
+
+def main():
+    words = argparse.ArgumentParser(description=__doc__, formatter_class=argparse.RawDescriptionHelpFormatter)
+    words.add_argument("--program", default=f"{TOP}/crates/pocket/out/pocket", help="the program beside the calls, for x86-64")
+    words.add_argument("--unaligned", action="store_true", help="measure (and build) these libraries too")
+    words.add_argument("--native", dest="others", action="store_false", help=f"measure the library of {NATIVE} alone")
+    words.add_argument("--quick", action="store_true", help="packets of 8 and 1,024 bits alone")
+    given = words.parse_args()
+    with tempfile.TemporaryDirectory() as folder:
+        show(given, folder)
+
+
+if __name__ == "__main__":
+    main()
