@@ -1,5 +1,5 @@
 -- What a read ahead leaves in its room.
-use Rattle.std.proofs.Common.{◌≡◌, ℕ, ◌+◌, ◌-◌, ◌<◌, ◌≤◌, All, Fits, w8, get_or, List, ◌++◌, length, take, drop, take-take, sym, ap, ◌∙◌, length-append, arith}
+use Rattle.std.proofs.Common.{◌≡◌, ℕ, ◌+◌, ◌-◌, ◌<◌, ◌≤◌, All, Fits, w8, get_or, List, ◌++◌, length, take, drop, take-take, ap, ◌∙◌, length-append, arith}
 use Rattle.std.proofs.lemmas.List.{take-append-le, length-take-le, get_or_default}
 use borrow.Rule.Slice.PartMut.{put_mid, post_of}
 use Rattle.desk_ports.proofs.Transfers.{take-put_mid-add}
@@ -20,7 +20,3 @@ read_after len k n m items room first buf sum is within few long =
 -- a number that fits into a byte is below 256
 pub All-fits : (xs : List ℕ) → ((k : ℕ) → Fits w8 (get_or xs k 0)) → All (λ b. b < 256) xs
 All-fits xs fit = λ k d within. rw (get_or_default xs k d 0 within) (omega (arith, fit k))
-
--- a room that was lengthened has the same front
-pub take-front : (k : ℕ) (longer room : List ℕ) (len : ℕ) → k ≤ len → take len longer ≡ room → take k longer ≡ take k room
-take-front k longer room len within front = sym (take-take k len longer within) ∙ ap (take k) front

@@ -9,9 +9,9 @@ pub record ReadsOn (before after : List ℕ) (old new : Meanings) : Type 0 where
   pub joined : after ≡ before ++ bytes
   pub moved : Moves old new inlet.Main bytes
 
--- the bytes that are ahead begin and end within the room, and there is never more memory for it, so that none is taken
+-- the bytes that are ahead begin and end within the room, and there is never more room, so that no memory is taken
 pub record IsAhead (next filled room capacity : ℕ) : Type 0 where
   pub ordered : next ≤ filled
   pub within : filled ≤ room
-  pub most : room ≤ 131072
+  pub whole : room ≡ 131072
   pub taken : capacity ≡ 131072

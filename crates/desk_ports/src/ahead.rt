@@ -1,20 +1,17 @@
 //! Bytes of the main input that are read ahead.
 
-ghost use Rattle.std.specs.Prelude.{◌≡◌, ◌+◌, ◌-◌, ◌<◌, ◌≤◌, [], length, take, drop, true, false, vec_len, Ok, All, IfOk, OnErr};
-ghost use Rattle.std.specs.Vec.{vec_capacity};
+ghost use Rattle.std.specs.Prelude.{◌≡◌, ◌+◌, ◌-◌, ◌<◌, ◌≤◌, [], length, take, drop, true, false, Ok, All, IfOk, OnErr};
 ghost use Rattle.std.specs.Io.KnownBytes.{IsAtEnd};
 ghost use Rattle.desk_ports.specs.Meanings.{IsReadyIn, HasReadCause, left};
 ghost use Rattle.desk_ports.specs.ReadAhead.{ReadsOn};
 
 use crate::desk::{Desk, Failed, Inlet};
+use bit_vectors::zero_bytes;
 use std::alloc::{AllocError, Global};
 use std::marker::Model;
 
 /// The most bytes that can be read ahead.
 pub const MOST_AHEAD: usize = 131_072;
-
-/// The most bytes of the first read. Each further one may have twice as many, up to all.
-const FIRST_AHEAD: usize = 4096;
 
 /// Bytes of the main input of a desk that were read and not yet passed. Contracts see these bytes: the rest of the input
 /// is these bytes, and then what the desk has left.
@@ -38,12 +35,12 @@ impl Model for ReadAhead {
 }
 
 impl ReadAhead {
-    /// Nothing is ahead. Allocates the memory for all bytes, of which none is written before it is needed.
+    /// Nothing is ahead. Allocates the room for all bytes.
     pub fn open(alloc: Global) -> Result<ReadAhead, AllocError>
         ensures { IfOk result (λ ahead. ahead ≡ []) }
     {
         Ok(ReadAhead {
-            room: Vec::with_capacity(alloc, MOST_AHEAD)?,
+            room: zero_bytes(alloc, MOST_AHEAD)?,
             next: 0,
             filled: 0,
         })
@@ -102,29 +99,12 @@ impl ReadAhead {
         ensures unchanged { OnErr result (self.new ≡ self.old) }
         ensures cause { HasReadCause (D.counts desk.old) (D.counts desk.new) result }
     {
-        lengthen(&mut self.room);
         move_to_front(&mut self.room, self.next, self.filled);
         self.filled -= self.next;
         self.next = 0;
         let moved = desk.read(Inlet::Main, &mut self.room[self.filled..])?;
         self.filled += moved;
         Ok(moved)
-    }
-}
-
-// Doubles a room that is shorter than its memory.
-fn lengthen(room: &mut Vec<u8>)
-    requires most { vec_len room.old ≤ 131072 }
-    requires taken { vec_capacity room.old ≡ 131072 }
-    ensures front { take (vec_len room.old) room.new.items ≡ room.old.items }
-    ensures longer { vec_len room.old < 131072 → vec_len room.old < vec_len room.new }
-    ensures no_shorter { vec_len room.old ≤ vec_len room.new }
-    ensures most { vec_len room.new ≤ 131072 }
-    ensures taken { vec_capacity room.new ≡ 131072 }
-{
-    let length = (2 * room.len()).max(FIRST_AHEAD).min(MOST_AHEAD);
-    for _missing in room.len()..length {
-        room.push_reserved(0);
     }
 }
 
