@@ -1,5 +1,6 @@
 -- The places of a vector's ones.
-use Rattle.std.specs.Prelude.{ℕ, ◌+◌, ◌-◌, ◌*◌, ◌%◌, ◌^◌, ◌<◌, ◌≤◌, Bool, List, [], ◌∷◌, ◌++◌, length, map, take, reverse, if◌then◌else◌}
+use Rattle.std.specs.Prelude.{◌≡◌, ℕ, ◌+◌, ◌-◌, ◌*◌, ◌%◌, ◌^◌, ◌<◌, ◌≤◌, Bool, List, [], ◌∷◌, ◌++◌, length, map, take, reverse, if◌then◌else◌, slice_index}
+use Rattle.std.specs.Int.{bit_at}
 use Rattle.std.specs.Int.RustNames.{count_ones}
 use Rattle.bit_vectors.specs.Vectors.{number_bits}
 use Rattle.run_code.specs.declared.descending.WordOnes.{WordOnes}
@@ -34,3 +35,10 @@ ones_under n weight = count_ones (n % 2 ^ weight)
 -- how many zeros it has there
 unfoldable pub zeros_under : ℕ → ℕ → ℕ
 zeros_under n weight = weight - ones_under n weight
+
+-- Six words that tell, bit by bit, the zeros of a word below each weight: at this weight they have the bits of that number,
+-- from the lowest up.
+pub record AreZeroCounts (word : ℕ) (counts : List ℕ) : Type 0 where
+  pub small : word < 2 ^ 64
+  pub bits : (level weight : ℕ) → level < 6 → weight < 64 → bit_at (slice_index counts level) weight ≡ bit_at (zeros_under word weight) level
+  pub fits : (level : ℕ) → level < 6 → slice_index counts level < 2 ^ 64

@@ -1,4 +1,5 @@
-//! The bits of a vector at the ones of another, from the highest place down (CCSDS 124.0-B-1).
+//! The bits of a vector at the ones of another, from the highest place down (CCSDS 124.0-B-1). The calls with moves keep
+//! how the bits of each word with many ones move, so that a vector that stays costs no new moves.
 
 ghost use Rattle.std.specs.Prelude.{◌≡◌, ◌+◌, ◌<◌, ◌≤◌, ◌↔◌, ◌++◌, length, count_by, IsErr, IfErr, OnOk, OnErr};
 ghost use Rattle.bit_vectors.specs.Eye.{bits_left};
@@ -6,6 +7,7 @@ ghost use Rattle.bit_vectors.specs.Reading.{MovesOn, Gives};
 ghost use Rattle.run_code.specs.Places.{places_down};
 ghost use Rattle.run_code.specs.Extraction.{extract, SameOutside, parse_filled};
 
+use crate::moves::WordMoves;
 use crate::words::{gathered, spread};
 use bit_vectors::{BitEye, BitFault, BitPen, Bits};
 
@@ -16,6 +18,19 @@ pub fn put_extract(pen: &mut BitPen, a: &Bits, b: &Bits)
     requires room { length pen.old.bits + count_by (λ bit. bit) b.now ≤ pen.old.room }
     ensures bits { pen.new.bits ≡ pen.old.bits ++ extract a.now b.now }
     ensures room { pen.new.room ≡ pen.old.room }
+{
+    put_extract_with(pen, a, b, &mut []);
+}
+
+/// Appends the bits of `a` at the ones of `b`, which has the same number of places, from the highest place down.
+/// The pen has room for them. The moves, one for each word of `b`, are those of any words: they are then those of the words
+/// of `b` with many ones, and where they are so already none is found anew. If there are fewer, the others are not kept.
+pub fn put_extract_with(pen: &mut BitPen, a: &Bits, b: &Bits, moves: &mut [WordMoves])
+    requires places { length a.now ≡ length b.now }
+    requires room { length pen.old.bits + count_by (λ bit. bit) b.now ≤ pen.old.room }
+    ensures bits { pen.new.bits ≡ pen.old.bits ++ extract a.now b.now }
+    ensures room { pen.new.room ≡ pen.old.room }
+    ensures count { length moves.new ≡ length moves.old }
 {
     let mut held = 0;
     let mut count = 0;
@@ -30,7 +45,7 @@ pub fn put_extract(pen: &mut BitPen, a: &Bits, b: &Bits)
             held = 0;
             count = 0;
         }
-        held = gathered(held, a.word(index), at, more);
+        held = gathered(held, a.word(index), at, more, moves, index as usize);
         count += more;
     }
     if count > 0 {
@@ -41,7 +56,6 @@ pub fn put_extract(pen: &mut BitPen, a: &Bits, b: &Bits)
 /// Takes a bit for each 1 of `b`, which has as many places as `a`, from the highest place down, and sets
 /// the bit of `a` at that place to it. The other bits of `a` are unchanged. If the bits end early, those at the
 /// ones of `b` may be any bits. No bit is wrong.
-#[inline(never)]
 pub fn take_into(eye: &mut BitEye, a: &mut Bits, b: &Bits) -> Result<(), BitFault>
     requires { length a.old ≡ length b.now }
     ensures places { length a.new ≡ length a.old }
@@ -53,6 +67,31 @@ pub fn take_into(eye: &mut BitEye, a: &mut Bits, b: &Bits) -> Result<(), BitFaul
     ensures at_end { OnErr result (eye.new.place ≡ length eye.old.bits) }
     ensures reading { Gives (λ _. a.new) result eye.new
         (parse_filled (places_down b.now) a.old (bits_left eye.old)) }
+{
+    take_into_with(eye, a, b, &mut [])
+}
+
+/// Takes a bit for each 1 of `b`, which has as many places as `a`, from the highest place down, and sets
+/// the bit of `a` at that place to it. The other bits of `a` are unchanged. If the bits end early, those at the
+/// ones of `b` may be any bits. No bit is wrong. The moves are as in `put_extract_with`.
+#[inline(never)]
+pub fn take_into_with(
+    eye: &mut BitEye,
+    a: &mut Bits,
+    b: &Bits,
+    moves: &mut [WordMoves],
+) -> Result<(), BitFault>
+    requires { length a.old ≡ length b.now }
+    ensures places { length a.new ≡ length a.old }
+    ensures moves { MovesOn eye.old eye.new }
+    ensures taken { OnOk result (bits_left eye.old ≡ extract a.new b.now ++ bits_left eye.new) }
+    ensures others { SameOutside b.now a.old a.new }
+    ensures early { IsErr result ↔ (length (bits_left eye.old) < count_by (λ bit. bit) b.now) }
+    ensures fault { IfErr result (λ fault. fault ≡ BitFault.EndsEarly (length eye.old.bits)) }
+    ensures at_end { OnErr result (eye.new.place ≡ length eye.old.bits) }
+    ensures reading { Gives (λ _. a.new) result eye.new
+        (parse_filled (places_down b.now) a.old (bits_left eye.old)) }
+    ensures count { length moves.new ≡ length moves.old }
 {
     let mut ahead = 0;
     let mut shown = 0;
@@ -70,7 +109,7 @@ pub fn take_into(eye: &mut BitEye, a: &mut Bits, b: &Bits) -> Result<(), BitFaul
                 return Err(BitFault::EndsEarly { bit: eye.size() });
             }
         }
-        let word = spread(a.word(index), at, ahead, count);
+        let word = spread(a.word(index), at, ahead, count, moves, index as usize);
         a.set_word(index, word);
         eye.pass(count);
         ahead <<= count % 64;

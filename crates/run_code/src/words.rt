@@ -1,5 +1,6 @@
 //! The bits of one word at the ones of another, in either order. Each loop visits the ones in turn, always the lowest
-//! that is left in a word, so a word of zeros costs one comparison. If there are many, all bits are moved at once.
+//! that is left in a word, so a word of zeros costs one comparison. If there are many, all bits are moved at once, and how they
+//! move is kept with the word `at`.
 
 ghost use Rattle.std.specs.Prelude.{◌≡◌, ℕ, ◌+◌, ◌-◌, ◌*◌, ◌/◌, ◌%◌, ◌^◌, ◌<◌, ◌≤◌, ◌++◌, length, take};
 ghost use Rattle.std.specs.Int.{bit_at};
@@ -8,6 +9,7 @@ ghost use Rattle.std.specs.Int.RustNames.{count_ones};
 ghost use Rattle.bit_vectors.specs.Vectors.{bits_number, number_bits};
 ghost use Rattle.run_code.specs.Extraction.{extract, bits_up};
 
+use crate::moves::WordMoves;
 use crate::packing::{packed, unpacked};
 use bit_vectors::BitPen;
 
@@ -15,15 +17,24 @@ use bit_vectors::BitPen;
 /// there are fewer than some 30 and they are to be spread, a little more time.
 const MANY: u32 = 24;
 
-/// The number `held`, followed by the bits of `bits` at the ones of `at`, the least weight first, as one number.
-pub fn gathered(held: u64, bits: u64, at: u64, ones: u32) -> u64
+/// The number `held`, followed by the bits of `bits` at the ones of `at`, the least weight first, as one number. `index`
+/// is the number of the word `at`.
+pub fn gathered(
+    held: u64,
+    bits: u64,
+    at: u64,
+    ones: u32,
+    moves: &mut [WordMoves],
+    index: usize,
+) -> u64
     requires fits { (held + 1) * 2 ^ count_ones at ≤ 2 ^ 64 }
     requires ones { ones ≡ count_ones at }
-    ensures { result ≡ held * 2 ^ count_ones at
+    ensures number { result ≡ held * 2 ^ count_ones at
         + bits_number (extract (number_bits 64 bits) (number_bits 64 at)) }
+    ensures moves { length moves.new ≡ length moves.old }
 {
     if ones > MANY {
-        return (held << (ones % 64)) + (turned(packed(bits, at)) >> (64 - ones));
+        return (held << (ones % 64)) + (turned(packed(bits, at, moves, index)) >> (64 - ones));
     }
     let mut gathered = held;
     let mut rest = at;
@@ -34,17 +45,26 @@ pub fn gathered(held: u64, bits: u64, at: u64, ones: u32) -> u64
     gathered
 }
 
-/// `word` with the first bits of `ahead` at the ones of `at`, the first bit at the 1 of the least weight.
-/// Each turn takes two ones: a word has mostly one or two. If the second is missing, taking it changes nothing.
-pub fn spread(word: u64, at: u64, ahead: u64, ones: u32) -> u64
+/// `word` with the first bits of `ahead` at the ones of `at`, the first bit at the 1 of the least weight. `index` is the
+/// number of the word `at`. Each turn takes two ones: a word has mostly one or two. If the second is missing, taking it
+/// changes nothing.
+pub fn spread(
+    word: u64,
+    at: u64,
+    ahead: u64,
+    ones: u32,
+    moves: &mut [WordMoves],
+    index: usize,
+) -> u64
     requires { ones ≡ count_ones at }
     ensures bits { extract (number_bits 64 result) (number_bits 64 at)
         ≡ take (count_ones at) (number_bits 64 ahead) }
     ensures others { (weight : ℕ) → bit_at at weight ≡ 0
         → bit_at result weight ≡ bit_at word weight }
+    ensures moves { length moves.new ≡ length moves.old }
 {
     if ones > MANY {
-        return (word & !at) | (unpacked(turned(ahead), at) & at);
+        return (word & !at) | (unpacked(turned(ahead), at, moves, index) & at);
     }
     let mut made = word & !at;
     let mut next = ahead;
@@ -82,7 +102,7 @@ fn gathered_up(bits: u64, at: u64, ones: u32) -> u64
     ensures fits { result < 2 ^ count_ones at }
 {
     if ones > MANY {
-        return packed(bits, at);
+        return packed(bits, at, &mut [], 0);
     }
     let mut gathered = 0;
     let mut taken: u32 = 0;
@@ -104,7 +124,7 @@ pub fn spread_up(number: u64, at: u64, ones: u32) -> u64
     ensures others { (weight : ℕ) → bit_at at weight ≡ 0 → bit_at result weight ≡ 0 }
 {
     if ones > MANY {
-        return unpacked(number, at) & at;
+        return unpacked(number, at, &mut [], 0) & at;
     }
     let mut made = 0;
     let mut next = number;

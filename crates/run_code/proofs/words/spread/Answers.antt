@@ -28,7 +28,7 @@ pub returns-clause-bits : goal.returns-clause-bits
 returns-clause-bits c = c.loop-rest.invariant.right c.loop-rest.made (λ w none. refl) (none_left c.loop-rest.made c.loop-rest.next c.loop-rest.rest (omega arith))
 
 pub returns-then-ones-gt-MANY-clause-bits : goal.returns-then-ones-gt-MANY-clause-bits
-returns-then-ones-gt-MANY-clause-bits c = spread_is c.args.word c.args.at c.args.ahead c.turned.result c.unpacked.result (omega (arith, c.ranges.at)) c.turned.ensures c.unpacked.ensures
+returns-then-ones-gt-MANY-clause-bits c = spread_is c.args.word c.args.at c.args.ahead c.turned.result c.unpacked.result (omega (arith, c.ranges.at)) c.turned.ensures c.unpacked.ensures.bits
 
 pub returns-then-ones-gt-MANY-clause-others : goal.returns-then-ones-gt-MANY-clause-others
 returns-then-ones-gt-MANY-clause-others c i none = merged_others c.args.word c.args.at c.unpacked.result i (omega (arith, c.ranges.word)) (omega (arith, c.ranges.at)) none

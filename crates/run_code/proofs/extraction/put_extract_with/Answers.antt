@@ -11,8 +11,8 @@ use Rattle.run_code.specs.Places.{places_down}
 use Rattle.run_code.specs.Extraction.{bits_at, extract}
 use Rattle.run_code.proofs.Ones.{ones_below, ones_below-none, length-places_down}
 use Rattle.run_code.proofs.Gathering.{word_extract, extract_step, ones_step, ones_below-past, gathered_bits, word_number_below}
-use Rattle.run_code.proofs.extraction.put_extract.Goals as goal
-use Rattle.run_code.proofs.extraction.put_extract.Goals.{then-count-more-gt64, else-count-more-gt64}
+use Rattle.run_code.proofs.extraction.put_extract_with.Goals as goal
+use Rattle.run_code.proofs.extraction.put_extract_with.Goals.{then-count-more-gt64, else-count-more-gt64}
 
 no_number : (n : ℕ) → number_bits 0 n ≡ []
 unfolding number_bits
@@ -100,10 +100,10 @@ loop-index-preserved c =
     record {
       room = h.same_room;
       most = h.most;
-      small = rw c.gathered-held.ensures (held_below s.held s.count c.word.result c.word-at.result c.word-at.type_inv h.small);
+      small = rw c.gathered-held.ensures.number (held_below s.held s.count c.word.result c.word-at.result c.word-at.type_inv h.small);
       fits = omega (arith, h.fits, ones_step c.args.a.now c.args.b.now c.loop-index.index c.word.result c.word-at.result (omega arith) c.word-at.type_inv c.word.ensures c.word-at.ensures);
       bits =
-          ap (λ (more : List Bool). s.pen.bits ++ (more ++ rest)) (ap (number_bits (s.count + count_ones c.word-at.result)) c.gathered-held.ensures ∙ gathered_bits s.count s.held c.word.result c.word-at.result c.word-at.type_inv)
+          ap (λ (more : List Bool). s.pen.bits ++ (more ++ rest)) (ap (number_bits (s.count + count_ones c.word-at.result)) c.gathered-held.ensures.number ∙ gathered_bits s.count s.held c.word.result c.word-at.result c.word-at.type_inv)
           ∙ ap (λ (more : List Bool). s.pen.bits ++ more) (append_assoc (number_bits s.count s.held) (word_extract c.word.result c.word-at.result) rest ∙ ap (λ (more : List Bool). number_bits s.count s.held ++ more) (sym step))
           ∙ h.all;
     }

@@ -14,8 +14,8 @@ use Rattle.run_code.proofs.Ones.{ones_below, places_down_apart, places_down_has,
 use Rattle.run_code.proofs.Filling.{OnlyAt, IsExact-filled_at, parse_filled-few}
 use Rattle.run_code.proofs.Gathering.{ones_step, ones_below-past}
 use Rattle.run_code.proofs.Spreading.{ones_span, span_none, span_all, span_skip, places_parts, spread_more, spread_others, ShowsFirst, ShowsFirst-after}
-use Rattle.run_code.proofs.extraction.take_into.Goals as goal
-use Rattle.run_code.proofs.extraction.take_into.Goals.{After-word-at, Then-shown-count-2, then-shown-count+else-shown-count-2, else-shown-count}
+use Rattle.run_code.proofs.extraction.take_into_with.Goals as goal
+use Rattle.run_code.proofs.extraction.take_into_with.Goals.{After-word-at, Then-shown-count-2, then-shown-count+else-shown-count-2, else-shown-count}
 
 pub loop-index-init : goal.loop-index-init
 loop-index-init c =

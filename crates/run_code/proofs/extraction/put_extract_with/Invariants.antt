@@ -2,7 +2,7 @@ use Rattle.std.proofs.Common.{◌≡◌, ◌+◌, ◌*◌, ◌^◌, ◌<◌, ◌
 use Rattle.bit_vectors.specs.Vectors.{number_bits}
 use Rattle.run_code.specs.Extraction.{bits_at, extract}
 use Rattle.run_code.proofs.Ones.{ones_below}
-use Rattle.run_code.proofs.extraction.put_extract.Given as goal
+use Rattle.run_code.proofs.extraction.put_extract_with.Given as goal
 
 -- the bits so far, the held bits, and the bits at the ones of the words before this one are all bits
 abbrev pub invariant-loop-index : goal.invariant-loop-index
