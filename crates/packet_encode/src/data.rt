@@ -1,19 +1,43 @@
 //! The second part of a packet: the mask and the content, whole or in part (CCSDS 124.0-B-1).
 
-ghost use Rattle.std.specs.Prelude.{◌≡◌, ◌+◌, ◌*◌, ◌≤◌, ◌++◌, length, if◌then◌else◌};
+ghost use Rattle.std.specs.Prelude.{◌≡◌, ◌+◌, ◌*◌, ◌≤◌, ◌++◌, length, if◌then◌else◌, IfOk};
 ghost use Rattle.bit_vectors.specs.Vectors.{or_bits};
 ghost use Rattle.count_code.specs.Code.{count_bits};
 ghost use Rattle.run_code.specs.Extraction.{extract};
 ghost use Rattle.packet_encode.specs.Forms.{data_bits, mask_bits};
 ghost use Rattle.packet_encode.specs.Packets.{sent_content, sent_of};
 
-use bit_vectors::{BitPen, Bits, Flags};
+use bit_vectors::{BitPen, Bits, Flags, NoMemory};
 use count_code::put_count;
-use run_code::{edges, put_extract, put_runs};
+use run_code::{WordMoves, edges, moves_of_zeros, put_extract_with, put_runs};
+use std::alloc::Global;
+
+/// What writing a packet needs beside its parts, and what it leaves for the next one.
+#[derive(Debug, Drop)]
+pub(crate) struct Scratch {
+    /// The edges of a mask, or the places of the content that are extracted.
+    pub(crate) spare: Bits,
+    /// How the extracted bits of each word of the content moved. If the next packet extracts the same places, they are not
+    /// found anew.
+    pub(crate) moves: Vec<WordMoves>,
+}
+
+impl Scratch {
+    /// For inputs of `f` places.
+    pub(crate) fn open(alloc: Global, f: u32) -> Result<Scratch, NoMemory>
+        requires some { 1 ≤ f }
+        requires most { f ≤ 49152 }
+        ensures { IfOk result (λ scratch. length scratch.spare ≡ f) }
+    {
+        let spare = Bits::zeros(alloc, f)?;
+        let moves = moves_of_zeros(alloc, f)?;
+        Ok(Scratch { spare, moves })
+    }
+}
 
 /// Appends a 1 if neither the mask nor the whole content is sent, and otherwise a 0, the mask if it is sent,
 /// and whether the content is whole; then the content, or its bits at the places of the mask, and also of the recent
-/// changes if `wide` is true. `spare` may then have any bits.
+/// changes if `wide` is true. The spare vector of `scratch` may then have any bits.
 pub(crate) fn put_data(
     pen: &mut BitPen,
     input: &Bits,
@@ -21,28 +45,28 @@ pub(crate) fn put_data(
     mask: &Bits,
     recent: &Bits,
     wide: bool,
-    spare: &mut Bits,
+    scratch: &mut Scratch,
 )
     requires places { length mask.now ≡ length input.now }
     requires recent { length recent.now ≡ length input.now }
-    requires spare { length spare.old ≡ length input.now }
+    requires spare { length scratch.old.spare ≡ length input.now }
     requires room { length pen.old.bits + (5 * length input.now + 34) ≤ pen.old.room }
     ensures bits { let places = if wide then or_bits mask.now recent.now else mask.now in
         pen.new.bits ≡ pen.old.bits
         ++ data_bits (sent_of flags.f mask.now) (sent_content flags.r input.now places) }
     ensures room { pen.new.room ≡ pen.old.room }
-    ensures spare { length spare.new ≡ length spare.old }
+    ensures spare { length scratch.new.spare ≡ length scratch.old.spare }
 {
     let is_short = !flags.f && !flags.r;
     pen.put(is_short);
     if !is_short {
-        put_mask(pen, flags.f, mask, spare);
+        put_mask(pen, flags.f, mask, &mut scratch.spare);
         pen.put(flags.r);
     }
     if flags.r {
         put_whole(pen, input);
     } else {
-        put_part(pen, input, mask, recent, wide, spare);
+        put_part(pen, input, mask, recent, wide, scratch);
     }
 }
 
@@ -81,23 +105,23 @@ fn put_part(
     mask: &Bits,
     recent: &Bits,
     wide: bool,
-    spare: &mut Bits,
+    scratch: &mut Scratch,
 )
     requires places { length mask.now ≡ length content.now }
     requires recent { length recent.now ≡ length content.now }
-    requires spare { length spare.old ≡ length content.now }
+    requires spare { length scratch.old.spare ≡ length content.now }
     requires room { length pen.old.bits + length content.now ≤ pen.old.room }
     ensures bits { pen.new.bits
         ≡ pen.old.bits ++ extract content.now
         (if wide then or_bits mask.now recent.now else mask.now) }
     ensures room { pen.new.room ≡ pen.old.room }
-    ensures spare { length spare.new ≡ length spare.old }
+    ensures spare { length scratch.new.spare ≡ length scratch.old.spare }
 {
     if wide {
-        spare.copy_from(mask);
-        spare.or_in(recent);
-        put_extract(pen, content, spare);
+        scratch.spare.copy_from(mask);
+        scratch.spare.or_in(recent);
+        put_extract_with(pen, content, &scratch.spare, &mut scratch.moves);
     } else {
-        put_extract(pen, content, mask);
+        put_extract_with(pen, content, mask, &mut scratch.moves);
     }
 }

@@ -11,7 +11,7 @@ ghost use Rattle.packet_encode.specs.Packets.{form_at, form_of, packet_at, with_
 ghost use Rattle.robust_window.specs.Histories.{level_at};
 
 use crate::changes::put_changes;
-use crate::data::put_data;
+use crate::data::{Scratch, put_data};
 use bit_vectors::{BitPen, Bits, Flags, NoMemory};
 use mask_update::Masks;
 use robust_window::Window;
@@ -37,12 +37,13 @@ pub fn room(f: u32) -> u32
 
 /// Makes the packet of each input (CCSDS 124.0-B-1). It keeps the running vectors and the latest changes, but not the
 /// history. Contracts see them, and say which histories they stand for. It also keeps the latest packet if that has no
-/// recent change, no mask and no whole content, to copy it if the next one has the same bits.
+/// recent change, no mask and no whole content, to copy it if the next one has the same bits, and how the latest
+/// extracted bits moved.
 #[derive(Debug, Drop)]
 pub struct Encoder {
     masks: Masks,
     window: Window,
-    spare: Bits,
+    scratch: Scratch,
     kept: BitPen,
     /// The level of the packet that is kept, if one is.
     plain: Option<u8>,
@@ -55,12 +56,12 @@ impl Model for Encoder {
 
     ghost view = { λ e. record { masks = e.masks; window = e.window } };
 
-    ghost invariant = { λ e. IsEncoder e.masks e.window e.spare e.kept e.plain };
+    ghost invariant = { λ e. IsEncoder e.masks e.window e.scratch.spare e.kept e.plain };
 }
 
 impl Encoder {
     /// Starts with this mask of `f` places and no input taken. Allocates the memory for every vector that `encode` fills,
-    /// and for the packet that it keeps.
+    /// and for the packet and the moves that it keeps.
     pub fn open(alloc: Global, f: u32, mask: &Bits) -> Result<Encoder, NoMemory>
         requires some { 1 ≤ f }
         requires most { f ≤ 49152 }
@@ -72,7 +73,7 @@ impl Encoder {
         Ok(Encoder {
             masks: Masks::open(alloc, mask)?,
             window: Window::open(alloc, f)?,
-            spare: Bits::zeros(alloc, f)?,
+            scratch: Scratch::open(alloc, f)?,
             kept: BitPen::with_room(alloc, room(f))?,
             plain: None,
         })
@@ -117,7 +118,7 @@ impl Encoder {
                 flags,
                 &self.masks,
                 &self.window,
-                &mut self.spare,
+                &mut self.scratch,
             );
             keep(&mut self.kept, pen, plain);
             self.plain = plain;
@@ -178,31 +179,31 @@ fn step_window(window: &mut Window, masks: &Masks, new_mask: bool, robust: u8)
     }
 }
 
-/// Writes the packet of this input after masks and window have taken a step. `spare` may then have any bits.
+/// Writes the packet of this input after masks and window have taken a step. The spare vector may then have any bits.
 fn write_packet(
     pen: &mut BitPen,
     input: &Bits,
     flags: Flags,
     masks: &Masks,
     window: &Window,
-    spare: &mut Bits,
+    scratch: &mut Scratch,
 )
     requires empty { pen.old.bits ≡ [] }
     requires taken { 0 < window.now.taken }
     requires places { length masks.now.mask ≡ length input.now }
     requires recent { length window.now.recent ≡ length input.now }
-    requires spare { length spare.old ≡ length input.now }
+    requires spare { length scratch.old.spare ≡ length input.now }
     requires room { 10 * length input.now + 43 ≤ pen.old.room }
     ensures bits { let window = window.now in
         pen.new.bits
         ≡ form_bits
         (form_of masks.now.mask window.recent window.level window.twice input.now flags) }
     ensures room { pen.new.room ≡ pen.old.room }
-    ensures spare { length spare.new ≡ length spare.old }
+    ensures spare { length scratch.new.spare ≡ length scratch.old.spare }
 {
     let mask = masks.mask();
     let wide = put_changes(pen, mask, window);
-    put_data(pen, input, flags, mask, window.recent(), wide, spare);
+    put_data(pen, input, flags, mask, window.recent(), wide, scratch);
 }
 
 /// Keeps the packet in the pen if it has a level.
