@@ -13,7 +13,7 @@ use crate::change::FirstPart;
 use crate::draft::Draft;
 use bit_vectors::{BitEye, BitFault, Bits};
 use count_code::match_count;
-use run_code::take_into;
+use run_code::take_into_with;
 
 /// Takes whether the content is whole, and the content into the draft, under a mask. Answers whether it is known then:
 /// if no content was known, extracted bits are read, as many as the mask and the first part say, and tell no content.
@@ -103,9 +103,9 @@ fn take_extracted(
     if change.is_wide() {
         draft.places.copy_from(mask);
         change.widen(&mut draft.places);
-        take_into(eye, &mut draft.content, &draft.places)
+        take_into_with(eye, &mut draft.content, &draft.places, &mut draft.moves)
     } else {
-        take_into(eye, &mut draft.content, mask)
+        take_into_with(eye, &mut draft.content, mask, &mut draft.moves)
     }
 }
 

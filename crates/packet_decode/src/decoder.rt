@@ -61,7 +61,7 @@ impl Model for Decoder {
 }
 
 impl Decoder {
-    /// Knows nothing. Takes the memory for every vector that `read` fills.
+    /// Knows nothing. Takes the memory for every vector that `read` fills, and for the moves that it keeps.
     pub fn open(alloc: Global, f: u32) -> Result<Decoder, NoMemory>
         requires some { 1 ≤ f }
         requires most { f ≤ 49152 }

@@ -4,6 +4,7 @@ ghost use Rattle.std.specs.Prelude.{◌≡◌, ◌≤◌, ◌↔◌, ◌&&◌, f
 ghost use Rattle.packet_decode.specs.Parts.{IsDraft, tells_content, tells_mask};
 
 use bit_vectors::{Bits, NoMemory};
+use run_code::{WordMoves, moves_of_zeros};
 use std::alloc::Global;
 
 /// The latest mask that became known and the latest content that did, each with the number of its packet. Before the
@@ -30,7 +31,7 @@ pub enum DataKind {
     Opaque,
 }
 
-/// The vectors that are filled as the parts after the first one are read.
+/// The vectors that are filled as the parts after the first one are read, and how the extracted bits move.
 #[derive(Debug, Drop)]
 pub struct Draft {
     pub content: Bits,
@@ -38,6 +39,9 @@ pub struct Draft {
     pub places: Bits,
     /// The edges of a mask, or where a content differs from the known one.
     pub spare: Bits,
+    /// How the latest extracted bits of each word moved. If the next packet extracts the same places, they are not found
+    /// anew.
+    pub moves: Vec<WordMoves>,
 }
 
 impl Latest {
@@ -98,10 +102,12 @@ impl Draft {
         let content = Bits::zeros(alloc, f)?;
         let places = Bits::zeros(alloc, f)?;
         let spare = Bits::zeros(alloc, f)?;
+        let moves = moves_of_zeros(alloc, f)?;
         Ok(Draft {
             content,
             places,
             spare,
+            moves,
         })
     }
 }
