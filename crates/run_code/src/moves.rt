@@ -58,7 +58,8 @@ pub fn word_moves(word: u64) -> WordMoves
 
 impl WordMoves {
     /// Makes them the moves of this word. If they are so, nothing is computed.
-    pub(crate) fn renew(&mut self, word: u64)
+    #[inline(always)]
+    fn renew(&mut self, word: u64)
         ensures { self.new ≡ word }
     {
         if self.word != word {
@@ -66,13 +67,17 @@ impl WordMoves {
         }
     }
 
-    /// The word in which the bit of `bits` at each 1 of this word has the weight that counts the ones below it.
-    pub(crate) fn packed(&self, bits: u64) -> u64
-        ensures bits { (weight : ℕ) → weight < 64 → bit_at self.now weight ≡ 1
-            → bit_at result (ones_under self.now weight) ≡ bit_at bits weight }
-        ensures fits { result < 2 ^ count_ones self.now }
+    /// The word in which the bit of `bits` at each 1 of this word has the weight that counts the ones below it. The moves
+    /// are then those of this word.
+    #[inline(never)]
+    pub(crate) fn packed(&mut self, bits: u64, word: u64) -> u64
+        ensures kept { self.new ≡ word }
+        ensures bits { (weight : ℕ) → weight < 64 → bit_at word weight ≡ 1
+            → bit_at result (ones_under word weight) ≡ bit_at bits weight }
+        ensures fits { result < 2 ^ count_ones word }
     {
-        let mut made = lowered(bits & self.word, self.counts[0], 1);
+        self.renew(word);
+        let mut made = lowered(bits & word, self.counts[0], 1);
         made = lowered(made, self.counts[1], 2);
         made = lowered(made, self.counts[2], 4);
         made = lowered(made, self.counts[3], 8);
@@ -81,11 +86,14 @@ impl WordMoves {
     }
 
     /// A word that has at each 1 of this word the bit of `number` whose weight counts the ones below it. Its other bits
-    /// may be any bits.
-    pub(crate) fn unpacked(&self, number: u64) -> u64
-        ensures { (weight : ℕ) → weight < 64 → bit_at self.now weight ≡ 1
-            → bit_at result weight ≡ bit_at number (ones_under self.now weight) }
+    /// may be any bits. The moves are then those of this word.
+    #[inline(never)]
+    pub(crate) fn unpacked(&mut self, number: u64, word: u64) -> u64
+        ensures kept { self.new ≡ word }
+        ensures bits { (weight : ℕ) → weight < 64 → bit_at word weight ≡ 1
+            → bit_at result weight ≡ bit_at number (ones_under word weight) }
     {
+        self.renew(word);
         let mut made = lifted(number, self.counts[5], 32);
         made = lifted(made, self.counts[4], 16);
         made = lifted(made, self.counts[3], 8);

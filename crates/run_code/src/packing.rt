@@ -19,11 +19,10 @@ pub fn packed(bits: u64, at: u64, moves: &mut [WordMoves], index: usize) -> u64
         return bits;
     }
     if index >= moves.len() {
-        return word_moves(at).packed(bits);
+        let mut found = word_moves(at);
+        return found.packed(bits, at);
     }
-    let kept = &mut moves[index];
-    kept.renew(at);
-    kept.packed(bits)
+    moves[index].packed(bits, at)
 }
 
 /// A word that has at each 1 of `at` the bit of `number` whose weight counts the ones below it. Its other bits may be
@@ -37,9 +36,8 @@ pub fn unpacked(number: u64, at: u64, moves: &mut [WordMoves], index: usize) -> 
         return number;
     }
     if index >= moves.len() {
-        return word_moves(at).unpacked(number);
+        let mut found = word_moves(at);
+        return found.unpacked(number, at);
     }
-    let kept = &mut moves[index];
-    kept.renew(at);
-    kept.unpacked(number)
+    moves[index].unpacked(number, at)
 }
