@@ -1,5 +1,5 @@
 -- All bits of a word moved at once, to the ones of another or from there.
-use Rattle.std.proofs.Common.{◌≡◌, ℕ, ◌+◌, ◌-◌, ◌*◌, ◌/◌, ◌%◌, ◌^◌, ◌<◌, ◌≤◌, bit_and, bit_or, w64, ap, ◌∙◌, arith, inl, inr}
+use Rattle.std.proofs.Common.{◌≡◌, ℕ, ◌+◌, ◌-◌, ◌*◌, ◌/◌, ◌%◌, ◌^◌, ◌<◌, ◌≤◌, bit_and, bit_or, w64, sym, ap, ◌∙◌, arith, inl, inr}
 use Rattle.std.specs.Int.{bit_at, bit_not}
 use Rattle.std.specs.Int.RustNames.{count_ones}
 use Rattle.std.specs.Prelude.{take}
@@ -14,22 +14,10 @@ use Rattle.run_code.proofs.Gathering.{word_extract, gathered_fits}
 use Rattle.run_code.proofs.Spreading.{without_ones, without_others}
 use Rattle.run_code.proofs.Ranks.{under_few, number_is, first_bits_at}
 
-module _ (held bits at ones packed turned : ℕ) (below : at < 2 ^ 64) (room : (held + 1) * 2 ^ count_ones at ≤ 2 ^ 64) (count : ones ≡ count_ones at) (some : 0 < ones) (small : turned < 2 ^ 64)
+module _ (bits at ones packed turned : ℕ) (below : at < 2 ^ 64) (count : ones ≡ count_ones at) (small : turned < 2 ^ 64)
     (moved : (i : ℕ) → i < 64 → bit_at at i ≡ 1 → bit_at packed (ones_under at i) ≡ bit_at bits i) (turns : (i : ℕ) → i < 64 → bit_at turned i ≡ bit_at packed (63 - i)) where
   most : ones ≤ 64
   most = omega (arith, count, ones-le 64 at below)
-
-  -- the number held, in the places above the bits
-  held_above : held * 2 ^ (ones % 64) % 2 ^ 64 ≡ held * 2 ^ count_ones at
-  held_above =
-      elim (cases_eq (count_ones at) 64) [
-        | inl all ↦
-            let none : held ≡ 0 = let fits : (held + 1) * 2 ^ 64 ≤ 2 ^ 64 = rw all at room in omega (arith, fits) in
-            rw none (omega arith)
-        | inr other ↦
-            let by : ones % 64 ≡ count_ones at = omega (arith, count, other, most) in
-            rw by (mod-eq_of_lt (omega (arith, room, pow_pos (count_ones at))))
-      ]
 
   turned_fits : turned / 2 ^ (64 - ones) < 2 ^ count_ones at
   turned_fits =
@@ -37,19 +25,13 @@ module _ (held bits at ones packed turned : ℕ) (below : at < 2 ^ 64) (room : (
       let whole : 2 ^ 64 ≡ 2 ^ count_ones at * 2 ^ (64 - ones) = ap (λ (n : ℕ). 2 ^ n) parts ∙ pow-add 2 (count_ones at) (64 - ones) in
       (div-lt_iff_lt-mul (pow_pos (64 - ones))).1 (omega (arith, small, whole))
 
-  number_there : bits_number (word_extract bits at) ≡ turned / 2 ^ (64 - ones)
-  number_there =
-      number_is bits at (turned / 2 ^ (64 - ones)) below turned_fits (λ i lt one.
+  pub moved_is : turned / 2 ^ (64 - ones) ≡ bits_number (word_extract bits at)
+  moved_is =
+      sym (number_is bits at (turned / 2 ^ (64 - ones)) below turned_fits (λ i lt one.
       let few = under_few at i below lt one in
       let place : 64 - ones + (count_ones at - 1 - ones_under at i) ≡ 63 - ones_under at i = omega (arith, few, count, most) in
       let back : 63 - (63 - ones_under at i) ≡ ones_under at i = omega (arith, few, count, most) in
-      bit_at_shr turned (64 - ones) (count_ones at - 1 - ones_under at i) ∙ ap (bit_at turned) place ∙ turns (63 - ones_under at i) (omega arith) ∙ ap (bit_at packed) back ∙ moved i lt one)
-
-  pub gathered_is : held * 2 ^ (ones % 64) % 2 ^ 64 + turned / 2 ^ (64 - ones) ≡ held * 2 ^ count_ones at + bits_number (word_extract bits at)
-  gathered_is = omega (arith, held_above, number_there)
-
-  pub gathered_small_enough : held * 2 ^ (ones % 64) % 2 ^ 64 + turned / 2 ^ (64 - ones) < 2 ^ 64
-  gathered_small_enough = omega (arith, gathered_is, gathered_fits held bits at below room)
+      bit_at_shr turned (64 - ones) (count_ones at - 1 - ones_under at i) ∙ ap (bit_at turned) place ∙ turns (63 - ones_under at i) (omega arith) ∙ ap (bit_at packed) back ∙ moved i lt one))
 
 -- a word with the bits of another at the ones
 abbrev merged : ℕ → ℕ → ℕ → ℕ

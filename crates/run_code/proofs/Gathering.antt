@@ -7,14 +7,14 @@ use Rattle.std.proofs.Math.Nat.{pow-succ', le-mul_of_pos_right, mod-eq_of_lt}
 use Rattle.std.specs.Int.RustNames.{count_ones}
 use Rattle.bit_vectors.proofs.WordBits.{count_by-number_bits}
 use Rattle.std.proofs.lemmas.Nat.Bits.{shr_and_one, bit_at_and, bit_at_cat_high, bit_at_cat_low, bit_at_ones_above, bit_at-trailing_zeros, same_from_bits, same_from_bits_below, bit_at-zero, bit_at-lt}
-use Rattle.std.proofs.lemmas.List.{get_or_past, length-append}
+use Rattle.std.proofs.lemmas.List.{get_or_past, length-append, take_all}
 use Rattle.bit_vectors.specs.Vectors.{number_bits, bits_number, NoneIsOne}
 use Rattle.bit_vectors.specs.Words.{IsWord}
 use Rattle.bit_vectors.proofs.NumberBits.{length-number_bits, get_or-number_bits, bits_number_below, number_bits-bits_number}
 use Rattle.bit_vectors.proofs.Numbers.{number_bits-cat, bit_at_mod}
-use Rattle.run_code.specs.Places.{places_down}
+use Rattle.run_code.specs.Places.{places_before, places_down}
 use Rattle.run_code.specs.Extraction.{bits_at, extract}
-use Rattle.run_code.proofs.Ones.{ones_below, ones_below-one, ones_below-none, places_down_is, length-places_down}
+use Rattle.run_code.proofs.Ones.{ones_below, below_is, ones_below-one, ones_below-none, places_down_is, length-places_down}
 use Rattle.run_code.proofs.InverseBits.{length-bits_at}
 
 -- ---- a number without its lowest 1
@@ -214,6 +214,31 @@ word_extract-below a b index bits at is_a is_b =
 -- no place after the end has a 1
 pub ones_below-past : (v : List Bool) (n : ℕ) → length v ≤ n → ones_below n v ≡ places_down v
 ones_below-past v n le = ones_below-skip v (length v) n le (λ k from to. get_or_past v k false from) ∙ sym (places_down_is v)
+
+-- the ones of the first words are those below a place
+pub places_before_is : (words : ℕ) (v : List Bool) → places_before words v ≡ ones_below (64 * words) v
+places_before_is words v =
+    elim (cases_lt (64 * words) (length v)) [
+      | inl lt ↦ below_is (64 * words) v (omega arith)
+      | inr le ↦ rw (take_all (64 * words) v (omega arith)) (sym (ones_below-past v (64 * words) (omega arith)))
+    ]
+
+pub places_before_all : (words : ℕ) (v : List Bool) → length v ≤ 64 * words → places_before words v ≡ places_down v
+places_before_all words v le = ap places_down (take_all (64 * words) v le)
+
+-- the bits at the ones of a word, and those of the words before it
+module _ (a b : List Bool) (index bits at : ℕ) (below : at < 2 ^ 64) (is_a : IsWord a index bits) (is_b : IsWord b index at) where
+  pub before_step : bits_at a (places_before (index + 1) b) ≡ word_extract bits at ++ bits_at a (places_before index b)
+  before_step = rw (places_before_is (index + 1) b, places_before_is index b) (word_extract-below a b index bits at is_a is_b)
+
+  pub before_ones : length (places_before (index + 1) b) ≡ count_ones at + length (places_before index b)
+  before_ones =
+      omega (arith, length-bits_at a (places_before (index + 1) b), length-bits_at a (places_before index b), length-word_extract bits at below, length-append (word_extract bits at) (bits_at a (places_before index b)), ap (λ (xs : List Bool). length xs) before_step)
+
+-- as many bits, written and left
+pub same_lengths : (a new old : List Bool) (rest all : List ℕ) → new ++ bits_at a rest ≡ old ++ bits_at a all → length new + length rest ≡ length old + length all
+same_lengths a new old rest all same =
+    omega (arith, ap (λ (xs : List Bool). length xs) same, length-append new (bits_at a rest), length-append old (bits_at a all), length-bits_at a rest, length-bits_at a all)
 
 -- a word that isn't zero has a 1
 pub some_one : (at : ℕ) → 0 < at → at < 2 ^ 64 → 1 ≤ count_ones at

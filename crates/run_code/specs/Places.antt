@@ -18,9 +18,13 @@ places_up v = ones_from 0 v
 abbrev pub places_down : List Bool → List ℕ
 places_down v = reverse (places_up v)
 
+-- the places of the ones of the first words of a vector, as many as these, the greatest first
+abbrev pub places_before : ℕ → List Bool → List ℕ
+places_before words v = places_down (take (64 * words) v)
+
 -- the ones that are left of a word, and those of the words before it, the greatest first
 unfoldable pub ones_left : List Bool → WordOnes → List ℕ
-ones_left v word = map (λ place. 64 * word.index + place) (places_down (number_bits 64 word.ones)) ++ places_down (take (64 * word.index) v)
+ones_left v word = map (λ place. 64 * word.index + place) (places_down (number_bits 64 word.ones)) ++ places_before word.index v
 
 -- a word with its ones, of a vector
 pub record AreWithin (v : List Bool) (word : WordOnes) : Type 0 where

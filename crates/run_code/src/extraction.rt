@@ -1,14 +1,16 @@
 //! The bits of a vector at the ones of another, from the highest place down (CCSDS 124.0-B-1). The calls with moves keep
 //! how the bits of each word with many ones move, so that a vector that stays costs no new moves.
 
-ghost use Rattle.std.specs.Prelude.{◌≡◌, ◌+◌, ◌<◌, ◌≤◌, ◌↔◌, ◌++◌, length, count_by, IsErr, IfErr, OnOk, OnErr};
+ghost use Rattle.std.specs.Prelude.{◌≡◌, ◌+◌, ◌-◌, ◌^◌, ◌<◌, ◌≤◌, ◌↔◌, ◌++◌, length, count_by, IsErr, IfErr, OnOk, OnErr};
 ghost use Rattle.bit_vectors.specs.Eye.{bits_left};
+ghost use Rattle.bit_vectors.specs.Vectors.{number_bits};
+ghost use Rattle.bit_vectors.specs.Words.{word_count};
 ghost use Rattle.bit_vectors.specs.Reading.{MovesOn, Gives};
-ghost use Rattle.run_code.specs.Places.{places_down};
-ghost use Rattle.run_code.specs.Extraction.{extract, SameOutside, parse_filled};
+ghost use Rattle.run_code.specs.Places.{places_before, places_down};
+ghost use Rattle.run_code.specs.Extraction.{bits_at, extract, SameOutside, parse_filled};
 
 use crate::moves::WordMoves;
-use crate::words::{gathered, spread};
+use crate::words::{MANY, gathered, moved, spread};
 use bit_vectors::{BitEye, BitFault, BitPen, Bits};
 
 /// Appends the bits of `a` at the ones of `b`, which has the same number of places, from the highest place down.
@@ -34,23 +36,86 @@ pub fn put_extract_with(pen: &mut BitPen, a: &Bits, b: &Bits, moves: &mut [WordM
 {
     let mut held = 0;
     let mut count = 0;
-    for index in (0..b.word_count()).rev() {
+    let mut words = b.word_count();
+    while words > 0 {
+        let index = words - 1;
         let at = b.word(index);
         if at == 0 {
+            words = index;
             continue;
         }
         let more = at.count_ones();
+        if more > MANY {
+            put_held(pen, held, count);
+            held = 0;
+            count = 0;
+            words = put_many(pen, a, b, moves, words);
+            continue;
+        }
         if count + more > 64 {
             pen.put_word(held, count);
             held = 0;
             count = 0;
         }
-        held = gathered(held, a.word(index), at, more, moves, index as usize);
+        held = gathered(held, a.word(index), at);
         count += more;
+        words = index;
     }
+    put_held(pen, held, count);
+}
+
+/// Appends the lowest bits of `held`, which has no others, as many as `count`.
+fn put_held(pen: &mut BitPen, held: u64, count: u32)
+    requires most { count ≤ 64 }
+    requires small { held < 2 ^ count }
+    requires room { length pen.old.bits + count ≤ pen.old.room }
+    ensures bits { pen.new.bits ≡ pen.old.bits ++ number_bits count held }
+    ensures room { pen.new.room ≡ pen.old.room }
+{
     if count > 0 {
         pen.put_word(held, count);
     }
+}
+
+/// Appends the bits of `a` at the ones of the last of these first words of `b`, which has some, and of the words before it
+/// as long as they have many. Answers how many words are left.
+#[inline(never)]
+fn put_many(pen: &mut BitPen, a: &Bits, b: &Bits, moves: &mut [WordMoves], words: u32) -> u32
+    requires places { length a.now ≡ length b.now }
+    requires words { words ≤ word_count (length b.now) }
+    requires some { length (places_before (words - 1) b.now) < length (places_before words b.now) }
+    requires room { length pen.old.bits + length (places_before words b.now) ≤ pen.old.room }
+    ensures bits { pen.new.bits ++ bits_at a.now (places_before result b.now)
+        ≡ pen.old.bits ++ bits_at a.now (places_before words b.now) }
+    ensures room { pen.new.room ≡ pen.old.room }
+    ensures left { result < words }
+    ensures count { length moves.new ≡ length moves.old }
+{
+    let mut left = words - 1;
+    put_moved(pen, a, b, moves, left);
+    while left > 0 && b.word(left - 1).count_ones() > MANY {
+        left -= 1;
+        put_moved(pen, a, b, moves, left);
+    }
+    left
+}
+
+/// Appends the bits of `a` at the ones of the word of `b` with this number, which has some; all are moved at once.
+#[inline(always)]
+fn put_moved(pen: &mut BitPen, a: &Bits, b: &Bits, moves: &mut [WordMoves], index: u32)
+    requires places { length a.now ≡ length b.now }
+    requires index { index < word_count (length b.now) }
+    requires some { length (places_before index b.now) < length (places_before (index + 1) b.now) }
+    requires room { length pen.old.bits + length (places_before (index + 1) b.now) ≤ pen.old.room }
+    ensures bits { pen.new.bits ++ bits_at a.now (places_before index b.now)
+        ≡ pen.old.bits ++ bits_at a.now (places_before (index + 1) b.now) }
+    ensures room { pen.new.room ≡ pen.old.room }
+    ensures count { length moves.new ≡ length moves.old }
+{
+    let at = b.word(index);
+    let ones = at.count_ones();
+    let word = moved(a.word(index), at, ones, moves, index as usize);
+    pen.put_word(word, ones);
 }
 
 /// Takes a bit for each 1 of `b`, which has as many places as `a`, from the highest place down, and sets

@@ -15,27 +15,14 @@ use bit_vectors::BitPen;
 
 /// With more ones than these all bits are moved at once: that takes fewer instructions than to visit each 1, and if
 /// there are fewer than some 30 and they are to be spread, a little more time.
-const MANY: u32 = 24;
+pub const MANY: u32 = 24;
 
-/// The number `held`, followed by the bits of `bits` at the ones of `at`, the least weight first, as one number. `index`
-/// is the number of the word `at`.
-pub fn gathered(
-    held: u64,
-    bits: u64,
-    at: u64,
-    ones: u32,
-    moves: &mut [WordMoves],
-    index: usize,
-) -> u64
+/// The number `held`, followed by the bits of `bits` at the ones of `at`, the least weight first, as one number.
+pub fn gathered(held: u64, bits: u64, at: u64) -> u64
     requires fits { (held + 1) * 2 ^ count_ones at ≤ 2 ^ 64 }
-    requires ones { ones ≡ count_ones at }
-    ensures number { result ≡ held * 2 ^ count_ones at
+    ensures { result ≡ held * 2 ^ count_ones at
         + bits_number (extract (number_bits 64 bits) (number_bits 64 at)) }
-    ensures moves { length moves.new ≡ length moves.old }
 {
-    if ones > MANY {
-        return (held << (ones % 64)) + (turned(packed(bits, at, moves, index)) >> (64 - ones));
-    }
     let mut gathered = held;
     let mut rest = at;
     while rest != 0 {
@@ -43,6 +30,17 @@ pub fn gathered(
         rest &= rest - 1;
     }
     gathered
+}
+
+/// The bits of `bits` at the ones of `at`, the least weight first, as one number; all are moved at once. `index` is the
+/// number of the word `at`.
+pub fn moved(bits: u64, at: u64, ones: u32, moves: &mut [WordMoves], index: usize) -> u64
+    requires ones { ones ≡ count_ones at }
+    requires some { 1 ≤ ones }
+    ensures number { result ≡ bits_number (extract (number_bits 64 bits) (number_bits 64 at)) }
+    ensures moves { length moves.new ≡ length moves.old }
+{
+    turned(packed(bits, at, moves, index)) >> (64 - ones)
 }
 
 /// `word` with the first bits of `ahead` at the ones of `at`, the first bit at the 1 of the least weight. `index` is the

@@ -3,7 +3,6 @@ use Rattle.std.specs.Int.RustNames.{count_ones}
 use Rattle.std.proofs.lemmas.Nat.{and_le_r}
 use Rattle.bit_vectors.specs.Vectors.{bits_number}
 use Rattle.run_code.proofs.Gathering.{word_extract, length-word_extract, gathered_more, gathered_small, gathered_all, gathered_fits}
-use Rattle.run_code.proofs.AllAtOnce.{gathered_is, gathered_small_enough}
 use Rattle.run_code.proofs.words.gathered.Goals as goal
 
 pub loop-rest-init : goal.loop-rest-init
@@ -26,11 +25,5 @@ loop-rest-preserved c = record {
   total = gathered_more c.args.bits c.loop-rest.rest c.loop-rest.gathered (c.args.held * 2 ^ count_ones c.args.at + bits_number (word_extract c.args.bits c.args.at)) (omega arith) c.loop-rest.invariant.small c.loop-rest.invariant.total;
 }
 
-pub returns-clause-number : goal.returns-clause-number
-returns-clause-number c = gathered_all c.args.bits c.loop-rest.rest c.loop-rest.gathered (c.args.held * 2 ^ count_ones c.args.at + bits_number (word_extract c.args.bits c.args.at)) (omega arith) c.loop-rest.invariant.total
-
-pub overflow_add-result : goal.overflow_add-result
-overflow_add-result c = omega (arith, gathered_small_enough c.args.held c.args.bits c.args.at c.args.ones c.packed.result c.turned.result (omega (arith, c.ranges.at)) c.requires.fits c.requires.ones (omega (arith, c.if-ones-gt-MANY.true)) c.turned.type_inv c.packed.ensures.bits c.turned.ensures)
-
-pub returns-then-ones-gt-MANY-clause-number : goal.returns-then-ones-gt-MANY-clause-number
-returns-then-ones-gt-MANY-clause-number c = gathered_is c.args.held c.args.bits c.args.at c.args.ones c.packed.result c.turned.result (omega (arith, c.ranges.at)) c.requires.fits c.requires.ones (omega (arith, c.if-ones-gt-MANY.true)) c.turned.type_inv c.packed.ensures.bits c.turned.ensures
+pub returns : goal.returns
+returns c = gathered_all c.args.bits c.loop-rest.rest c.loop-rest.gathered (c.args.held * 2 ^ count_ones c.args.at + bits_number (word_extract c.args.bits c.args.at)) (omega arith) c.loop-rest.invariant.total
