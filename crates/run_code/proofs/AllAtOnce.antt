@@ -1,16 +1,15 @@
 -- All bits of a word moved at once, to the ones of another or from there.
-use Rattle.std.proofs.Common.{◌≡◌, ℕ, ◌+◌, ◌-◌, ◌*◌, ◌/◌, ◌%◌, ◌^◌, ◌<◌, ◌≤◌, bit_and, bit_or, w64, sym, ap, ◌∙◌, arith, inl, inr}
+use Rattle.std.proofs.Common.{◌≡◌, ℕ, ◌+◌, ◌-◌, ◌*◌, ◌/◌, ◌^◌, ◌<◌, ◌≤◌, bit_and, bit_or, w64, sym, ap, ◌∙◌, arith}
 use Rattle.std.specs.Int.{bit_at, bit_not}
 use Rattle.std.specs.Int.RustNames.{count_ones}
 use Rattle.std.specs.Prelude.{take}
-use Rattle.std.proofs.lemmas.Bool.{cases_eq}
 use Rattle.std.proofs.lemmas.Nat.{ones-le, pow-add, pow_pos}
-use Rattle.std.proofs.Math.Nat.{mod-eq_of_lt, div-lt_iff_lt-mul}
+use Rattle.std.proofs.Math.Nat.{div-lt_iff_lt-mul}
 use Rattle.std.proofs.lemmas.Nat.Bits.{bit_at_and, bit_at_or, bit_at-lt}
 use Rattle.bit_vectors.specs.Vectors.{bits_number, number_bits}
 use Rattle.bit_vectors.proofs.Numbers.{bit_at_shr}
 use Rattle.run_code.specs.Places.{ones_under}
-use Rattle.run_code.proofs.Gathering.{word_extract, gathered_fits}
+use Rattle.run_code.proofs.Gathering.{word_extract}
 use Rattle.run_code.proofs.Spreading.{without_ones, without_others}
 use Rattle.run_code.proofs.Ranks.{under_few, number_is, first_bits_at}
 

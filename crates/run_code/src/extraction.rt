@@ -92,12 +92,13 @@ fn put_many(pen: &mut BitPen, a: &Bits, b: &Bits, moves: &mut [WordMoves], words
     ensures count { length moves.new ≡ length moves.old }
 {
     let mut left = words - 1;
-    put_moved(pen, a, b, moves, left);
-    while left > 0 && b.word(left - 1).count_ones() > MANY {
-        left -= 1;
+    loop {
         put_moved(pen, a, b, moves, left);
+        if left == 0 || b.word(left - 1).count_ones() <= MANY {
+            return left;
+        }
+        left -= 1;
     }
-    left
 }
 
 /// Appends the bits of `a` at the ones of the word of `b` with this number, which has some; all are moved at once.

@@ -63,13 +63,22 @@ impl WordMoves {
         ensures { self.new ≡ word }
     {
         if self.word != word {
-            *self = word_moves(word);
+            self.find(word);
         }
+    }
+
+    /// Makes them the moves of this word.
+    #[cold]
+    #[inline(never)]
+    fn find(&mut self, word: u64)
+        ensures { self.new ≡ word }
+    {
+        *self = word_moves(word);
     }
 
     /// The word in which the bit of `bits` at each 1 of this word has the weight that counts the ones below it. The moves
     /// are then those of this word.
-    #[inline(never)]
+    #[inline(always)]
     pub(crate) fn packed(&mut self, bits: u64, word: u64) -> u64
         ensures kept { self.new ≡ word }
         ensures bits { (weight : ℕ) → weight < 64 → bit_at word weight ≡ 1

@@ -19,10 +19,20 @@ pub fn packed(bits: u64, at: u64, moves: &mut [WordMoves], index: usize) -> u64
         return bits;
     }
     if index >= moves.len() {
-        let mut found = word_moves(at);
-        return found.packed(bits, at);
+        return packed_once(bits, at);
     }
     moves[index].packed(bits, at)
+}
+
+/// The same by moves that are not kept.
+#[inline(never)]
+pub fn packed_once(bits: u64, at: u64) -> u64
+    ensures bits { (weight : ℕ) → weight < 64 → bit_at at weight ≡ 1
+        → bit_at result (ones_under at weight) ≡ bit_at bits weight }
+    ensures fits { result < 2 ^ count_ones at }
+{
+    let mut found = word_moves(at);
+    found.packed(bits, at)
 }
 
 /// A word that has at each 1 of `at` the bit of `number` whose weight counts the ones below it. Its other bits may be

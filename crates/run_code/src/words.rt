@@ -10,7 +10,7 @@ ghost use Rattle.bit_vectors.specs.Vectors.{bits_number, number_bits};
 ghost use Rattle.run_code.specs.Extraction.{extract, bits_up};
 
 use crate::moves::WordMoves;
-use crate::packing::{packed, unpacked};
+use crate::packing::{packed, packed_once, unpacked};
 use bit_vectors::BitPen;
 
 /// With more ones than these all bits are moved at once: that takes fewer instructions than to visit each 1, and if
@@ -100,7 +100,7 @@ fn gathered_up(bits: u64, at: u64, ones: u32) -> u64
     ensures fits { result < 2 ^ count_ones at }
 {
     if ones > MANY {
-        return packed(bits, at, &mut [], 0);
+        return packed_once(bits, at);
     }
     let mut gathered = 0;
     let mut taken: u32 = 0;

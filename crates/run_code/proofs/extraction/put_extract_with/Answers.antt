@@ -5,7 +5,7 @@ use Rattle.std.proofs.Math.Nat.{mul-le-mul_right, pow-le-pow_right}
 use Rattle.std.proofs.lemmas.List.{length-append, append-nil}
 use Rattle.std.proofs.lemmas.Nat.Bits.{bit_at-zero}
 use Rattle.bit_vectors.specs.Vectors.{bits_number, number_bits}
-use Rattle.bit_vectors.specs.Words.{IsWord, word_count}
+use Rattle.bit_vectors.specs.Words.{IsWord}
 use Rattle.bit_vectors.proofs.NumberBits.{length-number_bits}
 use Rattle.run_code.specs.Places.{ones_from, places_before, places_down}
 use Rattle.run_code.specs.Extraction.{bits_at, extract}
@@ -78,7 +78,7 @@ loop-words-preserved-then-more-gt-MANY c =
     let all = bits_at c.args.a.now (places_before c.loop-words.words c.args.b.now) in
     let rest = bits_at c.args.a.now (places_before c.put_many-words.result c.args.b.now) in
     let bits : c.put_many-words.new.pen.bits ++ rest ≡ c.args.pen.now.bits ++ extract c.args.a.now c.args.b.now =
-        e.bits ∙ ap (λ (xs : List Bool). xs ++ all) c.put_held.ensures.bits ∙ append_assoc c.loop-words.pen.bits held all ∙ i.bits in
+    e.bits ∙ ap (λ (xs : List Bool). xs ++ all) c.put_held.ensures.bits ∙ append_assoc c.loop-words.pen.bits held all ∙ i.bits in
     record {
       room = e.room ∙ c.put_held.ensures.room ∙ i.room;
       moves = e.count ∙ i.moves;

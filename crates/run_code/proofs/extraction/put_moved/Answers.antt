@@ -1,6 +1,6 @@
 use Rattle.std.proofs.Common.{◌≡◌, ◌+◌, ◌∙◌, ◌++◌, length, List, Bool, sym, ap, arith, append_assoc}
 use Rattle.std.specs.Int.RustNames.{count_ones}
-use Rattle.bit_vectors.specs.Vectors.{bits_number, number_bits}
+use Rattle.bit_vectors.specs.Vectors.{number_bits}
 use Rattle.bit_vectors.proofs.NumberBits.{number_bits-bits_number}
 use Rattle.run_code.specs.Places.{places_before}
 use Rattle.run_code.specs.Extraction.{bits_at}
@@ -27,8 +27,8 @@ pub returns-clause-bits : goal.returns-clause-bits
 returns-clause-bits c =
     let rest = bits_at c.args.a.now (places_before c.args.index c.args.b.now) in
     let word : number_bits (count_ones c.word-at.result) c.moved-word.result ≡ word_extract c.word.result c.word-at.result =
-        ap (number_bits (count_ones c.word-at.result)) c.moved-word.ensures.number
-        ∙ rw (length-word_extract c.word.result c.word-at.result c.word-at.type_inv) at (number_bits-bits_number (word_extract c.word.result c.word-at.result)) in
+    ap (number_bits (count_ones c.word-at.result)) c.moved-word.ensures.number
+    ∙ rw (length-word_extract c.word.result c.word-at.result c.word-at.type_inv) at (number_bits-bits_number (word_extract c.word.result c.word-at.result)) in
     ap (λ (xs : List Bool). xs ++ rest) (c.put_word.ensures.bits ∙ ap (λ (xs : List Bool). c.args.pen.now.bits ++ xs) word)
     ∙ append_assoc c.args.pen.now.bits (word_extract c.word.result c.word-at.result) rest
     ∙ ap (λ (xs : List Bool). c.args.pen.now.bits ++ xs) (sym (before_step c.args.a.now c.args.b.now c.args.index c.word.result c.word-at.result c.word-at.type_inv c.word.ensures c.word-at.ensures))

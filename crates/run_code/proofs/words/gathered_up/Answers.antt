@@ -35,4 +35,4 @@ returns-clause-bits c =
     gathered_up_all c.args.bits c.loop-rest.rest c.loop-rest.taken c.loop-rest.gathered c.args.at (omega arith) c.loop-rest.invariant.count c.loop-rest.invariant.bits
 
 pub returns-then-ones-gt-MANY-clause-bits : goal.returns-then-ones-gt-MANY-clause-bits
-returns-then-ones-gt-MANY-clause-bits c = sym (number_up c.args.bits c.args.at c.packed.result (omega (arith, c.ranges.at)) c.packed.ensures.bits)
+returns-then-ones-gt-MANY-clause-bits c = sym (number_up c.args.bits c.args.at c.packed_once.result (omega (arith, c.ranges.at)) c.packed_once.ensures.bits)
