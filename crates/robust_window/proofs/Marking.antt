@@ -219,16 +219,17 @@ marked-pushed old new slots change kept mark len marks one marked (suc back) lt 
     subst (λ (v : List Bool). Contains v true) (sym (earlier_pushed slots (if mark then change else kept) [] back len (omega arith))) (marked back (omega arith) was)
 
 -- the slots with one more in place of the oldest
-pub AreChanges-pushed : (old new : Buffer (List Bool)) (marks next : ℕ) (zeros change kept : List Bool) (mark : Bool) → AreChanges old marks zeros → new ≡ buffer (drop 1 old.items ++ (if mark then change else kept) ∷ []) 16 → marks_of next ≡ drop 1 (marks_of marks) ++ mark ∷ [] → length (if mark then change else kept) ≡ length zeros
+pub AreChanges-pushed : (old new : Buffer (List Bool)) (marks next : ℕ) (zeros change kept : List Bool) (mark : Bool) → AreChanges old marks zeros → new ≡ buffer (drop 1 old.items ++ (if mark then change else kept) ∷ []) 16 → next < 65536 → marks_of next ≡ drop 1 (marks_of marks) ++ mark ∷ [] → length (if mark then change else kept) ≡ length zeros
     → (mark ≡ true → Contains change true) → AreChanges new next zeros
-AreChanges-pushed old new marks next zeros change kept mark h new_is marks_is len one =
+AreChanges-pushed old new marks next zeros change kept mark h new_is below marks_is len one =
     let slot = if mark then change else kept in
-    let fits = λ (v : List Bool). length v ≡ length zeros in
+    let fit = λ (v : List Bool). length v ≡ length zeros in
     let items = ap (λ (b : Buffer (List Bool)). b.items) new_is in
     record {
       full = ap (λ (b : Buffer (List Bool)). b.capacity) new_is;
       count = ap length items ∙ length-pushed old.items slot h.count;
-      fit = subst (All fits) (sym items) (All-pushed fits old.items slot h.fit len);
+      fit = subst (All fit) (sym items) (All-pushed fit old.items slot h.fit len);
+      fits = below;
       marked = subst (AreMarked next) (sym items) (marked-pushed marks next old.items change kept mark h.count marks_is one h.marked);
       none = h.none;
     }

@@ -3,7 +3,6 @@
 ghost use Rattle.std.specs.Prelude.{◌≡◌, ℕ, ◌+◌, ◌<◌, ◌≤◌, Contains, false, true, [], ◌∷◌, ◌++◌, length, drop, max, replicate, slice_index_or, IfOk};
 ghost use Rattle.std.specs.Bool.{OnFalse, OnTrue};
 ghost use Rattle.std.specs.List.{list_any, range_with_len};
-ghost use Rattle.circular_buffer.specs.Buffer.{buffer};
 ghost use Rattle.mask_update.specs.Masks.{vector_of};
 ghost use Rattle.robust_window.specs.Window.{change_back};
 
@@ -15,19 +14,6 @@ use std::marker::Model;
 
 /// How many of the latest changes are kept.
 const KEPT: usize = 16;
-
-/// Sixteen changes of `f` zeros.
-fn zero_changes(alloc: Global, f: u32) -> Result<HeapCircularBuffer<Bits>, NoMemory>
-    requires some { 1 ≤ f }
-    requires most { f ≤ 49152 }
-    ensures { IfOk result (λ changes. changes ≡ buffer (replicate 16 (replicate f false)) 16) }
-{
-    let mut changes = HeapCircularBuffer::with_capacity(alloc, KEPT)?;
-    for _kept in 0..KEPT {
-        changes.push_back(Bits::zeros(alloc, f)?);
-    }
-    Ok(changes)
-}
 
 /// The slot the given number of steps back, at most 15.
 fn slot_back(slots: &HeapCircularBuffer<Bits>, back: u8) -> &Bits
@@ -72,8 +58,12 @@ impl Changes {
         ensures places { IfOk result (λ changes. changes.places ≡ f) }
         ensures latest { IfOk result (λ changes. changes.latest ≡ replicate 16 (replicate f false)) }
     {
+        let mut slots = HeapCircularBuffer::with_capacity(alloc, KEPT)?;
+        for _kept in 0..KEPT {
+            slots.push_back(Bits::zeros(alloc, f)?);
+        }
         Ok(Changes {
-            slots: zero_changes(alloc, f)?,
+            slots,
             marks: 0,
             zeros: Bits::zeros(alloc, f)?,
         })
@@ -134,7 +124,9 @@ impl Changes {
         ensures stops { result < max robust most
             → Contains (change_back self.now.latest (result + 1)) true }
     {
-        marks::quiet_level(self.marks, robust, most)
+        let earlier = self.marks >> (robust + 1);
+        let level = robust + earlier.trailing_zeros() as u8;
+        level.min(robust.max(most))
     }
 
     /// Makes `recent` 1 at each place that one of the latest `count` changes has, from 1 to 16 of them, and tells whether it

@@ -13,7 +13,7 @@ slots_are c = Buffer-pushed c.self.inside.slots c.pop_front.new.self c.push_back
 pub invariant_of-self : goal.invariant_of-self
 invariant_of-self c =
     let s = c.self.inside in
-    AreChanges-pushed s.slots c.push_back.new.self s.marks c.pushed-self-inside.result s.zeros c.args.change.now c.args.change.now true c.self.invariant (slots_are (goal.at.invariant_of-self c).After-pushed-self-inside) c.pushed-self-inside.ensures
+    AreChanges-pushed s.slots c.push_back.new.self s.marks c.pushed-self-inside.result s.zeros c.args.change.now c.args.change.now true c.self.invariant (slots_are (goal.at.invariant_of-self c).After-pushed-self-inside) c.pushed-self-inside.type_inv c.pushed-self-inside.ensures
     (c.requires.places ∙ ap (λ (k : LatestChanges). k.places) (sym c.self.view_is)) (λ _. c.requires.some)
 
 pub returns : goal.returns
