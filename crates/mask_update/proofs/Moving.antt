@@ -1,22 +1,22 @@
 -- Places that move, word by word.
 use Rattle.std.proofs.Common.{◌≡◌, ◌≢◌, ℕ, ◌+◌, ◌-◌, ◌*◌, ◌/◌, ◌%◌, ◌^◌, ◌<◌, ◌≤◌, Bool, true, false, cond, eqb, List, length, replicate, get_or, bit_and, bit_xor, refl, sym, ap, subst, ◌∙◌, arith, inl, inr, eq-eqb, ne_eqb}
-use Rattle.std.specs.Prelude.{nat_le, nat_lt, not, ◌&&◌, ◌||◌, Contains}
+use Rattle.std.specs.Prelude.{IsTrue, nat_le, nat_lt, not, ◌&&◌, ◌||◌, ◌↔◌, Contains}
 use Rattle.std.specs.Int.{bit_at, bit_not, trailing_zeros, w64}
 use Rattle.std.proofs.Math.Bool.{and-false, or-false, or-true, or_assoc}
-use Rattle.std.proofs.lemmas.Bool.{cases_lt, cases_eq, le-leb, lt-leb, lt-ltb, le-ltb, false≢true}
+use Rattle.std.proofs.lemmas.Bool.{and_from, and_parts, cases_lt, cases_eq, le-leb, lt-leb, lt-ltb, le-ltb, false≢true}
 use Rattle.std.proofs.lemmas.List.{ext_get_or, get_or_default, get_or_past, length-replicate}
 use Rattle.std.proofs.lemmas.List.Elements.{Contains-get_or}
 use Rattle.std.proofs.lemmas.Simd.{length-zip2}
 use Rattle.std.proofs.lemmas.Nat.Bits.{bit_at-trailing_zeros, bit_at-zero, same_from_bits_below}
 use Rattle.std.proofs.lemmas.Nat.{xor_lt}
-use Rattle.bit_vectors.specs.Vectors.{NoneIsOne, or_bits, xor_bits}
+use Rattle.bit_vectors.specs.Vectors.{NoneIsOne, xor_bits}
 use Rattle.bit_vectors.specs.Words.{IsWord, HasNoSpareBit}
 use Rattle.bit_vectors.proofs.ByteBits.{zeros_is}
 use Rattle.bit_vectors.proofs.Lists.{get_or-replicate_same}
 use Rattle.bit_vectors.proofs.Numbers.{same_bit}
 use Rattle.bit_vectors.proofs.Places.{get_or-zip2_all, zip2_is}
 use Rattle.bit_vectors.proofs.WordBits.{Bitwise, Bitwise-drop, Bitwise-xor}
-use Rattle.mask_update.specs.Masks.{HaveMoved, Running}
+use Rattle.mask_update.specs.Masks.{Advances, HaveMoved, Running, Walked, moves_in}
 
 -- ---- bits
 
@@ -97,7 +97,7 @@ some_written old new index word below some written =
 
 -- ---- no, the same, and further places
 
-pub HaveMoved-none : (p : ℕ → Bool) (value : Running) → ((k : ℕ) → p k ≡ false) → HaveMoved p value value
+HaveMoved-none : (p : ℕ → Bool) (value : Running) → ((k : ℕ) → p k ≡ false) → HaveMoved p value value
 HaveMoved-none p value none = record {
   previous = λ k. rw (none k) (sym (xor_none (get_or value.previous k false)));
   build = λ k. rw (none k) (sym (or-false (get_or value.build k false)));
@@ -110,7 +110,7 @@ HaveMoved-none p value none = record {
   taken = refl;
 }
 
-pub HaveMoved-same : (p q : ℕ → Bool) (old new : Running) → ((k : ℕ) → p k ≡ q k) → HaveMoved p old new → HaveMoved q old new
+HaveMoved-same : (p q : ℕ → Bool) (old new : Running) → ((k : ℕ) → p k ≡ q k) → HaveMoved p old new → HaveMoved q old new
 HaveMoved-same p q old new same h = record {
   previous = λ k. h.previous k ∙ ap (λ (b : Bool). cond (get_or old.previous k false) (not b) b) (same k);
   build = λ k. h.build k ∙ ap (λ (b : Bool). get_or old.build k false || b) (same k);
@@ -142,7 +142,7 @@ change_both false false q true = refl
 change_both false false q false = refl
 
 -- some places, and then others
-pub HaveMoved-then : (p q r : ℕ → Bool) (old mid new : Running) → ((k : ℕ) → (r k ≡ (p k || q k)) × ((p k && q k) ≡ false)) → HaveMoved p old mid → HaveMoved q mid new → HaveMoved r old new
+HaveMoved-then : (p q r : ℕ → Bool) (old mid new : Running) → ((k : ℕ) → (r k ≡ (p k || q k)) × ((p k && q k) ≡ false)) → HaveMoved p old mid → HaveMoved q mid new → HaveMoved r old new
 HaveMoved-then p q r old mid new parts h g =
     HaveMoved-same (λ k. p k || q k) r old new (λ k. sym (parts k).0) (record {
       previous = λ k. g.previous k ∙ rw (h.previous k) (xor_apart (get_or old.previous k false) (p k) (q k) (parts k).1);
@@ -158,68 +158,67 @@ HaveMoved-then p q r old mid new parts h g =
 
 -- ---- the places of some words
 
--- those of the given ones that are in a word from one number up to, but not including, another
-abbrev pub moves_in : List Bool → ℕ → ℕ → ℕ → Bool
-moves_in moved from to place = nat_le from (place / 64) && (nat_lt (place / 64) to && get_or moved place false)
-
-pub moves_in-parts : (moved : List Bool) (from mid to : ℕ) → from ≤ mid → mid ≤ to → (k : ℕ) → (moves_in moved from to k ≡ (moves_in moved from mid k || moves_in moved mid to k)) × ((moves_in moved from mid k && moves_in moved mid to k) ≡ false)
+moves_in-parts : (moved : List Bool) (from mid to : ℕ) → from ≤ mid → mid ≤ to → (k : ℕ) → (moves_in moved from to k ≡ (moves_in moved from mid k || moves_in moved mid to k)) × ((moves_in moved from mid k && moves_in moved mid to k) ≡ false)
 moves_in-parts moved from mid to le_mid le_to k =
     elim (cases_lt (k / 64) mid) [
       | inl below ↦ rw (lt-ltb (k / 64) mid below, lt-leb mid (k / 64) below, lt-ltb (k / 64) to (omega arith)) (sym (or-false (nat_le from (k / 64) && get_or moved k false)), and-false (nat_le from (k / 64) && get_or moved k false))
       | inr above ↦ rw (le-ltb (k / 64) mid above, le-leb mid (k / 64) above, le-leb from (k / 64) (omega arith)) (refl, refl)
     ]
 
-pub moves_in-empty : (moved : List Bool) (at k : ℕ) → moves_in moved at at k ≡ false
-moves_in-empty moved at k =
-    elim (cases_lt (k / 64) at) [
-      | inl below ↦ rw (lt-leb at (k / 64) below) refl
-      | inr above ↦ rw (le-ltb (k / 64) at above) (and-false (nat_le at (k / 64)))
+-- no place of the words has moved
+pub Walked-none : (input : List Bool) (from to : ℕ) (value : Running) → NoneIsOne (xor_bits value.previous input) (64 * from) (64 * to) → Walked input from to true value value
+Walked-none input from to value none = record {
+  moved = HaveMoved-none _ value (λ k. elim (cases_lt (k / 64) from) [
+    | inl below ↦ rw (lt-leb from (k / 64) below) refl
+    | inr above ↦ elim (cases_lt (k / 64) to) [
+      | inl within ↦ rw (none k (omega arith) (omega arith), lt-ltb (k / 64) to within) (and-false (nat_le from (k / 64)))
+      | inr past ↦ rw (le-ltb (k / 64) to past) (and-false (nat_le from (k / 64)))
     ]
+  ]);
+  same = (λ _. none, λ _. refl);
+}
 
 -- The places of the words from a number on move by what the previous input still is there.
-module _ (input : List Bool) (from mid : ℕ) (old value : Running) (h : HaveMoved (moves_in (xor_bits old.previous input) from mid) old value) (len : length old.previous ≡ length input) where
-  pub still_moved : (k : ℕ) → mid ≤ k / 64 → get_or (xor_bits value.previous input) k false ≡ get_or (xor_bits old.previous input) k false
+module _ (input : List Bool) (from mid : ℕ) (before : Bool) (old value : Running) (h : Walked input from mid before old value) (len : length old.previous ≡ length input) where
+  still_moved : (k : ℕ) → mid ≤ k / 64 → get_or (xor_bits value.previous input) k false ≡ get_or (xor_bits old.previous input) k false
   still_moved k above =
       let out : moves_in (xor_bits old.previous input) from mid k ≡ false = rw (le-ltb (k / 64) mid above) (and-false (nat_le from (k / 64))) in
-      let same : get_or value.previous k false ≡ get_or old.previous k false = h.previous k ∙ rw out (xor_none (get_or old.previous k false)) in
-      get_or-zip2_all _ refl value.previous input k (h.previous_len ∙ len) ∙ rw same refl ∙ sym (get_or-zip2_all _ refl old.previous input k len)
+      let same : get_or value.previous k false ≡ get_or old.previous k false = h.moved.previous k ∙ rw out (xor_none (get_or old.previous k false)) in
+      get_or-zip2_all _ refl value.previous input k (h.moved.previous_len ∙ len) ∙ rw same refl ∙ sym (get_or-zip2_all _ refl old.previous input k len)
 
-  -- the places of further words
-  pub moved_on : (new : Running) (to : ℕ) → from ≤ mid → mid ≤ to → HaveMoved (moves_in (xor_bits value.previous input) mid to) value new → HaveMoved (moves_in (xor_bits old.previous input) from to) old new
-  moved_on new to le_mid le_to g =
-      HaveMoved-then _ (moves_in (xor_bits old.previous input) mid to) _ old value new (moves_in-parts (xor_bits old.previous input) from mid to le_mid le_to) h
-      (HaveMoved-same _ _ value new (λ k. elim (cases_lt (k / 64) mid) [
-        | inl below ↦ rw (lt-leb mid (k / 64) below) refl
-        | inr above ↦ ap (λ (b : Bool). nat_le mid (k / 64) && (nat_lt (k / 64) to && b)) (still_moved k above)
-      ]) g)
-
-  -- no place of further words
-  pub moved_no_more : (to : ℕ) → from ≤ mid → mid ≤ to → NoneIsOne (xor_bits value.previous input) (64 * mid) (64 * to) → HaveMoved (moves_in (xor_bits old.previous input) from to) old value
-  moved_no_more to le_mid le_to none =
-      moved_on value to le_mid le_to
-      (HaveMoved-none _ value (λ k. elim (cases_lt (k / 64) mid) [
-        | inl below ↦ rw (lt-leb mid (k / 64) below) refl
-        | inr above ↦ elim (cases_lt (k / 64) to) [
-          | inl within ↦ rw (none k (omega arith) (omega arith), lt-ltb (k / 64) to within) (and-false (nat_le mid (k / 64)))
-          | inr past ↦ rw (le-ltb (k / 64) to past) (and-false (nat_le mid (k / 64)))
-        ]
-      ]))
+  -- further words
+  pub Walked-then : (new : Running) (to : ℕ) (here : Bool) → from ≤ mid → mid ≤ to → Walked input mid to here value new → Walked input from to (here && before) old new
+  Walked-then new to here le_mid le_to g = record {
+    moved =
+        HaveMoved-then _ (moves_in (xor_bits old.previous input) mid to) _ old value new (moves_in-parts (xor_bits old.previous input) from mid to le_mid le_to) h.moved
+        (HaveMoved-same _ _ value new (λ k. elim (cases_lt (k / 64) mid) [
+          | inl below ↦ rw (lt-leb mid (k / 64) below) refl
+          | inr above ↦ ap (λ (b : Bool). nat_le mid (k / 64) && (nat_lt (k / 64) to && b)) (still_moved k above)
+        ]) g.moved);
+    same = (
+      λ both k ge lt. let parts = and_parts here before both in elim (cases_lt k (64 * mid)) [
+        | inl early ↦ h.same.0 parts.1 k ge early
+        | inr late ↦ sym (still_moved k (omega arith)) ∙ g.same.0 parts.0 k late lt
+      ],
+      λ none. and_from here before (g.same.1 (λ k ge lt. still_moved k (omega arith) ∙ none k (omega arith) lt)) (h.same.1 (λ k ge lt. none k ge (omega arith))),
+    );
+  }
 
 -- ---- a word of each of two vectors
 
-module _ (v w : List Bool) (index a b : ℕ) (len : length v ≡ length w) (v_is : IsWord v index a) (w_is : IsWord w index b) (a_below : a < 2 ^ 64) (b_below : b < 2 ^ 64) where
-  pub differ_spare : HasNoSpareBit (length v) index (bit_xor a b)
-  differ_spare = op_spare _ _ Bitwise-xor index a b b_below (length v) (IsWord-spare v index a v_is) (rw len (IsWord-spare w index b w_is))
+module _ (value : Running) (w : List Bool) (index a b : ℕ) (len : length value.previous ≡ length w) (v_is : IsWord value.previous index a) (w_is : IsWord w index b) (a_below : a < 2 ^ 64) (b_below : b < 2 ^ 64) where
+  pub differ_spare : HasNoSpareBit (length value.previous) index (bit_xor a b)
+  differ_spare = op_spare _ _ Bitwise-xor index a b b_below (length value.previous) (IsWord-spare value.previous index a v_is) (rw len (IsWord-spare w index b w_is))
 
-  differ_at : (k : ℕ) → k / 64 ≡ index → eqb (bit_at (bit_xor a b) (63 - k % 64)) 1 ≡ get_or (xor_bits v w) k false
+  differ_at : (k : ℕ) → k / 64 ≡ index → eqb (bit_at (bit_xor a b) (63 - k % 64)) 1 ≡ get_or (xor_bits value.previous w) k false
   differ_at k here =
       let at : 64 * index + k % 64 ≡ k = omega arith in
-      let v_bit : eqb (bit_at a (63 - k % 64)) 1 ≡ get_or v k false = v_is (k % 64) (omega arith) ∙ ap (λ (p : ℕ). get_or v p false) at in
+      let v_bit : eqb (bit_at a (63 - k % 64)) 1 ≡ get_or value.previous k false = v_is (k % 64) (omega arith) ∙ ap (λ (p : ℕ). get_or value.previous p false) at in
       let w_bit : eqb (bit_at b (63 - k % 64)) 1 ≡ get_or w k false = w_is (k % 64) (omega arith) ∙ ap (λ (p : ℕ). get_or w p false) at in
-      Bitwise-xor.bits a b (63 - k % 64) b_below (omega arith) ∙ rw (v_bit, w_bit) (sym (get_or-zip2_all _ refl v w k len))
+      Bitwise-xor.bits a b (63 - k % 64) b_below (omega arith) ∙ rw (v_bit, w_bit) (sym (get_or-zip2_all _ refl value.previous w k len))
 
   -- the places at which they differ
-  pub differ_there : (k : ℕ) → in_word index (bit_xor a b) k ≡ moves_in (xor_bits v w) index (index + 1) k
+  differ_there : (k : ℕ) → in_word index (bit_xor a b) k ≡ moves_in (xor_bits value.previous w) index (index + 1) k
   differ_there k =
       elim (cases_eq (k / 64) index) [
         | inl here ↦ rw (eq-eqb (k / 64) index here, le-leb index (k / 64) (omega arith), lt-ltb (k / 64) (index + 1) (omega arith)) (differ_at k here)
@@ -230,24 +229,24 @@ module _ (v w : List Bool) (index a b : ℕ) (len : length v ≡ length w) (v_is
       ]
 
   -- none exactly if the words differ in no bit
-  pub none_differ : bit_xor a b ≡ 0 → NoneIsOne (xor_bits v w) (64 * index) (64 * (index + 1))
+  pub none_differ : bit_xor a b ≡ 0 → NoneIsOne (xor_bits value.previous w) (64 * index) (64 * (index + 1))
   none_differ none k from to = sym (differ_at k (omega arith)) ∙ rw (none, bit_at-zero (63 - k % 64)) refl
 
-  pub no_difference : NoneIsOne (xor_bits v w) (64 * index) (64 * (index + 1)) → bit_xor a b ≡ 0
+  pub no_difference : NoneIsOne (xor_bits value.previous w) (64 * index) (64 * (index + 1)) → bit_xor a b ≡ 0
   no_difference none =
       same_from_bits_below 64 (bit_xor a b) 0 (xor_lt 64 a b a_below b_below) (omega arith) (λ i lt.
       let k = 64 * index + (63 - i) in
       let weight : 63 - k % 64 ≡ i = omega arith in
       zero_from (bit_xor a b) i (rw weight at (differ_at k (omega arith)) ∙ none k (omega arith) (omega arith)) ∙ sym (bit_at-zero i))
 
--- ---- all places
+  -- the places at which they differ have moved, and there is one
+  pub Walked-word : (new : Running) → bit_xor a b ≢ 0 → HaveMoved (in_word index (bit_xor a b)) value new → Walked w index (index + 1) false value new
+  Walked-word new some moved = record {
+    moved = HaveMoved-same _ _ value new differ_there moved;
+    same = (λ is. absurd (false≢true is), λ none. absurd (some (no_difference none)));
+  }
 
-pub moves_in-all : (moved : List Bool) (count : ℕ) → length moved ≤ 64 * count → (k : ℕ) → moves_in moved 0 count k ≡ get_or moved k false
-moves_in-all moved count most k =
-    elim (cases_lt (k / 64) count) [
-      | inl within ↦ rw (le-leb 0 (k / 64) (omega arith), lt-ltb (k / 64) count within) refl
-      | inr past ↦ rw (le-leb 0 (k / 64) (omega arith), le-ltb (k / 64) count past) (sym (get_or_past moved k false (omega arith)))
-    ]
+-- ---- all places
 
 xor_back : (bit c : Bool) → cond bit (not (cond bit (not c) c)) (cond bit (not c) c) ≡ c
 xor_back true true = refl
@@ -255,29 +254,51 @@ xor_back true false = refl
 xor_back false true = refl
 xor_back false false = refl
 
+xor_same : (a b : Bool) → cond a (not b) b ≡ false → a ≡ b
+xor_same true true none = refl
+xor_same false false none = refl
+xor_same true false none = absurd cc
+xor_same false true none = absurd cc
+
+xor_self : (bit : Bool) → cond bit (not bit) bit ≡ false
+xor_self true = refl
+xor_self false = refl
+
 fresh_change : (mask moves : Bool) → (false || (moves && not mask)) ≡ cond mask (not (mask || moves)) (mask || moves)
 fresh_change true true = refl
 fresh_change true false = refl
 fresh_change false true = refl
 fresh_change false false = refl
 
-module _ (input : List Bool) (old new : Running) (h : HaveMoved (λ k. get_or (xor_bits old.previous input) k false) old new) (len : length old.previous ≡ length input) (places : length old.mask ≡ length input) where
-  moved_len : length (xor_bits old.previous input) ≡ length input
+module _ (input : List Bool) (count : ℕ) (none : Bool) (old new : Running) (h : Walked input 0 count none old new) (len : length old.previous ≡ length input) (most : length input ≤ 64 * count) where
+  abbrev moved : List Bool
+  moved = xor_bits old.previous input
+
+  moved_len : length moved ≡ length input
   moved_len = length-zip2 _ old.previous input len ∙ len
 
-  pub all_moved-build : length old.build ≡ length input → new.build ≡ or_bits old.build (xor_bits old.previous input)
-  all_moved-build build_len = zip2_is _ old.build (xor_bits old.previous input) new.build (build_len ∙ sym moved_len) h.build_len (λ k lt. h.build k)
+  all : HaveMoved (λ k. get_or moved k false) old new
+  all = HaveMoved-same _ _ old new (λ k. elim (cases_lt (k / 64) count) [
+    | inl within ↦ rw (le-leb 0 (k / 64) (omega arith), lt-ltb (k / 64) count within) refl
+    | inr past ↦ rw (le-leb 0 (k / 64) (omega arith), le-ltb (k / 64) count past) (sym (get_or_past moved k false (omega (arith, moved_len))))
+  ]) h.moved
 
-  pub all_moved-mask : new.mask ≡ or_bits old.mask (xor_bits old.previous input)
-  all_moved-mask = zip2_is _ old.mask (xor_bits old.previous input) new.mask (places ∙ sym moved_len) h.mask_len (λ k lt. h.mask k)
+  pub Walked-same : IsTrue none ↔ (old.previous ≡ input)
+  Walked-same = (
+    λ is. ext_get_or false old.previous input len (λ k lt. xor_same _ _ (sym (get_or-zip2_all _ refl old.previous input k len) ∙ h.same.0 is k (omega arith) (omega arith))),
+    λ same. h.same.1 (λ k ge lt. get_or-zip2_all _ refl old.previous input k len ∙ rw same (xor_self (get_or input k false))),
+  )
 
-  pub all_moved-previous : new.previous ≡ input
-  all_moved-previous =
-      ext_get_or false new.previous input (h.previous_len ∙ len) (λ k lt. h.previous k ∙ rw (get_or-zip2_all _ refl old.previous input k len) (xor_back (get_or old.previous k false) (get_or input k false)))
-
-  pub all_moved-change : old.change ≡ replicate (length old.mask) false → new.change ≡ xor_bits old.mask new.mask
-  all_moved-change none =
-      zip2_is _ old.mask new.mask new.change (sym h.mask_len) (h.change_len ∙ ap length none ∙ length-replicate (length old.mask) false)
-      (λ k lt.
-      let was : get_or old.change k false ≡ false = ap (λ (v : List Bool). get_or v k false) none ∙ get_or-replicate_same (length old.mask) k false in
-      h.change k ∙ rw (was, h.mask k) (fresh_change (get_or old.mask k false) (get_or (xor_bits old.previous input) k false)))
+  pub Walked-all : length old.mask ≡ length input → length old.build ≡ length input → old.change ≡ replicate (length old.mask) false → Advances input false old new
+  Walked-all places build_len zeros = record {
+    build = zip2_is _ old.build moved new.build (build_len ∙ sym moved_len) all.build_len (λ k lt. all.build k);
+    mask = zip2_is _ old.mask moved new.mask (places ∙ sym moved_len) all.mask_len (λ k lt. all.mask k);
+    change =
+        zip2_is _ old.mask new.mask new.change (sym all.mask_len) (all.change_len ∙ ap length zeros ∙ length-replicate (length old.mask) false)
+        (λ k lt.
+        let was : get_or old.change k false ≡ false = ap (λ (v : List Bool). get_or v k false) zeros ∙ get_or-replicate_same (length old.mask) k false in
+        all.change k ∙ rw (was, all.mask k) (fresh_change (get_or old.mask k false) (get_or moved k false)));
+    previous = ext_get_or false new.previous input (all.previous_len ∙ len) (λ k lt. all.previous k ∙ rw (get_or-zip2_all _ refl old.previous input k len) (xor_back (get_or old.previous k false) (get_or input k false)));
+    places = all.mask_len;
+    taken = all.taken;
+  }

@@ -5,7 +5,7 @@ use Rattle.std.proofs.lemmas.Bool.{false≢true}
 use Rattle.std.proofs.lemmas.List.{get_or_append_left, get_or_at, length_push}
 use Rattle.bit_vectors.specs.Vectors.{xor_bits}
 use Rattle.mask_update.specs.Histories.{History, Step, input_at, latest_step, no_step, no_steps, step_at, with_step}
-use Rattle.mask_update.specs.Masks.{ComesAgain, Running, StandsFor, build_at, change_at, mask_at, has_moved, latest_new_mask, new_mask_at, next_build, next_mask, second_latest_new_mask, input_bit}
+use Rattle.mask_update.specs.Masks.{Advances, ComesAgain, Running, StandsFor, build_at, change_at, mask_at, has_moved, latest_new_mask, new_mask_at, next_build, next_mask, second_latest_new_mask, input_bit}
 use Rattle.mask_update.proofs.StepByStep.{build_at-suc, build_at-zero, length-mask_at, mask_at-suc, mask_at-zero, moved_at, moved_is, vector_of_same}
 
 pub step_at-before : (h : History) (step : Step) (t : ℕ) → t < length h.steps → step_at (with_step h step) t ≡ step_at h t
@@ -91,25 +91,25 @@ stands_at h value t at previous build mask change again taken =
       taken = taken;
     }
 
--- the first input does not change the running vectors
-pub StandsFor-first : (h : History) (step : Step) (old new : Running) → StandsFor h old → old.taken ≡ 0 → new.previous ≡ step.input → new.build ≡ old.build → new.mask ≡ old.mask → new.change ≡ old.change → new.again ≡ false → new.taken ≡ 1 → StandsFor (with_step h step) new
-StandsFor-first h step old new s start previous build mask change again taken =
+-- the first input does not change the masks
+pub StandsFor-first : (h : History) (step : Step) (old : Running) → StandsFor h old → old.taken ≡ 0 → StandsFor (with_step h step) (record old { previous = step.input; change = replicate (length old.mask) false; again = false; taken = 1 })
+StandsFor-first h step old s start =
     let none : length h.steps ≡ 0 = sym s.taken ∙ start in
     let at : latest_step h ≡ 0 = omega arith in
     let last : step_at (with_step h step) 0 ≡ step = ap (step_at (with_step h step)) (sym none) ∙ step_at-last h step in
-    stands_at (with_step h step) new 0 (latest_step-with_step h step ∙ none)
-    (previous ∙ sym (ap (λ (x : Step). x.input) last))
-    (build ∙ s.build ∙ ap (build_at h) at ∙ build_at-zero h ∙ sym (build_at-zero (with_step h step)))
-    (mask ∙ s.mask ∙ ap (mask_at h) at ∙ sym (mask_at-start h step))
-    (change ∙ s.change ∙ ap (change_at h) at ∙ change_at-zero h ∙ sym (change_at-zero (with_step h step)))
-    (λ is. absurd (false≢true (sym again ∙ is)), λ comes. absurd (omega (arith, comes.0)))
-    (taken ∙ omega (arith, length_push h.steps step))
+    stands_at (with_step h step) _ 0 (latest_step-with_step h step ∙ none)
+    (sym (ap (λ (x : Step). x.input) last))
+    (s.build ∙ ap (build_at h) at ∙ build_at-zero h ∙ sym (build_at-zero (with_step h step)))
+    (s.mask ∙ ap (mask_at h) at ∙ sym (mask_at-start h step))
+    (ap (λ n. replicate n false) (ap length s.mask ∙ length-mask_at h (latest_step h)) ∙ sym (change_at-zero (with_step h step)))
+    (λ is. absurd (false≢true is), λ comes. absurd (omega (arith, comes.0)))
+    (omega (arith, none, length_push h.steps step))
 
 -- each later input updates them by the recurrences
-pub StandsFor-next : (h : History) (step : Step) (old new : Running) → StandsFor h old → 0 < old.taken → length old.previous ≡ length old.mask → length step.input ≡ length old.mask → new.previous ≡ step.input → new.build ≡ next_build step.flags.p (xor_bits old.previous step.input) old.build → new.mask ≡ next_mask step.flags.p (xor_bits old.previous step.input) old.build old.mask → new.change ≡ xor_bits old.mask new.mask → (IsTrue new.again ↔ ((step.flags.p ≡ false) × (old.previous ≡ step.input))) → new.taken ≡ old.taken + 1 → StandsFor (with_step h step) new
-StandsFor-next h step old new s some len input_len previous build mask change again taken = next_in (latest_step h) refl
+pub StandsFor-next : (h : History) (step : Step) (old new : Running) (again : Bool) → StandsFor h old → 0 < old.taken → length old.previous ≡ length old.mask → length step.input ≡ length old.mask → Advances step.input step.flags.p old new → (IsTrue again ↔ ((step.flags.p ≡ false) × (old.previous ≡ step.input))) → StandsFor (with_step h step) (record new { again = again; taken = new.taken + 1 })
+StandsFor-next h step old new again s some len input_len a comes_again = next_in (latest_step h) refl
   where
-    next_in : (t : ℕ) → latest_step h ≡ t → StandsFor (with_step h step) new
+    next_in : (t : ℕ) → latest_step h ≡ t → StandsFor (with_step h step) (record new { again = again; taken = new.taken + 1 })
     next_in t at =
         let count : length h.steps ≡ suc t = omega (arith, s.taken) in
         let after : History = with_step h step in
@@ -126,20 +126,20 @@ StandsFor-next h step old new s some len input_len previous build mask change ag
         let build_was : old.build ≡ build_at after t = s.build ∙ ap (build_at h) at ∙ sym (build_at-before h step t (omega arith)) in
         let mask_was : old.mask ≡ mask_at after t = s.mask ∙ ap (mask_at h) at ∙ sym (mask_at-before h step t (omega arith)) in
         let mask_is : new.mask ≡ mask_at after (suc t) =
-        mask ∙ ap (λ b. next_mask b (xor_bits old.previous step.input) old.build old.mask) new_mask
+        a.mask ∙ ap (λ b. next_mask b (xor_bits old.previous step.input) old.build old.mask) new_mask
         ∙ ap (λ v. next_mask (new_mask_at after (suc t)) v old.build old.mask) moved
         ∙ ap (λ v. next_mask (new_mask_at after (suc t)) (moved_at after (suc t)) v old.mask) build_was
         ∙ ap (λ v. next_mask (new_mask_at after (suc t)) (moved_at after (suc t)) (build_at after t) v) mask_was
         ∙ sym (mask_at-suc after t) in
-        stands_at after new (suc t) (latest_step-with_step h step ∙ count)
-        (previous ∙ is)
-        (build ∙ ap (λ b. next_build b (xor_bits old.previous step.input) old.build) new_mask
+        stands_at after _ (suc t) (latest_step-with_step h step ∙ count)
+        (a.previous ∙ is)
+        (a.build ∙ ap (λ b. next_build b (xor_bits old.previous step.input) old.build) new_mask
         ∙ ap (λ v. next_build (new_mask_at after (suc t)) v old.build) moved
         ∙ ap (λ v. next_build (new_mask_at after (suc t)) (moved_at after (suc t)) v) build_was
         ∙ sym (build_at-suc after t))
         mask_is
-        (change ∙ ap (λ v. xor_bits v new.mask) mask_was ∙ ap (xor_bits (mask_at after t)) mask_is ∙ change_at-suc after t) (
-          λ told. let comes = again.0 told in (omega arith, sym new_mask ∙ comes.0, ap (input_at after) back ∙ sym was ∙ comes.1 ∙ is),
-          λ comes. again.1 (new_mask ∙ comes.1, was ∙ ap (input_at after) (sym back) ∙ comes.2 ∙ sym is),
+        (a.change ∙ ap (λ v. xor_bits v new.mask) mask_was ∙ ap (xor_bits (mask_at after t)) mask_is ∙ change_at-suc after t) (
+          λ told. let comes = comes_again.0 told in (omega arith, sym new_mask ∙ comes.0, ap (input_at after) back ∙ sym was ∙ comes.1 ∙ is),
+          λ comes. comes_again.1 (new_mask ∙ comes.1, was ∙ ap (input_at after) (sym back) ∙ comes.2 ∙ sym is),
         )
-        (taken ∙ omega (arith, s.taken, length_push h.steps step))
+        (omega (arith, a.taken, s.taken, length_push h.steps step))

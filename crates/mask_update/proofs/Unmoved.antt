@@ -1,5 +1,5 @@
 -- An input equal to the one before it moves no place.
-use Rattle.std.proofs.Common.{◌≡◌, Bool, true, false, List, [], ◌∷◌, length, replicate, refl, sym, ap, ◌∙◌, arith}
+use Rattle.std.proofs.Common.{◌≡◌, Bool, true, false, List, [], ◌∷◌, length, refl, sym, ap, ◌∙◌, arith}
 use Rattle.bit_vectors.specs.Vectors.{or_bits, xor_bits}
 
 or_unmoved : (v input : List Bool) → length v ≡ length input → or_bits v (xor_bits input input) ≡ v
@@ -12,8 +12,3 @@ or_unmoved (false ∷ v) (false ∷ input) len = ap (λ bits. false ∷ bits) (o
 
 pub stays : (v was input : List Bool) → was ≡ input → length v ≡ length input → v ≡ or_bits v (xor_bits was input)
 stays v was input same len = sym (ap (λ x. or_bits v (xor_bits x input)) same ∙ or_unmoved v input len)
-
-pub no_change : (v : List Bool) → replicate (length v) false ≡ xor_bits v v
-no_change [] = refl
-no_change (true ∷ v) = ap (λ bits. false ∷ bits) (no_change v)
-no_change (false ∷ v) = ap (λ bits. false ∷ bits) (no_change v)

@@ -1,8 +1,8 @@
 -- Mask, build and change vectors (CCSDS 124.0-B-1), each as a question about the whole history.
-use Rattle.std.specs.Prelude.{◌≡◌, ◌≢◌, ℕ, zero, suc, ◌+◌, ◌-◌, ◌<◌, ◌≤◌, ◌==◌, ◌↔◌, Bool, false, not, IsTrue, ◌&&◌, ◌||◌, if◌then◌else◌, List, map, reverse, find, unwrap_or, length, replicate, slice_index_or, true, Contains}
+use Rattle.std.specs.Prelude.{◌≡◌, ◌≢◌, ℕ, zero, suc, ◌+◌, ◌-◌, ◌*◌, ◌/◌, ◌<◌, ◌≤◌, nat_le, nat_lt, ◌==◌, ◌↔◌, Bool, false, not, IsTrue, ◌&&◌, ◌||◌, if◌then◌else◌, List, map, reverse, find, unwrap_or, length, replicate, slice_index_or, true, Contains}
 use Rattle.std.specs.List.{range_with_len, list_any}
 use Rattle.std.specs.Bool.{OnFalse, OnTrue}
-use Rattle.bit_vectors.specs.Vectors.{IsVector, xor_bits, or_bits}
+use Rattle.bit_vectors.specs.Vectors.{IsVector, NoneIsOne, xor_bits, or_bits}
 use Rattle.mask_update.specs.Histories.{History, input_at, flags_at, latest_step}
 
 -- the bit of the input at a step
@@ -110,8 +110,27 @@ pub record HaveMoved (moves : ℕ → Bool) (old new : Running) : Type 0 where
   pub change_len : length new.change ≡ length old.change
   pub taken : new.taken ≡ old.taken
 
+-- the places of a vector that are 1 in the words from one number up to, but not including, another
+abbrev pub moves_in : List Bool → ℕ → ℕ → ℕ → Bool
+moves_in moved from to place = nat_le from (place / 64) && (nat_lt (place / 64) to && slice_index_or moved place false)
+
+-- These words were walked over: their places at which the input differs from the previous one have moved, and it is told
+-- whether there is none.
+pub record Walked (input : List Bool) (from to : ℕ) (unmoved : Bool) (old new : Running) : Type 0 where
+  pub moved : HaveMoved (moves_in (xor_bits old.previous input) from to) old new
+  pub same : IsTrue unmoved ↔ NoneIsOne (xor_bits old.previous input) (64 * from) (64 * to)
+
+-- What the running vectors become at an input that is not the first.
+pub record Advances (input : List Bool) (new_mask : Bool) (old new : Running) : Type 0 where
+  pub build : new.build ≡ next_build new_mask (xor_bits old.previous input) old.build
+  pub mask : new.mask ≡ next_mask new_mask (xor_bits old.previous input) old.build old.mask
+  pub change : new.change ≡ xor_bits old.mask new.mask
+  pub previous : new.previous ≡ input
+  pub places : length new.mask ≡ length old.mask
+  pub taken : new.taken ≡ old.taken
+
 -- The running vectors have the same length, which is a valid one, and the number of inputs is within its bound. It is
--- known whether there is a change; before the first input there is none.
+-- known whether there is a change.
 pub record AreRunning (previous build mask change : List Bool) (still : Bool) (taken : ℕ) : Type 0 where
   pub vector : IsVector mask
   pub previous_len : length previous ≡ length mask
@@ -120,4 +139,3 @@ pub record AreRunning (previous build mask change : List Bool) (still : Bool) (t
   pub no_change : OnTrue still (change ≡ replicate (length mask) false)
   pub some_change : OnFalse still (Contains change true)
   pub most : taken ≤ 4294967296
-  pub start : taken ≡ 0 → change ≡ replicate (length mask) false

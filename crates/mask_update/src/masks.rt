@@ -6,7 +6,7 @@ ghost use Rattle.std.specs.Int.{bit_at};
 ghost use Rattle.mask_update.specs.Histories.{History, Step, latest_step, no_steps, with_step};
 ghost use Rattle.bit_vectors.specs.Vectors.{IsVector, NoneIsOne, or_bits, xor_bits};
 ghost use Rattle.bit_vectors.specs.Words.{word_count, HasNoSpareBit};
-ghost use Rattle.mask_update.specs.Masks.{ComesAgain, HaveMoved, StandsFor, build_at, change_at, mask_at, next_build, next_mask};
+ghost use Rattle.mask_update.specs.Masks.{Advances, ComesAgain, HaveMoved, StandsFor, Walked, build_at, change_at, mask_at};
 
 use bit_vectors::{Bits, NoMemory};
 use std::alloc::Global;
@@ -92,34 +92,22 @@ impl Masks {
             self.advance(input, new_mask)
         } else {
             self.previous.copy_from(input);
+            self.clear_change();
             false
         };
         self.again = again;
         self.taken += 1;
     }
 
-    /// The standard's recurrences. Without a new mask only the words that changed are written. An input equal to the
-    /// previous one, with no new mask, keeps mask and build: returns whether it is so.
+    /// The standard's recurrences. Without a new mask only the words that changed are written. Returns whether the input is
+    /// equal to the previous one, with no new mask.
     fn advance(&mut self, input: &Bits, new_mask: bool) -> bool
         requires places { length input.now ≡ length self.old.mask }
-        requires some { 0 < self.old.taken }
-        ensures build { let moved = xor_bits self.old.previous input.now in
-            self.new.build ≡ next_build new_mask moved self.old.build }
-        ensures mask { let moved = xor_bits self.old.previous input.now in
-            self.new.mask ≡ next_mask new_mask moved self.old.build self.old.mask }
-        ensures change { self.new.change ≡ xor_bits self.old.mask self.new.mask }
-        ensures previous { self.new.previous ≡ input.now }
+        ensures next { Advances input.now new_mask self.old self.new }
         ensures again { IsTrue result ↔ ((new_mask ≡ false) × (self.old.previous ≡ input.now)) }
-        ensures places { length self.new.mask ≡ length self.old.mask }
-        ensures taken { self.new.taken ≡ self.old.taken }
     {
-        if !new_mask && self.previous.same(input) {
-            self.clear_change();
-            return true;
-        }
         if !new_mask {
-            self.move_places(input);
-            return false;
+            return self.move_places(input);
         }
         self.previous.xor_in(input);
         self.change.copy_from(&self.mask);
@@ -142,29 +130,34 @@ impl Masks {
         }
     }
 
-    /// The recurrences without a new mask, in one walk. Words are compared eight at a time.
-    fn move_places(&mut self, input: &Bits)
+    /// The recurrences without a new mask, in one walk. Words are compared eight at a time. Returns whether the input is equal
+    /// to the previous one.
+    fn move_places(&mut self, input: &Bits) -> bool
         requires places { length input.now ≡ length self.old.mask }
-        requires some { 0 < self.old.taken }
-        ensures build { let moved = xor_bits self.old.previous input.now in
-            self.new.build ≡ or_bits self.old.build moved }
-        ensures mask { let moved = xor_bits self.old.previous input.now in
-            self.new.mask ≡ or_bits self.old.mask moved }
-        ensures change { self.new.change ≡ xor_bits self.old.mask self.new.mask }
-        ensures previous { self.new.previous ≡ input.now }
-        ensures places { length self.new.mask ≡ length self.old.mask }
-        ensures taken { self.new.taken ≡ self.old.taken }
+        ensures next { Advances input.now false self.old self.new }
+        ensures same { IsTrue result ↔ (self.old.previous ≡ input.now) }
     {
         self.clear_change();
         let count = self.mask.word_count();
+        let mut same = true;
         for block in 0..count / 8 {
-            let from = 8 * block;
-            let to = from + 8;
-            if !self.is_unmoved(input, from, to) {
-                self.move_words(input, from, to);
-            }
+            same = self.move_block(input, 8 * block, 8 * block + 8) & same;
         }
-        self.move_words(input, count / 8 * 8, count);
+        self.move_words(input, count / 8 * 8, count) & same
+    }
+
+    /// The same as `move_words`, after one look at all the words.
+    #[inline(always)]
+    fn move_block(&mut self, input: &Bits, from: u32, to: u32) -> bool
+        requires places { length input.now ≡ length self.old.mask }
+        requires order { from ≤ to }
+        requires to { to ≤ word_count (length self.old.mask) }
+        ensures { Walked input.now from to result self.old self.new }
+    {
+        if self.is_unmoved(input, from, to) {
+            return true;
+        }
+        self.move_words(input, from, to)
     }
 
     /// Whether the input differs from the previous one in none of the words from `from` up to, but not including, `to`.
@@ -183,27 +176,26 @@ impl Masks {
     }
 
     /// Moves the places of the words from `from` up to, but not including, `to` at which the input differs from the
-    /// previous one.
-    fn move_words(&mut self, input: &Bits, from: u32, to: u32)
+    /// previous one. Returns whether there is none.
+    fn move_words(&mut self, input: &Bits, from: u32, to: u32) -> bool
         requires places { length input.now ≡ length self.old.mask }
-        requires some { 0 < self.old.taken }
         requires order { from ≤ to }
         requires to { to ≤ word_count (length self.old.mask) }
-        ensures { let moved = xor_bits self.old.previous input.now in
-            HaveMoved (λ place. nat_le from (place / 64) && (nat_lt (place / 64) to
-            && slice_index_or moved place false)) self.old self.new }
+        ensures { Walked input.now from to result self.old self.new }
     {
+        let mut same = true;
         for index in from..to {
             let moved = self.previous.word(index) ^ input.word(index);
             if moved != 0 {
                 self.move_word(index, moved);
+                same = false;
             }
         }
+        same
     }
 
     /// Moves the places that are 1 in the word `moved` with this number.
     fn move_word(&mut self, index: u32, moved: u64)
-        requires some { 0 < self.old.taken }
         requires index { index < word_count (length self.old.mask) }
         requires spare { HasNoSpareBit (length self.old.mask) index moved }
         ensures { HaveMoved (λ place. (place / 64 == index) && (bit_at moved (63 - place % 64) == 1))

@@ -1,6 +1,7 @@
 -- The marks of the latest sixteen steps, and the changes that are marked.
 use Rattle.std.proofs.Common.{◌≡◌, ℕ, zero, suc, ◌+◌, ◌-◌, ◌*◌, ◌/◌, ◌%◌, ◌^◌, ◌<◌, ◌≤◌, Bool, true, false, cond, eqb, if◌then◌else◌, List, [], ◌∷◌, ◌++◌, length, drop, replicate, get_or, bit_or, count_ones, w16, refl, sym, ap, ◌∙◌, inl, inr, arith, add-one, subst}
-use Rattle.std.specs.Prelude.{Contains}
+use Rattle.std.specs.Prelude.{All, Contains}
+use Rattle.circular_buffer.specs.Buffer.{Buffer, buffer}
 use Rattle.std.specs.Int.{bit_at, trailing_zeros}
 use Rattle.std.specs.Int.Count.{trailing_of_zero}
 use Rattle.std.specs.List.{count_by, range_with_len}
@@ -11,9 +12,9 @@ use Rattle.std.proofs.lemmas.Nat.Bits.{bit_at_cat_high, bit_at-zero, bit_at-lt, 
 use Rattle.bit_vectors.specs.Vectors.{number_bits}
 use Rattle.bit_vectors.proofs.NumberBits.{length-number_bits, get_or-number_bits}
 use Rattle.bit_vectors.proofs.Numbers.{bit_at_mod, bit_at_shr, number_bits-cat, number_bits-mod}
-use Rattle.robust_window.specs.Window.{AreClear, AreMarked, change_back, changes_of, mark_back, marks_of, new_mask_back, where_marked}
+use Rattle.robust_window.specs.Window.{AreChanges, AreClear, AreMarked, LatestChanges, change_back, changes_of, mark_back, marks_of, new_mask_back, where_marked}
 use Rattle.robust_window.proofs.Ranges.{count_push}
-use Rattle.robust_window.proofs.Standing.{earlier_pushed, latest_pushed}
+use Rattle.robust_window.proofs.Standing.{All-pushed, earlier_pushed, latest_pushed, length-pushed}
 
 -- ---- marks
 
@@ -162,12 +163,6 @@ module _ {A : Type 0} where
   where_marked-drop (m ∷ marks) [] nothing len = absurd (omega arith)
   where_marked-drop (m ∷ marks) (s ∷ slots) nothing len = refl
 
-  length-where_marked : (marks : List Bool) (slots : List A) (nothing : A) → length marks ≡ length slots → length (where_marked marks slots nothing) ≡ length slots
-  length-where_marked [] [] nothing len = refl
-  length-where_marked [] (s ∷ slots) nothing len = absurd (omega arith)
-  length-where_marked (m ∷ marks) [] nothing len = absurd (omega arith)
-  length-where_marked (m ∷ marks) (s ∷ slots) nothing len = ap suc (length-where_marked marks slots nothing (omega arith))
-
   where_marked-none : (slots : List A) (nothing : A) → where_marked (replicate (length slots) false) slots nothing ≡ replicate (length slots) nothing
   where_marked-none [] nothing = refl
   where_marked-none (s ∷ slots) nothing = ap (λ (l : List A). nothing ∷ l) (where_marked-none slots nothing)
@@ -176,30 +171,25 @@ marks-none : marks_of 0 ≡ replicate 16 false
 unfolding number_bits
 marks-none = refl
 
--- without a mark all are zeros, and so they are with one more that is
-pub changes_of-none : (f n : ℕ) (slots : List (List Bool)) → length slots ≡ 16 → n ≡ 0 → changes_of f n slots ≡ drop 1 (changes_of f n slots) ++ replicate f false ∷ []
+-- without a mark all are zeros
+pub changes_of-none : (f n : ℕ) (slots : List (List Bool)) → length slots ≡ 16 → n ≡ 0 → changes_of f n slots ≡ replicate 16 (replicate f false)
 changes_of-none f n slots len none =
     let zeros = replicate f false in
-    let all : changes_of f n slots ≡ replicate 16 zeros =
     ap (λ (m : ℕ). changes_of f m slots) none
     ∙ ap (λ (ms : List Bool). where_marked ms slots zeros) (marks-none ∙ ap (λ (k : ℕ). replicate k false) (sym len))
     ∙ where_marked-none slots zeros
-    ∙ ap (λ (k : ℕ). replicate k zeros) len in
-    all ∙ ap (λ (l : List (List Bool)). drop 1 l ++ zeros ∷ []) (sym all)
-
-pub length-changes_of : (f n : ℕ) (slots : List (List Bool)) → length slots ≡ 16 → length (changes_of f n slots) ≡ 16
-length-changes_of f n slots len = length-where_marked (marks_of n) slots (replicate f false) (length-marks n ∙ sym len) ∙ len
+    ∙ ap (λ (k : ℕ). replicate k zeros) len
 
 -- the change the given number of steps back
-pub changes_of-back : (f n : ℕ) (slots : List (List Bool)) (back : ℕ) → length slots ≡ 16 → back < 16 → change_back (changes_of f n slots) back ≡ (if mark_back n back then change_back slots back else replicate f false)
+changes_of-back : (f n : ℕ) (slots : List (List Bool)) (back : ℕ) → length slots ≡ 16 → back < 16 → change_back (changes_of f n slots) back ≡ (if mark_back n back then change_back slots back else replicate f false)
 changes_of-back f n slots back len lt =
     where_marked-at (marks_of n) slots (replicate f false) [] (15 - back) (length-marks n ∙ sym len) (omega arith)
     ∙ ap (λ (b : Bool). if b then change_back slots back else replicate f false) (marks-back n back lt)
 
-pub changes_of-marked : (f n : ℕ) (slots : List (List Bool)) (back : ℕ) → length slots ≡ 16 → back < 16 → mark_back n back ≡ true → change_back (changes_of f n slots) back ≡ change_back slots back
+changes_of-marked : (f n : ℕ) (slots : List (List Bool)) (back : ℕ) → length slots ≡ 16 → back < 16 → mark_back n back ≡ true → change_back (changes_of f n slots) back ≡ change_back slots back
 changes_of-marked f n slots back len lt set = changes_of-back f n slots back len lt ∙ ap (λ (b : Bool). if b then change_back slots back else replicate f false) set
 
-pub changes_of-quiet : (f n : ℕ) (slots : List (List Bool)) (back : ℕ) → length slots ≡ 16 → back < 16 → mark_back n back ≡ false → change_back (changes_of f n slots) back ≡ replicate f false
+changes_of-quiet : (f n : ℕ) (slots : List (List Bool)) (back : ℕ) → length slots ≡ 16 → back < 16 → mark_back n back ≡ false → change_back (changes_of f n slots) back ≡ replicate f false
 changes_of-quiet f n slots back len lt set = changes_of-back f n slots back len lt ∙ ap (λ (b : Bool). if b then change_back slots back else replicate f false) set
 
 same_change : (f : ℕ) (change kept : List Bool) (mark : Bool) → (mark ≡ false → change ≡ replicate f false) → (if mark then (if mark then change else kept) else replicate f false) ≡ change
@@ -227,3 +217,27 @@ marked-pushed old new slots change kept mark len marks one marked zero lt set =
 marked-pushed old new slots change kept mark len marks one marked (suc back) lt set =
     let was : mark_back old back ≡ true = sym (marks-back old back (omega arith)) ∙ (sym (earlier_pushed (marks_of old) mark false back (length-marks old) (omega arith)) ∙ (ap (λ (l : List Bool). new_mask_back l (suc back)) (sym marks) ∙ (marks-back new (suc back) lt ∙ set))) in
     subst (λ (v : List Bool). Contains v true) (sym (earlier_pushed slots (if mark then change else kept) [] back len (omega arith))) (marked back (omega arith) was)
+
+-- the slots with one more in place of the oldest
+pub AreChanges-pushed : (old new : Buffer (List Bool)) (marks next : ℕ) (zeros change kept : List Bool) (mark : Bool) → AreChanges old marks zeros → new ≡ buffer (drop 1 old.items ++ (if mark then change else kept) ∷ []) 16 → next < 65536 → marks_of next ≡ drop 1 (marks_of marks) ++ mark ∷ [] → length (if mark then change else kept) ≡ length zeros
+    → (mark ≡ true → Contains change true) → AreChanges new next zeros
+AreChanges-pushed old new marks next zeros change kept mark h new_is below marks_is len one =
+    let slot = if mark then change else kept in
+    let fit = λ (v : List Bool). length v ≡ length zeros in
+    let items = ap (λ (b : Buffer (List Bool)). b.items) new_is in
+    record {
+      full = ap (λ (b : Buffer (List Bool)). b.capacity) new_is;
+      count = ap length items ∙ length-pushed old.items slot h.count;
+      fit = subst (All fit) (sym items) (All-pushed fit old.items slot h.fit len);
+      fits = below;
+      marked = subst (AreMarked next) (sym items) (marked-pushed marks next old.items change kept mark h.count marks_is one h.marked);
+      none = h.none;
+    }
+
+-- the latest changes, in terms of what is kept
+module _ (slots : Buffer (List Bool)) (marks : ℕ) (zeros : List Bool) (value : LatestChanges) (h : AreChanges slots marks zeros) (view : record { places = length zeros; latest = changes_of (length zeros) marks slots.items } ≡ value) (back : ℕ) (lt : back < 16) where
+  pub latest-marked : mark_back marks back ≡ true → change_back value.latest back ≡ change_back slots.items back
+  latest-marked set = ap (λ (k : LatestChanges). change_back k.latest back) (sym view) ∙ changes_of-marked (length zeros) marks slots.items back h.count lt set
+
+  pub latest-quiet : mark_back marks back ≡ false → change_back value.latest back ≡ replicate value.places false
+  latest-quiet unset = subst (λ (k : LatestChanges). change_back k.latest back ≡ replicate k.places false) view (changes_of-quiet (length zeros) marks slots.items back h.count lt unset)

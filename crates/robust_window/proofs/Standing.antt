@@ -3,9 +3,9 @@ use Rattle.std.proofs.Common.{◌≡◌, ℕ, zero, suc, ◌+◌, ◌-◌, ◌<�
 use Rattle.std.specs.Prelude.{All, Contains, nat_le}
 use Rattle.std.specs.List.{count_by, list_any, range_with_len}
 use Rattle.std.proofs.lemmas.Bool.{cases_lt, cases_eq}
-use Rattle.std.proofs.lemmas.List.{drop-append-le, get_or-drop, get_or-replicate, get_or_append_left, get_or_at, get_or_past, length-drop, length-replicate, length_push}
+use Rattle.std.proofs.lemmas.List.{get_or-drop, get_or-replicate, get_or_append_left, get_or_at, get_or_past, length-drop, length-replicate, length_push}
 use Rattle.std.proofs.lemmas.List.Elements.{All-append, All-cons, All-drop, All-nil}
-use Rattle.circular_buffer.specs.Buffer.{keep_last}
+use Rattle.circular_buffer.specs.Buffer.{Buffer, buffer, keep_last}
 use Rattle.mask_update.specs.Masks.{vector_of}
 use Rattle.mask_update.proofs.StepByStep.{vector_of_same}
 use Rattle.robust_window.specs.Changes.{IsQuiet, MaskStep, changes_place, latest_change, level_of, mask_step, most_level, no_mask_step, recent_of, steps_from, takes_new_mask, twice_of}
@@ -17,11 +17,6 @@ use Rattle.robust_window.proofs.Scanning.{gathered}
 -- ---- the latest sixteen
 
 module _ {A : Type 0} where
-  pub keep_last-full : (xs : List A) (x : A) → length xs ≡ 16 → keep_last 16 (xs ++ x ∷ []) ≡ drop 1 xs ++ x ∷ []
-  keep_last-full xs x len =
-      let one : length (xs ++ x ∷ []) - 16 ≡ 1 = omega (arith, length_push xs x) in
-      ap (λ n. drop n (xs ++ x ∷ [])) one ∙ drop-append-le 1 xs (x ∷ []) (omega arith)
-
   pub length-pushed : (xs : List A) (x : A) → length xs ≡ 16 → length (drop 1 xs ++ x ∷ []) ≡ 16
   length-pushed xs x len = omega (arith, length_push (drop 1 xs) x, length-drop 1 xs)
 
@@ -33,6 +28,14 @@ module _ {A : Type 0} where
       let at : 1 + (15 - suc back) ≡ 15 - back = omega arith in
       get_or_append_left (drop 1 xs) (x ∷ []) d (15 - suc back) (omega (arith, length-drop 1 xs))
       ∙ get_or-drop 1 xs (15 - suc back) d ∙ ap (λ i. get_or xs i d) at
+
+-- the oldest of sixteen taken out, and one more put in
+pub Buffer-pushed : {A : Type 0} (old mid new : Buffer A) (x y : A) → length old.items ≡ 16 → old.capacity ≡ 16 → mid ≡ buffer (drop 1 old.items) old.capacity → new ≡ buffer (keep_last mid.capacity (mid.items ++ x ∷ [])) mid.capacity → x ≡ y → new ≡ buffer (drop 1 old.items ++ y ∷ []) 16
+Buffer-pushed {A} old mid new x y len capacity mid_is new_is same =
+    let none : length (drop 1 old.items ++ x ∷ []) - 16 ≡ 0 = omega (arith, length-pushed old.items x len) in
+    new_is ∙ ap (λ (b : Buffer A). buffer (keep_last b.capacity (b.items ++ x ∷ [])) b.capacity) (mid_is ∙ ap (buffer (drop 1 old.items)) capacity)
+    ∙ ap (λ n. buffer (drop n (drop 1 old.items ++ x ∷ [])) 16) none
+    ∙ ap (λ z. buffer (drop 1 old.items ++ z ∷ []) 16) same
 
 pub All-pushed : {A : Type 0} (P : A → Type 0) (xs : List A) (x : A) → All P xs → P x → All P (drop 1 xs ++ x ∷ [])
 All-pushed P xs x all one = All-append P (drop 1 xs) (x ∷ []) (All-drop P 1 xs all) (All-cons P x [] one (All-nil P))

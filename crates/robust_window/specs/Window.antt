@@ -88,15 +88,26 @@ pub record Advances (old new : WindowState) (new_mask : Bool) (robust : ℕ) : T
 abbrev pub AreMarked : ℕ → List (List Bool) → Type 0
 AreMarked marks slots = (back : ℕ) → back < 16 → mark_back marks back ≡ true → Contains (change_back slots back) true
 
--- The parts of a window agree: sixteen slots for changes, vectors of the same length, and numbers within their bounds. It is
--- known whether there is a recent change.
-pub record IsWindow (changes : Buffer (List Bool)) (marks : ℕ) (zeros recent : List Bool) (quiet : Bool) (level taken : ℕ) : Type 0 where
+-- the latest sixteen changes, the oldest first, and their number of places
+pub record LatestChanges : Type 0 where
+  pub places : ℕ
+  pub latest : List (List Bool)
+
+-- sixteen slots, of as many places as the zeros, and what is marked has a 1
+pub record AreChanges (slots : Buffer (List Bool)) (marks : ℕ) (zeros : List Bool) : Type 0 where
+  pub full : slots.capacity ≡ 16
+  pub count : length slots.items ≡ 16
+  pub fit : All (λ change. length change ≡ length zeros) slots.items
+  pub fits : marks < 65536
+  pub marked : AreMarked marks slots.items
+  pub none : zeros ≡ replicate (length zeros) false
+
+-- The parts of a window agree, vectors have the same length, and numbers are within their bounds. It is known whether there
+-- is a recent change.
+pub record IsWindow (changes : LatestChanges) (recent : List Bool) (quiet : Bool) (level taken : ℕ) : Type 0 where
   pub vector : IsVector recent
-  pub full : changes.capacity ≡ 16
-  pub slots : length changes.items ≡ 16
-  pub places : All (λ change. length change ≡ length recent) changes.items
-  pub marked : AreMarked marks changes.items
-  pub zeros_are : zeros ≡ replicate (length recent) false
+  pub places : changes.places ≡ length recent
+  pub full : length changes.latest ≡ 16
   pub zero : OnTrue quiet (recent ≡ replicate (length recent) false)
   pub some : OnFalse quiet (Contains recent true)
   pub level_most : level ≤ 15

@@ -1,9 +1,9 @@
 //! The recent changes of a mask, the effective robustness level and 'twice', from the latest sixteen changes.
 #![tactic(auto)]
 
+mod changes;
 mod laws;
 mod marks;
-mod scan;
 mod window;
 
 pub use laws::{

@@ -28,21 +28,6 @@ pub(crate) fn are_clear(marks: u16, count: u8) -> bool
     marks << (16 - count) == 0
 }
 
-/// One less than the distance in steps to the latest mark that is more than `robust` steps back, but at most the
-/// greater of `robust` and `most`.
-pub(crate) fn quiet_level(marks: u16, robust: u8, most: u8) -> u8
-    requires robust { robust ≤ 7 }
-    requires most { most ≤ 15 }
-    ensures least { robust ≤ result }
-    ensures most { result ≤ max robust most }
-    ensures quiet { (back : ℕ) → robust < back → back ≤ result → mark_back marks back ≡ false }
-    ensures stops { result < max robust most → mark_back marks (result + 1) ≡ true }
-{
-    let earlier = marks >> (robust + 1);
-    let level = robust + earlier.trailing_zeros() as u8;
-    level.min(robust.max(most))
-}
-
 /// Whether two or more of the latest `count` marks are set. `count` is at least 1 and at most 16.
 pub(crate) fn has_two(marks: u16, count: u8) -> bool
     requires some { 1 ≤ count }

@@ -5,24 +5,21 @@ ghost use Rattle.std.specs.Bool.{OnFalse, OnTrue};
 ghost use Rattle.robust_window.specs.Changes.{MaskStep, latest_change, level_of, mask_step, recent_of, twice_of};
 ghost use Rattle.robust_window.specs.Window.{Advances, StandsFor};
 
-use crate::{marks, scan};
+use crate::changes::Changes;
+use crate::marks;
 use bit_vectors::{Bits, NoMemory};
-use circular_buffer::HeapCircularBuffer;
 use std::alloc::Global;
 use std::marker::Model;
 
 /// The greatest effective robustness level.
 const MOST_LEVEL: u64 = 15;
 
-/// Keeps the latest sixteen changes of a mask and their new-mask flags, but not the history (CCSDS 124.0-B-1). A mark
-/// says whether a change is nonzero; the changes without a mark are neither written nor read.
+/// Keeps the latest sixteen changes of a mask and their new-mask flags, but not the history (CCSDS 124.0-B-1).
 /// Contracts see these and the values at the latest step, and say which changes they stand for.
 #[derive(Debug, Drop)]
 pub struct Window {
-    changes: HeapCircularBuffer<Bits>,
-    changed: u16,
+    changes: Changes,
     new_masks: u16,
-    zeros: Bits,
     recent: Bits,
     /// There is no recent change.
     quiet: bool,
@@ -32,13 +29,12 @@ pub struct Window {
 }
 
 impl Model for Window {
-    ghost use Rattle.robust_window.specs.Window.{WindowState, IsWindow, changes_of, marks_of};
-    ghost use Rattle.std.specs.Prelude.{length};
+    ghost use Rattle.robust_window.specs.Window.{WindowState, IsWindow, marks_of};
 
     ghost Value = { WindowState };
 
     ghost view = { λ w. record {
-      changes = changes_of (length w.recent) w.changed w.changes.items;
+      changes = w.changes.latest;
       new_masks = marks_of w.new_masks;
       recent = w.recent;
       level = w.level;
@@ -46,7 +42,7 @@ impl Model for Window {
       taken = w.taken;
     } };
 
-    ghost invariant = { λ w. IsWindow w.changes w.changed w.zeros w.recent w.quiet w.level w.taken };
+    ghost invariant = { λ w. IsWindow w.changes w.recent w.quiet w.level w.taken };
 }
 
 impl Window {
@@ -59,10 +55,8 @@ impl Window {
         ensures taken { IfOk result (λ window. window.taken ≡ 0) }
     {
         Ok(Window {
-            changes: scan::zero_changes(alloc, f)?,
-            changed: 0,
+            changes: Changes::open(alloc, f)?,
             new_masks: 0,
-            zeros: Bits::zeros(alloc, f)?,
             recent: Bits::zeros(alloc, f)?,
             quiet: true,
             level: 0,
@@ -90,7 +84,7 @@ impl Window {
         if change.is_zero() {
             self.step_still(new_mask, robust);
         } else {
-            self.push(change);
+            self.changes.push(change);
             self.advance(new_mask, robust);
         }
     }
@@ -108,33 +102,8 @@ impl Window {
         ensures places { length self.new.recent ≡ length self.old.recent }
         ensures taken { self.new.taken ≡ self.old.taken + 1 }
     {
-        self.push_still();
+        self.changes.push_still();
         self.advance(new_mask, robust);
-    }
-
-    /// Puts the latest change, which has a 1, in place of the oldest one.
-    fn push(&mut self, change: &Bits)
-        requires places { length change.now ≡ length self.old.recent }
-        requires some { Contains change.now true }
-        ensures change { self.new
-            ≡ record self.old { changes = drop 1 self.old.changes ++ change.now ∷ [] } }
-        ensures full { length self.old.changes ≡ 16 }
-    {
-        scan::push_change(&mut self.changes, change);
-        self.changed = marks::pushed(self.changed, true);
-    }
-
-    /// Puts a change without a 1 in place of the oldest one, by its mark alone. If no change is marked, all have none
-    /// already.
-    fn push_still(&mut self)
-        ensures change { let zeros = replicate (length self.old.recent) false in
-            self.new ≡ record self.old { changes = drop 1 self.old.changes ++ zeros ∷ [] } }
-        ensures full { length self.old.changes ≡ 16 }
-    {
-        if self.changed != 0 {
-            scan::keep_oldest(&mut self.changes);
-            self.changed = marks::pushed(self.changed, false);
-        }
     }
 
     /// Makes the values at a step whose change is taken already.
@@ -146,14 +115,10 @@ impl Window {
     {
         let most = self.taken.min(MOST_LEVEL) as u8;
         self.new_masks = marks::pushed(self.new_masks, new_mask);
-        self.quiet = scan::gather(
-            &self.changes,
-            self.changed,
-            robust + 1,
-            &mut self.recent,
-            self.quiet,
-        );
-        self.level = marks::quiet_level(self.changed, robust, most);
+        self.quiet = self
+            .changes
+            .gather(robust + 1, &mut self.recent, self.quiet);
+        self.level = self.changes.quiet_level(robust, most);
         self.twice = marks::has_two(self.new_masks, self.level + 1);
         self.taken += 1;
     }
@@ -208,10 +173,6 @@ impl Window {
             → result.now ≡ (mask_step steps (latest_change steps - back)).change }
         ensures places { length result.now ≡ length self.now.recent }
     {
-        if marks::is_set(self.changed, back) {
-            scan::change_back(&self.changes, back)
-        } else {
-            &self.zeros
-        }
+        self.changes.back(back)
     }
 }

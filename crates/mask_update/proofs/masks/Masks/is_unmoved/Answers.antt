@@ -20,16 +20,15 @@ loop-index-preserved c =
     let i = c.loop-index.invariant in
     let a = c.word.result in
     let b = c.word-in-loop-index.result in
-    let v = c.args.self.now.previous in
     record {
       none = λ zero k from to. elim (cases_lt k (64 * c.loop-index.index)) [
         | inl before ↦ i.none (omega (arith, zero, le_or_l c.loop-index.any (bit_xor a b))) k from before
         | inr here ↦
-            none_differ v c.args.input.now c.loop-index.index a b (len d) (word d) c.word-in-loop-index.ensures c.word.type_inv c.word-in-loop-index.type_inv (omega (arith, zero, le_or_r c.loop-index.any (bit_xor a b))) k here to
+            none_differ c.args.self.now c.args.input.now c.loop-index.index a b (len d) (word d) c.word-in-loop-index.ensures c.word.type_inv c.word-in-loop-index.type_inv (omega (arith, zero, le_or_r c.loop-index.any (bit_xor a b))) k here to
       ];
       all = λ none.
           let before : c.loop-index.any ≡ 0 = i.all (λ k from to. none k from (omega arith)) in
-          let last : bit_xor a b ≡ 0 = no_difference v c.args.input.now c.loop-index.index a b (len d) (word d) c.word-in-loop-index.ensures c.word.type_inv c.word-in-loop-index.type_inv (λ k from to. none k (omega arith) to) in
+          let last : bit_xor a b ≡ 0 = no_difference c.args.self.now c.args.input.now c.loop-index.index a b (len d) (word d) c.word-in-loop-index.ensures c.word.type_inv c.word-in-loop-index.type_inv (λ k from to. none k (omega arith) to) in
           rw (before, last) refl;
     }
 

@@ -1,10 +1,8 @@
-use Rattle.std.proofs.Common.{◌≡◌, ◌+◌, ◌*◌, ◌/◌, ◌≤◌, false, length, replicate, get_or, subst, sym, ◌∙◌, ap, arith}
-use Rattle.std.proofs.lemmas.Simd.{length-zip2}
-use Rattle.bit_vectors.specs.Vectors.{or_bits, xor_bits}
-use Rattle.mask_update.specs.Masks.{HaveMoved, Running}
-use Rattle.mask_update.proofs.Moving.{HaveMoved-none, HaveMoved-same, all_moved-build, all_moved-change, all_moved-mask, all_moved-previous, moved_no_more, moved_on, moves_in-all, moves_in-empty}
+use Rattle.std.proofs.Common.{◌≡◌, ◌+◌, ◌*◌, ◌/◌, ◌≤◌, ◌&&◌, false, length, replicate, subst, sym, ◌∙◌, ap, arith}
+use Rattle.mask_update.specs.Masks.{Advances, Running, Walked}
+use Rattle.mask_update.proofs.Moving.{Walked-all, Walked-none, Walked-same, Walked-then}
 use Rattle.mask_update.proofs.masks.Masks.move_places.Goals as goal
-use Rattle.mask_update.proofs.masks.Masks.move_places.Goals.{After-word_count-count, After-move_words-2, then-not-is_unmoved, else-not-is_unmoved}
+use Rattle.mask_update.proofs.masks.Masks.move_places.Goals.{After-word_count-count, After-move_words}
 
 -- the vectors have as many places as the input, also without the change before
 places : (c : After-word_count-count) → length c.clear_change.new.self.mask ≡ length c.args.input.now
@@ -17,56 +15,35 @@ build_len : (c : After-word_count-count) → length c.clear_change.new.self.buil
 build_len c = ap (λ (r : Running). length r.build) (sym c.self.view_is) ∙ c.self.invariant.build_len ∙ ap (λ (r : Running). length r.mask) c.self.view_is ∙ places c
 
 pub loop-block-init : goal.loop-block-init
-loop-block-init c = record { moved = HaveMoved-none _ c.clear_change.new.self (λ k. moves_in-empty (xor_bits c.clear_change.new.self.previous c.args.input.now) 0 k) }
+loop-block-init c = Walked-none c.args.input.now 0 0 c.clear_change.new.self (λ k ge lt. absurd (omega (arith, lt)))
 
 pub loop-block-preserved : goal.loop-block-preserved
 loop-block-preserved c =
-    let len = previous_len (goal.at.loop-block-preserved c).After-word_count-count in
-    let old = c.clear_change.new.self in
-    let value = c.loop-block.self in
     let from = 8 * c.loop-block.block in
     let next : 8 * (c.loop-block.block + 1) ≡ from + 8 = omega arith in
-    let h = c.loop-block.invariant.moved in
-    record {
-      moved = rw next (elim c.if-not-is_unmoved.branch [
-        | then-not-is_unmoved w ↦ rw w.self-is (moved_on c.args.input.now 0 from old value h len w.move_words.new.self (from + 8) (omega arith) (omega arith) w.move_words.ensures)
-        | else-not-is_unmoved w ↦ rw w.self-is (moved_no_more c.args.input.now 0 from old value h len (from + 8) (omega arith) (omega arith) (c.is_unmoved.ensures.0 w.if-not-is_unmoved.false))
-      ]);
-    }
+    rw next (Walked-then c.args.input.now 0 from c.loop-block.same c.clear_change.new.self c.loop-block.self c.loop-block.invariant (previous_len (goal.at.loop-block-preserved c).After-word_count-count) c.move_block-same.new.self (from + 8) c.move_block-same.result (omega arith) (omega arith) c.move_block-same.ensures)
 
--- all places
-all : (c : After-move_words-2) → length c.clear_change.new.self.previous ≡ length c.args.input.now → length c.clear_change.new.self.mask ≡ length c.args.input.now → HaveMoved (λ k. get_or (xor_bits c.clear_change.new.self.previous c.args.input.now) k false) c.clear_change.new.self c.move_words-2.new.self
-all c len mask_len =
-    let old = c.clear_change.new.self in
-    let input = c.args.input.now in
-    let count = c.word_count-count.result in
-    let end : 8 * c.loop-block.block ≡ count / 8 * 8 = omega arith in
-    let whole : length (xor_bits old.previous input) ≡ length old.previous = length-zip2 _ old.previous input len in
-    let most : length (xor_bits old.previous input) ≤ 64 * count =
-    omega (arith, whole, len, mask_len, ap (λ (r : Running). length r.mask) c.self.view_is, c.word_count-count.ensures.count) in
-    HaveMoved-same _ _ old c.move_words-2.new.self (moves_in-all (xor_bits old.previous input) count most)
-    (moved_on input 0 (8 * c.loop-block.block) old c.loop-block.self c.loop-block.invariant.moved len c.move_words-2.new.self count (omega arith) (omega arith) (rw end c.move_words-2.ensures))
+-- all words
+all : (c : After-move_words) → length c.clear_change.new.self.previous ≡ length c.args.input.now → Walked c.args.input.now 0 c.word_count-count.result (c.move_words.result && c.loop-block.same) c.clear_change.new.self c.move_words.new.self
+all c len =
+    let end : 8 * c.loop-block.block ≡ c.word_count-count.result / 8 * 8 = omega arith in
+    Walked-then c.args.input.now 0 (8 * c.loop-block.block) c.loop-block.same c.clear_change.new.self c.loop-block.self c.loop-block.invariant len c.move_words.new.self c.word_count-count.result c.move_words.result (omega arith) (omega arith) (rw end c.move_words.ensures)
 
-pub returns-clause-build : goal.returns-clause-build
-returns-clause-build c =
-    let d = (goal.at.returns-clause-build c).After-word_count-count in
-    subst (λ (r : Running). c.move_words-2.new.self.build ≡ or_bits r.build (xor_bits r.previous c.args.input.now)) c.clear_change.ensures
-    (all_moved-build c.args.input.now c.clear_change.new.self c.move_words-2.new.self (all c (previous_len d) (places d)) (previous_len d) (places d) (build_len d))
+most : (c : After-word_count-count) → length c.args.input.now ≤ 64 * c.word_count-count.result
+most c = omega (arith, places c, ap (λ (r : Running). length r.mask) c.self.view_is, c.word_count-count.ensures.count)
 
-pub returns-clause-mask : goal.returns-clause-mask
-returns-clause-mask c =
-    let d = (goal.at.returns-clause-mask c).After-word_count-count in
-    subst (λ (r : Running). c.move_words-2.new.self.mask ≡ or_bits r.mask (xor_bits r.previous c.args.input.now)) c.clear_change.ensures
-    (all_moved-mask c.args.input.now c.clear_change.new.self c.move_words-2.new.self (all c (previous_len d) (places d)) (previous_len d) (places d))
-
-pub returns-clause-change : goal.returns-clause-change
-returns-clause-change c =
-    let d = (goal.at.returns-clause-change c).After-word_count-count in
-    let none : c.clear_change.new.self.change ≡ replicate (length c.clear_change.new.self.mask) false =
+pub returns-clause-next : goal.returns-clause-next
+returns-clause-next c =
+    let d = (goal.at.returns-clause-next c).After-word_count-count in
+    let zeros : c.clear_change.new.self.change ≡ replicate (length c.clear_change.new.self.mask) false =
     ap (λ (r : Running). r.change) c.clear_change.ensures ∙ ap (λ (r : Running). replicate (length r.mask) false) (sym c.clear_change.ensures) in
-    subst (λ (r : Running). c.move_words-2.new.self.change ≡ xor_bits r.mask c.move_words-2.new.self.mask) c.clear_change.ensures
-    (all_moved-change c.args.input.now c.clear_change.new.self c.move_words-2.new.self (all c (previous_len d) (places d)) (previous_len d) (places d) none)
+    let a = subst (λ (r : Running). Advances c.args.input.now false r c.move_words.new.self) c.clear_change.ensures
+    (Walked-all c.args.input.now c.word_count-count.result _ c.clear_change.new.self c.move_words.new.self (all c (previous_len d)) (previous_len d) (most d) (places d) (build_len d) zeros) in
+    record { build = a.build; mask = a.mask; change = a.change; previous = a.previous; places = a.places; taken = a.taken }
 
-pub returns-clause-previous : goal.returns-clause-previous
-returns-clause-previous c =
-    let d = (goal.at.returns-clause-previous c).After-word_count-count in all_moved-previous c.args.input.now c.clear_change.new.self c.move_words-2.new.self (all c (previous_len d) (places d)) (previous_len d) (places d)
+pub returns-clause-same : goal.returns-clause-same
+returns-clause-same c =
+    let d = (goal.at.returns-clause-same c).After-word_count-count in
+    let same = Walked-same c.args.input.now c.word_count-count.result _ c.clear_change.new.self c.move_words.new.self (all c (previous_len d)) (previous_len d) (most d) in
+    let was = ap (λ (r : Running). r.previous) c.clear_change.ensures in
+    (λ is. sym was ∙ same.0 is, λ is. same.1 (was ∙ is))

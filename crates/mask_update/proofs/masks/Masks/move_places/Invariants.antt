@@ -1,11 +1,7 @@
 use Rattle.std.proofs.Common.{◌*◌}
-use Rattle.bit_vectors.specs.Vectors.{xor_bits}
-use Rattle.mask_update.specs.Masks.{HaveMoved}
-use Rattle.mask_update.proofs.Moving.{moves_in}
+use Rattle.mask_update.specs.Masks.{Walked}
 use Rattle.mask_update.proofs.masks.Masks.move_places.Given as goal
 
--- the places of the words before this block have moved
+-- the words before this block were walked over
 abbrev pub invariant-loop-block : goal.invariant-loop-block
-invariant-loop-block l = record {
-  moved : HaveMoved (moves_in (xor_bits l.initial.self.previous l.input) 0 (8 * l.block)) l.initial.self l.self;
-}
+invariant-loop-block l = Walked l.input 0 (8 * l.block) l.same l.initial.self l.self

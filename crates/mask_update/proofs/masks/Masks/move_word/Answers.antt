@@ -65,7 +65,6 @@ invariant_of-self c =
         | else-self w ↦ Contains-kept c.self.inside.change c.set_word-4.new.self _ (OnFalse_at w.if-self.false i.some_change) written
       ]);
       most = i.most;
-      start = λ none. absurd (omega (arith, none, c.requires.some, ap (λ (r : Running). r.taken) c.self.view_is));
     }
 
 pub returns : goal.returns

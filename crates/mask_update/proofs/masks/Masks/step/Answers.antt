@@ -1,8 +1,9 @@
-use Rattle.std.proofs.Common.{◌≡◌, ◌+◌, length, ap, sym, ◌∙◌, subst, arith}
+use Rattle.std.proofs.Common.{◌≡◌, ◌+◌, Bool, List, false, length, replicate, ap, sym, ◌∙◌, subst, arith}
 use Rattle.std.specs.Bool.{OnTrue}
 use Rattle.std.proofs.lemmas.Bool.{OnTrue_from}
 use Rattle.bit_vectors.specs.Vectors.{xor_bits}
-use Rattle.mask_update.specs.Masks.{Running, next_build, next_mask}
+use Rattle.mask_update.specs.Masks.{Advances, Running, StandsFor, next_mask}
+use Rattle.mask_update.specs.Histories.{with_step}
 use Rattle.mask_update.proofs.Standing.{StandsFor-first, StandsFor-next}
 use Rattle.mask_update.proofs.Unmoved.{stays}
 use Rattle.mask_update.proofs.masks.Masks.step.Goals as goal
@@ -10,36 +11,23 @@ use Rattle.mask_update.proofs.masks.Masks.step.Goals.{then-self-gt0, else-self-g
 
 pub returns-clause-stands : goal.returns-clause-stands
 returns-clause-stands c = λ h s stands input new_mask.
-    let taken_was = ap (λ (v : Running). v.taken) c.self.view_is in
     elim c.if-self-gt0.branch [
       | then-self-gt0 w ↦
+          let len = ap (λ (v : Running). length v.previous) (sym c.self.view_is) ∙ c.self.invariant.previous_len ∙ ap (λ (v : Running). length v.mask) c.self.view_is in
+          let next = subst (λ (b : Bool). Advances s.input b c.args.self.now w.advance-again.new.self) (sym new_mask)
+          (subst (λ (v : List Bool). Advances v c.args.new_mask c.args.self.now w.advance-again.new.self) (sym input) w.advance-again.ensures.next) in
           let same = c.self-2.view_is ∙ w.self-is in
-          let moved = ap (xor_bits c.args.self.now.previous) (sym input) in
-          StandsFor-next h s c.args.self.now _ stands (omega arith)
-          (ap (λ (v : Running). length v.previous) (sym c.self.view_is) ∙ c.self.invariant.previous_len ∙ ap (λ (v : Running). length v.mask) c.self.view_is)
-          (ap length input ∙ c.requires.places)
-          (ap (λ (v : Running). v.previous) same ∙ w.advance-again.ensures.previous ∙ sym input)
-          (ap (λ (v : Running). v.build) same ∙ w.advance-again.ensures.build
-          ∙ ap (λ b. next_build b (xor_bits c.args.self.now.previous c.args.input.now) c.args.self.now.build) (sym new_mask)
-          ∙ ap (λ v. next_build s.flags.p v c.args.self.now.build) moved)
-          (ap (λ (v : Running). v.mask) same ∙ w.advance-again.ensures.mask
-          ∙ ap (λ b. next_mask b (xor_bits c.args.self.now.previous c.args.input.now) c.args.self.now.build c.args.self.now.mask) (sym new_mask)
-          ∙ ap (λ v. next_mask s.flags.p v c.args.self.now.build c.args.self.now.mask) moved)
-          (ap (λ (v : Running). v.change) same ∙ w.advance-again.ensures.change ∙ ap (λ (v : Running). xor_bits c.args.self.now.mask v.mask) (sym same)) (
-            λ told. let comes = w.advance-again.ensures.again.0 (sym w.again-is ∙ told) in (new_mask ∙ comes.0, comes.1 ∙ sym input),
-            λ comes. w.again-is ∙ w.advance-again.ensures.again.1 (sym new_mask ∙ comes.0, comes.1 ∙ input),
-          )
-          (ap (λ (v : Running). v.taken + 1) same ∙ ap (λ n. n + 1) w.advance-again.ensures.taken)
+          subst (StandsFor (with_step h s)) (sym (λ i. record (same i) { again = w.again-is i; taken = (same i).taken + 1 }))
+          (StandsFor-next h s c.args.self.now w.advance-again.new.self w.advance-again.result stands (omega (arith, w.if-self-gt0.true, ap (λ (v : Running). v.taken) c.self.view_is)) len (ap length input ∙ c.requires.places) next (
+            λ told. let comes = w.advance-again.ensures.again.0 told in (new_mask ∙ comes.0, comes.1 ∙ sym input),
+            λ comes. w.advance-again.ensures.again.1 (sym new_mask ∙ comes.0, comes.1 ∙ input),
+          ))
       | else-self-gt0 w ↦
-          let same = c.self-2.view_is ∙ w.self-is in
-          let taken_is = ap (λ (v : Running). v.taken) same in
-          StandsFor-first h s c.args.self.now _ stands (omega arith)
-          (ap (λ (v : Running). v.previous) same ∙ w.copy_from.ensures ∙ sym input)
-          (ap (λ (v : Running). v.build) same ∙ ap (λ (v : Running). v.build) c.self.view_is)
-          (ap (λ (v : Running). v.mask) same ∙ ap (λ (v : Running). v.mask) c.self.view_is)
-          (ap (λ (v : Running). v.change) same ∙ ap (λ (v : Running). v.change) c.self.view_is)
-          w.again-is
-          (omega arith)
+          let start : c.args.self.now.taken ≡ 0 = omega (arith, w.if-self-gt0.false, ap (λ (v : Running). v.taken) c.self.view_is) in
+          let one : c.args.self.now.taken + 1 ≡ 1 = omega (arith, start) in
+          let same = c.self-2.view_is ∙ w.self-is ∙ w.clear_change.ensures
+          ∙ (λ i. record (c.self.view_is i) { previous = (w.copy_from.ensures ∙ sym input) i; change = replicate (length (c.self.view_is i).mask) false }) in
+          subst (StandsFor (with_step h s)) (sym (λ i. record (same i) { again = w.again-is i; taken = ((λ j. (same j).taken + 1) ∙ one) i })) (StandsFor-first h s c.args.self.now stands start)
     ]
 
 pub returns-clause-kept : goal.returns-clause-kept
@@ -50,7 +38,7 @@ returns-clause-kept c =
           subst (λ b. OnTrue b (c.self-2.inside.mask ≡ c.args.self.now.mask)) (sym w.again-is)
           (OnTrue_from w.advance-again.result _ (λ again.
           let is = w.advance-again.ensures.again.0 again in
-          ap (λ (v : Running). v.mask) same ∙ w.advance-again.ensures.mask
+          ap (λ (v : Running). v.mask) same ∙ w.advance-again.ensures.next.mask
           ∙ ap (λ b. next_mask b (xor_bits c.args.self.now.previous c.args.input.now) c.args.self.now.build c.args.self.now.mask) is.0
           ∙ sym (stays c.args.self.now.mask c.args.self.now.previous c.args.input.now is.1 (sym c.requires.places))))
       | else-self-gt0 w ↦ subst (λ b. OnTrue b (c.self-2.inside.mask ≡ c.args.self.now.mask)) (sym w.again-is) tt

@@ -1,16 +1,14 @@
-use Rattle.std.proofs.Common.{◌≡◌, ℕ, ◌+◌, ◌<◌, ◌≤◌, List, [], ◌∷◌, ◌++◌, length, Bool, true, false, drop, replicate, subst, sym, ap, ◌∙◌, arith}
+use Rattle.std.proofs.Common.{◌≡◌, ℕ, ◌+◌, ◌∷◌, ◌++◌, [], length, false, true, drop, replicate, subst, sym, ap, ◌∙◌, arith}
 use Rattle.std.specs.Prelude.{Contains}
 use Rattle.std.specs.Bool.{OnTrue}
-use Rattle.robust_window.specs.Window.{WindowState, change_back, changes_of}
-use Rattle.robust_window.proofs.Marking.{changes_of-marked, changes_of-quiet, length-marks}
+use Rattle.robust_window.specs.Window.{WindowState, change_back}
+use Rattle.robust_window.proofs.Marking.{length-marks}
 use Rattle.robust_window.proofs.Scanning.{gathered, length-gathered}
 use Rattle.robust_window.proofs.window.Window.advance.Goals as goal
 use Rattle.robust_window.proofs.window.Window.advance.Goals.{After-gather-self-inside}
 
 recent_len : (c : After-gather-self-inside) → length c.gather-self-inside.new.recent ≡ length c.self.inside.recent
-recent_len c =
-    let f = length c.self.inside.recent in
-    ap length c.gather-self-inside.ensures.recent ∙ length-gathered f (changes_of f c.self.inside.changed c.self.inside.changes.items) (c.args.robust + 1)
+recent_len c = ap length c.gather-self-inside.ensures.recent ∙ length-gathered (length c.self.inside.recent) c.self.inside.changes.latest (c.args.robust + 1)
 
 pub invariant_of-self : goal.invariant_of-self
 invariant_of-self c =
@@ -18,11 +16,8 @@ invariant_of-self c =
     let taken : c.self.inside.taken ≡ c.args.self.now.taken = ap (λ (k : WindowState). k.taken) c.self.view_is in
     record {
       vector = (omega (arith, c.self.invariant.vector.0), omega (arith, c.self.invariant.vector.1));
+      places = c.self.invariant.places ∙ sym same;
       full = c.self.invariant.full;
-      slots = c.self.invariant.slots;
-      places = λ k d lt. c.self.invariant.places k d lt ∙ sym same;
-      marked = c.self.invariant.marked;
-      zeros_are = c.self.invariant.zeros_are ∙ ap (λ (n : ℕ). replicate n false) (sym same);
       zero = subst (λ (n : ℕ). OnTrue c.gather-self-inside.result (c.gather-self-inside.new.recent ≡ replicate n false)) (sym same) c.gather-self-inside.ensures.zero;
       some = c.gather-self-inside.ensures.some;
       level_most = omega (arith, c.requires.robust, c.quiet_level-self-inside.ensures.most);
@@ -34,14 +29,8 @@ returns c =
     let d = (goal.at.returns c).After-gather-self-inside in
     let was = sym c.self.view_is in
     let taken_is : c.args.self.now.taken ≡ c.self.inside.taken = ap (λ (k : WindowState). k.taken) was in
-    let f = length c.self.inside.recent in
-    let marks = c.self.inside.changed in
-    let slots = c.self.inside.changes.items in
-    let changes = changes_of f marks slots in
-    let level = c.quiet_level-self-inside.result in
-    let most : level ≤ 15 = omega (arith, c.requires.robust, c.quiet_level-self-inside.ensures.most) in
     record {
-      changes = ap (λ (n : ℕ). changes_of n marks slots) (recent_len d) ∙ ap (λ (k : WindowState). k.changes) c.self.view_is;
+      changes = ap (λ (k : WindowState). k.changes) c.self.view_is;
       flags_full = ap (λ (k : WindowState). length k.new_masks) was ∙ length-marks c.self.inside.new_masks;
       new_masks = c.pushed-self-inside.ensures ∙ ap (λ (k : WindowState). drop 1 k.new_masks ++ c.args.new_mask ∷ []) c.self.view_is;
       recent = c.gather-self-inside.ensures.recent ∙ ap (λ (k : WindowState). gathered (length k.recent) k.changes (c.args.robust + 1)) c.self.view_is;
@@ -50,12 +39,8 @@ returns c =
       level_most = omega (arith, c.quiet_level-self-inside.ensures.most);
       quiet = λ back above within.
           subst (λ (k : WindowState). change_back k.changes back ≡ replicate (length k.recent) false) c.self.view_is
-          (changes_of-quiet f marks slots back c.self.invariant.slots (omega arith) (c.quiet_level-self-inside.ensures.quiet back (omega arith) within));
-      stops = λ less.
-          let next : level + 1 < 16 = omega (arith, less, c.requires.robust) in
-          let set = c.quiet_level-self-inside.ensures.stops (omega arith) in
-          subst (λ (k : WindowState). Contains (change_back k.changes (level + 1)) true) c.self.view_is
-          (subst (λ (v : List Bool). Contains v true) (sym (changes_of-marked f marks slots (level + 1) c.self.invariant.slots next set)) (c.self.invariant.marked (level + 1) next set));
+          (c.quiet_level-self-inside.ensures.quiet back above within ∙ ap (λ n. replicate n false) c.self.invariant.places);
+      stops = λ less. subst (λ (k : WindowState). Contains (change_back k.changes (c.quiet_level-self-inside.result + 1)) true) c.self.view_is (c.quiet_level-self-inside.ensures.stops (omega arith));
       twice = c.has_two-self-inside.ensures;
       taken = omega arith;
     }

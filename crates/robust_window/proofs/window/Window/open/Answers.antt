@@ -1,18 +1,18 @@
-use Rattle.std.proofs.Common.{◌≡◌, ℕ, Bool, false, List, eqb, length, replicate, refl, ap, ◌∙◌, arith}
-use Rattle.std.proofs.lemmas.List.{length-replicate}
+use Rattle.std.proofs.Common.{◌-◌, ℕ, Bool, false, List, [], eqb, length, replicate, get_or, refl, sym, ap, ◌∙◌, arith}
+use Rattle.std.proofs.lemmas.List.{get_or-replicate, length-replicate}
 use Rattle.std.proofs.lemmas.Nat.Bits.{bit_at-zero}
-use Rattle.circular_buffer.specs.Buffer.{Buffer}
-use Rattle.robust_window.proofs.Marking.{changes_of-quiet, marks-back}
+use Rattle.robust_window.proofs.Marking.{marks-back}
 use Rattle.robust_window.proofs.window.Window.open.Goals as goal
 
 pub returns-clause-stands : goal.returns-clause-stands
 returns-clause-stands c =
-    let slots = c.in_ok-zero_changes.field-0.items in
-    let full : length slots ≡ 16 = ap (λ (b : Buffer (List Bool)). length b.items) c.in_ok-zero_changes.ensures ∙ length-replicate 16 (replicate c.args.f false) in
+    let f = c.args.f in
     record {
       changes = record {
         same = λ back lt within. absurd (omega arith);
-        past = λ back lt past. changes_of-quiet (length c.in_ok-zeros-2.field-0) 0 slots back full lt (ap (λ (b : ℕ). eqb b 1) (bit_at-zero back));
+        past = λ back lt past.
+            ap (λ (l : List (List Bool)). get_or l (15 - back) []) c.in_ok-open.ensures.latest ∙ get_or-replicate 16 (15 - back) (replicate f false) [] (omega arith)
+            ∙ ap (λ n. replicate n false) (sym (ap length c.in_ok-zeros.ensures ∙ length-replicate f false));
       };
       new_masks = record {
         same = λ back lt within. absurd (omega arith);

@@ -1,16 +1,18 @@
-use Rattle.std.proofs.Common.{◌≡◌, ℕ, List, [], ◌∷◌, ◌++◌, length, Bool, false, drop, replicate, subst, sym, ap, ◌∙◌, arith}
+use Rattle.std.proofs.Common.{◌∷◌, ◌++◌, [], length, false, drop, replicate, subst, sym, ap, ◌∙◌}
 use Rattle.std.proofs.lemmas.List.{length-replicate}
-use Rattle.robust_window.specs.Window.{Advances}
+use Rattle.robust_window.specs.Changes.{MaskStep}
+use Rattle.robust_window.specs.Window.{LatestChanges, StandsFor, WindowState}
 use Rattle.robust_window.proofs.Standing.{StandsFor-advanced}
 use Rattle.robust_window.proofs.window.Window.step_still.Goals as goal
 
 pub returns-clause-stands : goal.returns-clause-stands
 returns-clause-stands c = λ steps step stands change new_mask robust.
-    let f = length c.args.self.now.recent in
-    let len : length step.change ≡ f = ap length change ∙ length-replicate f false in
-    let robust_is : step.robust ≡ c.args.robust = robust in
-    StandsFor-advanced steps step c.args.self.now c.push_still.new.self c.advance.new.self stands c.push_still.ensures.full (omega (arith, c.requires.robust, robust_is)) len
-    (λ _. change ∙ ap (λ n. replicate n false) (sym len))
-    (c.push_still.ensures.change ∙ ap (λ (v : List Bool). record c.args.self.now { changes = drop 1 c.args.self.now.changes ++ v ∷ [] }) (sym change))
-    (subst (λ (n : ℕ). Advances c.push_still.new.self c.advance.new.self step.new_mask n) (sym robust_is)
-    (subst (λ (b : Bool). Advances c.push_still.new.self c.advance.new.self b c.args.robust) (sym new_mask) c.advance.ensures))
+    let old = c.args.self.now in
+    let zeros = replicate (length old.recent) false in
+    let len = length-replicate (length old.recent) false in
+    let changes = ap (λ (k : LatestChanges). k.latest) c.push_still.ensures
+    ∙ ap (λ n. drop 1 c.self.inside.changes.latest ++ replicate n false ∷ []) (c.self.invariant.places ∙ ap (λ (k : WindowState). length k.recent) c.self.view_is)
+    ∙ ap (λ (k : WindowState). drop 1 k.changes ++ zeros ∷ []) c.self.view_is in
+    subst (λ (s : MaskStep). StandsFor (steps ++ s ∷ []) c.advance.new.self) (sym (λ i. record { change = change i; new_mask = new_mask i; robust = robust i }))
+    (StandsFor-advanced steps (record { change = zeros; new_mask = c.args.new_mask; robust = c.args.robust }) old _ c.advance.new.self stands (ap (λ (k : WindowState). length k.changes) (sym c.self.view_is) ∙ c.self.invariant.full) c.requires.robust len
+    (λ _. ap (λ n. replicate n false) (sym len)) (λ i. record (c.self.view_is i) { changes = changes i }) c.advance.ensures)
