@@ -7,7 +7,7 @@ ghost use Rattle.run_code.specs.Extraction.{parse_filled};
 ghost use Rattle.run_code.specs.Places.{places_down};
 ghost use Rattle.packet_encode.specs.Forms.{wide_by};
 ghost use Rattle.packet_decode.specs.PacketReading.{Tells, parse_kept, parse_whole_with, parse_whole_alone, parse_part_with, parse_content, Spelled};
-ghost use Rattle.packet_decode.specs.Parts.{IsDraft, IsReady, lent, content_outcome};
+ghost use Rattle.packet_decode.specs.Parts.{IsReady, lent, content_outcome};
 
 use crate::change::FirstPart;
 use crate::draft::Draft;
@@ -27,7 +27,7 @@ pub fn take_content(
     draft: &mut Draft,
 ) -> Result<bool, BitFault>
     requires ready { IsReady change.now (Some mask.now) (lent known) draft.old }
-    ensures draft { IsDraft (length draft.old.content) draft.new }
+    ensures places { length draft.new.content ≡ length draft.old.content }
     ensures moves { MovesOn eye.old eye.new }
     ensures reading { Tells
         (λ known. content_outcome known mask.now draft.new.content) result eye.new
@@ -53,7 +53,7 @@ pub fn take_part(
     draft: &mut Draft,
 ) -> Result<bool, BitFault>
     requires ready { IsReady change.now (Some mask.now) (lent known) draft.old }
-    ensures draft { IsDraft (length draft.old.content) draft.new }
+    ensures places { length draft.new.content ≡ length draft.old.content }
     ensures moves { MovesOn eye.old eye.new }
     ensures reading { Tells
         (λ known. content_outcome known mask.now draft.new.content) result eye.new
@@ -77,7 +77,7 @@ fn take_untold(
     draft: &mut Draft,
 ) -> Result<(), BitFault>
     requires ready { IsReady change.now (Some mask.now) None draft.old }
-    ensures draft { IsDraft (length draft.old.content) draft.new }
+    ensures places { length draft.new.content ≡ length draft.old.content }
     ensures moves { MovesOn eye.old eye.new }
     ensures reading { Tells (λ _. Spelled (Some mask.now) None) result eye.new
         (parse_part_with change.now mask.now None (bits_left eye.old)) }
@@ -94,7 +94,7 @@ fn take_extracted(
     draft: &mut Draft,
 ) -> Result<(), BitFault>
     requires ready { IsReady change.now (Some mask.now) None draft.old }
-    ensures draft { IsDraft (length draft.old.content) draft.new }
+    ensures places { length draft.new.content ≡ length draft.old.content }
     ensures moves { MovesOn eye.old eye.new }
     ensures reading { Gives (λ _. draft.new.content) result eye.new
         (parse_filled (places_down (wide_by change.now.directions change.now.recent mask.now))
@@ -120,7 +120,7 @@ pub fn take_whole(
     draft: &mut Draft,
 ) -> Result<(), BitFault>
     requires ready { IsReady change.now (Some mask.now) (lent known) draft.old }
-    ensures draft { IsDraft (length draft.old.content) draft.new }
+    ensures places { length draft.new.content ≡ length draft.old.content }
     ensures moves { MovesOn eye.old eye.new }
     ensures reading { Tells
         (λ _. content_outcome true mask.now draft.new.content) result eye.new
@@ -145,8 +145,7 @@ pub fn take_whole(
 /// Takes the whole content, which may be any, since no mask is known.
 #[tactic(auto, unfolding(crate::specs::PacketReading::parse_whole_alone, crate::specs::PacketReading::parse_whole))]
 pub fn take_whole_alone(eye: &mut BitEye, draft: &mut Draft) -> Result<(), BitFault>
-    requires { IsDraft (length draft.old.content) draft.old }
-    ensures draft { IsDraft (length draft.old.content) draft.new }
+    ensures places { length draft.new.content ≡ length draft.old.content }
     ensures moves { MovesOn eye.old eye.new }
     ensures reading { Tells (λ _. Spelled None (Some draft.new.content)) result eye.new
         (parse_whole_alone (length draft.old.content) (bits_left eye.old)) }
