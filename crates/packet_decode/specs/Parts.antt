@@ -1,7 +1,10 @@
 -- What the values stand for by which packets are read.
-use Rattle.std.specs.Prelude.{◌≡◌, ◌≢◌, ℕ, ◌<◌, ⊤, List, [], Bool, true, false, replicate, IfNone, IfSome, length, Option, None, Some}
+use Rattle.std.specs.Prelude.{◌≡◌, ◌≢◌, ℕ, ◌<◌, ⊤, List, [], Bool, true, false, replicate, IfNone, IfSome, length, Option, None, Some, Result}
 use Rattle.std.specs.Borrow.{Bor}
 use Rattle.std.specs.Option.{option_map}
+use Rattle.bit_vectors.specs.declared.fault.BitFault.{BitFault}
+use Rattle.bit_vectors.specs.Eye.{EyeState, bits_left}
+use Rattle.bit_vectors.specs.Reading.{MovesOn, Parsed}
 use Rattle.bit_vectors.specs.Vectors.{IsVector, bits_of}
 use Rattle.packet_encode.specs.Forms.{Form}
 use Rattle.packet_decode.specs.declared.latest.DataKind.{DataKind}
@@ -11,7 +14,7 @@ use Rattle.packet_decode.specs.declared.draft.Room.{Room}
 use Rattle.packet_decode.specs.declared.latest.Latest.{Latest}
 use Rattle.packet_decode.specs.State.{KnownVector, State, Change, change_of, deduced_by, mask_after, known_if}
 use Rattle.packet_decode.specs.Spelling.{Spells}
-use Rattle.packet_decode.specs.PacketReading.{Found, Outcome, Spelled, Opaque}
+use Rattle.packet_decode.specs.PacketReading.{Found, Outcome, Spelled, Opaque, Tells}
 
 -- what the parts after the first one say, by the deduced mask, if there is one, the sent mask and the content
 abbrev pub outcome_of : DataKind → Option (List Bool) → List Bool → List Bool → Outcome
@@ -43,6 +46,11 @@ tells_content (DeducedKind known) = known
 tells_content (SentKind known) = known
 tells_content MasklessKind = true
 tells_content OpaqueKind = false
+
+-- the eye moved on, and what the call answered, seen by view, is what reading the bits that were left gives
+pub record Takes {A B : Type 0} (view : A → B) (result : Result A BitFault) (old new : EyeState) (parse : List Bool → Parsed B) : Type 0 where
+  pub moves : MovesOn old new
+  pub reading : Tells view result new (parse (bits_left old))
 
 -- a known vector, if there is a number
 abbrev pub part_by : Option ℕ → List Bool → Option KnownVector

@@ -5,7 +5,7 @@ ghost use Rattle.std.specs.Prelude.{◌≡◌, Bool, List, length, IfOk, IsSome}
 ghost use Rattle.bit_vectors.specs.Eye.{bits_left};
 ghost use Rattle.bit_vectors.specs.Reading.{MovesOn};
 ghost use Rattle.packet_decode.specs.PacketReading.{Tells, parse_unsent, parse_maskless, parse_masked, parse_data};
-ghost use Rattle.packet_decode.specs.Parts.{IsDeduced, IsReady, lent, outcome_of};
+ghost use Rattle.packet_decode.specs.Parts.{IsDeduced, IsReady, Takes, lent, outcome_of};
 
 use crate::change::FirstPart;
 use crate::content::{take_content, take_part, take_whole, take_whole_alone};
@@ -31,11 +31,9 @@ pub fn take_data(
     ensures deduced { IfOk result (λ kind. IsDeduced kind → IsSome (lent deduced.entry)) }
     ensures places { length draft.new.content ≡ length draft.old.content }
     ensures sent { length sent.new ≡ length sent.old }
-    ensures moves { MovesOn eye.old eye.new }
-    ensures reading { Tells
-        (λ kind. outcome_of kind (lent deduced.entry) sent.new draft.new.content) result eye.new
-        (parse_data (length draft.old.content) change.now (lent deduced.entry) (lent known.entry)
-        (bits_left eye.old)) }
+    ensures taken { Takes
+        (λ kind. outcome_of kind (lent deduced.entry) sent.new draft.new.content) result eye.old eye.new
+        (parse_data (length draft.old.content) change.now (lent deduced.entry) (lent known.entry)) }
 {
     if eye.take_bit()? {
         take_unsent(eye, change, deduced, known, draft)
@@ -114,11 +112,10 @@ fn take_masked(
     ensures deduced { IfOk result (λ kind. IsDeduced kind → IsSome (lent deduced.entry)) }
     ensures places { length draft.new.content ≡ length draft.old.content }
     ensures sent { length sent.new ≡ length sent.old }
-    ensures moves { MovesOn eye.old eye.new }
-    ensures reading { Tells
-        (λ kind. outcome_of kind (lent deduced.entry) sent.new draft.new.content) result eye.new
+    ensures taken { Takes
+        (λ kind. outcome_of kind (lent deduced.entry) sent.new draft.new.content) result eye.old eye.new
         (parse_masked (length draft.old.content) change.now (lent deduced.entry)
-        (lent known.entry) (bits_left eye.old)) }
+        (lent known.entry)) }
 {
     let Some(mask) = deduced else {
         read_mask(eye, sent, &mut draft.spare)?;

@@ -1,10 +1,8 @@
 //! A whole packet: its parts, its padding and its end.
 
 ghost use Rattle.std.specs.Prelude.{◌≡◌, ◌<◌, length, IfOk, IfSome, IsSome, OnOk};
-ghost use Rattle.bit_vectors.specs.Eye.{bits_left};
-ghost use Rattle.bit_vectors.specs.Reading.{MovesOn};
-ghost use Rattle.packet_decode.specs.PacketReading.{Tells, parse_parts, parse_whole_packet};
-ghost use Rattle.packet_decode.specs.Parts.{IsBefore, IsChanged, IsDeduced, found_in, kept_state, lent, part_by};
+ghost use Rattle.packet_decode.specs.PacketReading.{parse_parts, parse_whole_packet};
+ghost use Rattle.packet_decode.specs.Parts.{IsBefore, IsChanged, IsDeduced, Takes, found_in, kept_state, lent, part_by};
 ghost use Rattle.packet_decode.specs.State.{deduced_by, in_reach};
 
 use crate::data::take_data;
@@ -28,9 +26,9 @@ pub fn take_whole_packet(
         → IsSome (deduced_by (kept_state latest.now) t room.new.next)) }
     ensures changed { OnOk result (IsChanged room.new.next
         → IfSome (deduced_by (kept_state latest.now) t room.new.next) (λ mask. room.new.deduced ≡ mask)) }
-    ensures moves { MovesOn eye.old eye.new }
-    ensures reading { Tells (found_in room.new (kept_state latest.now) t) result eye.new
-        (parse_whole_packet (length room.old.draft.content) (kept_state latest.now) t (bits_left eye.old)) }
+    ensures taken { Takes
+        (found_in room.new (kept_state latest.now) t) result eye.old eye.new
+        (parse_whole_packet (length room.old.draft.content) (kept_state latest.now) t) }
 {
     let kind = take_parts(eye, t, latest, room)?;
     take_padding(eye, kind)?;
@@ -53,9 +51,9 @@ fn take_parts(
         → IsSome (deduced_by (kept_state latest.now) t room.new.next)) }
     ensures changed { OnOk result (IsChanged room.new.next
         → IfSome (deduced_by (kept_state latest.now) t room.new.next) (λ mask. room.new.deduced ≡ mask)) }
-    ensures moves { MovesOn eye.old eye.new }
-    ensures reading { Tells (found_in room.new (kept_state latest.now) t) result eye.new
-        (parse_parts (length room.old.draft.content) (kept_state latest.now) t (bits_left eye.old)) }
+    ensures taken { Takes
+        (found_in room.new (kept_state latest.now) t) result eye.old eye.new
+        (parse_parts (length room.old.draft.content) (kept_state latest.now) t) }
 {
     room.next.take(eye)?;
     let level = room.next.level();

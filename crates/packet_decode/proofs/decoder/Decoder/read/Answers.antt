@@ -60,7 +60,7 @@ fault_answer c =
     let p = err_from_is_err_and c.from_residual.result c.from_residual.ensures.1 in
     fault_is c.args.self.now c.self.inside.latest c.self.inside.shown c.self.view_is c.self.invariant.latest_vectors _ c.args.t c.new-eye.result c.args.bytes.now c.self.invariant.room_places c.new-eye.ensures.bits c.new-eye.ensures.place
     (found_in c.take_whole_packet.new.room (kept_state c.self.inside.latest) c.args.t)
-    c.in_err-kind.field-0.0 c.take_whole_packet.new.eye c.take_whole_packet.ensures.moves.bits c.in_err-kind.ensures.reading
+    c.in_err-kind.field-0.0 c.take_whole_packet.new.eye c.take_whole_packet.ensures.taken.moves.bits c.in_err-kind.ensures.taken.reading
     ∙ sym (p.1 ∙ ap Err p.2)
 
 fault_has : (c : goal.After-from_residual) → IsState c.args.self.now.places c.args.self.now.state
@@ -87,10 +87,10 @@ returns-in_err-kind-clause-mask_alone c form mask s = fault_nothing c form mask 
 
 opaque_answer : (c : goal.After-missed) → answer_of c.args.self.now.places c.args.self.now.state c.args.t (bits_of c.args.bytes.now) ≡ Ok c.missed.result
 opaque_answer c =
-    let told = rw (c.is_opaque.ensures.0 c.if-is_opaque.true) at c.in_ok-kind.ensures.reading in
+    let told = rw (c.is_opaque.ensures.0 c.if-is_opaque.true) at c.in_ok-kind.ensures.taken.reading in
     let missed_is = c.missed.ensures c.self.inside.latest.mask in
     reading_is c.args.self.now c.self.inside.latest c.self.inside.shown c.self.view_is c.self.invariant.latest_vectors _ c.args.t c.new-eye.result c.args.bytes.now c.self.invariant.room_places c.new-eye.ensures.bits c.new-eye.ensures.place
-    (record { change = c.take_whole_packet.new.room.next; outcome = Opaque }) c.take_whole_packet.new.eye c.take_whole_packet.ensures.moves.bits told
+    (record { change = c.take_whole_packet.new.room.next; outcome = Opaque }) c.take_whole_packet.new.eye c.take_whole_packet.ensures.taken.moves.bits told
     ∙ ap Ok (rw (sym c.level.ensures.level) (sym missed_is))
 
 opaque_has : (c : goal.After-missed) → IsState c.args.self.now.places c.args.self.now.state
@@ -98,7 +98,7 @@ opaque_has c = has_state c.args.self.now c.self.inside.latest c.self.inside.show
 
 opaque_nothing : {A : Type 0} (c : goal.After-missed) (form : Form) (mask content : Option (List Bool)) → Spells c.args.self.now.places c.args.self.now.state c.args.t (bits_of c.args.bytes.now) form mask content → A
 opaque_nothing c form mask content s =
-    let told = rw (c.is_opaque.ensures.0 c.if-is_opaque.true) at c.in_ok-kind.ensures.reading in
+    let told = rw (c.is_opaque.ensures.0 c.if-is_opaque.true) at c.in_ok-kind.ensures.taken.reading in
     absurd (opaque_unspelled c.args.self.now c.self.inside.latest c.self.inside.shown c.self.view_is c.self.invariant.latest_vectors _ c.args.t c.new-eye.result c.args.bytes.now c.self.invariant.room_places c.new-eye.ensures.bits c.new-eye.ensures.place c.take_whole_packet.new.room.next (bits_left c.take_whole_packet.new.eye) told form mask content s)
 
 pub returns-then-is_opaque-clause-exact : goal.returns-then-is_opaque-clause-exact
@@ -133,7 +133,7 @@ spelled_has c = has_state c.args.self.now c.self.inside.latest c.self.inside.sho
 read_as : (c : After-keep_mask) (known : Bool) → tells_content c.in_ok-kind.kind ≡ known → parse_whole_packet (length c.self.inside.room.draft.content) (kept_state c.self.inside.latest) c.args.t (bits_left c.new-eye.result)
     ≡ Read (record { change = c.take_whole_packet.new.room.next; outcome = Spelled (told c).mask (known_if known c.take_whole_packet.new.room.draft.content) }) (bits_left c.take_whole_packet.new.eye)
 read_as c known is =
-    c.in_ok-kind.ensures.reading
+    c.in_ok-kind.ensures.taken.reading
     ∙ ap (λ (o : Outcome). Read (record { change = c.take_whole_packet.new.room.next; outcome = o }) (bits_left c.take_whole_packet.new.eye))
     ((told c).outcome ∙ ap (λ (b : Bool). Spelled (told c).mask (known_if b c.take_whole_packet.new.room.draft.content)) is)
 
@@ -146,7 +146,7 @@ spelled_answer : (c : After-keep_mask) (known : Bool) → tells_content c.in_ok-
     → answer_of c.args.self.now.places c.args.self.now.state c.args.t (bits_of c.args.bytes.now) ≡ Ok (outcome_answer (kept_state c.self.inside.latest) c.take_whole_packet.new.room.next.level (Spelled (told c).mask (known_if known c.take_whole_packet.new.room.draft.content)))
 spelled_answer c known is =
     reading_is c.args.self.now c.self.inside.latest c.self.inside.shown c.self.view_is c.self.invariant.latest_vectors _ c.args.t c.new-eye.result c.args.bytes.now c.self.invariant.room_places c.new-eye.ensures.bits c.new-eye.ensures.place
-    (record { change = c.take_whole_packet.new.room.next; outcome = Spelled (told c).mask (known_if known c.take_whole_packet.new.room.draft.content) }) c.take_whole_packet.new.eye c.take_whole_packet.ensures.moves.bits (read_as c known is)
+    (record { change = c.take_whole_packet.new.room.next; outcome = Spelled (told c).mask (known_if known c.take_whole_packet.new.room.draft.content) }) c.take_whole_packet.new.eye c.take_whole_packet.ensures.taken.moves.bits (read_as c known is)
 
 -- ---- its mask alone
 
