@@ -1,7 +1,7 @@
 -- What reading bytes answers by the parts of a decoder, and what the decoder is after a packet.
 use Rattle.std.proofs.Common.{◌≡◌, ◌≢◌, ℕ, ◌-◌, ◌↔◌, List, [], Bool, true, false, cond, length, replicate, drop, Option, Some, None, Result, Ok, Err, IfSome, IsSome, IsTrue, refl, sym, ap, ◌∙◌, subst}
 use Rattle.std.specs.Prelude.{nat_le}
-use Rattle.std.specs.Bool.{OnTrue, OnFalse}
+use Rattle.std.specs.Bool.{OnTrue}
 use Rattle.std.specs.Option.{option_map}
 use Rattle.std.proofs.lemmas.Bool.{true≢false, false≢true}
 use Rattle.std.proofs.lemmas.Option.{same_Some}
@@ -12,9 +12,9 @@ use Rattle.bit_vectors.specs.Reading.{Read}
 use Rattle.bit_vectors.proofs.ExactReading.{read_same}
 use Rattle.packet_encode.specs.Forms.{Form}
 use Rattle.packet_decode.specs.declared.decoder.Reading.{Reading}
-use Rattle.packet_decode.specs.declared.draft.Latest.{Latest}
-use Rattle.packet_decode.specs.declared.draft.DataKind.{DataKind}
-use Rattle.packet_decode.specs.declared.draft.DataKind.TheVariants.{Deduced as DeducedKind, Sent as SentKind, Maskless as MasklessKind, Opaque as OpaqueKind}
+use Rattle.packet_decode.specs.declared.latest.Latest.{Latest}
+use Rattle.packet_decode.specs.declared.latest.DataKind.{DataKind}
+use Rattle.packet_decode.specs.declared.latest.DataKind.TheVariants.{Deduced as DeducedKind, Sent as SentKind, Maskless as MasklessKind, Opaque as OpaqueKind}
 use Rattle.packet_decode.specs.State.{KnownVector, State, HasVector, IsState, Change, change_of, in_reach, deduced_by, known_if, mask_after, next_part, next_state}
 use Rattle.packet_decode.specs.Spelling.{Spells}
 use Rattle.packet_decode.specs.Answers.{Says, IsExactAnswer}
@@ -144,11 +144,11 @@ stays_deduced None mask t next stays = tt
 stays_deduced (Some last) mask t next stays = stays_by (nat_le (t - 1 - last) next.level) mask next stays
 
 -- the mask that is made the latest one is the deduced one
-pub deduced_is : (quiet : Bool) (latest : Latest) (t : ℕ) (next : Change) (deduced new : List Bool) → length latest.mask ≡ length next.recent → OnTrue quiet (new ≡ latest.mask) → OnFalse quiet (new ≡ deduced)
+pub deduced_is : (quiet : Bool) (latest : Latest) (t : ℕ) (next : Change) (deduced new : List Bool) → length latest.mask ≡ length next.recent → new ≡ cond quiet latest.mask deduced
     → (IsTrue quiet ↔ (next.recent ≡ replicate (length next.recent) false)) → OnTrue quiet ((mask : List Bool) → length mask ≡ length next.recent → mask_after mask next ≡ mask)
     → (next.recent ≢ replicate (length next.recent) false → IfSome (deduced_by (kept_state latest) t next) (λ m. deduced ≡ m)) → IfSome (deduced_by (kept_state latest) t next) (λ m. new ≡ m)
-deduced_is true latest t next deduced new places kept made zero stays changed = rw kept (stays_deduced latest.mask_number latest.mask t next (stays latest.mask places))
-deduced_is false latest t next deduced new places kept made zero stays changed = rw made (changed (λ none. absurd (true≢false (sym (zero.1 none)))))
+deduced_is true latest t next deduced new places is zero stays changed = rw is (stays_deduced latest.mask_number latest.mask t next (stays latest.mask places))
+deduced_is false latest t next deduced new places is zero stays changed = rw is (changed (λ none. absurd (true≢false (sym (zero.1 none)))))
 
 -- the mask that a packet tells is made the latest one
 some_mask : (deduced : Option (List Bool)) (mask : List Bool) → IsSome deduced → IfSome deduced (λ m. mask ≡ m) → deduced ≡ Some mask

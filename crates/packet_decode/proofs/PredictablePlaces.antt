@@ -5,7 +5,7 @@ use Rattle.std.specs.Option.{is_some}
 use Rattle.std.proofs.lemmas.Bool.{false≢true}
 use Rattle.bit_vectors.specs.Vectors.{IsOne, xor_bits, or_bits, without_bits}
 use Rattle.packet_decode.specs.State.{mask_after}
-use Rattle.packet_decode.specs.Parts.{AreRecent, sent_directions}
+use Rattle.packet_decode.specs.Directions.{AreRecent, sent_directions}
 
 -- no change is predictable
 pub all_added : (mask recent : List Bool) → or_bits mask recent ≡ or_bits (without_bits mask recent) recent

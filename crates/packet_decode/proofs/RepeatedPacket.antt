@@ -9,7 +9,7 @@ use Rattle.std.proofs.lemmas.Option.{same_Some}
 use Rattle.bit_vectors.specs.Vectors.{bits_of}
 use Rattle.bit_vectors.specs.Reading.{Read}
 use Rattle.packet_encode.specs.Forms.{Content, Whole, Part, Form, wide}
-use Rattle.packet_decode.specs.declared.draft.Latest.{Latest}
+use Rattle.packet_decode.specs.declared.latest.Latest.{Latest}
 use Rattle.packet_decode.specs.State.{State, Change, change_of, next_state, in_reach, deduced_by, known_by, mask_after}
 use Rattle.packet_decode.specs.Spelling.{IsKnownContent, IsKept, Spells}
 use Rattle.packet_decode.specs.Answers.{SpellsContent}

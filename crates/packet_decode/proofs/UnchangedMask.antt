@@ -2,7 +2,7 @@
 use Rattle.std.proofs.Common.{◌≡◌, ℕ, eqb, Bool, true, false, cond, List, [], ◌∷◌, length, replicate, Option, Some, None, refl, sym, ap, ◌∙◌}
 use Rattle.bit_vectors.specs.Vectors.{xor_bits, or_bits, without_bits}
 use Rattle.packet_decode.specs.State.{mask_after, unpredictable}
-use Rattle.packet_decode.specs.Parts.{sent_directions}
+use Rattle.packet_decode.specs.Directions.{sent_directions}
 
 xor_none : (mask : List Bool) → xor_bits mask (replicate (length mask) false) ≡ mask
 xor_none [] = refl

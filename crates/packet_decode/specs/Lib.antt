@@ -3,6 +3,7 @@ pub mod Spelling
 pub mod Answers
 pub mod PacketReading
 pub mod PartWords
+pub mod Directions
 pub mod Parts
 pub mod Decoding
 pub mod Histories

@@ -1,25 +1,20 @@
 -- What the values stand for by which packets are read.
-use Rattle.std.specs.Prelude.{◌≡◌, ◌≢◌, ℕ, ⊤, List, [], Bool, true, false, replicate, IfNone, IfSome, IsSome, length, Option, None, Some}
+use Rattle.std.specs.Prelude.{◌≡◌, ◌≢◌, ℕ, ◌<◌, ⊤, List, [], Bool, true, false, replicate, IfNone, IfSome, length, Option, None, Some, Result}
 use Rattle.std.specs.Borrow.{Bor}
 use Rattle.std.specs.Option.{option_map}
-use Rattle.bit_vectors.specs.Vectors.{IsOne, IsVector, bits_of}
-use Rattle.packet_encode.specs.Forms.{Directions, Form}
-use Rattle.packet_decode.specs.declared.draft.DataKind.{DataKind}
-use Rattle.packet_decode.specs.declared.draft.DataKind.TheVariants.{Deduced as DeducedKind, Sent as SentKind, Maskless as MasklessKind, Opaque as OpaqueKind}
+use Rattle.bit_vectors.specs.declared.fault.BitFault.{BitFault}
+use Rattle.bit_vectors.specs.Eye.{EyeState, bits_left}
+use Rattle.bit_vectors.specs.Reading.{MovesOn, Parsed}
+use Rattle.bit_vectors.specs.Vectors.{IsVector, bits_of}
+use Rattle.packet_encode.specs.Forms.{Form}
+use Rattle.packet_decode.specs.declared.latest.DataKind.{DataKind}
+use Rattle.packet_decode.specs.declared.latest.DataKind.TheVariants.{Deduced as DeducedKind, Sent as SentKind, Maskless as MasklessKind, Opaque as OpaqueKind}
 use Rattle.packet_decode.specs.declared.draft.Draft.{Draft}
-use Rattle.packet_decode.specs.declared.draft.Latest.{Latest}
-use Rattle.packet_decode.specs.State.{KnownVector, State, Change, change_of, mask_after, known_if}
+use Rattle.packet_decode.specs.declared.draft.Room.{Room}
+use Rattle.packet_decode.specs.declared.latest.Latest.{Latest}
+use Rattle.packet_decode.specs.State.{KnownVector, State, Change, change_of, deduced_by, mask_after, known_if}
 use Rattle.packet_decode.specs.Spelling.{Spells}
-use Rattle.packet_decode.specs.PacketReading.{Outcome, Spelled, Opaque}
-
--- directions, if it was sent whether all recent changes are extracted
-abbrev pub sent_directions : Option Bool → List Bool → Option Directions
-sent_directions None predictable = None
-sent_directions (Some twice) predictable = Some (record { predictable = predictable; twice = twice })
-
--- if directions are sent, what became predictable are recent changes
-abbrev pub AreRecent : Option Bool → List Bool → List Bool → Type 0
-AreRecent twice predictable recent = IsSome twice → (place : ℕ) → IsOne predictable place → IsOne recent place
+use Rattle.packet_decode.specs.PacketReading.{Found, Outcome, Spelled, Opaque, Tells}
 
 -- what the parts after the first one say, by the deduced mask, if there is one, the sent mask and the content
 abbrev pub outcome_of : DataKind → Option (List Bool) → List Bool → List Bool → Outcome
@@ -52,6 +47,11 @@ tells_content (SentKind known) = known
 tells_content MasklessKind = true
 tells_content OpaqueKind = false
 
+-- the eye moved on, and what the call answered, seen by view, is what reading the bits that were left gives
+pub record Takes {A B : Type 0} (view : A → B) (result : Result A BitFault) (old new : EyeState) (parse : List Bool → Parsed B) : Type 0 where
+  pub moves : MovesOn old new
+  pub reading : Tells view result new (parse (bits_left old))
+
 -- a known vector, if there is a number
 abbrev pub part_by : Option ℕ → List Bool → Option KnownVector
 part_by number vector = option_map (λ n. record { number = n; vector = vector }) number
@@ -65,11 +65,19 @@ pub record HasPlaces (f : ℕ) (latest : Latest) : Type 0 where
   pub mask : length latest.mask ≡ f
   pub content : length latest.content ≡ f
 
--- all vectors of a draft have so many places
-pub record IsDraft (f : ℕ) (draft : Draft) : Type 0 where
-  pub content : length draft.content ≡ f
-  pub places : length draft.places ≡ f
-  pub spare : length draft.spare ≡ f
+-- these are the latest vectors, of so many places, before the packet with the number t
+pub record IsBefore (t f : ℕ) (latest : Latest) : Type 0 where
+  pub later : IfSome latest.content_number (λ last. last < t)
+  pub later_mask : IfSome latest.mask_number (λ last. last < t)
+  pub vectors : HasPlaces f latest
+
+-- the first part has a change
+abbrev pub IsChanged : Change → Type 0
+IsChanged change = change.recent ≢ replicate (length change.recent) false
+
+-- what was read into the room, under a state
+abbrev pub found_in : Room → State → ℕ → DataKind → Found
+found_in room state t kind = record { change = room.next; outcome = outcome_of kind (deduced_by state t room.next) room.sent room.draft.content }
 
 -- the vectors that were lent, if there are any
 abbrev pub lent : Option (Bor (List Bool)) → Option (List Bool)
@@ -81,7 +89,6 @@ pub record IsReady (first : Change) (mask content : Option (List Bool)) (vectors
   pub change : length first.recent ≡ length vectors.content
   pub deduced : IfSome mask (λ v. length v ≡ length vectors.content)
   pub known : IfSome content (λ v. length v ≡ length vectors.content)
-  pub draft : IsDraft (length vectors.content) vectors
 
 -- Under some state, these bytes spell a packet by which the latest mask and the latest content became known, and this is its
 -- first part. Its changes leave the mask as it is.
@@ -100,14 +107,11 @@ IsRemembered latest shown bytes = bytes ≢ [] → SpellLatest latest shown byte
 
 -- What holds of the parts of a decoder: the latest vectors, the first part of the latest written packet, what is filled as
 -- the next packet is read, and the data that are remembered.
-pub record IsDecoder (latest : Latest) (shown next : Change) (deduced sent : List Bool) (draft : Draft) (kept : List ℕ) : Type 0 where
+pub record IsDecoder (latest : Latest) (shown : Change) (room : Room) (kept : List ℕ) : Type 0 where
   pub vector : IsVector latest.content
   pub latest_vectors : HasPlaces (length latest.content) latest
   pub shown_places : length shown.recent ≡ length latest.content
-  pub next_places : length next.recent ≡ length latest.content
-  pub deduced_places : length deduced ≡ length latest.content
-  pub sent_places : length sent ≡ length latest.content
-  pub draft_vectors : IsDraft (length latest.content) draft
+  pub room_places : length room.draft.content ≡ length latest.content
   pub first_mask : IfNone latest.mask_number (latest.mask ≡ replicate (length latest.content) false)
   pub first_content : IfNone latest.content_number (latest.content ≡ replicate (length latest.content) false)
   pub first_recent : IfNone latest.content_number (shown.recent ≡ replicate (length latest.content) false)

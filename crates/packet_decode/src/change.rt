@@ -37,7 +37,7 @@ impl Model for FirstPart {
     ghost use Rattle.std.specs.Prelude.{◌≡◌, ◌<◌, ◌↔◌, false, true, length, replicate, Contains, IsTrue};
     ghost use Rattle.std.specs.Bool.{OnFalse};
     ghost use Rattle.packet_decode.specs.State.{Change};
-    ghost use Rattle.packet_decode.specs.Parts.{AreRecent, sent_directions};
+    ghost use Rattle.packet_decode.specs.Directions.{AreRecent, sent_directions};
 
     ghost Value = { Change };
 

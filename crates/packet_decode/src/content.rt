@@ -6,8 +6,8 @@ ghost use Rattle.bit_vectors.specs.Reading.{Gives, MovesOn};
 ghost use Rattle.run_code.specs.Extraction.{parse_filled};
 ghost use Rattle.run_code.specs.Places.{places_down};
 ghost use Rattle.packet_encode.specs.Forms.{wide_by};
-ghost use Rattle.packet_decode.specs.PacketReading.{Tells, parse_kept, parse_whole_with, parse_whole_alone, parse_part_with, parse_content, Spelled};
-ghost use Rattle.packet_decode.specs.Parts.{IsDraft, IsReady, lent, content_outcome};
+ghost use Rattle.packet_decode.specs.PacketReading.{parse_kept, parse_whole_with, parse_whole_alone, parse_part_with, parse_content, Spelled};
+ghost use Rattle.packet_decode.specs.Parts.{IsReady, Takes, lent, content_outcome};
 
 use crate::change::FirstPart;
 use crate::draft::Draft;
@@ -27,12 +27,10 @@ pub fn take_content(
     draft: &mut Draft,
 ) -> Result<bool, BitFault>
     requires ready { IsReady change.now (Some mask.now) (lent known) draft.old }
-    ensures draft { IsDraft (length draft.old.content) draft.new }
-    ensures moves { MovesOn eye.old eye.new }
-    ensures reading { Tells
-        (λ known. content_outcome known mask.now draft.new.content) result eye.new
-        (parse_content (length draft.old.content) change.now mask.now (lent known.entry)
-        (bits_left eye.old)) }
+    ensures places { length draft.new.content ≡ length draft.old.content }
+    ensures taken { Takes
+        (λ known. content_outcome known mask.now draft.new.content) result eye.old eye.new
+        (parse_content (length draft.old.content) change.now mask.now (lent known.entry)) }
 {
     if eye.take_bit()? {
         take_whole(eye, change, mask, known, draft)?;
@@ -53,11 +51,10 @@ pub fn take_part(
     draft: &mut Draft,
 ) -> Result<bool, BitFault>
     requires ready { IsReady change.now (Some mask.now) (lent known) draft.old }
-    ensures draft { IsDraft (length draft.old.content) draft.new }
-    ensures moves { MovesOn eye.old eye.new }
-    ensures reading { Tells
-        (λ known. content_outcome known mask.now draft.new.content) result eye.new
-        (parse_part_with change.now mask.now (lent known.entry) (bits_left eye.old)) }
+    ensures places { length draft.new.content ≡ length draft.old.content }
+    ensures taken { Takes
+        (λ known. content_outcome known mask.now draft.new.content) result eye.old eye.new
+        (parse_part_with change.now mask.now (lent known.entry)) }
 {
     let Some(known) = known else {
         take_untold(eye, change, mask, draft)?;
@@ -77,10 +74,10 @@ fn take_untold(
     draft: &mut Draft,
 ) -> Result<(), BitFault>
     requires ready { IsReady change.now (Some mask.now) None draft.old }
-    ensures draft { IsDraft (length draft.old.content) draft.new }
-    ensures moves { MovesOn eye.old eye.new }
-    ensures reading { Tells (λ _. Spelled (Some mask.now) None) result eye.new
-        (parse_part_with change.now mask.now None (bits_left eye.old)) }
+    ensures places { length draft.new.content ≡ length draft.old.content }
+    ensures taken { Takes
+        (λ _. Spelled (Some mask.now) None) result eye.old eye.new
+        (parse_part_with change.now mask.now None) }
 {
     take_extracted(eye, change, mask, draft)
 }
@@ -94,7 +91,7 @@ fn take_extracted(
     draft: &mut Draft,
 ) -> Result<(), BitFault>
     requires ready { IsReady change.now (Some mask.now) None draft.old }
-    ensures draft { IsDraft (length draft.old.content) draft.new }
+    ensures places { length draft.new.content ≡ length draft.old.content }
     ensures moves { MovesOn eye.old eye.new }
     ensures reading { Gives (λ _. draft.new.content) result eye.new
         (parse_filled (places_down (wide_by change.now.directions change.now.recent mask.now))
@@ -120,12 +117,10 @@ pub fn take_whole(
     draft: &mut Draft,
 ) -> Result<(), BitFault>
     requires ready { IsReady change.now (Some mask.now) (lent known) draft.old }
-    ensures draft { IsDraft (length draft.old.content) draft.new }
-    ensures moves { MovesOn eye.old eye.new }
-    ensures reading { Tells
-        (λ _. content_outcome true mask.now draft.new.content) result eye.new
-        (parse_whole_with (length draft.old.content) change.now mask.now (lent known.entry)
-        (bits_left eye.old)) }
+    ensures places { length draft.new.content ≡ length draft.old.content }
+    ensures taken { Takes
+        (λ _. content_outcome true mask.now draft.new.content) result eye.old eye.new
+        (parse_whole_with (length draft.old.content) change.now mask.now (lent known.entry)) }
 {
     match_count(eye, draft.content.len())?;
     let Some(known) = known else {
@@ -145,11 +140,10 @@ pub fn take_whole(
 /// Takes the whole content, which may be any, since no mask is known.
 #[tactic(auto, unfolding(crate::specs::PacketReading::parse_whole_alone, crate::specs::PacketReading::parse_whole))]
 pub fn take_whole_alone(eye: &mut BitEye, draft: &mut Draft) -> Result<(), BitFault>
-    requires { IsDraft (length draft.old.content) draft.old }
-    ensures draft { IsDraft (length draft.old.content) draft.new }
-    ensures moves { MovesOn eye.old eye.new }
-    ensures reading { Tells (λ _. Spelled None (Some draft.new.content)) result eye.new
-        (parse_whole_alone (length draft.old.content) (bits_left eye.old)) }
+    ensures places { length draft.new.content ≡ length draft.old.content }
+    ensures taken { Takes
+        (λ _. Spelled None (Some draft.new.content)) result eye.old eye.new
+        (parse_whole_alone (length draft.old.content)) }
 {
     match_count(eye, draft.content.len())?;
     eye.take_bits(&mut draft.content)
@@ -169,9 +163,9 @@ fn take_kept(
     requires spare { length spare.old ≡ length content.old }
     ensures content_places { length content.new ≡ length content.old }
     ensures spare_places { length spare.new ≡ length spare.old }
-    ensures moves { MovesOn eye.old eye.new }
-    ensures reading { Tells (λ _. content.new) result eye.new
-        (parse_kept places.now known.now (bits_left eye.old)) }
+    ensures taken { Takes
+        (λ _. content.new) result eye.old eye.new
+        (parse_kept places.now known.now) }
 {
     let start = eye.at();
     let left = eye.size() - start;

@@ -5,11 +5,12 @@ ghost use Rattle.std.specs.Prelude.{◌≡◌, Bool, List, length, IfOk, IsSome}
 ghost use Rattle.bit_vectors.specs.Eye.{bits_left};
 ghost use Rattle.bit_vectors.specs.Reading.{MovesOn};
 ghost use Rattle.packet_decode.specs.PacketReading.{Tells, parse_unsent, parse_maskless, parse_masked, parse_data};
-ghost use Rattle.packet_decode.specs.Parts.{IsDeduced, IsDraft, IsReady, lent, outcome_of};
+ghost use Rattle.packet_decode.specs.Parts.{IsDeduced, IsReady, Takes, lent, outcome_of};
 
 use crate::change::FirstPart;
 use crate::content::{take_content, take_part, take_whole, take_whole_alone};
-use crate::draft::{DataKind, Draft};
+use crate::draft::Draft;
+use crate::latest::DataKind;
 use crate::mask::{match_mask, read_mask};
 use bit_vectors::{BitEye, BitFault, Bits};
 
@@ -28,13 +29,11 @@ pub fn take_data(
     requires ready { IsReady change.now (lent deduced) (lent known) draft.old }
     requires sent { length sent.old ≡ length draft.old.content }
     ensures deduced { IfOk result (λ kind. IsDeduced kind → IsSome (lent deduced.entry)) }
-    ensures draft { IsDraft (length draft.old.content) draft.new }
+    ensures places { length draft.new.content ≡ length draft.old.content }
     ensures sent { length sent.new ≡ length sent.old }
-    ensures moves { MovesOn eye.old eye.new }
-    ensures reading { Tells
-        (λ kind. outcome_of kind (lent deduced.entry) sent.new draft.new.content) result eye.new
-        (parse_data (length draft.old.content) change.now (lent deduced.entry) (lent known.entry)
-        (bits_left eye.old)) }
+    ensures taken { Takes
+        (λ kind. outcome_of kind (lent deduced.entry) sent.new draft.new.content) result eye.old eye.new
+        (parse_data (length draft.old.content) change.now (lent deduced.entry) (lent known.entry)) }
 {
     if eye.take_bit()? {
         take_unsent(eye, change, deduced, known, draft)
@@ -57,7 +56,7 @@ fn take_unsent(
 ) -> Result<DataKind, BitFault>
     requires { IsReady change.now (lent deduced) (lent known) draft.old }
     ensures deduced { IfOk result (λ kind. IsDeduced kind → IsSome (lent deduced.entry)) }
-    ensures draft { IsDraft (length draft.old.content) draft.new }
+    ensures places { length draft.new.content ≡ length draft.old.content }
     ensures moves { MovesOn eye.old eye.new }
     ensures reading { (sent : List Bool) → Tells
         (λ kind. outcome_of kind (lent deduced.entry) sent draft.new.content) result eye.new
@@ -81,7 +80,7 @@ fn take_maskless(
 ) -> Result<DataKind, BitFault>
     requires { IsReady change.now (lent deduced) (lent known) draft.old }
     ensures deduced { IfOk result (λ kind. IsDeduced kind → IsSome (lent deduced.entry)) }
-    ensures draft { IsDraft (length draft.old.content) draft.new }
+    ensures places { length draft.new.content ≡ length draft.old.content }
     ensures moves { MovesOn eye.old eye.new }
     ensures reading { (sent : List Bool) → Tells
         (λ kind. outcome_of kind (lent deduced.entry) sent draft.new.content) result eye.new
@@ -111,13 +110,12 @@ fn take_masked(
     requires ready { IsReady change.now (lent deduced) (lent known) draft.old }
     requires sent { length sent.old ≡ length draft.old.content }
     ensures deduced { IfOk result (λ kind. IsDeduced kind → IsSome (lent deduced.entry)) }
-    ensures draft { IsDraft (length draft.old.content) draft.new }
+    ensures places { length draft.new.content ≡ length draft.old.content }
     ensures sent { length sent.new ≡ length sent.old }
-    ensures moves { MovesOn eye.old eye.new }
-    ensures reading { Tells
-        (λ kind. outcome_of kind (lent deduced.entry) sent.new draft.new.content) result eye.new
+    ensures taken { Takes
+        (λ kind. outcome_of kind (lent deduced.entry) sent.new draft.new.content) result eye.old eye.new
         (parse_masked (length draft.old.content) change.now (lent deduced.entry)
-        (lent known.entry) (bits_left eye.old)) }
+        (lent known.entry)) }
 {
     let Some(mask) = deduced else {
         read_mask(eye, sent, &mut draft.spare)?;

@@ -1,7 +1,7 @@
 //! The decoder: the latest known mask and content, and the reading of the next packet.
 
-ghost use Rattle.std.specs.Prelude.{[], ◌≡◌, ◌≢◌, ◌^◌, ◌<◌, ◌≤◌, ◌↔◌, Bool, true, false, List, length, replicate, Option, Some, None, Ok, IfSome, IfNone, IfOk, IsSome, IsTrue};
-ghost use Rattle.std.specs.Bool.{OnTrue, OnFalse};
+ghost use Rattle.std.specs.Prelude.{[], ◌≡◌, ◌≢◌, ◌^◌, ◌<◌, ◌≤◌, ◌↔◌, Bool, true, false, List, if◌then◌else◌, length, replicate, Option, Some, None, Ok, IfSome, IfNone, IfOk, IsSome, IsTrue};
+ghost use Rattle.std.specs.Bool.{OnTrue};
 ghost use Rattle.bit_vectors.specs.Vectors.{IsVector, bits_of};
 ghost use Rattle.bit_vectors.specs.Reading.{Read};
 ghost use Rattle.packet_encode.specs.Forms.{Form};
@@ -9,11 +9,12 @@ ghost use Rattle.packet_decode.specs.State.{IsState, in_reach, next_state, no_ve
 ghost use Rattle.packet_decode.specs.Spelling.{Spells};
 ghost use Rattle.packet_decode.specs.Answers.{Says, IsExactAnswer};
 ghost use Rattle.packet_decode.specs.PacketReading.{Spelled, missed, parse_whole_packet};
-ghost use Rattle.packet_decode.specs.Parts.{HasPlaces, IsDeduced, IsRemembered, kept_state, part_by, tells_mask};
+ghost use Rattle.packet_decode.specs.Parts.{IsBefore, IsDeduced, IsRemembered, kept_state, part_by, tells_mask};
 ghost use Rattle.packet_decode.specs.Decoding.{latest_number, latest_mask_number, latest_mask, latest_content, tells_nothing};
 
 use crate::change::FirstPart;
-use crate::draft::{DataKind, Draft, Latest};
+use crate::draft::Room;
+use crate::latest::{DataKind, Latest};
 use crate::packet::{in_reach_of, take_whole_packet};
 use crate::remembered::Remembered;
 use bit_vectors::{BitEye, BitFault, Bits, NoMemory};
@@ -41,10 +42,7 @@ pub enum Reading {
 pub struct Decoder {
     latest: Latest,
     shown: FirstPart,
-    next: FirstPart,
-    deduced: Bits,
-    sent: Bits,
-    draft: Draft,
+    room: Room,
     remembered: Remembered,
 }
 
@@ -57,7 +55,7 @@ impl Model for Decoder {
 
     ghost view = { λ d. record { places = length d.latest.content; state = kept_state d.latest; recent = d.shown.recent; level = d.shown.level } };
 
-    ghost invariant = { λ d. IsDecoder d.latest d.shown d.next d.deduced d.sent d.draft d.remembered };
+    ghost invariant = { λ d. IsDecoder d.latest d.shown d.room d.remembered };
 }
 
 impl Decoder {
@@ -70,17 +68,11 @@ impl Decoder {
     {
         let latest = Latest::none(alloc, f)?;
         let shown = FirstPart::zeros(alloc, f)?;
-        let next = FirstPart::zeros(alloc, f)?;
-        let deduced = Bits::zeros(alloc, f)?;
-        let sent = Bits::zeros(alloc, f)?;
-        let draft = Draft::zeros(alloc, f)?;
+        let room = Room::zeros(alloc, f)?;
         Ok(Decoder {
             latest,
             shown,
-            next,
-            deduced,
-            sent,
-            draft,
+            room,
             remembered: Remembered::nothing(),
         })
     }
@@ -124,33 +116,18 @@ impl Decoder {
             return Ok(Reading::Written);
         }
         let mut eye = BitEye::new(bytes);
-        let kind = take_whole_packet(
-            &mut eye,
-            t,
-            &self.latest,
-            &mut self.next,
-            &mut self.deduced,
-            &mut self.sent,
-            &mut self.draft,
-        )?;
+        let kind = take_whole_packet(&mut eye, t, &self.latest, &mut self.room)?;
         if kind.is_opaque() {
-            return Ok(missed(self.latest.mask_number, self.next.level(), false));
+            return Ok(missed(self.latest.mask_number, self.room.next.level(), false));
         }
-        let quiet = self.next.is_quiet();
-        keep_mask(
-            &mut self.latest,
-            t,
-            kind,
-            quiet,
-            &mut self.deduced,
-            &mut self.sent,
-        );
+        let quiet = self.room.next.is_quiet();
+        keep_mask(&mut self.latest, t, kind, quiet, &mut self.room);
         self.remembered.keep(bytes, quiet && kind.tells_both());
         if !kind.tells_content() {
-            return Ok(missed(self.latest.content_number, self.next.level(), true));
+            return Ok(missed(self.latest.content_number, self.room.next.level(), true));
         }
-        self.shown.take_over(&mut self.next);
-        swap(&mut self.latest.content, &mut self.draft.content);
+        self.shown.take_over(&mut self.room.next);
+        swap(&mut self.latest.content, &mut self.room.draft.content);
         self.latest.content_number = Some(t);
         Ok(Reading::Written)
     }
@@ -216,8 +193,7 @@ fn repeats(
     bytes: &[u8],
 ) -> bool
     requires remembered { IsRemembered latest.now shown.now remembered.now }
-    requires later { IfSome latest.now.content_number (λ last. last < t) }
-    requires vectors { HasPlaces (length latest.now.content) latest.now }
+    requires latest { IsBefore t (length latest.now.content) latest.now }
     ensures when { IsTrue result ↔ ((remembered.now ≡ bytes.now) × (remembered.now ≢ [])
         × IsSome (in_reach (part_by latest.now.content_number latest.now.content) t
         shown.now.level)) }
@@ -235,30 +211,22 @@ fn repeats(
 
 /// Stores the mask that the packet with the number `t` tells as the latest one: the sent one, or the deduced one, which
 /// is the latest one itself if nothing changed. If it tells none, nothing changes.
-fn keep_mask(
-    latest: &mut Latest,
-    t: u64,
-    kind: DataKind,
-    is_quiet: bool,
-    deduced: &mut Bits,
-    sent: &mut Bits,
-)
-    requires deduced { length deduced.old ≡ length latest.old.mask }
-    requires sent { length sent.old ≡ length latest.old.mask }
-    ensures sent { (known : Bool) → kind ≡ DataKind.Sent known → latest.new.mask ≡ sent.old }
-    ensures stays { IsDeduced kind → OnTrue is_quiet (latest.new.mask ≡ latest.old.mask) }
-    ensures changed { IsDeduced kind → OnFalse is_quiet (latest.new.mask ≡ deduced.old) }
+fn keep_mask(latest: &mut Latest, t: u64, kind: DataKind, is_quiet: bool, room: &mut Room)
+    requires { length latest.old.mask ≡ length room.old.draft.content }
+    ensures sent { (known : Bool) → kind ≡ DataKind.Sent known → latest.new.mask ≡ room.old.sent }
+    ensures deduced { IsDeduced kind
+        → latest.new.mask ≡ (if is_quiet then latest.old.mask else room.old.deduced) }
     ensures number { tells_mask kind ≡ true → latest.new.mask_number ≡ Some t }
     ensures untold { tells_mask kind ≡ false → latest.new ≡ latest.old }
     ensures content { latest.new.content ≡ latest.old.content }
     ensures content_number { latest.new.content_number ≡ latest.old.content_number }
-    ensures mask_places { length latest.new.mask ≡ length latest.old.mask }
-    ensures deduced_places { length deduced.new ≡ length deduced.old }
-    ensures sent_places { length sent.new ≡ length sent.old }
+    ensures places { length latest.new.mask ≡ length latest.old.mask }
+    ensures next { room.new.next ≡ room.old.next }
+    ensures draft { room.new.draft.content ≡ room.old.draft.content }
 {
     match kind {
-        DataKind::Sent(_) => swap(&mut latest.mask, sent),
-        DataKind::Deduced(_) if !is_quiet => swap(&mut latest.mask, deduced),
+        DataKind::Sent(_) => swap(&mut latest.mask, &mut room.sent),
+        DataKind::Deduced(_) if !is_quiet => swap(&mut latest.mask, &mut room.deduced),
         DataKind::Deduced(_) => {}
         DataKind::Maskless | DataKind::Opaque => return,
     }

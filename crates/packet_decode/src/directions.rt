@@ -6,7 +6,7 @@ ghost use Rattle.bit_vectors.specs.Eye.{bits_left};
 ghost use Rattle.bit_vectors.specs.Vectors.{IsOne};
 ghost use Rattle.bit_vectors.specs.Reading.{MovesOn, Gives};
 ghost use Rattle.packet_decode.specs.PacketReading.{parse_directions, parse_named};
-ghost use Rattle.packet_decode.specs.Parts.{AreRecent, sent_directions};
+ghost use Rattle.packet_decode.specs.Directions.{AreRecent, sent_directions};
 
 use bit_vectors::{BitEye, BitFault, Bits};
 use run_code::take_inverse_up;

@@ -1,35 +1,11 @@
-//! The latest known vectors, and the vectors that reading the next packet fills.
+//! The room for what reading the next packet fills.
 
-ghost use Rattle.std.specs.Prelude.{◌≡◌, ◌≤◌, ◌↔◌, ◌&&◌, false, replicate, None, IfOk, IsTrue};
-ghost use Rattle.packet_decode.specs.Parts.{IsDraft, tells_content, tells_mask};
+ghost use Rattle.std.specs.Prelude.{◌≡◌, ◌≤◌, length, IfOk};
 
+use crate::change::FirstPart;
 use bit_vectors::{Bits, NoMemory};
 use run_code::{WordMoves, moves_of_zeros};
 use std::alloc::Global;
-
-/// The latest mask that became known and the latest content that did, each with the number of its packet. Before the
-/// first they are zero.
-#[derive(Debug, Drop)]
-pub struct Latest {
-    pub mask_number: Option<u64>,
-    /// The mask: ones where the content can't be predicted.
-    pub mask: Bits,
-    pub content_number: Option<u64>,
-    pub content: Bits,
-}
-
-/// What the parts after the first one are.
-#[derive(Clone, Copy, Debug, PartialEq, Eq)]
-pub enum DataKind {
-    /// They are read under the deduced mask. Whether they tell the content.
-    Deduced(bool),
-    /// They have a mask, and none was deduced. Whether they tell the content.
-    Sent(bool),
-    /// They have whole content, and no mask is known.
-    Maskless,
-    /// They have too little to be understood.
-    Opaque,
-}
 
 /// The vectors that are filled as the parts after the first one are read, and how the extracted bits move.
 #[derive(Debug, Drop)]
@@ -42,72 +18,48 @@ pub struct Draft {
     /// How the latest extracted bits of each word moved. If the next packet extracts the same places, they are not found
     /// anew.
     pub moves: Vec<WordMoves>,
+    ghost extracted_places: { length places ≡ length content },
+    ghost spare_places: { length spare ≡ length content },
 }
 
-impl Latest {
-    /// Nothing is known yet; the vectors have `f` places.
-    pub fn none(alloc: Global, f: u32) -> Result<Latest, NoMemory>
-        requires some { 1 ≤ f }
-        requires most { f ≤ 49152 }
-        ensures mask_number { IfOk result (λ latest. latest.mask_number ≡ None) }
-        ensures content_number { IfOk result (λ latest. latest.content_number ≡ None) }
-        ensures mask { IfOk result (λ latest. latest.mask ≡ replicate f false) }
-        ensures content { IfOk result (λ latest. latest.content ≡ replicate f false) }
-    {
-        let mask = Bits::zeros(alloc, f)?;
-        let content = Bits::zeros(alloc, f)?;
-        Ok(Latest {
-            mask_number: None,
-            mask,
-            content_number: None,
-            content,
-        })
-    }
+/// What the next packet fills: vectors of the same number of places.
+#[derive(Debug, Drop)]
+pub struct Room {
+    pub next: FirstPart,
+    /// The mask that is deduced, if there is a change.
+    pub deduced: Bits,
+    /// The mask that is sent and can't be deduced.
+    pub sent: Bits,
+    pub draft: Draft,
+    ghost next_places: { length next.recent ≡ length draft.content },
+    ghost deduced_places: { length deduced ≡ length draft.content },
+    ghost sent_places: { length sent ≡ length draft.content },
 }
 
-impl DataKind {
-    /// Whether they have too little to be understood.
-    pub fn is_opaque(self) -> bool
-        ensures { IsTrue result ↔ (self ≡ DataKind.Opaque) }
-    {
-        matches!(self, DataKind::Opaque)
-    }
-
-    /// Whether they tell the content.
-    pub fn tells_content(self) -> bool
-        ensures { result ≡ tells_content self }
-    {
-        match self {
-            DataKind::Deduced(known) | DataKind::Sent(known) => known,
-            DataKind::Maskless => true,
-            DataKind::Opaque => false,
-        }
-    }
-
-    /// Whether they tell the mask and the content.
-    pub fn tells_both(self) -> bool
-        ensures { result ≡ (tells_mask self && tells_content self) }
-    {
-        matches!(self, DataKind::Deduced(true) | DataKind::Sent(true))
-    }
-}
-
-impl Draft {
+impl Room {
     /// Vectors of `f` places.
-    pub fn zeros(alloc: Global, f: u32) -> Result<Draft, NoMemory>
+    pub fn zeros(alloc: Global, f: u32) -> Result<Room, NoMemory>
         requires some { 1 ≤ f }
         requires most { f ≤ 49152 }
-        ensures { IfOk result (λ draft. IsDraft f draft) }
+        ensures { IfOk result (λ room. length room.draft.content ≡ f) }
     {
+        let next = FirstPart::zeros(alloc, f)?;
+        let deduced = Bits::zeros(alloc, f)?;
+        let sent = Bits::zeros(alloc, f)?;
         let content = Bits::zeros(alloc, f)?;
         let places = Bits::zeros(alloc, f)?;
         let spare = Bits::zeros(alloc, f)?;
         let moves = moves_of_zeros(alloc, f)?;
-        Ok(Draft {
-            content,
-            places,
-            spare,
-            moves,
+        Ok(Room {
+            next,
+            deduced,
+            sent,
+            draft: Draft {
+                content,
+                places,
+                spare,
+                moves,
+            },
         })
     }
 }

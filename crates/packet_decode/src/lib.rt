@@ -7,6 +7,7 @@ mod data;
 mod decoder;
 mod directions;
 mod draft;
+mod latest;
 mod laws;
 mod mask;
 mod packet;

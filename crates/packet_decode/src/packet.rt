@@ -1,57 +1,36 @@
 //! A whole packet: its parts, its padding and its end.
 
-ghost use Rattle.std.specs.Prelude.{◌≡◌, ◌≢◌, ◌<◌, false, length, replicate, IfOk, IfSome, IsSome, OnOk};
-ghost use Rattle.bit_vectors.specs.Eye.{bits_left};
-ghost use Rattle.bit_vectors.specs.Reading.{MovesOn};
-ghost use Rattle.packet_decode.specs.PacketReading.{Tells, parse_parts, parse_whole_packet};
-ghost use Rattle.packet_decode.specs.Parts.{IsDeduced, HasPlaces, IsDraft, lent, outcome_of, kept_state, part_by};
+ghost use Rattle.std.specs.Prelude.{◌≡◌, ◌<◌, length, IfOk, IfSome, IsSome, OnOk};
+ghost use Rattle.packet_decode.specs.PacketReading.{parse_parts, parse_whole_packet};
+ghost use Rattle.packet_decode.specs.Parts.{IsBefore, IsChanged, IsDeduced, Takes, found_in, kept_state, lent, part_by};
 ghost use Rattle.packet_decode.specs.State.{deduced_by, in_reach};
 
-use crate::change::FirstPart;
 use crate::data::take_data;
-use crate::draft::{DataKind, Draft, Latest};
+use crate::draft::Room;
+use crate::latest::{DataKind, Latest};
 use crate::padding::{take_end, take_padding};
 use bit_vectors::{BitEye, BitFault, Bits};
 
-/// Takes the packet with the number `t` and the end, or an opaque front: its first part into `next`, its content into
-/// the draft, and its mask into `deduced`, if there is a change, or into `sent`. The eye stands at the first bit.
+/// Takes the packet with the number `t` and the end, or an opaque front, into the room. The eye stands at the first bit.
 #[tactic(auto, unfolding(crate::specs::PacketReading::parse_whole_packet, crate::specs::PacketReading::parse_packet))]
 pub fn take_whole_packet(
     eye: &mut BitEye,
     t: u64,
     latest: &Latest,
-    next: &mut FirstPart,
-    deduced: &mut Bits,
-    sent: &mut Bits,
-    draft: &mut Draft,
+    room: &mut Room,
 ) -> Result<DataKind, BitFault>
     requires start { eye.old.place ≡ 0 }
-    requires later { IfSome latest.now.content_number (λ last. last < t) }
-    requires later_mask { IfSome latest.now.mask_number (λ last. last < t) }
-    requires latest { HasPlaces (length draft.old.content) latest.now }
-    requires next { length next.old.recent ≡ length draft.old.content }
-    requires deduced { length deduced.old ≡ length draft.old.content }
-    requires sent { length sent.old ≡ length draft.old.content }
-    requires draft { IsDraft (length draft.old.content) draft.old }
-    ensures next { length next.new.recent ≡ length next.old.recent }
-    ensures deduced { length deduced.new ≡ length deduced.old }
-    ensures sent { length sent.new ≡ length sent.old }
-    ensures draft { IsDraft (length draft.old.content) draft.new }
+    requires latest { IsBefore t (length room.old.draft.content) latest.now }
+    ensures places { length room.new.draft.content ≡ length room.old.draft.content }
     ensures deduced_by { IfOk result (λ kind. IsDeduced kind
-        → IsSome (deduced_by (kept_state latest.now) t next.new)) }
-    ensures changed { OnOk result (next.new.recent ≢ replicate (length next.new.recent) false
-        → IfSome (deduced_by (kept_state latest.now) t next.new) (λ mask. deduced.new ≡ mask)) }
-    ensures moves { MovesOn eye.old eye.new }
-    ensures reading { Tells
-        (λ kind. record {
-          change = next.new;
-          outcome = outcome_of kind (deduced_by (kept_state latest.now) t next.new) sent.new
-              draft.new.content;
-        })
-        result eye.new (parse_whole_packet (length draft.old.content) (kept_state latest.now) t
-        (bits_left eye.old)) }
+        → IsSome (deduced_by (kept_state latest.now) t room.new.next)) }
+    ensures changed { OnOk result (IsChanged room.new.next
+        → IfSome (deduced_by (kept_state latest.now) t room.new.next) (λ mask. room.new.deduced ≡ mask)) }
+    ensures taken { Takes
+        (found_in room.new (kept_state latest.now) t) result eye.old eye.new
+        (parse_whole_packet (length room.old.draft.content) (kept_state latest.now) t) }
 {
-    let kind = take_parts(eye, t, latest, next, deduced, sent, draft)?;
+    let kind = take_parts(eye, t, latest, room)?;
     take_padding(eye, kind)?;
     take_end(eye, kind)?;
     Ok(kind)
@@ -64,48 +43,51 @@ fn take_parts(
     eye: &mut BitEye,
     t: u64,
     latest: &Latest,
-    next: &mut FirstPart,
-    deduced: &mut Bits,
-    sent: &mut Bits,
-    draft: &mut Draft,
+    room: &mut Room,
 ) -> Result<DataKind, BitFault>
-    requires later { IfSome latest.now.content_number (λ last. last < t) }
-    requires later_mask { IfSome latest.now.mask_number (λ last. last < t) }
-    requires latest { HasPlaces (length draft.old.content) latest.now }
-    requires next { length next.old.recent ≡ length draft.old.content }
-    requires deduced { length deduced.old ≡ length draft.old.content }
-    requires sent { length sent.old ≡ length draft.old.content }
-    requires draft { IsDraft (length draft.old.content) draft.old }
-    ensures next { length next.new.recent ≡ length next.old.recent }
-    ensures deduced { length deduced.new ≡ length deduced.old }
-    ensures sent { length sent.new ≡ length sent.old }
-    ensures draft { IsDraft (length draft.old.content) draft.new }
+    requires { IsBefore t (length room.old.draft.content) latest.now }
+    ensures places { length room.new.draft.content ≡ length room.old.draft.content }
     ensures deduced_by { IfOk result (λ kind. IsDeduced kind
-        → IsSome (deduced_by (kept_state latest.now) t next.new)) }
-    ensures changed { OnOk result (next.new.recent ≢ replicate (length next.new.recent) false
-        → IfSome (deduced_by (kept_state latest.now) t next.new) (λ mask. deduced.new ≡ mask)) }
-    ensures moves { MovesOn eye.old eye.new }
-    ensures reading { Tells
-        (λ kind. record {
-          change = next.new;
-          outcome = outcome_of kind (deduced_by (kept_state latest.now) t next.new) sent.new
-              draft.new.content;
-        })
-        result eye.new (parse_parts (length draft.old.content) (kept_state latest.now) t
-        (bits_left eye.old)) }
+        → IsSome (deduced_by (kept_state latest.now) t room.new.next)) }
+    ensures changed { OnOk result (IsChanged room.new.next
+        → IfSome (deduced_by (kept_state latest.now) t room.new.next) (λ mask. room.new.deduced ≡ mask)) }
+    ensures taken { Takes
+        (found_in room.new (kept_state latest.now) t) result eye.old eye.new
+        (parse_parts (length room.old.draft.content) (kept_state latest.now) t) }
 {
-    next.take(eye)?;
-    let level = next.level();
+    room.next.take(eye)?;
+    let level = room.next.level();
     let known = in_reach_of(latest.content_number, &latest.content, t, level);
     let Some(mask) = in_reach_of(latest.mask_number, &latest.mask, t, level) else {
-        return take_data(eye, next, None, known, sent, draft);
+        return take_data(
+            eye,
+            &room.next,
+            None,
+            known,
+            &mut room.sent,
+            &mut room.draft,
+        );
     };
-    if next.is_quiet() {
-        return take_data(eye, next, Some(mask), known, sent, draft);
+    if room.next.is_quiet() {
+        return take_data(
+            eye,
+            &room.next,
+            Some(mask),
+            known,
+            &mut room.sent,
+            &mut room.draft,
+        );
     }
-    deduced.copy_from(mask);
-    next.deduce(deduced);
-    take_data(eye, next, Some(&*deduced), known, sent, draft)
+    room.deduced.copy_from(mask);
+    room.next.deduce(&mut room.deduced);
+    take_data(
+        eye,
+        &room.next,
+        Some(&room.deduced),
+        known,
+        &mut room.sent,
+        &mut room.draft,
+    )
 }
 
 /// A known vector, if the packet with the number `t` and this level is in reach of the one with which it became known.

@@ -7,7 +7,7 @@ ghost use Rattle.bit_vectors.specs.Reading.{MovesOn, Gives};
 ghost use Rattle.packet_decode.specs.PacketReading.{parse_padding, parse_end};
 ghost use Rattle.packet_decode.specs.Parts.{outcome_of};
 
-use crate::draft::DataKind;
+use crate::latest::DataKind;
 use bit_vectors::{BitEye, BitFault};
 
 /// Takes the zeros, fewer than eight, up to a whole byte.

@@ -10,5 +10,5 @@ returns-then-is-clause-read c =
     let same = c.is.ensures.0 c.if-is.true in
     let latest = c.args.latest.now in
     OnTrue_from c.is_some.result _ (λ some.
-    read_again latest c.args.shown.now c.args.bytes.now c.requires.vectors (rw same.0 at (c.requires.remembered same.1)) c.args.t
+    read_again latest c.args.shown.now c.args.bytes.now c.requires.latest.vectors (rw same.0 at (c.requires.remembered same.1)) c.args.t
     (some_near c.in_reach_of.result _ (c.in_reach_of.ensures ∙ ap (in_reach (part_by latest.content_number latest.content) c.args.t) c.level.ensures.level) (sym c.is_some.ensures ∙ some)))

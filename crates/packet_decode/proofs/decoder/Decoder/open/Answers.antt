@@ -1,25 +1,22 @@
 use Rattle.std.proofs.Common.{◌≡◌, ℕ, ◌≤◌, Bool, false, List, [], length, replicate, None, refl, sym, ap, ◌∙◌, arith, rules}
 use Rattle.std.proofs.lemmas.List.{length-replicate}
 use Rattle.packet_decode.specs.State.{Change}
-use Rattle.packet_decode.specs.declared.draft.Draft.{Draft}
-use Rattle.packet_decode.specs.declared.draft.Latest.{Latest}
-use Rattle.packet_decode.specs.Parts.{IsDraft, IsDecoder}
+use Rattle.packet_decode.specs.declared.draft.Room.{Room}
+use Rattle.packet_decode.specs.declared.latest.Latest.{Latest}
+use Rattle.packet_decode.specs.Parts.{IsDecoder}
 use Rattle.packet_decode.proofs.decoder.Decoder.open.Goals as goal
 
 -- a decoder of zeros that knows no packet
-opened : (f : ℕ) (latest : Latest) (shown next : Change) (deduced sent : List Bool) (draft : Draft) → 1 ≤ f → f ≤ 49152 → latest.mask_number ≡ None → latest.content_number ≡ None → latest.mask ≡ replicate f false → latest.content ≡ replicate f false → shown ≡ record { recent = replicate f false; level = 0; directions = None }
-    → length next.recent ≡ f → length deduced ≡ f → length sent ≡ f → IsDraft f draft → IsDecoder latest shown next deduced sent draft []
-opened f latest shown next deduced sent draft some most mask_number number mask content shown_is next_is deduced_is sent_is draft_is =
+opened : (f : ℕ) (latest : Latest) (shown : Change) (room : Room) → 1 ≤ f → f ≤ 49152 → latest.mask_number ≡ None → latest.content_number ≡ None → latest.mask ≡ replicate f false → latest.content ≡ replicate f false → shown ≡ record { recent = replicate f false; level = 0; directions = None }
+    → length room.draft.content ≡ f → IsDecoder latest shown room []
+opened f latest shown room some most mask_number number mask content shown_is room_is =
     let len : length latest.content ≡ f = ap (λ (v : List Bool). length v) content ∙ length-replicate f false in
     let zeros : replicate f false ≡ replicate (length latest.content) false = ap (λ (n : ℕ). replicate n false) (sym len) in
     record {
       vector = (omega arith, omega arith);
       latest_vectors = search (rules, length-replicate);
       shown_places = search (rules, length-replicate);
-      next_places = next_is ∙ sym len;
-      deduced_places = deduced_is ∙ sym len;
-      sent_places = sent_is ∙ sym len;
-      draft_vectors = rw len draft_is;
+      room_places = room_is ∙ sym len;
       first_mask = rw mask_number (mask ∙ zeros);
       first_content = rw number (content ∙ zeros);
       first_recent = rw (number, shown_is) zeros;
@@ -29,4 +26,4 @@ opened f latest shown next deduced sent draft some most mask_number number mask 
 
 pub invariant_of-result : goal.invariant_of-result
 invariant_of-result c =
-    rw c.nothing.ensures (opened c.args.f _ _ _ _ _ _ c.requires.some c.requires.most c.in_ok-latest.ensures.mask_number c.in_ok-latest.ensures.content_number c.in_ok-latest.ensures.mask c.in_ok-latest.ensures.content c.in_ok-shown.ensures (rw c.in_ok-next.ensures (length-replicate c.args.f false)) (rw c.in_ok-deduced.ensures (length-replicate c.args.f false)) (rw c.in_ok-sent.ensures (length-replicate c.args.f false)) c.in_ok-draft.ensures)
+    rw c.nothing.ensures (opened c.args.f _ _ _ c.requires.some c.requires.most c.in_ok-latest.ensures.mask_number c.in_ok-latest.ensures.content_number c.in_ok-latest.ensures.mask c.in_ok-latest.ensures.content c.in_ok-shown.ensures c.in_ok-room.ensures)

@@ -9,9 +9,8 @@ use Rattle.packet_decode.specs.State.{Change, IsState, deduced_by, known_if}
 use Rattle.packet_decode.specs.Spelling.{Spells}
 use Rattle.packet_decode.specs.declared.decoder.Reading.TheVariants.{Written}
 use Rattle.packet_decode.specs.PacketReading.{parse_whole_packet, answer_of, missed, outcome_answer, Outcome, Spelled, Opaque}
-use Rattle.packet_decode.specs.Parts.{IsRemembered, SpellLatest, outcome_of, kept_state, part_by, tells_content, tells_mask}
+use Rattle.packet_decode.specs.Parts.{IsRemembered, SpellLatest, found_in, kept_state, part_by, tells_content, tells_mask}
 use Rattle.packet_decode.specs.Decoding.{Decoding}
-use Rattle.packet_decode.specs.declared.draft.DataKind.{DataKind}
 use Rattle.packet_decode.proofs.DecoderAnswers.{IsFound, IsTold, exact_by, says_by, spelled_by, has_state, found_is, opaque_unspelled, fault_is, reading_is, alone_is, written_is, deduced_is, told_as}
 use Rattle.packet_decode.proofs.OneAnswer.{spelled_places}
 use Rattle.packet_decode.proofs.RepeatedPacket.{answer_again, found_again, written_again, kept_is, spell_latest}
@@ -59,9 +58,9 @@ returns-then-repeats-clause-mask_alone c form mask s =
 fault_answer : (c : goal.After-from_residual) → answer_of c.args.self.now.places c.args.self.now.state c.args.t (bits_of c.args.bytes.now) ≡ c.from_residual.result
 fault_answer c =
     let p = err_from_is_err_and c.from_residual.result c.from_residual.ensures.1 in
-    fault_is c.args.self.now c.self.inside.latest c.self.inside.shown c.self.view_is c.self.invariant.latest_vectors _ c.args.t c.new-eye.result c.args.bytes.now c.self.invariant.draft_vectors.content c.new-eye.ensures.bits c.new-eye.ensures.place
-    (λ (kind : DataKind). record { change = c.take_whole_packet.new.next; outcome = outcome_of kind (deduced_by (kept_state c.self.inside.latest) c.args.t c.take_whole_packet.new.next) c.take_whole_packet.new.sent c.take_whole_packet.new.draft.content })
-    c.in_err-kind.field-0.0 c.take_whole_packet.new.eye c.take_whole_packet.ensures.moves.bits c.in_err-kind.ensures.reading
+    fault_is c.args.self.now c.self.inside.latest c.self.inside.shown c.self.view_is c.self.invariant.latest_vectors _ c.args.t c.new-eye.result c.args.bytes.now c.self.invariant.room_places c.new-eye.ensures.bits c.new-eye.ensures.place
+    (found_in c.take_whole_packet.new.room (kept_state c.self.inside.latest) c.args.t)
+    c.in_err-kind.field-0.0 c.take_whole_packet.new.eye c.take_whole_packet.ensures.taken.moves.bits c.in_err-kind.ensures.taken.reading
     ∙ sym (p.1 ∙ ap Err p.2)
 
 fault_has : (c : goal.After-from_residual) → IsState c.args.self.now.places c.args.self.now.state
@@ -88,10 +87,10 @@ returns-in_err-kind-clause-mask_alone c form mask s = fault_nothing c form mask 
 
 opaque_answer : (c : goal.After-missed) → answer_of c.args.self.now.places c.args.self.now.state c.args.t (bits_of c.args.bytes.now) ≡ Ok c.missed.result
 opaque_answer c =
-    let told = rw (c.is_opaque.ensures.0 c.if-is_opaque.true) at c.in_ok-kind.ensures.reading in
+    let told = rw (c.is_opaque.ensures.0 c.if-is_opaque.true) at c.in_ok-kind.ensures.taken.reading in
     let missed_is = c.missed.ensures c.self.inside.latest.mask in
-    reading_is c.args.self.now c.self.inside.latest c.self.inside.shown c.self.view_is c.self.invariant.latest_vectors _ c.args.t c.new-eye.result c.args.bytes.now c.self.invariant.draft_vectors.content c.new-eye.ensures.bits c.new-eye.ensures.place
-    (record { change = c.take_whole_packet.new.next; outcome = Opaque }) c.take_whole_packet.new.eye c.take_whole_packet.ensures.moves.bits told
+    reading_is c.args.self.now c.self.inside.latest c.self.inside.shown c.self.view_is c.self.invariant.latest_vectors _ c.args.t c.new-eye.result c.args.bytes.now c.self.invariant.room_places c.new-eye.ensures.bits c.new-eye.ensures.place
+    (record { change = c.take_whole_packet.new.room.next; outcome = Opaque }) c.take_whole_packet.new.eye c.take_whole_packet.ensures.taken.moves.bits told
     ∙ ap Ok (rw (sym c.level.ensures.level) (sym missed_is))
 
 opaque_has : (c : goal.After-missed) → IsState c.args.self.now.places c.args.self.now.state
@@ -99,8 +98,8 @@ opaque_has c = has_state c.args.self.now c.self.inside.latest c.self.inside.show
 
 opaque_nothing : {A : Type 0} (c : goal.After-missed) (form : Form) (mask content : Option (List Bool)) → Spells c.args.self.now.places c.args.self.now.state c.args.t (bits_of c.args.bytes.now) form mask content → A
 opaque_nothing c form mask content s =
-    let told = rw (c.is_opaque.ensures.0 c.if-is_opaque.true) at c.in_ok-kind.ensures.reading in
-    absurd (opaque_unspelled c.args.self.now c.self.inside.latest c.self.inside.shown c.self.view_is c.self.invariant.latest_vectors _ c.args.t c.new-eye.result c.args.bytes.now c.self.invariant.draft_vectors.content c.new-eye.ensures.bits c.new-eye.ensures.place c.take_whole_packet.new.next (bits_left c.take_whole_packet.new.eye) told form mask content s)
+    let told = rw (c.is_opaque.ensures.0 c.if-is_opaque.true) at c.in_ok-kind.ensures.taken.reading in
+    absurd (opaque_unspelled c.args.self.now c.self.inside.latest c.self.inside.shown c.self.view_is c.self.invariant.latest_vectors _ c.args.t c.new-eye.result c.args.bytes.now c.self.invariant.room_places c.new-eye.ensures.bits c.new-eye.ensures.place c.take_whole_packet.new.room.next (bits_left c.take_whole_packet.new.eye) told form mask content s)
 
 pub returns-then-is_opaque-clause-exact : goal.returns-then-is_opaque-clause-exact
 returns-then-is_opaque-clause-exact c = exact_by c.args.self.now.places c.args.self.now.state c.args.t (bits_of c.args.bytes.now) (opaque_has c) (Ok c.missed.result) (opaque_answer c)
@@ -116,14 +115,14 @@ returns-then-is_opaque-clause-mask_alone c form mask s = opaque_nothing c form m
 
 -- ---- a packet
 
-told : (c : After-keep_mask) → IsTold c.in_ok-kind.kind c.self.inside.latest c.keep_mask.new.latest c.args.t (deduced_by (kept_state c.self.inside.latest) c.args.t c.take_whole_packet.new.next) c.take_whole_packet.new.sent c.take_whole_packet.new.draft.content
+told : (c : After-keep_mask) → IsTold c.in_ok-kind.kind c.self.inside.latest c.keep_mask.new.latest c.args.t (deduced_by (kept_state c.self.inside.latest) c.args.t c.take_whole_packet.new.room.next) c.take_whole_packet.new.room.sent c.take_whole_packet.new.room.draft.content
 told c =
-    told_as c.in_ok-kind.kind c.self.inside.latest c.keep_mask.new.latest c.args.t (deduced_by (kept_state c.self.inside.latest) c.args.t c.take_whole_packet.new.next) c.take_whole_packet.new.sent c.take_whole_packet.new.draft.content
+    told_as c.in_ok-kind.kind c.self.inside.latest c.keep_mask.new.latest c.args.t (deduced_by (kept_state c.self.inside.latest) c.args.t c.take_whole_packet.new.room.next) c.take_whole_packet.new.room.sent c.take_whole_packet.new.room.draft.content
     (λ opaque. absurd (true≢false (sym (c.is_opaque.ensures.1 opaque) ∙ c.if-is_opaque.false)))
     c.in_ok-kind.ensures.deduced_by
     c.keep_mask.ensures.sent
-    (λ deduced. deduced_is c.is_quiet-quiet.result c.self.inside.latest c.args.t c.take_whole_packet.new.next c.take_whole_packet.new.deduced c.keep_mask.new.latest.mask (omega arith)
-    (c.keep_mask.ensures.stays deduced) (c.keep_mask.ensures.changed deduced) c.is_quiet-quiet.ensures.zero c.is_quiet-quiet.ensures.stays c.in_ok-kind.ensures.changed)
+    (λ deduced. deduced_is c.is_quiet-quiet.result c.self.inside.latest c.args.t c.take_whole_packet.new.room.next c.take_whole_packet.new.room.deduced c.keep_mask.new.latest.mask (omega arith)
+    (c.keep_mask.ensures.deduced deduced) c.is_quiet-quiet.ensures.zero c.is_quiet-quiet.ensures.stays c.in_ok-kind.ensures.changed)
     c.keep_mask.ensures.number
     c.keep_mask.ensures.untold
 
@@ -131,32 +130,32 @@ spelled_has : (c : After-keep_mask) → IsState c.args.self.now.places c.args.se
 spelled_has c = has_state c.args.self.now c.self.inside.latest c.self.inside.shown c.self.view_is c.self.invariant.latest_vectors
 
 -- what was read, if the content becomes known and if it doesn't
-read_as : (c : After-keep_mask) (known : Bool) → tells_content c.in_ok-kind.kind ≡ known → parse_whole_packet (length c.self.inside.draft.content) (kept_state c.self.inside.latest) c.args.t (bits_left c.new-eye.result)
-    ≡ Read (record { change = c.take_whole_packet.new.next; outcome = Spelled (told c).mask (known_if known c.take_whole_packet.new.draft.content) }) (bits_left c.take_whole_packet.new.eye)
+read_as : (c : After-keep_mask) (known : Bool) → tells_content c.in_ok-kind.kind ≡ known → parse_whole_packet (length c.self.inside.room.draft.content) (kept_state c.self.inside.latest) c.args.t (bits_left c.new-eye.result)
+    ≡ Read (record { change = c.take_whole_packet.new.room.next; outcome = Spelled (told c).mask (known_if known c.take_whole_packet.new.room.draft.content) }) (bits_left c.take_whole_packet.new.eye)
 read_as c known is =
-    c.in_ok-kind.ensures.reading
-    ∙ ap (λ (o : Outcome). Read (record { change = c.take_whole_packet.new.next; outcome = o }) (bits_left c.take_whole_packet.new.eye))
-    ((told c).outcome ∙ ap (λ (b : Bool). Spelled (told c).mask (known_if b c.take_whole_packet.new.draft.content)) is)
+    c.in_ok-kind.ensures.taken.reading
+    ∙ ap (λ (o : Outcome). Read (record { change = c.take_whole_packet.new.room.next; outcome = o }) (bits_left c.take_whole_packet.new.eye))
+    ((told c).outcome ∙ ap (λ (b : Bool). Spelled (told c).mask (known_if b c.take_whole_packet.new.room.draft.content)) is)
 
 found : (c : After-keep_mask) (known : Bool) → tells_content c.in_ok-kind.kind ≡ known → (form : Form) (mask content : Option (List Bool)) → Spells c.args.self.now.places c.args.self.now.state c.args.t (bits_of c.args.bytes.now) form mask content
-    → IsFound c.take_whole_packet.new.next (told c).mask (known_if known c.take_whole_packet.new.draft.content) form mask content
+    → IsFound c.take_whole_packet.new.room.next (told c).mask (known_if known c.take_whole_packet.new.room.draft.content) form mask content
 found c known is form mask content s =
-    found_is c.args.self.now c.self.inside.latest c.self.inside.shown c.self.view_is c.self.invariant.latest_vectors _ c.args.t c.new-eye.result c.args.bytes.now c.self.invariant.draft_vectors.content c.new-eye.ensures.bits c.new-eye.ensures.place c.take_whole_packet.new.next (told c).mask (known_if known c.take_whole_packet.new.draft.content) (bits_left c.take_whole_packet.new.eye) (read_as c known is) form mask content s
+    found_is c.args.self.now c.self.inside.latest c.self.inside.shown c.self.view_is c.self.invariant.latest_vectors _ c.args.t c.new-eye.result c.args.bytes.now c.self.invariant.room_places c.new-eye.ensures.bits c.new-eye.ensures.place c.take_whole_packet.new.room.next (told c).mask (known_if known c.take_whole_packet.new.room.draft.content) (bits_left c.take_whole_packet.new.eye) (read_as c known is) form mask content s
 
 spelled_answer : (c : After-keep_mask) (known : Bool) → tells_content c.in_ok-kind.kind ≡ known
-    → answer_of c.args.self.now.places c.args.self.now.state c.args.t (bits_of c.args.bytes.now) ≡ Ok (outcome_answer (kept_state c.self.inside.latest) c.take_whole_packet.new.next.level (Spelled (told c).mask (known_if known c.take_whole_packet.new.draft.content)))
+    → answer_of c.args.self.now.places c.args.self.now.state c.args.t (bits_of c.args.bytes.now) ≡ Ok (outcome_answer (kept_state c.self.inside.latest) c.take_whole_packet.new.room.next.level (Spelled (told c).mask (known_if known c.take_whole_packet.new.room.draft.content)))
 spelled_answer c known is =
-    reading_is c.args.self.now c.self.inside.latest c.self.inside.shown c.self.view_is c.self.invariant.latest_vectors _ c.args.t c.new-eye.result c.args.bytes.now c.self.invariant.draft_vectors.content c.new-eye.ensures.bits c.new-eye.ensures.place
-    (record { change = c.take_whole_packet.new.next; outcome = Spelled (told c).mask (known_if known c.take_whole_packet.new.draft.content) }) c.take_whole_packet.new.eye c.take_whole_packet.ensures.moves.bits (read_as c known is)
+    reading_is c.args.self.now c.self.inside.latest c.self.inside.shown c.self.view_is c.self.invariant.latest_vectors _ c.args.t c.new-eye.result c.args.bytes.now c.self.invariant.room_places c.new-eye.ensures.bits c.new-eye.ensures.place
+    (record { change = c.take_whole_packet.new.room.next; outcome = Spelled (told c).mask (known_if known c.take_whole_packet.new.room.draft.content) }) c.take_whole_packet.new.eye c.take_whole_packet.ensures.taken.moves.bits (read_as c known is)
 
 -- ---- its mask alone
 
-alone_answer : (c : goal.After-missed-then-not-tells_content) → (at : After-keep_mask) → answer_of c.args.self.now.places c.args.self.now.state c.args.t (bits_of c.args.bytes.now) ≡ Ok (missed (kept_state c.self.inside.latest).content c.take_whole_packet.new.next.level true)
+alone_answer : (c : goal.After-missed-then-not-tells_content) → (at : After-keep_mask) → answer_of c.args.self.now.places c.args.self.now.state c.args.t (bits_of c.args.bytes.now) ≡ Ok (missed (kept_state c.self.inside.latest).content c.take_whole_packet.new.room.next.level true)
     → answer_of c.args.self.now.places c.args.self.now.state c.args.t (bits_of c.args.bytes.now) ≡ Ok c.missed-then-not-tells_content.result
 alone_answer c at is =
     is ∙ ap Ok (
-    ap (λ (n : Option ℕ). missed (part_by n c.self.inside.latest.content) c.take_whole_packet.new.next.level true) (sym c.keep_mask.ensures.content_number)
-    ∙ ap (λ (v : ℕ). missed (part_by c.keep_mask.new.latest.content_number c.self.inside.latest.content) v true) (sym c.level-then-not-tells_content.ensures.level)
+    ap (λ (n : Option ℕ). missed (part_by n c.self.inside.latest.content) c.take_whole_packet.new.room.next.level true) (sym c.keep_mask.ensures.content_number)
+    ∙ ap (λ (v : ℕ). missed (part_by c.keep_mask.new.latest.content_number c.self.inside.latest.content) v true) (sym (c.level-then-not-tells_content.ensures.level ∙ ap (λ (x : Change). x.level) c.keep_mask.ensures.next))
     ∙ sym (c.missed-then-not-tells_content.ensures c.self.inside.latest.content)
     )
 
@@ -180,7 +179,7 @@ pub returns-then-not-tells_content-clause-mask_alone : goal.returns-then-not-tel
 returns-then-not-tells_content-clause-mask_alone c form mask s =
     let at = (goal.at.returns-then-not-tells_content-clause-mask_alone c).After-keep_mask in
     let found_as = found at false (sym c.tells_content.ensures ∙ c.if-not-tells_content.true) form mask None s in
-    alone_is c.args.self.now c.self.inside.latest c.self.inside.shown c.self.view_is c.self.invariant.latest_vectors _ c.args.t c.new-eye.result c.args.bytes.now c.self.invariant.draft_vectors.content c.new-eye.ensures.bits c.new-eye.ensures.place
+    alone_is c.args.self.now c.self.inside.latest c.self.inside.shown c.self.view_is c.self.invariant.latest_vectors _ c.args.t c.new-eye.result c.args.bytes.now c.self.invariant.room_places c.new-eye.ensures.bits c.new-eye.ensures.place
     c.keep_mask.new.latest (told at).mask mask c.keep_mask.ensures.content c.keep_mask.ensures.content_number (told at).part found_as.mask_is
 
 -- ---- its content
@@ -199,26 +198,25 @@ pub returns-clause-mask_alone : goal.returns-clause-mask_alone
 returns-clause-mask_alone c form mask s =
     let at = (goal.at.returns-clause-mask_alone c).After-keep_mask in
     let found_as = found at true (sym c.tells_content.ensures ∙ c.if-not-tells_content.false) form mask None s in
-    not_some c.take_whole_packet.new.draft.content (sym found_as.content_is)
+    not_some c.take_whole_packet.new.room.draft.content (sym found_as.content_is)
 
 pub returns-clause-written : goal.returns-clause-written
 returns-clause-written c form mask content s =
     let at = (goal.at.returns-clause-written c).After-keep_mask in
     let found_as = found at true (sym c.tells_content.ensures ∙ c.if-not-tells_content.false) form mask (Some content) s in
     let places = spelled_places c.args.self.now.places c.args.self.now.state c.args.t (bits_of c.args.bytes.now) form mask (Some content) (spelled_has at) s in
-    written_is c.args.self.now c.self.inside.latest c.self.inside.shown c.self.view_is c.self.invariant.latest_vectors _ c.args.t c.new-eye.result c.args.bytes.now c.self.invariant.draft_vectors.content c.new-eye.ensures.bits c.new-eye.ensures.place
-    (record { mask_number = c.keep_mask.new.latest.mask_number; mask = c.keep_mask.new.latest.mask; content_number = Some c.args.t; content = c.swap.new.x }) c.take_over.new.self c.take_whole_packet.new.next (told at).mask (Some c.take_whole_packet.new.draft.content) refl (ap Some c.swap.ensures.x_after) (told at).part c.take_over.ensures.same form mask content found_as places.1
+    written_is c.args.self.now c.self.inside.latest c.self.inside.shown c.self.view_is c.self.invariant.latest_vectors _ c.args.t c.new-eye.result c.args.bytes.now c.self.invariant.room_places c.new-eye.ensures.bits c.new-eye.ensures.place
+    (record { mask_number = c.keep_mask.new.latest.mask_number; mask = c.keep_mask.new.latest.mask; content_number = Some c.args.t; content = c.swap.new.x }) c.take_over.new.self c.take_whole_packet.new.room.next (told at).mask (Some c.take_whole_packet.new.room.draft.content) refl (ap Some (c.swap.ensures.x_after ∙ c.keep_mask.ensures.draft)) (told at).part (c.take_over.ensures.same ∙ c.keep_mask.ensures.next) form mask content found_as places.1
 
 -- what is remembered
 
-told_both : (c : After-keep_mask) → tells_mask c.in_ok-kind.kind ≡ true → tells_content c.in_ok-kind.kind ≡ true → c.is_quiet-quiet.result ≡ true → (kept : List ℕ) (after : Change) (content : List Bool) → kept ≡ c.args.bytes.now → after ≡ c.take_whole_packet.new.next → content ≡ c.take_whole_packet.new.draft.content
+told_both : (c : After-keep_mask) → tells_mask c.in_ok-kind.kind ≡ true → tells_content c.in_ok-kind.kind ≡ true → c.is_quiet-quiet.result ≡ true → (kept : List ℕ) (after : Change) (content : List Bool) → kept ≡ c.args.bytes.now → after ≡ c.take_whole_packet.new.room.next → content ≡ c.take_whole_packet.new.room.draft.content
     → SpellLatest (record { mask_number = c.keep_mask.new.latest.mask_number; mask = c.keep_mask.new.latest.mask; content_number = Some c.args.t; content = content }) after kept
 told_both c mask content quiet kept after vector kept_bytes after_is content_is =
-    let draft = c.in_ok-kind.ensures.draft in
     let places : length vector ≡ c.args.self.now.places =
-    ap length content_is ∙ draft.content ∙ c.self.invariant.draft_vectors.content ∙ ap (λ (d : Decoding). d.places) c.self.view_is in
+    ap length content_is ∙ c.take_whole_packet.ensures.places ∙ c.self.invariant.room_places ∙ ap (λ (d : Decoding). d.places) c.self.view_is in
     spell_latest c.args.self.now.places c.args.self.now.state c.args.t c.args.bytes.now kept
-    (record { mask_number = c.keep_mask.new.latest.mask_number; mask = c.keep_mask.new.latest.mask; content_number = Some c.args.t; content = vector }) after c.take_whole_packet.new.next (told c).mask c.take_whole_packet.new.draft.content
+    (record { mask_number = c.keep_mask.new.latest.mask_number; mask = c.keep_mask.new.latest.mask; content_number = Some c.args.t; content = vector }) after c.take_whole_packet.new.room.next (told c).mask c.take_whole_packet.new.room.draft.content
     ((says_by c.args.self.now.places c.args.self.now.state c.args.t (bits_of c.args.bytes.now) (spelled_has c) (Ok Written) (spelled_answer c true content) Written).0 refl)
     (found c true content) kept_bytes ((told c).is_new mask) content_is after_is places
     (OnTrue_at quiet c.is_quiet-quiet.ensures.stays c.keep_mask.new.latest.mask (omega arith))
@@ -230,7 +228,7 @@ remembered c some =
     elim c.if-quiet.branch [
       | then-quiet w ↦
           let k = kept_is w.tells_both.result _ c.args.bytes.now c.keep.new.self (rw w.keep-is at c.keep.ensures) some in
-          told_both at (and_parts (tells_mask c.in_ok-kind.kind) (tells_content c.in_ok-kind.kind) (sym w.tells_both.ensures ∙ k.0)).0 (sym c.tells_content.ensures ∙ c.if-not-tells_content.false) w.if-quiet.true c.keep.new.self c.take_over.new.self c.swap.new.x k.1 c.take_over.ensures.same c.swap.ensures.x_after
+          told_both at (and_parts (tells_mask c.in_ok-kind.kind) (tells_content c.in_ok-kind.kind) (sym w.tells_both.ensures ∙ k.0)).0 (sym c.tells_content.ensures ∙ c.if-not-tells_content.false) w.if-quiet.true c.keep.new.self c.take_over.new.self c.swap.new.x k.1 (c.take_over.ensures.same ∙ c.keep_mask.ensures.next) (c.swap.ensures.x_after ∙ c.keep_mask.ensures.draft)
       | else-quiet w ↦ absurd (false≢true (sym w.if-quiet.false ∙ (kept_is c.is_quiet-quiet.result _ c.args.bytes.now c.keep.new.self (rw w.keep-is at c.keep.ensures) some).0))
     ]
 
