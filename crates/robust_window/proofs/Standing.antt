@@ -1,7 +1,7 @@
 -- The window follows one more step.
-use Rattle.std.proofs.Common.{◌≡◌, ℕ, zero, suc, ◌+◌, ◌-◌, ◌<◌, ◌≤◌, Bool, true, false, List, [], ◌∷◌, ◌++◌, length, drop, replicate, get_or, refl, sym, ap, ◌∙◌, ◌⊎◌, inl, inr, max, min, subst, arith}
+use Rattle.std.proofs.Common.{◌≡◌, ℕ, zero, suc, ◌+◌, ◌-◌, ◌<◌, ◌≤◌, Bool, true, false, List, [], ◌∷◌, ◌++◌, length, drop, replicate, get_or, refl, sym, ap, ◌∙◌, ◌⊎◌, inl, inr, max, subst, arith}
 use Rattle.std.specs.Prelude.{All, Contains, nat_le}
-use Rattle.std.specs.List.{count_by, list_any, range_with_len}
+use Rattle.std.specs.List.{count_by, list_any}
 use Rattle.std.proofs.lemmas.Bool.{cases_lt, cases_eq}
 use Rattle.std.proofs.lemmas.List.{get_or-drop, get_or-replicate, get_or_append_left, get_or_at, get_or_past, length-drop, length-replicate, length_push}
 use Rattle.std.proofs.lemmas.List.Elements.{All-append, All-cons, All-drop, All-nil}
@@ -89,36 +89,20 @@ twice_of-is : (steps : List MaskStep) (t level : ℕ) → level_of steps t ≡ l
 unfolding twice_of
 twice_of-is steps t level level_is = ap (λ v. nat_le 2 (count_by (takes_new_mask steps) (steps_from (t - v) (t + 1)))) (sym level_is)
 
--- The parts of a window after a step, in terms of those before it.
-pub record Moves (old new : WindowState) (step : MaskStep) : Type 0 where
-  pub full : length old.changes ≡ 16
-  pub flags_full : length old.new_masks ≡ 16
-  pub robust_most : step.robust ≤ 7
-  pub places : length step.change ≡ length old.recent
-  pub start : old.taken ≡ 0 → step.change ≡ replicate (length step.change) false
-  pub changes : new.changes ≡ drop 1 old.changes ++ step.change ∷ []
-  pub new_masks : new.new_masks ≡ drop 1 old.new_masks ++ step.new_mask ∷ []
-  pub recent : new.recent ≡ gathered (length old.recent) new.changes (step.robust + 1)
-  pub recent_len : length new.recent ≡ length old.recent
-  pub level_least : step.robust ≤ new.level
-  pub level_most : new.level ≤ max step.robust (min old.taken 15)
-  pub quiet : (back : ℕ) → step.robust < back → back ≤ new.level → change_back new.changes back ≡ replicate (length (change_back new.changes back)) false
-  pub stops : new.level < max step.robust (min old.taken 15) → Contains (change_back new.changes (new.level + 1)) true
-  pub twice : new.twice ≡ nat_le 2 (count_by (new_mask_back new.new_masks) (range_with_len 0 (new.level + 1)))
-  pub taken : new.taken ≡ old.taken + 1
-
-pub StandsFor-next : (steps : List MaskStep) (step : MaskStep) (old new : WindowState) → StandsFor steps old → Moves old new step → StandsFor (steps ++ step ∷ []) new
-StandsFor-next steps step old new stands moves =
+-- a step whose change is taken first
+pub StandsFor-next : (steps : List MaskStep) (step : MaskStep) (old new : WindowState) → StandsFor steps old → length old.changes ≡ 16 → step.robust ≤ 7 → length step.change ≡ length old.recent → (old.taken ≡ 0 → step.change ≡ replicate (length step.change) false)
+    → Advances (record old { changes = drop 1 old.changes ++ step.change ∷ [] }) new step.new_mask step.robust → StandsFor (steps ++ step ∷ []) new
+StandsFor-next steps step old new stands full robust_most places start a =
     record {
       changes =
-          subst (λ n. HoldsLatest (change_back new.changes) change_at (replicate n false) (length after)) (sym moves.recent_len)
+          subst (λ n. HoldsLatest (change_back new.changes) change_at (replicate n false) (length after)) (sym a.recent_len)
           (subst (λ n. HoldsLatest (change_back new.changes) change_at (replicate f false) n) (sym (length_push steps step)) changes);
       new_masks = subst (λ n. HoldsLatest (new_mask_back new.new_masks) (takes_new_mask after) false n) (sym (length_push steps step)) new_masks;
       first = first;
       recent = λ some. recent ∙ ap (recent_of after) (sym at);
       level = λ some. sym level ∙ ap (level_of after) (sym at);
       twice = λ some. twice ∙ ap (twice_of after) (sym at);
-      taken = moves.taken ∙ ap (λ n. n + 1) stands.taken ∙ sym (length_push steps step);
+      taken = a.taken ∙ ap (λ n. n + 1) stands.taken ∙ sym (length_push steps step);
     }
   where
     after : List MaskStep
@@ -141,18 +125,18 @@ StandsFor-next steps step old new stands moves =
 
     changes : HoldsLatest (change_back new.changes) change_at (replicate f false) (t + 1)
     changes =
-        HoldsLatest-more old.changes new.changes [] (replicate f false) step.change (λ s. (mask_step steps s).change) change_at t moves.full moves.changes stands.changes
+        HoldsLatest-more old.changes new.changes [] (replicate f false) step.change (λ s. (mask_step steps s).change) change_at t full a.changes stands.changes
         (λ s lt. ap (λ (m : MaskStep). m.change) (mask_step-before steps step s lt)) (ap (λ (m : MaskStep). m.change) last)
 
     new_masks : HoldsLatest (new_mask_back new.new_masks) (takes_new_mask after) false (t + 1)
     new_masks =
-        HoldsLatest-more old.new_masks new.new_masks false false step.new_mask (takes_new_mask steps) (takes_new_mask after) t moves.flags_full moves.new_masks stands.new_masks
+        HoldsLatest-more old.new_masks new.new_masks false false step.new_mask (takes_new_mask steps) (takes_new_mask after) t a.flags_full a.new_masks stands.new_masks
         (λ s lt. ap (λ (m : MaskStep). m.new_mask) (mask_step-before steps step s lt)) (ap (λ (m : MaskStep). m.new_mask) last)
 
     quiet_start : (t ≡ 0) ⊎ (t ≡ 0 → ⊥) → IsQuiet after 0
     quiet_start (inl none) place =
         ap (λ s. get_or (change_at s) place false) (sym none) ∙ ap (λ (m : MaskStep). get_or m.change place false) last
-        ∙ ap (λ v. get_or v place false) (moves.start (stands.taken ∙ none)) ∙ zero_place (length step.change) place
+        ∙ ap (λ v. get_or v place false) (start (stands.taken ∙ none)) ∙ zero_place (length step.change) place
     quiet_start (inr some) place =
         ap (λ (m : MaskStep). get_or m.change place false) (mask_step-before steps step 0 (omega arith)) ∙ stands.first place
 
@@ -167,69 +151,42 @@ StandsFor-next steps step old new stands moves =
 
     recent : new.recent ≡ recent_of after t
     recent =
-        moves.recent
+        a.recent ∙ ap (λ (v : List (List Bool)). gathered f v (step.robust + 1)) (sym a.changes)
         ∙ vector_of_same f _ _ (λ place.
         any_back t step.robust (λ back. get_or (change_back new.changes back) place false) (changes_place after place)
         (record {
-          same = λ back lt within. ap (λ v. get_or v place false) (change_is back (omega (arith, moves.robust_most)) within);
-          none = λ back lt past. ap (λ v. get_or v place false) (changes.past back (omega (arith, moves.robust_most)) (omega arith)) ∙ zero_place f place;
+          same = λ back lt within. ap (λ v. get_or v place false) (change_is back (omega (arith, robust_most)) within);
+          none = λ back lt past. ap (λ v. get_or v place false) (changes.past back (omega (arith, robust_most)) (omega arith)) ∙ zero_place f place;
         })
         (first place))
-        ∙ recent_of-is after t f step.robust (ap (λ (m : MaskStep). m.robust) last) (ap (λ (m : MaskStep). length m.change) last ∙ moves.places)
+        ∙ recent_of-is after t f step.robust (ap (λ (m : MaskStep). m.robust) last) (ap (λ (m : MaskStep). length m.change) last ∙ places)
 
     level : level_of after t ≡ new.level
     level =
-        level_of-is after t step.robust new.level (ap (λ (m : MaskStep). m.robust) last) moves.level_least (omega (arith, moves.level_most, stands.taken))
+        level_of-is after t step.robust new.level (ap (λ (m : MaskStep). m.robust) last) a.level_least (omega (arith, a.level_most, stands.taken))
         (λ s ge lt. is_quiet-zeros after s (quiet_at s ge lt))
         (λ less. is_quiet-one after (t - (new.level + 1)) (one_at less))
       where
         quiet_at : (s : ℕ) → t - new.level ≤ s → s < t - step.robust → change_at s ≡ replicate (length (change_at s)) false
         quiet_at s ge lt =
             let back : t - (t - s) ≡ s = omega arith in
-            let is : change_back new.changes (t - s) ≡ change_at s = change_is (t - s) (omega (arith, moves.level_most, moves.robust_most)) (omega arith) ∙ ap change_at back in
-            subst (λ v. v ≡ replicate (length v) false) is (moves.quiet (t - s) (omega arith) (omega arith))
+            let is : change_back new.changes (t - s) ≡ change_at s = change_is (t - s) (omega (arith, a.level_most, robust_most)) (omega arith) ∙ ap change_at back in
+            let zeros : change_at s ≡ replicate f false = sym is ∙ ap (λ (v : List (List Bool)). change_back v (t - s)) a.changes ∙ a.quiet (t - s) (omega arith) (omega arith) in
+            zeros ∙ ap (λ n. replicate n false) (sym (ap length zeros ∙ length-replicate f false))
 
         one_at : new.level < most_level step.robust t → Contains (change_at (t - (new.level + 1))) true
         one_at less =
-            subst (λ v. Contains v true) (change_is (new.level + 1) (omega (arith, moves.robust_most)) (omega (arith, moves.level_least))) (moves.stops (omega (arith, stands.taken)))
+            subst (λ v. Contains v true) (ap (λ (v : List (List Bool)). change_back v (new.level + 1)) (sym a.changes) ∙ change_is (new.level + 1) (omega (arith, robust_most)) (omega (arith, a.level_least))) (a.stops (omega (arith, stands.taken)))
 
     twice : new.twice ≡ twice_of after t
     twice =
         let from : t + 1 - (new.level + 1) ≡ t - new.level = omega arith in
-        moves.twice
+        a.twice
         ∙ ap (nat_le 2) (count_back t (new.level + 1) (new_mask_back new.new_masks) (takes_new_mask after) (record {
           same = λ back lt within.
               let same : t + 1 - 1 - back ≡ t - back = omega arith in
-              new_masks.same back (omega (arith, moves.level_most, moves.robust_most)) (omega arith) ∙ ap (takes_new_mask after) same;
-          none = λ back lt past. new_masks.past back (omega (arith, moves.level_most, moves.robust_most)) (omega arith);
+              new_masks.same back (omega (arith, a.level_most, robust_most)) (omega arith) ∙ ap (takes_new_mask after) same;
+          none = λ back lt past. new_masks.past back (omega (arith, a.level_most, robust_most)) (omega arith);
         }))
         ∙ ap (λ a. nat_le 2 (count_by (takes_new_mask after) (steps_from a (t + 1)))) from
         ∙ twice_of-is after t new.level level
-
--- the same with the values as they are made once the change is taken
-pub StandsFor-advanced : (steps : List MaskStep) (step : MaskStep) (old mid new : WindowState) → StandsFor steps old → length old.changes ≡ 16 → step.robust ≤ 7 → length step.change ≡ length old.recent → (old.taken ≡ 0 → step.change ≡ replicate (length step.change) false)
-    → mid ≡ record old { changes = drop 1 old.changes ++ step.change ∷ [] } → Advances mid new step.new_mask step.robust → StandsFor (steps ++ step ∷ []) new
-StandsFor-advanced steps step old mid new stands full robust places start mid_is a =
-    StandsFor-next steps step old new stands (record {
-      full = full;
-      flags_full = ap (λ (k : WindowState). length k.new_masks) (sym mid_is) ∙ a.flags_full;
-      robust_most = robust;
-      places = places;
-      start = start;
-      changes = a.changes ∙ ap (λ (k : WindowState). k.changes) mid_is;
-      new_masks = a.new_masks ∙ ap (λ (k : WindowState). drop 1 k.new_masks ++ step.new_mask ∷ []) mid_is;
-      recent =
-          a.recent ∙ ap (λ (v : List (List Bool)). gathered (length mid.recent) v (step.robust + 1)) (sym a.changes)
-          ∙ ap (λ (k : WindowState). gathered (length k.recent) new.changes (step.robust + 1)) mid_is;
-      recent_len = a.recent_len ∙ ap (λ (k : WindowState). length k.recent) mid_is;
-      level_least = a.level_least;
-      level_most = omega (arith, a.level_most, ap (λ (k : WindowState). k.taken) mid_is);
-      quiet = λ back above within.
-          let zeros : change_back new.changes back ≡ replicate (length mid.recent) false = ap (λ (v : List (List Bool)). change_back v back) a.changes ∙ a.quiet back above within in
-          zeros ∙ ap (λ n. replicate n false) (sym (ap length zeros ∙ length-replicate (length mid.recent) false));
-      stops = λ less.
-          subst (λ (v : List (List Bool)). Contains (change_back v (new.level + 1)) true) (sym a.changes)
-          (a.stops (omega (arith, less, ap (λ (k : WindowState). k.taken) mid_is)));
-      twice = a.twice;
-      taken = a.taken ∙ ap (λ (k : WindowState). k.taken + 1) mid_is;
-    })
