@@ -128,13 +128,7 @@ pub fn take_whole(
     };
     draft.places.copy_from(mask);
     change.widen(&mut draft.places);
-    take_kept(
-        eye,
-        known,
-        &draft.places,
-        &mut draft.content,
-        &mut draft.spare,
-    )
+    take_kept(eye, known, draft)
 }
 
 /// Takes the whole content, which may be any, since no mask is known.
@@ -149,32 +143,22 @@ pub fn take_whole_alone(eye: &mut BitEye, draft: &mut Draft) -> Result<(), BitFa
     eye.take_bits(&mut draft.content)
 }
 
-/// Takes a content that is the known one outside these places. The first bit that differs is wrong. It is
-/// taken at once, so that the eye may stand after a wrong bit. `spare` may have any bits afterwards.
-fn take_kept(
-    eye: &mut BitEye,
-    known: &Bits,
-    places: &Bits,
-    content: &mut Bits,
-    spare: &mut Bits,
-) -> Result<(), BitFault>
-    requires known { length known.now ≡ length content.old }
-    requires places { length places.now ≡ length content.old }
-    requires spare { length spare.old ≡ length content.old }
-    ensures content_places { length content.new ≡ length content.old }
-    ensures spare_places { length spare.new ≡ length spare.old }
-    ensures taken { Takes
-        (λ _. content.new) result eye.old eye.new
-        (parse_kept places.now known.now) }
+/// Takes a content that is the known one outside the draft's places. The first bit that differs is wrong. It is taken at
+/// once, so that the eye may stand after a wrong bit.
+fn take_kept(eye: &mut BitEye, known: &Bits, draft: &mut Draft) -> Result<(), BitFault>
+    requires { length known.now ≡ length draft.old.content }
+    ensures places { length draft.new.content ≡ length draft.old.content }
+    ensures taken { Takes (λ _. draft.new.content) result eye.old eye.new
+        (parse_kept draft.old.places known.now) }
 {
     let start = eye.at();
     let left = eye.size() - start;
-    content.copy_from(known);
-    let taken = eye.take_bits(content);
-    spare.copy_from(content);
-    spare.xor_in(known);
-    spare.drop_in(places);
-    match spare.next_one_up(0) {
+    draft.content.copy_from(known);
+    let taken = eye.take_bits(&mut draft.content);
+    draft.spare.copy_from(&draft.content);
+    draft.spare.xor_in(known);
+    draft.spare.drop_in(&draft.places);
+    match draft.spare.next_one_up(0) {
         Some(place) => {
             prove!(place < left);
             Err(BitFault::Wrong { bit: start + place })
