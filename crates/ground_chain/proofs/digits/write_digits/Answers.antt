@@ -1,14 +1,11 @@
-use Rattle.std.proofs.Common.{ℕ, arith, slice_index, ap, ◌∙◌}
-use Rattle.std.proofs.lemmas.Nat.{and_mask}
+use Rattle.std.proofs.Common.{arith}
 use Rattle.hex.specs.Hex.{lower_digits}
 use Rattle.hex.proofs.Pairs.{encode_step, encode_done}
 use Rattle.ground_chain.proofs.digits.write_digits.Goals as goal
 
 pub loop-index-preserved : goal.loop-index-preserved
 loop-index-preserved c =
-    let byte : ℕ = slice_index c.args.bytes.now c.loop-index.index in
-    encode_step lower_digits c.args.bytes.now c.loop-index.digits c.loop-index.index _ _ (omega arith) (omega arith) c.digit-high.ensures
-    (c.digit-low.ensures ∙ ap (λ (k : ℕ). slice_index lower_digits k) (and_mask byte 4)) c.loop-index.invariant
+    encode_step lower_digits c.args.bytes.now c.loop-index.digits c.loop-index.index _ _ (omega arith) (omega arith) c.digits_of.ensures.high c.digits_of.ensures.low c.loop-index.invariant
 
 pub returns : goal.returns
 returns c =
