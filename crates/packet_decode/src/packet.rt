@@ -58,36 +58,17 @@ fn take_parts(
     room.next.take(eye)?;
     let level = room.next.level();
     let known = in_reach_of(latest.content_number, &latest.content, t, level);
+    let sent = &mut room.sent;
+    let draft = &mut room.draft;
     let Some(mask) = in_reach_of(latest.mask_number, &latest.mask, t, level) else {
-        return take_data(
-            eye,
-            &room.next,
-            None,
-            known,
-            &mut room.sent,
-            &mut room.draft,
-        );
+        return take_data(eye, &room.next, None, known, sent, draft);
     };
     if room.next.is_quiet() {
-        return take_data(
-            eye,
-            &room.next,
-            Some(mask),
-            known,
-            &mut room.sent,
-            &mut room.draft,
-        );
+        return take_data(eye, &room.next, Some(mask), known, sent, draft);
     }
     room.deduced.copy_from(mask);
     room.next.deduce(&mut room.deduced);
-    take_data(
-        eye,
-        &room.next,
-        Some(&room.deduced),
-        known,
-        &mut room.sent,
-        &mut room.draft,
-    )
+    take_data(eye, &room.next, Some(&room.deduced), known, sent, draft)
 }
 
 /// A known vector, if the packet with the number `t` and this level is in reach of the one with which it became known.
