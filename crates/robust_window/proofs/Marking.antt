@@ -228,8 +228,8 @@ AreChanges-pushed old new marks next zeros change kept mark h new_is below marks
     record {
       full = ap (λ (b : Buffer (List Bool)). b.capacity) new_is;
       count = ap length items ∙ length-pushed old.items slot h.count;
-      fit = subst (All fit) (sym items) (All-pushed fit old.items slot h.fit len);
-      fits = below;
+      places = subst (All fit) (sym items) (All-pushed fit old.items slot h.places len);
+      bound = below;
       marked = subst (AreMarked next) (sym items) (marked-pushed marks next old.items change kept mark h.count marks_is one h.marked);
       none = h.none;
     }

@@ -97,8 +97,8 @@ pub record LatestChanges : Type 0 where
 pub record AreChanges (slots : Buffer (List Bool)) (marks : ℕ) (zeros : List Bool) : Type 0 where
   pub full : slots.capacity ≡ 16
   pub count : length slots.items ≡ 16
-  pub fit : All (λ change. length change ≡ length zeros) slots.items
-  pub fits : marks < 65536
+  pub places : All (λ change. length change ≡ length zeros) slots.items
+  pub bound : marks < 65536
   pub marked : AreMarked marks slots.items
   pub none : zeros ≡ replicate (length zeros) false
 

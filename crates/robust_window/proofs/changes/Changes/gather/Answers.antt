@@ -26,7 +26,7 @@ loop-back-init c =
 pub or_in-requires : goal.or_in-requires
 or_in-requires c =
     let s = c.self.inside in
-    let fits = All-get_or (λ (change : List Bool). length change ≡ length s.zeros) s.slots.items (15 - c.loop-back.back) [] (omega (arith, c.self.invariant.count)) c.self.invariant.fit in
+    let fits = All-get_or (λ (change : List Bool). length change ≡ length s.zeros) s.slots.items (15 - c.loop-back.back) [] (omega (arith, c.self.invariant.count)) c.self.invariant.places in
     c.loop-back.invariant.places ∙ c.requires.places ∙ ap (λ (k : LatestChanges). k.places) (sym c.self.view_is) ∙ sym (ap length c.slot_back.ensures ∙ fits)
 
 pub loop-back-preserved : goal.loop-back-preserved
@@ -42,7 +42,7 @@ loop-back-preserved c =
           let set : mark_back s.marks back ≡ true = sym c.is_set.ensures ∙ w.if-is_set.true in
           let same = latest-marked s.slots s.marks s.zeros c.args.self.now c.self.invariant c.self.view_is back lt set in
           let places : length (change_back slots back) ≡ f =
-          All-get_or (λ (change : List Bool). length change ≡ length s.zeros) slots (15 - back) [] (omega (arith, c.self.invariant.count)) c.self.invariant.fit
+          All-get_or (λ (change : List Bool). length change ≡ length s.zeros) slots (15 - back) [] (omega (arith, c.self.invariant.count)) c.self.invariant.places
           ∙ ap (λ (k : LatestChanges). k.places) c.self.view_is ∙ sym c.requires.places in
           record {
             places = ap length w.recent-is ∙ (w.or_in.ensures.len ∙ c.loop-back.invariant.places);

@@ -17,7 +17,7 @@ pub invariant_of-self : goal.invariant_of-self
 invariant_of-self c =
     let s = c.self.inside in
     let kept = change_back s.slots.items 15 in
-    let fits = All-get_or (λ (v : List Bool). length v ≡ length s.zeros) s.slots.items (15 - 15) [] (omega (arith, c.self.invariant.count)) c.self.invariant.fit in
+    let fits = All-get_or (λ (v : List Bool). length v ≡ length s.zeros) s.slots.items (15 - 15) [] (omega (arith, c.self.invariant.count)) c.self.invariant.places in
     AreChanges-pushed s.slots c.push_back.new.self s.marks c.pushed-self-inside.result s.zeros kept kept false c.self.invariant (slots_are (goal.at.invariant_of-self c).After-pushed-self-inside) c.pushed-self-inside.type_inv c.pushed-self-inside.ensures fits
     (λ is. absurd (false≢true is))
 
