@@ -96,7 +96,7 @@ impl WordMoves {
 
     /// A word that has at each 1 of this word the bit of `number` whose weight counts the ones below it. Its other bits
     /// may be any bits. The moves are then those of this word.
-    #[inline(never)]
+    #[inline(always)]
     pub(crate) fn unpacked(&mut self, number: u64, word: u64) -> u64
         ensures kept { self.new ≡ word }
         ensures bits { (weight : ℕ) → weight < 64 → bit_at word weight ≡ 1

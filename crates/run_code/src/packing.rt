@@ -45,6 +45,17 @@ pub fn unpacked(number: u64, at: u64, moves: &mut [WordMoves], index: usize) -> 
     if at == u64::MAX {
         return number;
     }
+    unpacked_kept(number, at, moves, index)
+}
+
+/// The same for a word that has zeros too. It stays apart, so that a loop over words without many ones holds no place among
+/// the moves.
+#[inline(never)]
+fn unpacked_kept(number: u64, at: u64, moves: &mut [WordMoves], index: usize) -> u64
+    ensures bits { (weight : ℕ) → weight < 64 → bit_at at weight ≡ 1
+        → bit_at result weight ≡ bit_at number (ones_under at weight) }
+    ensures moves { length moves.new ≡ length moves.old }
+{
     if index >= moves.len() {
         let mut found = word_moves(at);
         return found.unpacked(number, at);
