@@ -1,5 +1,5 @@
 -- The lines of the stretches, one after the other.
-use Rattle.std.proofs.Common.{IfSome, if◌then◌else◌, subst, ◌≡◌, ℕ, zero, suc, ◌+◌, ◌-◌, ◌<◌, ◌≤◌, Bool, true, false, cond, List, [], ◌∷◌, ◌++◌, map, Option, Some, None, refl, sym, ap, ◌∙◌, append_assoc, append-nil, arith}
+use Rattle.std.proofs.Common.{IfSome, if◌then◌else◌, subst, ◌≡◌, ℕ, zero, suc, ◌+◌, ◌-◌, ◌<◌, Bool, true, false, cond, List, [], ◌∷◌, ◌++◌, map, Option, Some, None, refl, sym, ap, ◌∙◌, append_assoc, append-nil, arith}
 use Rattle.std.specs.List.{count_by, filter, flat_map, range_with_len}
 use Rattle.std.proofs.lemmas.List.Sums.{sum_by_push}
 use Rattle.loss_player.proofs.Tallies.{range_next}
@@ -88,11 +88,3 @@ stretch-new fate (suc t) s is other =
 pub sure_count-next : (p : Prospect) (t : ℕ) → sure_count p (t + 1) ≡ sure_count p t + cond (is_sure p t) 1 0
 sure_count-next p t =
     ap (count_by (is_sure p)) (range_next t) ∙ sum_by_push (λ (s : ℕ). if is_sure p s then 1 else 0) (range_with_len 0 t) t
-
-pub sure_count-most : (p : Prospect) (t : ℕ) → sure_count p t ≤ t
-sure_count-most p zero = omega arith
-sure_count-most p (suc t) = by_sure (is_sure p t) (sure_count-most p t) (let next : t + 1 ≡ suc t = omega arith in subst (λ (n : ℕ). sure_count p n ≡ sure_count p t + cond (is_sure p t) 1 0) next (sure_count-next p t))
-  where
-    by_sure : (b : Bool) → sure_count p t ≤ t → sure_count p (suc t) ≡ sure_count p t + cond b 1 0 → sure_count p (suc t) ≤ suc t
-    by_sure true most is = omega (arith, most, is)
-    by_sure false most is = omega (arith, most, is)

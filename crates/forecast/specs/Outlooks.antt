@@ -4,11 +4,11 @@ use Rattle.std.specs.List.{flat_map}
 use Rattle.std.specs.Option.{option_map_or}
 use Rattle.side_tables.specs.declared.rows.CopyRow.{CopyRow}
 use Rattle.side_tables.specs.Rows.{ScheduleRows}
-use Rattle.loss_player.specs.Tallies.{tally_of}
+use Rattle.loss_player.specs.declared.played.Tally.{Tally}
+use Rattle.loss_player.specs.Tallies.{IsTally, tally_of}
 use Rattle.forecast.specs.declared.fate.Fate.{Fate}
 use Rattle.forecast.specs.declared.foreseen.Foreseen.{Foreseen}
 use Rattle.forecast.specs.declared.latest.Latest.{Latest}
-use Rattle.forecast.specs.declared.running.Running.{Running}
 use Rattle.forecast.specs.declared.stretch.Stretch.{Stretch}
 use Rattle.forecast.specs.Prospects.{Prospect, fate_of, latest_mask_sure, latest_sure, prospect_of}
 use Rattle.forecast.specs.Stretches.{changes_after, ended, stretch_to}
@@ -56,15 +56,15 @@ abbrev pub row_of : Option Stretch → List ℕ
 row_of s = option_map_or stretch_row s []
 
 -- what is kept of the first t packets
-abbrev pub running_at : Prospect → ℕ → Running
-running_at p t = record {
-  latest = latest_at p t;
-  stretch = stretch_at (fate_of p) t;
-  tally = tally_of p.copies t;
-  sure = sure_count p t;
-}
+pub record AreKept (p : Prospect) (t : ℕ) (latest : Latest) (stretch : Option Stretch) (tally : Tally) (sure : ℕ) : Type 0 where
+  pub latest_is : latest ≡ latest_at p t
+  pub stretch_is : stretch ≡ stretch_at (fate_of p) t
+  pub tally_is : tally ≡ tally_of p.copies t
+  pub sure_is : sure ≡ sure_count p t
+  pub few : sure ≤ t
+  pub right : IsTally tally
 
--- for how many packets there is a forecast, and by what they are foreseen
+-- how many packets there are, and by what they are foreseen
 pub record ForecastState : Type 0 where
   pub packets : ℕ
   pub outlook : OutlookState

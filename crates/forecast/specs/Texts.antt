@@ -2,7 +2,6 @@
 use Rattle.std.specs.Prelude.{ℕ, List, ◌++◌, codes, Option}
 use Rattle.std.specs.Fmt.{decimal}
 use Rattle.std.specs.List.{count_by, flat_map, range_with_len}
-use Rattle.loss_player.specs.declared.played.Played.{Played}
 use Rattle.loss_player.specs.Played.{played_of}
 use Rattle.loss_player.specs.Report.{first_text}
 use Rattle.forecast.specs.declared.fate.Fate.{Fate}
@@ -32,10 +31,6 @@ gaps_row first widest = codes "gaps," ++ first_text first ++ codes "," ++ decima
 abbrev pub end_row : ℕ → ℕ → List ℕ
 end_row packets sure = codes "end," ++ decimal packets ++ codes "," ++ decimal sure ++ codes "\n"
 
--- the last two lines
-abbrev pub closing_rows : Played → ℕ → ℕ → List ℕ
-closing_rows played packets sure = gaps_row played.first played.widest ++ end_row packets sure
-
 -- the lines of the stretches of n packets
 abbrev pub stretch_rows : (ℕ → Fate) → ℕ → List ℕ
 stretch_rows fate n = flat_map stretch_row (stretches fate n)
@@ -44,7 +39,10 @@ stretch_rows fate n = flat_map stretch_row (stretches fate n)
 abbrev pub sure_count : Prospect → ℕ → ℕ
 sure_count p n = count_by (is_sure p) (range_with_len 0 n)
 
+-- the last two lines
+abbrev pub closing_rows : Prospect → ℕ → List ℕ
+closing_rows p n = gaps_row (played_of p.copies n).first (played_of p.copies n).widest ++ end_row n (sure_count p n)
+
 -- the text for n packets
 abbrev pub forecast_text : Prospect → ℕ → List ℕ
-forecast_text p n =
-    header_row ++ stretch_rows (fate_of p) n ++ closing_rows (played_of p.copies n) n (sure_count p n)
+forecast_text p n = header_row ++ stretch_rows (fate_of p) n ++ closing_rows p n

@@ -2,10 +2,8 @@
 
 ghost use Rattle.std.specs.Prelude.{◌≡◌, ◌≤◌, ◌<◌, ◌^◌, ◌+◌, ◌++◌, length, IfOk, OnOk, OnErr, IsOk};
 ghost use Rattle.desk_ports.specs.Meanings.{Adds, AddsFront, HasWriteCause, IsReadyOut};
-ghost use Rattle.loss_player.specs.Tallies.{IsTally};
-ghost use Rattle.forecast.specs.Prospects.{fate_of};
-ghost use Rattle.forecast.specs.Outlooks.{ended_before, foresees, row_of, running_at};
-ghost use Rattle.forecast.specs.Texts.{closing_rows, end_row, forecast_text, gaps_row, stretch_rows, sure_count};
+ghost use Rattle.forecast.specs.Outlooks.{IsCount, foresees, row_of};
+ghost use Rattle.forecast.specs.Texts.{closing_rows, end_row, forecast_text, gaps_row, sure_count};
 
 use crate::foreseen::Foresight;
 use crate::running::Running;
@@ -71,78 +69,30 @@ impl Forecast {
             (λ sure. sure ≡ sure_count (foresees self.outlook) self.packets) }
         ensures cause { HasWriteCause (D.counts desk.old) (D.counts desk.new) result }
     {
-        let mut foresight = self.foresight;
-        write_text(desk, &mut foresight, self.packets)
+        let mut running = Running::of(self.foresight);
+        write_text(desk, &mut running, self.packets)
     }
 }
 
-/// Writes the forecast for so many packets, and tells how many are sure.
-fn write_text<D: Desk>(desk: &mut D, foresight: &mut Foresight, packets: u32) -> Result<u64, Failed>
+/// Writes the forecast for so many packets, of which none was taken, and tells how many are sure.
+fn write_text<D: Desk>(desk: &mut D, running: &mut Running, packets: u32) -> Result<u64, Failed>
     requires ready { IsReadyOut (D.meaning desk.old) Outlet.Main }
-    requires some { 1 ≤ packets }
-    requires most { packets ≤ 1000000 }
+    requires none { running.old.packets ≡ 0 }
+    requires count { IsCount packets }
     ensures added { OnOk result (Adds (D.meaning desk.old) (D.meaning desk.new) Outlet.Main
-        (forecast_text (foresees foresight.old) packets)) }
+        (forecast_text (foresees running.old.outlook) packets)) }
     ensures front { OnErr result (AddsFront (D.meaning desk.old) (D.meaning desk.new)
-        Outlet.Main (forecast_text (foresees foresight.old) packets)) }
-    ensures sure { IfOk result (λ sure. sure ≡ sure_count (foresees foresight.old) packets) }
+        Outlet.Main (forecast_text (foresees running.old.outlook) packets)) }
+    ensures sure { IfOk result (λ sure. sure ≡ sure_count (foresees running.old.outlook) packets) }
     ensures cause { HasWriteCause (D.counts desk.old) (D.counts desk.new) result }
 {
     write_all(desk, Outlet::Main, HEADER.as_bytes())?;
-    let running = write_stretches(desk, foresight, packets)?;
-    write_closing(desk, packets, &running)?;
-    Ok(running.sure)
-}
-
-/// Writes a line for each stretch of so many packets, and tells what is kept of them.
-fn write_stretches<D: Desk>(
-    desk: &mut D,
-    foresight: &mut Foresight,
-    packets: u32,
-) -> Result<Running, Failed>
-    requires ready { IsReadyOut (D.meaning desk.old) Outlet.Main }
-    requires some { 1 ≤ packets }
-    requires most { packets ≤ 1000000 }
-    ensures added { OnOk result (Adds (D.meaning desk.old) (D.meaning desk.new) Outlet.Main
-        (stretch_rows (fate_of (foresees foresight.old)) packets)) }
-    ensures front { OnErr result (AddsFront (D.meaning desk.old) (D.meaning desk.new) Outlet.Main
-        (stretch_rows (fate_of (foresees foresight.old)) packets)) }
-    ensures running { IfOk result
-        (λ running. running ≡ running_at (foresees foresight.old) packets) }
-    ensures same { foresight.new ≡ foresight.old }
-    ensures cause { HasWriteCause (D.counts desk.old) (D.counts desk.new) result }
-{
-    let mut running = Running::none();
-    for t in 0..packets {
-        write_next(desk, foresight, &mut running, t)?;
+    for _ in 0..packets {
+        write_row(desk, running.take())?;
     }
-    write_row(desk, running.stretch)?;
-    Ok(running)
-}
-
-/// Takes the packet `t`, and writes the line of the stretch that ends just before it, if one does.
-fn write_next<D: Desk>(
-    desk: &mut D,
-    foresight: &mut Foresight,
-    running: &mut Running,
-    t: u32,
-) -> Result<(), Failed>
-    requires ready { IsReadyOut (D.meaning desk.old) Outlet.Main }
-    requires few { t < 1000000 }
-    requires running { running.old ≡ running_at (foresees foresight.old) t }
-    requires right { IsTally running.old.tally }
-    ensures added { OnOk result (Adds (D.meaning desk.old) (D.meaning desk.new) Outlet.Main
-        (row_of (ended_before (fate_of (foresees foresight.old)) t))) }
-    ensures front { OnErr result (AddsFront (D.meaning desk.old) (D.meaning desk.new) Outlet.Main
-        (row_of (ended_before (fate_of (foresees foresight.old)) t))) }
-    ensures running { running.new ≡ running_at (foresees foresight.old) (t + 1) }
-    ensures same { foresight.new ≡ foresight.old }
-    ensures right { IsTally running.new.tally }
-    ensures cause { HasWriteCause (D.counts desk.old) (D.counts desk.new) result }
-{
-    let foreseen = foresight.at(t);
-    let ended = running.take(t, &foreseen);
-    write_row(desk, ended)
+    write_row(desk, running.stretch())?;
+    write_closing(desk, running)?;
+    Ok(running.sure())
 }
 
 /// Writes the line of a stretch, if there is one.
@@ -161,21 +111,18 @@ fn write_row<D: Desk>(desk: &mut D, stretch: Option<Stretch>) -> Result<(), Fail
 }
 
 /// Writes the last two lines: of the gaps, and of the numbers of the packets.
-fn write_closing<D: Desk>(desk: &mut D, packets: u32, running: &Running) -> Result<(), Failed>
+fn write_closing<D: Desk>(desk: &mut D, running: &Running) -> Result<(), Failed>
     requires { IsReadyOut (D.meaning desk.old) Outlet.Main }
     ensures added { OnOk result (Adds (D.meaning desk.old) (D.meaning desk.new) Outlet.Main
-        (closing_rows running.now.tally.played packets running.now.sure)) }
+        (closing_rows (foresees running.now.outlook) running.now.packets)) }
     ensures front { OnErr result (AddsFront (D.meaning desk.old) (D.meaning desk.new) Outlet.Main
-        (closing_rows running.now.tally.played packets running.now.sure)) }
+        (closing_rows (foresees running.now.outlook) running.now.packets)) }
     ensures cause { HasWriteCause (D.counts desk.old) (D.counts desk.new) result }
 {
+    let played = running.played();
     let mut rows = Row::new();
-    put_gaps(
-        &mut rows,
-        running.tally.played.first,
-        running.tally.played.widest,
-    );
-    put_end(&mut rows, packets, running.sure);
+    put_gaps(&mut rows, played.first, played.widest);
+    put_end(&mut rows, played.packets, running.sure());
     write_all(desk, Outlet::Main, rows.as_bytes())
 }
 
@@ -196,12 +143,12 @@ fn put_gaps(rows: &mut Row, first: Option<u64>, widest: u64)
 }
 
 /// Appends the last line: how many packets there are, and how many are sure.
-fn put_end(rows: &mut Row, packets: u32, sure: u64)
+fn put_end(rows: &mut Row, packets: u64, sure: u64)
     requires { length rows.old ≤ 64 }
     ensures { rows.new ≡ rows.old ++ end_row packets sure }
 {
     rows.put_text("end,");
-    rows.put_number(u64::from(packets));
+    rows.put_number(packets);
     rows.put_text(",");
     rows.put_number(sure);
     rows.put_text("\n");

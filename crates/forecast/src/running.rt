@@ -1,32 +1,46 @@
 //! What is kept of the packets so far.
 
-ghost use Rattle.std.specs.Prelude.{◌≡◌, ℕ, ◌+◌, ◌-◌, ◌<◌, ◌≤◌, ◌^◌};
-ghost use Rattle.loss_player.specs.Tallies.{IsTally};
-ghost use Rattle.forecast.specs.Prospects.{Prospect, fate_of};
-ghost use Rattle.forecast.specs.Outlooks.{IsForeseenAs, ended_before, running_at, stretch_at};
+ghost use Rattle.std.specs.Prelude.{◌≡◌, ℕ, ◌+◌, ◌<◌};
+ghost use Rattle.loss_player.specs.Played.{played_of};
+ghost use Rattle.forecast.specs.Prospects.{fate_of};
+ghost use Rattle.forecast.specs.Outlooks.{ended_before, foresees, stretch_at};
+ghost use Rattle.forecast.specs.Texts.{sure_count};
 
 use crate::fate::Fate;
-use crate::foreseen::Foreseen;
+use crate::foreseen::Foresight;
 use crate::latest::Latest;
 use crate::stretch::Stretch;
-use loss_player::Tally;
+use loss_player::{Played, Tally};
+use std::marker::Model;
 
-/// The latest sure packets, the stretch of the latest packet, the numbers of the copies, and how many packets are sure.
-#[derive(Clone, Copy, Debug)]
+/// What packets are foreseen by, and what is kept of those so far: the latest sure ones, the stretch of the latest one, the
+/// numbers of the copies, and how many are sure. Contracts see how many there were, and by what they are foreseen.
+#[derive(Debug, Drop)]
 pub struct Running {
-    pub latest: Latest,
-    pub stretch: Option<Stretch>,
-    pub tally: Tally,
-    pub sure: u64,
+    foresight: Foresight,
+    latest: Latest,
+    stretch: Option<Stretch>,
+    tally: Tally,
+    sure: u64,
+}
+
+impl Model for Running {
+    ghost use Rattle.forecast.specs.Outlooks.{AreKept, ForecastState, foresees};
+
+    ghost Value = { ForecastState };
+
+    ghost view = { λ r. record { packets = r.tally.played.packets; outlook = r.foresight } };
+
+    ghost invariant = { λ r. AreKept (foresees r.foresight) r.tally.played.packets r.latest r.stretch r.tally r.sure };
 }
 
 impl Running {
     /// There was no packet yet.
-    pub fn none() -> Running
-        ensures none { (p : Prospect) → result ≡ running_at p 0 }
-        ensures right { IsTally result.tally }
+    pub fn of(foresight: Foresight) -> Running
+        ensures { result ≡ record { packets = 0; outlook = foresight } }
     {
         Running {
+            foresight,
             latest: Latest::none(),
             stretch: None,
             tally: Tally::none(),
@@ -34,47 +48,60 @@ impl Running {
         }
     }
 
-    /// Takes the packet `t`, and tells the stretch that ends just before it, if one does.
-    pub fn take(&mut self, t: u32, foreseen: &Foreseen) -> Option<Stretch>
-        requires few { t < 2 ^ 32 - 1 }
-        requires packets { self.old.tally.played.packets ≡ t }
-        requires sure { self.old.sure ≤ t }
-        requires right { IsTally self.old.tally }
-        requires most { foreseen.now.copies ≤ 9 }
-        ensures ended { (p : Prospect) → IsForeseenAs p t foreseen.now → self.old ≡ running_at p t
-            → result ≡ ended_before (fate_of p) t }
-        ensures taken { (p : Prospect) → IsForeseenAs p t foreseen.now → self.old ≡ running_at p t
-            → self.new ≡ running_at p (t + 1) }
-        ensures right { IsTally self.new.tally }
+    /// Takes the next packet, and tells the stretch that ends just before it, if one does.
+    pub fn take(&mut self) -> Option<Stretch>
+        requires { self.old.packets < 1000000 }
+        ensures ended { result ≡ ended_before (fate_of (foresees self.old.outlook)) self.old.packets }
+        ensures taken { self.new ≡ record self.old { packets = self.old.packets + 1 } }
     {
+        let t = self.tally.played.packets as u32;
+        let foreseen = self.foresight.at(t);
         self.tally.count(foreseen.copies);
-        let fate = self.latest.take(t, foreseen);
+        let fate = self.latest.take(t, &foreseen);
         if fate.is(Fate::Sure) {
             self.sure += 1;
         }
-        self.go_on(t, fate)
+        go_on(&mut self.stretch, t, fate)
     }
 
-    /// Goes on with the packet `t`, of this fate: the stretch so far is longer by it, or it ends and another one begins.
-    fn go_on(&mut self, t: u32, fate: Fate) -> Option<Stretch>
-        ensures ended { (fates : ℕ → Fate) → fate ≡ fates t → self.old.stretch ≡ stretch_at fates t
-            → result ≡ ended_before fates t }
-        ensures stretch { (fates : ℕ → Fate) → fate ≡ fates t → self.old.stretch ≡ stretch_at fates t
-            → self.new.stretch ≡ stretch_at fates (t + 1) }
-        ensures others { self.new ≡ record self.old { stretch = self.new.stretch } }
+    /// The stretch of the latest packet, as far as it goes.
+    pub fn stretch(&self) -> Option<Stretch>
+        ensures { result ≡ stretch_at (fate_of (foresees self.now.outlook)) self.now.packets }
     {
-        if let Some(stretch) = &mut self.stretch {
-            if stretch.fate.is(fate) {
-                stretch.last = t;
-                return None;
-            }
-        }
-        let ended = self.stretch;
-        self.stretch = Some(Stretch {
-            first: t,
-            last: t,
-            fate,
-        });
-        ended
+        self.stretch
     }
+
+    /// The numbers of the packets and of their copies.
+    pub fn played(&self) -> Played
+        ensures { result ≡ played_of (foresees self.now.outlook).copies self.now.packets }
+    {
+        self.tally.played
+    }
+
+    /// How many packets are sure.
+    pub fn sure(&self) -> u64
+        ensures { result ≡ sure_count (foresees self.now.outlook) self.now.packets }
+    {
+        self.sure
+    }
+}
+
+/// Goes on with the packet `t`, of this fate: the stretch so far is longer by it, or it ends and another one begins.
+fn go_on(stretch: &mut Option<Stretch>, t: u32, fate: Fate) -> Option<Stretch>
+    ensures ended { (fates : ℕ → Fate) → fate ≡ fates t → stretch.old ≡ stretch_at fates t
+        → result ≡ ended_before fates t }
+    ensures stretch { (fates : ℕ → Fate) → fate ≡ fates t → stretch.old ≡ stretch_at fates t
+        → stretch.new ≡ stretch_at fates (t + 1) }
+{
+    if let Some(latest) = stretch {
+        if latest.fate.is(fate) {
+            latest.last = t;
+            return None;
+        }
+    }
+    stretch.replace(Stretch {
+        first: t,
+        last: t,
+        fate,
+    })
 }

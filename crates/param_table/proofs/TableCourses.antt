@@ -105,20 +105,18 @@ last-table columns t found =
     λ i. to_report (end_row (packets i) (all i)) ∷ []
 
 -- the rest is owed after it
-pub Owes-next : (s new : Tabling) (packet : List Bool) (after : List ℕ) (n : ℕ) → IsTabling s → s.taken < 2 ^ 32 → n ≤ 256 → length packet ≡ length s.packet
-    → new.fields ≡ s.fields → new.taken ≡ s.taken + 1 → new.found ≡ s.found + n → new.packet ≡ packet → new.ahead ≡ after
-    → Owes new (work_on (left_to_tabulate s.fields (s.taken + 1) (s.found + n)) (length s.packet) (s.taken + 1) after)
-Owes-next s new packet after n right few most places fields taken found packet_is ahead =
-    let size : length s.packet ≡ length new.packet = sym places ∙ ap (λ (l : List Bool). length l) (sym packet_is) in
-    record {
-      work_is = λ i. work_on (left_to_tabulate (sym fields i) (sym taken i) (sym found i)) (size i) (sym taken i) (sym ahead i);
-      right = record {
-        vector = (omega (arith, right.vector.0, size), omega (arith, right.vector.1, size));
-        fit = subst (λ (l : List Column). AreColumns (length new.packet) l) (sym fields) (subst (λ (f : ℕ). AreColumns f s.fields) size right.fit);
-        taken = omega (arith, taken, few);
-        found = omega (arith, taken, found, right.found, most);
-      };
-    }
+pub Owes-next : (s : Tabling) (line : List ℕ) (packet : List Bool) (after : List ℕ) (n : ℕ) → IsTabling s → s.taken < 2 ^ 32 → n ≤ 256 → length packet ≡ length s.packet
+    → Owes (record { fields = s.fields; taken = s.taken + 1; found = s.found + n; ahead = after; packet = packet; line = line })
+    (work_on (left_to_tabulate s.fields (s.taken + 1) (s.found + n)) (length s.packet) (s.taken + 1) after)
+Owes-next s line packet after n right few most places = record {
+  work_is = λ i. work_on (left_to_tabulate s.fields (s.taken + 1) (s.found + n)) (sym places i) (s.taken + 1) after;
+  right = record {
+    vector = (omega (arith, right.vector.0, places), omega (arith, right.vector.1, places));
+    fit = subst (λ (f : ℕ). AreColumns f s.fields) (sym places) right.fit;
+    taken = omega (arith, few);
+    found = omega (arith, right.found, most);
+  };
+}
 
 -- ---- the first lines
 
@@ -148,15 +146,6 @@ table_parts-headers s none rest =
     (λ i. headers s.fields ∷ packets_texts s.fields 0 walk.inputs ++ if_whole walk.ending (to_report (end_row (sym count i) (sym found i)) ∷ []))
     ∙ λ i. headers s.fields ∷ parts_on (parts_left s.fields (sym none.taken i) (sym none.found i)) (length s.packet) (sym none.taken i) (sym none.ahead i) rest
 
-pub Owes-unread : (s new : Tabling) → HasTakenNothing s → new.fields ≡ s.fields → new.taken ≡ s.taken → new.found ≡ s.found → new.packet ≡ s.packet → new.ahead ≡ s.ahead → Owes new (rest_work s)
-Owes-unread s new none fields taken found packet ahead =
-    let size : length s.packet ≡ length new.packet = ap (λ (l : List Bool). length l) (sym packet) in
-    record {
-      work_is = λ i. work_on (left_to_tabulate (sym fields i) (sym taken i) (sym found i)) (size i) (sym taken i) (sym ahead i);
-      right = record {
-        vector = (omega (arith, none.vector.0, size), omega (arith, none.vector.1, size));
-        fit = subst (λ (l : List Column). AreColumns (length new.packet) l) (sym fields) (subst (λ (f : ℕ). AreColumns f s.fields) size none.fit);
-        taken = omega (arith, taken, none.taken);
-        found = omega (arith, taken, found, none.found);
-      };
-    }
+pub Owes-unread : (s : Tabling) (line : List ℕ) → HasTakenNothing s → Owes (record s { line = line }) (rest_work s)
+Owes-unread s line none =
+    record { work_is = refl; right = record { vector = none.vector; fit = none.fit; taken = omega (arith, none.taken); found = omega (arith, none.found) } }

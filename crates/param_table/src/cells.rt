@@ -1,13 +1,13 @@
 //! Numbers out of vectors.
 
-ghost use Rattle.std.specs.Prelude.{◌≡◌, ℕ, ◌+◌, ◌-◌, ◌^◌, ◌<◌, ◌≤◌, ◌==◌, false, length, slice_index_or, unsigned_abs};
-ghost use Rattle.std.specs.Int.{bit_at};
+ghost use Rattle.std.specs.Prelude.{◌≡◌, ◌+◌, ◌^◌, ◌<◌, ◌≤◌, length, unsigned_abs};
 ghost use Rattle.param_table.specs.Cells.{cell_in};
 
 use bit_vectors::Bits;
 
 /// The number of `width` bits, 1 to 64, that begins at a place of a packet's vector, the bit of the greatest weight first.
-/// A signed one whose first bit is 1 is less by 2 to the power `width`. It takes no memory.
+/// A signed one whose first bit is 1 is less by 2 to the power `width`. It looks at the one or two words of the vector that
+/// have the bits, and takes no memory.
 pub fn cell(packet: &Bits, place: u32, width: u32, signed: bool) -> i128
     requires some { 1 ≤ width }
     requires most { width ≤ 64 }
@@ -15,28 +15,17 @@ pub fn cell(packet: &Bits, place: u32, width: u32, signed: bool) -> i128
     ensures value { result ≡ cell_in packet.now place width signed }
     ensures small { unsigned_abs result < 2 ^ 64 }
 {
-    let word = word_from(packet, place, width);
+    let skipped = place % 64;
+    let first = packet.word(place / 64) << skipped;
+    let word = if skipped + width <= 64 {
+        first
+    } else {
+        first | (packet.word(place / 64 + 1) >> (64 - skipped))
+    };
     let number = word >> (64 - width);
     if signed && word >> 63 == 1 {
         i128::from(number) - 2 * i128::from(1u64 << (width - 1))
     } else {
         i128::from(number)
     }
-}
-
-/// A word whose first `width` bits are those of the vector from a place on. It looks at the one or two words of the vector
-/// that have them.
-fn word_from(packet: &Bits, place: u32, width: u32) -> u64
-    requires some { 1 ≤ width }
-    requires most { width ≤ 64 }
-    requires within { place + width ≤ length packet.now }
-    ensures { (k : ℕ) → k < width
-        → (bit_at result (63 - k) == 1) ≡ slice_index_or packet.now (place + k) false }
-{
-    let skipped = place % 64;
-    let first = packet.word(place / 64) << skipped;
-    if skipped + width <= 64 {
-        return first;
-    }
-    first | (packet.word(place / 64 + 1) >> (64 - skipped))
 }

@@ -10,10 +10,11 @@ ghost use Rattle.param_table.specs.Tabling.{table_parts, table_work};
 
 use crate::fault::TableFault;
 use crate::fields::Fields;
+use crate::line::Line;
 use crate::tabling::Tabling;
 use crate::writing::write_headers;
-use bit_vectors::NoMemory;
-use desk_ports::{Desk, Inlet, Outlet, drive};
+use bit_vectors::{Bits, NoMemory};
+use desk_ports::{Desk, Inlet, Outlet, ReadAhead, drive};
 use std::alloc::Global;
 use std::marker::Model;
 
@@ -43,8 +44,16 @@ impl Tabler {
         requires fit { AreColumns f fields }
         ensures { IfOk result (λ tabler. tabler ≡ record { places = f; columns = fields }) }
     {
-        let tabling = Tabling::open(alloc, f, fields)?;
-        Ok(Tabler { tabling })
+        Ok(Tabler {
+            tabling: Tabling {
+                fields,
+                taken: 0,
+                found: 0,
+                ahead: ReadAhead::open(alloc)?,
+                packet: Bits::zeros(alloc, f)?,
+                line: Line::open(alloc)?,
+            },
+        })
     }
 
     /// Tabulates the recording, and tells the number of its packets. It takes no memory.

@@ -1,16 +1,14 @@
 //! A recording that is being tabulated, packet by packet.
 
-ghost use Rattle.std.specs.Prelude.{◌≡◌, ◌≤◌, ◌-◌, ◌^◌, true, IfOk};
-ghost use Rattle.param_table.specs.Rows.{AreColumns};
+ghost use Rattle.std.specs.Prelude.{◌-◌, ◌^◌, true};
 
 use crate::fault::TableFault;
 use crate::fields::Fields;
 use crate::line::Line;
 use crate::writing::{write_end, write_packet};
-use bit_vectors::{Bits, NoMemory};
+use bit_vectors::Bits;
 use desk_ports::{Desk, ReadAhead, Run, Turn};
 use flight_chain::{RecordFault, read_input};
-use std::alloc::Global;
 
 /// The fields, how many packets were taken and how many values were found out of their limits; what is read of the
 /// recording, a vector for a packet, and a line for a text.
@@ -56,28 +54,5 @@ impl Run for Tabling {
         self.found += write_packet(desk, &mut self.line, columns, &self.packet, t)?;
         self.taken += 1;
         Ok(Turn::More)
-    }
-}
-
-impl Tabling {
-    ghost use Rattle.param_table.specs.Tabling.{IsTabling, HasTakenNothing, tabulation_of};
-
-    /// Nothing is read. Takes all memory of the run.
-    pub fn open(alloc: Global, f: u32, fields: Fields) -> Result<Tabling, NoMemory>
-        requires some { 1 ≤ f }
-        requires most { f ≤ 49152 }
-        requires fit { AreColumns f fields }
-        ensures none { IfOk result HasTakenNothing }
-        ensures opened { IfOk result
-            (λ tabling. tabulation_of tabling ≡ record { places = f; columns = fields }) }
-    {
-        Ok(Tabling {
-            fields,
-            taken: 0,
-            found: 0,
-            ahead: ReadAhead::open(alloc)?,
-            packet: Bits::zeros(alloc, f)?,
-            line: Line::open(alloc)?,
-        })
     }
 }

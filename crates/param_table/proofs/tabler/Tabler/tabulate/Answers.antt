@@ -31,7 +31,7 @@ returns-clause-ran g c =
     let s = c.self.inside.tabling in
     let wrote = subst (λ (columns : List Column). Wrote a b (headers columns)) c.columns.ensures c.in_ok-write_headers.ensures.wrote in
     let reached = Reaches-wrote (table_work (tabulation_of s)) (rest_work s) a b (headers s.fields) (Steps-headers s c.self.invariant) wrote in
-    let ran = c.drive.ensures.ran (rest_work s) (Owes-unread s (record s { line = c.write_headers.new.line }) c.self.invariant refl refl refl refl refl) in
+    let ran = c.drive.ensures.ran (rest_work s) (Owes-unread s c.write_headers.new.line c.self.invariant) in
     subst (λ (k : Tabulation). AfterRun (table_work k) a d (by_stop stop_by c.drive.result)) c.self.view_is (AfterRun-after (table_work (tabulation_of s)) (rest_work s) a b d (by_stop stop_by c.drive.result) reached ran)
 
 pub returns-in_err-write_headers-clause-order : goal.returns-in_err-write_headers-clause-order

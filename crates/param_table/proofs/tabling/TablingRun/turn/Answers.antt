@@ -86,7 +86,7 @@ returns-clause-turned g c = λ work owes.
     let wrote = subst (λ (columns : List Column). Wrote b d (packet_texts columns (c.in-Some.t, packet))) c.columns-columns.ensures c.in_ok-self.ensures.wrote in
     let count = c.in_ok-self.ensures.found ∙ ap (λ (columns : List Column). length (packet_violations columns (c.in-Some.t, packet))) c.columns-columns.ensures in
     let new : Tabling = record { fields = s.fields; taken = s.taken + 1; found = s.found + c.in_ok-self.field-0; ahead = after; packet = packet; line = c.write_packet.new.line } in
-    let owed = Owes-next s new packet after c.in_ok-self.field-0 owes.right told.taken.few c.in_ok-self.ensures.few told.taken.places refl refl refl refl refl in
+    let owed = Owes-next s c.write_packet.new.line packet after c.in_ok-self.field-0 owes.right told.taken.few c.in_ok-self.ensures.few told.taken.places in
     Advances-on reads owes.work_is wrote (subst (λ (n : ℕ). Owes new (work_on (left_to_tabulate s.fields (s.taken + 1) (s.found + n)) (length s.packet) (s.taken + 1) after)) count owed)
 
 -- ---- part by part
