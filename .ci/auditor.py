@@ -63,7 +63,7 @@ def reached():
         return files[crate, module]
 
     def follow(text, taken, own):
-        for word in dict.fromkeys(WORD.findall(text)):
+        for word in dict.fromkeys(WORD.findall(re.sub(r'"[^"]*"', '', text))):
             place = (*own, word) if own and word in file_of(*own)[0] else taken.get(word)
             if not place or place[0] not in CRATES or place in found:
                 continue

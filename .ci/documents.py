@@ -12,6 +12,7 @@ import xml.etree.ElementTree as xml
 import auditor
 import calls
 import names
+import places
 import page
 from table import table
 
@@ -183,6 +184,11 @@ def names_are_found():
     return "; ".join(names.unknown()) or None
 
 
+def places_are_told():
+    """The places of a verb and a key in CONTRIBUTING.md are those of the sources."""
+    return places.differences()
+
+
 def auditor_is_told():
     """Whether docs/HEADLINE.md lists every definition on which the headline stands."""
     return auditor.differences()
@@ -205,6 +211,7 @@ def tries():
         ("pictures of each line", draws_each), ("pictures of many packets", draws_many), ("pictures of forecasts", draws_forecasts), ("refused listings and forecasts", refuses),
         ("the caller that is shown", quotes_the_caller),
         ("laws, clauses and definitions of the documents", names_are_found), ("the form of each public call", calls_are_told), ("what an auditor reads", auditor_is_told),
+        ("the places of a verb and a key", places_are_told),
         ("help, manual page and README", page_agrees)]
 
 

@@ -8,18 +8,20 @@ use Rattle.desk_ports.specs.declared.desk.Inlet.TheVariants as inlet
 use Rattle.desk_ports.specs.Meanings.{Rose, left}
 use Rattle.desk_ports.specs.MemState.{mem_counts, mem_meanings}
 use Rattle.pocket_cmd.specs.Apart.{AreKeptAsMade}
-use Rattle.pocket_cmd.specs.Command.{Command, Forecast, ForecastValues, Restore, RestoreValues, command_of}
-use Rattle.pocket_cmd.specs.Courses.{bad_row_of, names_of}
+use Rattle.pocket_cmd.specs.Command.{Command, command_of, names_of}
+use Rattle.pocket_cmd.specs.Courses.{bad_row_of}
 use Rattle.pocket_cmd.specs.Delivery.{HasWritten, IsPlayedStore, IsSideRight, IsInputWhole}
 use Rattle.pocket_cmd.specs.Faults.{DataFault}
 use Rattle.pocket_cmd.specs.Kept.{Leaves}
 use Rattle.pocket_cmd.specs.Openings.{AreTold, side_given}
 use Rattle.pocket_cmd.specs.Outcome.{AfterRefusal, IsScriptFirst, IsSideJudged, IsTextBad, IsTextFirst, NoneRose, Stands, answer_to}
 use Rattle.pocket_cmd.specs.Status.{BadText, HasStatusCause, refusal_for, refusal_of, status_of}
+use Rattle.pocket_cmd.specs.Words.{Words}
 use Rattle.pocket_cmd.specs.declared.status.Refusal.{Refusal}
 use Rattle.pocket_cmd.specs.declared.status.Refusal.TheVariants as refusal
 use Rattle.pocket_cmd.specs.declared.status.Status.{Status}
 use Rattle.pocket_cmd.specs.declared.status.Status.TheVariants as status
+use Rattle.pocket_cmd.specs.declared.verbs.Verb.TheVariants.{Forecast, Restore}
 use Rattle.pocket_c.specs.Bench.{BenchState}
 
 -- the words give this command
@@ -46,18 +48,18 @@ pub record HasRun (old new : BenchState) (answer : Status) : Type 0 where
   pub bad_side : (command : Command) (text : List ℕ) (bad : BadText) → Gives old command
       → side_given (mem_meanings old.desk) (names_of command).side ≡ Some text → IsTextBad (bad_row_of command) text bad
       → answer ≢ status.Refused refusal.NoMemory → IsTextFirst inlet.Side (mem_meanings old.desk) text bad (mem_meanings new.desk) answer
-  pub bad_script : (f : ForecastValues) (plan script : List ℕ) (bad : BadText) → Gives old (Forecast f)
-      → AreTold (names_of (Forecast f)) (mem_meanings old.desk) plan script → IsSideRight (Forecast f) plan → IsTextBad bad_copy_row script bad
+  pub bad_script : (told : Words) (plan script : List ℕ) (bad : BadText) → Gives old (Forecast, told)
+      → AreTold (names_of (Forecast, told)) (mem_meanings old.desk) plan script → IsSideRight (Forecast, told) plan → IsTextBad bad_copy_row script bad
       → answer ≢ status.Refused refusal.NoMemory
-      → IsScriptFirst (Some f.plan) (mem_meanings old.desk) plan script bad (mem_meanings new.desk) answer
+      → IsScriptFirst (names_of (Forecast, told)).side (mem_meanings old.desk) plan script bad (mem_meanings new.desk) answer
   pub ends : (command : Command) (text input : List ℕ) → Gives old command → AreTold (names_of command) (mem_meanings old.desk) text input
       → answer ≢ status.Refused refusal.NoMemory → NoneRose (mem_counts old.desk) (mem_counts new.desk) → answer ≡ answer_to command text input
   pub complete : (command : Command) (text input : List ℕ) → Gives old command → AreTold (names_of command) (mem_meanings old.desk) text input
       → IsSideRight command text → IsInputWhole command input → answer ≢ status.Refused refusal.NoMemory
       → NoneRose (mem_counts old.desk) (mem_counts new.desk) → answer ≡ status.Done
-  pub headline : (r : RestoreValues) (h : History) (copies : ℕ → ℕ) → Gives old (Restore r) → IsPlayedStore r h copies (mem_meanings old.desk)
+  pub headline : (told : Words) (h : History) (copies : ℕ → ℕ) → Gives old (Restore, told) → IsPlayedStore told h copies (mem_meanings old.desk)
       → answer ≡ status.Done
-      → HasWritten (names_of (Restore r)) (record { output = restored_bytes h copies; report = report_text h copies }) (mem_meanings new.desk)
+      → HasWritten (names_of (Restore, told)) (record { output = restored_bytes h copies; report = report_text h copies }) (mem_meanings new.desk)
   pub cause : HasStatusCause (mem_counts old.desk) (mem_counts new.desk) answer
 
 -- the answers that an exit number comes with: there are six, and with each of them the clauses hold of an answer of its kind

@@ -13,8 +13,8 @@ use Rattle.pocket_cmd.specs.declared.status.Status.{Status}
 use Rattle.pocket_cmd.specs.declared.status.Status.TheVariants.{Refused}
 use Rattle.pocket_cmd.specs.declared.status.Refusal.{Refusal}
 use Rattle.pocket_cmd.specs.declared.status.Refusal.TheVariants as refusal
-use Rattle.pocket_cmd.specs.Command.{Command, Names}
-use Rattle.pocket_cmd.specs.Courses.{bad_row_of, bad_script_row_of, course_of, names_of}
+use Rattle.pocket_cmd.specs.Command.{Command, Names, names_of}
+use Rattle.pocket_cmd.specs.Courses.{bad_row_of, bad_script_row_of, course_of}
 use Rattle.pocket_cmd.specs.Jobs.{AfterMaking, IsJobOf, job_course}
 use Rattle.pocket_cmd.specs.Openings.{IsText, input_given, with_text}
 use Rattle.pocket_cmd.specs.Outcome.{AfterClass, AfterCommand, AfterNames, AfterText, AfterTextClass, IsAnsweredBy, IsBegun, IsNotBegun, IsScriptRefused, IsTextRight, OnceAllRead, answer_by, by_row, by_script, by_text, left_to_open}
@@ -46,14 +46,14 @@ IsEnded-made command text job old mid new answer made e =
 
 -- ---- the answer of a run
 
-longer : (text : List ℕ) → 1048576 < length text → nat_lt 1048576 (length text) ≡ true
+pub longer : (text : List ℕ) → 1048576 < length text → nat_lt 1048576 (length text) ≡ true
 longer text h = grind (arith, nat_tests)
 
 short : (text : List ℕ) → length text ≤ 1048576 → nat_lt 1048576 (length text) ≡ false
 short text h = grind (arith, nat_tests)
 
 -- a right text leaves the answer to what comes after it
-by_text-right : (i : Inlet) (bad_row : List ℕ → Option ℕ) (text : List ℕ) (status : Status) → IsTextRight bad_row text → by_text i text (bad_row text) status ≡ status
+pub by_text-right : (i : Inlet) (bad_row : List ℕ → Option ℕ) (text : List ℕ) (status : Status) → IsTextRight bad_row text → by_text i text (bad_row text) status ≡ status
 by_text-right i bad_row text status right =
     ap (λ b. cond b (Refused (refusal_for i class.Long)) (by_row i (bad_row text) status)) (short text right.0) ∙ ap (λ o. by_row i o status) right.1
 

@@ -1,5 +1,5 @@
 -- What the commands hand on to one another.
-use Rattle.std.proofs.Common.{◌≡◌, ℕ, ◌^◌, ◌<◌, ◌≤◌, List, [], length, All, sym, ap, ◌∙◌, subst, append-nil, arith}
+use Rattle.std.proofs.Common.{◌≡◌, ℕ, ◌^◌, ◌<◌, ◌≤◌, List, [], length, All, sym, ap, ◌∙◌, subst, append-nil, arith, codes}
 use Rattle.std.specs.Option.{option_map}
 use Rattle.std.specs.Prelude.{IfSome, None, Option, Some, unwrap_or}
 use Rattle.desk_ports.specs.Courses.{Outputs, by_ending, no_outputs, owed, to_output, to_report}
@@ -23,79 +23,82 @@ use Rattle.ground_chain.proofs.PlayedHistories.{count-chosen, walk-played, whole
 use Rattle.ground_chain.proofs.DeliveredRuns.{owed-played}
 use Rattle.ground_chain.specs.Deliveries.{report_text, restored_bytes}
 use Rattle.ground_chain.specs.Restoring.{restore_course}
-use Rattle.pocket_cmd.specs.Command.{AreRight, Compress, CompressValues, IsChosen, Play, PlayValues, Restore, RestoreValues}
+use Rattle.pocket_cmd.specs.declared.verbs.Verb.TheVariants.{Compress, Play, Restore}
+use Rattle.pocket_cmd.specs.Command.{IsRight}
+use Rattle.pocket_cmd.specs.Words.{Words, apid, bits, mask, robust, text_of}
 use Rattle.pocket_cmd.specs.Courses.{compression_by, course_of}
-use Rattle.pocket_cmd.specs.Masks.{IsPlaces}
 use Rattle.pocket_cmd.specs.Faults.{of_recording, of_store}
 use Rattle.pocket_cmd.specs.Delivery.{IsInputWhole, recorded_history}
 use Rattle.pocket_cmd.proofs.Faults.{owed-with_fault, unmapped}
+use Rattle.pocket_cmd.proofs.Masks.{length-first_mask}
 
 required_most : (o : Option ℕ) (robust : ℕ) → IfSome o (λ given. given ≤ 7) → robust ≤ 7 → unwrap_or o robust ≤ 7
 required_most None robust most least = least
 required_most (Some given) robust most least = most
 
 -- the history of a recording is valid
-pub IsValid-recorded : (c : CompressValues) (text recording : List ℕ) → AreRight c → All (λ b. b < 256) recording → IsValid (recorded_history c text recording)
+pub IsValid-recorded : (c : Words) (text recording : List ℕ) → IsRight (Compress, c) → All (λ b. b < 256) recording → IsValid (recorded_history c text recording)
 IsValid-recorded c text recording right bytes =
-    let (least, most) = right.bits in
-    let w = IsWalk-recording (length recording) c.bits 0 recording (omega arith) least (omega arith) bytes in
-    IsValid-history_of (recording_walk c.bits recording).inputs (flags_of (schedule_rows_of text).flags) (required_robustness (schedule_rows_of text).robust c.robust) c.bits c.mask
-    (omega (arith, right.mask, least), omega (arith, right.mask, most)) right.mask (let few = w.few in omega (arith, few)) w.places (λ t. required_most (robust_of (schedule_rows_of text).robust t) c.robust (robust_of-most (records_of text) t) right.robust)
+    let (_, (_, ((least, most), (_, ((_, required), _))))) = right in
+    let masked : length (mask c) ≡ bits c = length-first_mask (bits c) (text_of c (codes "mask")) in
+    let w = IsWalk-recording (length recording) (bits c) 0 recording (omega arith) least (omega arith) bytes in
+    IsValid-history_of (recording_walk (bits c) recording).inputs (flags_of (schedule_rows_of text).flags) (required_robustness (schedule_rows_of text).robust (robust c)) (bits c) (mask c)
+    (omega (arith, masked, least), omega (arith, masked, most)) masked (let few = w.few in omega (arith, few)) w.places (λ t. required_most (robust_of (schedule_rows_of text).robust t) (robust c) (robust_of-most (records_of text) t) required)
 
 -- what a whole recording owes is the store of its history
-pub owed-recorded : (c : CompressValues) (text recording : List ℕ) → IsInputWhole (Compress c) recording
-    → owed (course_of (Compress c) text recording) ≡ to_output (store_of (recorded_history c text recording) c.apid)
+pub owed-recorded : (c : Words) (text recording : List ℕ) → IsInputWhole (Compress, c) recording
+    → owed (course_of (Compress, c) text recording) ≡ to_output (store_of (recorded_history c text recording) (apid c))
 owed-recorded c text recording whole =
     sym (owed-with_fault of_recording (compress_course (compression_by c text) recording))
-    ∙ (ap (λ ending. by_ending ending (to_output (store_of (recorded_history c text recording) c.apid)) no_outputs) (unmapped of_recording (recording_walk c.bits recording).ending (whole.ends text))
-    ∙ ap to_output (append-nil (store_of (recorded_history c text recording) c.apid)))
+    ∙ (ap (λ ending. by_ending ending (to_output (store_of (recorded_history c text recording) (apid c))) no_outputs) (unmapped of_recording (recording_walk (bits c) recording).ending (whole.ends text))
+    ∙ ap to_output (append-nil (store_of (recorded_history c text recording) (apid c))))
 
 -- what playing the store of a history owes
-pub owed-played_store : (p : PlayValues) (h : History) (text : List ℕ) → IsChosen p.apid → IsValid h
-    → owed (course_of (Play p) text (store_of h p.apid))
-    ≡ record { output = played_bytes (copies_of (copy_rows_of text)) p.apid (store_of h p.apid); report = play_report (played_of (copies_of (copy_rows_of text)) (length h.steps)) }
+pub owed-played_store : (p : Words) (h : History) (text : List ℕ) → apid p ≤ 2046 → IsValid h
+    → owed (course_of (Play, p) text (store_of h (apid p)))
+    ≡ record { output = played_bytes (copies_of (copy_rows_of text)) (apid p) (store_of h (apid p)); report = play_report (played_of (copies_of (copy_rows_of text)) (length h.steps)) }
 owed-played_store p h text chosen valid =
     let copies : ℕ → ℕ = copies_of (copy_rows_of text) in
-    let store : List ℕ = store_of h p.apid in
-    sym (owed-with_fault of_store (play_course copies p.apid store))
-    ∙ (ap (λ ending. by_ending ending (to_output (played_bytes copies p.apid store)) (to_report (play_report (store_numbers copies p.apid store)))) (whole-store_of h p.apid valid chosen)
-    ∙ λ i. record { output = append-nil (played_bytes copies p.apid store) i; report = play_report (played_of copies (count-chosen h p.apid valid chosen i)) })
+    let store : List ℕ = store_of h (apid p) in
+    sym (owed-with_fault of_store (play_course copies (apid p) store))
+    ∙ (ap (λ ending. by_ending ending (to_output (played_bytes copies (apid p) store)) (to_report (play_report (store_numbers copies (apid p) store)))) (whole-store_of h (apid p) valid chosen)
+    ∙ λ i. record { output = append-nil (played_bytes copies (apid p) store) i; report = play_report (played_of copies (count-chosen h (apid p) valid chosen i)) })
 
-pub IsInputWhole-history : (p : PlayValues) (h : History) → IsChosen p.apid → IsValid h → IsInputWhole (Play p) (store_of h p.apid)
-IsInputWhole-history p h chosen valid = record { right = tt; ends = λ text. ap (option_map of_store) (whole-store_of h p.apid valid chosen) }
+pub IsInputWhole-history : (p : Words) (h : History) → apid p ≤ 2046 → IsValid h → IsInputWhole (Play, p) (store_of h (apid p))
+IsInputWhole-history p h chosen valid = record { right = tt; ends = λ text. ap (option_map of_store) (whole-store_of h (apid p) valid chosen) }
 
 -- what restoring it owes
-ending-played : (r : RestoreValues) (h : History) (copies : ℕ → ℕ) → IsChosen r.apid → IsValid h → length (arrivals copies (length h.steps)) ≤ 2 ^ 32
-    → (walk (Some r.apid) (played_bytes copies r.apid (store_of h r.apid))).ending ≡ None
-ending-played r h copies chosen valid few = ap (λ (w : Walk). w.ending) (walk-played h copies r.apid valid chosen few)
+ending-played : (r : Words) (h : History) (copies : ℕ → ℕ) → apid r ≤ 2046 → IsValid h → length (arrivals copies (length h.steps)) ≤ 2 ^ 32
+    → (walk (Some (apid r)) (played_bytes copies (apid r) (store_of h (apid r)))).ending ≡ None
+ending-played r h copies chosen valid few = ap (λ (w : Walk). w.ending) (walk-played h copies (apid r) valid chosen few)
 
-pub whole-restored : (r : RestoreValues) (h : History) (copies : ℕ → ℕ) → IsChosen r.apid → IsValid h → length (arrivals copies (length h.steps)) ≤ 2 ^ 32
-    → IsInputWhole (Restore r) (played_bytes copies r.apid (store_of h r.apid))
+pub whole-restored : (r : Words) (h : History) (copies : ℕ → ℕ) → apid r ≤ 2046 → IsValid h → length (arrivals copies (length h.steps)) ≤ 2 ^ 32
+    → IsInputWhole (Restore, r) (played_bytes copies (apid r) (store_of h (apid r)))
 whole-restored r h copies chosen valid few = record { right = tt; ends = λ text. ap (option_map of_store) (ending-played r h copies chosen valid few) }
 
-pub owed-restored : (r : RestoreValues) (h : History) (copies : ℕ → ℕ) → IsChosen r.apid → IsValid h → h.places ≡ r.bits → AreGapsShort copies (length h.steps) → length (arrivals copies (length h.steps)) ≤ 2 ^ 32
-    → owed (course_of (Restore r) [] (played_bytes copies r.apid (store_of h r.apid))) ≡ record { output = restored_bytes h copies; report = report_text h copies }
+pub owed-restored : (r : Words) (h : History) (copies : ℕ → ℕ) → apid r ≤ 2046 → IsValid h → h.places ≡ bits r → AreGapsShort copies (length h.steps) → length (arrivals copies (length h.steps)) ≤ 2 ^ 32
+    → owed (course_of (Restore, r) [] (played_bytes copies (apid r) (store_of h (apid r)))) ≡ record { output = restored_bytes h copies; report = report_text h copies }
 owed-restored r h copies chosen valid places short few =
-    let store : List ℕ = played_bytes copies r.apid (store_of h r.apid) in
-    sym (owed-with_fault of_store (restore_course r.bits r.apid store))
-    ∙ subst (λ f. owed (restore_course f r.apid store) ≡ record { output = restored_bytes h copies; report = report_text h copies }) places
-    (owed-played h copies r.apid valid chosen short (ending-played r h copies chosen valid few))
+    let store : List ℕ = played_bytes copies (apid r) (store_of h (apid r)) in
+    sym (owed-with_fault of_store (restore_course (bits r) (apid r) store))
+    ∙ subst (λ f. owed (restore_course f (apid r) store) ≡ record { output = restored_bytes h copies; report = report_text h copies }) places
+    (owed-played h copies (apid r) valid chosen short (ending-played r h copies chosen valid few))
 
 -- all three
-pub owed-chain : (c : CompressValues) (p : PlayValues) (r : RestoreValues) (plan script recording : List ℕ)
-    → AreRight c → IsChosen p.apid → IsPlaces r.bits × IsChosen r.apid → p.apid ≡ c.apid → r.apid ≡ c.apid → r.bits ≡ c.bits
-    → All (λ b. b < 256) recording → IsInputWhole (Compress c) recording
+pub owed-chain : (c p r : Words) (plan script recording : List ℕ)
+    → IsRight (Compress, c) → apid p ≤ 2046 → apid r ≤ 2046 → apid p ≡ apid c → apid r ≡ apid c → bits r ≡ bits c
+    → All (λ b. b < 256) recording → IsInputWhole (Compress, c) recording
     → AreGapsShort (copies_of (copy_rows_of script)) (length (recorded_history c plan recording).steps) → length (arrivals (copies_of (copy_rows_of script)) (length (recorded_history c plan recording).steps)) ≤ 2 ^ 32
-    → owed (course_of (Restore r) [] (owed (course_of (Play p) script (owed (course_of (Compress c) plan recording)).output)).output)
+    → owed (course_of (Restore, r) [] (owed (course_of (Play, p) script (owed (course_of (Compress, c) plan recording)).output)).output)
     ≡ record { output = restored_bytes (recorded_history c plan recording) (copies_of (copy_rows_of script)); report = report_text (recorded_history c plan recording) (copies_of (copy_rows_of script)) }
 owed-chain c p r plan script recording right chosen restoring same_play same_restore same_bits bytes whole short few =
     let h : History = recorded_history c plan recording in
     let copies : ℕ → ℕ = copies_of (copy_rows_of script) in
     let valid : IsValid h = IsValid-recorded c plan recording right bytes in
-    let stored : (owed (course_of (Compress c) plan recording)).output ≡ store_of h p.apid =
+    let stored : (owed (course_of (Compress, c) plan recording)).output ≡ store_of h (apid p) =
     ap (λ (all : Outputs). all.output) (owed-recorded c plan recording whole) ∙ ap (store_of h) (sym same_play) in
-    let handed : (owed (course_of (Play p) script (owed (course_of (Compress c) plan recording)).output)).output ≡ played_bytes copies r.apid (store_of h r.apid) =
-    ap (λ store. (owed (course_of (Play p) script store)).output) stored
+    let handed : (owed (course_of (Play, p) script (owed (course_of (Compress, c) plan recording)).output)).output ≡ played_bytes copies (apid r) (store_of h (apid r)) =
+    ap (λ store. (owed (course_of (Play, p) script store)).output) stored
     ∙ (ap (λ (all : Outputs). all.output) (owed-played_store p h script chosen valid)
     ∙ ap (λ apid. played_bytes copies apid (store_of h apid)) (same_play ∙ sym same_restore)) in
-    ap (λ store. owed (course_of (Restore r) [] store)) handed ∙ owed-restored r h copies restoring.1 valid (sym same_bits) short few
+    ap (λ store. owed (course_of (Restore, r) [] store)) handed ∙ owed-restored r h copies restoring valid (sym same_bits) short few

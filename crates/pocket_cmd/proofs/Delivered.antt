@@ -8,8 +8,8 @@ use Rattle.desk_ports.specs.declared.desk.Outlet.TheVariants as outlet
 use Rattle.desk_ports.specs.Courses.{Course, owed}
 use Rattle.desk_ports.specs.Meanings.{Meanings, made}
 use Rattle.pocket_cmd.specs.Faults.{DataFault}
-use Rattle.pocket_cmd.specs.Command.{Command, Names}
-use Rattle.pocket_cmd.specs.Courses.{bad_script_row_of, course_of, names_of}
+use Rattle.pocket_cmd.specs.Command.{Command, Names, names_of}
+use Rattle.pocket_cmd.specs.Courses.{bad_script_row_of, course_of}
 use Rattle.pocket_cmd.specs.Delivery.{HasWritten}
 use Rattle.pocket_cmd.specs.Openings.{all_finished, all_opened, input_given, side_given, with_input, with_output, with_report, with_text}
 use Rattle.pocket_cmd.specs.Outcome.{OnceAllRead, RunStands, Stands, left_to_open}
@@ -21,7 +21,7 @@ text_is None text told is e = absurd cc
 text_is (Some bytes) text told is e = is ∙ same_Some _ _ e
 
 -- and reading it leaves the input
-given-with_side : (m : Meanings) (side input : Option (List ℕ)) → input_given (with_text m inlet.Side side) input ≡ input_given m input
+pub given-with_side : (m : Meanings) (side input : Option (List ℕ)) → input_given (with_text m inlet.Side side) input ≡ input_given m input
 given-with_side m None input = refl
 given-with_side m (Some other) None = refl
 given-with_side m (Some other) (Some name) = refl

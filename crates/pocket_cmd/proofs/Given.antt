@@ -1,21 +1,23 @@
 -- What right words give: values within their bounds, and no name that no word gives.
-use Rattle.std.proofs.Common.{◌≡◌, ℕ, ◌+◌, ◌<◌, ◌≤◌, ◌&&◌, ◌||◌, Bool, true, false, not, cond, eqb, nat_lt, is_some, unwrap_or, List, [], ◌∷◌, ◌++◌, length, get_or, Option, Some, None, Result, Ok, refl, sym, ap, ◌∙◌, subst, codes, add-one, arith}
-use Rattle.std.specs.Prelude.{IfSome, IsSome}
+use Rattle.std.proofs.Common.{◌≡◌, ℕ, ◌+◌, ◌<◌, ◌≤◌, ◌&&◌, ◌||◌, Bool, true, false, not, cond, eqb, nat_le, nat_lt, is_some, List, [], ◌∷◌, ◌++◌, length, get_or, Option, Some, None, Result, Ok, refl, sym, ap, ◌∙◌, subst, codes, add-one, arith}
+use Rattle.std.specs.Prelude.{IfSome, IsSome, if◌then◌else◌}
 use Rattle.std.specs.List.{Contains, list_any, position_or_len}
 use Rattle.std.specs.Str.{bytes_eq}
 use Rattle.std.proofs.lemmas.Bool.Decides.{nat_tests}
+use Rattle.std.proofs.lemmas.Map.Views.{Contains-from_any}
 use Rattle.std.proofs.lemmas.List.Sums.{split_at_first, passes_at_first}
 use Rattle.std.proofs.lemmas.Slice.Eq.{bytes_eq-Decides}
 use Rattle.pocket_cmd.specs.declared.verbs.Verb.{Verb}
 use Rattle.pocket_cmd.specs.declared.verbs.Verb.TheVariants as verb
-use Rattle.pocket_cmd.specs.declared.verbs.Kind.TheVariants.{Number}
-use Rattle.pocket_cmd.specs.Verbs.{Row, kind_of, rows_of, verb_of}
-use Rattle.pocket_cmd.specs.Words.{Assigns, AssignsToOne, fault_of, fits_key, has_key, input_keys, side_keys, is_equals_sign, is_missing, is_right, is_split, key_in, number_at, number_in, or_missing, or_word, text_in, text_of, wrong_mask, wrong_word}
+use Rattle.pocket_cmd.specs.declared.verbs.Port.{Port}
+use Rattle.pocket_cmd.specs.declared.verbs.Port.TheVariants as port
+use Rattle.pocket_cmd.specs.declared.verbs.Kind.{Kind}
+use Rattle.pocket_cmd.specs.declared.verbs.Kind.TheVariants.{Name, Number, Mask}
+use Rattle.pocket_cmd.specs.Verbs.{Row, is_name_at, kind_of, rows_of, verb_of}
+use Rattle.pocket_cmd.specs.Words.{Words, Assigns, AssignsToOne, bits, fault_of, fits_key, has_key, is_equals_sign, is_missing, is_right, is_split, key_in, keys_at, name_of, number_at, number_in, or_missing, or_word, text_in, text_of, wrong_mask, wrong_word}
 use Rattle.pocket_cmd.specs.Masks.{IsPlaces}
-use Rattle.pocket_cmd.specs.Command.{AreGiven, Command, IsRight, command_after, command_by, command_of, name_at, unless_fault}
-use Rattle.pocket_cmd.specs.Courses.{names_of}
+use Rattle.pocket_cmd.specs.Command.{AreGiven, AreWithin, Command, IsRight, IsWithin, command_after, command_of, unless_fault}
 use Rattle.pocket_cmd.proofs.Bounds.{number_in-bounds}
-use Rattle.pocket_cmd.proofs.Masks.{length-first_mask}
 
 -- ---- a word and its parts
 
@@ -30,12 +32,12 @@ split_joined word split =
       equal : (m n : ℕ) → eqb m n ≡ true → m ≡ n
       equal m n h = grind (arith, nat_tests)
 
-later : (word : List ℕ) (words : List (List ℕ)) (text : List ℕ) → Contains words text → Contains (word ∷ words) text
+pub later : (word : List ℕ) (words : List (List ℕ)) (text : List ℕ) → Contains words text → Contains (word ∷ words) text
 later word words text h = (h.0 + 1, omega (arith, h.1), shifted h.0 h.2) where
   shifted : (k : ℕ) → get_or words k text ≡ text → get_or (word ∷ words) (k + 1) text ≡ text
   shifted k e = rw add-one e
 
-both : (a b : Bool) → (a && b) ≡ true → (a ≡ true) × (b ≡ true)
+pub both : (a b : Bool) → (a && b) ≡ true → (a ≡ true) × (b ≡ true)
 both true true e = (refl, refl)
 both true false e = absurd cc
 both false b e = absurd cc
@@ -86,20 +88,20 @@ fits-text_of rows before (word ∷ words) key text right e = by_right (is_right 
 abbrev pub needs : List Row → List ℕ → Bool
 needs rows key = list_any (λ (row : Row). row.is_needed && bytes_eq row.key key) rows
 
-pub text_of-needed : (rows : List Row) (words : List (List ℕ)) (key : List ℕ) → is_missing rows words ≡ false → needs rows key ≡ true → text_of words key ≡ Some (name_at words key)
+pub text_of-needed : (rows : List Row) (words : Words) (key : List ℕ) → is_missing rows words ≡ false → needs rows key ≡ true → (text : List ℕ) × (text_of words key ≡ Some text)
 text_of-needed [] words key whole need = absurd cc
 text_of-needed (row ∷ rows) words key whole need = by_row row.is_needed (bytes_eq row.key key) refl whole need (text_of-needed rows words key) where
   others : (a b : Bool) → (a || b) ≡ false → b ≡ false
   others true b e = absurd cc
   others false b e = e
 
-  told : (o : Option (List ℕ)) (rest : Bool) → (not (is_some o) || rest) ≡ false → o ≡ Some (unwrap_or o [])
+  told : (o : Option (List ℕ)) (rest : Bool) → (not (is_some o) || rest) ≡ false → (text : List ℕ) × (o ≡ Some text)
   told None rest e = absurd cc
-  told (Some text) rest e = refl
+  told (Some text) rest e = (text, refl)
 
   by_row : (n b : Bool) → bytes_eq row.key key ≡ b → ((n && not (is_some (text_of words row.key))) || is_missing rows words) ≡ false → ((n && b) || needs rows key) ≡ true
-      → (is_missing rows words ≡ false → needs rows key ≡ true → text_of words key ≡ Some (name_at words key)) → text_of words key ≡ Some (name_at words key)
-  by_row true true is whole need below = subst (λ key. text_of words key ≡ Some (name_at words key)) ((bytes_eq-Decides row.key key).0 is) (told (text_of words row.key) (is_missing rows words) whole)
+      → (is_missing rows words ≡ false → needs rows key ≡ true → (text : List ℕ) × (text_of words key ≡ Some text)) → (text : List ℕ) × (text_of words key ≡ Some text)
+  by_row true true is whole need below = subst (λ key. (text : List ℕ) × (text_of words key ≡ Some text)) ((bytes_eq-Decides row.key key).0 is) (told (text_of words row.key) (is_missing rows words) whole)
   by_row true false is whole need below = below (others (not (is_some (text_of words row.key))) (is_missing rows words) whole) need
   by_row false b is whole need below = below whole need
 
@@ -120,115 +122,145 @@ AreSound-by rows words h = by_word (wrong_word rows [] words) refl h where
   by_word (Some place) is e = absurd cc
 
 -- a number is within the bounds of its row
-number_at-within : (rows : List Row) (words : List (List ℕ)) (key : List ℕ) (low high : ℕ) → AreSound rows words → kind_of rows key ≡ Some (Number low high) → needs rows key ≡ true → high ≤ 4294967295
+number_at-within : (rows : List Row) (words : Words) (key : List ℕ) (low high : ℕ) → AreSound rows words → kind_of rows key ≡ Some (Number low high) → needs rows key ≡ true → high ≤ 4294967295
     → (low ≤ number_at words key) × (number_at words key ≤ high)
 number_at-within rows words key low high sound kind need most =
-    let at = text_of-needed rows words key sound.whole need in
-    let (so_far, fit) = fits-text_of rows [] words key (name_at words key) sound.right at in
+    let (text, at) = text_of-needed rows words key sound.whole need in
+    let (so_far, fit) = fits-text_of rows [] words key text sound.right at in
     subst (λ o. (low ≤ number_in o) × (number_in o ≤ high)) (sym at)
-    (number_in-bounds low high (name_at words key) most (subst (λ kind. fits_key rows so_far kind (name_at words key) ≡ true) kind fit))
+    (number_in-bounds low high text most (subst (λ kind. fits_key rows so_far kind text ≡ true) kind fit))
 
--- the values of a verb are within their bounds
-pub IsRight-command_by : (v : Verb) (words : List (List ℕ)) → fault_of (rows_of v) words ≡ None → IsRight (command_by v words)
-IsRight-command_by v words h = by_verb v (AreSound-by (rows_of v) words h) where
-  by_verb : (v : Verb) → AreSound (rows_of v) words → IsRight (command_by v words)
-  by_verb verb.Compress s = record {
-    bits = number_at-within (rows_of verb.Compress) words (codes "bits") 1 49152 s refl refl (omega arith);
-    apid = (number_at-within (rows_of verb.Compress) words (codes "apid") 0 2046 s refl refl (omega arith)).1;
-    robust = (number_at-within (rows_of verb.Compress) words (codes "robust") 0 7 s refl refl (omega arith)).1;
-    mask = length-first_mask (number_at words (codes "bits")) (text_of words (codes "mask"));
-  }
-  by_verb verb.Play s = (number_at-within (rows_of verb.Play) words (codes "apid") 0 2046 s refl refl (omega arith)).1
-  by_verb verb.Restore s = (
-    number_at-within (rows_of verb.Restore) words (codes "bits") 1 49152 s refl refl (omega arith),
-    (number_at-within (rows_of verb.Restore) words (codes "apid") 0 2046 s refl refl (omega arith)).1,
-  )
-  by_verb verb.Show s = (
-    number_at-within (rows_of verb.Show) words (codes "bits") 1 49152 s refl refl (omega arith),
-    (number_at-within (rows_of verb.Show) words (codes "apid") 0 2046 s refl refl (omega arith)).1,
-  )
-  by_verb verb.Trial s = record {
-    seed = (number_at-within (rows_of verb.Trial) words (codes "seed") 0 4294967295 s refl refl (omega arith)).1;
-    packets = number_at-within (rows_of verb.Trial) words (codes "packets") 1 10000 s refl refl (omega arith);
-    bits = number_at-within (rows_of verb.Trial) words (codes "bits") 1 4096 s refl refl (omega arith);
-    robust = (number_at-within (rows_of verb.Trial) words (codes "robust") 0 7 s refl refl (omega arith)).1;
-  }
-  by_verb verb.Multi s = tt
-  by_verb verb.Late s = record {
-    bits = number_at-within (rows_of verb.Late) words (codes "bits") 1 49152 s refl refl (omega arith);
-    apid = (number_at-within (rows_of verb.Late) words (codes "apid") 0 2046 s refl refl (omega arith)).1;
-    window = (number_at-within (rows_of verb.Late) words (codes "window") 0 64 s refl refl (omega arith)).1;
-  }
-  by_verb verb.Table s = number_at-within (rows_of verb.Table) words (codes "bits") 1 49152 s refl refl (omega arith)
-  by_verb verb.Forecast s = record {
-    packets = number_at-within (rows_of verb.Forecast) words (codes "packets") 1 1000000 s refl refl (omega arith);
-    robust = (number_at-within (rows_of verb.Forecast) words (codes "robust") 0 7 s refl refl (omega arith)).1;
-  }
+-- ---- the keys of a verb
 
--- ---- names
+-- the key of the first row for what is opened there
+abbrev pub key_at : List Row → Port → Option (List ℕ)
+key_at [] at = None
+key_at (row ∷ rows) at = if is_name_at at row.kind then Some row.key else key_at rows at
 
--- each of the verb's names is one that a word gives
-module _ (word : List ℕ) (words : List (List ℕ)) where
-  given : (key : List ℕ) → IfSome (text_of words key) (Assigns (word ∷ words) key)
-  given key = by_text (text_of words key) refl where
-    by_text : (o : Option (List ℕ)) → text_of words key ≡ o → IfSome o (Assigns (word ∷ words) key)
-    by_text None is = tt
-    by_text (Some text) is = later word words _ (Assigns-text_of words key text is)
+abbrev pub text_at : Words → Option (List ℕ) → Option (List ℕ)
+text_at words None = None
+text_at words (Some key) = text_of words key
 
-  given_needed : (rows : List Row) (key : List ℕ) → is_missing rows words ≡ false → needs rows key ≡ true → Assigns (word ∷ words) key (name_at words key)
-  given_needed rows key whole need = later word words _ (Assigns-text_of words key (name_at words key) (text_of-needed rows words key whole need))
+pub name_of-key_at : (rows : List Row) (words : Words) (at : Port) → name_of rows words at ≡ text_at words (key_at rows at)
+name_of-key_at [] words at = refl
+name_of-key_at (row ∷ rows) words at = by_test (is_name_at at row.kind) (name_of-key_at rows words at) where
+  by_test : (b : Bool) → name_of rows words at ≡ text_at words (key_at rows at) → cond b (text_of words row.key) (name_of rows words at) ≡ text_at words (cond b (Some row.key) (key_at rows at))
+  by_test true others = refl
+  by_test false others = others
 
-  -- a key is one of these
-  one_of : (keys : List (List ℕ)) (key : List ℕ) → Contains keys key → (o : Option (List ℕ)) → IfSome o (Assigns (word ∷ words) key) → IfSome o (AssignsToOne (word ∷ words) keys)
-  one_of keys key in_keys None h = tt
-  one_of keys key in_keys (Some name) h = (key, in_keys, h)
+abbrev pub is_side : Port → Bool
+is_side port.Side = true
+is_side _ = false
 
-  plan : Contains side_keys (codes "plan")
-  plan = (0, omega arith, refl)
+-- a key for the name of what is opened there is one of these, and is needed unless that is a side input
+pub record IsKeyAt (rows : List Row) (at : Port) (key : List ℕ) : Type 0 where
+  pub kind : kind_of rows key ≡ Some (Name at)
+  pub known : list_any (bytes_eq key) (keys_at at) ≡ true
+  pub needed : (is_side at || needs rows key) ≡ true
 
-  script : Contains side_keys (codes "script")
-  script = (1, omega arith, refl)
+-- a key that has a number is needed, and no other row has it
+abbrev IsNumbered : List Row → List ℕ → Kind → Type 0
+IsNumbered rows key (Number low high) = (kind_of rows key ≡ Some (Number low high)) × ((needs rows key && nat_le high 4294967295) ≡ true)
+IsNumbered rows key (Name at) = Unit
+IsNumbered rows key Mask = Unit
 
-  fields : Contains side_keys (codes "fields")
-  fields = (2, omega arith, refl)
+abbrev AreNumbered : List Row → List Row → Type 0
+AreNumbered all [] = Unit
+AreNumbered all (row ∷ rows) = IsNumbered all row.key row.kind × AreNumbered all rows
 
-  streams : Contains side_keys (codes "streams")
-  streams = (3, omega arith, refl)
+-- a mask has as many places as a packet has bits
+abbrev HasPlaces : List Row → Option Kind → Type 0
+HasPlaces rows mask = IfSome mask (λ _. (kind_of rows (codes "bits") ≡ Some (Number 1 49152)) × (needs rows (codes "bits") ≡ true))
 
-  in_ : Contains input_keys (codes "in")
-  in_ = (0, omega arith, refl)
+pub record AreKeys (rows : List Row) : Type 0 where
+  pub side : IfSome (key_at rows port.Side) (IsKeyAt rows port.Side)
+  pub input : IfSome (key_at rows port.Input) (IsKeyAt rows port.Input)
+  pub output : IfSome (key_at rows port.Output) (IsKeyAt rows port.Output)
+  pub report : IfSome (key_at rows port.Report) (IsKeyAt rows port.Report)
+  pub has_output : IsSome (key_at rows port.Output)
+  pub numbers : AreNumbered rows rows
+  pub mask : HasPlaces rows (kind_of rows (codes "mask"))
 
-  script_in : Contains input_keys (codes "script")
-  script_in = (1, omega arith, refl)
+pub keys_of : (v : Verb) → AreKeys (rows_of v)
+keys_of verb.Compress = search
+keys_of verb.Play = search
+keys_of verb.Restore = search
+keys_of verb.Show = search
+keys_of verb.Trial = search
+keys_of verb.Multi = search
+keys_of verb.Late = search
+keys_of verb.Table = search
+keys_of verb.Forecast = search
 
-  read_from : (keys : List (List ℕ)) (rows : List Row) (key : List ℕ) → Contains keys key → is_missing rows words ≡ false → needs rows key ≡ true → AssignsToOne (word ∷ words) keys (name_at words key)
-  read_from keys rows key in_keys whole need = (key, in_keys, given_needed rows key whole need)
+-- ---- what words without a fault give to them
 
-  AreGiven-command_by : (v : Verb) → is_missing (rows_of v) words ≡ false → AreGiven (word ∷ words) (names_of (command_by v words))
-  AreGiven-command_by verb.Compress w = record { side = one_of side_keys (codes "plan") plan (text_of words (codes "plan")) (given (codes "plan")); input = read_from input_keys (rows_of verb.Compress) (codes "in") in_ w refl; output = given_needed (rows_of verb.Compress) (codes "out") w refl; report = tt }
-  AreGiven-command_by verb.Play w = record { side = read_from side_keys (rows_of verb.Play) (codes "script") script w refl; input = read_from input_keys (rows_of verb.Play) (codes "in") in_ w refl; output = given_needed (rows_of verb.Play) (codes "out") w refl; report = given_needed (rows_of verb.Play) (codes "report") w refl }
-  AreGiven-command_by verb.Restore w = record { side = tt; input = read_from input_keys (rows_of verb.Restore) (codes "in") in_ w refl; output = given_needed (rows_of verb.Restore) (codes "out") w refl; report = given_needed (rows_of verb.Restore) (codes "report") w refl }
-  AreGiven-command_by verb.Show w = record { side = tt; input = read_from input_keys (rows_of verb.Show) (codes "in") in_ w refl; output = given_needed (rows_of verb.Show) (codes "out") w refl; report = tt }
-  AreGiven-command_by verb.Trial w = record { side = tt; input = tt; output = given_needed (rows_of verb.Trial) (codes "out") w refl; report = tt }
-  AreGiven-command_by verb.Multi w = record { side = read_from side_keys (rows_of verb.Multi) (codes "streams") streams w refl; input = read_from input_keys (rows_of verb.Multi) (codes "in") in_ w refl; output = given_needed (rows_of verb.Multi) (codes "out") w refl; report = given_needed (rows_of verb.Multi) (codes "report") w refl }
-  AreGiven-command_by verb.Late w = record { side = tt; input = read_from input_keys (rows_of verb.Late) (codes "in") in_ w refl; output = given_needed (rows_of verb.Late) (codes "out") w refl; report = given_needed (rows_of verb.Late) (codes "report") w refl }
-  AreGiven-command_by verb.Table w = record { side = read_from side_keys (rows_of verb.Table) (codes "fields") fields w refl; input = read_from input_keys (rows_of verb.Table) (codes "in") in_ w refl; output = given_needed (rows_of verb.Table) (codes "out") w refl; report = given_needed (rows_of verb.Table) (codes "report") w refl }
-  AreGiven-command_by verb.Forecast w = record { side = read_from side_keys (rows_of verb.Forecast) (codes "plan") plan w refl; input = read_from input_keys (rows_of verb.Forecast) (codes "script") script_in w refl; output = given_needed (rows_of verb.Forecast) (codes "out") w refl; report = tt }
+module _ (rows : List Row) (words : Words) (sound : AreSound rows words) (keys : AreKeys rows) where
+  pub key_for : (at : Port) → IfSome (key_at rows at) (IsKeyAt rows at)
+  key_for port.Side = keys.side
+  key_for port.Input = keys.input
+  key_for port.Output = keys.output
+  key_for port.Report = keys.report
 
--- the values of a command are within their bounds, and its names are those that words give
-pub record IsCommand (words : List (List ℕ)) (command : Command) : Type 0 where
+  -- there is a name if there is a key for it
+  pub is_some-name_of : (at : Port) → is_side at ≡ false → is_some (name_of rows words at) ≡ is_some (key_at rows at)
+  is_some-name_of at other = ap is_some (name_of-key_at rows words at) ∙ by_key (key_at rows at) (key_for at) where
+    second : (a b : Bool) → a ≡ false → (a || b) ≡ true → b ≡ true
+    second true b is e = absurd cc
+    second false b is e = e
+
+    by_key : (o : Option (List ℕ)) → IfSome o (IsKeyAt rows at) → is_some (text_at words o) ≡ is_some o
+    by_key None key = refl
+    by_key (Some key) is = ap is_some (text_of-needed rows words key sound.whole (second (is_side at) (needs rows key) other is.needed)).1
+
+  -- the numbers are within their bounds
+  AreWithin-sound : (more : List Row) → AreNumbered rows more → AreWithin more words
+  AreWithin-sound [] numbers = tt
+  AreWithin-sound (row ∷ more) numbers = (by_kind row.kind numbers.0, AreWithin-sound more numbers.1) where
+    by_kind : (kind : Kind) → IsNumbered rows row.key kind → IsWithin kind (number_at words row.key)
+    by_kind (Name at) h = tt
+    by_kind Mask h = tt
+    by_kind (Number low high) h =
+        let (need, most) = both (needs rows row.key) (nat_le high 4294967295) h.1 in
+        number_at-within rows words row.key low high sound h.0 need (below high 4294967295 most) where
+          below : (m n : ℕ) → nat_le m n ≡ true → m ≤ n
+          below m n h = grind (arith, nat_tests)
+
+  -- each name is one that a word gives
+  given : (word : List ℕ) (at : Port) → IfSome (name_of rows words at) (AssignsToOne (word ∷ words) (keys_at at))
+  given word at = subst (λ o. IfSome o (AssignsToOne (word ∷ words) (keys_at at))) (sym (name_of-key_at rows words at)) (by_key (key_at rows at) (key_for at)) where
+    by_text : (key : List ℕ) → IsKeyAt rows at key → (o : Option (List ℕ)) → text_of words key ≡ o → IfSome o (AssignsToOne (word ∷ words) (keys_at at))
+    by_text key key_is None is = tt
+    by_text key key_is (Some text) is =
+        (key, Contains-from_any (λ one other. (bytes_eq-Decides one other).0) key (keys_at at) key_is.known, later word words _ (Assigns-text_of words key text is))
+
+    by_key : (o : Option (List ℕ)) → IfSome o (IsKeyAt rows at) → IfSome (text_at words o) (AssignsToOne (word ∷ words) (keys_at at))
+    by_key None key = tt
+    by_key (Some key) key_is = by_text key key_is (text_of words key) refl
+
+-- the numbers of a command are within their bounds, and its names are those that words give
+pub IsRight-sound : (v : Verb) (words : Words) → fault_of (rows_of v) words ≡ None → IsRight (v, words)
+IsRight-sound v words h = AreWithin-sound (rows_of v) words (AreSound-by (rows_of v) words h) (keys_of v) (rows_of v) (keys_of v).numbers
+
+pub record IsCommand (words : Words) (command : Command) : Type 0 where
   pub right : IsRight command
-  pub given : AreGiven words (names_of command)
+  pub given : AreGiven words command
+  pub sound : AreSound (rows_of command.0) command.1
 
-pub IsCommand-command_of : (words : List (List ℕ)) (command : Command) → command_of words ≡ Ok command → IsCommand words command
+IsCommand-sound : (word : List ℕ) (v : Verb) (words : Words) → fault_of (rows_of v) words ≡ None → IsCommand (word ∷ words) (v, words)
+IsCommand-sound word v words h =
+    let sound = AreSound-by (rows_of v) words h in
+    record {
+      right = IsRight-sound v words h;
+      given = record { names = given (rows_of v) words sound (keys_of v) word; output = is_some-name_of (rows_of v) words sound (keys_of v) port.Output refl ∙ (keys_of v).has_output };
+      sound = sound;
+    }
+
+pub IsCommand-command_of : (words : Words) (command : Command) → command_of words ≡ Ok command → IsCommand words command
 IsCommand-command_of [] command e = absurd cc
 IsCommand-command_of (word ∷ words) command e = by_verb (verb_of word) e where
-  by_fault : (v : Verb) (o : Option ℕ) → fault_of (rows_of v) words ≡ o → unless_fault o (command_by v words) ≡ Ok command → IsCommand (word ∷ words) command
+  by_fault : (v : Verb) (o : Option ℕ) → fault_of (rows_of v) words ≡ o → unless_fault o (v, words) ≡ Ok command → IsCommand (word ∷ words) command
   by_fault v (Some place) is e = absurd cc
-  by_fault v None is e = subst (IsCommand (word ∷ words)) (same e) (record {
-    right = IsRight-command_by v words is;
-    given = AreGiven-command_by word words v (AreSound-by (rows_of v) words is).whole;
-  }) where
+  by_fault v None is e = subst (IsCommand (word ∷ words)) (same e) (IsCommand-sound word v words is) where
     same : {x y : Command} → ◌≡◌ {A = Result Command ℕ} (Ok x) (Ok y) → x ≡ y
     same e = cc
 
@@ -239,25 +271,16 @@ IsCommand-command_of (word ∷ words) command e = by_verb (verb_of word) e where
 -- ---- the mask
 
 -- a verb whose words give a mask has the bits of a packet
-pub IsPlaces-with_mask : (v : Verb) (words : List (List ℕ)) → wrong_word (rows_of v) [] words ≡ None → is_missing (rows_of v) words ≡ false → IsSome (text_of words (codes "mask")) → IsPlaces (number_at words (codes "bits"))
-IsPlaces-with_mask v words right whole given = by_verb v (record { right = right; whole = whole }) where
-  none : (rows : List Row) → AreSound rows words → kind_of rows (codes "mask") ≡ None → (o : Option (List ℕ)) → text_of words (codes "mask") ≡ o → IsSome o → ⊥
-  none rows s kind (Some text) is h =
-      let (so_far, fit) = fits-text_of rows [] words (codes "mask") text s.right is in
-      no (subst (λ kind. fits_key rows so_far kind text ≡ true) kind fit) where
+pub IsPlaces-with_mask : (v : Verb) (words : Words) → wrong_word (rows_of v) [] words ≡ None → is_missing (rows_of v) words ≡ false → IsSome (text_of words (codes "mask")) → IsPlaces (bits words)
+IsPlaces-with_mask v words right whole given = by_kind (kind_of (rows_of v) (codes "mask")) refl (keys_of v).mask where
+  none : (o : Option (List ℕ)) → text_of words (codes "mask") ≡ o → IsSome o → kind_of (rows_of v) (codes "mask") ≡ None → ⊥
+  none None is h kind = cc
+  none (Some text) is h kind =
+      let (so_far, fit) = fits-text_of (rows_of v) [] words (codes "mask") text right is in
+      no (subst (λ kind. fits_key (rows_of v) so_far kind text ≡ true) kind fit) where
         no : ◌≡◌ {A = Bool} false true → ⊥
         no e = cc
-  none rows s kind None is h = no h where
-    no : ◌≡◌ {A = Bool} false true → ⊥
-    no e = cc
 
-  by_verb : (v : Verb) → AreSound (rows_of v) words → IsPlaces (number_at words (codes "bits"))
-  by_verb verb.Compress s = number_at-within (rows_of verb.Compress) words (codes "bits") 1 49152 s refl refl (omega arith)
-  by_verb verb.Play s = absurd (none _ s refl _ refl given)
-  by_verb verb.Restore s = number_at-within (rows_of verb.Restore) words (codes "bits") 1 49152 s refl refl (omega arith)
-  by_verb verb.Show s = number_at-within (rows_of verb.Show) words (codes "bits") 1 49152 s refl refl (omega arith)
-  by_verb verb.Trial s = absurd (none _ s refl _ refl given)
-  by_verb verb.Multi s = absurd (none _ s refl _ refl given)
-  by_verb verb.Late s = number_at-within (rows_of verb.Late) words (codes "bits") 1 49152 s refl refl (omega arith)
-  by_verb verb.Table s = number_at-within (rows_of verb.Table) words (codes "bits") 1 49152 s refl refl (omega arith)
-  by_verb verb.Forecast s = absurd (none _ s refl _ refl given)
+  by_kind : (o : Option Kind) → kind_of (rows_of v) (codes "mask") ≡ o → HasPlaces (rows_of v) o → IsPlaces (bits words)
+  by_kind None is places = absurd (none (text_of words (codes "mask")) refl given is)
+  by_kind (Some kind) is (places, need) = number_at-within (rows_of v) words (codes "bits") 1 49152 (record { right = right; whole = whole }) places need (omega arith)

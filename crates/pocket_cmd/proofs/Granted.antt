@@ -1,47 +1,58 @@
 -- What words that give a command grant, and how its answer is told.
 use Rattle.std.specs.List.{Contains}
-use Rattle.std.proofs.Common.{refl, arith, ◌≡◌, ◌≢◌, ℕ, zero, suc, Bool, IsTrue, List, Option, Some, None, IfSome, Result, Ok, Err, codes, ◌∙◌, subst}
+use Rattle.std.specs.Prelude.{IsSome}
+use Rattle.std.proofs.Common.{arith, unwrap_or, [], ◌≡◌, ◌≢◌, ℕ, zero, suc, Bool, IsTrue, List, Option, Some, None, IfSome, Result, Ok, Err, codes, ◌∙◌, subst}
 use Rattle.desk_ports.specs.Meanings.{Meanings, Counts}
 use Rattle.pocket_cmd.specs.declared.status.Status.{Status}
 use Rattle.pocket_cmd.specs.declared.status.Status.TheVariants.{Refused}
 use Rattle.pocket_cmd.specs.declared.status.Refusal.{Refusal}
 use Rattle.pocket_cmd.specs.declared.status.Refusal.TheVariants as refusal
-use Rattle.pocket_cmd.specs.Words.{Assigns, AssignsToOne, input_keys, read_keys, side_keys, written_keys}
-use Rattle.pocket_cmd.specs.Command.{Command}
-use Rattle.pocket_cmd.specs.Courses.{names_of}
+use Rattle.pocket_cmd.specs.declared.verbs.Port.{Port}
+use Rattle.pocket_cmd.specs.declared.verbs.Port.TheVariants.{Side, Input, Output, Report}
+use Rattle.pocket_cmd.specs.Words.{Words, Assigns, AssignsToOne, keys_at, read_keys, written_keys}
+use Rattle.pocket_cmd.specs.Command.{AreGiven, Command, name_at, names_of}
 use Rattle.pocket_cmd.specs.Openings.{AreTold}
 use Rattle.pocket_cmd.specs.Status.{status_by}
 use Rattle.pocket_cmd.specs.Outcome.{IsAnswered, NoneRose, answer_to}
+use Rattle.pocket_cmd.proofs.Given.{later}
 
 -- the names of a command are granted if all that words give to these keys are
-abbrev AreGranted : List (List ℕ) → List (List ℕ) → (List ℕ → Bool) → Type 0
+abbrev AreGranted : Words → List (List ℕ) → (List ℕ → Bool) → Type 0
 AreGranted words keys grants = (name : List ℕ) → (key : List ℕ) × Contains keys key × Assigns words key name → IsTrue (grants name)
 
-pub side_granted : (words : List (List ℕ)) (side : Option (List ℕ)) (grants : List ℕ → Bool) → AreGranted words read_keys grants
-    → IfSome side (AssignsToOne words side_keys) → IfSome side (λ name. IsTrue (grants name))
-side_granted words None grants granted given = tt
-side_granted words (Some name) grants granted (key, is, given) = granted name (key, is_read is, given) where
-  is_read : Contains side_keys key → Contains read_keys key
-  is_read (zero, within, e) = (1, omega arith, e)
-  is_read (suc zero, within, e) = (2, omega arith, e)
-  is_read (suc (suc zero), within, e) = (3, omega arith, e)
-  is_read (suc (suc (suc zero)), within, e) = (4, omega arith, e)
-  is_read (suc (suc (suc (suc n))), within, e) = absurd (omega (arith, within))
+module _ (words : Words) (command : Command) (are_given : AreGiven words command) where
+  granted : (port : Port) (keys : List (List ℕ)) (grants : List ℕ → Bool) → ((key : List ℕ) → Contains (keys_at port) key → Contains keys key) → AreGranted words keys grants
+      → IfSome (name_at command port) (λ name. IsTrue (grants name))
+  granted port keys grants among all = by_name (name_at command port) (are_given.names port) where
+    by_name : (o : Option (List ℕ)) → IfSome o (AssignsToOne words (keys_at port)) → IfSome o (λ name. IsTrue (grants name))
+    by_name None given = tt
+    by_name (Some name) (key, is, given) = all name (key, among key is, given)
 
-pub input_granted : (words : List (List ℕ)) (input : Option (List ℕ)) (grants : List ℕ → Bool) → AreGranted words read_keys grants → IfSome input (AssignsToOne words input_keys) → IfSome input (λ name. IsTrue (grants name))
-input_granted words None grants granted given = tt
-input_granted words (Some name) grants granted (key, is, given) = granted name (key, is_read is, given) where
-  is_read : Contains input_keys key → Contains read_keys key
-  is_read (zero, within, e) = (0, omega arith, e)
-  is_read (suc zero, within, e) = (2, omega arith, e)
-  is_read (suc (suc n), within, e) = absurd (omega (arith, within))
+  pub side_granted : (grants : List ℕ → Bool) → AreGranted words read_keys grants → IfSome (name_at command Side) (λ name. IsTrue (grants name))
+  side_granted grants = granted Side read_keys grants (later (codes "in") (keys_at Side))
 
-pub output_granted : (words : List (List ℕ)) (name : List ℕ) (grants : List ℕ → Bool) → AreGranted words written_keys grants → Assigns words (codes "out") name → IsTrue (grants name)
-output_granted words name grants granted given = granted name (codes "out", (0, omega arith, refl), given)
+  pub input_granted : (grants : List ℕ → Bool) → AreGranted words read_keys grants → IfSome (name_at command Input) (λ name. IsTrue (grants name))
+  input_granted grants = granted Input read_keys grants is_read where
+    is_read : (key : List ℕ) → Contains (keys_at Input) key → Contains read_keys key
+    is_read key (zero, within, e) = (0, omega arith, e)
+    is_read key (suc zero, within, e) = (2, omega arith, e)
+    is_read key (suc (suc n), within, e) = absurd (omega (arith, within))
 
-pub report_granted : (words : List (List ℕ)) (report : Option (List ℕ)) (grants : List ℕ → Bool) → AreGranted words written_keys grants → IfSome report (Assigns words (codes "report")) → IfSome report (λ name. IsTrue (grants name))
-report_granted words None grants granted given = tt
-report_granted words (Some name) grants granted given = granted name (codes "report", (1, omega arith, refl), given)
+  pub output_granted : (grants : List ℕ → Bool) → AreGranted words written_keys grants → IsTrue (grants (names_of command).output)
+  output_granted grants all = by_name (name_at command Output) are_given.output (granted Output written_keys grants is_written all) where
+    is_written : (key : List ℕ) → Contains (keys_at Output) key → Contains written_keys key
+    is_written key (zero, within, e) = (0, omega arith, e)
+    is_written key (suc n, within, e) = absurd (omega (arith, within))
+
+    by_name : (o : Option (List ℕ)) → IsSome o → IfSome o (λ name. IsTrue (grants name)) → IsTrue (grants (unwrap_or o []))
+    by_name None some is = absurd cc
+    by_name (Some name) some is = is
+
+  pub report_granted : (grants : List ℕ → Bool) → AreGranted words written_keys grants → IfSome (name_at command Report) (λ name. IsTrue (grants name))
+  report_granted grants = granted Report written_keys grants is_written where
+    is_written : (key : List ℕ) → Contains (keys_at Report) key → Contains written_keys key
+    is_written key (zero, within, e) = (1, omega arith, e)
+    is_written key (suc n, within, e) = absurd (omega (arith, within))
 
 -- words give a command or have a fault
 pub not_both : {r : Result Command ℕ} {command : Command} {word : ℕ} → r ≡ Ok command → r ≡ Err word → ⊥

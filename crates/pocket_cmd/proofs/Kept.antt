@@ -9,8 +9,8 @@ use Rattle.desk_ports.specs.Meanings.{Meanings, Incoming, kept_after, made}
 use Rattle.desk_ports.specs.Runs.{Ran}
 use Rattle.pocket_cmd.specs.Status.{Class}
 use Rattle.pocket_cmd.specs.Status as class
-use Rattle.pocket_cmd.specs.Command.{Command, Names}
-use Rattle.pocket_cmd.specs.Courses.{bad_script_row_of, course_of, names_of}
+use Rattle.pocket_cmd.specs.Command.{Command, Names, names_of}
+use Rattle.pocket_cmd.specs.Courses.{bad_script_row_of, course_of}
 use Rattle.pocket_cmd.specs.Faults.{DataFault}
 use Rattle.pocket_cmd.specs.Kept.{IsOutputKept, KeepsAllButSide, KeepsAllButTexts, KeepsNames, LeavesByClass}
 use Rattle.pocket_cmd.specs.Openings.{IsHalfKept, KeepsAllBut, LacksReport, all_finished, all_opened, with_input, with_output, with_output_kept, with_report, with_text}

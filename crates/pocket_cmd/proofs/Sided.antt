@@ -6,8 +6,8 @@ use Rattle.desk_ports.proofs.Faults.{Rose-reads}
 use Rattle.pocket_cmd.specs.declared.status.Status.TheVariants.{Refused}
 use Rattle.pocket_cmd.specs.declared.status.Refusal.{Refusal}
 use Rattle.pocket_cmd.specs.declared.status.Refusal.TheVariants as refusal
-use Rattle.pocket_cmd.specs.Command.{Command}
-use Rattle.pocket_cmd.specs.Courses.{bad_row_of, names_of}
+use Rattle.pocket_cmd.specs.Command.{Command, names_of}
+use Rattle.pocket_cmd.specs.Courses.{bad_row_of}
 use Rattle.pocket_cmd.specs.Openings.{side_given}
 use Rattle.pocket_cmd.specs.Outcome.{AfterCommand, IsSideJudged, IsTextBad, IsTextFirst}
 use Rattle.pocket_cmd.specs.Status.{HasStatusCause, refusal_for, status_by}

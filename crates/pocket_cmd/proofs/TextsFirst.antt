@@ -1,5 +1,5 @@
 -- What a command answers to a text in which something is wrong, at every desk.
-use Rattle.std.proofs.Common.{◌≡◌, ◌≢◌, ℕ, ◌<◌, ◌≤◌, List, length, Option, Some, None, IfSome, Result, Ok, Err, inl, inr, refl, sym, ap, subst, arith}
+use Rattle.std.proofs.Common.{◌≡◌, ◌≢◌, ℕ, ◌<◌, ◌≤◌, List, length, Option, Some, None, IfSome, Result, Ok, Err, inl, inr, refl, sym, ap, ◌∙◌, subst, arith}
 use Rattle.desk_ports.specs.declared.desk.Inlet.{Inlet}
 use Rattle.desk_ports.specs.declared.desk.Inlet.TheVariants as inlet
 use Rattle.desk_ports.specs.Meanings.{Meanings}
@@ -7,14 +7,16 @@ use Rattle.side_tables.specs.Grammar.{bad_copy_row, bad_schedule_row}
 use Rattle.pocket_cmd.specs.declared.status.Status.TheVariants.{Refused}
 use Rattle.pocket_cmd.specs.declared.status.Refusal.{Refusal}
 use Rattle.pocket_cmd.specs.declared.status.Refusal.TheVariants as refusal
-use Rattle.pocket_cmd.specs.Command.{Command, Forecast, ForecastValues}
-use Rattle.pocket_cmd.specs.Courses.{bad_row_of, names_of}
+use Rattle.pocket_cmd.specs.declared.verbs.Verb.TheVariants.{Forecast}
+use Rattle.pocket_cmd.specs.Command.{Command, names_of}
+use Rattle.pocket_cmd.specs.Courses.{bad_row_of}
 use Rattle.pocket_cmd.specs.Delivery.{IsSideRight}
 use Rattle.pocket_cmd.specs.Openings.{AreTold, IsText, IsTextCutOff, given_at, side_given, with_text}
 use Rattle.pocket_cmd.specs.Outcome.{AfterCommand, AfterRefusal, AfterTextClass, HasBadText, HasTextReadFailed, IsScriptFirst, IsTextBad, IsTextFirst}
 use Rattle.pocket_cmd.specs.Status.{BadText, refusal_for, status_by}
 use Rattle.pocket_cmd.specs.Status as class
-use Rattle.pocket_cmd.proofs.Delivered.{text_is}
+use Rattle.pocket_cmd.specs.Words.{Words}
+use Rattle.pocket_cmd.proofs.Delivered.{given-with_side, text_is}
 
 -- ---- a text that is told
 
@@ -87,31 +89,34 @@ module _ (command : Command) (old new : Meanings) (text : List ℕ) (told : side
 
 -- ---- the script of a forecast
 
-module _ (f : ForecastValues) (old new : Meanings) (plan script : List ℕ) (told : AreTold (names_of (Forecast f)) old plan script) (right : IsSideRight (Forecast f) plan) (bad : BadText) (is : IsTextBad bad_copy_row script bad) where
+module _ (words : Words) (old new : Meanings) (plan script : List ℕ) (told : AreTold (names_of (Forecast, words)) old plan script) (right : IsSideRight (Forecast, words) plan) (bad : BadText) (is : IsTextBad bad_copy_row script bad) where
   abbrev start : Meanings
-  start = with_text old inlet.Side (Some f.plan)
+  start = with_text old inlet.Side (names_of (Forecast, words)).side
 
-  not_script : (read : List ℕ) → IsText start inlet.Main (Some f.script) read → length read ≤ 1048576 → bad_copy_row read ≡ None → ⊥
-  not_script = not_right inlet.Main (Some f.script) bad_copy_row start script told.1 bad is
+  script_told : given_at start inlet.Main (names_of (Forecast, words)).input ≡ Some script
+  script_told = given-with_side old (names_of (Forecast, words)).side (names_of (Forecast, words)).input ∙ told.1
 
-  not_side : (other : BadText) → HasBadText inlet.Side (Some f.plan) bad_schedule_row old new other → ⊥
-  not_side other e = not_bad inlet.Side (Some f.plan) bad_schedule_row old plan told.0 other new right.0 right.1 e
+  not_script : (read : List ℕ) → IsText start inlet.Main (names_of (Forecast, words)).input read → length read ≤ 1048576 → bad_copy_row read ≡ None → ⊥
+  not_script = not_right inlet.Main (names_of (Forecast, words)).input bad_copy_row start script script_told bad is
 
-  script_refused : (other : BadText) → HasBadText inlet.Main (Some f.script) bad_copy_row start new other → IsScriptFirst (Some f.plan) old plan script bad new (Refused (refusal_for inlet.Main other))
-  script_refused other e = inr (inl (ap (λ bad. Refused (refusal_for inlet.Main bad)) (same_bad inlet.Main (Some f.script) bad_copy_row start script told.1 new other bad is e)))
+  not_side : (other : BadText) → HasBadText inlet.Side (names_of (Forecast, words)).side bad_schedule_row old new other → ⊥
+  not_side other e = not_bad inlet.Side (names_of (Forecast, words)).side bad_schedule_row old plan told.0 other new right.0 right.1 e
 
-  script_lost : (read : List ℕ) → AfterTextClass (Forecast f) read start new class.Reading → IsScriptFirst (Some f.plan) old plan script bad new (Refused refusal.ReadFault)
+  script_refused : (other : BadText) → HasBadText inlet.Main (names_of (Forecast, words)).input bad_copy_row start new other → IsScriptFirst (names_of (Forecast, words)).side old plan script bad new (Refused (refusal_for inlet.Main other))
+  script_refused other e = inr (inl (ap (λ bad. Refused (refusal_for inlet.Main bad)) (same_bad inlet.Main (names_of (Forecast, words)).input bad_copy_row start script script_told new other bad is e)))
+
+  script_lost : (read : List ℕ) → AfterTextClass (Forecast, words) read start new class.Reading → IsScriptFirst (names_of (Forecast, words)).side old plan script bad new (Refused refusal.ReadFault)
   script_lost read (inl (inl e)) = absurd e.0
-  script_lost read (inl (inr e)) = inr (inr (refl, lost inlet.Main (Some f.script) bad_copy_row start script told.1 new e.1))
+  script_lost read (inl (inr e)) = inr (inr (refl, lost inlet.Main (names_of (Forecast, words)).input bad_copy_row start script script_told new e.1))
   script_lost read (inr e) = absurd (not_script e.1.text e.1.told e.1.within e.1.after.0)
 
-  script_by : (why : Refusal) → AfterRefusal (Forecast f) old new why → Refused why ≢ Refused refusal.NoMemory → IsScriptFirst (Some f.plan) old plan script bad new (Refused why)
+  script_by : (why : Refusal) → AfterRefusal (Forecast, words) old new why → Refused why ≢ Refused refusal.NoMemory → IsScriptFirst (names_of (Forecast, words)).side old plan script bad new (Refused why)
   script_by (refusal.BadWords word) e memory = absurd e
   script_by refusal.SideTooLong e memory = absurd (not_side class.Long e)
   script_by (refusal.BadSide row) e memory = absurd (not_side (class.Row row) e)
   script_by refusal.ScriptTooLong e memory = script_refused class.Long e.after.1
   script_by (refusal.BadScript row) e memory = script_refused (class.Row row) e.after.1
-  script_by refusal.ReadFault (inl e) memory = inl (refl, lost inlet.Side (Some f.plan) bad_schedule_row old plan told.0 new e.1)
+  script_by refusal.ReadFault (inl e) memory = inl (refl, lost inlet.Side (names_of (Forecast, words)).side bad_schedule_row old plan told.0 new e.1)
   script_by refusal.ReadFault (inr e) memory = script_lost e.text e.after
   script_by refusal.WriteFault e memory = absurd (not_script e.after.1.text e.after.1.told e.after.1.within e.after.1.after.0)
   script_by (refusal.CutRecord t) e memory = absurd (not_script e.after.1.text e.after.1.told e.after.1.within e.after.1.after.0)
@@ -120,6 +125,6 @@ module _ (f : ForecastValues) (old new : Meanings) (plan script : List ℕ) (tol
   script_by refusal.TooMany e memory = absurd (not_script e.after.1.text e.after.1.told e.after.1.within e.after.1.after.0)
   script_by refusal.NoMemory e memory = absurd (memory refl)
 
-  pub script-first : (r : Result (Unit {0}) Refusal) → AfterCommand (Forecast f) old new r → status_by r ≢ Refused refusal.NoMemory → IsScriptFirst (Some f.plan) old plan script bad new (status_by r)
+  pub script-first : (r : Result (Unit {0}) Refusal) → AfterCommand (Forecast, words) old new r → status_by r ≢ Refused refusal.NoMemory → IsScriptFirst (names_of (Forecast, words)).side old plan script bad new (status_by r)
   script-first (Ok done) e memory = absurd (not_script e.after.1.text e.after.1.told e.after.1.within e.after.1.after.0)
   script-first (Err why) e memory = script_by why e memory

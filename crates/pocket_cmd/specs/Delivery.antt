@@ -1,6 +1,5 @@
 -- What a command that is done has written, and for which inputs it is done.
 use Rattle.std.specs.Prelude.{◌≡◌, ℕ, List, length, Option, Some, None, IfSome}
-use Rattle.desk_ports.specs.declared.desk.Inlet.TheVariants as inlet
 use Rattle.desk_ports.specs.declared.desk.Outlet.TheVariants as outlet
 use Rattle.desk_ports.specs.Courses.{Outputs}
 use Rattle.desk_ports.specs.Meanings.{Meanings, made}
@@ -10,10 +9,12 @@ use Rattle.flight_chain.specs.Stores.{store_of}
 use Rattle.flight_chain.specs.Compressing.{history_by}
 use Rattle.loss_player.specs.Gaps.{AreGapsShort}
 use Rattle.loss_player.specs.Played.{played_bytes}
-use Rattle.pocket_cmd.specs.Command.{Command, CompressValues, Names, RestoreValues}
+use Rattle.pocket_cmd.specs.declared.verbs.Verb.TheVariants.{Restore}
+use Rattle.pocket_cmd.specs.Command.{Command, Names, names_of}
 use Rattle.pocket_cmd.specs.Courses.{bad_row_of, bad_script_row_of, compression_by, course_of}
-use Rattle.pocket_cmd.specs.Openings.{given}
+use Rattle.pocket_cmd.specs.Openings.{input_given}
 use Rattle.pocket_cmd.specs.Outcome.{IsTextRight}
+use Rattle.pocket_cmd.specs.Words.{Words, apid, bits}
 
 -- the outputs of a command got this, if the desk tells what was written
 pub record HasWritten (names : Names) (all : Outputs) (m : Meanings) : Type 0 where
@@ -34,14 +35,14 @@ pub record IsInputWhole (command : Command) (input : List ℕ) : Type 0 where
   pub right : IsScriptRight (bad_script_row_of command) input
   pub ends : (text : List ℕ) → (course_of command text input).ending ≡ None
 
--- The store that is to be restored is the played store of a valid history: each packet arrives so many times, with gaps that
+-- The store that these words of `restore` name is the played store of a valid history: each packet arrives so many times, with gaps that
 -- are shorter than the period of the sequence counts.
-pub record IsPlayedStore (r : RestoreValues) (h : History) (copies : ℕ → ℕ) (m : Meanings) : Type 0 where
+pub record IsPlayedStore (words : Words) (h : History) (copies : ℕ → ℕ) (m : Meanings) : Type 0 where
   pub valid : IsValid h
-  pub places : h.places ≡ r.bits
+  pub places : h.places ≡ bits words
   pub gaps : AreGapsShort copies (length h.steps)
-  pub told : given m inlet.Main r.input ≡ Some (played_bytes copies r.apid (store_of h r.apid))
+  pub told : input_given m (names_of (Restore, words)).input ≡ Some (played_bytes copies (apid words) (store_of h (apid words)))
 
--- the history of a recording under a schedule
-abbrev pub recorded_history : CompressValues → List ℕ → List ℕ → History
-recorded_history c text recording = history_by (compression_by c text) (recording_walk c.bits recording).inputs
+-- the history of a recording under a schedule, by the words of `compress`
+abbrev pub recorded_history : Words → List ℕ → List ℕ → History
+recorded_history words text recording = history_by (compression_by words text) (recording_walk (bits words) recording).inputs

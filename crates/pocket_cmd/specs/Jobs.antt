@@ -18,8 +18,8 @@ use Rattle.param_table.specs.Tabling.{table_course}
 use Rattle.pocket_cmd.specs.declared.job.Job.{Job}
 use Rattle.pocket_cmd.specs.declared.job.Job.TheVariants as job
 use Rattle.pocket_cmd.specs.declared.status.Refusal.{Refusal}
-use Rattle.pocket_cmd.specs.Command.{Command, Names}
-use Rattle.pocket_cmd.specs.Courses.{bad_row_of, bad_script_row_of, course_of, names_of, text_course, with_fault}
+use Rattle.pocket_cmd.specs.Command.{Command, Names, names_of}
+use Rattle.pocket_cmd.specs.Courses.{bad_row_of, bad_script_row_of, course_of, text_course, with_fault}
 use Rattle.pocket_cmd.specs.Faults.{DataFault, of_recording, of_store}
 use Rattle.pocket_cmd.specs.Outcome.{IsNotBegun, OnceAllRead, OnceTextRead}
 use Rattle.pocket_cmd.specs.Status.{HasClassCause, class_of}

@@ -5,8 +5,8 @@ use Rattle.desk_ports.specs.declared.desk.Inlet.TheVariants as inlet
 use Rattle.desk_ports.specs.declared.desk.Outlet.TheVariants as outlet
 use Rattle.desk_ports.specs.Meanings.{Meanings, kept_after, made}
 use Rattle.pocket_cmd.specs.declared.status.Refusal.{Refusal}
-use Rattle.pocket_cmd.specs.Command.{Command}
-use Rattle.pocket_cmd.specs.Courses.{bad_script_row_of, names_of}
+use Rattle.pocket_cmd.specs.Command.{Command, names_of}
+use Rattle.pocket_cmd.specs.Courses.{bad_script_row_of}
 use Rattle.pocket_cmd.specs.Outcome.{Stands}
 use Rattle.pocket_cmd.specs.Status.{Class, class_of}
 use Rattle.pocket_cmd.specs.Status as class

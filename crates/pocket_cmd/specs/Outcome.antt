@@ -11,8 +11,8 @@ use Rattle.pocket_cmd.specs.declared.status.Status.{Status}
 use Rattle.pocket_cmd.specs.declared.status.Status.TheVariants.{Refused}
 use Rattle.pocket_cmd.specs.declared.status.Refusal.{Refusal}
 use Rattle.pocket_cmd.specs.declared.status.Refusal.TheVariants as refusal
-use Rattle.pocket_cmd.specs.Command.{Names, Command}
-use Rattle.pocket_cmd.specs.Courses.{course_of, bad_row_of, bad_script_row_of, names_of}
+use Rattle.pocket_cmd.specs.Command.{Names, Command, names_of}
+use Rattle.pocket_cmd.specs.Courses.{course_of, bad_row_of, bad_script_row_of}
 use Rattle.pocket_cmd.specs.Unfed.{EndsBy, IsCutOffBy, IsCutShortBy}
 use Rattle.pocket_cmd.specs.Status.{BadText, Class, class_of, refusal_for, status_of, status_by}
 use Rattle.pocket_cmd.specs.Status as class

@@ -8,9 +8,13 @@ use Rattle.side_tables.specs.Numbers.{number_of}
 use Rattle.pocket_cmd.specs.declared.verbs.Port.TheVariants.{Side, Input, Output, Report}
 use Rattle.pocket_cmd.specs.declared.verbs.Kind.{Kind}
 use Rattle.pocket_cmd.specs.declared.verbs.Kind.TheVariants.{Name, Number, Mask}
-use Rattle.pocket_cmd.specs.Masks.{is_mask}
+use Rattle.pocket_cmd.specs.Masks.{first_mask, is_mask}
 use Rattle.pocket_cmd.specs.declared.verbs.Port.{Port}
 use Rattle.pocket_cmd.specs.Verbs.{Row, kind_of, is_name_at}
+
+-- words, each as its bytes
+abbrev pub Words : Type 0
+Words = List (List ℕ)
 
 -- ---- one word, which is split at its first `=`
 
@@ -48,6 +52,28 @@ number_in (Some text) = unwrap_or (number_of 0 4294967295 text) 0
 
 abbrev pub number_at : List (List ℕ) → List ℕ → ℕ
 number_at words key = number_in (text_of words key)
+
+-- what words give to the keys of numbers, and to that of the first mask
+abbrev pub bits : Words → ℕ
+bits words = number_at words (codes "bits")
+
+abbrev pub apid : Words → ℕ
+apid words = number_at words (codes "apid")
+
+abbrev pub robust : Words → ℕ
+robust words = number_at words (codes "robust")
+
+abbrev pub seed : Words → ℕ
+seed words = number_at words (codes "seed")
+
+abbrev pub packets : Words → ℕ
+packets words = number_at words (codes "packets")
+
+abbrev pub window : Words → ℕ
+window words = number_at words (codes "window")
+
+abbrev pub mask : Words → List Bool
+mask words = first_mask (bits words) (text_of words (codes "mask"))
 
 -- ---- which words are right
 
@@ -100,17 +126,17 @@ abbrev pub place_of : List (List ℕ) → List ℕ → ℕ
 place_of words key = position_or_len (has_key key) words + 1
 
 abbrev pub unless_mask : ℕ → ℕ → Option (List ℕ) → Option ℕ
-unless_mask bits place None = None
-unless_mask bits place (Some text) = if is_mask bits text then None else Some place
+unless_mask places place None = None
+unless_mask places place (Some text) = if is_mask places text then None else Some place
 
 abbrev pub wrong_mask : List (List ℕ) → Option ℕ
-wrong_mask words = unless_mask (number_at words (codes "bits")) (place_of words (codes "mask")) (text_of words (codes "mask"))
+wrong_mask words = unless_mask (bits words) (place_of words (codes "mask")) (text_of words (codes "mask"))
 
 -- the place of the first fault of the words after a verb: of the first wrong word; or the number of all words, if one is
 -- missing; or the place of the word with the mask
 abbrev pub or_missing : Bool → ℕ → Option ℕ → Option ℕ
-or_missing true count mask = Some count
-or_missing false count mask = mask
+or_missing true count wrong = Some count
+or_missing false count wrong = wrong
 
 abbrev pub or_word : Option ℕ → Option ℕ → Option ℕ
 or_word (Some place) later = Some place
@@ -121,16 +147,16 @@ fault_of rows words = or_word (wrong_word rows [] words) (or_missing (is_missing
 
 -- ---- what words name
 
+-- the keys for the name of what is opened there
+abbrev pub keys_at : Port → List (List ℕ)
+keys_at Side = codes "plan" ∷ codes "script" ∷ codes "fields" ∷ codes "streams" ∷ []
+keys_at Input = codes "in" ∷ codes "script" ∷ []
+keys_at Output = codes "out" ∷ []
+keys_at Report = codes "report" ∷ []
+
 -- the keys whose values are names to read, and names to write
 abbrev pub read_keys : List (List ℕ)
-read_keys = codes "in" ∷ codes "plan" ∷ codes "script" ∷ codes "fields" ∷ codes "streams" ∷ []
-
--- of them, the keys for the name of a side input, and of a main input
-abbrev pub side_keys : List (List ℕ)
-side_keys = codes "plan" ∷ codes "script" ∷ codes "fields" ∷ codes "streams" ∷ []
-
-abbrev pub input_keys : List (List ℕ)
-input_keys = codes "in" ∷ codes "script" ∷ []
+read_keys = codes "in" ∷ keys_at Side
 
 abbrev pub written_keys : List (List ℕ)
 written_keys = codes "out" ∷ codes "report" ∷ []

@@ -1,8 +1,8 @@
 //! The command that the words give.
 ghost use Rattle.std.specs.Prelude.{◌≡◌, ◌<◌, ◌^◌, length, map};
 ghost use Rattle.std.specs.String.{string_bytes};
-ghost use Rattle.pocket_cmd.specs.Command.{command_of, view_command, view_result};
-ghost use Rattle.pocket_cmd.specs.Courses.{bad_script_row_of, names_of};
+ghost use Rattle.pocket_cmd.specs.Command.{command_of, names_of, view_command, view_result};
+ghost use Rattle.pocket_cmd.specs.Courses.{bad_script_row_of};
 ghost use Rattle.pocket_cmd.specs.Openings.{view_names};
 ghost use Rattle.pocket_cmd.specs.Outcome.{left_to_open};
 
@@ -11,7 +11,7 @@ use crate::verbs::{Port, Verb};
 use crate::words::{Command, fault_of, name_of};
 
 impl<'a> Command<'a> {
-    /// The verb with its values; or the place of the first faulty word; or the number of words, if one is missing; or
+    /// The verb and the words after it; or the place of the first faulty word; or the number of words, if one is missing; or
     /// the place of the word with the mask, if its text denotes none.
     pub fn of(words: &'a [String]) -> Result<Command<'a>, u32>
         requires { length words.now < 2 ^ 32 }

@@ -6,11 +6,12 @@ ghost use Rattle.desk_ports.specs.Meanings.{Adds, AddsFront, HasWriteCause, IsRe
 ghost use Rattle.side_tables.specs.Grammar.{bad_copy_row, bad_schedule_row, copy_rows_of, schedule_rows_of};
 ghost use Rattle.side_tables.specs.Streams.{bad_stream_row, streams_of};
 ghost use Rattle.param_table.specs.Grammar.{bad_text_row};
-ghost use Rattle.pocket_cmd.specs.Command.{Compress, Forecast as ToForecast, Late as ToLate, Play, Restore, Show, Table as ToTable, IsRight, compress_by, forecast_by, late_by, play_by, restore_by, show_by, table_by, view_command};
-ghost use Rattle.pocket_cmd.specs.Courses.{compression_by, names_of, tabulation_by};
+ghost use Rattle.pocket_cmd.specs.Command.{IsRight, names_of, view_command};
+ghost use Rattle.pocket_cmd.specs.Courses.{compression_by, tabulation_by};
 ghost use Rattle.pocket_cmd.specs.Jobs.{AfterJob, AfterMaking, HasMakingCause, IsScriptRead, job_course, reads_input, writes_report};
 ghost use Rattle.pocket_cmd.specs.Outcome.{IsRowRefused, IsTextRefused};
 ghost use Rattle.pocket_cmd.specs.Status.{HasStatusCause, IsEnded, class_of, status_by};
+ghost use Rattle.pocket_cmd.specs.Words.{apid, bits, packets, robust, window};
 
 use crate::mask::first_mask;
 use crate::status::{Refusal, no_table, unread};
@@ -150,10 +151,10 @@ fn write_text<D: Desk>(text: Vec<u8>, desk: &mut D) -> Result<(), Failed>
 
 /// The flight of `compress`, whose schedule has this text.
 fn flight(alloc: Global, words: &[String], text: &[u8]) -> Result<Flight, Refusal>
-    requires right { IsRight (Compress (compress_by (map string_bytes words.now))) }
+    requires right { IsRight (Verb.Compress, map string_bytes words.now) }
     requires within { length text.now ≤ 1048576 }
     ensures flight { IfOk result
-        (λ flight. flight ≡ compression_by (compress_by (map string_bytes words.now)) text.now) }
+        (λ flight. flight ≡ compression_by (map string_bytes words.now) text.now) }
     ensures rows { OnOk result (bad_schedule_row text.now ≡ None) }
     ensures refused { IfErr result
         (λ refusal. IsRowRefused (bad_schedule_row text.now) (class_of refusal)) }
@@ -170,11 +171,11 @@ fn flight(alloc: Global, words: &[String], text: &[u8]) -> Result<Flight, Refusa
 
 /// The player of `play`, whose script has this text.
 fn player(alloc: Global, words: &[String], text: &[u8]) -> Result<Player, Refusal>
-    requires right { IsRight (Play (play_by (map string_bytes words.now))) }
+    requires right { IsRight (Verb.Play, map string_bytes words.now) }
     requires within { length text.now ≤ 1048576 }
-    ensures player { let told = play_by (map string_bytes words.now) in
+    ensures player { let words = map string_bytes words.now in
         IfOk result
-        (λ player. player ≡ record { apid = told.apid; rows = copy_rows_of text.now }) }
+        (λ player. player ≡ record { apid = apid words; rows = copy_rows_of text.now }) }
     ensures rows { OnOk result (bad_copy_row text.now ≡ None) }
     ensures refused { IfErr result
         (λ refusal. IsRowRefused (bad_copy_row text.now) (class_of refusal)) }
@@ -185,9 +186,9 @@ fn player(alloc: Global, words: &[String], text: &[u8]) -> Result<Player, Refusa
 
 /// The restorer of `restore`.
 fn restorer(alloc: Global, words: &[String]) -> Result<Restorer, NoMemory>
-    requires { IsRight (Restore (restore_by (map string_bytes words.now))) }
-    ensures { let told = restore_by (map string_bytes words.now) in
-        IfOk result (λ restorer. restorer ≡ record { places = told.bits; apid = told.apid }) }
+    requires { IsRight (Verb.Restore, map string_bytes words.now) }
+    ensures { let words = map string_bytes words.now in
+        IfOk result (λ restorer. restorer ≡ record { places = bits words; apid = apid words }) }
 {
     Restorer::open(
         alloc,
@@ -198,9 +199,9 @@ fn restorer(alloc: Global, words: &[String]) -> Result<Restorer, NoMemory>
 
 /// The lister of `show`.
 fn lister(alloc: Global, words: &[String]) -> Result<Lister, NoMemory>
-    requires { IsRight (Show (show_by (map string_bytes words.now))) }
-    ensures { let told = show_by (map string_bytes words.now) in
-        IfOk result (λ lister. lister ≡ record { places = told.bits; apid = told.apid }) }
+    requires { IsRight (Verb.Show, map string_bytes words.now) }
+    ensures { let words = map string_bytes words.now in
+        IfOk result (λ lister. lister ≡ record { places = bits words; apid = apid words }) }
 {
     Lister::open(
         alloc,
@@ -223,10 +224,10 @@ fn multi_restorer(alloc: Global, text: &[u8]) -> Result<MultiRestorer, Refusal>
 
 /// The restorer of `late`.
 fn late_restorer(alloc: Global, words: &[String]) -> Result<LateRestorer, NoMemory>
-    requires { IsRight (ToLate (late_by (map string_bytes words.now))) }
-    ensures { let told = late_by (map string_bytes words.now) in
+    requires { IsRight (Verb.Late, map string_bytes words.now) }
+    ensures { let words = map string_bytes words.now in
         IfOk result (λ restorer. restorer ≡
-        record { places = told.bits; apid = told.apid; window = told.window }) }
+        record { places = bits words; apid = apid words; window = window words }) }
 {
     LateRestorer::open(
         alloc,
@@ -238,15 +239,15 @@ fn late_restorer(alloc: Global, words: &[String]) -> Result<LateRestorer, NoMemo
 
 /// The tabler of `table`, whose fields have this text.
 fn tabler(alloc: Global, words: &[String], text: &[u8]) -> Result<Tabler, Refusal>
-    requires right { IsRight (ToTable (table_by (map string_bytes words.now))) }
+    requires right { IsRight (Verb.Table, map string_bytes words.now) }
     requires within { length text.now ≤ 1048576 }
     ensures tabler { IfOk result
-        (λ tabler. tabler ≡ tabulation_by (table_by (map string_bytes words.now)) text.now) }
-    ensures rows { let told = table_by (map string_bytes words.now) in
-        OnOk result (bad_text_row told.bits text.now ≡ None) }
-    ensures refused { let told = table_by (map string_bytes words.now) in
+        (λ tabler. tabler ≡ tabulation_by (map string_bytes words.now) text.now) }
+    ensures rows { let words = map string_bytes words.now in
+        OnOk result (bad_text_row (bits words) text.now ≡ None) }
+    ensures refused { let words = map string_bytes words.now in
         IfErr result
-        (λ refusal. IsRowRefused (bad_text_row told.bits text.now) (class_of refusal)) }
+        (λ refusal. IsRowRefused (bad_text_row (bits words) text.now) (class_of refusal)) }
 {
     let f = number_at(words, "bits");
     let fields = Fields::read(alloc, text, f)?;
@@ -261,19 +262,19 @@ fn forecast<D: Desk>(
     name: Option<&str>,
     desk: &mut D,
 ) -> Result<Forecast, Refusal>
-    requires right { IsRight (ToForecast (forecast_by (map string_bytes words.now))) }
+    requires right { IsRight (Verb.Forecast, map string_bytes words.now) }
     requires within { length text.now ≤ 1048576 }
     requires input { IfSome name (λ name. IsTrue ((D.meaning desk.old).grants_in name.now)) }
     ensures rows { OnOk result (bad_schedule_row text.now ≡ None) }
-    ensures read { let told = forecast_by (map string_bytes words.now) in
+    ensures read { let words = map string_bytes words.now in
         let name = option_map (λ name. name.now) name.entry in
         IfOk result (λ forecast. IsScriptRead name bad_copy_row (D.meaning desk.old)
         (D.meaning desk.new)
         (λ script. forecast ≡ record {
-          packets = told.packets;
+          packets = packets words;
           outlook = record {
             plan = schedule_rows_of text.now;
-            robust = told.robust;
+            robust = robust words;
             script = copy_rows_of script;
           };
         })) }

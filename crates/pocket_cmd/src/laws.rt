@@ -23,23 +23,27 @@ ghost use Rattle.late_window.specs.Deliveries.{IsLateDelivery};
 ghost use Rattle.late_window.specs.Restoring.{late_done, ordered_run, store_arrivals};
 ghost use Rattle.late_window.specs.Rows.{late_row};
 ghost use Rattle.pocket_cmd.specs.Apart.{AreApart};
-ghost use Rattle.pocket_cmd.specs.Command.{Command, Compress, CompressValues, Forecast, ForecastValues, Late, LateValues, Multi, MultiValues, Play, PlayValues, Restore, RestoreValues, Table, TableValues, Trial, TrialValues, AreGiven, IsRight, command_of};
-ghost use Rattle.pocket_cmd.specs.Courses.{course_of, forecast_by_texts, names_of};
+ghost use Rattle.pocket_cmd.specs.Command.{Command, AreGiven, IsRight, command_of, names_of};
+ghost use Rattle.pocket_cmd.specs.Courses.{course_of, forecast_by_texts};
 ghost use Rattle.pocket_cmd.specs.Delivery.{HasWritten, IsInputWhole, recorded_history};
 ghost use Rattle.pocket_cmd.specs.Openings.{input_given, side_given};
 ghost use Rattle.pocket_cmd.specs.Outcome.{AfterRefusal, Stands};
 ghost use Rattle.pocket_cmd.specs.Summary.{summary_by};
+ghost use Rattle.pocket_cmd.specs.Words.{Words, apid, bits, mask, robust, window};
 
 use crate::status::Refusal;
+use crate::verbs::Verb;
 
-/// A command's values are within their bounds, each of its names is one that a word gives, and they are apart: two names to
-/// read differ, and two to write, and a name to read that is one to write is `-`.
+/// A command's numbers are within their bounds, its first mask has as many places as a packet has bits, each of its names is one
+/// that a word gives, and they are apart: two names to read differ, and two to write, and a name to read that is one to write is
+/// `-`.
 pub fn commands_are_given()
-    ensures right { (words : List (List ℕ)) (command : Command) → command_of words ≡ Ok command
+    ensures right { (words : Words) (command : Command) → command_of words ≡ Ok command
         → IsRight command }
-    ensures given { (words : List (List ℕ)) (command : Command) → command_of words ≡ Ok command
-        → AreGiven words (names_of command) }
-    ensures apart { (words : List (List ℕ)) (command : Command) → command_of words ≡ Ok command
+    ensures mask { (words : Words) → length (mask words) ≡ bits words }
+    ensures given { (words : Words) (command : Command) → command_of words ≡ Ok command
+        → AreGiven words command }
+    ensures apart { (words : Words) (command : Command) → command_of words ≡ Ok command
         → AreApart (names_of command) }
 {}
 
@@ -55,10 +59,10 @@ pub fn done_commands_wrote_all()
 /// A trial owes its summary, whatever a side text or an input would be, and reads nothing: it is refused only if a
 /// writing failed, or if there was not enough memory.
 pub fn trials_owe_their_summary()
-    ensures summary { (t : TrialValues) (text input : List ℕ)
-        → owed (course_of (Trial t) text input) ≡ to_output (summary_by t) }
-    ensures refused { (t : TrialValues) (old new : Meanings) (refusal : Refusal)
-        → AfterRefusal (Trial t) old new refusal
+    ensures summary { (t : Words) (text input : List ℕ)
+        → owed (course_of (Verb.Trial, t) text input) ≡ to_output (summary_by t) }
+    ensures refused { (t : Words) (old new : Meanings) (refusal : Refusal)
+        → AfterRefusal (Verb.Trial, t) old new refusal
         → (refusal ≡ Refusal.WriteFault) ⊎ (refusal ≡ Refusal.NoMemory) }
 {}
 
@@ -66,28 +70,28 @@ pub fn trials_owe_their_summary()
 /// the APID in order, without those that are too late, and the row of these. If the packets are those of a valid history and come
 /// late by no more than the window, that is the inputs of the packets that are written, and the report of all others.
 pub fn late_stores_owe_their_order()
-    ensures order { (l : LateValues) (store : List ℕ) → IsInputWhole (Late l) store →
-        owed (course_of (Late l) [] store) ≡ record {
-          output = run_bytes (ordered_run l.bits l.apid l.window store);
-          report = run_report (ordered_run l.bits l.apid l.window store)
-              ++ late_row (late_done l.bits l.apid l.window store).late;
+    ensures order { (l : Words) (store : List ℕ) → IsInputWhole (Verb.Late, l) store →
+        owed (course_of (Verb.Late, l) [] store) ≡ record {
+          output = run_bytes (ordered_run (bits l) (apid l) (window l) store);
+          report = run_report (ordered_run (bits l) (apid l) (window l) store)
+              ++ late_row (late_done (bits l) (apid l) (window l) store).late;
         } }
-    ensures restored { (l : LateValues) (h : History) (copies : ℕ → ℕ) (store numbers : List ℕ)
-        → IsInputWhole (Late l) store → IsValid h → h.places ≡ l.bits
-        → IsLateDelivery l.window (length h.steps) copies numbers
-        → store_arrivals l.apid store ≡ map (arrival_at h) numbers →
-        owed (course_of (Late l) [] store)
+    ensures restored { (l : Words) (h : History) (copies : ℕ → ℕ) (store numbers : List ℕ)
+        → IsInputWhole (Verb.Late, l) store → IsValid h → h.places ≡ bits l
+        → IsLateDelivery (window l) (length h.steps) copies numbers
+        → store_arrivals (apid l) store ≡ map (arrival_at h) numbers →
+        owed (course_of (Verb.Late, l) [] store)
         ≡ record { output = restored_bytes h copies; report = report_text h copies ++ late_row 0 } }
 {}
 
 /// A table owes the texts of the packets of a whole recording, by its fields: their table, and the report of the values out of
 /// their limits.
 pub fn tables_owe_their_texts()
-    ensures { (t : TableValues) (fields recording : List ℕ) → IsInputWhole (Table t) recording →
-        let packets = (recording_walk t.bits recording).inputs in
-        owed (course_of (Table t) fields recording) ≡ record {
-          output = table_text (text_columns t.bits fields) packets;
-          report = limit_text (text_columns t.bits fields) packets;
+    ensures { (t : Words) (fields recording : List ℕ) → IsInputWhole (Verb.Table, t) recording →
+        let packets = (recording_walk (bits t) recording).inputs in
+        owed (course_of (Verb.Table, t) fields recording) ≡ record {
+          output = table_text (text_columns (bits t) fields) packets;
+          report = limit_text (text_columns (bits t) fields) packets;
         } }
 {}
 
@@ -95,21 +99,21 @@ pub fn tables_owe_their_texts()
 /// that store, and its lines of that report, are those of the run over its own arrivals. If these are the arrivals of the played
 /// store of a valid history, that is the inputs of the packets that are written, and the report of all others.
 pub fn streams_are_restored_apart()
-    ensures whole { (m : MultiValues) (streams store : List ℕ) → All (λ b. b < 256) store
-        → IsInputWhole (Multi m) store
-        → (walk None (owed (course_of (Multi m) streams store)).output).ending ≡ None }
-    ensures each { (m : MultiValues) (streams store : List ℕ) (index : ℕ) → All (λ b. b < 256) store
-        → IsInputWhole (Multi m) store → index < length (streams_of streams)
-        → let all = owed (course_of (Multi m) streams store) in
+    ensures whole { (m : Words) (streams store : List ℕ) → All (λ b. b < 256) store
+        → IsInputWhole (Verb.Multi, m) store
+        → (walk None (owed (course_of (Verb.Multi, m) streams store)).output).ending ≡ None }
+    ensures each { (m : Words) (streams store : List ℕ) (index : ℕ) → All (λ b. b < 256) store
+        → IsInputWhole (Verb.Multi, m) store → index < length (streams_of streams)
+        → let all = owed (course_of (Verb.Multi, m) streams store) in
         HasStream (stream_at (streams_of streams) index) store all.output all.report }
-    ensures restored { (m : MultiValues) (streams store : List ℕ) (index : ℕ) (h : History)
-        (copies : ℕ → ℕ) → All (λ b. b < 256) store → IsInputWhole (Multi m) store
+    ensures restored { (m : Words) (streams store : List ℕ) (index : ℕ) (h : History)
+        (copies : ℕ → ℕ) → All (λ b. b < 256) store → IsInputWhole (Verb.Multi, m) store
         → index < length (streams_of streams) → let stream = stream_at (streams_of streams) index in
         IsValid h → h.places ≡ stream.bits → AreGapsShort copies (length h.steps)
         → length (arrivals copies (length h.steps)) ≤ 2 ^ 32
         → arrivals_on stream.apid store
         ≡ arrivals_on stream.apid (played_bytes copies stream.apid (store_of h stream.apid))
-        → let all = owed (course_of (Multi m) streams store) in
+        → let all = owed (course_of (Verb.Multi, m) streams store) in
         (contents_on stream.apid all.output ≡ restored_bytes h copies)
         × (header_row ++ rows_on stream.apid all.report ≡ report_text h copies) }
 {}
@@ -117,12 +121,12 @@ pub fn streams_are_restored_apart()
 /// A forecast owes its text for a schedule and a script. What it calls sure is written of any recording of so many packets
 /// under that schedule and that required robustness, if copies arrive as the script says.
 pub fn forecasts_owe_their_text()
-    ensures text { (f : ForecastValues) (plan script : List ℕ)
-        → owed (course_of (Forecast f) plan script) ≡ to_output (forecast_by_texts f plan script) }
-    ensures sure { (f : ForecastValues) (c : CompressValues) (plan script recording : List ℕ) (t : ℕ)
-        → c.robust ≡ f.robust → let h = recorded_history c plan recording in
+    ensures text { (f : Words) (plan script : List ℕ)
+        → owed (course_of (Verb.Forecast, f) plan script) ≡ to_output (forecast_by_texts f plan script) }
+    ensures sure { (f c : Words) (plan script recording : List ℕ) (t : ℕ)
+        → robust c ≡ robust f → let h = recorded_history c plan recording in
         t < length h.steps
-        → IsSure (prospect_of (schedule_rows_of plan) f.robust (copy_rows_of script)) t
+        → IsSure (prospect_of (schedule_rows_of plan) (robust f) (copy_rows_of script)) t
         → WrittenAt h (copies_of (copy_rows_of script)) t }
 {}
 
@@ -130,35 +134,35 @@ pub fn forecasts_owe_their_text()
 /// what `play` owes for such a store is its played store, with a report of the gaps; and what `restore` owes for that is what
 /// the headline says.
 pub fn commands_compose()
-    ensures compress { (c : CompressValues) (plan recording : List ℕ) → IsRight (Compress c)
+    ensures compress { (c : Words) (plan recording : List ℕ) → IsRight (Verb.Compress, c)
         → All (λ b. b < 256) recording
-        → IsInputWhole (Compress c) recording
+        → IsInputWhole (Verb.Compress, c) recording
         → IsValid (recorded_history c plan recording)
-        × (owed (course_of (Compress c) plan recording)
-        ≡ to_output (store_of (recorded_history c plan recording) c.apid)) }
-    ensures play { (p : PlayValues) (script : List ℕ) (h : History) → IsRight (Play p) → IsValid h
-        → IsInputWhole (Play p) (store_of h p.apid)
-        × (owed (course_of (Play p) script (store_of h p.apid)) ≡ record {
-          output = played_bytes (copies_of (copy_rows_of script)) p.apid (store_of h p.apid);
+        × (owed (course_of (Verb.Compress, c) plan recording)
+        ≡ to_output (store_of (recorded_history c plan recording) (apid c))) }
+    ensures play { (p : Words) (script : List ℕ) (h : History) → IsRight (Verb.Play, p) → IsValid h
+        → IsInputWhole (Verb.Play, p) (store_of h (apid p))
+        × (owed (course_of (Verb.Play, p) script (store_of h (apid p))) ≡ record {
+          output = played_bytes (copies_of (copy_rows_of script)) (apid p) (store_of h (apid p));
           report = play_report (played_of (copies_of (copy_rows_of script)) (length h.steps));
         }) }
-    ensures restore { (r : RestoreValues) (h : History) (copies : ℕ → ℕ) → IsRight (Restore r)
-        → IsValid h → h.places ≡ r.bits
+    ensures restore { (r : Words) (h : History) (copies : ℕ → ℕ) → IsRight (Verb.Restore, r)
+        → IsValid h → h.places ≡ bits r
         → AreGapsShort copies (length h.steps) → length (arrivals copies (length h.steps)) ≤ 2 ^ 32
-        → IsInputWhole (Restore r) (played_bytes copies r.apid (store_of h r.apid))
-        × (owed (course_of (Restore r) [] (played_bytes copies r.apid (store_of h r.apid)))
+        → IsInputWhole (Verb.Restore, r) (played_bytes copies (apid r) (store_of h (apid r)))
+        × (owed (course_of (Verb.Restore, r) [] (played_bytes copies (apid r) (store_of h (apid r))))
         ≡ record { output = restored_bytes h copies; report = report_text h copies }) }
     // All three, one after the other, for one APID and one number of bits.
-    ensures chain { (c : CompressValues) (p : PlayValues) (r : RestoreValues)
+    ensures chain { (c p r : Words)
         (plan script recording : List ℕ)
-        → IsRight (Compress c) → IsRight (Play p) → IsRight (Restore r) → p.apid ≡ c.apid
-        → r.apid ≡ c.apid → r.bits ≡ c.bits
-        → All (λ b. b < 256) recording → IsInputWhole (Compress c) recording
+        → IsRight (Verb.Compress, c) → IsRight (Verb.Play, p) → IsRight (Verb.Restore, r) → apid p ≡ apid c
+        → apid r ≡ apid c → bits r ≡ bits c
+        → All (λ b. b < 256) recording → IsInputWhole (Verb.Compress, c) recording
         → let h = recorded_history c plan recording in let copies = copies_of (copy_rows_of script)
         in
         AreGapsShort copies (length h.steps) → length (arrivals copies (length h.steps)) ≤ 2 ^ 32
-        → let store = (owed (course_of (Compress c) plan recording)).output in
-        let played = (owed (course_of (Play p) script store)).output in
-        owed (course_of (Restore r) [] played)
+        → let store = (owed (course_of (Verb.Compress, c) plan recording)).output in
+        let played = (owed (course_of (Verb.Play, p) script store)).output in
+        owed (course_of (Verb.Restore, r) [] played)
         ≡ record { output = restored_bytes h copies; report = report_text h copies } }
 {}

@@ -2,8 +2,7 @@
 ghost use Rattle.std.specs.Prelude.{◌≡◌, ◌≢◌, ◌<◌, ◌^◌, ◌↔◌, ℕ, List, length, map, Err};
 ghost use Rattle.std.specs.String.{string_bytes};
 ghost use Rattle.desk_ports.specs.QuietState.{quiet_meanings};
-ghost use Rattle.pocket_cmd.specs.Command.{Command as Told, IsCommandOf, command_of};
-ghost use Rattle.pocket_cmd.specs.Courses.{names_of};
+ghost use Rattle.pocket_cmd.specs.Command.{Command as Told, IsCommandOf, command_of, names_of};
 ghost use Rattle.pocket_cmd.specs.Delivery.{IsSideRight, IsInputWhole};
 ghost use Rattle.pocket_cmd.specs.Openings.{AreTold};
 ghost use Rattle.pocket_cmd.specs.Outcome.{answer_to};

@@ -1,9 +1,10 @@
 //! The summary of a trial, which is run in memory.
 ghost use Rattle.std.specs.Prelude.{◌≡◌, ◌≤◌, ◌++◌, length, map, IfOk, OnOk};
 ghost use Rattle.std.specs.String.{string_bytes};
-ghost use Rattle.pocket_cmd.specs.Command.{Trial, IsRight, trial_by};
+ghost use Rattle.pocket_cmd.specs.Command.{IsRight};
 ghost use Rattle.pocket_cmd.specs.Summary.{summary_by, summary_line, summary_lines};
 
+use crate::verbs::Verb;
 use crate::words::number_at;
 use bit_vectors::NoMemory;
 use desk_ports::{MemDesk, Row};
@@ -12,9 +13,8 @@ use trial_chain::{Summary, run_trial};
 
 /// Runs a trial at a desk of its own, and gives its summary as a text.
 pub fn summary_text(alloc: Global, words: &[String]) -> Result<Vec<u8>, NoMemory>
-    requires { IsRight (Trial (trial_by (map string_bytes words.now))) }
-    ensures { IfOk result
-        (λ text. text.items ≡ summary_by (trial_by (map string_bytes words.now))) }
+    requires { IsRight (Verb.Trial, map string_bytes words.now) }
+    ensures { IfOk result (λ text. text.items ≡ summary_by (map string_bytes words.now)) }
 {
     let mut desk = MemDesk::new(alloc);
     let (seed, packets) = (number_at(words, "seed"), number_at(words, "packets"));

@@ -3,8 +3,8 @@ ghost use Rattle.std.specs.Prelude.{◌≡◌, ◌≢◌, ◌<◌, ◌≤◌, �
 ghost use Rattle.std.specs.String.{string_bytes};
 ghost use Rattle.pocket_cmd.specs.Apart.{AreKeptAsMade};
 ghost use Rattle.pocket_cmd.specs.Faults.{DataFault as Fault};
-ghost use Rattle.pocket_cmd.specs.Command.{Command as Told, Forecast, ForecastValues, Restore, RestoreValues, HasCommand, IsCommandOf, command_of};
-ghost use Rattle.pocket_cmd.specs.Courses.{bad_row_of, names_of};
+ghost use Rattle.pocket_cmd.specs.Command.{Command as Told, HasCommand, IsCommandOf, command_of, names_of};
+ghost use Rattle.pocket_cmd.specs.Courses.{bad_row_of};
 ghost use Rattle.mask_update.specs.Histories.{History};
 ghost use Rattle.side_tables.specs.Grammar.{bad_copy_row};
 ghost use Rattle.ground_chain.specs.Deliveries.{report_text, restored_bytes};
@@ -15,9 +15,10 @@ ghost use Rattle.pocket_cmd.specs.Kept.{Leaves};
 ghost use Rattle.pocket_cmd.specs.Openings.{AreTold, side_given};
 ghost use Rattle.pocket_cmd.specs.Outcome.{AfterRefusal, IsScriptFirst, IsSideJudged, IsTextBad, IsTextFirst, NoneRose, Stands, answer_to};
 ghost use Rattle.pocket_cmd.specs.Status.{BadText, HasStatusCause, status_of};
-ghost use Rattle.pocket_cmd.specs.Words.{AssignsOneOf, read_keys, written_keys};
+ghost use Rattle.pocket_cmd.specs.Words.{Words, AssignsOneOf, read_keys, written_keys};
 
 use crate::status::{Refusal, Status};
+use crate::verbs::Verb;
 use crate::words::Command;
 use crate::work::perform;
 use desk_ports::Desk;
@@ -106,12 +107,12 @@ pub fn pocket<D: Desk>(alloc: Global, words: &[String], desk: &mut D) -> Status
     // The same of the script of a forecast, if both texts are told and nothing is wrong with the schedule: what is wrong
     // with the script is answered; or ReadFault, of the schedule, or of the script once the schedule was read to its
     // end.
-    ensures bad_script { (f : ForecastValues) (plan script : List ℕ) (bad : BadText)
-        → IsCommandOf words.now (Forecast f)
-        → AreTold (names_of (Forecast f)) (D.meaning desk.old) plan script
-        → IsSideRight (Forecast f) plan → IsTextBad bad_copy_row script bad
+    ensures bad_script { (told : Words) (plan script : List ℕ) (bad : BadText)
+        → IsCommandOf words.now (Verb.Forecast, told)
+        → AreTold (names_of (Verb.Forecast, told)) (D.meaning desk.old) plan script
+        → IsSideRight (Verb.Forecast, told) plan → IsTextBad bad_copy_row script bad
         → result ≢ Status.Refused Refusal.NoMemory
-        → IsScriptFirst (Some f.plan) (D.meaning desk.old) plan script bad
+        → IsScriptFirst (names_of (Verb.Forecast, told)).side (D.meaning desk.old) plan script bad
         (D.meaning desk.new) result }
 
     // If both inputs are told, memory was found and no count rose, the answer is that of the side text and of the
@@ -133,10 +134,11 @@ pub fn pocket<D: Desk>(alloc: Global, words: &[String], desk: &mut D) -> Status
 
     // The headline: whatever was lost or repeated of a history on its way, with gaps that are shorter than the period of the
     // sequence counts, restoring writes each packet up to the last arrival exactly as it was, or lists it.
-    ensures headline { (r : RestoreValues) (h : History) (copies : ℕ → ℕ)
-        → IsCommandOf words.now (Restore r) → IsPlayedStore r h copies (D.meaning desk.old)
+    ensures headline { (told : Words) (h : History) (copies : ℕ → ℕ)
+        → IsCommandOf words.now (Verb.Restore, told)
+        → IsPlayedStore told h copies (D.meaning desk.old)
         → result ≡ Status.Done
-        → HasWritten (names_of (Restore r))
+        → HasWritten (names_of (Verb.Restore, told))
         (record { output = restored_bytes h copies; report = report_text h copies })
         (D.meaning desk.new) }
 

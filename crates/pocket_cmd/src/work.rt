@@ -1,7 +1,6 @@
 //! The work of a command.
 ghost use Rattle.std.specs.Prelude.{◌≤◌, length, IsTrue, IfSome};
-ghost use Rattle.pocket_cmd.specs.Command.{view_command};
-ghost use Rattle.pocket_cmd.specs.Courses.{names_of};
+ghost use Rattle.pocket_cmd.specs.Command.{names_of, view_command};
 ghost use Rattle.pocket_cmd.specs.Outcome.{AfterCommand, AfterText, IsAnswered, IsAnsweredBy};
 ghost use Rattle.pocket_cmd.specs.Status.{HasStatusCause, status_by};
 

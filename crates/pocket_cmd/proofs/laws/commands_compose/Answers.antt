@@ -5,11 +5,17 @@ pub returns-clause-compress : goal.returns-clause-compress
 returns-clause-compress c = λ k plan recording right bytes whole. (IsValid-recorded k plan recording right bytes, owed-recorded k plan recording whole)
 
 pub returns-clause-play : goal.returns-clause-play
-returns-clause-play c = λ p script h chosen valid. (IsInputWhole-history p h chosen valid, owed-played_store p h script chosen valid)
+returns-clause-play c = λ p script h right valid.
+    let (_, (_, (_, (_, (chosen, _))))) = right in
+    (IsInputWhole-history p h chosen.1 valid, owed-played_store p h script chosen.1 valid)
 
 pub returns-clause-restore : goal.returns-clause-restore
 returns-clause-restore c = λ r h copies right valid places short few.
-    (whole-restored r h copies right.1 valid few, owed-restored r h copies right.1 valid places short few)
+    let (_, (_, (_, (_, (chosen, _))))) = right in
+    (whole-restored r h copies chosen.1 valid few, owed-restored r h copies chosen.1 valid places short few)
 
 pub returns-clause-chain : goal.returns-clause-chain
-returns-clause-chain c = owed-chain
+returns-clause-chain c = λ k p r plan script recording right playing restoring.
+    let (_, (_, (_, (_, (one, _))))) = playing in
+    let (_, (_, (_, (_, (other, _))))) = restoring in
+    owed-chain k p r plan script recording right one.1 other.1

@@ -8,7 +8,8 @@ use Rattle.late_window.specs.Restoring.{late_course}
 use Rattle.late_window.specs.Rows.{late_row}
 use Rattle.late_window.proofs.Delivered.{owed-late}
 use Rattle.late_window.proofs.Wholes.{owed-whole}
-use Rattle.pocket_cmd.specs.Command.{Late, LateValues}
+use Rattle.pocket_cmd.specs.declared.verbs.Verb.TheVariants.{Late}
+use Rattle.pocket_cmd.specs.Words.{Words, apid, bits, window}
 use Rattle.pocket_cmd.specs.Delivery.{IsInputWhole}
 use Rattle.pocket_cmd.specs.Faults.{of_store}
 use Rattle.pocket_cmd.proofs.Faults.{owed-with_fault}
@@ -19,15 +20,15 @@ none_named : (ending : Option WalkFault) → option_map of_store ending ≡ None
 none_named None is = refl
 none_named (Some fault) is = absurd cc
 
-whole_walk : (l : LateValues) (store : List ℕ) → IsInputWhole (Late l) store → (walk (Some l.apid) store).ending ≡ None
-whole_walk l store whole = none_named (walk (Some l.apid) store).ending (whole.ends [])
+whole_walk : (l : Words) (store : List ℕ) → IsInputWhole (Late, l) store → (walk (Some (apid l)) store).ending ≡ None
+whole_walk l store whole = none_named (walk (Some (apid l)) store).ending (whole.ends [])
 
 pub returns-clause-order : goal.returns-clause-order
 returns-clause-order c = λ l store whole.
-    sym (owed-with_fault of_store (late_course l.bits l.apid l.window store)) ∙ owed-whole l.bits l.apid l.window store (whole_walk l store whole)
+    sym (owed-with_fault of_store (late_course (bits l) (apid l) (window l) store)) ∙ owed-whole (bits l) (apid l) (window l) store (whole_walk l store whole)
 
 pub returns-clause-restored : goal.returns-clause-restored
 returns-clause-restored c = λ l h copies store numbers whole valid places delivery arrives.
-    sym (owed-with_fault of_store (late_course l.bits l.apid l.window store))
-    ∙ subst (λ f. owed (late_course f l.apid l.window store) ≡ record { output = restored_bytes h copies; report = report_text h copies ++ late_row 0 }) places
-    (owed-late h copies l.apid l.window store numbers valid delivery arrives (whole_walk l store whole))
+    sym (owed-with_fault of_store (late_course (bits l) (apid l) (window l) store))
+    ∙ subst (λ f. owed (late_course f (apid l) (window l) store) ≡ record { output = restored_bytes h copies; report = report_text h copies ++ late_row 0 }) places
+    (owed-late h copies (apid l) (window l) store numbers valid delivery arrives (whole_walk l store whole))

@@ -8,7 +8,8 @@ use Rattle.multi_ground.specs.Apart.{HasStream}
 use Rattle.multi_ground.specs.MultiOutputs.{multi_course}
 use Rattle.multi_ground.proofs.PlayedStreams.{restored-played}
 use Rattle.multi_ground.proofs.Restored.{owed-store, owed-stream}
-use Rattle.pocket_cmd.specs.Command.{Multi, MultiValues}
+use Rattle.pocket_cmd.specs.declared.verbs.Verb.TheVariants.{Multi}
+use Rattle.pocket_cmd.specs.Words.{Words}
 use Rattle.pocket_cmd.specs.Courses.{course_of}
 use Rattle.pocket_cmd.specs.Delivery.{IsInputWhole}
 use Rattle.pocket_cmd.specs.Faults.{of_store}
@@ -16,11 +17,11 @@ use Rattle.pocket_cmd.proofs.Faults.{owed-with_fault, unmapped}
 use Rattle.pocket_cmd.proofs.laws.streams_are_restored_apart.Goals as goal
 
 -- the walk of a whole input is whole
-whole_walk : (m : MultiValues) (text store : List ℕ) → IsInputWhole (Multi m) store → (walk None store).ending ≡ None
+whole_walk : (m : Words) (text store : List ℕ) → IsInputWhole (Multi, m) store → (walk None store).ending ≡ None
 whole_walk m text store whole = unmapped of_store (walk None store).ending (whole.ends text)
 
 -- and all that it owes is what the streams owe
-same_owed : (m : MultiValues) (text store : List ℕ) → owed (multi_course (streams_of text) store) ≡ owed (course_of (Multi m) text store)
+same_owed : (m : Words) (text store : List ℕ) → owed (multi_course (streams_of text) store) ≡ owed (course_of (Multi, m) text store)
 same_owed m text store = owed-with_fault of_store (multi_course (streams_of text) store)
 
 pub returns-clause-whole : goal.returns-clause-whole

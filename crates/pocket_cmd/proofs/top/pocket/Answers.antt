@@ -1,9 +1,9 @@
-use Rattle.std.proofs.Common.{Some, None, map, sym, ◌∙◌, subst}
+use Rattle.std.proofs.Common.{None, map, sym, ◌∙◌, subst}
 use Rattle.std.specs.String.{string_bytes}
 use Rattle.desk_ports.specs.declared.desk.Inlet.TheVariants as inlet
 use Rattle.pocket_cmd.specs.declared.status.Refusal.TheVariants as refusal
-use Rattle.pocket_cmd.specs.Command.{Restore, view_command}
-use Rattle.pocket_cmd.specs.Courses.{names_of}
+use Rattle.pocket_cmd.specs.declared.verbs.Verb.TheVariants.{Forecast, Restore}
+use Rattle.pocket_cmd.specs.Command.{names_of, view_command}
 use Rattle.pocket_cmd.specs.Outcome.{Stands, AfterCommand, AfterRefusal, IsScriptFirst, IsSideJudged, IsTextFirst}
 use Rattle.pocket_cmd.proofs.Apart.{AreApart-command_of, kept_as_made}
 use Rattle.pocket_cmd.specs.Status.{class_of}
@@ -17,28 +17,16 @@ use Rattle.pocket_cmd.proofs.Headline.{Done-whole, HasWritten-restored}
 use Rattle.pocket_cmd.proofs.top.pocket.Goals as goal
 
 pub perform-requires-clause-side : goal.perform-requires-clause-side
-perform-requires-clause-side g c =
-    let command = view_command c.in-Ok.command in
-    side_granted (map string_bytes c.args.words.now) (names_of command).side (g.D.Desk.meaning c.args.desk.now).grants_in c.requires.reads
-    (IsCommand-command_of (map string_bytes c.args.words.now) command (sym c.in-Ok.ensures)).given.side
+perform-requires-clause-side g c = side_granted _ (view_command c.in-Ok.command) (IsCommand-command_of (map string_bytes c.args.words.now) _ (sym c.in-Ok.ensures)).given (g.D.Desk.meaning c.args.desk.now).grants_in c.requires.reads
 
 pub perform-requires-clause-input : goal.perform-requires-clause-input
-perform-requires-clause-input g c =
-    let command = view_command c.in-Ok.command in
-    input_granted (map string_bytes c.args.words.now) (names_of command).input (g.D.Desk.meaning c.args.desk.now).grants_in c.requires.reads
-    (IsCommand-command_of (map string_bytes c.args.words.now) command (sym c.in-Ok.ensures)).given.input
+perform-requires-clause-input g c = input_granted _ (view_command c.in-Ok.command) (IsCommand-command_of (map string_bytes c.args.words.now) _ (sym c.in-Ok.ensures)).given (g.D.Desk.meaning c.args.desk.now).grants_in c.requires.reads
 
 pub perform-requires-clause-output : goal.perform-requires-clause-output
-perform-requires-clause-output g c =
-    let command = view_command c.in-Ok.command in
-    output_granted (map string_bytes c.args.words.now) (names_of command).output (g.D.Desk.meaning c.args.desk.now).grants_out c.requires.writes
-    (IsCommand-command_of (map string_bytes c.args.words.now) command (sym c.in-Ok.ensures)).given.output
+perform-requires-clause-output g c = output_granted _ (view_command c.in-Ok.command) (IsCommand-command_of (map string_bytes c.args.words.now) _ (sym c.in-Ok.ensures)).given (g.D.Desk.meaning c.args.desk.now).grants_out c.requires.writes
 
 pub perform-requires-clause-report : goal.perform-requires-clause-report
-perform-requires-clause-report g c =
-    let command = view_command c.in-Ok.command in
-    report_granted (map string_bytes c.args.words.now) (names_of command).report (g.D.Desk.meaning c.args.desk.now).grants_out c.requires.writes
-    (IsCommand-command_of (map string_bytes c.args.words.now) command (sym c.in-Ok.ensures)).given.report
+perform-requires-clause-report g c = report_granted _ (view_command c.in-Ok.command) (IsCommand-command_of (map string_bytes c.args.words.now) _ (sym c.in-Ok.ensures)).given (g.D.Desk.meaning c.args.desk.now).grants_out c.requires.writes
 
 pub returns-in-Ok-clause-refused : goal.returns-in-Ok-clause-refused
 returns-in-Ok-clause-refused g c = λ refusal command is given.
@@ -84,7 +72,7 @@ returns-in-Ok-clause-complete g c = λ command text input is told right whole me
 pub returns-in-Ok-clause-headline : goal.returns-in-Ok-clause-headline
 returns-in-Ok-clause-headline g c = λ r h copies is played done.
     HasWritten-restored (view_command c.in-Ok.command) r h copies (g.D.Desk.meaning c.args.desk.now) (g.D.Desk.meaning c.perform.new.desk) c.perform.result
-    (same_command (sym c.in-Ok.ensures) is) (IsCommand-command_of (map string_bytes c.args.words.now) (Restore r) is).right.1 played c.perform.ensures.after (sym c.into.ensures ∙ done)
+    (same_command (sym c.in-Ok.ensures) is) (IsCommand-command_of (map string_bytes c.args.words.now) (Restore, r) is).right played c.perform.ensures.after (sym c.into.ensures ∙ done)
 
 pub returns-in-Ok-clause-leaves : goal.returns-in-Ok-clause-leaves
 returns-in-Ok-clause-leaves g c = λ refusal command is given.
@@ -127,7 +115,7 @@ pub returns-in-Ok-clause-bad_script : goal.returns-in-Ok-clause-bad_script
 returns-in-Ok-clause-bad_script g c = λ f plan script bad is told right wrong memory.
     let old = g.D.Desk.meaning c.args.desk.now in
     let new = g.D.Desk.meaning c.perform.new.desk in
-    subst (IsScriptFirst (Some f.plan) old plan script bad new) (sym c.into.ensures)
+    subst (IsScriptFirst (names_of (Forecast, f)).side old plan script bad new) (sym c.into.ensures)
     (script-first f old new plan script told right bad wrong c.perform.result
     (subst (λ command. AfterCommand command old new c.perform.result) (same_command (sym c.in-Ok.ensures) is) c.perform.ensures.after) (λ e. memory (c.into.ensures ∙ e)))
 

@@ -1,8 +1,7 @@
 use Rattle.std.proofs.Common.{◌≡◌, ◌∙◌, Err, sym, ap, subst}
 use Rattle.desk_ports.specs.declared.desk.Inlet.TheVariants as inlet
 use Rattle.pocket_cmd.specs.declared.text.TextFault.TheVariants as unread
-use Rattle.pocket_cmd.specs.Command.{Names, view_command}
-use Rattle.pocket_cmd.specs.Courses.{names_of}
+use Rattle.pocket_cmd.specs.Command.{Names, view_command, names_of}
 use Rattle.pocket_cmd.specs.Openings.{IsText, IsTextLong, with_text}
 use Rattle.pocket_cmd.specs.Outcome.{AfterText, IsAnswered}
 use Rattle.pocket_cmd.proofs.Begun.{AfterCommand-read}
