@@ -57,8 +57,17 @@ fn unpacked_kept(number: u64, at: u64, moves: &mut [WordMoves], index: usize) ->
     ensures moves { length moves.new ≡ length moves.old }
 {
     if index >= moves.len() {
-        let mut found = word_moves(at);
-        return found.unpacked(number, at);
+        return unpacked_once(number, at);
     }
     moves[index].unpacked(number, at)
+}
+
+/// The same by moves that are not kept.
+#[inline(never)]
+pub fn unpacked_once(number: u64, at: u64) -> u64
+    ensures { (weight : ℕ) → weight < 64 → bit_at at weight ≡ 1
+        → bit_at result weight ≡ bit_at number (ones_under at weight) }
+{
+    let mut found = word_moves(at);
+    found.unpacked(number, at)
 }

@@ -10,7 +10,7 @@ ghost use Rattle.bit_vectors.specs.Vectors.{bits_number, number_bits};
 ghost use Rattle.run_code.specs.Extraction.{extract, bits_up};
 
 use crate::moves::WordMoves;
-use crate::packing::{packed, packed_once, unpacked};
+use crate::packing::{packed, packed_once, unpacked, unpacked_once};
 use bit_vectors::BitPen;
 
 /// With more ones than these all bits are moved at once: that takes fewer instructions than to visit each 1, and if
@@ -122,7 +122,7 @@ pub fn spread_up(number: u64, at: u64, ones: u32) -> u64
     ensures others { (weight : ℕ) → bit_at at weight ≡ 0 → bit_at result weight ≡ 0 }
 {
     if ones > MANY {
-        return unpacked(number, at, &mut [], 0) & at;
+        return unpacked_once(number, at) & at;
     }
     let mut made = 0;
     let mut next = number;

@@ -29,8 +29,8 @@ returns-clause-bits c =
 
 pub returns-then-ones-gt-MANY-clause-bits : goal.returns-then-ones-gt-MANY-clause-bits
 returns-then-ones-gt-MANY-clause-bits c =
-    number_up (bit_and c.unpacked.result c.args.at) c.args.at c.args.number (omega (arith, c.ranges.at))
-    (λ i lt one. sym (bit_at_and c.unpacked.result c.args.at i ∙ omega (arith, one, bit_at-lt c.unpacked.result i) ∙ c.unpacked.ensures.bits i lt one))
+    number_up (bit_and c.unpacked_once.result c.args.at) c.args.at c.args.number (omega (arith, c.ranges.at))
+    (λ i lt one. sym (bit_at_and c.unpacked_once.result c.args.at i ∙ omega (arith, one, bit_at-lt c.unpacked_once.result i) ∙ c.unpacked_once.ensures i lt one))
 
 pub returns-then-ones-gt-MANY-clause-others : goal.returns-then-ones-gt-MANY-clause-others
-returns-then-ones-gt-MANY-clause-others c i none = bit_at_and c.unpacked.result c.args.at i ∙ omega (arith, none)
+returns-then-ones-gt-MANY-clause-others c i none = bit_at_and c.unpacked_once.result c.args.at i ∙ omega (arith, none)
