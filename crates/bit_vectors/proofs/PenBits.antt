@@ -1,19 +1,20 @@
 -- What a pen's bytes and its word hold after each number is put.
-use Rattle.std.proofs.Common.{◌≡◌, ℕ, ◌+◌, ◌-◌, ◌*◌, ◌/◌, ◌%◌, ◌^◌, ◌<◌, ◌≤◌, Bool, true, false, List, [], ◌∷◌, ◌++◌, length, take, replicate, w64, refl, sym, ap, ◌∙◌, arith, inl, inr, append_assoc}
+use Rattle.std.proofs.Common.{◌≡◌, ℕ, ◌+◌, ◌-◌, ◌*◌, ◌/◌, ◌%◌, ◌^◌, ◌<◌, ◌≤◌, Bool, true, false, List, [], ◌∷◌, ◌++◌, length, take, drop, replicate, w64, refl, sym, ap, ◌∙◌, arith, inl, inr, append_assoc}
 use Rattle.std.specs.Int.{to_be_bytes}
 use mir.Val.{bool_byte}
 use Rattle.std.proofs.lemmas.Bool.{cases_lt}
-use Rattle.std.proofs.lemmas.List.{length-append, length-take, length-take-le, append-nil, take_at, take-take, take-replicate}
+use Rattle.std.proofs.lemmas.List.{length-append, length-drop, length-take, length-take-le, append-nil, take_at, take-append-le, take-take, take-replicate}
 use Rattle.std.proofs.lemmas.List.Concat.{flat_map-append}
 use Rattle.std.proofs.lemmas.Nat.{pow-add, pow_pos, mod_below, shl-shr, shr_split, shr_below, shl_below, shl_whole, mul-mod_first}
 use Rattle.std.proofs.Math.Nat.{mul-mod_left}
-use Rattle.std.proofs.Math.Seq.{take-append-add}
+use Rattle.std.proofs.Math.Seq.{take-add, take-append-add}
+use Rattle.bit_vectors.specs.Eye.{Shows}
 use Rattle.bit_vectors.specs.Vectors.{number_bits, bits_of, AreBytes, byte_count, padded, vector_bytes}
 use Rattle.bit_vectors.specs.Pen.{written_bits, HasRoom}
 use Rattle.bit_vectors.proofs.NumberBits.{length-number_bits}
 use Rattle.bit_vectors.proofs.Numbers.{number_bits-cat, number_bits-split, number_bits-mod, high_bits}
 use Rattle.bit_vectors.proofs.ByteBits.{length-bits_of, bits_of-take, vector_bytes_is}
-use Rattle.bit_vectors.proofs.FrontWord.{bits_of-to_be_bytes, shl_word}
+use Rattle.bit_vectors.proofs.FrontWord.{bits_of-to_be_bytes, shl_word, shown_front}
 use Rattle.bit_vectors.proofs.WordParts.{cat_below}
 
 pub no_bits : (n : ℕ) → number_bits 0 n ≡ []
@@ -36,7 +37,7 @@ joined word value held width within clean =
     omega (arith, shr_split word (64 - held))
 
 -- the held bits, as a number
-low_below : (word held : ℕ) → held ≤ 64 → word < 2 ^ 64 → word / 2 ^ (64 - held) < 2 ^ held
+pub low_below : (word held : ℕ) → held ≤ 64 → word < 2 ^ 64 → word / 2 ^ (64 - held) < 2 ^ held
 low_below word held le small = let all : held + (64 - held) ≡ 64 = omega arith in shr_below word held (64 - held) (rw all small)
 
 -- the word with the number after its bits
@@ -153,23 +154,33 @@ module _ (bytes new : List ℕ) (capacity words word held room value width : ℕ
       rw (words_before bytes new words (joined_word word value held width) (omega (arith, h.within, h.bytes_fit)) has, joined_bits word value held width (omega arith) h.small h.clean fits)
       (sym (append_assoc (bits_of (take (8 * words) bytes)) (number_bits held (word / 2 ^ (64 - held))) (number_bits width value)))
 
--- a word after the words of other bytes, with as many bits of it as they have
-module _ (bytes others new : List ℕ) (capacity words word held room other_capacity other_words other_word other_held other_room : ℕ) (h : HasRoom bytes capacity words word held room) (o : HasRoom others other_capacity other_words other_word other_held other_room) (within : 64 * other_words + other_held ≤ room)
-    (same : length new ≡ length bytes) (has : HasWord others new other_words other_word) where
-  pub HasRoom-copied : HasRoom new capacity other_words other_word other_held room
-  HasRoom-copied = record {
-    within = within;
-    most = h.most;
-    bytes_fit = same ∙ h.bytes_fit;
-    taken = h.taken;
-    short = o.short;
-    small = o.small;
-    clean = o.clean;
-    kept = λ some. rw (words_before others new other_words other_word (omega (arith, o.within, o.bytes_fit)) has) has;
-  }
+-- the words of other bytes, one more at a time
+pub word_after : (bytes : List ℕ) (index word : ℕ) → 8 * index + 8 ≤ length bytes → Shows (bits_of (drop (8 * index) bytes)) word → bits_of (take (8 * (index + 1)) bytes) ≡ bits_of (take (8 * index) bytes) ++ number_bits 64 word
+word_after bytes index word within shows =
+    let next : 8 * (index + 1) ≡ 8 * index + 8 = omega arith in
+    let whole : word / 2 ^ (64 - 64) ≡ word = omega arith in
+    let is : bits_of (take 8 (drop (8 * index) bytes)) ≡ number_bits 64 word =
+    bits_of-take 8 (drop (8 * index) bytes)
+    ∙ sym (shown_front (bits_of (drop (8 * index) bytes)) word 64 shows (omega arith) (omega (arith, length-bits_of (drop (8 * index) bytes), length-drop (8 * index) bytes)))
+    ∙ ap (number_bits 64) whole in
+    ap (λ (b : List ℕ). bits_of b) (ap (λ (n : ℕ). take n bytes) next ∙ take-add (8 * index) 8 bytes)
+    ∙ flat_map-append (number_bits 8) (take (8 * index) bytes) (take 8 (drop (8 * index) bytes))
+    ∙ ap (λ (b : List Bool). bits_of (take (8 * index) bytes) ++ b) is
 
-  pub written-copied : written_bits new other_words other_word other_held ≡ written_bits others other_words other_word other_held
-  written-copied = rw (words_before others new other_words other_word (omega (arith, o.within, o.bytes_fit)) has) refl
+pub words_taken : (bytes : List ℕ) (capacity words word held room index : ℕ) → HasRoom bytes capacity words word held room → index ≤ words → take (64 * index) (written_bits bytes words word held) ≡ bits_of (take (8 * index) bytes)
+words_taken bytes capacity words word held room index h le =
+    let bits : 64 * index ≡ 8 * (8 * index) = omega arith in
+    take-append-le (64 * index) (bits_of (take (8 * words) bytes)) (number_bits held (word / 2 ^ (64 - held))) (omega (arith, length-bits_of (take (8 * words) bytes), length-take (8 * words) bytes, h.within, h.bytes_fit))
+    ∙ ap (λ (n : ℕ). take n (bits_of (take (8 * words) bytes))) bits
+    ∙ sym (bits_of-take (8 * index) (take (8 * words) bytes))
+    ∙ ap (λ (b : List ℕ). bits_of b) (take-take (8 * index) (8 * words) bytes (omega arith))
+
+pub next_word : (bytes : List ℕ) (capacity words word held room index value : ℕ) → HasRoom bytes capacity words word held room → index < words → Shows (bits_of (drop (8 * index) bytes)) value
+    → take (64 * index) (written_bits bytes words word held) ++ number_bits 64 value ≡ take (64 * (index + 1)) (written_bits bytes words word held)
+next_word bytes capacity words word held room index value h lt shows =
+    ap (λ (b : List Bool). b ++ number_bits 64 value) (words_taken bytes capacity words word held room index h (omega arith))
+    ∙ sym (word_after bytes index value (omega (arith, h.within, h.bytes_fit)) shows)
+    ∙ sym (words_taken bytes capacity words word held room (index + 1) h (omega arith))
 
 -- bytes with two words written after the given number of bytes
 abbrev pub HasWords : List ℕ → List ℕ → ℕ → ℕ → ℕ → Type 0

@@ -6,6 +6,7 @@ ghost use Rattle.bit_vectors.specs.Vectors.{number_bits, AreBytes, byte_count, v
 
 use crate::bits::Bits;
 use crate::fault::NoMemory;
+use crate::front::front_word;
 use crate::room::zero_bytes;
 use std::alloc::Global;
 use std::marker::Model;
@@ -110,16 +111,18 @@ impl BitPen {
         self.put_word(bits.word(last) >> (64 - width), width);
     }
 
-    /// Makes the bits those of `other`, for which there must be room. The capacity is unchanged.
-    pub fn copy_from(&mut self, other: &BitPen)
-        requires { length other.now.bits ≤ self.old.room }
-        ensures bits { self.new.bits ≡ other.now.bits }
+    /// Appends the bits of another pen.
+    pub fn put_pen(&mut self, other: &BitPen)
+        requires { length self.old.bits + length other.now.bits ≤ self.old.room }
+        ensures bits { self.new.bits ≡ self.old.bits ++ other.now.bits }
         ensures room { self.new.room ≡ self.old.room }
     {
-        copy_words(&mut self.bytes, &other.bytes, other.words, other.word);
-        self.words = other.words;
-        self.word = other.word;
-        self.held = other.held;
+        for index in 0..other.words {
+            self.put_word(front_word(&other.bytes[8 * index as usize..]), 64);
+        }
+        if other.held != 0 {
+            self.put_word(other.word >> (64 - other.held), other.held);
+        }
     }
 
     /// Removes all bits. The capacity is unchanged.
@@ -155,21 +158,6 @@ impl BitPen {
         ensures most { length result.now ≤ 65536 }
     {
         first_bytes(&self.bytes, self.len().div_ceil(8))
-    }
-}
-
-/// Makes the bytes of the given number of words those of the others, and writes one word more after them, which is all
-/// that a short packet has.
-fn copy_words(bytes: &mut [u8], others: &[u8], words: u32, word: u64)
-    requires room { 8 * words + 8 ≤ length bytes.old }
-    requires there { 8 * words ≤ length others.now }
-    ensures { take (8 * words + 8) bytes.new
-        ≡ take (8 * words) others.now ++ to_be_bytes w64 word }
-{
-    write_word(bytes, words, word);
-    if words != 0 {
-        let end = 8 * words as usize;
-        bytes[..end].copy_from_slice(&others[..end]);
     }
 }
 

@@ -122,7 +122,7 @@ may_above true true e = (refl, refl)
 may_above true false e = absurd cc
 may_above false above e = absurd cc
 
-any_one : (v : List Bool) (place : ℕ) → IsOne v place → list_any (λ (bit : Bool). bit) v ≡ true
+pub any_one : (v : List Bool) (place : ℕ) → IsOne v place → list_any (λ (bit : Bool). bit) v ≡ true
 any_one v place one = list_any_at (λ (bit : Bool). bit) v place false (one_within v place one) one
 
 can_be : (recent : List Bool) (level : ℕ) → may_be_sent recent level ≡ true → (0 < level) × Contains recent true

@@ -22,4 +22,5 @@ pub mod WindowContent
 pub mod OfHistories
 pub mod PredictablePlaces
 pub mod RecentChanges
+pub mod OtherLevel
 mod RepeatedPacket

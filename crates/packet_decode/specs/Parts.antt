@@ -1,18 +1,18 @@
 -- What the values stand for by which packets are read.
-use Rattle.std.specs.Prelude.{◌≡◌, ◌≢◌, ℕ, ◌<◌, ⊤, List, [], Bool, true, false, replicate, IfNone, IfSome, length, Option, None, Some, Result}
+use Rattle.std.specs.Prelude.{◌≡◌, ◌≢◌, ℕ, ◌<◌, ⊤, List, [], ◌++◌, Bool, true, false, replicate, take, drop, IfNone, IfSome, length, Option, None, Some, Result}
 use Rattle.std.specs.Borrow.{Bor}
 use Rattle.std.specs.Option.{option_map}
 use Rattle.bit_vectors.specs.declared.fault.BitFault.{BitFault}
 use Rattle.bit_vectors.specs.Eye.{EyeState, bits_left}
 use Rattle.bit_vectors.specs.Reading.{MovesOn, Parsed}
-use Rattle.bit_vectors.specs.Vectors.{IsVector, bits_of}
+use Rattle.bit_vectors.specs.Vectors.{IsVector, bits_of, number_bits}
 use Rattle.packet_encode.specs.Forms.{Form}
 use Rattle.packet_decode.specs.declared.latest.DataKind.{DataKind}
 use Rattle.packet_decode.specs.declared.latest.DataKind.TheVariants.{Deduced as DeducedKind, Sent as SentKind, Maskless as MasklessKind, Opaque as OpaqueKind}
 use Rattle.packet_decode.specs.declared.draft.Draft.{Draft}
 use Rattle.packet_decode.specs.declared.draft.Room.{Room}
 use Rattle.packet_decode.specs.declared.latest.Latest.{Latest}
-use Rattle.packet_decode.specs.State.{KnownVector, State, Change, change_of, deduced_by, mask_after, known_if}
+use Rattle.packet_decode.specs.State.{KnownVector, State, Change, deduced_by, known_if}
 use Rattle.packet_decode.specs.Spelling.{Spells}
 use Rattle.packet_decode.specs.PacketReading.{Found, Outcome, Spelled, Opaque, Tells}
 
@@ -90,15 +90,21 @@ pub record IsReady (first : Change) (mask content : Option (List Bool)) (vectors
   pub deduced : IfSome mask (λ v. length v ≡ length vectors.content)
   pub known : IfSome content (λ v. length v ≡ length vectors.content)
 
--- Under some state, these bytes spell a packet by which the latest mask and the latest content became known, and this is its
--- first part. Its changes leave the mask as it is.
+-- something, and these bytes are the same but for this level in the four bits after the first two
+pub record IsAtLevel (level : ℕ) (others bytes : List ℕ) : Type 0 where
+  pub below : level < 16
+  pub some : others ≢ []
+  pub bits : bits_of bytes ≡ take 2 (bits_of others) ++ (number_bits 4 level ++ drop 6 (bits_of others))
+
+-- Under some state, these bytes spell a packet by which the latest mask and the latest content became known. It has no recent
+-- changes, and these are those of the latest written packet too.
 pub record SpellLatest (latest : Latest) (shown : Change) (bytes : List ℕ) : Type 0 where
   pub state : State
   pub t : ℕ
   pub form : Form
   pub spells : Spells (length latest.content) state t (bits_of bytes) form (Some latest.mask) (Some latest.content)
-  pub first_part : change_of form ≡ shown
-  pub stays : mask_after latest.mask shown ≡ latest.mask
+  pub recent : form.recent ≡ shown.recent
+  pub quiet : form.recent ≡ replicate (length form.recent) false
   pub numbers : latest.mask_number ≡ latest.content_number
 
 -- what is remembered, if it is something

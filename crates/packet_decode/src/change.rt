@@ -118,6 +118,15 @@ impl FirstPart {
         self.level
     }
 
+    /// Becomes a first part of this level without directions.
+    pub fn set_level(&mut self, level: u8)
+        requires { level < 16 }
+        ensures { self.new ≡ record { recent = self.old.recent; level = level; directions = None } }
+    {
+        self.level = level;
+        self.twice = None;
+    }
+
     /// Whether it has no change, so that the mask stays.
     pub fn is_quiet(&self) -> bool
         ensures zero { IsTrue result

@@ -1,15 +1,14 @@
 //! The decoder: the latest known mask and content, and the reading of the next packet.
 
-ghost use Rattle.std.specs.Prelude.{[], ◌≡◌, ◌≢◌, ◌^◌, ◌<◌, ◌≤◌, ◌↔◌, Bool, true, false, List, if◌then◌else◌, length, replicate, Option, Some, None, Ok, IfSome, IfNone, IfOk, IsSome, IsTrue};
-ghost use Rattle.std.specs.Bool.{OnTrue};
+ghost use Rattle.std.specs.Prelude.{[], ◌≡◌, ◌^◌, ◌<◌, ◌≤◌, ◌↔◌, Bool, true, false, List, if◌then◌else◌, length, replicate, Option, Some, None, Ok, IfSome, IfNone, IfOk};
 ghost use Rattle.bit_vectors.specs.Vectors.{IsVector, bits_of};
 ghost use Rattle.bit_vectors.specs.Reading.{Read};
 ghost use Rattle.packet_encode.specs.Forms.{Form};
-ghost use Rattle.packet_decode.specs.State.{IsState, in_reach, next_state, no_vectors};
+ghost use Rattle.packet_decode.specs.State.{IsState, next_state, no_vectors};
 ghost use Rattle.packet_decode.specs.Spelling.{Spells};
 ghost use Rattle.packet_decode.specs.Answers.{Says, IsExactAnswer};
 ghost use Rattle.packet_decode.specs.PacketReading.{Spelled, missed, parse_whole_packet};
-ghost use Rattle.packet_decode.specs.Parts.{IsBefore, IsDeduced, IsRemembered, kept_state, part_by, tells_mask};
+ghost use Rattle.packet_decode.specs.Parts.{IsAtLevel, IsBefore, IsDeduced, IsRemembered, kept_state, part_by, tells_mask};
 ghost use Rattle.packet_decode.specs.Decoding.{latest_number, latest_mask_number, latest_mask, latest_content, tells_nothing};
 
 use crate::change::FirstPart;
@@ -110,7 +109,8 @@ impl Decoder {
         ensures unchanged { tells_nothing result ≡ true → self.new ≡ self.old }
         ensures places { self.new.places ≡ self.old.places }
     {
-        if repeats(&self.remembered, &self.latest, &self.shown, t, bytes) {
+        if let Some(level) = repeats(&self.remembered, &self.latest, &self.shown, t, bytes) {
+            self.shown.set_level(level);
             self.latest.mask_number = Some(t);
             self.latest.content_number = Some(t);
             return Ok(Reading::Written);
@@ -183,30 +183,29 @@ impl Decoder {
     }
 }
 
-/// Whether these data are remembered, and what is known is in reach of the packet with the number `t`, if it has the level
-/// of the latest written one. Then they spell the latest written packet again.
+/// The level of these data, if they are remembered but for it, and what is known is in reach of the packet with the number
+/// `t` at that level. Then they spell the latest written packet again, at that level.
 fn repeats(
     remembered: &Remembered,
     latest: &Latest,
     shown: &FirstPart,
     t: u64,
     bytes: &[u8],
-) -> bool
+) -> Option<u8>
     requires remembered { IsRemembered latest.now shown.now remembered.now }
     requires latest { IsBefore t (length latest.now.content) latest.now }
-    ensures when { IsTrue result ↔ ((remembered.now ≡ bytes.now) × (remembered.now ≢ [])
-        × IsSome (in_reach (part_by latest.now.content_number latest.now.content) t
-        shown.now.level)) }
-    ensures read { OnTrue result
-        (parse_whole_packet (length latest.now.content) (kept_state latest.now) t
+    ensures when { IfSome result (λ level. IsAtLevel level remembered.now bytes.now) }
+    ensures read { IfSome result (λ level.
+        parse_whole_packet (length latest.now.content) (kept_state latest.now) t
         (bits_of bytes.now)
         ≡ Read (record {
-          change = shown.now;
+          change = record { recent = shown.now.recent; level = level; directions = None };
           outcome = Spelled (Some latest.now.mask) (Some latest.now.content);
         }) []) }
 {
-    remembered.is(bytes)
-        && in_reach_of(latest.content_number, &latest.content, t, shown.level()).is_some()
+    let level = remembered.level_of(bytes)?;
+    in_reach_of(latest.content_number, &latest.content, t, level)?;
+    Some(level)
 }
 
 /// Stores the mask that the packet with the number `t` tells as the latest one: the sent one, or the deduced one, which

@@ -1,6 +1,7 @@
 //! The data of a packet that are remembered, to be compared with those of the next one.
 
-ghost use Rattle.std.specs.Prelude.{◌≡◌, ◌≢◌, ◌↔◌, IsTrue, [], nat_le, ◌&&◌, if◌then◌else◌, length};
+ghost use Rattle.std.specs.Prelude.{◌≡◌, [], nat_le, ◌&&◌, if◌then◌else◌, length, IfSome};
+ghost use Rattle.packet_decode.specs.Parts.{IsAtLevel};
 
 use std::marker::Model;
 
@@ -46,10 +47,17 @@ impl Remembered {
         }
     }
 
-    /// Whether something is remembered, and it is these bytes.
-    pub fn is(&self, bytes: &[u8]) -> bool
-        ensures { IsTrue result ↔ ((self.now ≡ bytes.now) × (self.now ≢ [])) }
+    /// The level of these bytes, which are the four bits after the first two, if something is remembered and they are it but for
+    /// these four.
+    pub fn level_of(&self, bytes: &[u8]) -> Option<u8>
+        ensures { IfSome result (λ level. IsAtLevel level self.now bytes.now) }
     {
-        self.size > 0 && &self.bytes[..self.size] == bytes
+        let (kept, others) = self.bytes[..self.size].split_first()?;
+        let (byte, rest) = bytes.split_first()?;
+        if byte / 64 == kept / 64 && byte % 4 == kept % 4 && rest == others {
+            Some(byte / 4 % 16)
+        } else {
+            None
+        }
     }
 }

@@ -2,7 +2,7 @@
 //! (CCSDS 124.0-B-1).
 
 ghost use Rattle.std.specs.Prelude.{◌≡◌, ℕ, ◌+◌, ◌*◌, ◌<◌, ◌≤◌, ◌++◌, length, if◌then◌else◌};
-ghost use Rattle.bit_vectors.specs.Vectors.{or_bits};
+ghost use Rattle.bit_vectors.specs.Vectors.{number_bits, or_bits};
 ghost use Rattle.packet_encode.specs.Forms.{Form, change_bits, direction_bits, wide_by};
 ghost use Rattle.packet_encode.specs.Packets.{directions_of};
 
@@ -34,7 +34,7 @@ pub(crate) fn put_changes(pen: &mut BitPen, mask: &Bits, window: &Window) -> boo
     let recent = window.recent();
     let level = window.effective();
     if window.is_quiet() {
-        pen.put_number(NO_CHANGE + u32::from(level), 2 + LEVEL_BITS);
+        put_level(pen, level);
         return false;
     }
     put_runs(pen, recent);
@@ -43,6 +43,16 @@ pub(crate) fn put_changes(pen: &mut BitPen, mask: &Bits, window: &Window) -> boo
         return false;
     }
     put_directions(pen, mask, recent, window.twice())
+}
+
+/// Appends that there is no recent change, and the level.
+pub(crate) fn put_level(pen: &mut BitPen, level: u8)
+    requires level { level ≤ 15 }
+    requires room { length pen.old.bits + 6 ≤ pen.old.room }
+    ensures bits { pen.new.bits ≡ pen.old.bits ++ number_bits 6 (32 + level) }
+    ensures room { pen.new.room ≡ pen.old.room }
+{
+    pen.put_number(NO_CHANGE + u32::from(level), 2 + LEVEL_BITS);
 }
 
 /// Appends a 0 if the mask has all recent changes. Otherwise appends a 1, then for each recent change whether it

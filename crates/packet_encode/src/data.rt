@@ -1,10 +1,10 @@
 //! The second part of a packet: the mask and the content, whole or in part (CCSDS 124.0-B-1).
 
-ghost use Rattle.std.specs.Prelude.{◌≡◌, ◌+◌, ◌*◌, ◌≤◌, ◌++◌, length, if◌then◌else◌, IfOk};
+ghost use Rattle.std.specs.Prelude.{◌≡◌, ◌+◌, ◌*◌, ◌≤◌, ◌++◌, length, if◌then◌else◌, IfOk, None};
 ghost use Rattle.bit_vectors.specs.Vectors.{or_bits};
 ghost use Rattle.count_code.specs.Code.{count_bits};
 ghost use Rattle.run_code.specs.Extraction.{extract};
-ghost use Rattle.packet_encode.specs.Forms.{data_bits, mask_bits};
+ghost use Rattle.packet_encode.specs.Forms.{Part, data_bits, mask_bits};
 ghost use Rattle.packet_encode.specs.Packets.{sent_content, sent_of};
 
 use bit_vectors::{BitPen, Bits, Flags, NoMemory};
@@ -68,6 +68,20 @@ pub(crate) fn put_data(
     } else {
         put_part(pen, input, mask, recent, wide, scratch);
     }
+}
+
+/// Makes the bits those of the data if neither the mask nor the whole content is sent and there is no recent change.
+pub(crate) fn set_plain_data(pen: &mut BitPen, content: &Bits, mask: &Bits, scratch: &mut Scratch)
+    requires places { length mask.now ≡ length content.now }
+    requires spare { length scratch.old.spare ≡ length content.now }
+    requires room { length content.now + 1 ≤ pen.old.room }
+    ensures bits { pen.new.bits ≡ data_bits None (Part (extract content.now mask.now)) }
+    ensures room { pen.new.room ≡ pen.old.room }
+    ensures spare { length scratch.new.spare ≡ length scratch.old.spare }
+{
+    pen.clear();
+    pen.put(true);
+    put_extract_with(pen, content, mask, &mut scratch.moves);
 }
 
 /// Appends whether the mask is sent, and if it is, the runs of its edges.

@@ -1,17 +1,18 @@
 //! Making packets from inputs.
 
-ghost use Rattle.std.specs.Prelude.{List, [], ◌∷◌, ◌++◌, ◌≡◌, ℕ, ◌↔◌, ◌+◌, ◌*◌, ◌<◌, ◌≤◌, false, length, replicate, IfOk, IfSome, IsTrue, Some};
+ghost use Rattle.std.specs.Prelude.{List, [], ◌∷◌, ◌++◌, ◌≡◌, ℕ, ◌↔◌, ◌+◌, ◌*◌, ◌<◌, ◌≤◌, false, length, replicate, IfOk, IsTrue};
+ghost use Rattle.std.specs.Bool.{OnTrue};
 ghost use Rattle.bit_vectors.specs.Vectors.{padded};
 ghost use Rattle.mask_update.specs.Histories.{History, flags_after, no_steps};
 ghost use Rattle.robust_window.specs.Changes.{MaskStep};
 ghost use Rattle.robust_window.specs.Window.{StandsFor as WindowStandsFor};
-ghost use Rattle.packet_encode.specs.Encoder.{StandsFor};
+ghost use Rattle.packet_encode.specs.Encoder.{StandsFor, plain_data};
 ghost use Rattle.packet_encode.specs.Forms.{form_bits};
 ghost use Rattle.packet_encode.specs.Packets.{form_at, form_of, packet_at, with_next_input};
 ghost use Rattle.robust_window.specs.Histories.{level_at};
 
-use crate::changes::put_changes;
-use crate::data::{Scratch, put_data};
+use crate::changes::{put_changes, put_level};
+use crate::data::{Scratch, put_data, set_plain_data};
 use bit_vectors::{BitPen, Bits, Flags, NoMemory};
 use mask_update::Masks;
 use robust_window::Window;
@@ -37,7 +38,7 @@ pub fn room(f: u32) -> u32
 
 /// Makes the packet of each input (CCSDS 124.0-B-1). It keeps the running vectors and the latest changes, but not the
 /// history. Contracts see them, and say which histories they stand for. It also keeps the latest packet if that has no
-/// recent change, no mask and no whole content, to copy it if the next one has the same bits, and how the latest
+/// recent change, no mask and no whole content, so that the next one takes them over if they are the same, and how the latest
 /// extracted bits moved.
 #[derive(Debug, Drop)]
 pub struct Encoder {
@@ -45,8 +46,7 @@ pub struct Encoder {
     window: Window,
     scratch: Scratch,
     kept: BitPen,
-    /// The level of the packet that is kept, if one is.
-    plain: Option<u8>,
+    is_kept: bool,
 }
 
 impl Model for Encoder {
@@ -56,7 +56,7 @@ impl Model for Encoder {
 
     ghost view = { λ e. record { masks = e.masks; window = e.window } };
 
-    ghost invariant = { λ e. IsEncoder e.masks e.window e.scratch.spare e.kept e.plain };
+    ghost invariant = { λ e. IsEncoder e.masks e.window e.scratch.spare e.kept e.is_kept };
 }
 
 impl Encoder {
@@ -75,7 +75,7 @@ impl Encoder {
             window: Window::open(alloc, f)?,
             scratch: Scratch::open(alloc, f)?,
             kept: BitPen::with_room(alloc, room(f))?,
-            plain: None,
+            is_kept: false,
         })
     }
 
@@ -108,9 +108,17 @@ impl Encoder {
         let flags = self.forced(flags, robust);
         self.masks.step(input, flags.p);
         step_window(&mut self.window, &self.masks, flags.p, robust);
-        let plain = plain_level(&self.window, flags);
-        if self.masks.is_again() && is_level(plain, self.plain) {
-            pen.copy_from(&self.kept);
+        if is_plain(&self.window, flags) {
+            keep(
+                &mut self.kept,
+                self.is_kept,
+                input,
+                &self.masks,
+                &mut self.scratch,
+            );
+            put_level(pen, self.window.effective());
+            pen.put_pen(&self.kept);
+            self.is_kept = true;
         } else {
             write_packet(
                 pen,
@@ -120,8 +128,7 @@ impl Encoder {
                 &self.window,
                 &mut self.scratch,
             );
-            keep(&mut self.kept, pen, plain);
-            self.plain = plain;
+            self.is_kept = false;
         }
     }
 
@@ -206,37 +213,27 @@ fn write_packet(
     put_data(pen, input, flags, mask, window.recent(), wide, scratch);
 }
 
-/// Keeps the packet in the pen if it has a level.
-fn keep(kept: &mut BitPen, pen: &BitPen, plain: Option<u8>)
-    requires { length pen.now.bits ≤ kept.old.room }
-    ensures bits { IfSome plain (λ level. kept.new.bits ≡ pen.now.bits) }
+/// Keeps the data of a plain packet of this input. If it came again and data are kept, they are these.
+fn keep(kept: &mut BitPen, is_kept: bool, input: &Bits, masks: &Masks, scratch: &mut Scratch)
+    requires kept { OnTrue is_kept (OnTrue masks.now.again (kept.old.bits ≡ plain_data masks.now)) }
+    requires input { masks.now.previous ≡ input.now }
+    requires places { length masks.now.mask ≡ length input.now }
+    requires spare { length scratch.old.spare ≡ length input.now }
+    requires room { length input.now + 1 ≤ kept.old.room }
+    ensures bits { kept.new.bits ≡ plain_data masks.now }
     ensures room { kept.new.room ≡ kept.old.room }
+    ensures spare { length scratch.new.spare ≡ length scratch.old.spare }
 {
-    if plain.is_some() {
-        kept.copy_from(pen);
+    if !(is_kept && masks.is_again()) {
+        set_plain_data(kept, input, masks.mask(), scratch);
     }
 }
 
-/// The level of a packet with these flags if it has no recent change, no mask and no whole content.
-fn plain_level(window: &Window, flags: Flags) -> Option<u8>
+/// Whether a packet with these flags has no recent change, no mask and no whole content.
+fn is_plain(window: &Window, flags: Flags) -> bool
     requires { 0 < window.now.taken }
-    ensures { (level : ℕ) → (result ≡ Some level) ↔ ((flags.f ≡ false) × (flags.r ≡ false)
-        × (window.now.recent ≡ replicate (length window.now.recent) false)
-        × (window.now.level ≡ level)) }
+    ensures { IsTrue result ↔ ((flags.f ≡ false) × (flags.r ≡ false)
+        × (window.now.recent ≡ replicate (length window.now.recent) false)) }
 {
-    if !flags.f && !flags.r && window.is_quiet() {
-        Some(window.effective())
-    } else {
-        None
-    }
-}
-
-/// Whether both have a level, and the same one.
-fn is_level(level: Option<u8>, other: Option<u8>) -> bool
-    ensures { IsTrue result ↔ ((n : ℕ) × (level ≡ Some n) × (other ≡ Some n)) }
-{
-    match (level, other) {
-        (Some(level), Some(other)) => level == other,
-        _ => false,
-    }
+    !flags.f && !flags.r && window.is_quiet()
 }

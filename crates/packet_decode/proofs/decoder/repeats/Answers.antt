@@ -1,14 +1,9 @@
-use Rattle.std.proofs.Common.{ap, ◌∙◌, sym}
-use Rattle.std.proofs.lemmas.Bool.{OnTrue_from}
-use Rattle.packet_decode.specs.State.{in_reach}
-use Rattle.packet_decode.specs.Parts.{part_by}
-use Rattle.packet_decode.proofs.RepeatedPacket.{read_again, some_near}
+use Rattle.std.proofs.Common.{ap, sym}
+use Rattle.std.specs.Option.{is_some}
+use Rattle.packet_decode.proofs.RepeatedPacket.{read_again}
 use Rattle.packet_decode.proofs.decoder.repeats.Goals as goal
 
-pub returns-then-is-clause-read : goal.returns-then-is-clause-read
-returns-then-is-clause-read c =
-    let same = c.is.ensures.0 c.if-is.true in
-    let latest = c.args.latest.now in
-    OnTrue_from c.is_some.result _ (λ some.
-    read_again latest c.args.shown.now c.args.bytes.now c.requires.latest.vectors (rw same.0 at (c.requires.remembered same.1)) c.args.t
-    (some_near c.in_reach_of.result _ (c.in_reach_of.ensures ∙ ap (in_reach (part_by latest.content_number latest.content) c.args.t) c.level.ensures.level) (sym c.is_some.ensures ∙ some)))
+pub returns-clause-read : goal.returns-clause-read
+returns-clause-read c =
+    let at = c.in_ok-level.ensures in
+    read_again c.args.latest.now c.args.shown.now c.args.remembered.now c.requires.latest.vectors (c.requires.remembered at.some) c.args.t c.in_ok-level.level (ap is_some (sym c.in_ok-in_reach_of.ensures)) c.args.bytes.now at

@@ -11,7 +11,7 @@ use Rattle.packet_encode.proofs.Directions.{directions-level_zero, directions-no
 use Rattle.packet_encode.proofs.changes.put_changes.Goals as goal
 
 -- the recent changes are zero
-quiet_zeros : (c : goal.After-put_number) → c.recent-recent.result.now ≡ replicate (length c.recent-recent.result.now) false
+quiet_zeros : (c : goal.After-put_level) → c.recent-recent.result.now ≡ replicate (length c.recent-recent.result.now) false
 quiet_zeros c = c.recent-recent.ensures.kept ∙ OnTrue_at c.if-is_quiet.true c.is_quiet.ensures.zero ∙ ap (λ (v : List Bool). replicate (length v) false) (sym c.recent-recent.ensures.kept)
 
 pub returns-then-is_quiet-clause-bits : goal.returns-then-is_quiet-clause-bits
@@ -19,8 +19,8 @@ returns-then-is_quiet-clause-bits c = λ form recent level directions.
     let recent_is : c.recent-recent.result.now ≡ form.recent = c.recent-recent.ensures.kept ∙ sym recent in
     let level_is : c.effective-level.result ≡ form.level = c.effective-level.ensures.kept ∙ sym level in
     let zeros = quiet_zeros c in
-    quiet_is c.args.pen.now.bits c.put_number.new.self.bits c.recent-recent.result.now _ form.level c.put_number.ensures.bits
-    (ap (λ n. 32 + n) (c.from.ensures ∙ level_is)) (omega (arith, level_is, c.effective-level.ensures.most)) zeros
+    quiet_is c.args.pen.now.bits c.put_level.new.pen.bits c.recent-recent.result.now _ form.level c.put_level.ensures.bits
+    (ap (λ n. 32 + n) level_is) (omega (arith, level_is, c.effective-level.ensures.most)) zeros
     ∙ ap (λ v. (c.args.pen.now.bits ++ run_bits v) ++ number_bits 4 form.level) recent_is
     ∙ short_bits c.args.pen.now.bits form (no_change form (ap has_one (sym recent_is) ∙ has_one-zeros c.recent-recent.result.now zeros))
 
@@ -33,15 +33,15 @@ returns-then-is_quiet-clause-wide c =
 
 pub returns-then-is_quiet-clause-most : goal.returns-then-is_quiet-clause-most
 returns-then-is_quiet-clause-most c =
-    let number : ℕ = 32 + c.from.result in
-    omega (arith, ap length c.put_number.ensures.bits, length-append c.args.pen.now.bits (number_bits 6 number), length-number_bits 6 number)
+    let number : ℕ = 32 + c.effective-level.result in
+    omega (arith, ap length c.put_level.ensures.bits, length-append c.args.pen.now.bits (number_bits 6 number), length-number_bits 6 number)
 
 pub returns-then-level-eq0-clause-bits : goal.returns-then-level-eq0-clause-bits
 returns-then-level-eq0-clause-bits c = λ form recent level directions.
     let recent_is : c.recent-recent.result.now ≡ form.recent = c.recent-recent.ensures.kept ∙ sym recent in
     let level_is : c.effective-level.result ≡ form.level = c.effective-level.ensures.kept ∙ sym level in
-    front_is c.args.pen.now.bits c.put_runs.new.pen.bits c.put_number-2.new.self.bits c.recent-recent.result.now form.recent c.from-2.result form.level
-    c.put_runs.ensures.bits c.put_number-2.ensures.bits recent_is (c.from-2.ensures ∙ level_is)
+    front_is c.args.pen.now.bits c.put_runs.new.pen.bits c.put_number.new.self.bits c.recent-recent.result.now form.recent c.from.result form.level
+    c.put_runs.ensures.bits c.put_number.ensures.bits recent_is (c.from.ensures ∙ level_is)
     ∙ short_bits c.args.pen.now.bits form (no_level form (sym level_is ∙ c.if-level-eq0.true))
 
 pub returns-then-level-eq0-clause-wide : goal.returns-then-level-eq0-clause-wide
@@ -51,11 +51,11 @@ returns-then-level-eq0-clause-wide c =
 
 pub returns-then-level-eq0-clause-most : goal.returns-then-level-eq0-clause-most
 returns-then-level-eq0-clause-most c =
-    omega (arith, front_most c.args.pen.now.bits c.put_runs.new.pen.bits c.put_number-2.new.self.bits c.recent-recent.result.now c.from-2.result c.put_runs.ensures.bits c.put_number-2.ensures.bits, ap length c.recent-recent.ensures.kept)
+    omega (arith, front_most c.args.pen.now.bits c.put_runs.new.pen.bits c.put_number.new.self.bits c.recent-recent.result.now c.from.result c.put_runs.ensures.bits c.put_number.ensures.bits, ap length c.recent-recent.ensures.kept)
 
 pub put_directions-requires-clause-room : goal.put_directions-requires-clause-room
 put_directions-requires-clause-room c =
-    omega (arith, front_most c.args.pen.now.bits c.put_runs.new.pen.bits c.put_number-2.new.self.bits c.recent-recent.result.now c.from-2.result c.put_runs.ensures.bits c.put_number-2.ensures.bits, ap length c.recent-recent.ensures.kept)
+    omega (arith, front_most c.args.pen.now.bits c.put_runs.new.pen.bits c.put_number.new.self.bits c.recent-recent.result.now c.from.result c.put_runs.ensures.bits c.put_number.ensures.bits, ap length c.recent-recent.ensures.kept)
 
 pub returns-clause-bits : goal.returns-clause-bits
 returns-clause-bits c = λ form recent level directions.
@@ -64,8 +64,8 @@ returns-clause-bits c = λ form recent level directions.
     let above : 0 < form.level = omega (arith, c.if-level-eq0.false) in
     c.put_directions.ensures.bits form.level above
     ∙ ap (λ bits. bits ++ direction_bits c.recent-recent.result.now (directions_of c.args.mask.now c.recent-recent.result.now form.level c.twice.result))
-    (front_is c.args.pen.now.bits c.put_runs.new.pen.bits c.put_number-2.new.self.bits c.recent-recent.result.now form.recent c.from-2.result form.level
-    c.put_runs.ensures.bits c.put_number-2.ensures.bits recent_is (c.from-2.ensures ∙ level_is))
+    (front_is c.args.pen.now.bits c.put_runs.new.pen.bits c.put_number.new.self.bits c.recent-recent.result.now form.recent c.from.result form.level
+    c.put_runs.ensures.bits c.put_number.ensures.bits recent_is (c.from.ensures ∙ level_is))
     ∙ ap (λ v. ((c.args.pen.now.bits ++ run_bits form.recent) ++ number_bits 4 form.level) ++ direction_bits v (directions_of c.args.mask.now v form.level c.twice.result)) recent_is
     ∙ ap (λ b. ((c.args.pen.now.bits ++ run_bits form.recent) ++ number_bits 4 form.level) ++ direction_bits form.recent (directions_of c.args.mask.now form.recent form.level b)) c.twice.ensures.kept
     ∙ ap (λ d. ((c.args.pen.now.bits ++ run_bits form.recent) ++ number_bits 4 form.level) ++ direction_bits form.recent d) (sym directions)
@@ -73,4 +73,4 @@ returns-clause-bits c = λ form recent level directions.
 
 pub returns-clause-most : goal.returns-clause-most
 returns-clause-most c =
-    omega (arith, c.put_directions.ensures.most, front_most c.args.pen.now.bits c.put_runs.new.pen.bits c.put_number-2.new.self.bits c.recent-recent.result.now c.from-2.result c.put_runs.ensures.bits c.put_number-2.ensures.bits, ap length c.recent-recent.ensures.kept)
+    omega (arith, c.put_directions.ensures.most, front_most c.args.pen.now.bits c.put_runs.new.pen.bits c.put_number.new.self.bits c.recent-recent.result.now c.from.result c.put_runs.ensures.bits c.put_number.ensures.bits, ap length c.recent-recent.ensures.kept)

@@ -1,5 +1,5 @@
 use Rattle.std.proofs.Common.{◌≡◌, ℕ, Bool, List, [], Option, length, ap, refl, sym, ◌∙◌, Some, None, Ok, Err, arith, rules, true, false}
-use Rattle.std.proofs.lemmas.Bool.{true≢false, false≢true, OnTrue_at, and_parts}
+use Rattle.std.proofs.lemmas.Bool.{true≢false, false≢true, and_parts}
 use Rattle.std.proofs.lemmas.Result.{err_from_is_err_and}
 use Rattle.bit_vectors.specs.Vectors.{bits_of}
 use Rattle.bit_vectors.specs.Eye.{bits_left}
@@ -11,7 +11,7 @@ use Rattle.packet_decode.specs.declared.decoder.Reading.TheVariants.{Written}
 use Rattle.packet_decode.specs.PacketReading.{parse_whole_packet, answer_of, missed, outcome_answer, Outcome, Spelled, Opaque}
 use Rattle.packet_decode.specs.Parts.{IsRemembered, SpellLatest, found_in, kept_state, part_by, tells_content, tells_mask}
 use Rattle.packet_decode.specs.Decoding.{Decoding}
-use Rattle.packet_decode.proofs.DecoderAnswers.{IsFound, IsTold, exact_by, says_by, spelled_by, has_state, found_is, opaque_unspelled, fault_is, reading_is, alone_is, written_is, deduced_is, told_as}
+use Rattle.packet_decode.proofs.DecoderAnswers.{IsFound, IsTold, decoding_of, exact_by, says_by, spelled_by, has_state, found_is, opaque_unspelled, fault_is, reading_is, alone_is, written_is, deduced_is, told_as}
 use Rattle.packet_decode.proofs.OneAnswer.{spelled_places}
 use Rattle.packet_decode.proofs.RepeatedPacket.{answer_again, found_again, written_again, kept_is, spell_latest}
 use Rattle.packet_decode.proofs.decoder.Decoder.read.Goals as goal
@@ -22,35 +22,36 @@ use Rattle.packet_decode.proofs.decoder.Decoder.read.Goals.{After-repeats, After
 not_some : {A : Type 0} (content : List Bool) → ◌≡◌ {A = Option (List Bool)} None (Some content) → A
 not_some content e = absurd cc
 
-again : (c : After-repeats) → c.repeats.result ≡ true → parse_whole_packet (length c.self.inside.latest.content) (kept_state c.self.inside.latest) c.args.t (bits_of c.args.bytes.now)
-    ≡ Read (record { change = c.self.inside.shown; outcome = Spelled (Some c.self.inside.latest.mask) (Some c.self.inside.latest.content) }) []
-again c is = OnTrue_at is c.repeats.ensures.read
+-- at this level
+abbrev repeated : Change → ℕ → Change
+repeated shown level = record { recent = shown.recent; level = level; directions = None }
 
-again_answer : (c : After-repeats) → c.repeats.result ≡ true → answer_of c.args.self.now.places c.args.self.now.state c.args.t (bits_of c.args.bytes.now) ≡ Ok Written
-again_answer c is = answer_again c.args.self.now c.self.inside.latest c.self.inside.shown c.self.view_is c.self.invariant.latest_vectors c.args.t c.args.bytes.now (again c is)
+module _ (c : After-repeats) (level : ℕ) (is : parse_whole_packet (length c.self.inside.latest.content) (kept_state c.self.inside.latest) c.args.t (bits_of c.args.bytes.now)
+    ≡ Read (record { change = repeated c.self.inside.shown level; outcome = Spelled (Some c.self.inside.latest.mask) (Some c.self.inside.latest.content) }) []) where
+  again_answer : answer_of c.args.self.now.places c.args.self.now.state c.args.t (bits_of c.args.bytes.now) ≡ Ok Written
+  again_answer = answer_again c.args.self.now c.self.inside.latest c.self.inside.shown c.self.view_is c.self.invariant.latest_vectors c.args.t (repeated c.self.inside.shown level) c.args.bytes.now is
 
-again_has : (c : After-repeats) → IsState c.args.self.now.places c.args.self.now.state
-again_has c = has_state c.args.self.now c.self.inside.latest c.self.inside.shown c.self.view_is c.self.invariant.latest_vectors
+  again_has : IsState c.args.self.now.places c.args.self.now.state
+  again_has = has_state c.args.self.now c.self.inside.latest c.self.inside.shown c.self.view_is c.self.invariant.latest_vectors
 
-pub returns-then-repeats-clause-exact : goal.returns-then-repeats-clause-exact
-returns-then-repeats-clause-exact c =
-    let at = (goal.at.returns-then-repeats-clause-exact c).After-repeats in
-    exact_by c.args.self.now.places c.args.self.now.state c.args.t (bits_of c.args.bytes.now) (again_has at) (Ok Written) (again_answer at c.if-repeats.true)
+pub returns-in-Some-clause-exact : goal.returns-in-Some-clause-exact
+returns-in-Some-clause-exact c =
+    let at = (goal.at.returns-in-Some-clause-exact c).After-repeats in
+    exact_by c.args.self.now.places c.args.self.now.state c.args.t (bits_of c.args.bytes.now) (again_has at c.in-Some.level c.in-Some.ensures.read) (Ok Written) (again_answer at c.in-Some.level c.in-Some.ensures.read)
 
-pub returns-then-repeats-clause-says : goal.returns-then-repeats-clause-says
-returns-then-repeats-clause-says c =
-    let at = (goal.at.returns-then-repeats-clause-says c).After-repeats in
-    says_by c.args.self.now.places c.args.self.now.state c.args.t (bits_of c.args.bytes.now) (again_has at) (Ok Written) (again_answer at c.if-repeats.true)
+pub returns-in-Some-clause-says : goal.returns-in-Some-clause-says
+returns-in-Some-clause-says c =
+    let at = (goal.at.returns-in-Some-clause-says c).After-repeats in
+    says_by c.args.self.now.places c.args.self.now.state c.args.t (bits_of c.args.bytes.now) (again_has at c.in-Some.level c.in-Some.ensures.read) (Ok Written) (again_answer at c.in-Some.level c.in-Some.ensures.read)
 
-pub returns-then-repeats-clause-written : goal.returns-then-repeats-clause-written
-returns-then-repeats-clause-written c form mask content s =
-    let at = (goal.at.returns-then-repeats-clause-written c).After-repeats in
-    written_again c.args.self.now c.self.inside.latest c.self.inside.shown c.self.view_is c.self.invariant.latest_vectors c.args.t c.args.bytes.now (again at c.if-repeats.true) form mask content s
+pub returns-in-Some-clause-written : goal.returns-in-Some-clause-written
+returns-in-Some-clause-written c form mask content s =
+    ap (decoding_of (record { mask_number = Some c.args.t; mask = c.self.inside.latest.mask; content_number = Some c.args.t; content = c.self.inside.latest.content })) c.set_level.ensures
+    ∙ written_again c.args.self.now c.self.inside.latest c.self.inside.shown c.self.view_is c.self.invariant.latest_vectors c.args.t (repeated c.self.inside.shown c.in-Some.level) c.args.bytes.now c.in-Some.ensures.read form mask content s
 
-pub returns-then-repeats-clause-mask_alone : goal.returns-then-repeats-clause-mask_alone
-returns-then-repeats-clause-mask_alone c form mask s =
-    let at = (goal.at.returns-then-repeats-clause-mask_alone c).After-repeats in
-    let found_as = found_again c.args.self.now c.self.inside.latest c.self.inside.shown c.self.view_is c.self.invariant.latest_vectors c.args.t c.args.bytes.now (again at c.if-repeats.true) form mask None s in
+pub returns-in-Some-clause-mask_alone : goal.returns-in-Some-clause-mask_alone
+returns-in-Some-clause-mask_alone c form mask s =
+    let found_as = found_again c.args.self.now c.self.inside.latest c.self.inside.shown c.self.view_is c.self.invariant.latest_vectors c.args.t (repeated c.self.inside.shown c.in-Some.level) c.args.bytes.now c.in-Some.ensures.read form mask None s in
     not_some c.self.inside.latest.content (sym found_as.content_is)
 
 -- ---- a fault
@@ -219,7 +220,7 @@ told_both c mask content quiet kept after vector kept_bytes after_is content_is 
     (record { mask_number = c.keep_mask.new.latest.mask_number; mask = c.keep_mask.new.latest.mask; content_number = Some c.args.t; content = vector }) after c.take_whole_packet.new.room.next (told c).mask c.take_whole_packet.new.room.draft.content
     ((says_by c.args.self.now.places c.args.self.now.state c.args.t (bits_of c.args.bytes.now) (spelled_has c) (Ok Written) (spelled_answer c true content) Written).0 refl)
     (found c true content) kept_bytes ((told c).is_new mask) content_is after_is places
-    (OnTrue_at quiet c.is_quiet-quiet.ensures.stays c.keep_mask.new.latest.mask (omega arith))
+    (c.is_quiet-quiet.ensures.zero.0 quiet)
     (c.keep_mask.ensures.number mask)
 
 remembered : (c : After-swap) → IsRemembered (record { mask_number = c.keep_mask.new.latest.mask_number; mask = c.keep_mask.new.latest.mask; content_number = Some c.args.t; content = c.swap.new.x }) c.take_over.new.self c.keep.new.self

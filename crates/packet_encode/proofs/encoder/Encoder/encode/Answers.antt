@@ -1,8 +1,9 @@
-use Rattle.std.proofs.Common.{◌≡◌, ℕ, ◌+◌, ◌*◌, ◌<◌, ◌≤◌, true, false, length, replicate, Option, Some, None, refl, ap, sym, ◌∙◌, subst, arith}
-use Rattle.std.specs.Prelude.{IfSome}
-use Rattle.std.proofs.lemmas.Bool.{OnTrue_at}
+use Rattle.std.proofs.Common.{◌≡◌, ℕ, ◌+◌, ◌*◌, ◌<◌, ◌≤◌, true, false, ◌++◌, length, None, refl, ap, sym, ◌∙◌, subst, arith}
+use Rattle.std.proofs.lemmas.Bool.{OnTrue_at, OnTrue_from}
+use Rattle.std.proofs.lemmas.List.{length-append}
 use Rattle.bit_vectors.specs.declared.flags.Flags.{Flags}
-use Rattle.bit_vectors.specs.Vectors.{padded}
+use Rattle.bit_vectors.specs.Vectors.{number_bits, padded}
+use Rattle.run_code.specs.Extraction.{extract}
 use Rattle.mask_update.specs.Histories.{History, Step, flags_after, flags_at, input_at, latest_step, step_at, step_of}
 use Rattle.mask_update.specs.Masks.{Running, change_at, mask_at}
 use Rattle.mask_update.specs.Masks.{StandsFor as MasksStandFor}
@@ -12,16 +13,16 @@ use Rattle.robust_window.specs.Histories.{level_at, mask_step_at, mask_steps, re
 use Rattle.robust_window.specs.Window.{WindowState}
 use Rattle.robust_window.specs.Window.{StandsFor as WindowStandsFor}
 use Rattle.robust_window.proofs.Earlier.{latest_change-is, mask_steps-push}
-use Rattle.packet_encode.specs.Encoder.{EncoderState, StandsFor, no_flags, plain_form}
-use Rattle.packet_encode.specs.Forms.{Form, form_bits}
+use Rattle.packet_encode.specs.Encoder.{EncoderState, StandsFor, plain_data}
+use Rattle.packet_encode.specs.Forms.{Form, Part, data_bits, form_bits}
 use Rattle.packet_encode.specs.Packets.{form_at, form_of, with_next_input}
 use Rattle.packet_encode.proofs.Bounds.{form_bits-some}
 use Rattle.packet_encode.proofs.OfHistories.{form_of-most, form_of-same}
-use Rattle.packet_encode.proofs.Plain.{plain_form-is}
+use Rattle.packet_encode.proofs.Plain.{plain_bits, plain_form, plain_form-is}
 use Rattle.packet_encode.proofs.encoder.Encoder.encode.Goals as goal
-use Rattle.packet_encode.proofs.encoder.Encoder.encode.Goals.{After-plain_level-plain}
+use Rattle.packet_encode.proofs.encoder.Encoder.encode.Goals.{After-is_plain, After-put_level, After-put_pen}
 
-module _ (c : After-plain_level-plain) where
+module _ (c : After-is_plain) where
   abbrev masks : Running
   masks = c.step.new.self
 
@@ -99,95 +100,83 @@ module _ (c : After-plain_level-plain) where
       )
 
   -- if it is plain
-  plain : (n : ℕ) → c.plain_level-plain.result ≡ Some n → form ≡ plain_form masks n
-  plain n is =
-      let level = (c.plain_level-plain.ensures n).0 is in
-      plain_form-is masks masks.mask window.recent window.level window.twice c.args.input.now c.forced-flags.result n level.0 level.1 level.2 level.3 refl (sym c.step.ensures.previous) recent_len
+  plain : c.is_plain.result ≡ true → form ≡ plain_form masks window.level
+  plain is =
+      let plain = c.is_plain.ensures.0 is in
+      plain_form-is masks masks.mask window.recent window.level window.twice c.args.input.now c.forced-flags.result window.level plain.0 plain.1 plain.2 refl refl (sym c.step.ensures.previous) recent_len
 
-  -- if it comes again, it is kept
-  kept : c.step.new.self.again ≡ true → (n : ℕ) × (c.plain_level-plain.result ≡ Some n) × (c.self.inside.plain ≡ Some n) → c.self.inside.kept.bits ≡ form_bits form
-  kept again level =
-      let mask = OnTrue_at again c.step.ensures.kept in
-      let previous = (c.step.ensures.again.0 again).2 ∙ sym c.step.ensures.previous in
-      subst (λ level. IfSome level (λ k. c.self.inside.kept.bits ≡ form_bits (plain_form c.self.inside.masks k))) level.2 c.self.invariant.bits
-      ∙ (λ i. form_bits (form_of (sym mask i) (replicate (length (sym mask i)) false) level.0 false (previous i) no_flags))
-      ∙ ap form_bits (sym (plain level.0 level.1))
+  below : window.level ≤ 15 → window.level < 16
+  below most = omega arith
 
-pub copy_from-requires : goal.copy_from-requires
-copy_from-requires c =
-    let d = (goal.at.copy_from-requires c).After-plain_level-plain in
-    omega (arith, ap length (kept d (sym c.is_again.ensures.kept ∙ c.if-is_again.true) (c.is_level.ensures.0 c.if-is_level.true)), most d, c.requires.room)
+  -- the bits of a plain packet
+  whole : c.is_plain.result ≡ true → window.level ≤ 15 → form_bits form ≡ number_bits 6 (32 + window.level) ++ plain_data masks
+  whole is most = ap form_bits (plain is) ∙ plain_bits masks window.level (below most)
 
-pub returns-then-is_level-clause-stands : goal.returns-then-is_level-clause-stands
-returns-then-is_level-clause-stands c = λ h stands.
-    let d = (goal.at.returns-then-is_level-clause-stands c).After-plain_level-plain in
+-- the data that are kept are those of an input that comes again
+pub keep-requires-clause-kept : goal.keep-requires-clause-kept
+keep-requires-clause-kept c =
+    OnTrue_from c.self.inside.is_kept _ (λ is_kept. OnTrue_from c.step.new.self.again _ (λ again.
+    let mask = OnTrue_at again c.step.ensures.kept in
+    let previous = (c.step.ensures.again.0 again).2 ∙ sym c.step.ensures.previous in
+    OnTrue_at is_kept c.self.invariant.bits ∙ (λ i. data_bits None (Part (extract (previous i) (sym mask i))))))
+
+-- the first part, and the data that are kept
+plain_whole : (c : After-put_level) → form_bits (form (goal.at.After-put_level c).After-is_plain) ≡ c.put_level.new.pen.bits ++ c.keep.new.kept.bits
+plain_whole c =
+    let d = (goal.at.After-put_level c).After-is_plain in
+    whole d c.if-is_plain.true (omega (arith, c.effective.ensures.kept, c.effective.ensures.most))
+    ∙ sym ((λ i. c.put_level.ensures.bits i ++ c.keep.ensures.bits i) ∙ (λ i. (c.requires.empty i ++ number_bits 6 (32 + c.effective.ensures.kept i)) ++ plain_data (masks d)))
+
+pub put_pen-requires : goal.put_pen-requires
+put_pen-requires c =
+    let d = (goal.at.put_pen-requires c).After-put_level in
+    omega (arith, ap length (plain_whole d), length-append c.put_level.new.pen.bits c.keep.new.kept.bits, most (goal.at.put_pen-requires c).After-is_plain, c.requires.room, c.put_level.ensures.room)
+
+bits_again : (c : After-put_pen) → c.put_pen.new.self.bits ≡ form_bits (form (goal.at.After-put_pen c).After-is_plain)
+bits_again c = c.put_pen.ensures.bits ∙ sym (plain_whole (goal.at.After-put_pen c).After-put_level)
+
+pub returns-then-is_plain-clause-stands : goal.returns-then-is_plain-clause-stands
+returns-then-is_plain-clause-stands c = λ h stands.
+    let d = (goal.at.returns-then-is_plain-clause-stands c).After-is_plain in
     record { masks = masks_stand d h stands; window = window_stands d h stands }
 
-pub returns-then-is_level-clause-bits : goal.returns-then-is_level-clause-bits
-returns-then-is_level-clause-bits c = λ h stands.
-    let d = (goal.at.returns-then-is_level-clause-bits c).After-plain_level-plain in
-    c.copy_from.ensures.bits ∙ kept d (sym c.is_again.ensures.kept ∙ c.if-is_again.true) (c.is_level.ensures.0 c.if-is_level.true) ∙ ap form_bits (form_is d h stands)
+pub returns-then-is_plain-clause-bits : goal.returns-then-is_plain-clause-bits
+returns-then-is_plain-clause-bits c = λ h stands.
+    bits_again (goal.at.returns-then-is_plain-clause-bits c).After-put_pen ∙ ap form_bits (form_is (goal.at.returns-then-is_plain-clause-bits c).After-is_plain h stands)
 
-pub returns-then-is_level-clause-packet : goal.returns-then-is_level-clause-packet
-returns-then-is_level-clause-packet c = λ h stands.
-    let d = (goal.at.returns-then-is_level-clause-packet c).After-plain_level-plain in
-    ap padded (c.copy_from.ensures.bits ∙ kept d (sym c.is_again.ensures.kept ∙ c.if-is_again.true) (c.is_level.ensures.0 c.if-is_level.true) ∙ ap form_bits (form_is d h stands))
+pub returns-then-is_plain-clause-packet : goal.returns-then-is_plain-clause-packet
+returns-then-is_plain-clause-packet c = λ h stands.
+    ap padded (bits_again (goal.at.returns-then-is_plain-clause-packet c).After-put_pen ∙ ap form_bits (form_is (goal.at.returns-then-is_plain-clause-packet c).After-is_plain h stands))
 
-pub returns-then-is_level-clause-some : goal.returns-then-is_level-clause-some
-returns-then-is_level-clause-some c =
-    let d = (goal.at.returns-then-is_level-clause-some c).After-plain_level-plain in
-    omega (arith, ap length (c.copy_from.ensures.bits ∙ kept d (sym c.is_again.ensures.kept ∙ c.if-is_again.true) (c.is_level.ensures.0 c.if-is_level.true)), form_bits-some (form d))
+pub returns-then-is_plain-clause-some : goal.returns-then-is_plain-clause-some
+returns-then-is_plain-clause-some c =
+    omega (arith, ap length (bits_again (goal.at.returns-then-is_plain-clause-some c).After-put_pen), form_bits-some (form (goal.at.returns-then-is_plain-clause-some c).After-is_plain))
 
-pub returns-then-is_level-clause-most : goal.returns-then-is_level-clause-most
-returns-then-is_level-clause-most c =
-    let d = (goal.at.returns-then-is_level-clause-most c).After-plain_level-plain in
-    omega (arith, ap length (c.copy_from.ensures.bits ∙ kept d (sym c.is_again.ensures.kept ∙ c.if-is_again.true) (c.is_level.ensures.0 c.if-is_level.true)), most d)
+pub returns-then-is_plain-clause-most : goal.returns-then-is_plain-clause-most
+returns-then-is_plain-clause-most c =
+    omega (arith, ap length (bits_again (goal.at.returns-then-is_plain-clause-most c).After-put_pen), most (goal.at.returns-then-is_plain-clause-most c).After-is_plain)
 
-pub keep-requires : goal.keep-requires
-keep-requires c =
-    let d = (goal.at.keep-requires c).After-plain_level-plain in
-    omega (arith, ap length c.write_packet.ensures.bits, most d, c.self.invariant.room, same_places d, mask_len d)
-
-pub invariant_of-self-else-is_again : goal.invariant_of-self-else-is_again
-invariant_of-self-else-is_again c =
-    let d = (goal.at.invariant_of-self-else-is_again c).After-plain_level-plain in
-    record {
-      vector = (omega (arith, c.self.invariant.vector.0, same_places d), omega (arith, c.self.invariant.vector.1, same_places d));
-      places = recent_len d;
-      taken = c.step_window.ensures.taken ∙ ap (λ n. n + 1) c.self.invariant.taken ∙ sym c.step.ensures.taken;
-      spare_places = c.write_packet.ensures.spare ∙ c.self.invariant.spare_places ∙ sym (same_places d);
-      room = c.keep.ensures.room ∙ c.self.invariant.room ∙ ap (λ n. 10 * n + 43) (sym (same_places d));
-      bits = bits_in c.plain_level-plain.result refl;
-    }
-  where
-    bits_in : (level : Option ℕ) → c.plain_level-plain.result ≡ level → IfSome level (λ n. c.keep.new.kept.bits ≡ form_bits (plain_form c.step.new.self n))
-    bits_in None is = tt
-    bits_in (Some n) is =
-        subst (λ l. IfSome l (λ n. c.keep.new.kept.bits ≡ c.write_packet.new.pen.bits)) is c.keep.ensures.bits
-        ∙ c.write_packet.ensures.bits
-        ∙ ap form_bits (plain (goal.at.invariant_of-self-else-is_again c).After-plain_level-plain n is)
-
-pub returns-else-is_again-clause-stands : goal.returns-else-is_again-clause-stands
-returns-else-is_again-clause-stands c = λ h stands.
-    let d = (goal.at.returns-else-is_again-clause-stands c).After-plain_level-plain in
+pub returns-else-is_plain-clause-stands : goal.returns-else-is_plain-clause-stands
+returns-else-is_plain-clause-stands c = λ h stands.
+    let d = (goal.at.returns-else-is_plain-clause-stands c).After-is_plain in
     record { masks = masks_stand d h stands; window = window_stands d h stands }
 
-pub returns-else-is_again-clause-bits : goal.returns-else-is_again-clause-bits
-returns-else-is_again-clause-bits c = λ h stands.
-    let d = (goal.at.returns-else-is_again-clause-bits c).After-plain_level-plain in
+pub returns-else-is_plain-clause-bits : goal.returns-else-is_plain-clause-bits
+returns-else-is_plain-clause-bits c = λ h stands.
+    let d = (goal.at.returns-else-is_plain-clause-bits c).After-is_plain in
     c.write_packet.ensures.bits ∙ ap form_bits (form_is d h stands)
 
-pub returns-else-is_again-clause-packet : goal.returns-else-is_again-clause-packet
-returns-else-is_again-clause-packet c = λ h stands.
-    let d = (goal.at.returns-else-is_again-clause-packet c).After-plain_level-plain in
+pub returns-else-is_plain-clause-packet : goal.returns-else-is_plain-clause-packet
+returns-else-is_plain-clause-packet c = λ h stands.
+    let d = (goal.at.returns-else-is_plain-clause-packet c).After-is_plain in
     ap padded (c.write_packet.ensures.bits ∙ ap form_bits (form_is d h stands))
 
-pub returns-else-is_again-clause-some : goal.returns-else-is_again-clause-some
-returns-else-is_again-clause-some c =
-    let d = (goal.at.returns-else-is_again-clause-some c).After-plain_level-plain in
+pub returns-else-is_plain-clause-some : goal.returns-else-is_plain-clause-some
+returns-else-is_plain-clause-some c =
+    let d = (goal.at.returns-else-is_plain-clause-some c).After-is_plain in
     omega (arith, ap length c.write_packet.ensures.bits, form_bits-some (form d))
 
-pub returns-else-is_again-clause-most : goal.returns-else-is_again-clause-most
-returns-else-is_again-clause-most c =
-    let d = (goal.at.returns-else-is_again-clause-most c).After-plain_level-plain in
+pub returns-else-is_plain-clause-most : goal.returns-else-is_plain-clause-most
+returns-else-is_plain-clause-most c =
+    let d = (goal.at.returns-else-is_plain-clause-most c).After-is_plain in
     omega (arith, ap length c.write_packet.ensures.bits, most d)
