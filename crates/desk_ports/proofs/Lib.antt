@@ -9,3 +9,4 @@ pub mod Logs
 pub mod Cursors
 pub mod Held
 pub mod KeptInputs
+pub mod Writings

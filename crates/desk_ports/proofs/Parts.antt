@@ -1,16 +1,15 @@
 -- How the parts of a run are joined, and where a write that failed ended it.
-use Rattle.std.proofs.Common.{◌≡◌, inl, ℕ, List, [], ◌∷◌, ◌++◌, Option, Some, None, Result, Ok, Err, refl, sym, ap, ◌∙◌, subst, append_assoc, append-nil}
+use Rattle.std.proofs.Common.{◌≡◌, ℕ, List, [], ◌∷◌, ◌++◌, Option, Some, None, Result, Ok, Err, refl, sym, ap, ◌∙◌, subst, append_assoc, append-nil}
 use Rattle.std.specs.Io.KnownBytes.{IsAtEnd}
 use Rattle.desk_ports.specs.declared.desk.Inlet.TheVariants as inlet
 use Rattle.desk_ports.specs.declared.desk.Outlet.{Outlet}
-use Rattle.desk_ports.specs.declared.desk.Outlet.TheVariants as outlet
 use Rattle.desk_ports.specs.Stop.{Stop, Data, ReadFault, WriteFault}
-use Rattle.desk_ports.specs.Meanings.{Meanings, Moves, AddsFront, left}
+use Rattle.desk_ports.specs.Meanings.{Meanings, Moves, left}
 use Rattle.desk_ports.specs.Runs.{Ran}
-use Rattle.desk_ports.specs.Courses.{Outputs, to_output, to_report, put, by_ending, AreFronts}
+use Rattle.desk_ports.specs.Courses.{Outputs, put, by_ending, AreFronts}
 use Rattle.desk_ports.specs.Turns.{Wrote, WroteFront}
 use Rattle.desk_ports.specs.Parts.{put_all, if_whole, IsFrontBy, WroteFrontBy, EndsWithin, WroteWithin, IsCutWithin, StopsWithin, InParts, ReachesParts, AdvancesParts}
-use Rattle.desk_ports.proofs.Runs.{Ran-none, Ran-then, Ran-adds, Ran-notes}
+use Rattle.desk_ports.proofs.Runs.{Ran-none, Ran-then}
 use Rattle.desk_ports.proofs.Courses.{AreFronts-put, AreFronts-then, put-put, Went-ran, Went-then, rest_of}
 use Rattle.desk_ports.proofs.Steps.{Ran-taken, Went-end}
 
@@ -135,23 +134,9 @@ IsCutWithin-wrote first parts_of next a b part goes_on front =
 
 -- ---- what is written of a part
 
-pub WroteFrontBy-report : (a b : Meanings) (bytes : List ℕ) → AddsFront a b outlet.Report bytes → WroteFrontBy outlet.Report a b (to_report bytes)
-WroteFrontBy-report a b bytes cut = record { stand = to_report cut.front; wrote = Ran-notes a b cut.front cut.added; front = record { fronts = record { rest = to_report cut.rest; joined = ap to_report cut.joined }; order = inl refl } }
-
-pub WroteFrontBy-output : (a b : Meanings) (bytes : List ℕ) → AddsFront a b outlet.Main bytes → WroteFrontBy outlet.Main a b (to_output bytes)
-WroteFrontBy-output a b bytes cut = record { stand = to_output cut.front; wrote = Ran-adds a b cut.front cut.added; front = record { fronts = record { rest = to_output cut.rest; joined = ap to_output cut.joined }; order = inl refl } }
-
 -- one part alone
 pub WroteWithin-one : {first : Outlet} {a b : Meanings} {part : Outputs} → WroteFrontBy first a b part → WroteWithin first a b (part ∷ [])
 WroteWithin-one front = record { stand = front.stand; wrote = front.wrote; within = EndsWithin-first [] front.front }
-
-no_front : (xs ys : List ℕ) → xs ++ ys ≡ [] → xs ≡ []
-no_front [] ys none = refl
-no_front (x ∷ xs) ys none = absurd cc
-
--- a part that has bytes for one outlet alone
-pub WroteFrontBy-alone : {a b : Meanings} {bytes : List ℕ} → WroteFront a b (to_report bytes) → WroteFrontBy outlet.Report a b (to_report bytes)
-WroteFrontBy-alone front = record { stand = front.stand; wrote = front.wrote; front = record { fronts = front.fronts; order = inl (no_front front.stand.output front.fronts.rest.output (ap (λ (o : Outputs). o.output) front.fronts.joined)) } }
 
 -- ---- a prefix, whichever outlet is first
 

@@ -3,13 +3,12 @@ use Rattle.std.proofs.Common.{◌≡◌, ℕ, Bool, List, [], ◌++◌, Option, 
 use Rattle.std.specs.Io.KnownBytes.{IsAtEnd}
 use Rattle.desk_ports.specs.declared.desk.Inlet.TheVariants as inlet
 use Rattle.desk_ports.specs.declared.desk.Outlet.{Outlet}
-use Rattle.desk_ports.specs.declared.desk.Outlet.TheVariants as outlet
 use Rattle.desk_ports.specs.Stop.{Stop, Data, ReadFault, WriteFault}
-use Rattle.desk_ports.specs.Meanings.{Meanings, Moves, AddsFront, left}
+use Rattle.desk_ports.specs.Meanings.{Meanings, Moves, left}
 use Rattle.desk_ports.specs.Runs.{Ran}
-use Rattle.desk_ports.specs.Courses.{Outputs, no_outputs, to_output, to_report, put, Course, owed, written_first, AreFronts, Went, Ends, IsCutOff, IsCutShort, Work, Finishes, AfterStop, AfterRun}
+use Rattle.desk_ports.specs.Courses.{Outputs, no_outputs, put, Course, owed, written_first, AreFronts, Went, Ends, IsCutOff, IsCutShort, Work, Finishes, AfterStop, AfterRun}
 use Rattle.desk_ports.specs.Turns.{AreReady, Steps, Reaches, Advances, IsLast, Wrote, WroteFront}
-use Rattle.desk_ports.proofs.Runs.{Ran-none, Ran-then, Ran-moves, Ran-adds, Ran-notes, Ran-ready_in, Ran-ready_out}
+use Rattle.desk_ports.proofs.Runs.{Ran-none, Ran-then, Ran-moves, Ran-ready_in, Ran-ready_out}
 use Rattle.desk_ports.proofs.Courses.{owed-written_first, written_first-twice, AreFronts-then, AreFronts-put, rest_of, Went-ran, Went-then, IfSome-IsAtEnd}
 use Rattle.desk_ports.proofs.Transfers.{prepend_known-none}
 
@@ -85,14 +84,6 @@ AreReady-ran writes a b xs us rs ran ready = record { input = Ran-ready_in a b x
 
 pub AreReady-moved : {writes : Outlet → Bool} {a b : Meanings} {taken : List ℕ} → Moves a b inlet.Main taken → AreReady writes a → AreReady writes b
 AreReady-moved {writes = writes} {a = a} {b = b} {taken = taken} moves ready = AreReady-ran writes a b taken [] [] (Ran-moves a b taken moves) ready
-
--- ---- what is written
-
-pub WroteFront-output : (a b : Meanings) (bytes : List ℕ) → AddsFront a b outlet.Main bytes → WroteFront a b (to_output bytes)
-WroteFront-output a b bytes cut = record { stand = to_output cut.front; wrote = Ran-adds a b cut.front cut.added; fronts = record { rest = to_output cut.rest; joined = ap to_output cut.joined } }
-
-pub WroteFront-report : (a b : Meanings) (bytes : List ℕ) → AddsFront a b outlet.Report bytes → WroteFront a b (to_report bytes)
-WroteFront-report a b bytes cut = record { stand = to_report cut.front; wrote = Ran-notes a b cut.front cut.added; fronts = record { rest = to_report cut.rest; joined = ap to_report cut.joined } }
 
 -- ---- a turn
 

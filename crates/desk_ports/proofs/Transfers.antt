@@ -1,5 +1,5 @@
 -- How moves from an inlet and additions to an outlet are joined, for every loop over a desk.
-use Rattle.std.proofs.Common.{◌≡◌, ℕ, ◌+◌, ◌≤◌, List, [], ◌++◌, length, take, drop, take-append-drop, Option, Some, None, Result, Ok, Err, OnErr, refl, sym, ap, ◌∙◌, subst, append_assoc, append-nil}
+use Rattle.std.proofs.Common.{◌≡◌, ℕ, ◌+◌, ◌≤◌, List, [], ◌++◌, length, take, drop, take-append-drop, Option, Some, None, refl, sym, ap, ◌∙◌, subst, append_assoc, append-nil}
 use Rattle.std.proofs.lemmas.List.{take-append-le, length-take-le}
 use Rattle.std.proofs.Math.Seq.{take-append-add}
 use borrow.Rule.Slice.PartMut.{put_mid, post_of}
@@ -75,29 +75,6 @@ Adds-ready a b o xs p h = subst (λ m. IsReadyOut m o) (sym p.others) (IsReadyOu
 -- a prefix was added, as long as a limit allows
 pub AddsFront-take : (a b : Meanings) (o : Outlet) (n : ℕ) (xs : List ℕ) → Adds a b o (take n xs) → AddsFront a b o xs
 AddsFront-take a b o n xs p = record { front = take n xs; rest = drop n xs; joined = take-append-drop n xs; added = p }
-
--- a front of some bytes is one of these and more
-pub AddsFront-then : (a b : Meanings) (o : Outlet) (xs ys : List ℕ) → AddsFront a b o xs → AddsFront a b o (xs ++ ys)
-AddsFront-then a b o xs ys cut = record {
-  front = cut.front;
-  rest = cut.rest ++ ys;
-  joined = sym (append_assoc cut.front cut.rest ys) ∙ ap (λ (l : List ℕ). l ++ ys) cut.joined;
-  added = cut.added;
-}
-
--- some bytes, and a front of others
-pub AddsFront-after : (a b c : Meanings) (o : Outlet) (xs ys : List ℕ) → Adds a b o xs → AddsFront b c o ys → AddsFront a c o (xs ++ ys)
-AddsFront-after a b c o xs ys adds cut = record {
-  front = xs ++ cut.front;
-  rest = cut.rest;
-  joined = append_assoc xs cut.front cut.rest ∙ ap (λ (l : List ℕ). xs ++ l) cut.joined;
-  added = Adds-then a b c o xs cut.front adds cut.added;
-}
-
--- what holds whatever the answer is holds after an error
-pub OnErr-always : {T E : Type 0} (r : Result T E) (P : Type 0) → P → OnErr r P
-OnErr-always (Ok x) P p = tt
-OnErr-always (Err e) P p = p
 
 -- after more bytes were read after a full front, the front is longer by them
 pub take-put_mid-add : (xs ys : List ℕ) (a k n : ℕ) → a ≤ length xs → n ≤ length ys → take (a + n) (put_mid a k xs ys) ≡ take a xs ++ take n ys

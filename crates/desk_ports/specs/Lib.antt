@@ -4,6 +4,7 @@ pub mod Runs
 pub mod Stop
 pub mod Courses
 pub mod Turns
+pub mod Writings
 pub mod Parts
 pub mod FileDesk
 pub mod Log

@@ -1,12 +1,13 @@
 //! What the definitions of a desk's calls mean together.
 
-ghost use Rattle.std.specs.Prelude.{◌≡◌, ◌+◌, ◌++◌, ℕ, List, Option, Some, Result, IsSome, IfSome, IsOk};
+ghost use Rattle.std.specs.Prelude.{◌≡◌, ◌+◌, ◌++◌, ◌↔◌, ℕ, List, Option, Some, Ok, Result, IsSome, IfSome, IsOk, OnOk, OnErr};
 ghost use Rattle.std.specs.Io.KnownBytes.{append_known};
 ghost use Rattle.desk_ports.specs.declared.desk.Failed.{Failed};
 ghost use Rattle.desk_ports.specs.declared.desk.Inlet.{Inlet};
 ghost use Rattle.desk_ports.specs.declared.desk.Outlet.{Outlet};
-ghost use Rattle.desk_ports.specs.Meanings.{Meanings, Counts, Moves, Adds, AreBelowLast, Fails, Keeps, Opens, Rose, faults, HasReadCause, HasWriteCause, left, made, outgoing};
-ghost use Rattle.desk_ports.specs.Courses.{Course, Ends, Finishes, Work, owed};
+ghost use Rattle.desk_ports.specs.Meanings.{Meanings, Counts, Moves, Adds, AddsFront, AreBelowLast, Fails, Keeps, Opens, Rose, faults, HasReadCause, HasWriteCause, left, made, outgoing};
+ghost use Rattle.desk_ports.specs.Courses.{Course, Ends, Finishes, Outputs, Work, owed, put};
+ghost use Rattle.desk_ports.specs.Writings.{to_outlet, Writes};
 ghost use Rattle.desk_ports.specs.QuietState.{QuietState, quiet_meanings, quiet_counts};
 
 /// Two reads are one read of both pieces, and two writes are one write.
@@ -17,6 +18,19 @@ pub fn pieces_join()
     ensures written { (a b c : Meanings) (outlet : Outlet) (xs ys : List ℕ) → Adds a b outlet xs
         → Adds b c outlet ys
         → Adds a c outlet (xs ++ ys) }
+{}
+
+/// What a writing call leaves, by its answer: after `Ok` all of the bytes were added and no fault was counted, after an
+/// error a prefix of them was added and a fault of writing was counted. Two such calls, one after another, are one.
+pub fn writes_go_by_their_answer<D, T, E>()
+    ensures meant { (meaning : D → Meanings) (counts : D → Counts) (old new : D) (outlet : Outlet) (bytes : List ℕ) (result : Result T E)
+        → Writes meaning counts old new (to_outlet outlet bytes) result
+        ↔ (OnOk result (Adds (meaning old) (meaning new) outlet bytes)
+        × OnErr result (AddsFront (meaning old) (meaning new) outlet bytes)
+        × HasWriteCause (counts old) (counts new) result) }
+    ensures joined { (meaning : D → Meanings) (counts : D → Counts) (a b c : D) (first next : Outputs) (done : T) (answer result : Result T E)
+        → answer ≡ Ok done → Writes meaning counts a b first answer
+        → Writes meaning counts b c next result → Writes meaning counts a c (put first next) result }
 {}
 
 /// What was written to an output that was finished is what is left of an input that is then opened by the same name.

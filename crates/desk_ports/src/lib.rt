@@ -26,7 +26,7 @@ pub use desk::{Desk, Failed, Inlet, Outlet};
 pub use file::FileDesk;
 pub use laws::{
     faults_count_once, finished_is_held, pieces_join, quiet_desks_never_fail,
-    runs_follow_their_course,
+    runs_follow_their_course, writes_go_by_their_answer,
 };
 pub use memory::MemDesk;
 pub use quiet::QuietDesk;

@@ -1,8 +1,9 @@
 //! Reading until a buffer is full, and writing a whole buffer.
 
-ghost use Rattle.std.specs.Prelude.{◌<◌, ◌≤◌, ℕ, List, length, take, IfOk, OnOk, OnErr};
+ghost use Rattle.std.specs.Prelude.{◌<◌, ◌≤◌, ℕ, List, length, take, IfOk, OnErr};
 ghost use Rattle.std.specs.Io.KnownBytes.{IsAtEnd};
-ghost use Rattle.desk_ports.specs.Meanings.{Moves, Adds, AddsFront, IsReadyIn, IsReadyOut, HasReadCause, HasWriteCause, left};
+ghost use Rattle.desk_ports.specs.Meanings.{Moves, IsReadyIn, IsReadyOut, HasReadCause, left};
+ghost use Rattle.desk_ports.specs.Writings.{to_outlet, Writes};
 
 use crate::desk::{Desk, Failed, Inlet, Outlet};
 
@@ -34,10 +35,7 @@ pub fn fill<D: Desk>(desk: &mut D, inlet: Inlet, buf: &mut [u8]) -> Result<usize
 /// Writes all the bytes. At `Failed` a prefix of them was appended.
 pub fn write_all<D: Desk>(desk: &mut D, outlet: Outlet, bytes: &[u8]) -> Result<(), Failed>
     requires { IsReadyOut (D.meaning desk.old) outlet }
-    ensures added { OnOk result (Adds (D.meaning desk.old) (D.meaning desk.new) outlet bytes.now) }
-    ensures front { OnErr result
-        (AddsFront (D.meaning desk.old) (D.meaning desk.new) outlet bytes.now) }
-    ensures cause { HasWriteCause (D.counts desk.old) (D.counts desk.new) result }
+    ensures { Writes D.meaning D.counts desk.old desk.new (to_outlet outlet bytes.now) result }
 {
     let mut sent = 0;
     while sent < bytes.len() {

@@ -1,7 +1,9 @@
 //! A recording that is being compressed, packet by packet.
 
-ghost use Rattle.std.specs.Prelude.{◌≡◌, ◌+◌, ◌*◌, ◌-◌, ◌%◌, ◌^◌, ◌<◌, ◌≤◌, [], length, replicate, false, IfOk, OnOk, OnErr};
-ghost use Rattle.desk_ports.specs.Meanings.{IsReadyOut, HasWriteCause, Adds, AddsFront};
+ghost use Rattle.std.specs.Prelude.{◌≡◌, ◌+◌, ◌*◌, ◌-◌, ◌%◌, ◌^◌, ◌<◌, ◌≤◌, [], length, replicate, false, IfOk};
+ghost use Rattle.desk_ports.specs.Meanings.{IsReadyOut, HasWriteCause};
+ghost use Rattle.desk_ports.specs.Courses.{to_output};
+ghost use Rattle.desk_ports.specs.Writings.{Writes};
 ghost use Rattle.mask_update.specs.Histories.{History};
 ghost use Rattle.packet_encode.specs.Encoder.{StandsFor};
 ghost use Rattle.packet_store.specs.SpacePackets.{space_packet};
@@ -110,14 +112,10 @@ impl Compressing {
         requires most { self.old.encoder.masks.taken < 4294967296 }
         ensures stands { (h : History) → StandsFor h self.old.encoder
             → StandsFor (with_packet h self.old self.old.input t) self.new.encoder }
-        ensures added { (h : History) → StandsFor h self.old.encoder
-            → OnOk result (Adds (D.meaning desk.old) (D.meaning desk.new) Outlet.Main
-            (space_packet self.old.writer.apid (t % PERIOD)
-            (data_at (with_packet h self.old self.old.input t) (length h.steps)))) }
-        ensures front { (h : History) → StandsFor h self.old.encoder
-            → OnErr result (AddsFront (D.meaning desk.old) (D.meaning desk.new) Outlet.Main
-            (space_packet self.old.writer.apid (t % PERIOD)
-            (data_at (with_packet h self.old self.old.input t) (length h.steps)))) }
+        ensures written { (h : History) → StandsFor h self.old.encoder
+            → Writes D.meaning D.counts desk.old desk.new
+            (to_output (space_packet self.old.writer.apid (t % PERIOD)
+            (data_at (with_packet h self.old self.old.input t) (length h.steps)))) result }
         ensures cause { HasWriteCause (D.counts desk.old) (D.counts desk.new) result }
         ensures right { IsCompressing self.new }
         ensures places { length self.new.encoder.masks.mask ≡ length self.old.encoder.masks.mask }

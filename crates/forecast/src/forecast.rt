@@ -1,7 +1,9 @@
 //! The command `forecast`: which packets will be written, whatever the recording is.
 
-ghost use Rattle.std.specs.Prelude.{◌≡◌, ◌≤◌, ◌<◌, ◌^◌, ◌+◌, ◌++◌, length, IfOk, OnOk, OnErr, IsOk};
-ghost use Rattle.desk_ports.specs.Meanings.{Adds, AddsFront, HasWriteCause, IsReadyOut};
+ghost use Rattle.std.specs.Prelude.{◌≡◌, ◌≤◌, ◌<◌, ◌^◌, ◌+◌, ◌++◌, length, IfOk, IsOk};
+ghost use Rattle.desk_ports.specs.Meanings.{IsReadyOut};
+ghost use Rattle.desk_ports.specs.Courses.{to_output};
+ghost use Rattle.desk_ports.specs.Writings.{Writes};
 ghost use Rattle.forecast.specs.Outlooks.{IsCount, foresees, row_of};
 ghost use Rattle.forecast.specs.Texts.{closing_rows, end_row, forecast_text, gaps_row, sure_count};
 
@@ -61,13 +63,10 @@ impl Forecast {
     /// Writes the forecast to the main outlet, and tells how many packets are sure. It takes no memory.
     pub fn write<D: Desk>(self, desk: &mut D) -> Result<u64, Failed>
         requires ready { IsReadyOut (D.meaning desk.old) Outlet.Main }
-        ensures added { OnOk result (Adds (D.meaning desk.old) (D.meaning desk.new) Outlet.Main
-            (forecast_text (foresees self.outlook) self.packets)) }
-        ensures front { OnErr result (AddsFront (D.meaning desk.old) (D.meaning desk.new)
-            Outlet.Main (forecast_text (foresees self.outlook) self.packets)) }
+        ensures written { Writes D.meaning D.counts desk.old desk.new
+            (to_output (forecast_text (foresees self.outlook) self.packets)) result }
         ensures sure { IfOk result
             (λ sure. sure ≡ sure_count (foresees self.outlook) self.packets) }
-        ensures cause { HasWriteCause (D.counts desk.old) (D.counts desk.new) result }
     {
         let mut running = Running::of(self.foresight);
         write_text(desk, &mut running, self.packets)
@@ -79,12 +78,9 @@ fn write_text<D: Desk>(desk: &mut D, running: &mut Running, packets: u32) -> Res
     requires ready { IsReadyOut (D.meaning desk.old) Outlet.Main }
     requires none { running.old.packets ≡ 0 }
     requires count { IsCount packets }
-    ensures added { OnOk result (Adds (D.meaning desk.old) (D.meaning desk.new) Outlet.Main
-        (forecast_text (foresees running.old.outlook) packets)) }
-    ensures front { OnErr result (AddsFront (D.meaning desk.old) (D.meaning desk.new)
-        Outlet.Main (forecast_text (foresees running.old.outlook) packets)) }
+    ensures written { Writes D.meaning D.counts desk.old desk.new
+        (to_output (forecast_text (foresees running.old.outlook) packets)) result }
     ensures sure { IfOk result (λ sure. sure ≡ sure_count (foresees running.old.outlook) packets) }
-    ensures cause { HasWriteCause (D.counts desk.old) (D.counts desk.new) result }
 {
     write_all(desk, Outlet::Main, HEADER.as_bytes())?;
     for _ in 0..packets {
@@ -98,11 +94,7 @@ fn write_text<D: Desk>(desk: &mut D, running: &mut Running, packets: u32) -> Res
 /// Writes the line of a stretch, if there is one.
 fn write_row<D: Desk>(desk: &mut D, stretch: Option<Stretch>) -> Result<(), Failed>
     requires { IsReadyOut (D.meaning desk.old) Outlet.Main }
-    ensures added { OnOk result
-        (Adds (D.meaning desk.old) (D.meaning desk.new) Outlet.Main (row_of stretch)) }
-    ensures front { OnErr result
-        (AddsFront (D.meaning desk.old) (D.meaning desk.new) Outlet.Main (row_of stretch)) }
-    ensures cause { HasWriteCause (D.counts desk.old) (D.counts desk.new) result }
+    ensures { Writes D.meaning D.counts desk.old desk.new (to_output (row_of stretch)) result }
 {
     let Some(stretch) = stretch else {
         return Ok(());
@@ -113,11 +105,8 @@ fn write_row<D: Desk>(desk: &mut D, stretch: Option<Stretch>) -> Result<(), Fail
 /// Writes the last two lines: of the gaps, and of the numbers of the packets.
 fn write_closing<D: Desk>(desk: &mut D, running: &Running) -> Result<(), Failed>
     requires { IsReadyOut (D.meaning desk.old) Outlet.Main }
-    ensures added { OnOk result (Adds (D.meaning desk.old) (D.meaning desk.new) Outlet.Main
-        (closing_rows (foresees running.now.outlook) running.now.packets)) }
-    ensures front { OnErr result (AddsFront (D.meaning desk.old) (D.meaning desk.new) Outlet.Main
-        (closing_rows (foresees running.now.outlook) running.now.packets)) }
-    ensures cause { HasWriteCause (D.counts desk.old) (D.counts desk.new) result }
+    ensures { Writes D.meaning D.counts desk.old desk.new
+        (to_output (closing_rows (foresees running.now.outlook) running.now.packets)) result }
 {
     let played = running.played();
     let mut rows = Row::new();

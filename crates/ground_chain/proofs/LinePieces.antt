@@ -1,11 +1,8 @@
 -- The lines of one arrival, in the pieces in which they are written.
-use Rattle.std.proofs.Common.{◌≡◌, ℕ, eqb, if◌then◌else◌, Bool, true, false, List, ◌++◌, codes, Option, Some, None, refl, sym, ap, ◌∙◌, subst, append_assoc}
+use Rattle.std.proofs.Common.{◌≡◌, ℕ, eqb, if◌then◌else◌, Bool, true, false, List, ◌++◌, codes, Option, Some, None, refl, sym, ap, ◌∙◌, append_assoc}
 use Rattle.std.specs.Fmt.{decimal}
 use Rattle.std.specs.Option.{option_eq}
 use Rattle.bit_vectors.specs.declared.fault.BitFault.TheVariants.{Wrong, EndsEarly}
-use Rattle.desk_ports.specs.declared.desk.Outlet.TheVariants as outlet
-use Rattle.desk_ports.specs.Meanings.{Meanings, AddsFront}
-use Rattle.desk_ports.proofs.Transfers.{AddsFront-then}
 use Rattle.packet_decode.specs.State.{KnownVector, State}
 use Rattle.packet_decode.specs.Decoding.{Decoding, latest_content, number_of, vector_of}
 use Rattle.ground_chain.specs.declared.verdict.Kind.{Kind}
@@ -84,8 +81,3 @@ shown-are judged decoder shows = by_kind judged.verdict.kind refl
     by_kind (Gap reached false) is = refl
     by_kind (Gap reached true) is = same_mask
     by_kind (Refused fault) is = refl
-
--- a front of the front of the lines is one of the lines
-pub front_front : (a b : Meanings) (judged : Judged) (decoder : Decoding) → AgreesWith decoder judged → AddsFront a b outlet.Main (front_line judged.verdict decoder.level) → AddsFront a b outlet.Main (judged_lines judged)
-front_front a b judged decoder shows cut =
-    subst (AddsFront a b outlet.Main) (lines-are judged decoder shows) (AddsFront-then a b outlet.Main (front_line judged.verdict decoder.level) (own_vectors judged) cut)

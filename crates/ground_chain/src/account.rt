@@ -1,10 +1,10 @@
 //! An account of a run over arrivals: what is written of each, and at the end.
 
-ghost use Rattle.std.specs.Prelude.{◌≡◌, ℕ, Bool, OnOk, OnErr};
+ghost use Rattle.std.specs.Prelude.{◌≡◌, ℕ, Bool};
 ghost use Rattle.desk_ports.specs.declared.desk.Outlet.{Outlet};
 ghost use Rattle.desk_ports.specs.Meanings.{HasWriteCause};
-ghost use Rattle.desk_ports.specs.Turns.{AreReady, Wrote};
-ghost use Rattle.desk_ports.specs.Parts.{WroteFrontBy};
+ghost use Rattle.desk_ports.specs.Turns.{AreReady};
+ghost use Rattle.desk_ports.specs.Writings.{WritesBy};
 ghost use Rattle.ground_chain.specs.Accounts.{Texts};
 ghost use Rattle.ground_chain.specs.Reception.{AgreesWith};
 ghost use Rattle.ground_chain.specs.Run.{Judged};
@@ -34,22 +34,13 @@ pub trait Account: Drop {
     ) -> Result<(), Failed>
         requires room { has_room self.old decoder.now.places }
         requires ready { AreReady writes (D.meaning desk.old) }
-        ensures wrote { (judged : Judged) → judged.verdict ≡ verdict.now → AgreesWith decoder.now judged
-            → OnOk result (Wrote (D.meaning desk.old) (D.meaning desk.new) (texts.parts judged)) }
-        ensures front { (judged : Judged) → judged.verdict ≡ verdict.now → AgreesWith decoder.now judged
-            → OnErr result
-            (WroteFrontBy texts.first (D.meaning desk.old) (D.meaning desk.new)
-            (texts.parts judged)) }
+        ensures written { (judged : Judged) → judged.verdict ≡ verdict.now → AgreesWith decoder.now judged
+            → WritesBy texts.first D.meaning D.counts desk.old desk.new (texts.parts judged) result }
         ensures room { has_room self.new decoder.now.places }
         ensures cause { HasWriteCause (D.counts desk.old) (D.counts desk.new) result };
 
     /// Writes the last part.
     fn end<D: Desk>(&self, desk: &mut D, restored: &Restored) -> Result<(), Failed>
         requires ready { AreReady writes (D.meaning desk.old) }
-        ensures wrote { OnOk result
-            (Wrote (D.meaning desk.old) (D.meaning desk.new) (texts.last restored.now)) }
-        ensures front { OnErr result
-            (WroteFrontBy texts.first (D.meaning desk.old) (D.meaning desk.new)
-            (texts.last restored.now)) }
-        ensures cause { HasWriteCause (D.counts desk.old) (D.counts desk.new) result };
+        ensures { WritesBy texts.first D.meaning D.counts desk.old desk.new (texts.last restored.now) result };
 }

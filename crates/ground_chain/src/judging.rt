@@ -1,9 +1,8 @@
 //! Arrivals that are judged, and what an account writes of them.
 
-ghost use Rattle.std.specs.Prelude.{◌≡◌, ◌^◌, ◌<◌, ◌≤◌, IfOk, OnOk, OnErr, length};
-ghost use Rattle.desk_ports.specs.Meanings.{HasWriteCause};
-ghost use Rattle.desk_ports.specs.Turns.{AreReady, Wrote};
-ghost use Rattle.desk_ports.specs.Parts.{WroteFrontBy};
+ghost use Rattle.std.specs.Prelude.{◌≡◌, ◌^◌, ◌<◌, ◌≤◌, IfOk, length};
+ghost use Rattle.desk_ports.specs.Turns.{AreReady};
+ghost use Rattle.desk_ports.specs.Writings.{WritesBy};
 ghost use Rattle.ground_chain.specs.Reception.{next_judged};
 ghost use Rattle.ground_chain.specs.Reckoning.{Judges, nothing_judged};
 
@@ -53,11 +52,8 @@ impl<A: Account> Judging<A> {
         requires few { self.old.restored.packets < 2 ^ 32 }
         requires ready { AreReady A.writes (D.meaning desk.old) }
         ensures judges { Judges self.old self.new count bytes.now }
-        ensures wrote { OnOk result (Wrote (D.meaning desk.old) (D.meaning desk.new)
-            (A.texts.parts (next_judged self.old.reception count bytes.now))) }
-        ensures front { OnErr result (WroteFrontBy A.texts.first (D.meaning desk.old) (D.meaning desk.new)
-            (A.texts.parts (next_judged self.old.reception count bytes.now))) }
-        ensures cause { HasWriteCause (D.counts desk.old) (D.counts desk.new) result }
+        ensures written { WritesBy A.texts.first D.meaning D.counts desk.old desk.new
+            (A.texts.parts (next_judged self.old.reception count bytes.now)) result }
     {
         let verdict = self.arrivals.judge(count, bytes);
         self.account.write(desk, &verdict, self.arrivals.decoder())
@@ -66,11 +62,8 @@ impl<A: Account> Judging<A> {
     /// Writes the account's last part.
     pub fn end<D: Desk>(&self, desk: &mut D) -> Result<(), Failed>
         requires ready { AreReady A.writes (D.meaning desk.old) }
-        ensures wrote { OnOk result (Wrote (D.meaning desk.old) (D.meaning desk.new)
-            (A.texts.last self.now.restored)) }
-        ensures front { OnErr result (WroteFrontBy A.texts.first (D.meaning desk.old) (D.meaning desk.new)
-            (A.texts.last self.now.restored)) }
-        ensures cause { HasWriteCause (D.counts desk.old) (D.counts desk.new) result }
+        ensures { WritesBy A.texts.first D.meaning D.counts desk.old desk.new
+            (A.texts.last self.now.restored) result }
     {
         self.account.end(desk, self.arrivals.restored())
     }

@@ -1,7 +1,9 @@
 //! What `show` writes of the arrivals: a line for each, with one before it for lost numbers.
 
-ghost use Rattle.std.specs.Prelude.{◌≡◌, ◌≤◌, ◌++◌, length, IfOk, OnOk, OnErr};
-ghost use Rattle.desk_ports.specs.Meanings.{IsReadyOut, Adds, AddsFront, HasWriteCause};
+ghost use Rattle.std.specs.Prelude.{◌≡◌, ◌≤◌, ◌++◌, length, IfOk};
+ghost use Rattle.desk_ports.specs.Meanings.{IsReadyOut};
+ghost use Rattle.desk_ports.specs.Courses.{to_output};
+ghost use Rattle.desk_ports.specs.Writings.{Writes};
 ghost use Rattle.ground_chain.specs.Listing.{known_with, latest_vectors, mask_text, shown_vectors, vector_digits};
 
 use crate::account::Account;
@@ -75,12 +77,8 @@ impl Listing {
         requires room { HasVectorRoom self.old decoder.now.places }
         requires output { IsReadyOut (D.meaning desk.old) Outlet.Main }
         ensures room { HasVectorRoom self.new decoder.now.places }
-        ensures added { OnOk result (Adds (D.meaning desk.old) (D.meaning desk.new) Outlet.Main
-            (shown_vectors verdict.now decoder.now)) }
-        ensures front { OnErr result
-            (AddsFront (D.meaning desk.old) (D.meaning desk.new) Outlet.Main
-            (shown_vectors verdict.now decoder.now)) }
-        ensures cause { HasWriteCause (D.counts desk.old) (D.counts desk.new) result }
+        ensures written { Writes D.meaning D.counts desk.old desk.new
+            (to_output (shown_vectors verdict.now decoder.now)) result }
     {
         match verdict.kind {
             Kind::Written => self.write_vectors(desk, verdict.t, decoder),
@@ -102,12 +100,8 @@ impl Listing {
         requires room { HasVectorRoom self.old decoder.now.places }
         requires output { IsReadyOut (D.meaning desk.old) Outlet.Main }
         ensures room { HasVectorRoom self.new decoder.now.places }
-        ensures added { OnOk result (Adds (D.meaning desk.old) (D.meaning desk.new) Outlet.Main
-            (latest_vectors t decoder.now)) }
-        ensures front { OnErr result
-            (AddsFront (D.meaning desk.old) (D.meaning desk.new) Outlet.Main
-            (latest_vectors t decoder.now)) }
-        ensures cause { HasWriteCause (D.counts desk.old) (D.counts desk.new) result }
+        ensures written { Writes D.meaning D.counts desk.old desk.new
+            (to_output (latest_vectors t decoder.now)) result }
     {
         self.write_vector(desk, decoder.recent(), " ")?;
         self.write_mask(desk, t, decoder, " ")?;
@@ -125,12 +119,8 @@ impl Listing {
         requires room { HasVectorRoom self.old decoder.now.places }
         requires output { IsReadyOut (D.meaning desk.old) Outlet.Main }
         ensures room { HasVectorRoom self.new decoder.now.places }
-        ensures added { OnOk result (Adds (D.meaning desk.old) (D.meaning desk.new) Outlet.Main
-            (mask_text (known_with t decoder.now.state.mask) ++ after.now)) }
-        ensures front { OnErr result
-            (AddsFront (D.meaning desk.old) (D.meaning desk.new) Outlet.Main
-            (mask_text (known_with t decoder.now.state.mask) ++ after.now)) }
-        ensures cause { HasWriteCause (D.counts desk.old) (D.counts desk.new) result }
+        ensures written { Writes D.meaning D.counts desk.old desk.new
+            (to_output (mask_text (known_with t decoder.now.state.mask) ++ after.now)) result }
     {
         if decoder.last_mask() == Some(t) {
             return self.write_vector(desk, decoder.mask(), after);
@@ -149,12 +139,8 @@ impl Listing {
         requires room { HasVectorRoom self.old (length vector.now) }
         requires output { IsReadyOut (D.meaning desk.old) Outlet.Main }
         ensures room { HasVectorRoom self.new (length vector.now) }
-        ensures added { OnOk result (Adds (D.meaning desk.old) (D.meaning desk.new) Outlet.Main
-            (vector_digits vector.now ++ after.now)) }
-        ensures front { OnErr result
-            (AddsFront (D.meaning desk.old) (D.meaning desk.new) Outlet.Main
-            (vector_digits vector.now ++ after.now)) }
-        ensures cause { HasWriteCause (D.counts desk.old) (D.counts desk.new) result }
+        ensures written { Writes D.meaning D.counts desk.old desk.new
+            (to_output (vector_digits vector.now ++ after.now)) result }
     {
         self.spell(vector);
         write_all(desk, Outlet::Main, &self.digits)?;

@@ -1,8 +1,10 @@
 //! What `restore` writes of the arrivals: the content of each restored packet, and the rows of the report.
 
-ghost use Rattle.std.specs.Prelude.{◌≡◌, ◌≤◌, true, length, IfOk, OnOk, OnErr};
+ghost use Rattle.std.specs.Prelude.{◌≡◌, ◌≤◌, true, length, IfOk};
 ghost use Rattle.bit_vectors.specs.Vectors.{byte_count, vector_bytes};
-ghost use Rattle.desk_ports.specs.Meanings.{IsReadyOut, Adds, AddsFront, HasWriteCause};
+ghost use Rattle.desk_ports.specs.Meanings.{IsReadyOut};
+ghost use Rattle.desk_ports.specs.Courses.{to_output, to_report};
+ghost use Rattle.desk_ports.specs.Writings.{Writes};
 ghost use Rattle.packet_decode.specs.Decoding.{latest_content};
 ghost use Rattle.ground_chain.specs.Report.{verdict_rows};
 
@@ -65,11 +67,7 @@ impl Account for Reporting {
 /// Writes the rows of a verdict. A packet that is written after the one before it has none.
 fn write_rows<D: Desk>(desk: &mut D, verdict: &Verdict) -> Result<(), Failed>
     requires { IsReadyOut (D.meaning desk.old) Outlet.Report }
-    ensures added { OnOk result (Adds (D.meaning desk.old) (D.meaning desk.new) Outlet.Report
-        (verdict_rows verdict.now)) }
-    ensures front { OnErr result (AddsFront (D.meaning desk.old) (D.meaning desk.new) Outlet.Report
-        (verdict_rows verdict.now)) }
-    ensures cause { HasWriteCause (D.counts desk.old) (D.counts desk.new) result }
+    ensures { Writes D.meaning D.counts desk.old desk.new (to_report (verdict_rows verdict.now)) result }
 {
     if verdict.lost.is_none() && verdict.kind.is_written() {
         return Ok(());
@@ -81,11 +79,7 @@ fn write_rows<D: Desk>(desk: &mut D, verdict: &Verdict) -> Result<(), Failed>
 #[cold]
 fn write_some_rows<D: Desk>(desk: &mut D, verdict: &Verdict) -> Result<(), Failed>
     requires { IsReadyOut (D.meaning desk.old) Outlet.Report }
-    ensures added { OnOk result (Adds (D.meaning desk.old) (D.meaning desk.new) Outlet.Report
-        (verdict_rows verdict.now)) }
-    ensures front { OnErr result (AddsFront (D.meaning desk.old) (D.meaning desk.new) Outlet.Report
-        (verdict_rows verdict.now)) }
-    ensures cause { HasWriteCause (D.counts desk.old) (D.counts desk.new) result }
+    ensures { Writes D.meaning D.counts desk.old desk.new (to_report (verdict_rows verdict.now)) result }
 {
     write_all(desk, Outlet::Report, rows_of(verdict).as_bytes())
 }
@@ -94,11 +88,8 @@ fn write_some_rows<D: Desk>(desk: &mut D, verdict: &Verdict) -> Result<(), Faile
 fn write_content<D: Desk>(desk: &mut D, decoder: &Decoder, line: &mut [u8]) -> Result<(), Failed>
     requires line { length line.old ≡ byte_count decoder.now.places }
     requires output { IsReadyOut (D.meaning desk.old) Outlet.Main }
-    ensures added { OnOk result (Adds (D.meaning desk.old) (D.meaning desk.new) Outlet.Main
-        (vector_bytes (latest_content decoder.now.places decoder.now.state))) }
-    ensures front { OnErr result (AddsFront (D.meaning desk.old) (D.meaning desk.new) Outlet.Main
-        (vector_bytes (latest_content decoder.now.places decoder.now.state))) }
-    ensures cause { HasWriteCause (D.counts desk.old) (D.counts desk.new) result }
+    ensures { Writes D.meaning D.counts desk.old desk.new
+        (to_output (vector_bytes (latest_content decoder.now.places decoder.now.state))) result }
 {
     decoder.content().store(line);
     write_all(desk, Outlet::Main, line)

@@ -5,6 +5,7 @@ use Rattle.desk_ports.specs.declared.desk.Outlet.TheVariants as outlet
 use Rattle.desk_ports.specs.Courses.{Outputs}
 use Rattle.desk_ports.specs.Turns.{Wrote}
 use Rattle.desk_ports.specs.Parts.{WroteWithin}
+use Rattle.desk_ports.proofs.Writings.{Wrote-then}
 use Rattle.ground_chain.specs.Restoring.{restored_texts}
 use Rattle.ground_chain.proofs.Reckonings.{put_all-parts}
 use Rattle.ground_chain.specs.Reckoning.{Reckoning}
@@ -12,7 +13,7 @@ use Rattle.late_window.specs.declared.late.LateArrivals.{LateArrivals}
 use Rattle.late_window.specs.Numbers.{Numbered}
 use Rattle.late_window.specs.Lines.{Line, given_up, without_first}
 use Rattle.late_window.specs.Late.{AreJudged, held_each, held_parts, run_of}
-use Rattle.late_window.proofs.Judgings.{AreJudged-then, Wrote-then, WroteWithin-more, WroteWithin-next, held_each-then, held_parts-then, packets-judged}
+use Rattle.late_window.proofs.Judgings.{AreJudged-then, WroteWithin-more, WroteWithin-next, held_each-then, held_parts-then, packets-judged}
 
 -- the first of them were judged, and what there is to write of these was written
 pub record JudgedPart (start now : LateArrivals) (a b : Meanings) : Type 0 where
@@ -41,7 +42,7 @@ JudgedPart-next start now next a b c part line judged late wrote =
           append_assoc part.done one next.sorter.line.held
           ∙ (ap (λ (l : Line). part.done ++ (one ++ l.held)) line ∙ (ap (λ (l : List Numbered). part.done ++ l) (held-split now.sorter.line) ∙ part.split));
       judged = AreJudged-then start.judging now.judging next.judging part.done one part.judged judged;
-      wrote = subst (Wrote a c) (sym (held_parts-then part.judged one)) (Wrote-then a b c (held_parts start.judging part.done) (held_parts now.judging one) part.wrote wrote);
+      wrote = subst (Wrote a c) (sym (held_parts-then part.judged one)) (Wrote-then part.wrote wrote);
       late = late ∙ part.late;
     }
 

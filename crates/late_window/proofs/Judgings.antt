@@ -1,5 +1,5 @@
 -- Arrivals that are judged one after another: the run over them, what is written of it, and its numbers.
-use Rattle.std.proofs.Common.{◌≡◌, ℕ, ◌+◌, List, [], ◌++◌, length, map, sym, ap, ◌∙◌}
+use Rattle.std.proofs.Common.{◌≡◌, ℕ, ◌+◌, List, ◌++◌, length, map, sym, ap, ◌∙◌}
 use Rattle.std.proofs.lemmas.List.{length-map, map-append}
 use Rattle.std.proofs.lemmas.List.Concat.{flat_map-append}
 use Rattle.desk_ports.specs.Meanings.{Meanings}
@@ -8,7 +8,7 @@ use Rattle.desk_ports.specs.Turns.{Wrote}
 use Rattle.desk_ports.specs.declared.desk.Outlet.{Outlet}
 use Rattle.desk_ports.specs.Parts.{WroteWithin, put_all}
 use Rattle.desk_ports.proofs.Parts.{EndsWithin-after, EndsWithin-then}
-use Rattle.desk_ports.proofs.Runs.{Ran-then}
+use Rattle.desk_ports.proofs.Writings.{Wrote-then}
 use Rattle.ground_chain.specs.declared.restored.Restored.{Restored}
 use Rattle.ground_chain.specs.Run.{Judged, known_from, run_from}
 use Rattle.ground_chain.specs.Report.{added, restored_of}
@@ -73,12 +73,9 @@ AreJudged-then a b c xs ys first next =
 
 -- ---- what is written of one part after another
 
-pub Wrote-then : (a b c : Meanings) (xs ys : Outputs) → Wrote a b xs → Wrote b c ys → Wrote a c (put xs ys)
-Wrote-then a b c xs ys first next = Ran-then a b c [] [] xs.output ys.output xs.report ys.report first next
-
 -- a front of the next parts
 pub WroteWithin-next : (first : Outlet) (a b c : Meanings) (xs ys : List Outputs) → Wrote a b (put_all xs) → WroteWithin first b c ys → WroteWithin first a c (xs ++ ys)
-WroteWithin-next first a b c xs ys before cut = record { stand = put (put_all xs) cut.stand; wrote = Wrote-then a b c (put_all xs) cut.stand before cut.wrote; within = EndsWithin-after xs cut.within }
+WroteWithin-next first a b c xs ys before cut = record { stand = put (put_all xs) cut.stand; wrote = Wrote-then before cut.wrote; within = EndsWithin-after xs cut.within }
 
 -- a front of the first parts
 pub WroteWithin-more : (first : Outlet) (a b : Meanings) (xs ys : List Outputs) → WroteWithin first a b xs → WroteWithin first a b (xs ++ ys)

@@ -1,9 +1,8 @@
 //! Arrivals that are put in order and then judged.
 
-ghost use Rattle.std.specs.Prelude.{◌≡◌, ◌+◌, ◌-◌, ◌^◌, ◌<◌, ◌≤◌, ◌*◌, [], length, take, true, IfOk, IfErr, OnOk, OnErr};
-ghost use Rattle.desk_ports.specs.Meanings.{HasWriteCause};
-ghost use Rattle.desk_ports.specs.Turns.{AreReady, Wrote};
-ghost use Rattle.desk_ports.specs.Parts.{WroteWithin};
+ghost use Rattle.std.specs.Prelude.{◌≡◌, ◌+◌, ◌-◌, ◌^◌, ◌<◌, ◌≤◌, ◌*◌, [], length, take, true, IfOk, IfErr, OnOk};
+ghost use Rattle.desk_ports.specs.Turns.{AreReady};
+ghost use Rattle.desk_ports.specs.Writings.{WritesWithin};
 ghost use Rattle.ground_chain.specs.Run.{Arrival};
 ghost use Rattle.late_window.specs.Late.{AreJudged, IsWithinLimits, Sorts, arrival_each, arrival_parts, held_each, held_parts, last_each, last_parts, given_at, done_of, nothing_late};
 ghost use Rattle.late_window.specs.Lines.{given_up};
@@ -57,11 +56,9 @@ impl LateArrivals {
         requires limits { IsWithinLimits self.old (2 ^ 32 - 1) }
         requires ready { AreReady (λ _. true) (D.meaning desk.old) }
         ensures sorts { Sorts self.old self.new (record { count = count; body = bytes.now }) }
-        ensures wrote { OnOk result (Wrote (D.meaning desk.old) (D.meaning desk.new)
-            (arrival_parts self.old (record { count = count; body = bytes.now }))) }
-        ensures front { OnErr result (WroteWithin Outlet.Report (D.meaning desk.old) (D.meaning desk.new)
-            (arrival_each self.old (record { count = count; body = bytes.now }))) }
-        ensures cause { HasWriteCause (D.counts desk.old) (D.counts desk.new) result }
+        ensures written { WritesWithin Outlet.Report D.meaning D.counts desk.old desk.new
+            (arrival_parts self.old (record { count = count; body = bytes.now }))
+            (arrival_each self.old (record { count = count; body = bytes.now })) result }
     {
         let t = self.numbers.next(count);
         if !self.sorter.push(t, bytes) {
@@ -83,11 +80,9 @@ impl LateArrivals {
         ensures judged { AreJudged self.old.judging self.new.judging
             (take 1 self.old.sorter.line.held) }
         ensures others { self.new ≡ record self.old { sorter = self.new.sorter; judging = self.new.judging } }
-        ensures wrote { OnOk result (Wrote (D.meaning desk.old) (D.meaning desk.new)
-            (held_parts self.old.judging (take 1 self.old.sorter.line.held))) }
-        ensures front { OnErr result (WroteWithin Outlet.Report (D.meaning desk.old) (D.meaning desk.new)
-            (held_each self.old.judging (take 1 self.old.sorter.line.held))) }
-        ensures cause { HasWriteCause (D.counts desk.old) (D.counts desk.new) result }
+        ensures written { WritesWithin Outlet.Report D.meaning D.counts desk.old desk.new
+            (held_parts self.old.judging (take 1 self.old.sorter.line.held))
+            (held_each self.old.judging (take 1 self.old.sorter.line.held)) result }
     {
         self.sorter.release();
         let count = (self.sorter.out_number() % PERIOD) as u16;
@@ -101,11 +96,9 @@ impl LateArrivals {
         ensures judged { OnOk result (AreJudged self.old.judging self.new.judging
             self.old.sorter.line.held) }
         ensures late { self.new.late ≡ self.old.late }
-        ensures wrote { OnOk result (Wrote (D.meaning desk.old) (D.meaning desk.new)
-            (held_parts self.old.judging self.old.sorter.line.held)) }
-        ensures front { OnErr result (WroteWithin Outlet.Report (D.meaning desk.old) (D.meaning desk.new)
-            (held_each self.old.judging self.old.sorter.line.held)) }
-        ensures cause { HasWriteCause (D.counts desk.old) (D.counts desk.new) result }
+        ensures written { WritesWithin Outlet.Report D.meaning D.counts desk.old desk.new
+            (held_parts self.old.judging self.old.sorter.line.held)
+            (held_each self.old.judging self.old.sorter.line.held) result }
     {
         while self.sorter.held() > 0 {
             self.judge_least(desk)?;
@@ -118,11 +111,8 @@ impl LateArrivals {
         requires few { self.old.judging.restored.packets + length self.old.sorter.line.held ≤ 2 ^ 32 }
         requires ready { AreReady (λ _. true) (D.meaning desk.old) }
         ensures done { IfOk result (λ done. done ≡ done_of self.old []) }
-        ensures wrote { OnOk result (Wrote (D.meaning desk.old) (D.meaning desk.new)
-            (last_parts self.old [])) }
-        ensures front { OnErr result (WroteWithin Outlet.Report (D.meaning desk.old) (D.meaning desk.new)
-            (last_each self.old [])) }
-        ensures cause { HasWriteCause (D.counts desk.old) (D.counts desk.new) result }
+        ensures written { WritesWithin Outlet.Report D.meaning D.counts desk.old desk.new
+            (last_parts self.old []) (last_each self.old []) result }
     {
         self.judge_held(desk)?;
         self.judging.end(desk)?;

@@ -1,7 +1,9 @@
 //! A store that is being played, packet by packet.
 
-ghost use Rattle.std.specs.Prelude.{◌≡◌, ◌^◌, ◌+◌, ◌-◌, ◌<◌, ◌≤◌, true, length, IfOk, OnOk, OnErr};
-ghost use Rattle.desk_ports.specs.Meanings.{Adds, AddsFront, HasWriteCause, IsReadyOut};
+ghost use Rattle.std.specs.Prelude.{◌≡◌, ◌^◌, ◌+◌, ◌-◌, ◌<◌, ◌≤◌, true, length, IfOk};
+ghost use Rattle.desk_ports.specs.Meanings.{IsReadyOut};
+ghost use Rattle.desk_ports.specs.Courses.{to_output};
+ghost use Rattle.desk_ports.specs.Writings.{Writes};
 ghost use Rattle.side_tables.specs.Rows.{copies_of};
 ghost use Rattle.loss_player.specs.Played.{repeated};
 
@@ -78,12 +80,8 @@ impl Playing {
         requires output { IsReadyOut (D.meaning desk.old) Outlet.Main }
         ensures counts { HasCounted self.old self.new chosen }
         ensures counted { IsCounted self.new }
-        ensures added { OnOk result (Adds (D.meaning desk.old) (D.meaning desk.new) Outlet.Main
-            (next_copies self.old chosen self.old.reader.packet)) }
-        ensures front { OnErr result
-            (AddsFront (D.meaning desk.old) (D.meaning desk.new) Outlet.Main
-            (next_copies self.old chosen self.old.reader.packet)) }
-        ensures cause { HasWriteCause (D.counts desk.old) (D.counts desk.new) result }
+        ensures written { Writes D.meaning D.counts desk.old desk.new
+            (to_output (next_copies self.old chosen self.old.reader.packet)) result }
     {
         let times = if chosen { self.count() } else { 1 };
         write_copies(desk, self.reader.packet(), times)
@@ -106,12 +104,7 @@ impl Playing {
 /// Writes the bytes of a packet so many times.
 fn write_copies<D: Desk>(desk: &mut D, packet: &[u8], times: u8) -> Result<(), Failed>
     requires { IsReadyOut (D.meaning desk.old) Outlet.Main }
-    ensures added { OnOk result
-        (Adds (D.meaning desk.old) (D.meaning desk.new) Outlet.Main (repeated times packet.now)) }
-    ensures front { OnErr result
-        (AddsFront (D.meaning desk.old) (D.meaning desk.new) Outlet.Main
-        (repeated times packet.now)) }
-    ensures cause { HasWriteCause (D.counts desk.old) (D.counts desk.new) result }
+    ensures { Writes D.meaning D.counts desk.old desk.new (to_output (repeated times packet.now)) result }
 {
     for _ in 0..times {
         write_all(desk, Outlet::Main, packet)?;

@@ -1,7 +1,9 @@
 //! The play report, written once the store is played to its end.
 
-ghost use Rattle.std.specs.Prelude.{◌≡◌, ◌+◌, ◌≤◌, ◌++◌, length, OnOk, OnErr};
-ghost use Rattle.desk_ports.specs.Meanings.{Adds, AddsFront, HasWriteCause, IsReadyOut};
+ghost use Rattle.std.specs.Prelude.{◌≡◌, ◌+◌, ◌≤◌, ◌++◌, length};
+ghost use Rattle.desk_ports.specs.Meanings.{IsReadyOut};
+ghost use Rattle.desk_ports.specs.Courses.{to_report};
+ghost use Rattle.desk_ports.specs.Writings.{Writes};
 ghost use Rattle.loss_player.specs.Report.{first_text, numbers_row, play_report};
 
 use crate::played::Played;
@@ -13,12 +15,7 @@ const HEADER: &str = "packets,delivered,dropped,repeats,first,widest\n";
 /// Writes the report of a played store.
 pub fn write_report<D: Desk>(desk: &mut D, played: &Played) -> Result<(), Failed>
     requires { IsReadyOut (D.meaning desk.old) Outlet.Report }
-    ensures added { OnOk result
-        (Adds (D.meaning desk.old) (D.meaning desk.new) Outlet.Report (play_report played.now)) }
-    ensures front { OnErr result
-        (AddsFront (D.meaning desk.old) (D.meaning desk.new) Outlet.Report
-        (play_report played.now)) }
-    ensures cause { HasWriteCause (D.counts desk.old) (D.counts desk.new) result }
+    ensures { Writes D.meaning D.counts desk.old desk.new (to_report (play_report played.now)) result }
 {
     write_all(desk, Outlet::Report, HEADER.as_bytes())?;
     write_all(desk, Outlet::Report, numbers_row(played).as_bytes())

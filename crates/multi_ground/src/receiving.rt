@@ -1,10 +1,10 @@
 //! A store of several streams that is being received, packet by packet.
 
-ghost use Rattle.std.specs.Prelude.{◌≡◌, ℕ, ◌+◌, ◌-◌, ◌^◌, ◌<◌, ◌≤◌, ◌∷◌, ◌++◌, [], List, length, true, IfOk, OnOk, OnErr, vec_len};
+ghost use Rattle.std.specs.Prelude.{◌≡◌, ℕ, ◌+◌, ◌-◌, ◌^◌, ◌<◌, ◌≤◌, ◌∷◌, ◌++◌, [], List, length, true, IfOk, vec_len};
 ghost use Rattle.desk_ports.specs.Meanings.{HasWriteCause};
-ghost use Rattle.desk_ports.specs.Turns.{AreReady, Wrote, WroteFront};
+ghost use Rattle.desk_ports.specs.Turns.{AreReady};
 ghost use Rattle.desk_ports.specs.Courses.{to_report};
-ghost use Rattle.desk_ports.specs.Parts.{WroteWithin};
+ghost use Rattle.desk_ports.specs.Writings.{Writes, WritesWithin};
 ghost use Rattle.packet_store.specs.SpacePackets.{Packet};
 
 use crate::ground::MultiGround;
@@ -86,12 +86,9 @@ impl MultiReceiving {
         requires ready { AreReady (λ _. true) (D.meaning desk.old) }
         ensures received { (p : Packet) (packets : List Packet) → HasRead self.old p → HasReceived self.old packets
             → HasReceived self.new (packets ++ p ∷ []) }
-        ensures wrote { (p : Packet) (packets : List Packet) → HasRead self.old p → HasReceived self.old packets
-            → OnOk result (Wrote (D.meaning desk.old) (D.meaning desk.new)
-            (outputs_after self.old.streams packets p)) }
-        ensures front { (p : Packet) (packets : List Packet) → HasRead self.old p → HasReceived self.old packets
-            → OnErr result (WroteWithin Outlet.Report (D.meaning desk.old) (D.meaning desk.new)
-            (parts_after self.old.streams packets p)) }
+        ensures written { (p : Packet) (packets : List Packet) → HasRead self.old p → HasReceived self.old packets
+            → WritesWithin Outlet.Report D.meaning D.counts desk.old desk.new
+            (outputs_after self.old.streams packets p) (parts_after self.old.streams packets p) result }
         ensures reader { self.new.reader ≡ self.old.reader }
         ensures streams { self.new.streams ≡ self.old.streams }
         ensures cause { HasWriteCause (D.counts desk.old) (D.counts desk.new) result }
@@ -116,11 +113,9 @@ impl MultiReceiving {
         requires size { length self.old.reader.body ≤ 65536 }
         requires ready { AreReady (λ _. true) (D.meaning desk.old) }
         ensures judges { JudgesOne self.old self.new index count self.old.reader.body }
-        ensures wrote { OnOk result (Wrote (D.meaning desk.old) (D.meaning desk.new)
-            (outputs_of (next_of self.old index count self.old.reader.body ∷ []))) }
-        ensures front { OnErr result (WroteWithin Outlet.Report (D.meaning desk.old) (D.meaning desk.new)
-            (arrival_parts (next_of self.old index count self.old.reader.body ∷ []))) }
-        ensures cause { HasWriteCause (D.counts desk.old) (D.counts desk.new) result }
+        ensures written { WritesWithin Outlet.Report D.meaning D.counts desk.old desk.new
+            (outputs_of (next_of self.old index count self.old.reader.body ∷ []))
+            (arrival_parts (next_of self.old index count self.old.reader.body ∷ [])) result }
     {
         let verdict = self.arrivals.arrive(index, count, self.reader.body());
         self.written += u64::from(verdict.kind.is_written());
@@ -133,12 +128,9 @@ impl MultiReceiving {
     fn end<D: Desk>(&self, desk: &mut D) -> Result<(), Failed>
         requires receiving { (packets : List Packet) × HasReceived self.now packets }
         requires ready { AreReady (λ _. true) (D.meaning desk.old) }
-        ensures wrote { (packets : List Packet) → HasReceived self.now packets
-            → OnOk result (Wrote (D.meaning desk.old) (D.meaning desk.new)
-            (to_report (last_rows self.now.streams packets))) }
-        ensures front { (packets : List Packet) → HasReceived self.now packets
-            → OnErr result (WroteFront (D.meaning desk.old) (D.meaning desk.new)
-            (to_report (last_rows self.now.streams packets))) }
+        ensures written { (packets : List Packet) → HasReceived self.now packets
+            → Writes D.meaning D.counts desk.old desk.new
+            (to_report (last_rows self.now.streams packets)) result }
         ensures cause { HasWriteCause (D.counts desk.old) (D.counts desk.new) result }
     {
         for index in 0..self.streams.count() {

@@ -1,11 +1,12 @@
 //! What is written of an arrival: its rows with the APID in front, and its content as a Space Packet.
 
-ghost use Rattle.std.specs.Prelude.{◌≡◌, ◌+◌, ◌%◌, ◌≤◌, ◌++◌, ◌∷◌, [], codes, length, true, OnOk, OnErr};
+ghost use Rattle.std.specs.Prelude.{◌≡◌, ◌+◌, ◌%◌, ◌≤◌, ◌++◌, ◌∷◌, [], codes, length, true};
 ghost use Rattle.std.specs.Fmt.{decimal};
 ghost use Rattle.bit_vectors.specs.Vectors.{vector_bytes};
-ghost use Rattle.desk_ports.specs.Meanings.{IsReadyOut, Adds, AddsFront, HasWriteCause};
-ghost use Rattle.desk_ports.specs.Turns.{AreReady, Wrote};
-ghost use Rattle.desk_ports.specs.Parts.{WroteWithin};
+ghost use Rattle.desk_ports.specs.Meanings.{IsReadyOut, HasWriteCause};
+ghost use Rattle.desk_ports.specs.Courses.{to_output, to_report};
+ghost use Rattle.desk_ports.specs.Turns.{AreReady};
+ghost use Rattle.desk_ports.specs.Writings.{Writes, WritesWithin};
 ghost use Rattle.packet_decode.specs.Decoding.{latest_content};
 ghost use Rattle.packet_store.specs.SpacePackets.{period, space_packet};
 ghost use Rattle.ground_chain.specs.Reception.{AgreesWith};
@@ -25,11 +26,7 @@ pub const LINE_BYTES: usize = 6 + 6144;
 /// Writes the report's first line.
 pub fn write_header<D: Desk>(desk: &mut D) -> Result<(), Failed>
     requires { IsReadyOut (D.meaning desk.old) Outlet.Report }
-    ensures added { OnOk result
-        (Adds (D.meaning desk.old) (D.meaning desk.new) Outlet.Report multi_header) }
-    ensures front { OnErr result
-        (AddsFront (D.meaning desk.old) (D.meaning desk.new) Outlet.Report multi_header) }
-    ensures cause { HasWriteCause (D.counts desk.old) (D.counts desk.new) result }
+    ensures { Writes D.meaning D.counts desk.old desk.new (to_report multi_header) result }
 {
     write_all(desk, Outlet::Report, b"apid,")?;
     write_all(desk, Outlet::Report, HEADER.as_bytes())
@@ -47,12 +44,10 @@ pub fn write_arrival<D: Desk>(
     requires line { length line.old ≡ LINE_BYTES }
     requires chosen { apid ≤ 2046 }
     requires ready { AreReady (λ _. true) (D.meaning desk.old) }
-    ensures wrote { (judged : Judged) → judged.verdict ≡ verdict.now → AgreesWith decoder.now judged
-        → OnOk result (Wrote (D.meaning desk.old) (D.meaning desk.new)
-        (outputs_of (record { apid = apid; judged = judged } ∷ []))) }
-    ensures front { (judged : Judged) → judged.verdict ≡ verdict.now → AgreesWith decoder.now judged
-        → OnErr result (WroteWithin Outlet.Report (D.meaning desk.old) (D.meaning desk.new)
-        (arrival_parts (record { apid = apid; judged = judged } ∷ []))) }
+    ensures written { (judged : Judged) → judged.verdict ≡ verdict.now → AgreesWith decoder.now judged
+        → WritesWithin Outlet.Report D.meaning D.counts desk.old desk.new
+        (outputs_of (record { apid = apid; judged = judged } ∷ []))
+        (arrival_parts (record { apid = apid; judged = judged } ∷ [])) result }
     ensures cause { HasWriteCause (D.counts desk.old) (D.counts desk.new) result }
 {
     write_rows(desk, apid, verdict)?;
@@ -65,14 +60,9 @@ pub fn write_arrival<D: Desk>(
 /// Writes the rows of a verdict.
 fn write_rows<D: Desk>(desk: &mut D, apid: u16, verdict: &Verdict) -> Result<(), Failed>
     requires { IsReadyOut (D.meaning desk.old) Outlet.Report }
-    ensures added { OnOk result (Adds (D.meaning desk.old) (D.meaning desk.new) Outlet.Report
-        (tagged apid (lost_row verdict.now.lost)
-        ++ tagged apid (own_row verdict.now.t verdict.now.kind))) }
-    ensures front { OnErr result
-        (AddsFront (D.meaning desk.old) (D.meaning desk.new) Outlet.Report
-        (tagged apid (lost_row verdict.now.lost)
-        ++ tagged apid (own_row verdict.now.t verdict.now.kind))) }
-    ensures cause { HasWriteCause (D.counts desk.old) (D.counts desk.new) result }
+    ensures { Writes D.meaning D.counts desk.old desk.new
+        (to_report (tagged apid (lost_row verdict.now.lost)
+        ++ tagged apid (own_row verdict.now.t verdict.now.kind))) result }
 {
     let lost = Verdict {
         kind: Kind::Written,
@@ -89,12 +79,7 @@ fn write_rows<D: Desk>(desk: &mut D, apid: u16, verdict: &Verdict) -> Result<(),
 /// Writes a row with the APID and a comma in front, if it is not empty.
 pub fn write_tagged<D: Desk>(desk: &mut D, apid: u16, row: &Row) -> Result<(), Failed>
     requires { IsReadyOut (D.meaning desk.old) Outlet.Report }
-    ensures added { OnOk result
-        (Adds (D.meaning desk.old) (D.meaning desk.new) Outlet.Report (tagged apid row.now)) }
-    ensures front { OnErr result
-        (AddsFront (D.meaning desk.old) (D.meaning desk.new) Outlet.Report
-        (tagged apid row.now)) }
-    ensures cause { HasWriteCause (D.counts desk.old) (D.counts desk.new) result }
+    ensures { Writes D.meaning D.counts desk.old desk.new (to_report (tagged apid row.now)) result }
 {
     let bytes = row.as_bytes();
     if bytes.is_empty() {
@@ -136,13 +121,9 @@ fn write_packet<D: Desk>(
     requires line { length line.old ≡ LINE_BYTES }
     requires chosen { apid ≤ 2046 }
     requires output { IsReadyOut (D.meaning desk.old) Outlet.Main }
-    ensures added { OnOk result (Adds (D.meaning desk.old) (D.meaning desk.new) Outlet.Main
-        (space_packet apid (t % period)
-        (vector_bytes (latest_content decoder.now.places decoder.now.state)))) }
-    ensures front { OnErr result (AddsFront (D.meaning desk.old) (D.meaning desk.new) Outlet.Main
-        (space_packet apid (t % period)
-        (vector_bytes (latest_content decoder.now.places decoder.now.state)))) }
-    ensures cause { HasWriteCause (D.counts desk.old) (D.counts desk.new) result }
+    ensures { Writes D.meaning D.counts desk.old desk.new
+        (to_output (space_packet apid (t % period)
+        (vector_bytes (latest_content decoder.now.places decoder.now.state)))) result }
 {
     let content = decoder.content();
     let size = byte_len(content.len());

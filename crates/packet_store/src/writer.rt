@@ -1,7 +1,9 @@
 //! A store that is written packet by packet.
 
-ghost use Rattle.std.specs.Prelude.{◌≡◌, ◌<◌, ◌≤◌, length, IfOk, OnOk, OnErr};
-ghost use Rattle.desk_ports.specs.Meanings.{Adds, AddsFront, IsReadyOut, HasWriteCause};
+ghost use Rattle.std.specs.Prelude.{◌≡◌, ◌<◌, ◌≤◌, length, IfOk};
+ghost use Rattle.desk_ports.specs.Meanings.{IsReadyOut};
+ghost use Rattle.desk_ports.specs.Courses.{to_output};
+ghost use Rattle.desk_ports.specs.Writings.{Writes};
 ghost use Rattle.packet_store.specs.SpacePackets.{period, space_packet};
 
 use crate::header::{HEADER_BYTES, header_bytes};
@@ -48,13 +50,8 @@ impl StoreWriter {
         requires count_bits { count < period }
         requires some { 1 ≤ length body.now }
         requires most { length body.now ≤ 65536 }
-        ensures added { OnOk result
-            (Adds (D.meaning desk.old) (D.meaning desk.new) Outlet.Main
-            (space_packet self.old.apid count body.now)) }
-        ensures front { OnErr result
-            (AddsFront (D.meaning desk.old) (D.meaning desk.new) Outlet.Main
-            (space_packet self.old.apid count body.now)) }
-        ensures cause { HasWriteCause (D.counts desk.old) (D.counts desk.new) result }
+        ensures written { Writes D.meaning D.counts desk.old desk.new
+            (to_output (space_packet self.old.apid count body.now)) result }
         ensures same { self.new ≡ self.old }
     {
         let header = header_bytes(self.apid, count, body.len() as u32);

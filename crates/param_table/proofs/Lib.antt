@@ -1,7 +1,6 @@
 pub mod Words
 pub mod Limits
 pub mod TextRows
-pub mod Writings
 pub mod Violations
 pub mod TableCourses
 pub mod Sums

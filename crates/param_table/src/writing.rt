@@ -1,10 +1,10 @@
 //! What is written of the packets: a line of the table, and the rows of the values out of their limits.
 
-ghost use Rattle.std.specs.Prelude.{◌≡◌, ◌+◌, ◌≤◌, ◌^◌, ◌<◌, length, is_some, IfOk, OnOk, OnErr};
+ghost use Rattle.std.specs.Prelude.{◌≡◌, ◌+◌, ◌≤◌, ◌^◌, ◌<◌, length, is_some, IfOk};
 ghost use Rattle.std.specs.Option.{option_to_list};
-ghost use Rattle.desk_ports.specs.Meanings.{Adds, AddsFront, HasWriteCause, IsReadyOut};
-ghost use Rattle.desk_ports.specs.Turns.{Wrote};
-ghost use Rattle.desk_ports.specs.Parts.{WroteFrontBy};
+ghost use Rattle.desk_ports.specs.Meanings.{IsReadyOut};
+ghost use Rattle.desk_ports.specs.Courses.{to_report};
+ghost use Rattle.desk_ports.specs.Writings.{Writes, WritesBy};
 ghost use Rattle.param_table.specs.Rows.{AreColumns, IsColumn};
 ghost use Rattle.param_table.specs.Texts.{end_row, packet_violations, violation_of, violation_rows};
 ghost use Rattle.param_table.specs.Tabling.{headers, packet_texts};
@@ -28,11 +28,7 @@ pub fn write_headers<D: Desk>(
     requires output { IsReadyOut (D.meaning desk.old) Outlet.Main }
     requires report { IsReadyOut (D.meaning desk.old) Outlet.Report }
     requires few { length columns.now ≤ 256 }
-    ensures wrote { OnOk result
-        (Wrote (D.meaning desk.old) (D.meaning desk.new) (headers columns.now)) }
-    ensures front { OnErr result
-        (WroteFrontBy Outlet.Main (D.meaning desk.old) (D.meaning desk.new) (headers columns.now)) }
-    ensures cause { HasWriteCause (D.counts desk.old) (D.counts desk.new) result }
+    ensures { WritesBy Outlet.Main D.meaning D.counts desk.old desk.new (headers columns.now) result }
 {
     put_names(line, columns);
     write_all(desk, Outlet::Main, line.as_bytes())?;
@@ -50,14 +46,11 @@ pub fn write_packet<D: Desk>(
     requires output { IsReadyOut (D.meaning desk.old) Outlet.Main }
     requires report { IsReadyOut (D.meaning desk.old) Outlet.Report }
     requires columns { AreColumns (length packet.now) columns.now }
-    ensures wrote { OnOk result (Wrote (D.meaning desk.old) (D.meaning desk.new)
-        (packet_texts columns.now (t, packet.now))) }
-    ensures front { OnErr result (WroteFrontBy Outlet.Main (D.meaning desk.old) (D.meaning desk.new)
-        (packet_texts columns.now (t, packet.now))) }
+    ensures written { WritesBy Outlet.Main D.meaning D.counts desk.old desk.new
+        (packet_texts columns.now (t, packet.now)) result }
     ensures found { IfOk result
         (λ found. found ≡ length (packet_violations columns.now (t, packet.now))) }
     ensures few { IfOk result (λ found. found ≤ 256) }
-    ensures cause { HasWriteCause (D.counts desk.old) (D.counts desk.new) result }
 {
     put_values(line, columns, packet, t);
     write_all(desk, Outlet::Main, line.as_bytes())?;
@@ -72,11 +65,7 @@ pub fn write_end<D: Desk>(
     found: u64,
 ) -> Result<(), Failed>
     requires { IsReadyOut (D.meaning desk.old) Outlet.Report }
-    ensures added { OnOk result (Adds (D.meaning desk.old) (D.meaning desk.new) Outlet.Report
-        (end_row packets found)) }
-    ensures front { OnErr result (AddsFront (D.meaning desk.old) (D.meaning desk.new)
-        Outlet.Report (end_row packets found)) }
-    ensures cause { HasWriteCause (D.counts desk.old) (D.counts desk.new) result }
+    ensures { Writes D.meaning D.counts desk.old desk.new (to_report (end_row packets found)) result }
 {
     put_end(line, packets, found);
     write_all(desk, Outlet::Report, line.as_bytes())
@@ -92,14 +81,11 @@ fn write_violations<D: Desk>(
 ) -> Result<u64, Failed>
     requires report { IsReadyOut (D.meaning desk.old) Outlet.Report }
     requires columns { AreColumns (length packet.now) columns.now }
-    ensures added { OnOk result (Adds (D.meaning desk.old) (D.meaning desk.new) Outlet.Report
-        (violation_rows (packet_violations columns.now (t, packet.now)))) }
-    ensures front { OnErr result (AddsFront (D.meaning desk.old) (D.meaning desk.new)
-        Outlet.Report (violation_rows (packet_violations columns.now (t, packet.now)))) }
+    ensures written { Writes D.meaning D.counts desk.old desk.new
+        (to_report (violation_rows (packet_violations columns.now (t, packet.now)))) result }
     ensures found { IfOk result
         (λ found. found ≡ length (packet_violations columns.now (t, packet.now))) }
     ensures few { IfOk result (λ found. found ≤ 256) }
-    ensures cause { HasWriteCause (D.counts desk.old) (D.counts desk.new) result }
 {
     let mut found = 0;
     for column in columns {
@@ -120,14 +106,10 @@ fn write_violation<D: Desk>(
 ) -> Result<bool, Failed>
     requires report { IsReadyOut (D.meaning desk.old) Outlet.Report }
     requires column { IsColumn (length packet.now) column.now }
-    ensures added { OnOk result (Adds (D.meaning desk.old) (D.meaning desk.new) Outlet.Report
-        (violation_rows (option_to_list (violation_of (t, packet.now) column.now)))) }
-    ensures front { OnErr result (AddsFront (D.meaning desk.old) (D.meaning desk.new)
-        Outlet.Report
-        (violation_rows (option_to_list (violation_of (t, packet.now) column.now)))) }
+    ensures written { Writes D.meaning D.counts desk.old desk.new
+        (to_report (violation_rows (option_to_list (violation_of (t, packet.now) column.now)))) result }
     ensures found { IfOk result
         (λ found. found ≡ is_some (violation_of (t, packet.now) column.now)) }
-    ensures cause { HasWriteCause (D.counts desk.old) (D.counts desk.new) result }
 {
     let Some(limit) = &column.limit else {
         return Ok(false);

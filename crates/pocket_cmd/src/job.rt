@@ -1,8 +1,10 @@
 //! A command whose texts are read and whose memory is taken.
-ghost use Rattle.std.specs.Prelude.{◌≡◌, ◌≤◌, ◌⊎◌, ℕ, None, length, map, IsTrue, IfSome, IfOk, IfErr, OnOk, OnErr};
+ghost use Rattle.std.specs.Prelude.{◌≡◌, ◌≤◌, ◌⊎◌, ℕ, None, length, map, IsTrue, IfSome, IfOk, IfErr, OnOk};
 ghost use Rattle.std.specs.Option.{option_map};
 ghost use Rattle.std.specs.String.{string_bytes};
-ghost use Rattle.desk_ports.specs.Meanings.{Adds, AddsFront, HasWriteCause, IsReadyIn, IsReadyOut};
+ghost use Rattle.desk_ports.specs.Meanings.{IsReadyIn, IsReadyOut};
+ghost use Rattle.desk_ports.specs.Courses.{to_output};
+ghost use Rattle.desk_ports.specs.Writings.{Writes};
 ghost use Rattle.side_tables.specs.Grammar.{bad_copy_row, bad_schedule_row, copy_rows_of, schedule_rows_of};
 ghost use Rattle.side_tables.specs.Streams.{bad_stream_row, streams_of};
 ghost use Rattle.param_table.specs.Grammar.{bad_text_row};
@@ -140,11 +142,7 @@ impl Job {
 /// Writes a text to the main output.
 fn write_text<D: Desk>(text: Vec<u8>, desk: &mut D) -> Result<(), Failed>
     requires { IsReadyOut (D.meaning desk.old) Outlet.Main }
-    ensures added { OnOk result
-        (Adds (D.meaning desk.old) (D.meaning desk.new) Outlet.Main text.items) }
-    ensures front { OnErr result
-        (AddsFront (D.meaning desk.old) (D.meaning desk.new) Outlet.Main text.items) }
-    ensures cause { HasWriteCause (D.counts desk.old) (D.counts desk.new) result }
+    ensures { Writes D.meaning D.counts desk.old desk.new (to_output text.items) result }
 {
     write_all(desk, Outlet::Main, &text)
 }

@@ -1,9 +1,11 @@
-use Rattle.std.proofs.Common.{OnErr, Ok, Err, take, sym, subst, ◌∙◌, arith}
+use Rattle.std.proofs.Common.{length, take, ◌≤◌, sym, subst, ◌∙◌, arith}
 use Rattle.std.proofs.Math.Seq.{take-add}
-use Rattle.std.proofs.lemmas.List.{take_rest}
+use Rattle.std.proofs.lemmas.List.{take_all, take_rest}
 use Rattle.std.proofs.lemmas.Grind.{common_steps}
-use Rattle.desk_ports.specs.Meanings.{Adds, AddsFront}
+use Rattle.std.proofs.lemmas.Result.{err_from_is_err_and}
+use Rattle.desk_ports.specs.Meanings.{Adds, AddsFront, Counts, FailsToWrite, Meanings}
 use Rattle.desk_ports.proofs.Transfers.{Adds-then, Adds-ready, AddsFront-take}
+use Rattle.desk_ports.proofs.Writings.{Wrote-adds, WroteFront-adds}
 use Rattle.desk_ports.proofs.transfer.write_all.Goals as goal
 
 pub loop-sent-preserved : goal.loop-sent-preserved
@@ -23,11 +25,19 @@ loop-sent-preserved g c =
       steady = wrote.cause ∙ kept.steady;
     }
 
-pub returns-in_err-sent-clause-front : goal.returns-in_err-sent-clause-front
-returns-in_err-sent-clause-front g c =
-    let meaning = g.D.Desk.meaning in
-    let first = meaning c.args.desk.now in
-    let so_far = AddsFront-take first (meaning c.loop-sent.desk) c.args.outlet c.loop-sent.sent c.args.bytes.now c.loop-sent.invariant.added in
-    let P : Type 0 = AddsFront first (meaning c.write.new.self) c.args.outlet c.args.bytes.now in
-    let cut : P = subst (λ m. AddsFront first m c.args.outlet c.args.bytes.now) (sym c.in_err-sent.ensures.unchanged) so_far in
-    elim c.from_residual.result as (λ r. OnErr r P) [ Ok _ ↦ tt | Err _ ↦ cut ]
+pub returns-in_err-sent : goal.returns-in_err-sent
+returns-in_err-sent g c =
+    let first = g.D.Desk.meaning c.args.desk.now in
+    let kept = c.loop-sent.invariant in
+    let failed = c.in_err-sent.ensures in
+    let so_far = AddsFront-take first (g.D.Desk.meaning c.loop-sent.desk) c.args.outlet c.loop-sent.sent c.args.bytes.now kept.added in
+    let cut = subst (λ (m : Meanings). AddsFront first m c.args.outlet c.args.bytes.now) (sym failed.unchanged) so_far in
+    let p = err_from_is_err_and c.from_residual.result c.from_residual.ensures.1 in
+    rw p.1 (record { wrote = tt; front = WroteFront-adds c.args.outlet cut; cause = subst (λ (k : Counts). FailsToWrite k (g.D.Desk.counts c.write.new.self)) kept.steady failed.cause })
+
+pub returns : goal.returns
+returns g c =
+    let kept = c.loop-sent.invariant in
+    let all : length c.args.bytes.now ≤ c.loop-sent.sent = omega (arith, c.loop-sent-test.false) in
+    let added = subst (Adds (g.D.Desk.meaning c.args.desk.now) (g.D.Desk.meaning c.loop-sent.desk) c.args.outlet) (take_all c.loop-sent.sent c.args.bytes.now all) kept.added in
+    record { wrote = Wrote-adds c.args.outlet added; front = tt; cause = kept.steady }

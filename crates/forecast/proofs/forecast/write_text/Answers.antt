@@ -1,11 +1,11 @@
-use Rattle.std.proofs.Common.{◌≡◌, ℕ, zero, suc, ◌+◌, ◌<◌, ◌≤◌, List, ◌++◌, append_assoc, Option, sym, ap, ◌∙◌, subst, arith}
+use Rattle.std.proofs.Common.{◌≡◌, ℕ, zero, suc, ◌+◌, ◌<◌, ◌≤◌, List, ◌++◌, append_assoc, append-nil, Option, sym, ap, ◌∙◌, arith}
 use Rattle.desk_ports.specs.declared.desk.Outlet.TheVariants as outlet
-use Rattle.desk_ports.specs.Meanings.{Adds, AddsFront, Meanings}
-use Rattle.desk_ports.proofs.Transfers.{Adds-then, Adds-ready, AddsFront-after, AddsFront-then, OnErr-always}
+use Rattle.desk_ports.specs.Courses.{to_output}
+use Rattle.desk_ports.proofs.Writings.{Writes-cut, Writes-err, Writes-is, Writes-ok, Writes-ready, Writes-then}
 use Rattle.forecast.specs.declared.stretch.Stretch.{Stretch}
 use Rattle.forecast.specs.Prospects.{Prospect, fate_of}
 use Rattle.forecast.specs.Outlooks.{ForecastState, ended_before, foresees, row_of, rows_at, stretch_at}
-use Rattle.forecast.specs.Texts.{closing_rows, forecast_text, header_row, stretch_rows, sure_count}
+use Rattle.forecast.specs.Texts.{closing_rows, header_row, stretch_rows, sure_count}
 use Rattle.forecast.proofs.Rows.{first_rows-at, rows-last, rows-next}
 use Rattle.forecast.proofs.forecast.write_text.Goals as goal
 
@@ -21,103 +21,76 @@ row_last p (suc t) some = append_assoc header_row (rows_at (fate_of p) (suc t)) 
 all_rows : (p : Prospect) (n t : ℕ) (s : Option Stretch) → 1 ≤ n → t ≡ n → s ≡ stretch_at (fate_of p) t → (header_row ++ rows_at (fate_of p) t) ++ row_of s ≡ header_row ++ stretch_rows (fate_of p) n
 all_rows p n t s some last is = (λ i. (header_row ++ rows_at (fate_of p) (last i)) ++ row_of ((is ∙ ap (stretch_at (fate_of p)) last) i)) ∙ row_last p n some
 
--- a front of the lines is one of the text
-front_of : (p : Prospect) (n : ℕ) (a d : Meanings) → AddsFront a d outlet.Main (header_row ++ stretch_rows (fate_of p) n) → AddsFront a d outlet.Main (forecast_text p n)
-front_of p n a d cut = AddsFront-then a d outlet.Main (header_row ++ stretch_rows (fate_of p) n) (closing_rows p n) cut
-
--- a front of the next line was written, after those so far
-front-next : (p : Prospect) (n t : ℕ) (a b d : Meanings) → t < n → Adds a b outlet.Main (header_row ++ rows_at (fate_of p) t) → AddsFront b d outlet.Main (row_of (ended_before (fate_of p) t)) → AddsFront a d outlet.Main (forecast_text p n)
-front-next p n t a b d below added cut =
-    let fate = fate_of p in
-    let rows = first_rows-at fate n t below in
-    let here = subst (AddsFront a d outlet.Main) (row_more p t) (AddsFront-after a b d outlet.Main (header_row ++ rows_at fate t) (row_of (ended_before fate t)) added cut) in
-    let all = append_assoc header_row (rows_at fate (t + 1)) rows.rest ∙ ap (λ (l : List ℕ). header_row ++ l) rows.joined in
-    front_of p n a d (subst (AddsFront a d outlet.Main) all (AddsFront-then a d outlet.Main (header_row ++ rows_at fate (t + 1)) rows.rest here))
-
-pub returns-in_err-write_all-clause-front : goal.returns-in_err-write_all-clause-front
-returns-in_err-write_all-clause-front g c =
-    let a = g.D.Desk.meaning c.args.desk.now in
-    let b = g.D.Desk.meaning c.write_all.new.desk in
+pub returns-in_err-write_all-clause-written : goal.returns-in_err-write_all-clause-written
+returns-in_err-write_all-clause-written g c =
     let p = foresees c.args.running.now.outlook in
     let n = c.args.packets in
-    OnErr-always c.from_residual.result (AddsFront a b outlet.Main (forecast_text p n))
-    (front_of p n a b (AddsFront-then a b outlet.Main header_row (stretch_rows (fate_of p) n) (subst (AddsFront a b outlet.Main) c.as_bytes.ensures.value c.in_err-write_all.ensures.front)))
+    let rows = stretch_rows (fate_of p) n in
+    Writes-is (ap to_output (sym (append_assoc header_row rows (closing_rows p n)))) (Writes-cut _ (to_output (rows ++ closing_rows p n)) c.from_residual.ensures.1 (rw c.as_bytes.ensures.value at c.in_err-write_all.ensures))
+
+pub loop-init : goal.loop-init
+loop-init g c =
+    let wrote = c.in_ok-write_all.ensures in
+    record {
+      written = Writes-is (ap to_output (c.as_bytes.ensures.value ∙ sym (append-nil header_row))) (Writes-ok wrote);
+      ready = Writes-ready outlet.Main wrote c.requires.ready;
+      running = λ i. record c.args.running.now { packets = c.requires.none i };
+    }
 
 pub loop-preserved : goal.loop-preserved
 loop-preserved g c =
-    let a = g.D.Desk.meaning c.args.desk.now in
-    let b = g.D.Desk.meaning c.loop.desk in
-    let d = g.D.Desk.meaning c.write_row.new.desk in
-    let p = foresees c.args.running.now.outlook in
-    let t = c.loop.counter in
     let kept = c.loop.invariant in
     let wrote = c.in_ok-write_row.ensures in
     let ended = c.take.ensures.ended ∙ ap (λ (r : ForecastState). ended_before (fate_of (foresees r.outlook)) r.packets) kept.running in
-    let added = subst (λ (s : Option Stretch). Adds b d outlet.Main (row_of s)) ended wrote.added in
     record {
-      added = subst (Adds a d outlet.Main) (row_more p t) (Adds-then a b d outlet.Main (header_row ++ rows_at (fate_of p) t) (row_of (ended_before (fate_of p) t)) kept.added added);
-      ready = Adds-ready b d outlet.Main (row_of (ended_before (fate_of p) t)) added kept.ready;
+      written = Writes-is (ap to_output (row_more (foresees c.args.running.now.outlook) c.loop.counter)) (Writes-then kept.written (Writes-is (ap (λ (s : Option Stretch). to_output (row_of s)) ended) (Writes-ok wrote)));
+      ready = Writes-ready outlet.Main wrote kept.ready;
       running = c.take.ensures.taken ∙ ap (λ (r : ForecastState). record r { packets = r.packets + 1 }) kept.running;
-      steady = wrote.cause ∙ kept.steady;
     }
 
-pub returns-in_err-write_row-clause-front : goal.returns-in_err-write_row-clause-front
-returns-in_err-write_row-clause-front g c =
-    let a = g.D.Desk.meaning c.args.desk.now in
-    let b = g.D.Desk.meaning c.loop.desk in
-    let d = g.D.Desk.meaning c.write_row.new.desk in
+pub returns-in_err-write_row-clause-written : goal.returns-in_err-write_row-clause-written
+returns-in_err-write_row-clause-written g c =
     let p = foresees c.args.running.now.outlook in
     let n = c.args.packets in
+    let t = c.loop.counter in
     let kept = c.loop.invariant in
     let below : c.loop.counter < c.args.packets = omega arith in
     let ended = c.take.ensures.ended ∙ ap (λ (r : ForecastState). ended_before (fate_of (foresees r.outlook)) r.packets) kept.running in
-    let cut = subst (λ (s : Option Stretch). AddsFront b d outlet.Main (row_of s)) ended c.in_err-write_row.ensures.front in
-    OnErr-always c.from_residual-in_err-write_row.result (AddsFront a d outlet.Main (forecast_text p n)) (front-next p n c.loop.counter a b d below kept.added cut)
+    let rows = first_rows-at (fate_of p) n t below in
+    let more = rows.rest ++ closing_rows p n in
+    let all = append_assoc header_row (rows_at (fate_of p) (t + 1)) rows.rest ∙ ap (λ (l : List ℕ). header_row ++ l) rows.joined in
+    let joined = ap (λ (l : List ℕ). l ++ more) (row_more p t) ∙ (sym (append_assoc (header_row ++ rows_at (fate_of p) (t + 1)) rows.rest (closing_rows p n)) ∙ ap (λ (l : List ℕ). l ++ closing_rows p n) all) in
+    Writes-is (ap to_output joined) (Writes-cut _ (to_output more) c.from_residual-in_err-write_row.ensures.1 (Writes-then kept.written (Writes-is (ap (λ (s : Option Stretch). to_output (row_of s)) ended) c.in_err-write_row.ensures)))
 
-pub returns-in_err-write_row-2-clause-front : goal.returns-in_err-write_row-2-clause-front
-returns-in_err-write_row-2-clause-front g c =
-    let a = g.D.Desk.meaning c.args.desk.now in
-    let b = g.D.Desk.meaning c.loop.desk in
-    let d = g.D.Desk.meaning c.write_row-2.new.desk in
+pub returns-in_err-write_row-2-clause-written : goal.returns-in_err-write_row-2-clause-written
+returns-in_err-write_row-2-clause-written g c =
     let p = foresees c.args.running.now.outlook in
     let n = c.args.packets in
     let kept = c.loop.invariant in
     let last : c.loop.counter ≡ c.args.packets = omega arith in
     let stretch = c.stretch.ensures ∙ ap (λ (r : ForecastState). stretch_at (fate_of (foresees r.outlook)) r.packets) kept.running in
-    let cut = AddsFront-after a b d outlet.Main (header_row ++ rows_at (fate_of p) c.loop.counter) (row_of c.stretch.result) kept.added c.in_err-write_row-2.ensures.front in
-    OnErr-always c.from_residual-in_err-write_row-2.result (AddsFront a d outlet.Main (forecast_text p n))
-    (front_of p n a d (subst (AddsFront a d outlet.Main) (all_rows p n c.loop.counter c.stretch.result c.requires.count.some last stretch) cut))
+    let rows = all_rows p n c.loop.counter c.stretch.result c.requires.count.some last stretch in
+    Writes-is (ap (λ (l : List ℕ). to_output (l ++ closing_rows p n)) rows) (Writes-cut _ (to_output (closing_rows p n)) c.from_residual-in_err-write_row-2.ensures.1 (Writes-then kept.written c.in_err-write_row-2.ensures))
 
-pub returns-in_err-write_closing-clause-front : goal.returns-in_err-write_closing-clause-front
-returns-in_err-write_closing-clause-front g c =
-    let a = g.D.Desk.meaning c.args.desk.now in
-    let b = g.D.Desk.meaning c.loop.desk in
-    let d = g.D.Desk.meaning c.write_row-2.new.desk in
-    let e = g.D.Desk.meaning c.write_closing.new.desk in
+pub returns-in_err-write_closing-clause-written : goal.returns-in_err-write_closing-clause-written
+returns-in_err-write_closing-clause-written g c =
     let p = foresees c.args.running.now.outlook in
-    let n = c.args.packets in
     let kept = c.loop.invariant in
     let last : c.loop.counter ≡ c.args.packets = omega arith in
     let stretch = c.stretch.ensures ∙ ap (λ (r : ForecastState). stretch_at (fate_of (foresees r.outlook)) r.packets) kept.running in
-    let rows = subst (Adds a d outlet.Main) (all_rows p n c.loop.counter c.stretch.result c.requires.count.some last stretch) (Adds-then a b d outlet.Main (header_row ++ rows_at (fate_of p) c.loop.counter) (row_of c.stretch.result) kept.added c.in_ok-write_row-2.ensures.added) in
-    let closing = ap (λ (r : ForecastState). closing_rows (foresees r.outlook) r.packets) kept.running ∙ ap (closing_rows p) last in
-    OnErr-always c.from_residual-in_err-write_closing.result (AddsFront a e outlet.Main (forecast_text p n))
-    (AddsFront-after a d e outlet.Main (header_row ++ stretch_rows (fate_of p) n) (closing_rows p n) rows (subst (AddsFront d e outlet.Main) closing c.in_err-write_closing.ensures.front))
+    let rows = ap to_output (all_rows p c.args.packets c.loop.counter c.stretch.result c.requires.count.some last stretch) in
+    let closing = ap (λ (r : ForecastState). to_output (closing_rows (foresees r.outlook) r.packets)) kept.running ∙ ap (λ (k : ℕ). to_output (closing_rows p k)) last in
+    Writes-err _ c.from_residual-in_err-write_closing.ensures.1 (Writes-then (Writes-is rows (Writes-then kept.written c.in_ok-write_row-2.ensures)) (Writes-is closing c.in_err-write_closing.ensures))
 
-pub returns-clause-added : goal.returns-clause-added
-returns-clause-added g c =
-    let a = g.D.Desk.meaning c.args.desk.now in
-    let b = g.D.Desk.meaning c.loop.desk in
-    let d = g.D.Desk.meaning c.write_row-2.new.desk in
-    let e = g.D.Desk.meaning c.write_closing.new.desk in
+pub returns-clause-written : goal.returns-clause-written
+returns-clause-written g c =
     let p = foresees c.args.running.now.outlook in
-    let n = c.args.packets in
     let kept = c.loop.invariant in
     let last : c.loop.counter ≡ c.args.packets = omega arith in
     let stretch = c.stretch.ensures ∙ ap (λ (r : ForecastState). stretch_at (fate_of (foresees r.outlook)) r.packets) kept.running in
-    let rows = subst (Adds a d outlet.Main) (all_rows p n c.loop.counter c.stretch.result c.requires.count.some last stretch) (Adds-then a b d outlet.Main (header_row ++ rows_at (fate_of p) c.loop.counter) (row_of c.stretch.result) kept.added c.in_ok-write_row-2.ensures.added) in
-    let closing = ap (λ (r : ForecastState). closing_rows (foresees r.outlook) r.packets) kept.running ∙ ap (closing_rows p) last in
-    Adds-then a d e outlet.Main (header_row ++ stretch_rows (fate_of p) n) (closing_rows p n) rows (subst (Adds d e outlet.Main) closing c.in_ok-write_closing.ensures.added)
+    let rows = ap to_output (all_rows p c.args.packets c.loop.counter c.stretch.result c.requires.count.some last stretch) in
+    let closing = ap (λ (r : ForecastState). to_output (closing_rows (foresees r.outlook) r.packets)) kept.running ∙ ap (λ (k : ℕ). to_output (closing_rows p k)) last in
+    Writes-ok (Writes-then (Writes-is rows (Writes-then kept.written c.in_ok-write_row-2.ensures)) (Writes-is closing c.in_ok-write_closing.ensures))
 
 pub returns-clause-sure : goal.returns-clause-sure
 returns-clause-sure g c =

@@ -1,20 +1,18 @@
-use Rattle.std.proofs.Common.{◌<◌, ◌++◌, codes, length, subst, ◌∙◌, rules}
-use Rattle.std.specs.Fmt.{decimal}
-use Rattle.std.proofs.lemmas.Result.{on_err_weaker}
-use Rattle.desk_ports.specs.declared.desk.Outlet.TheVariants as outlet
-use Rattle.desk_ports.specs.Meanings.{Adds, AddsFront}
-use Rattle.desk_ports.proofs.Transfers.{AddsFront-after}
+use Rattle.std.proofs.Common.{◌<◌, length, ap, ◌∙◌, rules}
+use Rattle.desk_ports.specs.Courses.{to_report}
+use Rattle.desk_ports.proofs.Writings.{Writes-cut, Writes-is, Writes-then}
 use Rattle.multi_ground.proofs.StreamWritings.{tagged-some}
 use Rattle.multi_ground.proofs.writing.write_tagged.Goals as goal
 
-pub returns-clause-front : goal.returns-clause-front
-returns-clause-front g c =
-    let a = g.D.Desk.meaning c.args.desk.now in
-    let b = g.D.Desk.meaning c.write_all.new.desk in
-    let d = g.D.Desk.meaning c.write_all-2.new.desk in
-    let tag = decimal c.args.apid ++ codes "," in
+pub returns-in_err-write_all : goal.returns-in_err-write_all
+returns-in_err-write_all g c =
+    let row = c.args.row.now in
     let some : 0 < length c.args.row.now = search rules in
-    let first = subst (Adds a b outlet.Report) (c.as_bytes.ensures ∙ c.tag.ensures) c.in_ok-write_all.ensures.added in
-    on_err_weaker c.write_all-2.result
-    (λ (cut : AddsFront b d outlet.Report c.as_bytes-bytes.result.now). subst (AddsFront a d outlet.Report) (tagged-some c.args.apid c.args.row.now some) (AddsFront-after a b d outlet.Report tag c.args.row.now first (subst (AddsFront b d outlet.Report) c.as_bytes-bytes.ensures cut)))
-    c.write_all-2.ensures.front
+    let tag = Writes-is (ap to_report (c.as_bytes.ensures ∙ c.tag.ensures)) c.in_err-write_all.ensures in
+    Writes-is (ap to_report (tagged-some c.args.apid row some)) (Writes-cut _ (to_report row) c.from_residual.ensures.1 tag)
+
+pub returns : goal.returns
+returns g c =
+    let some : 0 < length c.args.row.now = search rules in
+    let tag = Writes-is (ap to_report (c.as_bytes.ensures ∙ c.tag.ensures)) c.in_ok-write_all.ensures in
+    Writes-is (ap to_report (tagged-some c.args.apid c.args.row.now some)) (Writes-then tag (Writes-is (ap to_report c.as_bytes-bytes.ensures) c.write_all-2.ensures))

@@ -1,44 +1,46 @@
-use Rattle.std.proofs.Common.{ℕ, Bool, List, ◌+◌, length, take, drop, sym, ap, subst, ◌∙◌, arith}
+use Rattle.std.proofs.Common.{◌≤◌, ℕ, Bool, List, ◌+◌, ◌++◌, length, drop, refl, sym, ap, ◌∙◌, arith}
 use Rattle.std.specs.Option.{option_to_list}
+use Rattle.std.proofs.lemmas.List.{take_all}
 use Rattle.desk_ports.specs.declared.desk.Outlet.TheVariants as outlet
-use Rattle.desk_ports.specs.Meanings.{Adds, AddsFront}
-use Rattle.desk_ports.proofs.Transfers.{Adds-then, Adds-ready, AddsFront-after, AddsFront-then, OnErr-always}
+use Rattle.desk_ports.specs.Courses.{to_report}
+use Rattle.desk_ports.proofs.Writings.{Writes-cut, Writes-is, Writes-none, Writes-ok, Writes-ready, Writes-then}
 use Rattle.param_table.specs.declared.rows.Column.{Column}
 use Rattle.param_table.specs.Texts.{packet_violations, violation_of, violation_rows}
 use Rattle.param_table.proofs.Violations.{rows-more, rows-split, count-more, count-some, count-none}
 use Rattle.param_table.proofs.writing.write_violations.Goals as goal
 use Rattle.param_table.proofs.writing.write_violations.Goals.{then-branch, else-branch}
 
-pub returns-in_err-write_violation-clause-front : goal.returns-in_err-write_violation-clause-front
-returns-in_err-write_violation-clause-front g c =
-    let a = g.D.Desk.meaning c.args.desk.now in
-    let b = g.D.Desk.meaning c.loop-column.desk in
-    let d = g.D.Desk.meaning c.write_violation.new.desk in
+pub returns-in_err-write_violation-clause-written : goal.returns-in_err-write_violation-clause-written
+returns-in_err-write_violation-clause-written g c =
     let packet : ℕ × List Bool = (c.args.t, c.args.packet.now) in
     let columns = c.args.columns.now in
     let i = c.loop-column.column-index in
-    let first = violation_rows (packet_violations (take i columns) packet) in
-    let cut = subst (λ (column : Column). AddsFront b d outlet.Report (violation_rows (option_to_list (violation_of packet column)))) c.column-item.is c.in_err-write_violation.ensures.front in
-    let both = AddsFront-after a b d outlet.Report first _ c.loop-column.invariant.added cut in
-    let more = subst (AddsFront a d outlet.Report) (sym (rows-more packet columns i c.column-item.result c.loop-column-test.true)) both in
-    let all = AddsFront-then a d outlet.Report _ (violation_rows (packet_violations (drop (i + 1) columns) packet)) more in
-    OnErr-always c.from_residual.result (AddsFront a d outlet.Report (violation_rows (packet_violations columns packet))) (subst (AddsFront a d outlet.Report) (sym (rows-split packet columns (i + 1))) all)
+    let rest = violation_rows (packet_violations (drop (i + 1) columns) packet) in
+    let item = ap (λ (column : Column). to_report (violation_rows (option_to_list (violation_of packet column)))) c.column-item.is in
+    let all = ap (λ (l : List ℕ). l ++ rest) (sym (rows-more packet columns i c.column-item.result c.loop-column-test.true)) ∙ sym (rows-split packet columns (i + 1)) in
+    Writes-is (ap to_report all) (Writes-cut _ (to_report rest) c.from_residual.ensures.1 (Writes-then c.loop-column.invariant.written (Writes-is item c.in_err-write_violation.ensures.written)))
+
+pub returns-clause-written : goal.returns-clause-written
+returns-clause-written g c =
+    let packet : ℕ × List Bool = (c.args.t, c.args.packet.now) in
+    let last : length c.args.columns.now ≤ c.loop-column.column-index = omega arith in
+    Writes-ok (Writes-is (ap (λ (l : List Column). to_report (violation_rows (packet_violations l packet))) (take_all c.loop-column.column-index c.args.columns.now last)) c.loop-column.invariant.written)
+
+pub loop-column-init : goal.loop-column-init
+loop-column-init g c = record { written = Writes-none; ready = c.requires.report; found = refl; few = omega arith }
 
 pub loop-column-preserved : goal.loop-column-preserved
 loop-column-preserved g c =
-    let a = g.D.Desk.meaning c.args.desk.now in
-    let b = g.D.Desk.meaning c.loop-column.desk in
-    let d = g.D.Desk.meaning c.write_violation.new.desk in
     let packet : ℕ × List Bool = (c.args.t, c.args.packet.now) in
     let columns = c.args.columns.now in
     let i = c.loop-column.column-index in
     let inv = c.loop-column.invariant in
     let wrote = c.in_ok-write_violation.ensures in
-    let added = subst (λ (column : Column). Adds b d outlet.Report (violation_rows (option_to_list (violation_of packet column)))) c.column-item.is wrote.added in
+    let item = ap (λ (column : Column). to_report (violation_rows (option_to_list (violation_of packet column)))) c.column-item.is in
     let of_item = ap (λ (column : Column). length (option_to_list (violation_of packet column))) c.column-item.is in
     record {
-      added = subst (Adds a d outlet.Report) (sym (rows-more packet columns i c.column-item.result c.loop-column-test.true)) (Adds-then a b d outlet.Report _ _ inv.added added);
-      ready = Adds-ready b d outlet.Report _ added inv.ready;
+      written = Writes-is (ap to_report (sym (rows-more packet columns i c.column-item.result c.loop-column-test.true))) (Writes-then inv.written (Writes-is item (Writes-ok wrote.written)));
+      ready = Writes-ready outlet.Report wrote.written inv.ready;
       found = elim c.if-branch.branch [
         | then-branch w ↦
             let one = count-some (violation_of packet c.column-item.result) _ wrote.found w.if-branch.true in
@@ -51,5 +53,4 @@ loop-column-preserved g c =
         | then-branch w ↦ omega (arith, w.found-is, inv.few)
         | else-branch w ↦ omega (arith, w.found-is, inv.few)
       ];
-      steady = wrote.cause ∙ inv.steady;
     }

@@ -1,7 +1,7 @@
-use Rattle.std.proofs.Common.{◌≡◌, ℕ, ◌%◌, List, length, refl, OnOk, OnErr, ap, ◌∙◌, subst}
+use Rattle.std.proofs.Common.{◌≡◌, ◌%◌, length, refl, ap, ◌∙◌}
 use Rattle.bit_vectors.specs.Vectors.{vector_bytes}
-use Rattle.desk_ports.specs.declared.desk.Outlet.TheVariants as outlet
-use Rattle.desk_ports.specs.Meanings.{Adds, AddsFront}
+use Rattle.desk_ports.specs.Courses.{to_output}
+use Rattle.desk_ports.proofs.Writings.{Writes-is}
 use Rattle.mask_update.specs.Histories.{History}
 use Rattle.packet_encode.specs.Encoder.{StandsFor}
 use Rattle.packet_encode.specs.Packets.{with_next_input}
@@ -21,14 +21,5 @@ packet_is g c h stands =
     let bytes = c.bytes.ensures.bytes ∙ (ap vector_bytes (c.encode.ensures.bits h stands) ∙ λ i. data_at (with_next_input h (robust i) s.input (flags i)) (length h.steps)) in
     λ i. space_packet s.writer.apid (c.from.ensures i % period) (bytes i)
 
-pub returns-clause-added : goal.returns-clause-added
-returns-clause-added g c = λ h stands.
-    let a = g.D.Desk.meaning c.args.desk.now in
-    let b = g.D.Desk.meaning c.put.new.desk in
-    subst (λ (bytes : List ℕ). OnOk c.put.result (Adds a b outlet.Main bytes)) (packet_is g c h stands) c.put.ensures.added
-
-pub returns-clause-front : goal.returns-clause-front
-returns-clause-front g c = λ h stands.
-    let a = g.D.Desk.meaning c.args.desk.now in
-    let b = g.D.Desk.meaning c.put.new.desk in
-    subst (λ (bytes : List ℕ). OnErr c.put.result (AddsFront a b outlet.Main bytes)) (packet_is g c h stands) c.put.ensures.front
+pub returns-clause-written : goal.returns-clause-written
+returns-clause-written g c = λ h stands. Writes-is (ap to_output (packet_is g c h stands)) c.put.ensures.written

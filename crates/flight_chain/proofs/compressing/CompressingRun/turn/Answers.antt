@@ -1,10 +1,11 @@
-use Rattle.std.proofs.Common.{List, Bool, [], ◌∷◌, ◌++◌, ◌+◌, length, refl, ◌∙◌, subst}
+use Rattle.std.proofs.Common.{List, Bool, [], ◌∷◌, ◌++◌, ◌+◌, length, refl, ap, ◌∙◌}
 use Rattle.std.proofs.lemmas.Result.{err_from_is_err_and}
 use Rattle.desk_ports.specs.declared.desk.Outlet.TheVariants as outlet
-use Rattle.desk_ports.specs.Meanings.{Adds, AddsFront}
-use Rattle.desk_ports.proofs.Runs.{Ran-none, Ran-adds}
-use Rattle.desk_ports.proofs.Steps.{AreReady-moved, WroteFront-output}
-use Rattle.flight_chain.specs.Compressing.{history_by, left_to_compress, next_packet, Owes}
+use Rattle.desk_ports.specs.Courses.{to_output}
+use Rattle.desk_ports.proofs.Runs.{Ran-none}
+use Rattle.desk_ports.proofs.Steps.{AreReady-moved}
+use Rattle.desk_ports.proofs.Writings.{Writes-is}
+use Rattle.flight_chain.specs.Compressing.{history_by, left_to_compress, Owes}
 use Rattle.flight_chain.specs.RecordWorks.{work_on}
 use Rattle.flight_chain.proofs.CompressCourses.{AfterStop-next, HasTaken-number, HasTaken-next, IsDone-compress, IsNext-read, rest_work-next}
 use Rattle.flight_chain.proofs.RecordTurns.{Advances-on, Finishes-on, IsCutShort-on}
@@ -35,29 +36,27 @@ pub returns-in_err-put-clause-turned : goal.returns-in_err-put-clause-turned
 returns-in_err-put-clause-turned g c = λ work owes.
     let a = g.D.Desk.meaning c.args.desk.now in
     let b = g.D.Desk.meaning c.read_input.new.desk in
-    let d = g.D.Desk.meaning c.put.new.desk in
     let input = c.read_input.new.input in
     let told = rw c.in-Some.is at c.in_ok-t.ensures in
     let next = IsNext-read owes.k owes.inputs c.args.self.now _ c.taken-number.result c.in-Some.t c.args.self.now.ahead c.read_input.new.ahead a b input owes.taken owes.right.places c.taken-number.ensures.kept told.number told.taken in
-    let front = subst (AddsFront b d outlet.Main) next.packet (c.in_err-put.ensures.front (history_by owes.k owes.inputs) owes.taken.stands) in
+    let written = Writes-is (ap to_output next.packet) (c.in_err-put.ensures.written (history_by owes.k owes.inputs) owes.taken.stands) in
     let p = err_from_is_err_and c.from_residual-in_err-put.result c.from_residual-in_err-put.ensures.1 in
-    rw (p.1, p.2) (IsCutShort-on next.reads owes.work_is (WroteFront-output b d (next_packet owes.k owes.inputs input) front))
+    rw (p.1, p.2) (IsCutShort-on next.reads owes.work_is written.front)
 
 pub returns-clause-turned : goal.returns-clause-turned
 returns-clause-turned g c = λ work owes.
     let a = g.D.Desk.meaning c.args.desk.now in
     let b = g.D.Desk.meaning c.read_input.new.desk in
-    let d = g.D.Desk.meaning c.put.new.desk in
     let s = c.args.self.now in
     let put = c.in_ok-put.ensures in
     let after = c.read_input.new.ahead in
     let input = c.read_input.new.input in
     let told = rw c.in-Some.is at c.in_ok-t.ensures in
     let next = IsNext-read owes.k owes.inputs s _ c.taken-number.result c.in-Some.t s.ahead after a b input owes.taken owes.right.places c.taken-number.ensures.kept told.number told.taken in
-    let added = subst (Adds b d outlet.Main) next.packet (put.added (history_by owes.k owes.inputs) owes.taken.stands) in
+    let written = Writes-is (ap to_output next.packet) (put.written (history_by owes.k owes.inputs) owes.taken.stands) in
     let stands = put.stands (history_by owes.k owes.inputs) owes.taken.stands in
     let inputs : List (List Bool) = owes.inputs ++ input ∷ [] in
     let taken = HasTaken-next owes.k owes.inputs s owes.taken c.in-Some.t next.number input c.put.new.self stands put.places put.robust put.apid put.rows in
     let owed : Owes c.put.new.self (work_on (left_to_compress owes.k inputs) owes.k.places (length owes.inputs + 1) after) =
     record { k = owes.k; inputs = inputs; taken = taken; work_is = rest_work-next owes.k owes.inputs input after c.put.new.self.ahead put.ahead; right = put.right } in
-    Advances-on next.reads owes.work_is (Ran-adds b d (next_packet owes.k owes.inputs input) added) owed
+    Advances-on next.reads owes.work_is written.wrote owed

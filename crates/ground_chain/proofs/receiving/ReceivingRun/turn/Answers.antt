@@ -55,7 +55,7 @@ returns-in_err-arrive-clause-turned g c = λ work owes.
     let judges = rw c.body-body.ensures at c.arrive.ensures.judges in
     let reads = Reads-judged g.A.Account.texts s t (meaning c.args.desk.now) (meaning c.next.new.desk) c.in-Some.taken told.some c.if-taken.true judges in
     let p = err_from_is_err_and c.from_residual-in_err-arrive.result c.from_residual-in_err-arrive.ensures.1 in
-    let front = rw c.body-body.ensures at c.in_err-arrive.ensures.front in
+    let front = rw c.body-body.ensures at c.in_err-arrive.ensures.written.front in
     rw (p.1, p.2) (IsCutShort-on reads owes.work_is (WroteFront-by front))
 
 pub returns-in_ok-arrive-clause-turned : goal.returns-in_ok-arrive-clause-turned
@@ -68,7 +68,7 @@ returns-in_ok-arrive-clause-turned g c = λ work owes.
     let told = rw c.in-Some.is at c.in_ok-taken.ensures in
     let judges = rw c.body-body.ensures at c.arrive.ensures.judges in
     let reads = Reads-judged texts s t a b c.in-Some.taken told.some c.if-taken.true judges in
-    let wrote = rw c.body-body.ensures at c.in_ok-arrive.ensures.wrote in
+    let wrote = rw c.body-body.ensures at c.in_ok-arrive.ensures.written.wrote in
     let packets = ap (λ (r : Restored). r.packets) judges.restored in
     Advances-on reads owes.work_is wrote (Owes-next texts s t a b c.in-Some.taken work owes told.some (omega (arith, packets)))
 
@@ -109,7 +109,7 @@ returns-in_err-arrive-clause-parts g c = λ parts_of owes.
     let judges = rw c.body-body.ensures at c.arrive.ensures.judges in
     let reads = ReadsParts-judged g.A.Account.texts s t (meaning c.args.desk.now) (meaning c.next.new.desk) c.in-Some.taken told.some c.if-taken.true judges in
     let p = err_from_is_err_and c.from_residual-in_err-arrive.result c.from_residual-in_err-arrive.ensures.1 in
-    let front = rw c.body-body.ensures at c.in_err-arrive.ensures.front in
+    let front = rw c.body-body.ensures at c.in_err-arrive.ensures.written.front in
     rw (p.1, p.2) (IsCutWithin-on reads owes (WroteWithin-one front))
 
 pub returns-in_ok-arrive-clause-parts : goal.returns-in_ok-arrive-clause-parts
@@ -124,7 +124,7 @@ returns-in_ok-arrive-clause-parts g c = λ parts_of owes.
     let judges = rw c.body-body.ensures at c.arrive.ensures.judges in
     let reads = ReadsParts-judged texts s t a b c.in-Some.taken told.some c.if-taken.true judges in
     let part = texts.parts (next_judged s.judging.reception c.in-Some.taken.count c.next.new.self.body) in
-    let wrote = rw c.body-body.ensures at c.in_ok-arrive.ensures.wrote in
+    let wrote = rw c.body-body.ensures at c.in_ok-arrive.ensures.written.wrote in
     AdvancesParts-on (part ∷ []) reads owes (subst (λ (o : Outputs). Wrote b d o) (sym (put_all-one part)) wrote) refl
 
 pub returns-else-taken-clause-parts : goal.returns-else-taken-clause-parts

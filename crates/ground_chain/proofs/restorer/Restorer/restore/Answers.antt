@@ -1,14 +1,14 @@
-use Rattle.std.proofs.Common.{◌≡◌, ℕ, List, [], Ok, Err, Result, IfOk, refl, subst}
+use Rattle.std.proofs.Common.{ℕ, [], Ok, Err, Result, IfOk, refl, ap, subst}
 use Rattle.std.proofs.lemmas.Result.{err_from_is_err_and}
 use Rattle.desk_ports.specs.declared.desk.Outlet.TheVariants as outlet
-use Rattle.desk_ports.specs.Meanings.{Meanings, Adds, AddsFront, Counts}
+use Rattle.desk_ports.specs.Meanings.{Meanings, Counts}
 use Rattle.desk_ports.specs.Courses.{AfterRun, HasCause, IsCutShort, by_stop, to_report}
-use Rattle.desk_ports.specs.Turns.{Reaches, Steps}
+use Rattle.desk_ports.specs.Turns.{Reaches, Steps, Wrote}
 use Rattle.desk_ports.specs.Parts.{InParts, IsCutWithin}
-use Rattle.desk_ports.proofs.Parts.{InParts-after, IsCutWithin-wrote, ReachesParts-wrote, WroteFrontBy-report}
+use Rattle.desk_ports.proofs.Parts.{InParts-after, IsCutWithin-wrote, ReachesParts-wrote}
 use Rattle.packet_store.specs.StoreWorks.{parts_on}
-use Rattle.desk_ports.proofs.Runs.{Ran-notes}
-use Rattle.desk_ports.proofs.Steps.{AfterRun-after, IsCutShort-wrote, Reaches-wrote, WroteFront-report}
+use Rattle.desk_ports.proofs.Steps.{AfterRun-after, IsCutShort-wrote, Reaches-wrote}
+use Rattle.desk_ports.proofs.Writings.{Writes-is, WritesBy-alone}
 use Rattle.mask_update.specs.Histories.{History}
 use Rattle.ground_chain.specs.declared.fault.RestoreFault.{RestoreFault}
 use Rattle.ground_chain.specs.declared.restored.Restored.{Restored}
@@ -31,17 +31,17 @@ returns-in_err-write_all-clause-ran g c =
     let b = g.D.Desk.meaning c.write_all.new.desk in
     let s = c.self.inside.receiving in
     let k = receiving_state s in
-    let front = WroteFront-report a b header_row (subst (AddsFront a b outlet.Report) c.as_bytes.ensures.value c.in_err-write_all.ensures.front) in
-    let cut = IsCutShort-wrote (restore_work k.places k.apid) (rest_work restored_texts s) a b (to_report header_row) (unread s c.self.invariant) front in
+    let written = Writes-is (ap to_report c.as_bytes.ensures.value) c.in_err-write_all.ensures in
+    let cut = IsCutShort-wrote (restore_work k.places k.apid) (rest_work restored_texts s) a b (to_report header_row) (unread s c.self.invariant) written.front in
     let p = err_from_is_err_and c.from_residual.result c.from_residual.ensures.1 in
     rw (p.1, p.2) (subst (λ (r : RestorerState). IsCutShort (restore_course r.places r.apid) a b) c.self.view_is cut)
 
 -- the first line was written, and the store is owed
-header : (s : Receiving Reporting) (a b : Meanings) (bytes : List ℕ) → IsUnread s → bytes ≡ header_row → Adds a b outlet.Report bytes
+header : (s : Receiving Reporting) (a b : Meanings) → IsUnread s → Wrote a b (to_report header_row)
     → Reaches (restore_work (receiving_state s).places (receiving_state s).apid) (rest_work restored_texts s) a b
-header s a b bytes is_unread is adds =
+header s a b is_unread wrote =
     let k = receiving_state s in
-    Reaches-wrote (restore_work k.places k.apid) (rest_work restored_texts s) a b (to_report header_row) (unread s is_unread) (Ran-notes a b header_row (subst (Adds a b outlet.Report) is adds))
+    Reaches-wrote (restore_work k.places k.apid) (rest_work restored_texts s) a b (to_report header_row) (unread s is_unread) wrote
 
 pub returns-clause-ran : goal.returns-clause-ran
 returns-clause-ran g c =
@@ -50,8 +50,9 @@ returns-clause-ran g c =
     let d = g.D.Desk.meaning c.drive.new.desk in
     let s = c.self.inside.receiving in
     let k = receiving_state s in
+    let written = Writes-is (ap to_report c.as_bytes.ensures.value) c.in_ok-write_all.ensures in
     let ran = c.drive.ensures.ran (rest_work restored_texts s) (Owes-unread restored_texts s c.self.invariant) in
-    subst (λ (r : RestorerState). AfterRun (restore_work r.places r.apid) a d (by_stop stop_by c.drive.result)) c.self.view_is (AfterRun-after (restore_work k.places k.apid) (rest_work restored_texts s) a b d (by_stop stop_by c.drive.result) (header s a b c.as_bytes.result.now c.self.invariant c.as_bytes.ensures.value c.in_ok-write_all.ensures.added) ran)
+    subst (λ (r : RestorerState). AfterRun (restore_work r.places r.apid) a d (by_stop stop_by c.drive.result)) c.self.view_is (AfterRun-after (restore_work k.places k.apid) (rest_work restored_texts s) a b d (by_stop stop_by c.drive.result) (header s a b c.self.invariant written.wrote) ran)
 
 -- ---- the order
 
@@ -61,8 +62,8 @@ returns-in_err-write_all-clause-order g c =
     let b = g.D.Desk.meaning c.write_all.new.desk in
     let s = c.self.inside.receiving in
     let k = receiving_state s in
-    let front = WroteFrontBy-report a b header_row (subst (AddsFront a b outlet.Report) c.as_bytes.ensures.value c.in_err-write_all.ensures.front) in
-    let cut = IsCutWithin-wrote outlet.Report (restore_parts k.places k.apid) (parts_on (parts_left restored_texts s) s.reader) a b (to_report header_row) (restore_parts-unread s c.self.invariant) front in
+    let written = WritesBy-alone outlet.Report outlet.Report _ (Writes-is (ap to_report c.as_bytes.ensures.value) c.in_err-write_all.ensures) in
+    let cut = IsCutWithin-wrote outlet.Report (restore_parts k.places k.apid) (parts_on (parts_left restored_texts s) s.reader) a b (to_report header_row) (restore_parts-unread s c.self.invariant) written.front in
     let p = err_from_is_err_and c.from_residual.result c.from_residual.ensures.1 in
     rw (p.1, p.2) (subst (λ (r : RestorerState). IsCutWithin outlet.Report (restore_parts r.places r.apid) a b) c.self.view_is cut)
 
@@ -74,8 +75,8 @@ returns-clause-order g c =
     let s = c.self.inside.receiving in
     let k = receiving_state s in
     let here = parts_on (parts_left restored_texts s) s.reader in
-    let wrote = Ran-notes a b header_row (subst (Adds a b outlet.Report) c.as_bytes.ensures.value c.in_ok-write_all.ensures.added) in
-    let reached = ReachesParts-wrote (restore_parts k.places k.apid) here a b (to_report header_row) (restore_parts-unread s c.self.invariant) wrote in
+    let written = Writes-is (ap to_report c.as_bytes.ensures.value) c.in_ok-write_all.ensures in
+    let reached = ReachesParts-wrote (restore_parts k.places k.apid) here a b (to_report header_row) (restore_parts-unread s c.self.invariant) written.wrote in
     subst (λ (r : RestorerState). InParts outlet.Report (restore_parts r.places r.apid) a d (by_stop stop_by c.drive.result)) c.self.view_is
     (InParts-after outlet.Report (restore_parts k.places k.apid) here a b d (by_stop stop_by c.drive.result) reached (c.drive.ensures.parts here refl))
 

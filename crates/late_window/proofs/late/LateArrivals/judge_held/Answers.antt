@@ -1,5 +1,6 @@
-use Rattle.std.proofs.Common.{◌^◌, [], ◌∙◌, ap, true, arith}
+use Rattle.std.proofs.Common.{◌^◌, [], ◌∙◌, ap, true, subst, arith}
 use Rattle.std.proofs.lemmas.Result.{err_from_is_err_and}
+use Rattle.desk_ports.specs.Meanings.{Counts, FailsToWrite}
 use Rattle.desk_ports.proofs.Steps.{AreReady-ran}
 use Rattle.late_window.specs.declared.late.LateArrivals.{LateArrivals}
 use Rattle.late_window.specs.Late.{held_parts}
@@ -27,14 +28,19 @@ loop-self-preserved g c =
     let d = g.D.Desk.meaning c.judge_least.new.desk in
     let late = ap (λ (s : LateArrivals). s.late) c.judge_least.ensures.others in
     record {
-      part = JudgedPart-next c.args.self.now c.loop-self.self c.judge_least.new.self a b d c.loop-self.invariant.part c.judge_least.ensures.line c.judge_least.ensures.judged late c.in_ok-judge_least.ensures.wrote;
-      counts = c.in_ok-judge_least.ensures.cause ∙ c.loop-self.invariant.counts;
+      part = JudgedPart-next c.args.self.now c.loop-self.self c.judge_least.new.self a b d c.loop-self.invariant.part c.judge_least.ensures.line c.judge_least.ensures.judged late c.in_ok-judge_least.ensures.written.wrote;
+      counts = c.in_ok-judge_least.ensures.written.cause ∙ c.loop-self.invariant.counts;
     }
 
-pub returns-in_err-judge_least-clause-front : goal.returns-in_err-judge_least-clause-front
-returns-in_err-judge_least-clause-front g c =
+pub returns-in_err-judge_least-clause-written : goal.returns-in_err-judge_least-clause-written
+returns-in_err-judge_least-clause-written g c =
     let a = g.D.Desk.meaning c.args.desk.now in
     let b = g.D.Desk.meaning c.loop-self.desk in
     let d = g.D.Desk.meaning c.judge_least.new.desk in
     let p = err_from_is_err_and c.from_residual.result c.from_residual.ensures.1 in
-    rw p.1 (JudgedPart-front c.args.self.now c.loop-self.self a b d c.loop-self.invariant.part c.in_err-judge_least.ensures.front c.judge_least.new.self.judging c.judge_least.ensures.judged)
+    let failed = c.in_err-judge_least.ensures.written in
+    rw p.1 (record {
+      wrote = tt;
+      front = JudgedPart-front c.args.self.now c.loop-self.self a b d c.loop-self.invariant.part failed.front c.judge_least.new.self.judging c.judge_least.ensures.judged;
+      cause = subst (λ (k : Counts). FailsToWrite k (g.D.Desk.counts c.judge_least.new.desk)) c.loop-self.invariant.counts failed.cause;
+    })

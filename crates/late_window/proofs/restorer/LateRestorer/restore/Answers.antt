@@ -1,14 +1,14 @@
-use Rattle.std.proofs.Common.{◌≡◌, ℕ, List, refl, subst}
+use Rattle.std.proofs.Common.{refl, ap, subst}
 use Rattle.std.proofs.lemmas.Result.{err_from_is_err_and}
 use Rattle.desk_ports.specs.declared.desk.Outlet.TheVariants as outlet
-use Rattle.desk_ports.specs.Meanings.{Meanings, Adds, AddsFront, Counts}
+use Rattle.desk_ports.specs.Meanings.{Meanings, Counts}
 use Rattle.desk_ports.specs.Courses.{AfterRun, HasCause, IsCutShort, by_stop, to_report}
-use Rattle.desk_ports.specs.Turns.{Reaches}
+use Rattle.desk_ports.specs.Turns.{Reaches, Wrote}
 use Rattle.desk_ports.specs.Parts.{InParts, IsCutWithin}
-use Rattle.desk_ports.proofs.Parts.{InParts-after, IsCutWithin-wrote, ReachesParts-wrote, WroteFrontBy-report}
+use Rattle.desk_ports.proofs.Parts.{InParts-after, IsCutWithin-wrote, ReachesParts-wrote}
 use Rattle.packet_store.specs.StoreWorks.{parts_on}
-use Rattle.desk_ports.proofs.Runs.{Ran-notes}
-use Rattle.desk_ports.proofs.Steps.{AfterRun-after, IsCutShort-wrote, Reaches-wrote, WroteFront-report}
+use Rattle.desk_ports.proofs.Steps.{AfterRun-after, IsCutShort-wrote, Reaches-wrote}
+use Rattle.desk_ports.proofs.Writings.{Writes-is, WritesBy-alone}
 use Rattle.ground_chain.specs.Report.{header_row}
 use Rattle.ground_chain.specs.Restoring.{stop_by}
 use Rattle.late_window.specs.declared.run.LateRun.{LateRun}
@@ -23,17 +23,17 @@ returns-in_err-write_all-clause-ran g c =
     let b = g.D.Desk.meaning c.write_all.new.desk in
     let r = c.self.inside.run in
     let k = late_state r in
-    let front = WroteFront-report a b header_row (subst (AddsFront a b outlet.Report) c.as_bytes.ensures.value c.in_err-write_all.ensures.front) in
-    let cut = IsCutShort-wrote (late_work k.places k.apid k.window) (rest_work r) a b (to_report header_row) (Steps-unread r c.self.invariant) front in
+    let written = Writes-is (ap to_report c.as_bytes.ensures.value) c.in_err-write_all.ensures in
+    let cut = IsCutShort-wrote (late_work k.places k.apid k.window) (rest_work r) a b (to_report header_row) (Steps-unread r c.self.invariant) written.front in
     let p = err_from_is_err_and c.from_residual.result c.from_residual.ensures.1 in
     rw (p.1, p.2) (subst (λ (s : LateState). IsCutShort (late_course s.places s.apid s.window) a b) c.self.view_is cut)
 
 -- the first line was written, and the store is owed
-header : (r : LateRun) (a b : Meanings) (bytes : List ℕ) → IsUnread r → bytes ≡ header_row → Adds a b outlet.Report bytes
+header : (r : LateRun) (a b : Meanings) → IsUnread r → Wrote a b (to_report header_row)
     → Reaches (late_work (late_state r).places (late_state r).apid (late_state r).window) (rest_work r) a b
-header r a b bytes is_unread is adds =
+header r a b is_unread wrote =
     let k = late_state r in
-    Reaches-wrote (late_work k.places k.apid k.window) (rest_work r) a b (to_report header_row) (Steps-unread r is_unread) (Ran-notes a b header_row (subst (Adds a b outlet.Report) is adds))
+    Reaches-wrote (late_work k.places k.apid k.window) (rest_work r) a b (to_report header_row) (Steps-unread r is_unread) wrote
 
 pub returns-clause-ran : goal.returns-clause-ran
 returns-clause-ran g c =
@@ -42,8 +42,9 @@ returns-clause-ran g c =
     let d = g.D.Desk.meaning c.drive.new.desk in
     let r = c.self.inside.run in
     let k = late_state r in
+    let written = Writes-is (ap to_report c.as_bytes.ensures.value) c.in_ok-write_all.ensures in
     let ran = c.drive.ensures.ran (rest_work r) (Owes-unread r c.self.invariant) in
-    subst (λ (s : LateState). AfterRun (late_work s.places s.apid s.window) a d (by_stop stop_by c.drive.result)) c.self.view_is (AfterRun-after (late_work k.places k.apid k.window) (rest_work r) a b d (by_stop stop_by c.drive.result) (header r a b c.as_bytes.result.now c.self.invariant c.as_bytes.ensures.value c.in_ok-write_all.ensures.added) ran)
+    subst (λ (s : LateState). AfterRun (late_work s.places s.apid s.window) a d (by_stop stop_by c.drive.result)) c.self.view_is (AfterRun-after (late_work k.places k.apid k.window) (rest_work r) a b d (by_stop stop_by c.drive.result) (header r a b c.self.invariant written.wrote) ran)
 
 -- ---- the order
 
@@ -53,8 +54,8 @@ returns-in_err-write_all-clause-order g c =
     let b = g.D.Desk.meaning c.write_all.new.desk in
     let r = c.self.inside.run in
     let k = late_state r in
-    let front = WroteFrontBy-report a b header_row (subst (AddsFront a b outlet.Report) c.as_bytes.ensures.value c.in_err-write_all.ensures.front) in
-    let cut = IsCutWithin-wrote outlet.Report (late_parts k.places k.apid k.window) (parts_on (parts_to_sort r) r.reader) a b (to_report header_row) (late_parts-unread r c.self.invariant) front in
+    let written = WritesBy-alone outlet.Report outlet.Report _ (Writes-is (ap to_report c.as_bytes.ensures.value) c.in_err-write_all.ensures) in
+    let cut = IsCutWithin-wrote outlet.Report (late_parts k.places k.apid k.window) (parts_on (parts_to_sort r) r.reader) a b (to_report header_row) (late_parts-unread r c.self.invariant) written.front in
     let p = err_from_is_err_and c.from_residual.result c.from_residual.ensures.1 in
     rw (p.1, p.2) (subst (λ (s : LateState). IsCutWithin outlet.Report (late_parts s.places s.apid s.window) a b) c.self.view_is cut)
 
@@ -66,8 +67,8 @@ returns-clause-order g c =
     let r = c.self.inside.run in
     let k = late_state r in
     let here = parts_on (parts_to_sort r) r.reader in
-    let wrote = Ran-notes a b header_row (subst (Adds a b outlet.Report) c.as_bytes.ensures.value c.in_ok-write_all.ensures.added) in
-    let reached = ReachesParts-wrote (late_parts k.places k.apid k.window) here a b (to_report header_row) (late_parts-unread r c.self.invariant) wrote in
+    let written = Writes-is (ap to_report c.as_bytes.ensures.value) c.in_ok-write_all.ensures in
+    let reached = ReachesParts-wrote (late_parts k.places k.apid k.window) here a b (to_report header_row) (late_parts-unread r c.self.invariant) written.wrote in
     subst (λ (s : LateState). InParts outlet.Report (late_parts s.places s.apid s.window) a d (by_stop stop_by c.drive.result)) c.self.view_is
     (InParts-after outlet.Report (late_parts k.places k.apid k.window) here a b d (by_stop stop_by c.drive.result) reached (c.drive.ensures.parts here refl))
 

@@ -34,7 +34,7 @@ returns-in_err-end-clause-turned g c = λ work owes.
     let s = c.args.self.now in
     let told = rw c.in_default.is at c.in_ok-taken.ensures in
     let p = err_from_is_err_and c.from_residual-in_err-end.result c.from_residual-in_err-end.ensures.1 in
-    let whole = subst (WroteFront (g.D.Desk.meaning c.next.new.desk) (g.D.Desk.meaning c.end.new.desk)) (put_all-last s.arrivals) (WroteFront-within c.in_err-end.ensures.front) in
+    let whole = subst (WroteFront (g.D.Desk.meaning c.next.new.desk) (g.D.Desk.meaning c.end.new.desk)) (put_all-last s.arrivals) (WroteFront-within c.in_err-end.ensures.written.front) in
     rw (p.1, p.2) (IsCutShort-end-on s.reader (IsDone-sorted s) owes.work_is told.ahead told.none told.at_end whole)
 
 pub returns-in_default-clause-turned : goal.returns-in_default-clause-turned
@@ -43,7 +43,7 @@ returns-in_default-clause-turned g c = λ work owes.
     let told = rw c.in_default.is at c.in_ok-taken.ensures in
     let meaning = g.D.Desk.meaning in
     subst (λ (done : LateDone). Finishes work (meaning c.args.desk.now) (meaning c.end.new.desk) done) (sym c.in_ok-end.ensures.done)
-    (Finishes-on s.reader (IsDone-sorted s) owes.work_is told.ahead told.none told.at_end c.in_ok-end.ensures.wrote)
+    (Finishes-on s.reader (IsDone-sorted s) owes.work_is told.ahead told.none told.at_end c.in_ok-end.ensures.written.wrote)
 
 -- a packet was read
 pub returns-in_err-arrive-clause-turned : goal.returns-in_err-arrive-clause-turned
@@ -55,7 +55,7 @@ returns-in_err-arrive-clause-turned g c = λ work owes.
     let sorts = rw c.body-body.ensures at c.arrive.ensures.sorts in
     let reads = Reads-sorted s t (meaning c.args.desk.now) (meaning c.next.new.desk) c.in-Some.taken told.some c.if-taken.true sorts in
     let p = err_from_is_err_and c.from_residual-in_err-arrive.result c.from_residual-in_err-arrive.ensures.1 in
-    let front = rw c.body-body.ensures at c.in_err-arrive.ensures.front in
+    let front = rw c.body-body.ensures at c.in_err-arrive.ensures.written.front in
     let given = given_at s.arrivals (record { count = c.in-Some.taken.count; body = c.next.new.self.body }) in
     let whole = subst (WroteFront (meaning c.next.new.desk) (meaning c.arrive.new.desk)) (put_all-parts restored_texts (run_of s.arrivals.judging given)) (WroteFront-within front) in
     rw (p.1, p.2) (IsCutShort-on reads owes.work_is whole)
@@ -69,7 +69,7 @@ returns-in_ok-arrive-clause-turned g c = λ work owes.
     let told = rw c.in-Some.is at c.in_ok-taken.ensures in
     let sorts = rw c.body-body.ensures at c.arrive.ensures.sorts in
     let reads = Reads-sorted s t a b c.in-Some.taken told.some c.if-taken.true sorts in
-    let wrote = rw c.body-body.ensures at c.in_ok-arrive.ensures.wrote in
+    let wrote = rw c.body-body.ensures at c.in_ok-arrive.ensures.written.wrote in
     let limits = limits-next s.arrivals t.arrivals (record { count = c.in-Some.taken.count; body = t.reader.body }) s.reader.taken sorts owes.limits in
     Advances-on reads owes.work_is wrote (Owes-next s t a b c.in-Some.taken work owes told.some limits)
 
@@ -97,7 +97,7 @@ returns-in_err-end-clause-parts g c = λ parts_of owes.
     let s = c.args.self.now in
     let told = rw c.in_default.is at c.in_ok-taken.ensures in
     let p = err_from_is_err_and c.from_residual-in_err-end.result c.from_residual-in_err-end.ensures.1 in
-    rw (p.1, p.2) (IsCutWithin-end-on (parts_to_sort s) s.reader refl owes told.ahead told.none told.at_end c.in_err-end.ensures.front)
+    rw (p.1, p.2) (IsCutWithin-end-on (parts_to_sort s) s.reader refl owes told.ahead told.none told.at_end c.in_err-end.ensures.written.front)
 
 pub returns-in_err-arrive-clause-parts : goal.returns-in_err-arrive-clause-parts
 returns-in_err-arrive-clause-parts g c = λ parts_of owes.
@@ -108,7 +108,7 @@ returns-in_err-arrive-clause-parts g c = λ parts_of owes.
     let sorts = rw c.body-body.ensures at c.arrive.ensures.sorts in
     let reads = ReadsParts-sorted s t (meaning c.args.desk.now) (meaning c.next.new.desk) c.in-Some.taken told.some c.if-taken.true sorts in
     let p = err_from_is_err_and c.from_residual-in_err-arrive.result c.from_residual-in_err-arrive.ensures.1 in
-    let front = rw c.body-body.ensures at c.in_err-arrive.ensures.front in
+    let front = rw c.body-body.ensures at c.in_err-arrive.ensures.written.front in
     rw (p.1, p.2) (IsCutWithin-on reads owes front)
 
 pub returns-in_ok-arrive-clause-parts : goal.returns-in_ok-arrive-clause-parts
@@ -121,7 +121,7 @@ returns-in_ok-arrive-clause-parts g c = λ parts_of owes.
     let told = rw c.in-Some.is at c.in_ok-taken.ensures in
     let sorts = rw c.body-body.ensures at c.arrive.ensures.sorts in
     let reads = ReadsParts-sorted s t a b c.in-Some.taken told.some c.if-taken.true sorts in
-    let wrote = rw c.body-body.ensures at c.in_ok-arrive.ensures.wrote in
+    let wrote = rw c.body-body.ensures at c.in_ok-arrive.ensures.written.wrote in
     let arrival : Arrival = record { count = c.in-Some.taken.count; body = c.next.new.self.body } in
     let given = given_at s.arrivals arrival in
     AdvancesParts-on (arrival_each s.arrivals arrival) reads owes (subst (λ (o : Outputs). Wrote b d o) (sym (put_all-parts restored_texts (run_of s.arrivals.judging given))) wrote) refl

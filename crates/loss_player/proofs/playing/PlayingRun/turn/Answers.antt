@@ -1,11 +1,9 @@
 use Rattle.std.proofs.Common.{refl}
 use Rattle.std.proofs.lemmas.Result.{err_from_is_err_and}
 use Rattle.desk_ports.specs.declared.desk.Outlet.TheVariants as outlet
-use Rattle.desk_ports.proofs.Runs.{Ran-adds, Ran-notes}
-use Rattle.desk_ports.proofs.Steps.{AreReady-moved, WroteFront-output, WroteFront-report}
+use Rattle.desk_ports.proofs.Steps.{AreReady-moved}
 use Rattle.packet_store.proofs.StoreTurns.{AfterStop-on, Advances-on, IsCutShort-on, Finishes-on, IsCutShort-end-on}
-use Rattle.loss_player.specs.Report.{play_report}
-use Rattle.loss_player.specs.Playing.{left_to_play, next_copies}
+use Rattle.loss_player.specs.Playing.{left_to_play}
 use Rattle.loss_player.proofs.PlayCourses.{IsDone-played, Owes-played, Reads-played}
 use Rattle.loss_player.proofs.playing.PlayingRun.turn.Goals as goal
 
@@ -27,14 +25,12 @@ pub returns-in_err-write_report-clause-turned : goal.returns-in_err-write_report
 returns-in_err-write_report-clause-turned g c = λ work owes.
     let told = rw c.in_default.is at c.in_ok-taken.ensures in
     let p = err_from_is_err_and c.from_residual-in_err-write_report.result c.from_residual-in_err-write_report.ensures.1 in
-    let front = WroteFront-report (g.D.Desk.meaning c.next.new.desk) (g.D.Desk.meaning c.write_report.new.desk) (play_report c.args.self.now.tally.played) c.in_err-write_report.ensures.front in
-    rw (p.1, p.2) (IsCutShort-end-on c.args.self.now.reader (IsDone-played c.args.self.now work owes) owes.work_is told.ahead told.none told.at_end front)
+    rw (p.1, p.2) (IsCutShort-end-on c.args.self.now.reader (IsDone-played c.args.self.now work owes) owes.work_is told.ahead told.none told.at_end c.in_err-write_report.ensures.front)
 
 pub returns-in_default-clause-turned : goal.returns-in_default-clause-turned
 returns-in_default-clause-turned g c = λ work owes.
     let told = rw c.in_default.is at c.in_ok-taken.ensures in
-    let wrote = Ran-notes (g.D.Desk.meaning c.next.new.desk) (g.D.Desk.meaning c.write_report.new.desk) (play_report c.args.self.now.tally.played) c.in_ok-write_report.ensures.added in
-    Finishes-on c.args.self.now.reader (IsDone-played c.args.self.now work owes) owes.work_is told.ahead told.none told.at_end wrote
+    Finishes-on c.args.self.now.reader (IsDone-played c.args.self.now work owes) owes.work_is told.ahead told.none told.at_end c.in_ok-write_report.ensures.wrote
 
 -- a packet was read
 pub deliver-requires-clause-output : goal.deliver-requires-clause-output
@@ -50,9 +46,8 @@ returns-in_err-deliver-clause-turned g c = λ work owes.
     let taken = c.in-Some.taken in
     let told = rw c.in-Some.is at c.in_ok-taken.ensures in
     let reads = Reads-played s c.deliver.new.self reader (meaning c.args.desk.now) (meaning c.next.new.desk) taken told.some c.deliver.ensures.counts in
-    let front = WroteFront-output (meaning c.next.new.desk) (meaning c.deliver.new.desk) (next_copies s taken.chosen reader.packet) c.in_err-deliver.ensures.front in
     let p = err_from_is_err_and c.from_residual-in_err-deliver.result c.from_residual-in_err-deliver.ensures.1 in
-    rw (p.1, p.2) (IsCutShort-on reads owes.work_is front)
+    rw (p.1, p.2) (IsCutShort-on reads owes.work_is c.in_err-deliver.ensures.written.front)
 
 pub returns-clause-turned : goal.returns-clause-turned
 returns-clause-turned g c = λ work owes.
@@ -62,5 +57,4 @@ returns-clause-turned g c = λ work owes.
     let taken = c.in-Some.taken in
     let told = rw c.in-Some.is at c.in_ok-taken.ensures in
     let reads = Reads-played s c.deliver.new.self reader (meaning c.args.desk.now) (meaning c.next.new.desk) taken told.some c.deliver.ensures.counts in
-    let added = Ran-adds (meaning c.next.new.desk) (meaning c.deliver.new.desk) (next_copies s taken.chosen reader.packet) c.in_ok-deliver.ensures.added in
-    Advances-on reads owes.work_is added (Owes-played s c.deliver.new.self reader (meaning c.args.desk.now) (meaning c.next.new.desk) taken work owes told.some c.deliver.ensures.counts c.deliver.ensures.counted)
+    Advances-on reads owes.work_is c.in_ok-deliver.ensures.written.wrote (Owes-played s c.deliver.new.self reader (meaning c.args.desk.now) (meaning c.next.new.desk) taken work owes told.some c.deliver.ensures.counts c.deliver.ensures.counted)

@@ -8,7 +8,8 @@ use Rattle.desk_ports.specs.declared.desk.Outlet.TheVariants as outlet
 use Rattle.desk_ports.specs.Courses.{Outputs, to_report}
 use Rattle.desk_ports.specs.Turns.{Wrote, WroteFront}
 use Rattle.desk_ports.specs.Parts.{WroteWithin}
-use Rattle.desk_ports.proofs.Parts.{WroteFront-within, WroteFrontBy-alone, WroteWithin-one}
+use Rattle.desk_ports.proofs.Parts.{WroteFront-within, WroteWithin-one}
+use Rattle.desk_ports.proofs.Writings.{WritesBy-alone}
 use Rattle.multi_ground.specs.MultiRun.{judged_after}
 use Rattle.multi_ground.specs.MultiOutputs.{last_rows}
 use Rattle.multi_ground.specs.Receiving.{left_after, parts_after, parts_left}
@@ -29,15 +30,15 @@ returns-in_err-end-clause-turned g c = λ work owes.
     let s = c.args.self.now in
     let told = rw c.in_default.is at c.in_ok-next.ensures in
     let p = err_from_is_err_and c.from_residual-in_err-end.result c.from_residual-in_err-end.ensures.1 in
-    let front = c.in_err-end.ensures.front owes.packets (received-read s c.next.new.self owes.packets owes.received) in
-    rw (p.1, p.2) (IsCutShort-end-on s.reader (IsDone-received s owes.packets owes.received) owes.work_is told.ahead told.none told.at_end front)
+    let written = c.in_err-end.ensures.written owes.packets (received-read s c.next.new.self owes.packets owes.received) in
+    rw (p.1, p.2) (IsCutShort-end-on s.reader (IsDone-received s owes.packets owes.received) owes.work_is told.ahead told.none told.at_end written.front)
 
 pub returns-in_default-clause-turned : goal.returns-in_default-clause-turned
 returns-in_default-clause-turned g c = λ work owes.
     let s = c.args.self.now in
     let told = rw c.in_default.is at c.in_ok-next.ensures in
-    let wrote = c.in_ok-end.ensures.wrote owes.packets (received-read s c.next.new.self owes.packets owes.received) in
-    Finishes-on s.reader (IsDone-received s owes.packets owes.received) owes.work_is told.ahead told.none told.at_end wrote
+    let written = c.in_ok-end.ensures.written owes.packets (received-read s c.next.new.self owes.packets owes.received) in
+    Finishes-on s.reader (IsDone-received s owes.packets owes.received) owes.work_is told.ahead told.none told.at_end written.wrote
 
 -- a packet was read
 pub receive-requires-clause-packet : goal.receive-requires-clause-packet
@@ -57,8 +58,8 @@ returns-in_err-receive-clause-turned g c = λ work owes.
     let told = rw c.in-Some.is at c.in_ok-next.ensures in
     let read = HasRead-taken s reader a b c.in-Some.field-0 told.some owes.chosen in
     let p = err_from_is_err_and c.from_residual-in_err-receive.result c.from_residual-in_err-receive.ensures.1 in
-    let front = c.in_err-receive.ensures.front (packet_of told.some.header reader) owes.packets read (received-read s reader owes.packets owes.received) in
-    let whole = subst (WroteFront b d) (put_all-arrivals (cons_option (judged_after s.streams owes.packets (packet_of told.some.header reader)) [])) (WroteFront-within front) in
+    let written = c.in_err-receive.ensures.written (packet_of told.some.header reader) owes.packets read (received-read s reader owes.packets owes.received) in
+    let whole = subst (WroteFront b d) (put_all-arrivals (cons_option (judged_after s.streams owes.packets (packet_of told.some.header reader)) [])) (WroteFront-within written.front) in
     rw (p.1, p.2) (IsCutShort-on (Reads-next s.streams owes.packets s.reader reader a b c.in-Some.field-0 told.some) owes.work_is whole)
 
 pub returns-clause-turned : goal.returns-clause-turned
@@ -72,9 +73,9 @@ returns-clause-turned g c = λ work owes.
     let read = HasRead-taken s reader a b c.in-Some.field-0 told.some owes.chosen in
     let has = received-read s reader owes.packets owes.received in
     let p = packet_of told.some.header reader in
-    let wrote = c.in_ok-receive.ensures.wrote p owes.packets read has in
+    let written = c.in_ok-receive.ensures.written p owes.packets read has in
     let next = Owes-next s t reader a b c.in-Some.field-0 work owes told.some c.receive.ensures.reader c.receive.ensures.streams (c.receive.ensures.received p owes.packets read has) in
-    Advances-on (Reads-next s.streams owes.packets s.reader reader a b c.in-Some.field-0 told.some) owes.work_is wrote next
+    Advances-on (Reads-next s.streams owes.packets s.reader reader a b c.in-Some.field-0 told.some) owes.work_is written.wrote next
 
 -- ---- part by part
 
@@ -91,8 +92,8 @@ returns-in_err-end-clause-parts g c = λ parts_of owes.
     let d = g.D.Desk.meaning c.end.new.desk in
     let told = rw c.in_default.is at c.in_ok-next.ensures in
     let p = err_from_is_err_and c.from_residual-in_err-end.result c.from_residual-in_err-end.ensures.1 in
-    let front = c.in_err-end.ensures.front owes.packets (received-read s c.next.new.self owes.packets owes.received) in
-    let cut = subst (λ (l : List Packet). WroteWithin outlet.Report b d (to_report (last_rows s.streams l) ∷ [])) (sym (append-nil owes.packets)) (WroteWithin-one (WroteFrontBy-alone front)) in
+    let written = c.in_err-end.ensures.written owes.packets (received-read s c.next.new.self owes.packets owes.received) in
+    let cut = subst (λ (l : List Packet). WroteWithin outlet.Report b d (to_report (last_rows s.streams l) ∷ [])) (sym (append-nil owes.packets)) (WroteWithin-one (WritesBy-alone outlet.Report outlet.Report _ written).front) in
     rw (p.1, p.2) (IsCutWithin-end-on (parts_left s.streams owes.packets) s.reader refl owes.parts_are told.ahead told.none told.at_end cut)
 
 pub returns-in_err-receive-clause-parts : goal.returns-in_err-receive-clause-parts
@@ -104,8 +105,8 @@ returns-in_err-receive-clause-parts g c = λ parts_of owes.
     let told = rw c.in-Some.is at c.in_ok-next.ensures in
     let read = HasRead-taken s reader a b c.in-Some.field-0 told.some owes.chosen in
     let p = err_from_is_err_and c.from_residual-in_err-receive.result c.from_residual-in_err-receive.ensures.1 in
-    let cut = c.in_err-receive.ensures.front (packet_of told.some.header reader) owes.packets read (received-read s reader owes.packets owes.received) in
-    rw (p.1, p.2) (IsCutWithin-on (ReadsParts-next s.streams owes.packets s.reader reader a b c.in-Some.field-0 told.some) owes.parts_are cut)
+    let written = c.in_err-receive.ensures.written (packet_of told.some.header reader) owes.packets read (received-read s reader owes.packets owes.received) in
+    rw (p.1, p.2) (IsCutWithin-on (ReadsParts-next s.streams owes.packets s.reader reader a b c.in-Some.field-0 told.some) owes.parts_are written.front)
 
 pub returns-clause-parts : goal.returns-clause-parts
 returns-clause-parts g c = λ parts_of owes.
@@ -119,6 +120,6 @@ returns-clause-parts g c = λ parts_of owes.
     let read = HasRead-taken s reader a b c.in-Some.field-0 told.some owes.chosen in
     let has = received-read s reader owes.packets owes.received in
     let p = packet_of told.some.header reader in
-    let wrote = subst (λ (o : Outputs). Wrote b d o) (sym (put_all-arrivals (cons_option (judged_after s.streams owes.packets p) []))) (c.in_ok-receive.ensures.wrote p owes.packets read has) in
+    let wrote = subst (λ (o : Outputs). Wrote b d o) (sym (put_all-arrivals (cons_option (judged_after s.streams owes.packets p) []))) (c.in_ok-receive.ensures.written p owes.packets read has).wrote in
     let next = OwesParts-next s t reader a b c.in-Some.field-0 parts_of owes told.some c.receive.ensures.reader c.receive.ensures.streams (c.receive.ensures.received p owes.packets read has) in
     AdvancesParts-on (parts_after s.streams owes.packets p) (ReadsParts-next s.streams owes.packets s.reader reader a b c.in-Some.field-0 told.some) owes.parts_are wrote next

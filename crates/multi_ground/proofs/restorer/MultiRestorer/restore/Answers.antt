@@ -5,9 +5,9 @@ use Rattle.desk_ports.specs.Meanings.{Meanings, left}
 use Rattle.desk_ports.specs.Courses.{AfterRun, IsCutShort, by_stop, to_report}
 use Rattle.desk_ports.specs.declared.desk.Outlet.TheVariants as outlet
 use Rattle.desk_ports.specs.Parts.{InParts, IsCutWithin}
-use Rattle.desk_ports.proofs.Parts.{InParts-after, IsCutWithin-wrote, ReachesParts-wrote, WroteFrontBy-report}
-use Rattle.desk_ports.proofs.Runs.{Ran-notes}
-use Rattle.desk_ports.proofs.Steps.{AfterRun-after, IsCutShort-wrote, Reaches-wrote, WroteFront-report}
+use Rattle.desk_ports.proofs.Parts.{InParts-after, IsCutWithin-wrote, ReachesParts-wrote}
+use Rattle.desk_ports.proofs.Steps.{AfterRun-after, IsCutShort-wrote, Reaches-wrote}
+use Rattle.desk_ports.proofs.Writings.{WritesBy-alone}
 use Rattle.packet_store.specs.StoreWorks.{parts_on, work_on}
 use Rattle.side_tables.specs.declared.rows.StreamRow.{StreamRow}
 use Rattle.side_tables.specs.Streams.{AreStreams}
@@ -26,8 +26,7 @@ returns-in_err-write_header-clause-ran g c =
     let a = g.D.Desk.meaning c.args.desk.now in
     let b = g.D.Desk.meaning c.write_header.new.desk in
     let s = c.self.inside.receiving in
-    let front = WroteFront-report a b multi_header c.in_err-write_header.ensures.front in
-    let cut = IsCutShort-wrote (multi_work s.streams) (work_on (left_after s.streams []) s.reader) a b (to_report multi_header) (Steps-unread s c.self.invariant) front in
+    let cut = IsCutShort-wrote (multi_work s.streams) (work_on (left_after s.streams []) s.reader) a b (to_report multi_header) (Steps-unread s c.self.invariant) c.in_err-write_header.ensures.front in
     let p = err_from_is_err_and c.from_residual.result c.from_residual.ensures.1 in
     rw (p.1, p.2) (subst (λ (streams : List StreamRow). IsCutShort (multi_course streams) a b) c.self.view_is cut)
 
@@ -41,7 +40,7 @@ returns-clause-ran g c =
     let d = g.D.Desk.meaning c.drive.new.desk in
     let s = c.self.inside.receiving in
     let here = work_on (left_after s.streams []) s.reader in
-    let reached = Reaches-wrote (multi_work s.streams) here a b (to_report multi_header) (Steps-unread s c.self.invariant) (Ran-notes a b multi_header c.in_ok-write_header.ensures.added) in
+    let reached = Reaches-wrote (multi_work s.streams) here a b (to_report multi_header) (Steps-unread s c.self.invariant) c.in_ok-write_header.ensures.wrote in
     subst (λ (streams : List StreamRow). AfterRun (multi_work streams) a d (by_stop stop_by c.drive.result)) c.self.view_is
     (AfterRun-after (multi_work s.streams) here a b d (by_stop stop_by c.drive.result) reached (c.drive.ensures.ran here (Owes-unread s c.self.invariant)))
 
@@ -52,8 +51,8 @@ returns-in_err-write_header-clause-order g c =
     let a = g.D.Desk.meaning c.args.desk.now in
     let b = g.D.Desk.meaning c.write_header.new.desk in
     let s = c.self.inside.receiving in
-    let front = WroteFrontBy-report a b multi_header c.in_err-write_header.ensures.front in
-    let cut = IsCutWithin-wrote outlet.Report (multi_parts s.streams) (parts_on (parts_left s.streams []) s.reader) a b (to_report multi_header) (multi_parts-unread s c.self.invariant) front in
+    let written = WritesBy-alone outlet.Report outlet.Report _ c.in_err-write_header.ensures in
+    let cut = IsCutWithin-wrote outlet.Report (multi_parts s.streams) (parts_on (parts_left s.streams []) s.reader) a b (to_report multi_header) (multi_parts-unread s c.self.invariant) written.front in
     let p = err_from_is_err_and c.from_residual.result c.from_residual.ensures.1 in
     rw (p.1, p.2) (subst (λ (streams : List StreamRow). IsCutWithin outlet.Report (multi_parts streams) a b) c.self.view_is cut)
 
@@ -64,7 +63,7 @@ returns-clause-order g c =
     let d = g.D.Desk.meaning c.drive.new.desk in
     let s = c.self.inside.receiving in
     let here = parts_on (parts_left s.streams []) s.reader in
-    let reached = ReachesParts-wrote (multi_parts s.streams) here a b (to_report multi_header) (multi_parts-unread s c.self.invariant) (Ran-notes a b multi_header c.in_ok-write_header.ensures.added) in
+    let reached = ReachesParts-wrote (multi_parts s.streams) here a b (to_report multi_header) (multi_parts-unread s c.self.invariant) c.in_ok-write_header.ensures.wrote in
     subst (λ (streams : List StreamRow). InParts outlet.Report (multi_parts streams) a d (by_stop stop_by c.drive.result)) c.self.view_is
     (InParts-after outlet.Report (multi_parts s.streams) here a b d (by_stop stop_by c.drive.result) reached (c.drive.ensures.parts here (OwesParts-unread s c.self.invariant)))
 

@@ -1,21 +1,20 @@
 use Rattle.std.proofs.Common.{ℕ, List, [], ◌∷◌, refl, sym, ap, ◌+◌, length, subst, ◌∙◌}
 use Rattle.std.proofs.lemmas.Result.{err_from_is_err_and}
 use Rattle.desk_ports.specs.declared.desk.Outlet.TheVariants as outlet
-use Rattle.desk_ports.proofs.Runs.{Ran-notes}
-use Rattle.desk_ports.proofs.Steps.{AreReady-moved, WroteFront-report}
+use Rattle.desk_ports.proofs.Steps.{AreReady-moved}
 use Rattle.flight_chain.proofs.RecordTurns.{Advances-on, Finishes-on, IsCutShort-on, IsCutShort-end-on}
 use Rattle.desk_ports.specs.Turns.{Wrote}
 use Rattle.desk_ports.specs.Courses.{Outputs}
 use Rattle.desk_ports.specs.Parts.{WroteFrontBy, WroteWithin}
 use Rattle.desk_ports.proofs.Parts.{WroteFront-by, WroteWithin-one, put_all-one}
+use Rattle.desk_ports.proofs.Writings.{WritesBy-alone}
 use Rattle.flight_chain.proofs.RecordParts.{AdvancesParts-on, IsCutWithin-on, IsCutWithin-end-on}
 use Rattle.flight_chain.specs.RecordWorks.{parts_on, work_on}
 use Rattle.param_table.specs.declared.rows.Column.{Column}
 use Rattle.param_table.specs.declared.tabling.Tabling.{Tabling}
 use Rattle.param_table.specs.Tabling.{Owes, left_to_tabulate, packet_texts, parts_left}
-use Rattle.param_table.specs.Texts.{end_row, packet_violations}
+use Rattle.param_table.specs.Texts.{packet_violations}
 use Rattle.param_table.proofs.TableCourses.{AfterStop-table, IsDone-table, Owes-next, ReadsInput-table, ReadsParts-table, StopsWithin-table, last-table}
-use Rattle.param_table.proofs.Writings.{WroteFrontBy-rows}
 use Rattle.param_table.proofs.tabling.TablingRun.turn.Goals as goal
 
 -- the recording is not read on
@@ -35,19 +34,15 @@ write_end-requires g c =
 pub returns-in_err-write_end-clause-turned : goal.returns-in_err-write_end-clause-turned
 returns-in_err-write_end-clause-turned g c = λ work owes.
     let s = c.args.self.now in
-    let b = g.D.Desk.meaning c.read_input.new.desk in
-    let d = g.D.Desk.meaning c.write_end.new.desk in
     let told = rw c.in_default.is at c.in_ok-t.ensures in
     let p = err_from_is_err_and c.from_residual-in_err-write_end.result c.from_residual-in_err-write_end.ensures.1 in
-    rw (p.1, p.2) (IsCutShort-end-on (length s.packet) s.taken (IsDone-table s.fields s.taken s.found) owes.work_is told.ahead told.none told.at_end (WroteFront-report b d (end_row s.taken s.found) c.in_err-write_end.ensures.front))
+    rw (p.1, p.2) (IsCutShort-end-on (length s.packet) s.taken (IsDone-table s.fields s.taken s.found) owes.work_is told.ahead told.none told.at_end c.in_err-write_end.ensures.front)
 
 pub returns-in_default-clause-turned : goal.returns-in_default-clause-turned
 returns-in_default-clause-turned g c = λ work owes.
     let s = c.args.self.now in
-    let b = g.D.Desk.meaning c.read_input.new.desk in
-    let d = g.D.Desk.meaning c.write_end.new.desk in
     let told = rw c.in_default.is at c.in_ok-t.ensures in
-    Finishes-on (length s.packet) s.taken (IsDone-table s.fields s.taken s.found) owes.work_is told.ahead told.none told.at_end (Ran-notes b d (end_row s.taken s.found) c.in_ok-write_end.ensures.added)
+    Finishes-on (length s.packet) s.taken (IsDone-table s.fields s.taken s.found) owes.work_is told.ahead told.none told.at_end c.in_ok-write_end.ensures.wrote
 
 -- a packet was read
 pub write_packet-requires-clause-output : goal.write_packet-requires-clause-output
@@ -69,7 +64,7 @@ returns-in_err-self-clause-turned g c = λ work owes.
     let packet = c.read_input.new.input in
     let told = rw c.in-Some.is at c.in_ok-t.ensures in
     let reads = ReadsInput-table s c.in-Some.t c.read_input.new.ahead a b packet told.number told.taken in
-    let front = subst (λ (columns : List Column). WroteFrontBy outlet.Main b d (packet_texts columns (c.in-Some.t, packet))) c.columns-columns.ensures c.in_err-self.ensures.front in
+    let front = subst (λ (columns : List Column). WroteFrontBy outlet.Main b d (packet_texts columns (c.in-Some.t, packet))) c.columns-columns.ensures c.in_err-self.ensures.written.front in
     let p = err_from_is_err_and c.from_residual-in_err-self.result c.from_residual-in_err-self.ensures.1 in
     rw (p.1, p.2) (IsCutShort-on reads owes.work_is (WroteFront-by front))
 
@@ -83,7 +78,7 @@ returns-clause-turned g c = λ work owes.
     let after = c.read_input.new.ahead in
     let told = rw c.in-Some.is at c.in_ok-t.ensures in
     let reads = ReadsInput-table s c.in-Some.t after a b packet told.number told.taken in
-    let wrote = subst (λ (columns : List Column). Wrote b d (packet_texts columns (c.in-Some.t, packet))) c.columns-columns.ensures c.in_ok-self.ensures.wrote in
+    let wrote = subst (λ (columns : List Column). Wrote b d (packet_texts columns (c.in-Some.t, packet))) c.columns-columns.ensures c.in_ok-self.ensures.written.wrote in
     let count = c.in_ok-self.ensures.found ∙ ap (λ (columns : List Column). length (packet_violations columns (c.in-Some.t, packet))) c.columns-columns.ensures in
     let new : Tabling = record { fields = s.fields; taken = s.taken + 1; found = s.found + c.in_ok-self.field-0; ahead = after; packet = packet; line = c.write_packet.new.line } in
     let owed = Owes-next s c.write_packet.new.line packet after c.in_ok-self.field-0 owes.right told.taken.few c.in_ok-self.ensures.few told.taken.places in
@@ -105,7 +100,7 @@ returns-in_err-write_end-clause-parts g c = λ parts_of owes.
     let d = g.D.Desk.meaning c.write_end.new.desk in
     let told = rw c.in_default.is at c.in_ok-t.ensures in
     let p = err_from_is_err_and c.from_residual-in_err-write_end.result c.from_residual-in_err-write_end.ensures.1 in
-    let cut = subst (λ (l : List Outputs). WroteWithin outlet.Main b d l) (sym (last-table s.fields s.taken s.found)) (WroteWithin-one (WroteFrontBy-rows b d (end_row s.taken s.found) c.in_err-write_end.ensures.front)) in
+    let cut = subst (λ (l : List Outputs). WroteWithin outlet.Main b d l) (sym (last-table s.fields s.taken s.found)) (WroteWithin-one (WritesBy-alone outlet.Main outlet.Report _ c.in_err-write_end.ensures).front) in
     rw (p.1, p.2) (IsCutWithin-end-on (parts_left s.fields s.taken s.found) (length s.packet) s.taken refl owes told.ahead told.none told.at_end cut)
 
 pub returns-in_err-self-clause-parts : goal.returns-in_err-self-clause-parts
@@ -117,7 +112,7 @@ returns-in_err-self-clause-parts g c = λ parts_of owes.
     let packet = c.read_input.new.input in
     let told = rw c.in-Some.is at c.in_ok-t.ensures in
     let reads = ReadsParts-table s c.in-Some.t c.read_input.new.ahead a b packet told.number told.taken in
-    let front = subst (λ (columns : List Column). WroteFrontBy outlet.Main b d (packet_texts columns (c.in-Some.t, packet))) c.columns-columns.ensures c.in_err-self.ensures.front in
+    let front = subst (λ (columns : List Column). WroteFrontBy outlet.Main b d (packet_texts columns (c.in-Some.t, packet))) c.columns-columns.ensures c.in_err-self.ensures.written.front in
     let p = err_from_is_err_and c.from_residual-in_err-self.result c.from_residual-in_err-self.ensures.1 in
     rw (p.1, p.2) (IsCutWithin-on reads owes (WroteWithin-one front))
 
@@ -131,7 +126,7 @@ returns-clause-parts g c = λ parts_of owes.
     let after = c.read_input.new.ahead in
     let told = rw c.in-Some.is at c.in_ok-t.ensures in
     let reads = ReadsParts-table s c.in-Some.t after a b packet told.number told.taken in
-    let wrote = subst (λ (columns : List Column). Wrote b d (packet_texts columns (c.in-Some.t, packet))) c.columns-columns.ensures c.in_ok-self.ensures.wrote in
+    let wrote = subst (λ (columns : List Column). Wrote b d (packet_texts columns (c.in-Some.t, packet))) c.columns-columns.ensures c.in_ok-self.ensures.written.wrote in
     let count = c.in_ok-self.ensures.found ∙ ap (λ (columns : List Column). length (packet_violations columns (c.in-Some.t, packet))) c.columns-columns.ensures in
     let part = packet_texts s.fields (c.in-Some.t, packet) in
     let places = told.taken.places in

@@ -64,7 +64,7 @@ returns-in-Err-list-clause-cause g c =
 
 pub returns-in-Ok-write_text-clause-ran : goal.returns-in-Ok-write_text-clause-ran
 returns-in-Ok-write_text-clause-ran g c =
-    rw c.in-Trial.is (IsEnded-text c.in-Trial.text.items _ _ c.in-Ok-write_text.ensures.added)
+    rw c.in-Trial.is (IsEnded-text c.in-Trial.text.items _ _ c.in-Ok-write_text.ensures.wrote)
 
 pub returns-in-Err-write_text-clause-ran : goal.returns-in-Err-write_text-clause-ran
 returns-in-Err-write_text-clause-ran g c =
@@ -100,8 +100,8 @@ returns-in-Err-tabulate-clause-cause g c =
 
 pub returns-in-Ok-write-clause-ran : goal.returns-in-Ok-write-clause-ran
 returns-in-Ok-write-clause-ran g c =
-    rw c.in-Forecast.is (IsEnded-text (forecast_text (foresees c.in-Forecast.forecast.outlook) c.in-Forecast.forecast.packets) _ _ c.in-Ok-write.ensures.added)
+    rw c.in-Forecast.is (IsEnded-text (forecast_text (foresees c.in-Forecast.forecast.outlook) c.in-Forecast.forecast.packets) _ _ c.in-Ok-write.ensures.written.wrote)
 
 pub returns-in-Err-write-clause-ran : goal.returns-in-Err-write-clause-ran
 returns-in-Err-write-clause-ran g c =
-    rw c.in-Forecast.is (IsEnded-text_cut (forecast_text (foresees c.in-Forecast.forecast.outlook) c.in-Forecast.forecast.packets) _ _ c.in-Err-write.ensures.front)
+    rw c.in-Forecast.is (IsEnded-text_cut (forecast_text (foresees c.in-Forecast.forecast.outlook) c.in-Forecast.forecast.packets) _ _ c.in-Err-write.ensures.written.front)
