@@ -4,9 +4,12 @@ use Rattle.std.specs.List.{flat_map, list_any}
 use Rattle.std.specs.Int.{bit_at}
 use Rattle.std.specs.Simd.Lanes.{zip2}
 
--- a vector has 1 to 49,152 places
+-- a number of places, from 1 to 49,152; a vector has such a number
+abbrev pub IsPlaces : ℕ → Type 0
+IsPlaces f = (1 ≤ f) × (f ≤ 49152)
+
 abbrev pub IsVector : List Bool → Type 0
-IsVector v = (1 ≤ length v) × (length v ≤ 49152)
+IsVector v = IsPlaces (length v)
 
 -- vectors place by place: 1 if exactly one of the two bits is 1, if at least one is, if the first alone is
 abbrev pub xor_bits : List Bool → List Bool → List Bool

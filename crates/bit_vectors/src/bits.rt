@@ -3,7 +3,7 @@
 ghost use Rattle.std.specs.Prelude.{◌≡◌, ◌≢◌, ℕ, ◌+◌, ◌*◌, ◌/◌, ◌<◌, ◌≤◌, ◌↔◌, Bool, true, false, List, length, take, drop, replicate, slice_index_or, slice_set, Contains, IsTrue, IsNone, IfSome, IsErr, IfOk, OnOk, OnErr, count_by};
 ghost use Rattle.std.specs.Bool.{OnFalse};
 ghost use Rattle.std.specs.Vec.{vec_capacity};
-ghost use Rattle.bit_vectors.specs.Vectors.{IsVector, xor_bits, or_bits, without_bits, IsOne, NoneIsOne, bits_of, byte_count, vector_bytes};
+ghost use Rattle.bit_vectors.specs.Vectors.{IsPlaces, IsVector, xor_bits, or_bits, without_bits, IsOne, NoneIsOne, bits_of, byte_count, vector_bytes};
 ghost use Rattle.bit_vectors.specs.Words.{word_count, IsWord, HasNoSpareBit, vector_of, AreWords};
 
 use crate::fault::{NoMemory, SpareBit};
@@ -17,8 +17,7 @@ use std::marker::Model;
 
 /// The number of bytes that a vector of `f` places takes.
 pub fn byte_len(f: u32) -> u32
-    requires some { 1 ≤ f }
-    requires most { f ≤ 49152 }
+    requires valid { IsPlaces f }
     ensures { result ≡ byte_count f }
 {
     f.div_ceil(8)
@@ -45,8 +44,7 @@ impl Model for Bits {
 impl Bits {
     /// A vector of `f` zeros.
     pub fn zeros(alloc: Global, f: u32) -> Result<Bits, NoMemory>
-        requires some { 1 ≤ f }
-        requires most { f ≤ 49152 }
+        requires valid { IsPlaces f }
         ensures { IfOk result (λ v. v ≡ replicate f false) }
     {
         let words = zero_words(alloc, f.div_ceil(64) as usize)?;

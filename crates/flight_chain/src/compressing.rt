@@ -9,6 +9,7 @@ ghost use Rattle.packet_encode.specs.Encoder.{StandsFor};
 ghost use Rattle.packet_store.specs.SpacePackets.{space_packet};
 ghost use Rattle.flight_chain.specs.Compressing.{with_packet};
 ghost use Rattle.flight_chain.specs.Stores.{data_at};
+ghost use Rattle.bit_vectors.specs.Vectors.{IsPlaces};
 
 use crate::fault::{FlightFault, RecordFault};
 use crate::reading::read_input;
@@ -76,8 +77,7 @@ impl Compressing {
         mask: &Bits,
         plan: Schedule,
     ) -> Result<Compressing, NoMemory>
-        requires some { 1 ≤ f }
-        requires most { f ≤ 49152 }
+        requires valid { IsPlaces f }
         requires places { length mask.now ≡ f }
         requires robust { robust ≤ 7 }
         requires chosen { apid ≤ 2046 }
@@ -138,8 +138,7 @@ impl Compressing {
 
 /// What a recording is read with: the bytes that are read ahead, and a vector for an input.
 fn reading(alloc: Global, f: u32) -> Result<(ReadAhead, Bits), NoMemory>
-    requires some { 1 ≤ f }
-    requires most { f ≤ 49152 }
+    requires valid { IsPlaces f }
     ensures ahead { IfOk result (λ made. made.0 ≡ []) }
     ensures input { IfOk result (λ made. made.1 ≡ replicate f false) }
 {
@@ -148,8 +147,7 @@ fn reading(alloc: Global, f: u32) -> Result<(ReadAhead, Bits), NoMemory>
 
 /// What a store is written with: its writer, and a pen for a packet.
 fn writing(alloc: Global, f: u32, apid: u16) -> Result<(StoreWriter, BitPen), NoMemory>
-    requires some { 1 ≤ f }
-    requires most { f ≤ 49152 }
+    requires valid { IsPlaces f }
     requires chosen { apid ≤ 2046 }
     ensures apid { IfOk result (λ made. made.0.apid ≡ apid) }
     ensures bits { IfOk result (λ made. made.1.bits ≡ []) }

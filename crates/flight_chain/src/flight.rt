@@ -4,6 +4,7 @@ ghost use Rattle.std.specs.Prelude.{◌≡◌, ◌≤◌, length, IfOk};
 ghost use Rattle.desk_ports.specs.Meanings.{IsReadyIn, IsReadyOut};
 ghost use Rattle.desk_ports.specs.Courses.{AfterRun, HasCause, by_stop};
 ghost use Rattle.flight_chain.specs.Compressing.{compress_work, stop_by};
+ghost use Rattle.bit_vectors.specs.Vectors.{IsPlaces};
 
 use crate::compressing::Compressing;
 use crate::fault::FlightFault;
@@ -43,8 +44,7 @@ impl Flight {
         mask: &Bits,
         plan: Schedule,
     ) -> Result<Flight, NoMemory>
-        requires some { 1 ≤ f }
-        requires most { f ≤ 49152 }
+        requires valid { IsPlaces f }
         requires places { length mask.now ≡ f }
         requires robust { robust ≤ 7 }
         requires chosen { apid ≤ 2046 }

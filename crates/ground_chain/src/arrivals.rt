@@ -6,6 +6,7 @@ ghost use Rattle.ground_chain.specs.Run.{Arrival, kind_of, lost_from};
 ghost use Rattle.ground_chain.specs.Refusals.{IsExactVerdict};
 ghost use Rattle.ground_chain.specs.Report.{is_told, tells_mask_alone};
 ghost use Rattle.ground_chain.specs.Reception.{AreLost, HasDecoded, HasMasked, AgreesWith, StandsFor, known_of, next_judged, nothing_arrived};
+ghost use Rattle.bit_vectors.specs.Vectors.{IsPlaces};
 
 use crate::unwrap::Unwrap;
 use crate::verdict::{Kind, Lost, Verdict};
@@ -36,8 +37,7 @@ impl Model for Ground {
 impl Ground {
     /// Nothing has arrived. The vectors have `f` places. Takes all memory that `arrive` needs.
     pub fn open(alloc: Global, f: u32) -> Result<Ground, NoMemory>
-        requires some { 1 ≤ f }
-        requires most { f ≤ 49152 }
+        requires valid { IsPlaces f }
         ensures opened { IfOk result (λ g. g ≡ nothing_arrived f) }
         ensures stands { IfOk result (λ g. StandsFor [] g) }
     {

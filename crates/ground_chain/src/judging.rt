@@ -5,6 +5,7 @@ ghost use Rattle.desk_ports.specs.Turns.{AreReady};
 ghost use Rattle.desk_ports.specs.Writings.{WritesBy};
 ghost use Rattle.ground_chain.specs.Reception.{next_judged};
 ghost use Rattle.ground_chain.specs.Reckoning.{Judges, nothing_judged};
+ghost use Rattle.bit_vectors.specs.Vectors.{IsPlaces};
 
 use crate::account::Account;
 use crate::restored::Restored;
@@ -35,8 +36,7 @@ impl<A: Account> Model for Judging<A> {
 impl<A: Account> Judging<A> {
     /// Nothing has arrived. The vectors have `f` places. Takes all memory of the run but the account's.
     pub fn open(alloc: Global, f: u32, account: A) -> Result<Judging<A>, NoMemory>
-        requires some { 1 ≤ f }
-        requires most { f ≤ 49152 }
+        requires valid { IsPlaces f }
         requires room { A.has_room account f }
         ensures { IfOk result (λ judging. judging ≡ nothing_judged f) }
     {

@@ -8,6 +8,7 @@ ghost use Rattle.packet_encode.specs.Deliveries.{arrivals};
 ghost use Rattle.ground_chain.specs.Deliveries.{IsPlayed};
 ghost use Rattle.ground_chain.specs.Listing.{listing_work};
 ghost use Rattle.ground_chain.specs.Restoring.{stop_by};
+ghost use Rattle.bit_vectors.specs.Vectors.{IsPlaces};
 
 use crate::fault::RestoreFault;
 use crate::listing::Listing;
@@ -40,8 +41,7 @@ impl Lister {
     /// A lister of packets of a chosen APID, which is not the idle one, with vectors of `f` places. It takes all memory
     /// of the run.
     pub fn open(alloc: Global, f: u32, apid: u16) -> Result<Lister, NoMemory>
-        requires some { 1 ≤ f }
-        requires most { f ≤ 49152 }
+        requires valid { IsPlaces f }
         requires chosen { apid ≤ 2046 }
         ensures { IfOk result (λ lister. lister ≡ record { places = f; apid = apid }) }
     {

@@ -5,6 +5,7 @@ ghost use Rattle.desk_ports.specs.Meanings.{IsReadyOut};
 ghost use Rattle.desk_ports.specs.Courses.{to_output};
 ghost use Rattle.desk_ports.specs.Writings.{Writes};
 ghost use Rattle.ground_chain.specs.Listing.{known_with, latest_vectors, mask_text, shown_vectors, vector_digits};
+ghost use Rattle.bit_vectors.specs.Vectors.{IsPlaces};
 
 use crate::account::Account;
 use crate::digits::write_digits;
@@ -57,8 +58,7 @@ impl Listing {
 
     /// Takes the memory for vectors of `f` places.
     pub fn open(alloc: Global, f: u32) -> Result<Listing, NoMemory>
-        requires some { 1 ≤ f }
-        requires most { f ≤ 49152 }
+        requires valid { IsPlaces f }
         ensures { IfOk result (λ listing. HasVectorRoom listing f) }
     {
         let length = byte_len(f) as usize;

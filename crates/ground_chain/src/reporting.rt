@@ -1,7 +1,7 @@
 //! What `restore` writes of the arrivals: the content of each restored packet, and the rows of the report.
 
 ghost use Rattle.std.specs.Prelude.{◌≡◌, ◌≤◌, true, length, IfOk};
-ghost use Rattle.bit_vectors.specs.Vectors.{byte_count, vector_bytes};
+ghost use Rattle.bit_vectors.specs.Vectors.{IsPlaces, byte_count, vector_bytes};
 ghost use Rattle.desk_ports.specs.Meanings.{IsReadyOut};
 ghost use Rattle.desk_ports.specs.Courses.{to_output, to_report};
 ghost use Rattle.desk_ports.specs.Writings.{Writes};
@@ -28,8 +28,7 @@ impl Reporting {
 
     /// Takes the memory for contents of `f` places.
     pub fn open(alloc: Global, f: u32) -> Result<Reporting, NoMemory>
-        requires some { 1 ≤ f }
-        requires most { f ≤ 49152 }
+        requires valid { IsPlaces f }
         ensures { IfOk result (λ reporting. HasContentRoom reporting f) }
     {
         let line = zero_bytes(alloc, byte_len(f) as usize)?;

@@ -8,6 +8,7 @@ ghost use Rattle.mask_update.specs.Histories.{History};
 ghost use Rattle.packet_encode.specs.Deliveries.{arrivals};
 ghost use Rattle.ground_chain.specs.Deliveries.{IsDelivered, IsPlayed};
 ghost use Rattle.ground_chain.specs.Restoring.{restore_parts, restore_work, stop_by};
+ghost use Rattle.bit_vectors.specs.Vectors.{IsPlaces};
 
 use crate::fault::RestoreFault;
 use crate::receiving::Receiving;
@@ -41,8 +42,7 @@ impl Restorer {
     /// A restorer of packets of a chosen APID, which is not the idle one, with vectors of `f` places. It takes all
     /// memory of the run.
     pub fn open(alloc: Global, f: u32, apid: u16) -> Result<Restorer, NoMemory>
-        requires some { 1 ≤ f }
-        requires most { f ≤ 49152 }
+        requires valid { IsPlaces f }
         requires chosen { apid ≤ 2046 }
         ensures { IfOk result (λ restorer. restorer ≡ record { places = f; apid = apid }) }
     {

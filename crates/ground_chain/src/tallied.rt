@@ -4,6 +4,7 @@ ghost use Rattle.std.specs.Prelude.{◌≡◌, ℕ, ◌^◌, ◌<◌, ◌≤◌,
 ghost use Rattle.ground_chain.specs.Run.{Arrival};
 ghost use Rattle.ground_chain.specs.Reception.{AgreesWith, next_judged};
 ghost use Rattle.ground_chain.specs.Reckoning.{HasJudged, Judges, nothing_judged};
+ghost use Rattle.bit_vectors.specs.Vectors.{IsPlaces};
 
 use crate::arrivals::Ground;
 use crate::restored::Restored;
@@ -34,8 +35,7 @@ impl Model for Tallied {
 impl Tallied {
     /// Nothing has arrived. The vectors have `f` places. Takes all memory that `judge` needs.
     pub fn open(alloc: Global, f: u32) -> Result<Tallied, NoMemory>
-        requires some { 1 ≤ f }
-        requires most { f ≤ 49152 }
+        requires valid { IsPlaces f }
         ensures opened { IfOk result (λ tallied. tallied ≡ nothing_judged f) }
         ensures stands { IfOk result (HasJudged f []) }
     {

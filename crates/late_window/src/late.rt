@@ -6,6 +6,7 @@ ghost use Rattle.desk_ports.specs.Writings.{WritesWithin};
 ghost use Rattle.ground_chain.specs.Run.{Arrival};
 ghost use Rattle.late_window.specs.Late.{AreJudged, IsWithinLimits, Sorts, arrival_each, arrival_parts, held_each, held_parts, last_each, last_parts, given_at, done_of, nothing_late};
 ghost use Rattle.late_window.specs.Lines.{given_up};
+ghost use Rattle.bit_vectors.specs.Vectors.{IsPlaces};
 
 use crate::done::LateDone;
 use crate::near::NearCount;
@@ -29,8 +30,7 @@ pub(crate) struct LateArrivals {
 impl LateArrivals {
     /// Nothing has arrived. Takes all memory of the arrivals.
     pub(crate) fn open(alloc: Global, f: u32, window: u8) -> Result<LateArrivals, NoMemory>
-        requires some { 1 ≤ f }
-        requires most { f ≤ 49152 }
+        requires valid { IsPlaces f }
         requires window { window ≤ 64 }
         ensures { IfOk result (λ arrivals. arrivals ≡ nothing_late f window) }
     {

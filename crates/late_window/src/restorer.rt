@@ -9,6 +9,7 @@ ghost use Rattle.packet_store.specs.Walks.{walk};
 ghost use Rattle.ground_chain.specs.Restoring.{stop_by};
 ghost use Rattle.late_window.specs.Restoring.{late_parts, late_work};
 ghost use Rattle.late_window.specs.Deliveries.{IsLateDelivered, IsLatePlayed};
+ghost use Rattle.bit_vectors.specs.Vectors.{IsPlaces};
 
 use crate::done::LateDone;
 use crate::run::LateRun;
@@ -40,8 +41,7 @@ impl LateRestorer {
     /// A restorer of packets of a chosen APID, which is not the idle one, with vectors of `f` places, that come late by up to
     /// `window` packets, at most 64. It takes all memory of the run.
     pub fn open(alloc: Global, f: u32, apid: u16, window: u8) -> Result<LateRestorer, NoMemory>
-        requires some { 1 ≤ f }
-        requires most { f ≤ 49152 }
+        requires valid { IsPlaces f }
         requires chosen { apid ≤ 2046 }
         requires window { window ≤ 64 }
         ensures { IfOk result

@@ -1,7 +1,7 @@
 //! The sending end.
 
 ghost use Rattle.std.specs.Prelude.{◌≡◌, ℕ, ◌+◌, ◌^◌, ◌<◌, ◌≤◌, ◌↔◌, ◌⊎◌, Err, length, drop, take, IfOk, IsOk, IsTrue, OnOk, OnErr};
-ghost use Rattle.bit_vectors.specs.Vectors.{byte_count};
+ghost use Rattle.bit_vectors.specs.Vectors.{IsPlaces, byte_count};
 ghost use Rattle.mask_update.specs.Histories.{History, no_steps};
 ghost use Rattle.packet_encode.specs.Encoder.{StandsFor};
 ghost use Rattle.packet_encode.specs.Packets.{with_next_input};
@@ -202,8 +202,7 @@ impl Sender {
 
 /// Whether no mask is given, or one that has as many bytes as its places need.
 fn mask_fits(places: u32, mask: Option<&[u8]>) -> bool
-    requires some { 1 ≤ places }
-    requires most { places ≤ 49152 }
+    requires valid { IsPlaces places }
     ensures { IsTrue result ↔ MaskFits places (given mask.entry) }
 {
     match mask {

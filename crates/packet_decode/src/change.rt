@@ -9,6 +9,7 @@ ghost use Rattle.run_code.specs.Runs.{parse_vector};
 ghost use Rattle.packet_encode.specs.Forms.{wide_by};
 ghost use Rattle.packet_decode.specs.State.{mask_after};
 ghost use Rattle.packet_decode.specs.PacketReading.{parse_change};
+ghost use Rattle.bit_vectors.specs.Vectors.{IsPlaces};
 
 use crate::directions::take_directions;
 use bit_vectors::{BitEye, BitFault, Bits, NoMemory};
@@ -51,8 +52,7 @@ impl Model for FirstPart {
 impl FirstPart {
     /// No change of `f` places, and level 0.
     pub fn zeros(alloc: Global, f: u32) -> Result<FirstPart, NoMemory>
-        requires some { 1 ≤ f }
-        requires most { f ≤ 49152 }
+        requires valid { IsPlaces f }
         ensures { IfOk result
             (λ part. part ≡ record { recent = replicate f false; level = 0; directions = None }) }
     {

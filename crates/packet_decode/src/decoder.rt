@@ -1,7 +1,7 @@
 //! The decoder: the latest known mask and content, and the reading of the next packet.
 
 ghost use Rattle.std.specs.Prelude.{[], ◌≡◌, ◌^◌, ◌<◌, ◌≤◌, ◌↔◌, Bool, true, false, List, if◌then◌else◌, length, replicate, Option, Some, None, Ok, IfSome, IfNone, IfOk};
-ghost use Rattle.bit_vectors.specs.Vectors.{IsVector, bits_of};
+ghost use Rattle.bit_vectors.specs.Vectors.{IsPlaces, IsVector, bits_of};
 ghost use Rattle.bit_vectors.specs.Reading.{Read};
 ghost use Rattle.packet_encode.specs.Forms.{Form};
 ghost use Rattle.packet_decode.specs.State.{IsState, next_state, no_vectors};
@@ -60,8 +60,7 @@ impl Model for Decoder {
 impl Decoder {
     /// Knows nothing. Takes the memory for every vector that `read` fills, and for the moves that it keeps.
     pub fn open(alloc: Global, f: u32) -> Result<Decoder, NoMemory>
-        requires some { 1 ≤ f }
-        requires most { f ≤ 49152 }
+        requires valid { IsPlaces f }
         ensures { IfOk result
             (λ d. d ≡ record { places = f; state = no_vectors; recent = replicate f false; level = 0 }) }
     {

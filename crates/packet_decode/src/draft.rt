@@ -1,6 +1,7 @@
 //! The room for what reading the next packet fills.
 
 ghost use Rattle.std.specs.Prelude.{◌≡◌, ◌≤◌, length, IfOk};
+ghost use Rattle.bit_vectors.specs.Vectors.{IsPlaces};
 
 use crate::change::FirstPart;
 use bit_vectors::{Bits, NoMemory};
@@ -39,8 +40,7 @@ pub struct Room {
 impl Room {
     /// Vectors of `f` places.
     pub fn zeros(alloc: Global, f: u32) -> Result<Room, NoMemory>
-        requires some { 1 ≤ f }
-        requires most { f ≤ 49152 }
+        requires valid { IsPlaces f }
         ensures { IfOk result (λ room. length room.draft.content ≡ f) }
     {
         let next = FirstPart::zeros(alloc, f)?;

@@ -2,6 +2,7 @@
 
 ghost use Rattle.std.specs.Prelude.{◌≡◌, ◌≤◌, ◌↔◌, ◌&&◌, false, replicate, None, IfOk, IsTrue};
 ghost use Rattle.packet_decode.specs.Parts.{tells_content, tells_mask};
+ghost use Rattle.bit_vectors.specs.Vectors.{IsPlaces};
 
 use bit_vectors::{Bits, NoMemory};
 use std::alloc::Global;
@@ -33,8 +34,7 @@ pub enum DataKind {
 impl Latest {
     /// Nothing is known yet; the vectors have `f` places.
     pub fn none(alloc: Global, f: u32) -> Result<Latest, NoMemory>
-        requires some { 1 ≤ f }
-        requires most { f ≤ 49152 }
+        requires valid { IsPlaces f }
         ensures mask_number { IfOk result (λ latest. latest.mask_number ≡ None) }
         ensures content_number { IfOk result (λ latest. latest.content_number ≡ None) }
         ensures mask { IfOk result (λ latest. latest.mask ≡ replicate f false) }

@@ -1,7 +1,7 @@
 //! The second part of a packet: the mask and the content, whole or in part (CCSDS 124.0-B-1).
 
 ghost use Rattle.std.specs.Prelude.{◌≡◌, ◌+◌, ◌*◌, ◌≤◌, ◌++◌, length, if◌then◌else◌, IfOk, None};
-ghost use Rattle.bit_vectors.specs.Vectors.{or_bits};
+ghost use Rattle.bit_vectors.specs.Vectors.{IsPlaces, or_bits};
 ghost use Rattle.count_code.specs.Code.{count_bits};
 ghost use Rattle.run_code.specs.Extraction.{extract};
 ghost use Rattle.packet_encode.specs.Forms.{Part, data_bits, mask_bits};
@@ -25,8 +25,7 @@ pub(crate) struct Scratch {
 impl Scratch {
     /// For inputs of `f` places.
     pub(crate) fn open(alloc: Global, f: u32) -> Result<Scratch, NoMemory>
-        requires some { 1 ≤ f }
-        requires most { f ≤ 49152 }
+        requires valid { IsPlaces f }
         ensures { IfOk result (λ scratch. length scratch.spare ≡ f) }
     {
         let spare = Bits::zeros(alloc, f)?;

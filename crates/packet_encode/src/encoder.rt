@@ -2,7 +2,7 @@
 
 ghost use Rattle.std.specs.Prelude.{List, [], ◌∷◌, ◌++◌, ◌≡◌, ℕ, ◌↔◌, ◌+◌, ◌*◌, ◌<◌, ◌≤◌, false, length, replicate, IfOk, IsTrue};
 ghost use Rattle.std.specs.Bool.{OnTrue};
-ghost use Rattle.bit_vectors.specs.Vectors.{padded};
+ghost use Rattle.bit_vectors.specs.Vectors.{IsPlaces, padded};
 ghost use Rattle.mask_update.specs.Histories.{History, flags_after, no_steps};
 ghost use Rattle.robust_window.specs.Changes.{MaskStep};
 ghost use Rattle.robust_window.specs.Window.{StandsFor as WindowStandsFor};
@@ -28,8 +28,7 @@ const FORCED: Flags = Flags {
 
 /// The room for each packet of an input of `f` places: at most 491,563 bits.
 pub fn room(f: u32) -> u32
-    requires some { 1 ≤ f }
-    requires most { f ≤ 49152 }
+    requires valid { IsPlaces f }
     ensures room { result ≡ 10 * f + 43 }
     ensures most { result ≤ 491563 }
 {
@@ -63,8 +62,7 @@ impl Encoder {
     /// Starts with this mask of `f` places and no input taken. Allocates the memory for every vector that `encode` fills,
     /// and for the packet and the moves that it keeps.
     pub fn open(alloc: Global, f: u32, mask: &Bits) -> Result<Encoder, NoMemory>
-        requires some { 1 ≤ f }
-        requires most { f ≤ 49152 }
+        requires valid { IsPlaces f }
         requires places { length mask.now ≡ f }
         ensures stands { IfOk result (λ encoder. StandsFor (no_steps mask.now) encoder) }
         ensures places { IfOk result (λ encoder. length encoder.masks.mask ≡ f) }

@@ -5,6 +5,7 @@ ghost use Rattle.std.specs.List.{filter_map};
 ghost use Rattle.std.specs.Option.{option_to_list};
 ghost use Rattle.param_table.specs.Grammar.{bad_text_row, text_columns};
 ghost use Rattle.param_table.specs.Rows.{AreColumns, column_of, field_of, limit_named, limit_of};
+ghost use Rattle.bit_vectors.specs.Vectors.{IsPlaces};
 
 use crate::grammar::FieldText;
 use crate::name::Name;
@@ -39,8 +40,7 @@ impl Fields {
     /// The fields that a text names for packets of `f` places. The text has at most 1,048,576 bytes, and each record of
     /// comma-separated values is a row.
     pub fn read(alloc: Global, text: &[u8], f: u32) -> Result<Fields, SideFault>
-        requires some { 1 ≤ f }
-        requires most { f ≤ 49152 }
+        requires valid { IsPlaces f }
         ensures columns { IfOk result (λ fields. fields ≡ text_columns f text.now) }
         ensures fit { IfOk result (AreColumns f) }
         ensures within { OnOk result (length text.now ≤ 1048576) }

@@ -7,6 +7,7 @@ ghost use Rattle.desk_ports.specs.Parts.{InParts};
 ghost use Rattle.param_table.specs.Faults.{stop_by};
 ghost use Rattle.param_table.specs.Rows.{AreColumns};
 ghost use Rattle.param_table.specs.Tabling.{table_parts, table_work};
+ghost use Rattle.bit_vectors.specs.Vectors.{IsPlaces};
 
 use crate::fault::TableFault;
 use crate::fields::Fields;
@@ -39,8 +40,7 @@ impl Model for Tabler {
 impl Tabler {
     /// A tabler of packets of `f` places with these fields, which were read for as many. It takes all memory of the run.
     pub fn open(alloc: Global, f: u32, fields: Fields) -> Result<Tabler, NoMemory>
-        requires some { 1 ≤ f }
-        requires most { f ≤ 49152 }
+        requires valid { IsPlaces f }
         requires fit { AreColumns f fields }
         ensures { IfOk result (λ tabler. tabler ≡ record { places = f; columns = fields }) }
     {

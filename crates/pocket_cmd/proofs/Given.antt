@@ -15,7 +15,7 @@ use Rattle.pocket_cmd.specs.declared.verbs.Kind.{Kind}
 use Rattle.pocket_cmd.specs.declared.verbs.Kind.TheVariants.{Name, Number, Mask}
 use Rattle.pocket_cmd.specs.Verbs.{Row, is_name_at, kind_of, rows_of, verb_of}
 use Rattle.pocket_cmd.specs.Words.{Words, Assigns, AssignsToOne, bits, fault_of, fits_key, has_key, is_equals_sign, is_missing, is_right, is_split, key_in, keys_at, name_of, number_at, number_in, or_missing, or_word, text_in, text_of, wrong_mask, wrong_word}
-use Rattle.pocket_cmd.specs.Masks.{IsPlaces}
+use Rattle.bit_vectors.specs.Vectors.{IsPlaces}
 use Rattle.pocket_cmd.specs.Command.{AreGiven, AreWithin, Command, IsRight, IsWithin, command_after, command_of, unless_fault}
 use Rattle.pocket_cmd.proofs.Bounds.{number_in-bounds}
 

@@ -1,13 +1,9 @@
 -- The first mask, as hexadecimal digits denote it.
-use Rattle.std.specs.Prelude.{ℕ, ◌≤◌, Bool, false, if◌then◌else◌, List, take, replicate, Option, Some, None, Result, Ok, Err, unwrap_or, is_some}
+use Rattle.std.specs.Prelude.{ℕ, Bool, false, if◌then◌else◌, List, take, replicate, Option, Some, None, Result, Ok, Err, unwrap_or, is_some}
 use Rattle.std.specs.Option.{option_map}
 use Rattle.bit_vectors.specs.Vectors.{bits_of, byte_count, has_spare_bit}
 use Rattle.hex.specs.Hex.{decode_sized}
 use Rattle.hex.specs.declared.error.FromHexError.{FromHexError}
-
--- a number of places
-abbrev pub IsPlaces : ℕ → Type 0
-IsPlaces f = (1 ≤ f) × (f ≤ 49152)
 
 abbrev pub unless_spare : ℕ → Result (List ℕ) FromHexError → Option (List ℕ)
 unless_spare f (Err error) = None

@@ -2,7 +2,8 @@
 ghost use Rattle.std.specs.Prelude.{◌≡◌, ◌≤◌, false, length, take, IfOk, IfSome};
 ghost use Rattle.std.specs.Option.{option_map};
 ghost use Rattle.bit_vectors.specs.Vectors.{byte_count, has_spare_bit};
-ghost use Rattle.pocket_cmd.specs.Masks.{IsPlaces, first_mask, is_mask, mask_bytes};
+ghost use Rattle.bit_vectors.specs.Vectors.{IsPlaces};
+ghost use Rattle.pocket_cmd.specs.Masks.{first_mask, is_mask, mask_bytes};
 
 use bit_vectors::{BitEye, Bits, NoMemory, byte_len};
 use std::alloc::Global;

@@ -2,7 +2,7 @@
 ghost use Rattle.std.specs.Prelude.{◌≡◌, ◌+◌, ◌<◌, ◌^◌, true, false, None, [], length, map, codes, MatchOption, IsSome};
 ghost use Rattle.std.specs.Option.{option_map};
 ghost use Rattle.std.specs.String.{string_bytes};
-ghost use Rattle.pocket_cmd.specs.Masks.{IsPlaces};
+ghost use Rattle.bit_vectors.specs.Vectors.{IsPlaces};
 ghost use Rattle.pocket_cmd.specs.Verbs.{view_row, rows_of};
 ghost use Rattle.pocket_cmd.specs.Words.{is_split, key_in, text_in, has_key, text_of, number_at, name_of, is_read, is_written, is_new_to_read, is_new_to_write, fits, is_right, wrong_word, is_missing, place_of, wrong_mask, fault_of};
 

@@ -5,6 +5,7 @@ ghost use Rattle.std.specs.Bool.{OnFalse, OnTrue};
 ghost use Rattle.std.specs.List.{list_any, range_with_len};
 ghost use Rattle.mask_update.specs.Masks.{vector_of};
 ghost use Rattle.robust_window.specs.Window.{change_back};
+ghost use Rattle.bit_vectors.specs.Vectors.{IsPlaces};
 
 use crate::marks;
 use bit_vectors::{Bits, NoMemory};
@@ -53,8 +54,7 @@ impl Model for Changes {
 impl Changes {
     /// Starts with changes of `f` zeros. Allocates the memory for them.
     pub(crate) fn open(alloc: Global, f: u32) -> Result<Changes, NoMemory>
-        requires some { 1 ≤ f }
-        requires most { f ≤ 49152 }
+        requires valid { IsPlaces f }
         ensures places { IfOk result (λ changes. changes.places ≡ f) }
         ensures latest { IfOk result (λ changes. changes.latest ≡ replicate 16 (replicate f false)) }
     {

@@ -4,6 +4,7 @@ ghost use Rattle.std.specs.Prelude.{◌≡◌, ◌+◌, ◌-◌, ◌<◌, ◌≤
 ghost use Rattle.std.specs.Bool.{OnFalse, OnTrue};
 ghost use Rattle.robust_window.specs.Changes.{MaskStep, latest_change, level_of, mask_step, recent_of, twice_of};
 ghost use Rattle.robust_window.specs.Window.{Advances, StandsFor};
+ghost use Rattle.bit_vectors.specs.Vectors.{IsPlaces};
 
 use crate::changes::Changes;
 use crate::marks;
@@ -48,8 +49,7 @@ impl Model for Window {
 impl Window {
     /// Starts with no step taken, for vectors of `f` places. Allocates the memory for every vector that `step` fills.
     pub fn open(alloc: Global, f: u32) -> Result<Window, NoMemory>
-        requires some { 1 ≤ f }
-        requires most { f ≤ 49152 }
+        requires valid { IsPlaces f }
         ensures stands { IfOk result (λ window. StandsFor [] window) }
         ensures recent { IfOk result (λ window. window.recent ≡ replicate f false) }
         ensures taken { IfOk result (λ window. window.taken ≡ 0) }

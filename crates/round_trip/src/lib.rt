@@ -2,7 +2,7 @@
 #![tactic(auto)]
 
 ghost use Rattle.std.specs.Prelude.{◌≡◌, ℕ, ◌+◌, ◌*◌, ◌<◌, ◌≤◌, [], false, length, replicate, true, Option, Ok, IfSome, IfOk};
-ghost use Rattle.bit_vectors.specs.Vectors.{padded};
+ghost use Rattle.bit_vectors.specs.Vectors.{IsPlaces, padded};
 ghost use Rattle.mask_update.specs.Histories.{History};
 ghost use Rattle.mask_update.specs.Masks.{mask_at};
 ghost use Rattle.packet_decode.specs.Answers.{IsExactAnswer};
@@ -79,8 +79,7 @@ pub fn carry(
 
 /// A decoder that has read the first packet of a sender with this first mask of `f` places and this input.
 pub fn carry_first(alloc: Global, f: u32, mask: &Bits, input: &Bits) -> Result<Decoder, NoMemory>
-    requires some { 1 ≤ f }
-    requires most { f ≤ 49152 }
+    requires valid { IsPlaces f }
     requires mask { length mask.now ≡ f }
     requires input { length input.now ≡ f }
     ensures known { IfOk result (λ decoder. decoder.state ≡ both_known 0 mask.now input.now) }

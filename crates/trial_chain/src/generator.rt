@@ -3,6 +3,7 @@
 ghost use Rattle.std.specs.Prelude.{◌≡◌, ◌<◌, ◌≤◌, length, replicate, false, IfOk};
 ghost use Rattle.trial_chain.specs.Draws.{next_number, drawn};
 ghost use Rattle.trial_chain.specs.Trials.{copies_by, inverted_at, next_input};
+ghost use Rattle.bit_vectors.specs.Vectors.{IsPlaces};
 
 use bit_vectors::{Bits, NoMemory};
 use std::alloc::Global;
@@ -18,8 +19,7 @@ pub(crate) struct Generator {
 impl Generator {
     /// At the packet 0, whose input vector of `f` places is zero: nothing is drawn.
     pub fn open(alloc: Global, seed: u32, f: u32) -> Result<Generator, NoMemory>
-        requires some { 1 ≤ f }
-        requires most { f ≤ 49152 }
+        requires valid { IsPlaces f }
         ensures { IfOk result (λ g. g ≡ record { number = seed; input = replicate f false }) }
     {
         let input = Bits::zeros(alloc, f)?;

@@ -1,6 +1,7 @@
 //! What no clause says: that a flight opens with ample memory.
 
 ghost use Rattle.std.specs.Prelude.{◌≤◌};
+ghost use Rattle.bit_vectors.specs.Vectors.{IsPlaces};
 
 use bit_vectors::{Bits, NoMemory};
 use flight_chain::Flight;
@@ -9,8 +10,7 @@ use std::alloc::Global;
 use std::test::Fail;
 
 fn opens(alloc: Global, f: u32) -> Result<bool, NoMemory>
-    requires some { 1 ≤ f }
-    requires most { f ≤ 49152 }
+    requires valid { IsPlaces f }
 {
     let mask = Bits::zeros(alloc, f)?;
     let plan = Schedule::with_rows(alloc, &[])?;

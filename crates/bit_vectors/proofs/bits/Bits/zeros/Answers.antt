@@ -8,7 +8,7 @@ count : (c : In_ok-words) → c.div_ceil.result ≡ word_count c.args.f
 count c = search rules
 
 words : (c : In_ok-words) → AreWords c.in_ok-words.words.items c.args.f
-words c = AreWords-zeros _ _ _ c.in_ok-words.ensures.words (count c) c.requires.some c.requires.most
+words c = AreWords-zeros _ _ _ c.in_ok-words.ensures.words (count c) c.requires.valid.0 c.requires.valid.1
 
 pub invariant_of-result : goal.invariant_of-result
 invariant_of-result c = (words c, c.in_ok-words.ensures.full ∙ count c)

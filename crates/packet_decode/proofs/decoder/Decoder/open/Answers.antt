@@ -26,4 +26,4 @@ opened f latest shown room some most mask_number number mask content shown_is ro
 
 pub invariant_of-result : goal.invariant_of-result
 invariant_of-result c =
-    rw c.nothing.ensures (opened c.args.f _ _ _ c.requires.some c.requires.most c.in_ok-latest.ensures.mask_number c.in_ok-latest.ensures.content_number c.in_ok-latest.ensures.mask c.in_ok-latest.ensures.content c.in_ok-shown.ensures c.in_ok-room.ensures)
+    rw c.nothing.ensures (opened c.args.f _ _ _ c.requires.valid.0 c.requires.valid.1 c.in_ok-latest.ensures.mask_number c.in_ok-latest.ensures.content_number c.in_ok-latest.ensures.mask c.in_ok-latest.ensures.content c.in_ok-shown.ensures c.in_ok-room.ensures)
