@@ -4,6 +4,7 @@ ghost use Rattle.std.specs.Prelude.{◌≡◌, ◌≤◌, ◌++◌, List, Bool, 
 ghost use Rattle.bit_vectors.specs.Eye.{bits_left};
 ghost use Rattle.bit_vectors.specs.Reading.{MovesOn, Gives, IsFirstFault, parse_word};
 ghost use Rattle.count_code.specs.Code.{count_bits};
+ghost use Rattle.bit_vectors.specs.Vectors.{IsPlaces};
 
 use crate::word::count_word;
 use bit_vectors::{BitEye, BitFault};
@@ -11,8 +12,7 @@ use bit_vectors::{BitEye, BitFault};
 /// Takes the word of a count, which is from 1 to 49,152. The first bit that differs from it is wrong, and
 /// the bits end early if all that are left are a proper prefix of it.
 pub fn match_count(eye: &mut BitEye, a: u32) -> Result<(), BitFault>
-    requires some { 1 ≤ a }
-    requires most { a ≤ 49152 }
+    requires valid { IsPlaces a }
     ensures moves { MovesOn eye.old eye.new }
     ensures word { OnOk result (bits_left eye.old ≡ count_bits a ++ bits_left eye.new) }
     ensures only { (rest : List Bool) → bits_left eye.old ≡ count_bits a ++ rest → IsOk result }

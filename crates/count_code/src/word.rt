@@ -1,7 +1,7 @@
 //! The word of a count as one number (CCSDS 124.0-B-1).
 
 ghost use Rattle.std.specs.Prelude.{◌≡◌, ◌-◌, ◌+◌, ◌*◌, ◌^◌, ◌<◌, ◌≤◌};
-ghost use Rattle.bit_vectors.specs.Vectors.{number_bits};
+ghost use Rattle.bit_vectors.specs.Vectors.{IsPlaces, number_bits};
 ghost use Rattle.count_code.specs.Code.{digits, count_bits};
 
 /// The bits of a number in some width, the bit of the greatest weight first.
@@ -13,8 +13,7 @@ pub struct CountWord {
 
 /// The word of a count, which is from 1 to 49,152.
 pub fn count_word(a: u32) -> CountWord
-    requires some { 1 ≤ a }
-    requires most { a ≤ 49152 }
+    requires valid { IsPlaces a }
     ensures bits { number_bits result.width result.value ≡ count_bits a }
     ensures fits { result.value < 2 ^ result.width }
     ensures some { 1 ≤ result.width }

@@ -2,14 +2,14 @@
 
 ghost use Rattle.std.specs.Prelude.{◌≡◌, ◌+◌, ◌≤◌, ◌++◌, length};
 ghost use Rattle.count_code.specs.Code.{count_bits, end_bits};
+ghost use Rattle.bit_vectors.specs.Vectors.{IsPlaces};
 
 use crate::word::count_word;
 use bit_vectors::BitPen;
 
 /// The number of bits of the word of a count, at most 29. A count is from 1 to 49,152.
 pub fn count_len(a: u32) -> u32
-    requires some { 1 ≤ a }
-    requires most { a ≤ 49152 }
+    requires valid { IsPlaces a }
     ensures len { result ≡ length (count_bits a) }
     ensures most { result ≤ 29 }
 {
@@ -18,8 +18,7 @@ pub fn count_len(a: u32) -> u32
 
 /// Appends the word of a count, which is from 1 to 49,152.
 pub fn put_count(pen: &mut BitPen, a: u32)
-    requires some { 1 ≤ a }
-    requires most { a ≤ 49152 }
+    requires valid { IsPlaces a }
     requires room { length pen.old.bits + length (count_bits a) ≤ pen.old.room }
     ensures bits { pen.new.bits ≡ pen.old.bits ++ count_bits a }
     ensures room { pen.new.room ≡ pen.old.room }

@@ -5,6 +5,7 @@ pub mod Runs
 pub mod Courses
 pub mod Steps
 pub mod Parts
+pub mod WalkTurns
 pub mod Logs
 pub mod Cursors
 pub mod Held

@@ -6,6 +6,7 @@ pub mod Courses
 pub mod Turns
 pub mod Writings
 pub mod Parts
+pub mod WalkWorks
 pub mod FileDesk
 pub mod Log
 pub mod MemState

@@ -2,6 +2,8 @@
 use Rattle.std.proofs.Common.{length-append, ◌≡◌, ℕ, ◌+◌, ◌%◌, Bool, List, [], ◌∷◌, ◌++◌, length, refl, sym, ap, ◌∙◌, subst, append_assoc, append-nil, arith}
 use Rattle.desk_ports.specs.Meanings.{Meanings}
 use Rattle.desk_ports.specs.Courses.{Work, no_outputs, to_output, AfterStop}
+use Rattle.desk_ports.specs.WalkWorks.{work_on}
+use Rattle.desk_ports.proofs.WalkTurns.{AfterStop-on, GoesOn, IsDone, TakesItem}
 use Rattle.side_tables.specs.Rows.{flags_of}
 use Rattle.mask_update.specs.Histories.{History, step_of, with_step}
 use Rattle.mask_update.proofs.HistoriesOf.{length-history_of, history_of-push}
@@ -10,20 +12,18 @@ use Rattle.packet_encode.specs.Packets.{with_next_input}
 use Rattle.packet_store.specs.SpacePackets.{period, space_packet}
 use Rattle.flight_chain.specs.declared.compressing.Compressing.{Compressing}
 use Rattle.flight_chain.specs.declared.fault.RecordFault.{RecordFault}
-use Rattle.flight_chain.specs.declared.fault.RecordFault.TheVariants.{CutRecord, SpareBit, TooMany}
 use Rattle.flight_chain.specs.declared.reading.Unread.{Unread}
-use Rattle.flight_chain.specs.declared.reading.Unread.TheVariants as unread
-use Rattle.flight_chain.specs.Reading.{Takes, AfterUnread, fault_by, stop_of}
-use Rattle.flight_chain.specs.RecordWorks.{work_on}
+use Rattle.flight_chain.specs.Reading.{Takes, AfterUnread, fault_by}
+use Rattle.flight_chain.specs.Recordings.{walk_over}
 use Rattle.flight_chain.specs.Stores.{data_at}
 use Rattle.flight_chain.specs.Compressing.{Compression, history_by, HasTaken, left_to_compress, next_packet, required_robustness, rest_work, stop_by, with_packet}
-use Rattle.flight_chain.proofs.RecordTurns.{AfterStop-on, GoesOn, IsDone, ReadsInput}
+use Rattle.flight_chain.proofs.RecordTurns.{AfterWalk-recording, TakesItem-recording}
 
 length-push : (inputs : List (List Bool)) (input : List Bool) → length (inputs ++ input ∷ []) ≡ length inputs + 1
 length-push inputs input = omega (arith, length-append inputs (input ∷ []))
 
 -- its Space Packet is owed for an input, and the rest is left to do after one more
-GoesOn-compress : (k : Compression) (inputs : List (List Bool)) (input : List Bool) → GoesOn (left_to_compress k inputs) (left_to_compress k (inputs ++ input ∷ [])) input (to_output (next_packet k inputs input))
+pub GoesOn-compress : (k : Compression) (inputs : List (List Bool)) (input : List Bool) → GoesOn (left_to_compress k inputs) (left_to_compress k (inputs ++ input ∷ [])) input (to_output (next_packet k inputs input))
 GoesOn-compress k inputs input = record {
   before = λ more. refl;
   answer = λ more. ap length (sym (append_assoc inputs (input ∷ []) more));
@@ -33,13 +33,6 @@ GoesOn-compress k inputs input = record {
 -- after the last input nothing more is owed
 pub IsDone-compress : (k : Compression) (inputs : List (List Bool)) (n : ℕ) → n ≡ length inputs → IsDone (left_to_compress k inputs) no_outputs n
 IsDone-compress k inputs n number = record { nothing = refl; last_is = refl; answer_is = ap length (append-nil inputs) ∙ sym number }
-
--- a fault of a packet that was not read, as a reason to end the run
-stop_by-fault_by : (u : Unread) → stop_by (fault_by u) ≡ stop_of u
-stop_by-fault_by (unread.Data (CutRecord t)) = refl
-stop_by-fault_by (unread.Data (SpareBit t)) = refl
-stop_by-fault_by (unread.Data TooMany) = refl
-stop_by-fault_by unread.ReadFault = refl
 
 -- the history of one more input
 history_by-push : (k : Compression) (inputs : List (List Bool)) (input : List Bool) (t : ℕ) → t ≡ length inputs
@@ -63,7 +56,7 @@ AfterStop-next k inputs s f t before a b work u taken places number is after =
     let f_is = sym places ∙ taken.places in
     let t_is = number ∙ HasTaken-number k inputs s taken in
     let here = subst (λ (n : ℕ). AfterUnread k.places n before a b u) t_is (subst (λ (n : ℕ). AfterUnread n t before a b u) f_is after) in
-    subst (AfterStop work.course a b) (sym (stop_by-fault_by u)) (AfterStop-on (left_to_compress k inputs) work k.places (length inputs) before a b u is refl here)
+    AfterStop-on (left_to_compress k inputs) (walk_over k.places (length inputs) before) work a b (stop_by (fault_by u)) is refl (AfterWalk-recording k.places (length inputs) before a b u here)
 
 module _ (k : Compression) (inputs : List (List Bool)) (s : Compressing) (taken : HasTaken k inputs s) (t : ℕ) (number : t ≡ length inputs) (input : List Bool) where
   -- the history with the next input
@@ -94,7 +87,7 @@ module _ (k : Compression) (inputs : List (List Bool)) (s : Compressing) (taken 
 -- the next packet was read: its number is t, the encoder stands for the inputs before it, and what is then written is owed
 pub record IsNext (k : Compression) (inputs : List (List Bool)) (s : Compressing) (t : ℕ) (before after : List ℕ) (a b : Meanings) (input : List Bool) : Type 0 where
   pub taken : HasTaken k inputs s
-  pub reads : ReadsInput (left_to_compress k inputs) (left_to_compress k (inputs ++ input ∷ [])) k.places (length inputs) before after a b (to_output (next_packet k inputs input))
+  pub takes : TakesItem (walk_over k.places (length inputs) before) (walk_over k.places (length inputs + 1) after) a b input
   pub number : t ≡ length inputs
   pub packet : space_packet s.writer.apid (t % period) (data_at (with_packet (history_by k inputs) s input t) (length (history_by k inputs).steps)) ≡ next_packet k inputs input
 
@@ -105,15 +98,11 @@ IsNext-read k inputs s f t' t before after a b input taken places kept number ta
     let t_is = kept ∙ HasTaken-number k inputs s taken in
     record {
       taken = taken;
-      reads = record {
-        input = input;
-        takes = subst (λ (n : ℕ). Takes k.places n before after a b input) t_is (subst (λ (n : ℕ). Takes n t' before after a b input) f_is takes);
-        goes_on = GoesOn-compress k inputs input;
-      };
+      takes = TakesItem-recording (subst (λ (n : ℕ). Takes k.places n before after a b input) t_is (subst (λ (n : ℕ). Takes n t' before after a b input) f_is takes));
       number = number ∙ t_is;
       packet = next_packet-is k inputs s taken t (number ∙ t_is) input;
     }
 
 -- after it the rest of the recording is left to do
-pub rest_work-next : (k : Compression) (inputs : List (List Bool)) (input : List Bool) (after ahead : List ℕ) → ahead ≡ after → work_on (left_to_compress k (inputs ++ input ∷ [])) k.places (length inputs + 1) after ≡ rest_work k (inputs ++ input ∷ []) ahead
-rest_work-next k inputs input after ahead is = λ i. work_on (left_to_compress k (inputs ++ input ∷ [])) k.places (sym (length-push inputs input) i) (sym is i)
+pub rest_work-next : (k : Compression) (inputs : List (List Bool)) (input : List Bool) (after ahead : List ℕ) → ahead ≡ after → work_on (left_to_compress k (inputs ++ input ∷ [])) (walk_over k.places (length inputs + 1) after) ≡ rest_work k (inputs ++ input ∷ []) ahead
+rest_work-next k inputs input after ahead is = λ i. work_on (left_to_compress k (inputs ++ input ∷ [])) (walk_over k.places (sym (length-push inputs input) i) (sym is i))

@@ -16,10 +16,10 @@ use Rattle.packet_encode.proofs.Earlier.{packet_at-before}
 use Rattle.packet_store.specs.SpacePackets.{period, space_packet, store_bytes}
 use Rattle.side_tables.specs.Rows.{flags_of, robust_of}
 use Rattle.flight_chain.specs.Stores.{data_at, numbered_data, store_of}
-use Rattle.flight_chain.specs.Recordings.{recording_walk}
+use Rattle.flight_chain.specs.Recordings.{recording_walk, walk_over}
 use Rattle.flight_chain.specs.Compressing.{Compression, history_by, next_packet, further_packets, compress_course, left_to_compress, required_robustness}
-use Rattle.flight_chain.specs.RecordWorks.{course_on}
 use Rattle.desk_ports.specs.Courses.{to_output}
+use Rattle.desk_ports.specs.WalkWorks.{course_on}
 
 -- bits that are the same in whole bytes have the same bytes
 vector_bytes-same : (a b : List Bool) → padded a ≡ padded b → vector_bytes a ≡ vector_bytes b
@@ -60,7 +60,7 @@ store_of-further k inputs (input ∷ more) =
     ∙ append_assoc (store_of (history_by k inputs) k.apid) (next_packet k inputs input) (further_packets k (inputs ++ input ∷ []) more)))
 
 -- a whole recording is owed from its first packet on
-pub course_on-first : (k : Compression) (recording : List ℕ) → course_on (left_to_compress k []) k.places 0 [] recording ≡ compress_course k recording
+pub course_on-first : (k : Compression) (recording : List ℕ) → course_on (left_to_compress k []) (walk_over k.places 0 []) recording ≡ compress_course k recording
 course_on-first k recording = ap (λ (output : List ℕ). record (compress_course k recording) { before = to_output output }) (sym (store_of-further k [] (recording_walk k.places recording).inputs))
 
 -- ---- schedules that give no required robustness

@@ -6,4 +6,3 @@ mod Readings
 mod CompressCourses
 mod Flights
 pub mod RecordTurns
-pub mod RecordParts

@@ -6,6 +6,7 @@ use Rattle.desk_ports.specs.declared.desk.Outlet.TheVariants as outlet
 use Rattle.desk_ports.specs.Stop.{Stop}
 use Rattle.desk_ports.specs.Stop as stop
 use Rattle.desk_ports.specs.Courses.{Course, Work, no_outputs, to_output}
+use Rattle.desk_ports.specs.WalkWorks.{WalkWork, work_on}
 use Rattle.mask_update.specs.Histories.{History, history_of}
 use Rattle.side_tables.specs.declared.rows.RobustRow.{RobustRow}
 use Rattle.side_tables.specs.Rows.{ScheduleRows, flags_of, robust_of}
@@ -17,8 +18,7 @@ use Rattle.flight_chain.specs.declared.fault.RecordFault.{RecordFault}
 use Rattle.flight_chain.specs.declared.fault.FlightFault.{FlightFault}
 use Rattle.flight_chain.specs.declared.fault.RecordFault.TheVariants as record_fault
 use Rattle.flight_chain.specs.declared.fault.FlightFault.TheVariants.{CutRecord, SpareBit, TooMany, ReadFault, WriteFault}
-use Rattle.flight_chain.specs.Recordings.{recording_walk}
-use Rattle.flight_chain.specs.RecordWorks.{RecordWork, work_on}
+use Rattle.flight_chain.specs.Recordings.{recording_walk, walk_over}
 use Rattle.flight_chain.specs.Stores.{data_at, store_of}
 
 -- a flight that has read nothing: the places of its vectors, the required robustness of packets to which the schedule gives
@@ -93,7 +93,7 @@ further_packets k inputs [] = []
 further_packets k inputs (input ∷ more) = next_packet k inputs input ++ further_packets k (inputs ++ input ∷ []) more
 
 -- what is left to do after these inputs: the packets of further ones are owed, and the answer is the number of all
-abbrev pub left_to_compress : Compression → List (List Bool) → RecordWork ℕ
+abbrev pub left_to_compress : Compression → List (List Bool) → WalkWork (List Bool) ℕ
 left_to_compress k inputs = record {
   before = λ more. to_output (further_packets k inputs more);
   answer = λ more. length (inputs ++ more);
@@ -102,7 +102,7 @@ left_to_compress k inputs = record {
 
 -- the work of compressing what is ahead and what is left of the recording
 abbrev pub rest_work : Compression → List (List Bool) → List ℕ → Work ℕ RecordFault
-rest_work k inputs ahead = work_on (left_to_compress k inputs) k.places (length inputs) ahead
+rest_work k inputs ahead = work_on (left_to_compress k inputs) (walk_over k.places (length inputs) ahead)
 
 -- the input has as many places as the mask, and the pen has room for its packet
 pub record IsCompressing (s : Compressing) : Type 0 where

@@ -1,8 +1,9 @@
 -- Recordings: packets of one length one after the other, each the bytes of an input vector. The walk over one: the inputs of
 -- its packets in order, and how it ends.
-use Rattle.std.specs.Prelude.{ℕ, zero, suc, ◌+◌, ◌^◌, Bool, ◌==◌, nat_lt, if◌then◌else◌, List, [], ◌∷◌, length, take, drop, Option, Some, None}
+use Rattle.std.specs.Prelude.{ℕ, zero, suc, ◌+◌, ◌^◌, Bool, ◌==◌, nat_lt, if◌then◌else◌, List, [], ◌∷◌, ◌++◌, length, take, drop, Option, Some, None}
 use Rattle.std.specs.List.{flat_map}
 use Rattle.bit_vectors.specs.Vectors.{bits_of, byte_count, has_spare_bit, vector_bytes}
+use Rattle.desk_ports.specs.WalkWorks.{WalkOver}
 use Rattle.flight_chain.specs.declared.fault.RecordFault.{RecordFault}
 use Rattle.flight_chain.specs.declared.fault.RecordFault.TheVariants.{CutRecord, SpareBit, TooMany}
 
@@ -61,6 +62,10 @@ recording_walk_by (suc steps) f t bytes = recording_step f t bytes (λ rest. rec
 -- the walk over the rest of a recording, which goes on with the packet t
 unfoldable pub recording_walk_from : ℕ → ℕ → List ℕ → RecordingWalk
 recording_walk_from f t bytes = recording_walk_by (length bytes) f t bytes
+
+-- the same over the bytes that are ahead and then those that are left: its inputs, and how it ends
+abbrev pub walk_over : ℕ → ℕ → List ℕ → WalkOver (List Bool) RecordFault
+walk_over f t ahead = record { items = λ bytes. (recording_walk_from f t (ahead ++ bytes)).inputs; ending = λ bytes. (recording_walk_from f t (ahead ++ bytes)).ending }
 
 -- the walk over a recording, if vectors have f places
 abbrev pub recording_walk : ℕ → List ℕ → RecordingWalk

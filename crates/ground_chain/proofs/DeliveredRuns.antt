@@ -15,11 +15,12 @@ use Rattle.packet_store.specs.Walks.{Walk, walk}
 use Rattle.flight_chain.specs.Stores.{store_of}
 use Rattle.loss_player.specs.Gaps.{AreGapsShort}
 use Rattle.loss_player.specs.Played.{played_bytes}
-use Rattle.ground_chain.specs.declared.fault.RestoreFault.{RestoreFault}
+use Rattle.packet_store.specs.declared.fault.RunFault.{RunFault}
 use Rattle.ground_chain.specs.declared.restored.Restored.{Restored}
 use Rattle.ground_chain.specs.Run.{run}
 use Rattle.ground_chain.specs.Report.{end_row, header_row, restored_of, run_bytes, run_report, run_rows}
-use Rattle.ground_chain.specs.Restoring.{restore_course, restore_work, stop_by, store_run}
+use Rattle.packet_store.specs.Faults.{stop_by}
+use Rattle.ground_chain.specs.Restoring.{restore_course, restore_work, store_run}
 use Rattle.ground_chain.specs.Deliveries.{IsDelivered, IsPlayed, delivered_numbers, report_text, restored_bytes, history_arrivals}
 use Rattle.ground_chain.proofs.HistoryBytes.{bytes-history}
 use Rattle.ground_chain.proofs.HistoryNumbers.{numbers-history}
@@ -88,11 +89,11 @@ IsOk-played f apid work h copies a b old new (Err ReadFault) ends_so played few 
 IsOk-played f apid work h copies a b old new (Err WriteFault) ends_so played few ran cause reads writes = absurd (writes (Rose-writes old new cause))
 
 -- the same of an answer with a fault of a run
-pub IsOk-run : (f apid : ℕ) (work : Work Restored WalkFault) (h : History) (copies : ℕ → ℕ) (a b : Meanings) (old new : Counts) (result : Result Restored RestoreFault) → ((store : List ℕ) → (work.course store).ending ≡ (walk (Some apid) store).ending)
+pub IsOk-run : (f apid : ℕ) (work : Work Restored WalkFault) (h : History) (copies : ℕ → ℕ) (a b : Meanings) (old new : Counts) (result : Result Restored RunFault) → ((store : List ℕ) → (work.course store).ending ≡ (walk (Some apid) store).ending)
     → IsPlayed f apid h copies a → length (arrivals copies (length h.steps)) ≤ 2 ^ 32 → AfterRun work a b (by_stop stop_by result) → HasCause old new (by_stop stop_by result)
     → (Rose old.reads new.reads → ⊥) → (Rose old.writes new.writes → ⊥) → IsOk result
 IsOk-run f apid work h copies a b old new result ends_so played few ran cause reads writes =
     of_stop result (IsOk-played f apid work h copies a b old new (by_stop stop_by result) ends_so played few ran cause reads writes) where
-      of_stop : (r : Result Restored RestoreFault) → IsOk (by_stop stop_by r) → IsOk r
+      of_stop : (r : Result Restored RunFault) → IsOk (by_stop stop_by r) → IsOk r
       of_stop (Ok restored) ok = refl
       of_stop (Err fault) ok = absurd cc

@@ -7,15 +7,15 @@ use Rattle.desk_ports.specs.Courses.{Outputs, Course, Work, no_outputs, to_repor
 use Rattle.desk_ports.specs.Turns.{Steps}
 use Rattle.desk_ports.specs.declared.desk.Outlet.{Outlet}
 use Rattle.desk_ports.specs.Parts.{EndsWithin, IsFrontBy, if_whole}
+use Rattle.desk_ports.specs.WalkWorks.{parts_on}
 use Rattle.desk_ports.proofs.Parts.{EndsWithin-first}
+use Rattle.desk_ports.proofs.WalkTurns.{GoesOn, IsDone, PartsGoOn}
 use Rattle.packet_store.specs.declared.reader.Taken.{Taken}
 use Rattle.packet_store.specs.declared.fault.WalkFault.{WalkFault}
 use Rattle.packet_store.specs.SpacePackets.{Packet, is_chosen}
-use Rattle.packet_store.specs.StoreReader.{ReaderState, Takes}
-use Rattle.packet_store.specs.StoreWorks.{parts_on}
+use Rattle.packet_store.specs.StoreReader.{ReaderState, Takes, walk_over}
 use Rattle.packet_store.specs.Walks.{walk}
-use Rattle.packet_store.proofs.StoreTurns.{packet_of, ReadsPacket, IsDone}
-use Rattle.packet_store.proofs.StoreParts.{ReadsParts}
+use Rattle.packet_store.proofs.StoreTurns.{packet_of}
 use Rattle.ground_chain.specs.declared.restored.Restored.{Restored}
 use Rattle.ground_chain.specs.declared.receiving.Receiving.{Receiving}
 use Rattle.ground_chain.specs.Run.{Arrival, Judged}
@@ -46,27 +46,21 @@ run-passed s reader a b given takes other packets =
     ∙ ap (λ chosen. next_run s.judging (arrivals_of chosen packets)) (same_chosen s.reader reader a b given takes)
 
 -- so what is owed is what the packets after it owe
-pub Reads-passed : {A : Type 0} (texts : Texts) (s : Receiving A) (reader : ReaderState) (a b : Meanings) (given : Taken) → Takes s.reader reader a b given → given.chosen ≡ false
-    → ReadsPacket (left_to_receive texts s) (left_to_receive texts (record s { reader = reader })) s.reader reader a b no_outputs
-Reads-passed texts s reader a b given takes other =
+pub GoesOn-passed : {A : Type 0} (texts : Texts) (s : Receiving A) (reader : ReaderState) (a b : Meanings) (given : Taken) (takes : Takes s.reader reader a b given) → given.chosen ≡ false
+    → GoesOn (left_to_receive texts s) (left_to_receive texts (record s { reader = reader })) (packet_of takes.header reader) no_outputs
+GoesOn-passed texts s reader a b given takes other =
     let run = run-passed s reader a b given takes other in
     record {
-      given = given;
-      takes = takes;
-      goes_on = record {
-        before = λ packets. ap (all_parts texts) (run packets);
-        answer = λ packets. ap (λ (l : List Judged). added s.judging.restored (restored_of l)) (run packets);
-        after = λ packets. ap (λ (l : List Judged). texts.last (added s.judging.restored (restored_of l))) (run packets);
-      };
+      before = λ packets. ap (all_parts texts) (run packets);
+      answer = λ packets. ap (λ (l : List Judged). added s.judging.restored (restored_of l)) (run packets);
+      after = λ packets. ap (λ (l : List Judged). texts.last (added s.judging.restored (restored_of l))) (run packets);
     }
 
-pub ReadsParts-passed : {A : Type 0} (texts : Texts) (s : Receiving A) (reader : ReaderState) (a b : Meanings) (given : Taken) → Takes s.reader reader a b given → given.chosen ≡ false
-    → ReadsParts (parts_left texts s) (parts_left texts (record s { reader = reader })) s.reader reader a b []
-ReadsParts-passed texts s reader a b given takes other =
+pub PartsGoOn-passed : {A : Type 0} (texts : Texts) (s : Receiving A) (reader : ReaderState) (a b : Meanings) (given : Taken) (takes : Takes s.reader reader a b given) → given.chosen ≡ false
+    → PartsGoOn (parts_left texts s) (parts_left texts (record s { reader = reader })) (packet_of takes.header reader) []
+PartsGoOn-passed texts s reader a b given takes other =
     let run = run-passed s reader a b given takes other in
     record {
-      given = given;
-      takes = takes;
       before = λ packets. ap (λ (l : List Judged). map texts.parts l) (run packets);
       after = λ packets. ap (λ (l : List Judged). texts.last (added s.judging.restored (restored_of l)) ∷ []) (run packets);
     }
@@ -84,26 +78,20 @@ numbers-read s t a b given takes own is packets =
     ap (λ (l : List Arrival). added s.judging.restored (restored_of (next_run s.judging l))) (arrivals-read s t a b given takes own packets) ∙ added-judged is (arrivals_of t.reader.chosen packets)
 
 -- what is written of it is owed, and after it what the packets after it owe
-pub Reads-judged : {A : Type 0} (texts : Texts) (s t : Receiving A) (a b : Meanings) (given : Taken) → Takes s.reader t.reader a b given → given.chosen ≡ true → Judges s.judging t.judging given.count t.reader.body
-    → ReadsPacket (left_to_receive texts s) (left_to_receive texts t) s.reader t.reader a b (texts.parts (next_judged s.judging.reception given.count t.reader.body))
-Reads-judged texts s t a b given takes own is =
+pub GoesOn-judged : {A : Type 0} (texts : Texts) (s t : Receiving A) (a b : Meanings) (given : Taken) (takes : Takes s.reader t.reader a b given) → given.chosen ≡ true → Judges s.judging t.judging given.count t.reader.body
+    → GoesOn (left_to_receive texts s) (left_to_receive texts t) (packet_of takes.header t.reader) (texts.parts (next_judged s.judging.reception given.count t.reader.body))
+GoesOn-judged texts s t a b given takes own is =
     let arrivals = arrivals-read s t a b given takes own in
     let numbers = numbers-read s t a b given takes own is in
     record {
-      given = given;
-      takes = takes;
-      goes_on = record {
-        before = λ packets. ap (λ (l : List Arrival). all_parts texts (next_run s.judging l)) (arrivals packets) ∙ all_parts-judged is texts (arrivals_of t.reader.chosen packets);
-        answer = numbers;
-        after = λ packets. ap texts.last (numbers packets);
-      };
+      before = λ packets. ap (λ (l : List Arrival). all_parts texts (next_run s.judging l)) (arrivals packets) ∙ all_parts-judged is texts (arrivals_of t.reader.chosen packets);
+      answer = numbers;
+      after = λ packets. ap texts.last (numbers packets);
     }
 
-pub ReadsParts-judged : {A : Type 0} (texts : Texts) (s t : Receiving A) (a b : Meanings) (given : Taken) → Takes s.reader t.reader a b given → given.chosen ≡ true → Judges s.judging t.judging given.count t.reader.body
-    → ReadsParts (parts_left texts s) (parts_left texts t) s.reader t.reader a b (texts.parts (next_judged s.judging.reception given.count t.reader.body) ∷ [])
-ReadsParts-judged texts s t a b given takes own is = record {
-  given = given;
-  takes = takes;
+pub PartsGoOn-judged : {A : Type 0} (texts : Texts) (s t : Receiving A) (a b : Meanings) (given : Taken) (takes : Takes s.reader t.reader a b given) → given.chosen ≡ true → Judges s.judging t.judging given.count t.reader.body
+    → PartsGoOn (parts_left texts s) (parts_left texts t) (packet_of takes.header t.reader) (texts.parts (next_judged s.judging.reception given.count t.reader.body) ∷ [])
+PartsGoOn-judged texts s t a b given takes own is = record {
   before = λ packets. ap (λ (l : List Arrival). map texts.parts (next_run s.judging l)) (arrivals-read s t a b given takes own packets) ∙ ap (λ (l : List Judged). map texts.parts l) (next_run-judged is (arrivals_of t.reader.chosen packets));
   after = λ packets. ap (λ (r : Restored). texts.last r ∷ []) (numbers-read s t a b given takes own is packets);
 }
@@ -148,16 +136,16 @@ Steps-unread {A = A} texts s course first is same =
 pub restore_course-is : (f apid : ℕ) (store : List ℕ) → restore_course f apid store ≡ written_first (to_report header_row) (store_course restored_texts f apid store)
 restore_course-is f apid store = refl
 
-restore_parts-none : (A : Type 0) (f apid : ℕ) (store : List ℕ) → restore_parts f apid store ≡ to_report header_row ∷ parts_on (parts_left restored_texts (nothing_received {A = A} f apid)) (nothing_received {A = A} f apid).reader store
+restore_parts-none : (A : Type 0) (f apid : ℕ) (store : List ℕ) → restore_parts f apid store ≡ to_report header_row ∷ parts_on (parts_left restored_texts (nothing_received {A = A} f apid)) (walk_over (nothing_received {A = A} f apid).reader) store
 restore_parts-none A f apid store =
     let run = store_run f apid store in
     let counted = sym (none-added (restored_of run)) in
     λ i. to_report header_row ∷ map restored_texts.parts run ++ if_whole (walk (Some apid) store).ending (to_report (end_row (counted i)) ∷ [])
 
 -- and part by part
-pub restore_parts-unread : {A : Type 0} (s : Receiving A) → IsUnread s → (store : List ℕ) → restore_parts (receiving_state s).places (receiving_state s).apid store ≡ to_report header_row ∷ parts_on (parts_left restored_texts s) s.reader store
+pub restore_parts-unread : {A : Type 0} (s : Receiving A) → IsUnread s → (store : List ℕ) → restore_parts (receiving_state s).places (receiving_state s).apid store ≡ to_report header_row ∷ parts_on (parts_left restored_texts s) (walk_over s.reader) store
 restore_parts-unread {A = A} s is store =
-    subst (λ (r : Receiving A). restore_parts (receiving_state s).places (receiving_state s).apid store ≡ to_report header_row ∷ parts_on (parts_left restored_texts r) r.reader store) (sym is)
+    subst (λ (r : Receiving A). restore_parts (receiving_state s).places (receiving_state s).apid store ≡ to_report header_row ∷ parts_on (parts_left restored_texts r) (walk_over r.reader) store) (sym is)
     (restore_parts-none A (receiving_state s).places (receiving_state s).apid store)
 
 no_report : (judged : List Judged) → flat_map (λ (j : Judged). (listed_texts.parts j).report) judged ≡ []

@@ -3,17 +3,12 @@ use Rattle.std.specs.Prelude.{◌≡◌, ℕ, List, [], ◌∷◌, ◌++◌, map
 use Rattle.std.specs.List.{filter}
 use Rattle.std.specs.Vec.{vec_capacity}
 use Rattle.bit_vectors.specs.Vectors.{byte_count}
-use Rattle.desk_ports.specs.Stop.{Stop}
-use Rattle.desk_ports.specs.Stop as stop
 use Rattle.desk_ports.specs.declared.desk.Outlet.TheVariants as outlet
 use Rattle.desk_ports.specs.Courses.{Course, Outputs, Work, to_report}
 use Rattle.desk_ports.specs.Parts.{if_whole}
 use Rattle.packet_store.specs.declared.fault.WalkFault.{WalkFault}
 use Rattle.packet_store.specs.SpacePackets.{Packet, is_chosen}
 use Rattle.packet_store.specs.Walks.{walk}
-use Rattle.packet_store.specs.Faults.{stop_of}
-use Rattle.ground_chain.specs.declared.fault.RestoreFault.{RestoreFault}
-use Rattle.ground_chain.specs.declared.fault.RestoreFault.TheVariants as restore
 use Rattle.ground_chain.specs.declared.reporting.Reporting.{Reporting}
 use Rattle.ground_chain.specs.declared.restored.Restored.{Restored}
 use Rattle.ground_chain.specs.Run.{Arrival, Judged, run}
@@ -47,11 +42,6 @@ store_work course f apid = record { course = course; answer = λ store. restored
 -- the work of restoring a store
 abbrev pub restore_work : ℕ → ℕ → Work Restored WalkFault
 restore_work f apid = store_work (restore_course f apid) f apid
-
--- a fault, as a reason to end a run
-abbrev pub stop_by : RestoreFault → Stop WalkFault
-stop_by (restore.Store fault) = stop_of fault
-stop_by restore.WriteFault = stop.WriteFault
 
 -- what is written of the arrivals: the rows of each, and then its content if it is written
 abbrev pub restored_texts : Texts

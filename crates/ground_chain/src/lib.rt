@@ -5,7 +5,6 @@ mod account;
 mod arrivals;
 mod deliveries;
 mod digits;
-mod fault;
 mod judging;
 mod laws;
 mod lines;
@@ -28,7 +27,6 @@ pub use deliveries::{
     played_histories_arrive, rows_tell_of_listed_packets, unwritten_packets_are_reported,
     worked_deliveries, written_packets_are_restored,
 };
-pub use fault::RestoreFault;
 pub use judging::Judging;
 pub use laws::{
     contents_have_the_places, every_number_once, fronts_owe_fronts, numbers_are_the_next_ones,
@@ -37,6 +35,7 @@ pub use laws::{
     whole_stores_owe_their_run, worked_runs,
 };
 pub use lister::Lister;
+pub use packet_store::RunFault as RestoreFault;
 pub use refusals::{
     commands_follow_the_exact_run, refused_means_lost, worked_refusals, wrong_bits_are_the_first,
 };

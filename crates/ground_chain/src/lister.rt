@@ -7,10 +7,10 @@ ghost use Rattle.mask_update.specs.Histories.{History};
 ghost use Rattle.packet_encode.specs.Deliveries.{arrivals};
 ghost use Rattle.ground_chain.specs.Deliveries.{IsPlayed};
 ghost use Rattle.ground_chain.specs.Listing.{listing_work};
-ghost use Rattle.ground_chain.specs.Restoring.{stop_by};
+ghost use Rattle.packet_store.specs.Faults.{stop_by};
 ghost use Rattle.bit_vectors.specs.Vectors.{IsPlaces};
 
-use crate::fault::RestoreFault;
+use crate::RestoreFault;
 use crate::listing::Listing;
 use crate::receiving::Receiving;
 use crate::restored::Restored;

@@ -3,8 +3,8 @@
 ghost use Rattle.std.specs.Prelude.{◌≡◌, ◌-◌, ◌^◌, ◌≤◌, IfOk};
 ghost use Rattle.bit_vectors.specs.Vectors.{IsPlaces};
 
+use crate::RestoreFault;
 use crate::account::Account;
-use crate::fault::RestoreFault;
 use crate::judging::Judging;
 use crate::restored::Restored;
 use bit_vectors::NoMemory;
@@ -26,7 +26,7 @@ impl<A: Account> Run for Receiving<A> {
 
     type Data = WalkFault;
 
-    ghost use Rattle.ground_chain.specs.Restoring.{stop_by};
+    ghost use Rattle.packet_store.specs.Faults.{stop_by};
     ghost use Rattle.ground_chain.specs.Receiving.{Owes, OwesParts};
 
     ghost owes = { Owes A.texts };

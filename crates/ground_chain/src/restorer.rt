@@ -7,10 +7,11 @@ ghost use Rattle.desk_ports.specs.Parts.{InParts};
 ghost use Rattle.mask_update.specs.Histories.{History};
 ghost use Rattle.packet_encode.specs.Deliveries.{arrivals};
 ghost use Rattle.ground_chain.specs.Deliveries.{IsDelivered, IsPlayed};
-ghost use Rattle.ground_chain.specs.Restoring.{restore_parts, restore_work, stop_by};
+ghost use Rattle.packet_store.specs.Faults.{stop_by};
+ghost use Rattle.ground_chain.specs.Restoring.{restore_parts, restore_work};
 ghost use Rattle.bit_vectors.specs.Vectors.{IsPlaces};
 
-use crate::fault::RestoreFault;
+use crate::RestoreFault;
 use crate::receiving::Receiving;
 use crate::report::HEADER;
 use crate::reporting::Reporting;

@@ -11,10 +11,10 @@ use Rattle.desk_ports.proofs.Courses.{Ends-told, Finishes-told}
 use Rattle.mask_update.specs.Histories.{History, IsValid}
 use Rattle.packet_store.specs.declared.fault.WalkFault.{WalkFault}
 use Rattle.packet_store.specs.Walks.{walk}
-use Rattle.ground_chain.specs.declared.fault.RestoreFault.{RestoreFault}
+use Rattle.packet_store.specs.declared.fault.RunFault.{RunFault}
 use Rattle.ground_chain.specs.Run.{Arrival, run}
 use Rattle.ground_chain.specs.Report.{end_row, header_row, restored_of, run_bytes, run_report}
-use Rattle.ground_chain.specs.Restoring.{stop_by}
+use Rattle.packet_store.specs.Faults.{stop_by}
 use Rattle.ground_chain.specs.Deliveries.{arrival_at, delivered_numbers, history_arrivals, report_text, restored_bytes}
 use Rattle.ground_chain.proofs.HistoryBytes.{bytes-history}
 use Rattle.ground_chain.proofs.HistoryNumbers.{numbers-history}
@@ -65,7 +65,7 @@ IsLateDelivered-done f apid window h copies done a b played is =
       numbers = Finishes-told (late_work f apid window) a b done store played.input is ∙ numbers_are;
     }
 
-pub IsLateDelivered-run : (f apid window : ℕ) (h : History) (copies : ℕ → ℕ) (a b : Meanings) (result : Result LateDone RestoreFault) → IsLatePlayed f apid window h copies a → AfterRun (late_work f apid window) a b (by_stop stop_by result)
+pub IsLateDelivered-run : (f apid window : ℕ) (h : History) (copies : ℕ → ℕ) (a b : Meanings) (result : Result LateDone RunFault) → IsLatePlayed f apid window h copies a → AfterRun (late_work f apid window) a b (by_stop stop_by result)
     → IfOk result (λ done. IsLateDelivered h copies done a b)
 IsLateDelivered-run f apid window h copies a b (Ok done) played ran = IsLateDelivered-done f apid window h copies done a b played ran
 IsLateDelivered-run f apid window h copies a b (Err fault) played ran = tt
@@ -80,10 +80,10 @@ IsOk-whole f apid window store a b old new (Err (Data reason)) input whole ran c
 IsOk-whole f apid window store a b old new (Err ReadFault) input whole ran cause reads writes = absurd (reads (Rose-reads old new cause))
 IsOk-whole f apid window store a b old new (Err WriteFault) input whole ran cause reads writes = absurd (writes (Rose-writes old new cause))
 
-pub IsOk-run : (f apid window : ℕ) (store : List ℕ) (a b : Meanings) (old new : Counts) (result : Result LateDone RestoreFault) → left a inlet.Main ≡ Some store → (walk (Some apid) store).ending ≡ None
+pub IsOk-run : (f apid window : ℕ) (store : List ℕ) (a b : Meanings) (old new : Counts) (result : Result LateDone RunFault) → left a inlet.Main ≡ Some store → (walk (Some apid) store).ending ≡ None
     → AfterRun (late_work f apid window) a b (by_stop stop_by result) → HasCause old new (by_stop stop_by result) → (Rose old.reads new.reads → ⊥) → (Rose old.writes new.writes → ⊥) → IsOk result
 IsOk-run f apid window store a b old new result input whole ran cause reads writes =
     of_stop result (IsOk-whole f apid window store a b old new (by_stop stop_by result) input whole ran cause reads writes) where
-      of_stop : (r : Result LateDone RestoreFault) → IsOk (by_stop stop_by r) → IsOk r
+      of_stop : (r : Result LateDone RunFault) → IsOk (by_stop stop_by r) → IsOk r
       of_stop (Ok done) ok = refl
       of_stop (Err fault) ok = absurd cc

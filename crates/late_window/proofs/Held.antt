@@ -1,11 +1,10 @@
 -- The held arrivals, judged one after another.
-use Rattle.std.proofs.Common.{◌≡◌, ℕ, ◌+◌, ◌<◌, ◌≤◌, List, [], ◌∷◌, ◌++◌, length, take, refl, sym, ap, ◌∙◌, subst, append_assoc, length-append, arith}
-use Rattle.desk_ports.specs.Meanings.{Meanings}
+use Rattle.std.proofs.Common.{◌≡◌, ℕ, ◌+◌, ◌<◌, ◌≤◌, List, [], ◌∷◌, ◌++◌, length, take, Result, Ok, Err, IsErrAnd, refl, sym, ap, ◌∙◌, subst, append_assoc, length-append, arith}
+use Rattle.desk_ports.specs.Meanings.{Meanings, Counts}
+use Rattle.desk_ports.specs.declared.desk.Failed.{Failed}
 use Rattle.desk_ports.specs.declared.desk.Outlet.TheVariants as outlet
-use Rattle.desk_ports.specs.Courses.{Outputs}
-use Rattle.desk_ports.specs.Turns.{Wrote}
-use Rattle.desk_ports.specs.Parts.{WroteWithin}
-use Rattle.desk_ports.proofs.Writings.{Wrote-then}
+use Rattle.desk_ports.specs.Writings.{WritesWithin}
+use Rattle.desk_ports.proofs.Writings.{WritesWithin-cut, WritesWithin-is, WritesWithin-then}
 use Rattle.ground_chain.specs.Restoring.{restored_texts}
 use Rattle.ground_chain.proofs.Reckonings.{put_all-parts}
 use Rattle.ground_chain.specs.Reckoning.{Reckoning}
@@ -13,14 +12,14 @@ use Rattle.late_window.specs.declared.late.LateArrivals.{LateArrivals}
 use Rattle.late_window.specs.Numbers.{Numbered}
 use Rattle.late_window.specs.Lines.{Line, given_up, without_first}
 use Rattle.late_window.specs.Late.{AreJudged, held_each, held_parts, run_of}
-use Rattle.late_window.proofs.Judgings.{AreJudged-then, WroteWithin-more, WroteWithin-next, held_each-then, held_parts-then, packets-judged}
+use Rattle.late_window.proofs.Judgings.{AreJudged-then, held_each-then, held_parts-then, packets-judged}
 
 -- the first of them were judged, and what there is to write of these was written
-pub record JudgedPart (start now : LateArrivals) (a b : Meanings) : Type 0 where
+pub record JudgedPart {D : Type 0} (meaning : D → Meanings) (counts : D → Counts) (start now : LateArrivals) (a b : D) : Type 0 where
   pub done : List Numbered
   pub split : done ++ now.sorter.line.held ≡ start.sorter.line.held
   pub judged : AreJudged start.judging now.judging done
-  pub wrote : Wrote a b (held_parts start.judging done)
+  pub written : WritesWithin {T = Unit {0}} {E = Failed} outlet.Report meaning counts a b (held_parts start.judging done) (held_each start.judging done) (Ok tt)
   pub late : now.late ≡ start.late
 
 split : (line : Line) (held : List Numbered) → line.held ≡ held → take 1 held ++ (without_first line held).held ≡ held
@@ -31,40 +30,41 @@ split line (a ∷ held) is = refl
 pub held-split : (line : Line) → take 1 line.held ++ (given_up line).held ≡ line.held
 held-split line = split line line.held refl
 
--- one more was judged
-pub JudgedPart-next : (start now next : LateArrivals) (a b c : Meanings) → (part : JudgedPart start now a b) → next.sorter.line ≡ given_up now.sorter.line → AreJudged now.judging next.judging (take 1 now.sorter.line.held) → next.late ≡ now.late
-    → Wrote b c (held_parts now.judging (take 1 now.sorter.line.held)) → JudgedPart start next a c
-JudgedPart-next start now next a b c part line judged late wrote =
-    let one = take 1 now.sorter.line.held in
-    record {
-      done = part.done ++ one;
-      split =
-          append_assoc part.done one next.sorter.line.held
-          ∙ (ap (λ (l : Line). part.done ++ (one ++ l.held)) line ∙ (ap (λ (l : List Numbered). part.done ++ l) (held-split now.sorter.line) ∙ part.split));
-      judged = AreJudged-then start.judging now.judging next.judging part.done one part.judged judged;
-      wrote = subst (Wrote a c) (sym (held_parts-then part.judged one)) (Wrote-then part.wrote wrote);
-      late = late ∙ part.late;
-    }
+module _ {D : Type 0} {meaning : D → Meanings} {counts : D → Counts} {start now : LateArrivals} {a b : D} (part : JudgedPart meaning counts start now a b) where
+  -- and then that of others
+  written-then : {c : D} {r : Result (Unit {0}) Failed} (ys : List Numbered) → WritesWithin outlet.Report meaning counts b c (held_parts now.judging ys) (held_each now.judging ys) r
+      → WritesWithin outlet.Report meaning counts a c (held_parts start.judging (part.done ++ ys)) (held_each start.judging (part.done ++ ys)) r
+  written-then ys next =
+      WritesWithin-is (sym (held_parts-then part.judged ys)) (sym (held_each-then part.judged ys)) (WritesWithin-then (put_all-parts restored_texts (run_of start.judging part.done)) part.written next)
 
--- if a write of the next one failed, all of these and a front of it were written
-pub JudgedPart-front : (start now : LateArrivals) (a b c : Meanings) (part : JudgedPart start now a b) → WroteWithin outlet.Report b c (held_each now.judging (take 1 now.sorter.line.held))
-    → (mid : Reckoning) → AreJudged now.judging mid (take 1 now.sorter.line.held) → WroteWithin outlet.Report a c (held_each start.judging start.sorter.line.held)
-JudgedPart-front start now a b c part cut mid judged =
-    let one = take 1 now.sorter.line.held in
-    let others = (given_up now.sorter.line).held in
-    let done = held_each start.judging part.done in
-    let rest : held_each now.judging now.sorter.line.held ≡ held_each now.judging one ++ held_each mid others =
-    ap (held_each now.judging) (sym (held-split now.sorter.line)) ∙ held_each-then judged others in
-    let all : held_each start.judging start.sorter.line.held ≡ done ++ (held_each now.judging one ++ held_each mid others) =
-    ap (held_each start.judging) (sym part.split) ∙ (held_each-then part.judged now.sorter.line.held ∙ ap (λ (l : List Outputs). done ++ l) rest) in
-    let before = subst (λ (o : Outputs). Wrote a b o) (sym (put_all-parts restored_texts (run_of start.judging part.done))) part.wrote in
-    subst (λ (l : List Outputs). WroteWithin outlet.Report a c l) (sym all)
-    (WroteWithin-next outlet.Report a b c done (held_each now.judging one ++ held_each mid others) before
-    (WroteWithin-more outlet.Report b c (held_each now.judging one) (held_each mid others) cut))
+  -- one more was judged
+  pub JudgedPart-next : {c : D} (next : LateArrivals) → next.sorter.line ≡ given_up now.sorter.line → AreJudged now.judging next.judging (take 1 now.sorter.line.held) → next.late ≡ now.late
+      → WritesWithin {T = Unit {0}} {E = Failed} outlet.Report meaning counts b c (held_parts now.judging (take 1 now.sorter.line.held)) (held_each now.judging (take 1 now.sorter.line.held)) (Ok tt) → JudgedPart meaning counts start next a c
+  JudgedPart-next next line judged late written =
+      let one = take 1 now.sorter.line.held in
+      record {
+        done = part.done ++ one;
+        split =
+            append_assoc part.done one next.sorter.line.held
+            ∙ (ap (λ (l : Line). part.done ++ (one ++ l.held)) line ∙ (ap (λ (l : List Numbered). part.done ++ l) (held-split now.sorter.line) ∙ part.split));
+        judged = AreJudged-then start.judging now.judging next.judging part.done one part.judged judged;
+        written = written-then one written;
+        late = late ∙ part.late;
+      }
 
--- there is room for the next one in the numbers of the run
-pub few-left : (start now : LateArrivals) (a b : Meanings) (part : JudgedPart start now a b) (most : ℕ) → start.judging.restored.packets + length start.sorter.line.held ≤ most → 0 < length now.sorter.line.held → now.judging.restored.packets < most
-few-left start now a b part most few some =
-    let count = packets-judged part.judged in
-    let size = ap length part.split in
-    omega (arith, count, size, length-append part.done now.sorter.line.held, few, some)
+  -- if a write of the next one failed, all of these and a prefix of it were written
+  pub JudgedPart-cut : {c : D} {e : Failed} {r : Result (Unit {0}) Failed} (Q : Failed → Type 0) (mid : Reckoning) → IsErrAnd r Q → AreJudged now.judging mid (take 1 now.sorter.line.held)
+      → WritesWithin {T = Unit {0}} outlet.Report meaning counts b c (held_parts now.judging (take 1 now.sorter.line.held)) (held_each now.judging (take 1 now.sorter.line.held)) (Err e)
+      → WritesWithin outlet.Report meaning counts a c (held_parts start.judging start.sorter.line.held) (held_each start.judging start.sorter.line.held) r
+  JudgedPart-cut {c = c} {r = r} Q mid failed judged cut =
+      let others = (given_up now.sorter.line).held in
+      let rest = sym (held_each-then judged others) ∙ ap (held_each now.judging) (held-split now.sorter.line) in
+      subst (λ (l : List Numbered). WritesWithin outlet.Report meaning counts a c (held_parts start.judging l) (held_each start.judging l) r) part.split
+      (written-then now.sorter.line.held (WritesWithin-is refl rest (WritesWithin-cut Q (held_each mid others) failed cut)))
+
+  -- there is room for the next one in the numbers of the run
+  pub few-left : (most : ℕ) → start.judging.restored.packets + length start.sorter.line.held ≤ most → 0 < length now.sorter.line.held → now.judging.restored.packets < most
+  few-left most few some =
+      let count = packets-judged part.judged in
+      let size = ap length part.split in
+      omega (arith, count, size, length-append part.done now.sorter.line.held, few, some)

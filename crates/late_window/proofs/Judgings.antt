@@ -2,13 +2,7 @@
 use Rattle.std.proofs.Common.{◌≡◌, ℕ, ◌+◌, List, ◌++◌, length, map, sym, ap, ◌∙◌}
 use Rattle.std.proofs.lemmas.List.{length-map, map-append}
 use Rattle.std.proofs.lemmas.List.Concat.{flat_map-append}
-use Rattle.desk_ports.specs.Meanings.{Meanings}
 use Rattle.desk_ports.specs.Courses.{Outputs, put}
-use Rattle.desk_ports.specs.Turns.{Wrote}
-use Rattle.desk_ports.specs.declared.desk.Outlet.{Outlet}
-use Rattle.desk_ports.specs.Parts.{WroteWithin, put_all}
-use Rattle.desk_ports.proofs.Parts.{EndsWithin-after, EndsWithin-then}
-use Rattle.desk_ports.proofs.Writings.{Wrote-then}
 use Rattle.ground_chain.specs.declared.restored.Restored.{Restored}
 use Rattle.ground_chain.specs.Run.{Judged, known_from, run_from}
 use Rattle.ground_chain.specs.Report.{added, restored_of}
@@ -70,13 +64,3 @@ AreJudged-then a b c xs ys first next =
           ∙ sym (ap (known_from a.reception.decoder.places (known_of a.reception)) (map-append arrival_of xs ys) ∙ known_from-append a.reception.decoder.places (known_of a.reception) (map arrival_of xs) (map arrival_of ys));
       restored = next.restored ∙ sym (added-then first ys);
     }
-
--- ---- what is written of one part after another
-
--- a front of the next parts
-pub WroteWithin-next : (first : Outlet) (a b c : Meanings) (xs ys : List Outputs) → Wrote a b (put_all xs) → WroteWithin first b c ys → WroteWithin first a c (xs ++ ys)
-WroteWithin-next first a b c xs ys before cut = record { stand = put (put_all xs) cut.stand; wrote = Wrote-then before cut.wrote; within = EndsWithin-after xs cut.within }
-
--- a front of the first parts
-pub WroteWithin-more : (first : Outlet) (a b : Meanings) (xs ys : List Outputs) → WroteWithin first a b xs → WroteWithin first a b (xs ++ ys)
-WroteWithin-more first a b xs ys cut = record { stand = cut.stand; wrote = cut.wrote; within = EndsWithin-then ys cut.within }

@@ -5,12 +5,12 @@ use Rattle.desk_ports.specs.Meanings.{Meanings}
 use Rattle.desk_ports.specs.Courses.{Work, no_outputs, put, to_report}
 use Rattle.desk_ports.specs.Parts.{put_all}
 use Rattle.desk_ports.proofs.Parts.{put_all-append}
+use Rattle.desk_ports.proofs.WalkTurns.{GoesOn, IsDone, PartsGoOn}
 use Rattle.packet_store.specs.declared.reader.Taken.{Taken}
 use Rattle.packet_store.specs.declared.fault.WalkFault.{WalkFault}
 use Rattle.packet_store.specs.SpacePackets.{Packet, is_chosen}
 use Rattle.packet_store.specs.StoreReader.{ReaderState, Takes}
-use Rattle.packet_store.proofs.StoreTurns.{IsDone, ReadsPacket, packet_of}
-use Rattle.packet_store.proofs.StoreParts.{ReadsParts}
+use Rattle.packet_store.proofs.StoreTurns.{packet_of}
 use Rattle.ground_chain.specs.Run.{Arrival}
 use Rattle.ground_chain.specs.Restoring.{arrival_of, arrivals_of, restored_texts}
 use Rattle.ground_chain.specs.Report.{end_row}
@@ -38,25 +38,21 @@ arrivals-passed r reader a b given takes other packets =
     ∙ ap (λ chosen. arrivals_of chosen packets) (same_chosen r.reader reader a b given takes)
 
 -- so what is owed is what the packets after it owe
-pub Reads-passed : (r : LateRun) (reader : ReaderState) (a b : Meanings) (given : Taken) → Takes r.reader reader a b given → given.chosen ≡ false
-    → ReadsPacket (left_to_sort r) (left_to_sort (record r { reader = reader })) r.reader reader a b no_outputs
-Reads-passed r reader a b given takes other =
+pub GoesOn-passed : (r : LateRun) (reader : ReaderState) (a b : Meanings) (given : Taken) (takes : Takes r.reader reader a b given) → given.chosen ≡ false
+    → GoesOn (left_to_sort r) (left_to_sort (record r { reader = reader })) (packet_of takes.header reader) no_outputs
+GoesOn-passed r reader a b given takes other =
     let arrivals = arrivals-passed r reader a b given takes other in
     record {
-      given = given;
-      takes = takes;
-      goes_on = record {
-        before = λ packets. ap (parts_left r.arrivals) (arrivals packets);
-        answer = λ packets. ap (done_of r.arrivals) (arrivals packets);
-        after = λ packets. ap (last_parts r.arrivals) (arrivals packets);
-      };
+      before = λ packets. ap (parts_left r.arrivals) (arrivals packets);
+      answer = λ packets. ap (done_of r.arrivals) (arrivals packets);
+      after = λ packets. ap (last_parts r.arrivals) (arrivals packets);
     }
 
-pub ReadsParts-passed : (r : LateRun) (reader : ReaderState) (a b : Meanings) (given : Taken) → Takes r.reader reader a b given → given.chosen ≡ false
-    → ReadsParts (parts_to_sort r) (parts_to_sort (record r { reader = reader })) r.reader reader a b []
-ReadsParts-passed r reader a b given takes other =
+pub PartsGoOn-passed : (r : LateRun) (reader : ReaderState) (a b : Meanings) (given : Taken) (takes : Takes r.reader reader a b given) → given.chosen ≡ false
+    → PartsGoOn (parts_to_sort r) (parts_to_sort (record r { reader = reader })) (packet_of takes.header reader) []
+PartsGoOn-passed r reader a b given takes other =
     let arrivals = arrivals-passed r reader a b given takes other in
-    record { given = given; takes = takes; before = λ packets. ap (each_left r.arrivals) (arrivals packets); after = λ packets. ap (last_each r.arrivals) (arrivals packets) }
+    record { before = λ packets. ap (each_left r.arrivals) (arrivals packets); after = λ packets. ap (last_each r.arrivals) (arrivals packets) }
 
 -- a packet of the chosen APID is an arrival
 arrivals-read : (r t : LateRun) (a b : Meanings) (given : Taken) (takes : Takes r.reader t.reader a b given) → given.chosen ≡ true
@@ -66,27 +62,21 @@ arrivals-read r t a b given takes own packets =
     ∙ (let count = sym takes.count in let chosen = same_chosen r.reader t.reader a b given takes in λ i. record { count = count i; body = t.reader.body } ∷ arrivals_of (chosen i) packets)
 
 -- what is written when it comes is owed, and after it what the packets after it owe
-pub Reads-sorted : (r t : LateRun) (a b : Meanings) (given : Taken) → Takes r.reader t.reader a b given → given.chosen ≡ true → Sorts r.arrivals t.arrivals (record { count = given.count; body = t.reader.body })
-    → ReadsPacket (left_to_sort r) (left_to_sort t) r.reader t.reader a b (arrival_parts r.arrivals (record { count = given.count; body = t.reader.body }))
-Reads-sorted r t a b given takes own is =
+pub GoesOn-sorted : (r t : LateRun) (a b : Meanings) (given : Taken) (takes : Takes r.reader t.reader a b given) → given.chosen ≡ true → Sorts r.arrivals t.arrivals (record { count = given.count; body = t.reader.body })
+    → GoesOn (left_to_sort r) (left_to_sort t) (packet_of takes.header t.reader) (arrival_parts r.arrivals (record { count = given.count; body = t.reader.body }))
+GoesOn-sorted r t a b given takes own is =
     let arrivals = arrivals-read r t a b given takes own in
     record {
-      given = given;
-      takes = takes;
-      goes_on = record {
-        before = λ packets. ap (parts_left r.arrivals) (arrivals packets) ∙ parts-next is (arrivals_of t.reader.chosen packets);
-        answer = λ packets. ap (done_of r.arrivals) (arrivals packets) ∙ done-next is (arrivals_of t.reader.chosen packets);
-        after = λ packets. ap (last_parts r.arrivals) (arrivals packets) ∙ last-next is (arrivals_of t.reader.chosen packets);
-      };
+      before = λ packets. ap (parts_left r.arrivals) (arrivals packets) ∙ parts-next is (arrivals_of t.reader.chosen packets);
+      answer = λ packets. ap (done_of r.arrivals) (arrivals packets) ∙ done-next is (arrivals_of t.reader.chosen packets);
+      after = λ packets. ap (last_parts r.arrivals) (arrivals packets) ∙ last-next is (arrivals_of t.reader.chosen packets);
     }
 
-pub ReadsParts-sorted : (r t : LateRun) (a b : Meanings) (given : Taken) → Takes r.reader t.reader a b given → given.chosen ≡ true → Sorts r.arrivals t.arrivals (record { count = given.count; body = t.reader.body })
-    → ReadsParts (parts_to_sort r) (parts_to_sort t) r.reader t.reader a b (arrival_each r.arrivals (record { count = given.count; body = t.reader.body }))
-ReadsParts-sorted r t a b given takes own is =
+pub PartsGoOn-sorted : (r t : LateRun) (a b : Meanings) (given : Taken) (takes : Takes r.reader t.reader a b given) → given.chosen ≡ true → Sorts r.arrivals t.arrivals (record { count = given.count; body = t.reader.body })
+    → PartsGoOn (parts_to_sort r) (parts_to_sort t) (packet_of takes.header t.reader) (arrival_each r.arrivals (record { count = given.count; body = t.reader.body }))
+PartsGoOn-sorted r t a b given takes own is =
     let arrivals = arrivals-read r t a b given takes own in
     record {
-      given = given;
-      takes = takes;
       before = λ packets. ap (each_left r.arrivals) (arrivals packets) ∙ each-next is (arrivals_of t.reader.chosen packets);
       after = λ packets. ap (last_each r.arrivals) (arrivals packets) ∙ last_each-next is (arrivals_of t.reader.chosen packets);
     }

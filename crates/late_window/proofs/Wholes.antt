@@ -5,7 +5,8 @@ use Rattle.std.proofs.lemmas.List.Concat.{flat_map-append}
 use Rattle.desk_ports.specs.Courses.{by_ending, owed, put, to_report, written_first}
 use Rattle.desk_ports.specs.Turns.{Steps}
 use Rattle.desk_ports.specs.Parts.{if_whole}
-use Rattle.packet_store.specs.StoreWorks.{parts_on}
+use Rattle.desk_ports.specs.WalkWorks.{parts_on}
+use Rattle.packet_store.specs.StoreReader.{walk_over}
 use Rattle.packet_store.specs.Walks.{walk}
 use Rattle.ground_chain.specs.Run.{Arrival, Judged, known_from, run, run_from}
 use Rattle.ground_chain.specs.Report.{end_row, header_row, restored_of, run_bytes, run_report, run_rows, written_bytes, verdict_rows}
@@ -95,7 +96,7 @@ Steps-unread r is =
     let s = late_state r in
     subst (λ (x : LateRun). Steps (late_work s.places s.apid s.window) (rest_work x) [] (to_report header_row)) (sym is) (Steps-none s.places s.apid s.window)
 
-parts-none : (f apid window : ℕ) (store : List ℕ) → late_parts f apid window store ≡ to_report header_row ∷ parts_on (parts_to_sort (nothing_read f apid window)) (nothing_read f apid window).reader store
+parts-none : (f apid window : ℕ) (store : List ℕ) → late_parts f apid window store ≡ to_report header_row ∷ parts_on (parts_to_sort (nothing_read f apid window)) (walk_over (nothing_read f apid window).reader) store
 parts-none f apid window store =
     let arrivals = store_arrivals apid store in
     let before = each-all f window arrivals in
@@ -103,10 +104,10 @@ parts-none f apid window store =
     λ i. to_report header_row ∷ before i ++ if_whole (walk (Some apid) store).ending (after i)
 
 -- and part by part
-pub late_parts-unread : (r : LateRun) → IsUnread r → let s = late_state r in (store : List ℕ) → late_parts s.places s.apid s.window store ≡ to_report header_row ∷ parts_on (parts_to_sort r) r.reader store
+pub late_parts-unread : (r : LateRun) → IsUnread r → let s = late_state r in (store : List ℕ) → late_parts s.places s.apid s.window store ≡ to_report header_row ∷ parts_on (parts_to_sort r) (walk_over r.reader) store
 late_parts-unread r is = λ store.
     let s = late_state r in
-    subst (λ (x : LateRun). late_parts s.places s.apid s.window store ≡ to_report header_row ∷ parts_on (parts_to_sort x) x.reader store) (sym is) (parts-none s.places s.apid s.window store)
+    subst (λ (x : LateRun). late_parts s.places s.apid s.window store ≡ to_report header_row ∷ parts_on (parts_to_sort x) (walk_over x.reader) store) (sym is) (parts-none s.places s.apid s.window store)
 
 -- nothing is read
 pub Owes-unread : (r : LateRun) → IsUnread r → Owes r (rest_work r)

@@ -2,9 +2,10 @@
 use Rattle.std.specs.Prelude.{◌≡◌, ℕ, ◌-◌, ◌^◌, ◌≤◌, IsTrue, List, ◌∷◌, ◌++◌, length, take, drop, map, Some, unwrap_or}
 use Rattle.desk_ports.specs.Courses.{Course, Outputs, Work, put, to_report}
 use Rattle.desk_ports.specs.Parts.{if_whole}
+use Rattle.desk_ports.specs.WalkWorks.{WalkParts, WalkWork, parts_on, work_on}
 use Rattle.packet_store.specs.declared.fault.WalkFault.{WalkFault}
-use Rattle.packet_store.specs.StoreReader.{opened}
-use Rattle.packet_store.specs.StoreWorks.{StoreParts, StoreWork, parts_on, work_on}
+use Rattle.packet_store.specs.SpacePackets.{Packet}
+use Rattle.packet_store.specs.StoreReader.{opened, walk_over}
 use Rattle.packet_store.specs.Walks.{walk}
 use Rattle.ground_chain.specs.Run.{Arrival, Judged, run}
 use Rattle.ground_chain.specs.Report.{header_row, restored_of}
@@ -78,7 +79,7 @@ abbrev pub IsUnread : LateRun → Type 0
 IsUnread r = r ≡ nothing_read (late_state r).places (late_state r).apid (late_state r).window
 
 -- what is owed for packets that are read next
-abbrev pub left_to_sort : LateRun → StoreWork LateDone
+abbrev pub left_to_sort : LateRun → WalkWork Packet LateDone
 left_to_sort r = record {
   before = λ packets. parts_left r.arrivals (arrivals_of r.reader.chosen packets);
   answer = λ packets. done_of r.arrivals (arrivals_of r.reader.chosen packets);
@@ -86,10 +87,10 @@ left_to_sort r = record {
 }
 
 abbrev pub rest_work : LateRun → Work LateDone WalkFault
-rest_work r = work_on (left_to_sort r) r.reader
+rest_work r = work_on (left_to_sort r) (walk_over r.reader)
 
 -- the same part by part
-abbrev pub parts_to_sort : LateRun → StoreParts
+abbrev pub parts_to_sort : LateRun → WalkParts Packet
 parts_to_sort r = record {
   before = λ packets. each_left r.arrivals (arrivals_of r.reader.chosen packets);
   after = λ packets. last_each r.arrivals (arrivals_of r.reader.chosen packets);
@@ -97,7 +98,7 @@ parts_to_sort r = record {
 
 -- these parts are owed: those of the rest of the store
 abbrev pub OwesParts : LateRun → (List ℕ → List Outputs) → Type 0
-OwesParts r parts_of = parts_of ≡ parts_on (parts_to_sort r) r.reader
+OwesParts r parts_of = parts_of ≡ parts_on (parts_to_sort r) (walk_over r.reader)
 
 -- this work is owed: that of the rest of the store
 pub record Owes (r : LateRun) (work : Work LateDone WalkFault) : Type 0 where

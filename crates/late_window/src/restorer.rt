@@ -6,7 +6,7 @@ ghost use Rattle.desk_ports.specs.Courses.{AfterRun, HasCause, by_stop};
 ghost use Rattle.desk_ports.specs.Parts.{InParts};
 ghost use Rattle.mask_update.specs.Histories.{History};
 ghost use Rattle.packet_store.specs.Walks.{walk};
-ghost use Rattle.ground_chain.specs.Restoring.{stop_by};
+ghost use Rattle.packet_store.specs.Faults.{stop_by};
 ghost use Rattle.late_window.specs.Restoring.{late_parts, late_work};
 ghost use Rattle.late_window.specs.Deliveries.{IsLateDelivered, IsLatePlayed};
 ghost use Rattle.bit_vectors.specs.Vectors.{IsPlaces};

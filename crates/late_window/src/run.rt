@@ -26,7 +26,7 @@ impl Run for LateRun {
     type Data = WalkFault;
 
     ghost use Rattle.std.specs.Prelude.{true};
-    ghost use Rattle.ground_chain.specs.Restoring.{stop_by};
+    ghost use Rattle.packet_store.specs.Faults.{stop_by};
     ghost use Rattle.desk_ports.specs.declared.desk.Outlet.TheVariants as outlet;
     ghost use Rattle.late_window.specs.Restoring.{Owes, OwesParts};
 

@@ -4,13 +4,15 @@ use Rattle.std.proofs.lemmas.List.Sums.{sum_by-cons}
 use Rattle.std.proofs.lemmas.Grind.{flat_map-append}
 use Rattle.desk_ports.specs.Meanings.{Meanings}
 use Rattle.desk_ports.specs.Courses.{Work, to_output, to_report}
+use Rattle.desk_ports.specs.WalkWorks.{work_on}
+use Rattle.desk_ports.proofs.WalkTurns.{GoesOn, IsDone}
 use Rattle.side_tables.specs.Rows.{copies_of}
 use Rattle.packet_store.specs.declared.reader.Taken.{Taken}
 use Rattle.packet_store.specs.declared.fault.WalkFault.{WalkFault}
 use Rattle.packet_store.specs.SpacePackets.{Packet, packet_bytes, is_chosen}
 use Rattle.packet_store.specs.Walks.{walk, packets_bytes}
-use Rattle.packet_store.specs.StoreReader.{ReaderState, Takes}
-use Rattle.packet_store.proofs.StoreTurns.{packet_of, ReadsPacket, IsDone}
+use Rattle.packet_store.specs.StoreReader.{ReaderState, Takes, walk_over}
+use Rattle.packet_store.proofs.StoreTurns.{packet_of}
 use Rattle.loss_player.specs.declared.played.Played.{Played}
 use Rattle.loss_player.specs.declared.played.Tally.{Tally}
 use Rattle.loss_player.specs.declared.playing.Playing.{Playing}
@@ -65,28 +67,24 @@ module _ (s t : Playing) (reader : ReaderState) (a b : Meanings) (given : Taken)
   taken_numbers = let rows = sym is.script_is in let count = taken_count in λ i. played_of (copies_of (rows i)) (count i)
 
 -- a packet that is played: its copies are owed, and after them what the packets after it owe
-pub Reads-played : (s t : Playing) (reader : ReaderState) (a b : Meanings) (given : Taken) → Takes s.reader reader a b given → HasCounted (record s { reader = reader }) t given.chosen
-    → ReadsPacket (left_to_play s) (left_to_play t) s.reader t.reader a b (to_output (next_copies s given.chosen reader.packet))
-Reads-played s t reader a b given takes is = subst (λ (r : ReaderState). ReadsPacket (left_to_play s) (left_to_play t) s.reader r a b (to_output (next_copies s given.chosen reader.packet))) (sym is.reader_is) (record {
-  given = given;
-  takes = takes;
-  goes_on = record {
-    before = λ packets. ap to_output (taken_bytes s t reader a b given takes is packets);
-    answer = λ packets. taken_numbers s t reader a b given takes is packets;
-    after = λ packets. ap (λ (numbers : Played). to_report (play_report numbers)) (taken_numbers s t reader a b given takes is packets);
-  };
-})
+pub GoesOn-played : (s t : Playing) (reader : ReaderState) (a b : Meanings) (given : Taken) (takes : Takes s.reader reader a b given) → HasCounted (record s { reader = reader }) t given.chosen
+    → GoesOn (left_to_play s) (left_to_play t) (packet_of takes.header reader) (to_output (next_copies s given.chosen reader.packet))
+GoesOn-played s t reader a b given takes is = record {
+  before = λ packets. ap to_output (taken_bytes s t reader a b given takes is packets);
+  answer = λ packets. taken_numbers s t reader a b given takes is packets;
+  after = λ packets. ap (λ (numbers : Played). to_report (play_report numbers)) (taken_numbers s t reader a b given takes is packets);
+}
 
 place_after-most : (own : Bool) (t : ℕ) → place_after own t ≤ t + 1
 place_after-most true t = omega arith
 place_after-most false t = omega arith
 
 -- after it the rest of the store is still to be played
-pub Owes-played : (s t : Playing) (reader : ReaderState) (a b : Meanings) (given : Taken) (work : Work Played WalkFault) → Owes s work → Takes s.reader reader a b given → HasCounted (record s { reader = reader }) t given.chosen → IsCounted t → Owes t (rest_work t)
+pub Owes-played : (s t : Playing) (reader : ReaderState) (a b : Meanings) (given : Taken) (work : Work Played WalkFault) → Owes s work → Takes s.reader reader a b given → HasCounted (record s { reader = reader }) t given.chosen → IsCounted t → Owes t (work_on (left_to_play t) (walk_over reader))
 Owes-played s t reader a b given work owes takes is counted =
     let reader_is = is.reader_is ∙ takes.others in
     record {
-      work_is = refl;
+      work_is = let same = sym is.reader_is in λ i. work_on (left_to_play t) (walk_over (same i));
       live = ap (λ (r : ReaderState). r.live) reader_is ∙ owes.live;
       packets = omega (arith, place_after-most given.chosen s.tally.played.packets, is.packets, owes.packets, ap (λ (r : ReaderState). r.taken) reader_is);
       counted = counted;

@@ -1,20 +1,15 @@
 -- What playing a store owes: the played store and the play report.
 use Rattle.std.specs.Prelude.{◌≡◌, ℕ, ◌+◌, ◌≤◌, Bool, IsTrue, List, Some, unwrap_or}
-use Rattle.desk_ports.specs.Stop.{Stop}
-use Rattle.desk_ports.specs.Stop as stop
 use Rattle.desk_ports.specs.Courses.{Course, Work, to_output, to_report}
+use Rattle.desk_ports.specs.WalkWorks.{WalkWork, work_on}
 use Rattle.side_tables.specs.declared.rows.CopyRow.{CopyRow}
 use Rattle.side_tables.specs.Rows.{copies_of}
 use Rattle.packet_store.specs.declared.fault.WalkFault.{WalkFault}
 use Rattle.packet_store.specs.Walks.{walk, packets_bytes}
-use Rattle.packet_store.specs.Faults.{stop_of}
 use Rattle.packet_store.specs.SpacePackets.{Packet}
-use Rattle.packet_store.specs.StoreReader.{opened}
-use Rattle.packet_store.specs.StoreWorks.{StoreWork, work_on}
+use Rattle.packet_store.specs.StoreReader.{opened, walk_over}
 use Rattle.loss_player.specs.declared.played.Played.{Played}
 use Rattle.loss_player.specs.declared.playing.Playing.{Playing}
-use Rattle.loss_player.specs.declared.fault.PlayFault.{PlayFault}
-use Rattle.loss_player.specs.declared.fault.PlayFault.TheVariants as play
 use Rattle.loss_player.specs.Played.{times_of, place_after, repeated, played_from, played_bytes, played_of, chosen_count, store_numbers}
 use Rattle.loss_player.specs.Tallies.{IsTally, no_tally, tally_of}
 use Rattle.loss_player.specs.Report.{play_report}
@@ -31,11 +26,6 @@ play_course copies apid store = record {
 -- the work of playing a store, whose answer is the numbers of the played store
 abbrev pub play_work : (ℕ → ℕ) → ℕ → Work Played WalkFault
 play_work copies apid = record { course = play_course copies apid; answer = store_numbers copies apid }
-
--- a fault, as a reason to end a run
-abbrev pub stop_by : PlayFault → Stop WalkFault
-stop_by (play.Store fault) = stop_of fault
-stop_by play.WriteFault = stop.WriteFault
 
 -- ---- on the way
 
@@ -60,7 +50,7 @@ abbrev pub all_numbers : Playing → List Packet → Played
 all_numbers s packets = played_of (copies_of s.script) (s.tally.played.packets + chosen_count s.reader.chosen packets)
 
 -- what is owed for packets that are read next
-abbrev pub left_to_play : Playing → StoreWork Played
+abbrev pub left_to_play : Playing → WalkWork Packet Played
 left_to_play s = record {
   before = λ packets. to_output (packets_bytes (played_from s.reader.chosen (copies_of s.script) s.tally.played.packets packets));
   answer = all_numbers s;
@@ -69,7 +59,7 @@ left_to_play s = record {
 
 -- the work of playing what is left of the store
 abbrev pub rest_work : Playing → Work Played WalkFault
-rest_work s = work_on (left_to_play s) s.reader
+rest_work s = work_on (left_to_play s) (walk_over s.reader)
 
 -- the numbers so far are those of the packets so far
 pub record IsCounted (s : Playing) : Type 0 where

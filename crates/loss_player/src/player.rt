@@ -4,9 +4,10 @@ ghost use Rattle.std.specs.Prelude.{◌≡◌, ◌≤◌, IfOk};
 ghost use Rattle.desk_ports.specs.Meanings.{IsReadyIn, IsReadyOut};
 ghost use Rattle.desk_ports.specs.Courses.{AfterRun, HasCause, by_stop};
 ghost use Rattle.side_tables.specs.Rows.{copies_of};
-ghost use Rattle.loss_player.specs.Playing.{play_work, stop_by};
+ghost use Rattle.packet_store.specs.Faults.{stop_by};
+ghost use Rattle.loss_player.specs.Playing.{play_work};
 
-use crate::fault::PlayFault;
+use crate::PlayFault;
 use crate::played::Played;
 use crate::playing::Playing;
 use bit_vectors::NoMemory;

@@ -7,7 +7,7 @@ ghost use Rattle.desk_ports.specs.Writings.{Writes};
 ghost use Rattle.side_tables.specs.Rows.{copies_of};
 ghost use Rattle.loss_player.specs.Played.{repeated};
 
-use crate::fault::PlayFault;
+use crate::PlayFault;
 use crate::played::{Played, Tally};
 use crate::report::write_report;
 use bit_vectors::NoMemory;
@@ -32,7 +32,8 @@ impl Run for Playing {
     type Data = WalkFault;
 
     ghost use Rattle.desk_ports.specs.declared.desk.Outlet.TheVariants as outlet;
-    ghost use Rattle.loss_player.specs.Playing.{Owes, stop_by};
+    ghost use Rattle.packet_store.specs.Faults.{stop_by};
+    ghost use Rattle.loss_player.specs.Playing.{Owes};
 
     ghost owes = { Owes };
 

@@ -6,14 +6,14 @@ use Rattle.desk_ports.specs.Meanings.{Meanings}
 use Rattle.desk_ports.specs.Courses.{Outputs, Work, put, to_report}
 use Rattle.desk_ports.specs.Turns.{Steps}
 use Rattle.desk_ports.specs.Parts.{put_all}
+use Rattle.desk_ports.specs.WalkWorks.{parts_on, work_on}
+use Rattle.desk_ports.proofs.WalkTurns.{GoesOn, IsDone, PartsGoOn}
 use Rattle.packet_store.specs.declared.reader.Taken.{Taken}
 use Rattle.packet_store.specs.declared.fault.WalkFault.{WalkFault}
 use Rattle.packet_store.specs.SpacePackets.{Packet}
 use Rattle.packet_store.specs.Walks.{IsGood}
-use Rattle.packet_store.specs.StoreReader.{ReaderState, Takes}
-use Rattle.packet_store.specs.StoreWorks.{parts_on, work_on}
-use Rattle.packet_store.proofs.StoreTurns.{packet_of, ReadsPacket, IsDone}
-use Rattle.packet_store.proofs.StoreParts.{ReadsParts}
+use Rattle.packet_store.specs.StoreReader.{ReaderState, Takes, walk_over}
+use Rattle.packet_store.proofs.StoreTurns.{packet_of}
 use Rattle.side_tables.specs.declared.rows.StreamRow.{StreamRow}
 use Rattle.multi_ground.specs.declared.receiving.MultiReceiving.{MultiReceiving}
 use Rattle.multi_ground.specs.MultiRun.{StreamJudged, judged_after, multi_run, multi_run_from, written_count}
@@ -22,35 +22,23 @@ use Rattle.multi_ground.specs.Receiving.{HasRead, HasReceived, IsUnread, Owes, O
 use Rattle.multi_ground.proofs.MultiRuns.{outputs_of-cons}
 
 -- a packet: what is written of it is owed, and after it what the packets after it owe
-pub Reads-next : (streams : List StreamRow) (packets : List Packet) (old new : ReaderState) (a b : Meanings) (given : Taken) (takes : Takes old new a b given)
-    → ReadsPacket (left_after streams packets) (left_after streams (packets ++ packet_of takes.header new ∷ [])) old new a b (outputs_after streams packets (packet_of takes.header new))
-Reads-next streams packets old new a b given takes =
-    let p = packet_of takes.header new in
-    record {
-      given = given;
-      takes = takes;
-      goes_on = record {
-        before = λ more. outputs_of-cons (judged_after streams packets p) (multi_run_from streams (packets ++ p ∷ []) more);
-        answer = λ more. ap (λ l. written_count (multi_run streams l)) (sym (append_assoc packets (p ∷ []) more));
-        after = λ more. ap (λ l. to_report (last_rows streams l)) (sym (append_assoc packets (p ∷ []) more));
-      };
-    }
+pub GoesOn-next : (streams : List StreamRow) (packets : List Packet) (p : Packet) → GoesOn (left_after streams packets) (left_after streams (packets ++ p ∷ [])) p (outputs_after streams packets p)
+GoesOn-next streams packets p = record {
+  before = λ more. outputs_of-cons (judged_after streams packets p) (multi_run_from streams (packets ++ p ∷ []) more);
+  answer = λ more. ap (λ l. written_count (multi_run streams l)) (sym (append_assoc packets (p ∷ []) more));
+  after = λ more. ap (λ l. to_report (last_rows streams l)) (sym (append_assoc packets (p ∷ []) more));
+}
 
 parts-cons : (o : Option StreamJudged) (judged : List StreamJudged) → arrival_parts (cons_option o judged) ≡ arrival_parts (cons_option o []) ++ arrival_parts judged
 parts-cons None judged = refl
 parts-cons (Some j) judged = refl
 
 -- and part by part
-pub ReadsParts-next : (streams : List StreamRow) (packets : List Packet) (old new : ReaderState) (a b : Meanings) (given : Taken) (takes : Takes old new a b given)
-    → ReadsParts (parts_left streams packets) (parts_left streams (packets ++ packet_of takes.header new ∷ [])) old new a b (parts_after streams packets (packet_of takes.header new))
-ReadsParts-next streams packets old new a b given takes =
-    let p = packet_of takes.header new in
-    record {
-      given = given;
-      takes = takes;
-      before = λ more. parts-cons (judged_after streams packets p) (multi_run_from streams (packets ++ p ∷ []) more);
-      after = λ more. ap (λ l. to_report (last_rows streams l) ∷ []) (sym (append_assoc packets (p ∷ []) more));
-    }
+pub PartsGoOn-next : (streams : List StreamRow) (packets : List Packet) (p : Packet) → PartsGoOn (parts_left streams packets) (parts_left streams (packets ++ p ∷ [])) p (parts_after streams packets p)
+PartsGoOn-next streams packets p = record {
+  before = λ more. parts-cons (judged_after streams packets p) (multi_run_from streams (packets ++ p ∷ []) more);
+  after = λ more. ap (λ l. to_report (last_rows streams l) ∷ []) (sym (append_assoc packets (p ∷ []) more));
+}
 
 -- what is written of the parts is what is owed for them
 pub put_all-arrivals : (judged : List StreamJudged) → put_all (arrival_parts judged) ≡ outputs_of judged
@@ -79,7 +67,7 @@ HasRead-taken s reader a b given takes none = record { good = subst (λ (chosen 
 
 -- after a packet the rest of the store is still owed
 pub Owes-next : (s t : MultiReceiving) (reader : ReaderState) (a b : Meanings) (given : Taken) (work : Work ℕ WalkFault) (owes : Owes s work) (takes : Takes s.reader reader a b given) → t.reader ≡ reader → t.streams ≡ s.streams
-    → HasReceived t (owes.packets ++ packet_of takes.header reader ∷ []) → Owes t (work_on (left_after s.streams (owes.packets ++ packet_of takes.header reader ∷ [])) reader)
+    → HasReceived t (owes.packets ++ packet_of takes.header reader ∷ []) → Owes t (work_on (left_after s.streams (owes.packets ++ packet_of takes.header reader ∷ [])) (walk_over reader))
 Owes-next s t reader a b given work owes takes same streams has =
     let p = packet_of takes.header reader in
     record {
@@ -88,31 +76,31 @@ Owes-next s t reader a b given work owes takes same streams has =
       few = omega (arith, owes.few, length-append owes.packets (p ∷ []), ap (λ (r : ReaderState). r.taken) takes.others, ap (λ (r : ReaderState). r.taken) same);
       live = ap (λ (r : ReaderState). r.live) (same ∙ takes.others) ∙ owes.live;
       chosen = ap (λ (r : ReaderState). r.chosen) (same ∙ takes.others) ∙ owes.chosen;
-      work_is = λ i. work_on (left_after (sym streams i) (owes.packets ++ p ∷ [])) (sym same i);
+      work_is = λ i. work_on (left_after (sym streams i) (owes.packets ++ p ∷ [])) (walk_over (sym same i));
     }
 
 pub OwesParts-next : (s t : MultiReceiving) (reader : ReaderState) (a b : Meanings) (given : Taken) (parts_of : List ℕ → List Outputs) (owes : OwesParts s parts_of) (takes : Takes s.reader reader a b given) → t.reader ≡ reader → t.streams ≡ s.streams
-    → HasReceived t (owes.packets ++ packet_of takes.header reader ∷ []) → OwesParts t (parts_on (parts_left s.streams (owes.packets ++ packet_of takes.header reader ∷ [])) reader)
+    → HasReceived t (owes.packets ++ packet_of takes.header reader ∷ []) → OwesParts t (parts_on (parts_left s.streams (owes.packets ++ packet_of takes.header reader ∷ [])) (walk_over reader))
 OwesParts-next s t reader a b given parts_of owes takes same streams has =
     let p = packet_of takes.header reader in
     record {
       packets = owes.packets ++ p ∷ [];
       received = has;
       chosen = ap (λ (r : ReaderState). r.chosen) (same ∙ takes.others) ∙ owes.chosen;
-      parts_are = λ i. parts_on (parts_left (sym streams i) (owes.packets ++ p ∷ [])) (sym same i);
+      parts_are = λ i. parts_on (parts_left (sym streams i) (owes.packets ++ p ∷ [])) (walk_over (sym same i));
     }
 
 -- ---- the whole store
 
-pub multi_parts-unread : (s : MultiReceiving) → IsUnread s → (store : List ℕ) → multi_parts s.streams store ≡ to_report multi_header ∷ parts_on (parts_left s.streams []) s.reader store
-multi_parts-unread s is store = subst (λ (r : ReaderState). multi_parts s.streams store ≡ to_report multi_header ∷ parts_on (parts_left s.streams []) r store) (sym is.reader) refl
+pub multi_parts-unread : (s : MultiReceiving) → IsUnread s → (store : List ℕ) → multi_parts s.streams store ≡ to_report multi_header ∷ parts_on (parts_left s.streams []) (walk_over s.reader) store
+multi_parts-unread s is store = subst (λ (r : ReaderState). multi_parts s.streams store ≡ to_report multi_header ∷ parts_on (parts_left s.streams []) (walk_over r) store) (sym is.reader) refl
 
-pub OwesParts-unread : (s : MultiReceiving) → IsUnread s → OwesParts s (parts_on (parts_left s.streams []) s.reader)
+pub OwesParts-unread : (s : MultiReceiving) → IsUnread s → OwesParts s (parts_on (parts_left s.streams []) (walk_over s.reader))
 OwesParts-unread s is = record { packets = []; received = is.received; chosen = ap (λ (r : ReaderState). r.chosen) is.reader; parts_are = refl }
 
 -- what the streams of a store owe is owed from its first packet on, after the header
-pub Steps-unread : (s : MultiReceiving) → IsUnread s → Steps (multi_work s.streams) (work_on (left_after s.streams []) s.reader) [] (to_report multi_header)
-Steps-unread s is = subst (λ (r : ReaderState). Steps (multi_work s.streams) (work_on (left_after s.streams []) r) [] (to_report multi_header)) (sym is.reader) (record { course = λ store. refl; answer = λ store. refl })
+pub Steps-unread : (s : MultiReceiving) → IsUnread s → Steps (multi_work s.streams) (work_on (left_after s.streams []) (walk_over s.reader)) [] (to_report multi_header)
+Steps-unread s is = subst (λ (r : ReaderState). Steps (multi_work s.streams) (work_on (left_after s.streams []) (walk_over r)) [] (to_report multi_header)) (sym is.reader) (record { course = λ store. refl; answer = λ store. refl })
 
-pub Owes-unread : (s : MultiReceiving) → IsUnread s → Owes s (work_on (left_after s.streams []) s.reader)
+pub Owes-unread : (s : MultiReceiving) → IsUnread s → Owes s (work_on (left_after s.streams []) (walk_over s.reader))
 Owes-unread s is = record { packets = []; received = is.received; few = omega arith; live = ap (λ (r : ReaderState). r.live) is.reader; chosen = ap (λ (r : ReaderState). r.chosen) is.reader; work_is = refl }

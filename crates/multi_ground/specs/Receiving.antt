@@ -3,11 +3,11 @@ use Rattle.std.specs.Prelude.{◌≡◌, ℕ, ◌+◌, ◌^◌, ◌<◌, ◌≤�
 use Rattle.std.specs.List.{cons_option}
 use Rattle.std.specs.Vec.{vec_capacity}
 use Rattle.desk_ports.specs.Courses.{Outputs, Work, to_report}
+use Rattle.desk_ports.specs.WalkWorks.{WalkParts, WalkWork, parts_on, work_on}
 use Rattle.packet_store.specs.declared.fault.WalkFault.{WalkFault}
 use Rattle.packet_store.specs.SpacePackets.{Packet, packet_bytes}
 use Rattle.packet_store.specs.Walks.{IsGood}
-use Rattle.packet_store.specs.StoreReader.{opened}
-use Rattle.packet_store.specs.StoreWorks.{StoreParts, StoreWork, parts_on, work_on}
+use Rattle.packet_store.specs.StoreReader.{opened, walk_over}
 use Rattle.side_tables.specs.declared.rows.StreamRow.{StreamRow}
 use Rattle.side_tables.specs.Streams.{AreStreams, stream_at}
 use Rattle.ground_chain.specs.Reckoning.{HasJudged, Judges, Reckoning}
@@ -70,7 +70,7 @@ abbrev pub parts_after : List StreamRow → List Packet → Packet → List Outp
 parts_after streams before p = arrival_parts (cons_option (judged_after streams before p) [])
 
 -- what is owed for packets that are read after these
-abbrev pub left_after : List StreamRow → List Packet → StoreWork ℕ
+abbrev pub left_after : List StreamRow → List Packet → WalkWork Packet ℕ
 left_after streams before = record {
   before = λ packets. outputs_of (multi_run_from streams before packets);
   answer = λ packets. written_count (multi_run streams (before ++ packets));
@@ -78,7 +78,7 @@ left_after streams before = record {
 }
 
 -- the same part by part
-abbrev pub parts_left : List StreamRow → List Packet → StoreParts
+abbrev pub parts_left : List StreamRow → List Packet → WalkParts Packet
 parts_left streams before = record {
   before = λ packets. arrival_parts (multi_run_from streams before packets);
   after = λ packets. to_report (last_rows streams (before ++ packets)) ∷ [];
@@ -89,7 +89,7 @@ pub record OwesParts (s : MultiReceiving) (parts_of : List ℕ → List Outputs)
   pub packets : List Packet
   pub received : HasReceived s packets
   pub chosen : s.reader.chosen ≡ None
-  pub parts_are : parts_of ≡ parts_on (parts_left s.streams packets) s.reader
+  pub parts_are : parts_of ≡ parts_on (parts_left s.streams packets) (walk_over s.reader)
 
 -- this work is owed: that of the rest of the store, after the packets that were received
 pub record Owes (s : MultiReceiving) (work : Work ℕ WalkFault) : Type 0 where
@@ -98,4 +98,4 @@ pub record Owes (s : MultiReceiving) (work : Work ℕ WalkFault) : Type 0 where
   pub few : length packets ≤ s.reader.taken
   pub live : IsTrue s.reader.live
   pub chosen : s.reader.chosen ≡ None
-  pub work_is : work ≡ work_on (left_after s.streams packets) s.reader
+  pub work_is : work ≡ work_on (left_after s.streams packets) (walk_over s.reader)

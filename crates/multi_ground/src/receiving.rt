@@ -34,7 +34,7 @@ impl Run for MultiReceiving {
 
     type Data = WalkFault;
 
-    ghost use Rattle.ground_chain.specs.Restoring.{stop_by};
+    ghost use Rattle.packet_store.specs.Faults.{stop_by};
     ghost use Rattle.desk_ports.specs.declared.desk.Outlet.TheVariants as outlet;
     ghost use Rattle.multi_ground.specs.Receiving.{Owes, OwesParts};
 

@@ -4,7 +4,7 @@ ghost use Rattle.std.specs.Prelude.{◌≡◌, ◌<◌, ℕ, All, Err, List, Som
 ghost use Rattle.desk_ports.specs.Meanings.{IsReadyIn, IsReadyOut, left};
 ghost use Rattle.desk_ports.specs.Courses.{AfterRun, HasCause, by_stop};
 ghost use Rattle.desk_ports.specs.Parts.{InParts};
-ghost use Rattle.ground_chain.specs.Restoring.{stop_by};
+ghost use Rattle.packet_store.specs.Faults.{stop_by};
 ghost use Rattle.multi_ground.specs.Apart.{AreRestored};
 ghost use Rattle.multi_ground.specs.MultiOutputs.{multi_parts, multi_work};
 

@@ -1,5 +1,5 @@
 -- A packet without recent changes at another level: its data differ in the four bits after the first two alone.
-use Rattle.std.proofs.Common.{◌≡◌, ℕ, ◌/◌, ◌%◌, Bool, true, false, List, [], ◌∷◌, ◌++◌, length, take, drop, replicate, Option, None, Some, refl, sym, ap, ◌∙◌, arith}
+use Rattle.std.proofs.Common.{◌≡◌, ◌≢◌, ℕ, ◌+◌, ◌*◌, ◌/◌, ◌%◌, ◌<◌, Bool, true, false, List, [], ◌∷◌, ◌++◌, length, take, drop, replicate, Option, None, Some, refl, sym, ap, ◌∙◌, arith}
 use Rattle.std.specs.Prelude.{IfSome}
 use Rattle.std.specs.List.{list_any}
 use Rattle.std.proofs.lemmas.Bool.{true≢false}
@@ -10,6 +10,7 @@ use Rattle.robust_window.proofs.Levels.{list_any-zeros}
 use Rattle.run_code.proofs.RunWords.{run_bits-zeros}
 use Rattle.packet_encode.specs.Forms.{AreDirections, Directions, Form, data_bits, form_bits}
 use Rattle.packet_encode.proofs.Directions.{change_bits-short, has_one-zeros, no_change}
+use Rattle.packet_decode.specs.Parts.{IsAtLevel, with_level}
 use Rattle.packet_decode.proofs.ExactChange.{any_one}
 
 -- ---- bytes
@@ -24,12 +25,25 @@ replaced : (high level low other : ℕ) (rest : List Bool)
 unfolding number_bits
 replaced high level low other rest = refl
 
--- the first byte differs in these four bits at most
-pub level_bits : (kept byte : ℕ) (rest : List ℕ) → byte / 64 ≡ kept / 64 → byte % 4 ≡ kept % 4 → bits_of (byte ∷ rest) ≡ take 2 (bits_of (kept ∷ rest)) ++ (number_bits 4 (byte / 4 % 16) ++ drop 6 (bits_of (kept ∷ rest)))
-level_bits kept byte rest high low =
-    ap (λ bits. bits ++ bits_of rest) (byte_parts byte ∙ (λ i. number_bits 2 (high i) ++ (number_bits 4 (byte / 4 % 16) ++ number_bits 2 (low i))))
-    ∙ sym (replaced (kept / 64) (kept / 4 % 16) (kept % 4) (byte / 4 % 16) (bits_of rest))
-    ∙ sym (ap (λ bits. take 2 (bits ++ bits_of rest) ++ (number_bits 4 (byte / 4 % 16) ++ drop 6 (bits ++ bits_of rest))) (byte_parts kept))
+-- bytes with another level differ in these four bits at most
+pub level_bits : (level : ℕ) (others : List ℕ) → level < 16 → others ≢ [] → bits_of (with_level level others) ≡ take 2 (bits_of others) ++ (number_bits 4 level ++ drop 6 (bits_of others))
+level_bits level [] below some = absurd (some refl)
+level_bits level (kept ∷ rest) below some =
+    let byte = kept / 64 * 64 + 4 * level + kept % 4 in
+    let high : byte / 64 ≡ kept / 64 = omega arith in
+    let middle : byte / 4 % 16 ≡ level = omega arith in
+    let low : byte % 4 ≡ kept % 4 = omega arith in
+    ap (λ bits. bits ++ bits_of rest) (byte_parts byte ∙ (λ i. number_bits 2 (high i) ++ (number_bits 4 (middle i) ++ number_bits 2 (low i))))
+    ∙ sym (replaced (kept / 64) (kept / 4 % 16) (kept % 4) level (bits_of rest))
+    ∙ sym (ap (λ bits. take 2 (bits ++ bits_of rest) ++ (number_bits 4 level ++ drop 6 (bits ++ bits_of rest))) (byte_parts kept))
+
+-- the byte and the rest of bytes at a level
+pub at_level : (level kept byte : ℕ) (others rest : List ℕ) → IsAtLevel level (kept ∷ others) (byte ∷ rest) → (byte / 64 ≡ kept / 64) × (byte % 4 ≡ kept % 4) × (rest ≡ others) × (byte / 4 % 16 ≡ level)
+at_level level kept byte others rest is =
+    let are : byte ∷ rest ≡ (kept / 64 * 64 + 4 * level + kept % 4) ∷ others = is.bytes_are in
+    let value : byte ≡ kept / 64 * 64 + 4 * level + kept % 4 = cc in
+    let same : rest ≡ others = cc in
+    (omega (arith, value, is.below), omega (arith, value, is.below), same, omega (arith, value, is.below))
 
 -- ---- forms
 

@@ -18,7 +18,7 @@ use Rattle.packet_decode.specs.declared.decoder.Reading.TheVariants.{Written}
 use Rattle.packet_decode.specs.Parts.{HasPlaces, IsAtLevel, SpellLatest, kept_state, part_by}
 use Rattle.packet_decode.proofs.DecoderAnswers.{IsFound, decoding_of, found_is, has_state, reading_is, written_is}
 use Rattle.packet_decode.proofs.OneAnswer.{spelled_places, spells_read}
-use Rattle.packet_decode.proofs.OtherLevel.{form_at_level, no_directions}
+use Rattle.packet_decode.proofs.OtherLevel.{form_at_level, level_bits, no_directions}
 use Rattle.packet_decode.proofs.UnchangedMask.{unchanged_mask}
 
 -- its content agrees with itself, and has the bits that were sent
@@ -94,7 +94,7 @@ module _ (latest : Latest) (shown : Change) (bytes : List ℕ) (has : HasPlaces 
   pub read_again : (others : List ℕ) → IsAtLevel level bytes others → parse_whole_packet (length latest.content) (kept_state latest) t (bits_of others) ≡ Read (record { change = now; outcome = Spelled (Some latest.mask) (Some latest.content) }) []
   read_again others at =
       spells_read (length latest.content) (kept_state latest) t (has_state (decoding_of latest shown) latest shown refl has) (bits_of others) (record r.form { level = level }) (Some latest.mask) (Some latest.content)
-      (spelled_again (length latest.content) r.state r.t (bits_of bytes) r.form latest.mask latest.content r.spells r.quiet level at.below (bits_of others) at.bits (kept_state latest) t mask_again content_again)
+      (spelled_again (length latest.content) r.state r.t (bits_of bytes) r.form latest.mask latest.content r.spells r.quiet level at.below (bits_of others) (ap bits_of at.bytes_are ∙ level_bits level bytes at.below at.some) (kept_state latest) t mask_again content_again)
       ∙ ap (λ (x : Change). Read (record { change = x; outcome = Spelled (Some latest.mask) (Some latest.content) }) []) change_again
 
 -- data that are read as what is known
@@ -126,10 +126,10 @@ kept_is true false bytes kept is some = absurd (some is)
 kept_is false few bytes kept is some = absurd (some is)
 
 -- data that were read, if their mask and their content became known and they have no change
-pub spell_latest : (f : ℕ) (state : State) (t : ℕ) (bytes kept : List ℕ) (new : Latest) (shown next : Change) (told : Option (List Bool)) (content : List Bool) → SpellsContent f state t (bits_of bytes)
+pub spell_latest : (f : ℕ) (state : State) (t : ℕ) (bytes kept : List ℕ) (new : Latest) (next : Change) (told : Option (List Bool)) (content : List Bool) → SpellsContent f state t (bits_of bytes)
     → ((form : Form) (mask read : Option (List Bool)) → Spells f state t (bits_of bytes) form mask read → IsFound next told (Some content) form mask read)
-    → kept ≡ bytes → told ≡ Some new.mask → new.content ≡ content → shown ≡ next → length new.content ≡ f → next.recent ≡ replicate (length next.recent) false → new.mask_number ≡ new.content_number → SpellLatest new shown kept
-spell_latest f state t bytes kept new shown next told content (form, mask, read, s) found kept_is told_is content_is shown_is len quiet numbers =
+    → kept ≡ bytes → told ≡ Some new.mask → new.content ≡ content → length new.content ≡ f → next.recent ≡ replicate (length next.recent) false → new.mask_number ≡ new.content_number → SpellLatest new next kept
+spell_latest f state t bytes kept new next told content (form, mask, read, s) found kept_is told_is content_is len quiet numbers =
     let is = found form mask (Some read) s in
     record {
       state = state;
@@ -139,7 +139,7 @@ spell_latest f state t bytes kept new shown next told content (form, mask, read,
           subst (λ (m : Option (List Bool)). Spells f state t (bits_of bytes) form m (Some new.content)) (sym is.mask_is ∙ told_is)
           (subst (λ (v : Option (List Bool)). Spells f state t (bits_of bytes) form mask v) (sym is.content_is ∙ ap Some (sym content_is)) s)
           );
-      recent = sym (ap (λ (x : Change). x.recent) (shown_is ∙ is.change_is));
+      recent = sym (ap (λ (x : Change). x.recent) is.change_is);
       quiet = subst (λ (x : Change). x.recent ≡ replicate (length x.recent) false) is.change_is quiet;
       numbers = numbers;
     }

@@ -1,11 +1,11 @@
 -- What the values stand for by which packets are read.
-use Rattle.std.specs.Prelude.{◌≡◌, ◌≢◌, ℕ, ◌<◌, ⊤, List, [], ◌++◌, Bool, true, false, replicate, take, drop, IfNone, IfSome, length, Option, None, Some, Result}
+use Rattle.std.specs.Prelude.{◌≡◌, ◌≢◌, ℕ, ◌+◌, ◌*◌, ◌/◌, ◌%◌, ◌<◌, ⊤, List, [], ◌∷◌, Bool, true, false, replicate, IfNone, IfSome, length, Option, None, Some, Result}
 use Rattle.std.specs.Borrow.{Bor}
 use Rattle.std.specs.Option.{option_map}
 use Rattle.bit_vectors.specs.declared.fault.BitFault.{BitFault}
 use Rattle.bit_vectors.specs.Eye.{EyeState, bits_left}
 use Rattle.bit_vectors.specs.Reading.{MovesOn, Parsed}
-use Rattle.bit_vectors.specs.Vectors.{IsVector, bits_of, number_bits}
+use Rattle.bit_vectors.specs.Vectors.{IsVector, bits_of}
 use Rattle.packet_encode.specs.Forms.{Form}
 use Rattle.packet_decode.specs.declared.latest.DataKind.{DataKind}
 use Rattle.packet_decode.specs.declared.latest.DataKind.TheVariants.{Deduced as DeducedKind, Sent as SentKind, Maskless as MasklessKind, Opaque as OpaqueKind}
@@ -90,11 +90,16 @@ pub record IsReady (first : Change) (mask content : Option (List Bool)) (vectors
   pub deduced : IfSome mask (λ v. length v ≡ length vectors.content)
   pub known : IfSome content (λ v. length v ≡ length vectors.content)
 
--- something, and these bytes are the same but for this level in the four bits after the first two
+-- these bytes with this level in the four bits after the first two
+abbrev pub with_level : ℕ → List ℕ → List ℕ
+with_level level [] = []
+with_level level (byte ∷ rest) = (byte / 64 * 64 + 4 * level + byte % 4) ∷ rest
+
+-- something, and these bytes are it with this level
 pub record IsAtLevel (level : ℕ) (others bytes : List ℕ) : Type 0 where
   pub below : level < 16
   pub some : others ≢ []
-  pub bits : bits_of bytes ≡ take 2 (bits_of others) ++ (number_bits 4 level ++ drop 6 (bits_of others))
+  pub bytes_are : bytes ≡ with_level level others
 
 -- Under some state, these bytes spell a packet by which the latest mask and the latest content became known. It has no recent
 -- changes, and these are those of the latest written packet too.

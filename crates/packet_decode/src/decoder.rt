@@ -1,10 +1,10 @@
 //! The decoder: the latest known mask and content, and the reading of the next packet.
 
-ghost use Rattle.std.specs.Prelude.{[], ◌≡◌, ◌^◌, ◌<◌, ◌≤◌, ◌↔◌, Bool, true, false, List, if◌then◌else◌, length, replicate, Option, Some, None, Ok, IfSome, IfNone, IfOk};
+ghost use Rattle.std.specs.Prelude.{[], ℕ, ◌≡◌, ◌^◌, ◌<◌, ◌≤◌, ◌↔◌, Bool, true, false, List, if◌then◌else◌, length, replicate, Option, Some, None, Ok, IfSome, IfNone, IfOk, IsSome};
 ghost use Rattle.bit_vectors.specs.Vectors.{IsPlaces, IsVector, bits_of};
 ghost use Rattle.bit_vectors.specs.Reading.{Read};
 ghost use Rattle.packet_encode.specs.Forms.{Form};
-ghost use Rattle.packet_decode.specs.State.{IsState, next_state, no_vectors};
+ghost use Rattle.packet_decode.specs.State.{IsState, in_reach, next_state, no_vectors};
 ghost use Rattle.packet_decode.specs.Spelling.{Spells};
 ghost use Rattle.packet_decode.specs.Answers.{Says, IsExactAnswer};
 ghost use Rattle.packet_decode.specs.PacketReading.{Spelled, missed, parse_whole_packet};
@@ -182,8 +182,8 @@ impl Decoder {
     }
 }
 
-/// The level of these data, if they are remembered but for it, and what is known is in reach of the packet with the number
-/// `t` at that level. Then they spell the latest written packet again, at that level.
+/// The level of these data, exactly if they are remembered but for it, and what is known is in reach of the packet with the
+/// number `t` at that level. Then they spell the latest written packet again, at that level.
 fn repeats(
     remembered: &Remembered,
     latest: &Latest,
@@ -193,7 +193,8 @@ fn repeats(
 ) -> Option<u8>
     requires remembered { IsRemembered latest.now shown.now remembered.now }
     requires latest { IsBefore t (length latest.now.content) latest.now }
-    ensures when { IfSome result (λ level. IsAtLevel level remembered.now bytes.now) }
+    ensures when { (level : ℕ) → (result ≡ Some level) ↔ (IsAtLevel level remembered.now bytes.now
+        × IsSome (in_reach (kept_state latest.now).content t level)) }
     ensures read { IfSome result (λ level.
         parse_whole_packet (length latest.now.content) (kept_state latest.now) t
         (bits_of bytes.now)

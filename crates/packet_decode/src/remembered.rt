@@ -1,6 +1,6 @@
 //! The data of a packet that are remembered, to be compared with those of the next one.
 
-ghost use Rattle.std.specs.Prelude.{◌≡◌, [], nat_le, ◌&&◌, if◌then◌else◌, length, IfSome};
+ghost use Rattle.std.specs.Prelude.{◌≡◌, ◌↔◌, ℕ, [], nat_le, ◌&&◌, if◌then◌else◌, length, Some};
 ghost use Rattle.packet_decode.specs.Parts.{IsAtLevel};
 
 use std::marker::Model;
@@ -47,10 +47,10 @@ impl Remembered {
         }
     }
 
-    /// The level of these bytes, which are the four bits after the first two, if something is remembered and they are it but for
-    /// these four.
+    /// The level of these bytes, which is the four bits after the first two, exactly if something is remembered and they are it
+    /// but for these four.
     pub fn level_of(&self, bytes: &[u8]) -> Option<u8>
-        ensures { IfSome result (λ level. IsAtLevel level self.now bytes.now) }
+        ensures { (level : ℕ) → (result ≡ Some level) ↔ IsAtLevel level self.now bytes.now }
     {
         let (kept, others) = self.bytes[..self.size].split_first()?;
         let (byte, rest) = bytes.split_first()?;

@@ -1,11 +1,11 @@
 //! Making packets from inputs.
 
-ghost use Rattle.std.specs.Prelude.{List, [], ◌∷◌, ◌++◌, ◌≡◌, ℕ, ◌↔◌, ◌+◌, ◌*◌, ◌<◌, ◌≤◌, false, length, replicate, IfOk, IsTrue};
+ghost use Rattle.std.specs.Prelude.{List, [], ◌∷◌, ◌++◌, ◌≡◌, ℕ, ◌↔◌, ◌+◌, ◌*◌, ◌/◌, ◌<◌, ◌≤◌, ◌||◌, nat_le, false, length, replicate, IfOk, IsTrue};
 ghost use Rattle.std.specs.Bool.{OnTrue};
 ghost use Rattle.bit_vectors.specs.Vectors.{IsPlaces, padded};
 ghost use Rattle.mask_update.specs.Histories.{History, flags_after, no_steps};
 ghost use Rattle.robust_window.specs.Changes.{MaskStep};
-ghost use Rattle.robust_window.specs.Window.{StandsFor as WindowStandsFor};
+ghost use Rattle.robust_window.specs.Window.{IsNextStep, StandsFor as WindowStandsFor};
 ghost use Rattle.packet_encode.specs.Encoder.{StandsFor, plain_data};
 ghost use Rattle.packet_encode.specs.Forms.{form_bits};
 ghost use Rattle.packet_encode.specs.Packets.{form_at, form_of, packet_at, with_next_input};
@@ -36,9 +36,9 @@ pub fn room(f: u32) -> u32
 }
 
 /// Makes the packet of each input (CCSDS 124.0-B-1). It keeps the running vectors and the latest changes, but not the
-/// history. Contracts see them, and say which histories they stand for. It also keeps the latest packet if that has no
-/// recent change, no mask and no whole content, so that the next one takes them over if they are the same, and how the latest
-/// extracted bits moved.
+/// history. Contracts see them, and say which histories they stand for. It also keeps the data of the latest packet if
+/// that has no recent change, no mask and no whole content, which the next such packet takes over if its input is the
+/// same, and how the latest extracted bits moved.
 #[derive(Debug, Drop)]
 pub struct Encoder {
     masks: Masks,
@@ -60,7 +60,7 @@ impl Model for Encoder {
 
 impl Encoder {
     /// Starts with this mask of `f` places and no input taken. Allocates the memory for every vector that `encode` fills,
-    /// and for the packet and the moves that it keeps.
+    /// and for the data and the moves that it keeps.
     pub fn open(alloc: Global, f: u32, mask: &Bits) -> Result<Encoder, NoMemory>
         requires valid { IsPlaces f }
         requires places { length mask.now ≡ f }
@@ -106,7 +106,7 @@ impl Encoder {
         let flags = self.forced(flags, robust);
         self.masks.step(input, flags.p);
         step_window(&mut self.window, &self.masks, flags.p, robust);
-        if is_plain(&self.window, flags) {
+        if takes_kept(&self.window, &self.masks, &self.kept, flags) {
             keep(
                 &mut self.kept,
                 self.is_kept,
@@ -164,11 +164,9 @@ impl Encoder {
 /// Takes the latest change of the masks. Without one, no vector is looked at.
 fn step_window(window: &mut Window, masks: &Masks, new_mask: bool, robust: u8)
     requires places { length masks.now.mask ≡ length window.old.recent }
-    requires most { window.old.taken < 4294967296 }
     requires first_change { window.old.taken ≡ 0
         → masks.now.change ≡ replicate (length masks.now.mask) false }
-    requires first_new_mask { window.old.taken ≡ 0 → new_mask ≡ false }
-    requires robust { robust ≤ 7 }
+    requires next { IsNextStep window.old new_mask robust }
     ensures stands { (steps : List MaskStep) (step : MaskStep)
         → WindowStandsFor steps window.old → step.change ≡ masks.now.change
         → step.new_mask ≡ new_mask → step.robust ≡ robust
@@ -227,11 +225,17 @@ fn keep(kept: &mut BitPen, is_kept: bool, input: &Bits, masks: &Masks, scratch: 
     }
 }
 
-/// Whether a packet with these flags has no recent change, no mask and no whole content.
-fn is_plain(window: &Window, flags: Flags) -> bool
+/// Whether a packet with these flags takes its data from those that are kept: it has no recent change, no mask and no whole
+/// content, and the input came again, or the data kept now are so few, bits for a fourth of the places at most, that to copy
+/// them is cheaper than to find them again.
+fn takes_kept(window: &Window, masks: &Masks, kept: &BitPen, flags: Flags) -> bool
     requires { 0 < window.now.taken }
     ensures { IsTrue result ↔ ((flags.f ≡ false) × (flags.r ≡ false)
-        × (window.now.recent ≡ replicate (length window.now.recent) false)) }
+        × (window.now.recent ≡ replicate (length window.now.recent) false)
+        × IsTrue (masks.now.again || nat_le (length kept.now.bits) (length masks.now.mask / 4))) }
 {
-    !flags.f && !flags.r && window.is_quiet()
+    !flags.f
+        && !flags.r
+        && window.is_quiet()
+        && (masks.is_again() || kept.len() <= masks.mask().len() / 4)
 }

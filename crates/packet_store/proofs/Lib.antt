@@ -2,4 +2,3 @@ pub mod Packets
 pub mod Walks
 pub mod Reading
 pub mod StoreTurns
-pub mod StoreParts

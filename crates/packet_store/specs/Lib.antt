@@ -3,6 +3,5 @@ pub mod Walks
 pub mod Answers
 pub mod Faults
 pub mod StoreReader
-pub mod StoreWorks
 pub mod Reading
 pub mod StoreWriter

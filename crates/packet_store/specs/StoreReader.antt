@@ -1,6 +1,7 @@
 -- A reader of a store: where it is, and what a call of `next` does to it and to the desk.
 use Rattle.std.specs.Prelude.{◌≡◌, ℕ, ◌+◌, ◌*◌, ◌^◌, ◌<◌, ◌≤◌, Bool, true, false, List, [], ◌++◌, length, take, drop, Option, Some, None, IfSome}
 use Rattle.desk_ports.specs.Meanings.{Meanings, Moves, left}
+use Rattle.desk_ports.specs.WalkWorks.{WalkOver}
 use Rattle.desk_ports.specs.declared.desk.Inlet.TheVariants as inlet
 use Rattle.packet_store.specs.declared.header.Header.{Header}
 use Rattle.packet_store.specs.declared.reader.Taken.{Taken}
@@ -9,7 +10,7 @@ use Rattle.packet_store.specs.declared.fault.WalkFault.{WalkFault}
 use Rattle.packet_store.specs.declared.fault.WalkFault.TheVariants as fault
 use Rattle.packet_store.specs.declared.fault.StoreFault.{StoreFault}
 use Rattle.packet_store.specs.declared.fault.StoreFault.TheVariants.{Cut, Version, Shape, ReadFault, TooMany}
-use Rattle.packet_store.specs.SpacePackets.{packet_bytes, is_chosen}
+use Rattle.packet_store.specs.SpacePackets.{Packet, packet_bytes, is_chosen}
 use Rattle.packet_store.specs.Walks.{IsGood, Walk, walk_from, packet_first, stopped_at}
 
 -- the chosen APID, the number of packets given so far and of their bytes, whether the reader goes on, the latest packet
@@ -34,6 +35,10 @@ stopped s ahead = record s { live = false; packet = []; body = []; ahead = ahead
 -- the walk from where the reader is, over the bytes that are ahead and then these, which the desk has left
 abbrev pub walk_on : ReaderState → List ℕ → Walk
 walk_on s bytes = walk_from s.chosen s.taken s.offset (s.ahead ++ bytes)
+
+-- its packets, and how it ends
+abbrev pub walk_over : ReaderState → WalkOver Packet WalkFault
+walk_over s = record { items = λ bytes. (walk_on s bytes).packets; ending = λ bytes. (walk_on s bytes).ending }
 
 -- Some bytes were read after those that were ahead, and nothing else happened to the desk. One packet of the walk was
 -- taken, which the reader keeps, and the walk goes on after it.

@@ -2,6 +2,7 @@
 
 ghost use Rattle.std.specs.Prelude.{◌≡◌};
 ghost use Rattle.packet_store.specs.declared.fault.StoreFault.TheVariants as fault;
+ghost use Rattle.packet_store.specs.declared.fault.RunFault.TheVariants as run;
 
 use desk_ports::Failed;
 use thiserror::Error;
@@ -55,5 +56,32 @@ impl From<Failed> for StoreFault {
 
     fn from(_failed: Failed) -> StoreFault {
         StoreFault::ReadFault
+    }
+}
+
+/// Why a run that reads a store and writes ends before the store does.
+#[derive(Clone, Copy, Debug, PartialEq, Eq, Error)]
+pub enum RunFault {
+    /// The store is not read on.
+    #[error("{0}")]
+    Store(StoreFault),
+    /// The desk could not write.
+    #[error("writing failed")]
+    WriteFault,
+}
+
+impl From<StoreFault> for RunFault {
+    ghost from_gives = { λ f e. e ≡ run.Store f };
+
+    fn from(fault: StoreFault) -> RunFault {
+        RunFault::Store(fault)
+    }
+}
+
+impl From<Failed> for RunFault {
+    ghost from_gives = { λ _ e. e ≡ run.WriteFault };
+
+    fn from(_failed: Failed) -> RunFault {
+        RunFault::WriteFault
     }
 }

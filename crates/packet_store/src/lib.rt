@@ -8,7 +8,7 @@ mod packet;
 mod reader;
 mod writer;
 
-pub use fault::{StoreFault, StoreKind, WalkFault};
+pub use fault::{RunFault, StoreFault, StoreKind, WalkFault};
 pub use header::{Header, PERIOD, first_header, header_bytes, read_header};
 pub use laws::{
     good_packets_are_walked, only_good_packets_are_read, packets_are_told_apart, stores_are_walked,

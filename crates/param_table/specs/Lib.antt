@@ -1,7 +1,6 @@
 pub mod Cells
 pub mod Rows
 pub mod Grammar
-pub mod Faults
 pub mod Texts
 pub mod Line
 pub mod Tabling

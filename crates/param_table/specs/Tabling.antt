@@ -3,9 +3,9 @@ use Rattle.std.specs.Prelude.{◌≡◌, ℕ, ◌+◌, ◌*◌, ◌^◌, ◌≤�
 use Rattle.bit_vectors.specs.Vectors.{IsVector}
 use Rattle.desk_ports.specs.Courses.{Course, Outputs, Work, to_report}
 use Rattle.desk_ports.specs.Parts.{if_whole}
+use Rattle.desk_ports.specs.WalkWorks.{WalkParts, WalkWork, parts_on, work_on}
 use Rattle.flight_chain.specs.declared.fault.RecordFault.{RecordFault}
-use Rattle.flight_chain.specs.Recordings.{recording_walk}
-use Rattle.flight_chain.specs.RecordWorks.{RecordParts, RecordWork, parts_on, work_on}
+use Rattle.flight_chain.specs.Recordings.{recording_walk, walk_over}
 use Rattle.param_table.specs.declared.rows.Column.{Column}
 use Rattle.param_table.specs.declared.tabling.Tabling.{Tabling}
 use Rattle.param_table.specs.Rows.{AreColumns}
@@ -58,7 +58,7 @@ table_work k = record { course = table_course k; answer = λ recording. length (
 -- ---- on the way
 
 -- what is left to do after so many packets and so many values out of their limits
-abbrev pub left_to_tabulate : List Column → ℕ → ℕ → RecordWork ℕ
+abbrev pub left_to_tabulate : List Column → ℕ → ℕ → WalkWork (List Bool) ℕ
 left_to_tabulate columns taken found = record {
   before = λ packets. record { output = values_lines columns taken packets; report = violation_rows (violations columns taken packets) };
   answer = λ packets. taken + length packets;
@@ -67,10 +67,10 @@ left_to_tabulate columns taken found = record {
 
 -- the work of tabulating what is ahead and what is left of the recording
 abbrev pub rest_work : Tabling → Work ℕ RecordFault
-rest_work s = work_on (left_to_tabulate s.fields s.taken s.found) (length s.packet) s.taken s.ahead
+rest_work s = work_on (left_to_tabulate s.fields s.taken s.found) (walk_over (length s.packet) s.taken s.ahead)
 
 -- the same part by part
-abbrev pub parts_left : List Column → ℕ → ℕ → RecordParts
+abbrev pub parts_left : List Column → ℕ → ℕ → WalkParts (List Bool)
 parts_left columns taken found = record {
   before = λ packets. packets_texts columns taken packets;
   after = λ packets. to_report (end_row (taken + length packets) (found + length (violations columns taken packets))) ∷ [];
@@ -78,7 +78,7 @@ parts_left columns taken found = record {
 
 -- these parts are owed: those of the rest of the recording
 abbrev pub OwesParts : Tabling → (List ℕ → List Outputs) → Type 0
-OwesParts s parts_of = parts_of ≡ parts_on (parts_left s.fields s.taken s.found) (length s.packet) s.taken s.ahead
+OwesParts s parts_of = parts_of ≡ parts_on (parts_left s.fields s.taken s.found) (walk_over (length s.packet) s.taken s.ahead)
 
 -- the columns fit the packets, and the numbers are not too great
 pub record IsTabling (s : Tabling) : Type 0 where

@@ -2,7 +2,6 @@
 #![tactic(auto)]
 
 mod cells;
-mod fault;
 mod fields;
 mod grammar;
 mod laws;
@@ -15,8 +14,8 @@ mod texts;
 mod writing;
 
 pub use cells::cell;
-pub use fault::TableFault;
 pub use fields::Fields;
+pub use flight_chain::FlightFault as TableFault;
 pub use laws::{
     fronts_owe_fronts, numbers_are_sums, parts_are_owed, whole_recordings_owe_their_texts,
     worked_tables,

@@ -4,12 +4,12 @@ ghost use Rattle.std.specs.Prelude.{◌≡◌, ◌≤◌, IfOk};
 ghost use Rattle.desk_ports.specs.Meanings.{IsReadyIn, IsReadyOut};
 ghost use Rattle.desk_ports.specs.Courses.{AfterRun, HasCause, by_stop};
 ghost use Rattle.desk_ports.specs.Parts.{InParts};
-ghost use Rattle.param_table.specs.Faults.{stop_by};
+ghost use Rattle.flight_chain.specs.Compressing.{stop_by};
 ghost use Rattle.param_table.specs.Rows.{AreColumns};
 ghost use Rattle.param_table.specs.Tabling.{table_parts, table_work};
 ghost use Rattle.bit_vectors.specs.Vectors.{IsPlaces};
 
-use crate::fault::TableFault;
+use crate::TableFault;
 use crate::fields::Fields;
 use crate::line::Line;
 use crate::tabling::Tabling;

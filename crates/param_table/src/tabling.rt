@@ -2,7 +2,7 @@
 
 ghost use Rattle.std.specs.Prelude.{◌-◌, ◌^◌, true};
 
-use crate::fault::TableFault;
+use crate::TableFault;
 use crate::fields::Fields;
 use crate::line::Line;
 use crate::writing::{write_end, write_packet};
@@ -29,7 +29,7 @@ impl Run for Tabling {
 
     type Data = RecordFault;
 
-    ghost use Rattle.param_table.specs.Faults.{stop_by};
+    ghost use Rattle.flight_chain.specs.Compressing.{stop_by};
     ghost use Rattle.desk_ports.specs.declared.desk.Outlet.TheVariants as outlet;
     ghost use Rattle.param_table.specs.Tabling.{Owes, OwesParts};
 

@@ -86,15 +86,14 @@ owed-restored r h copies chosen valid places short few =
 
 -- all three
 pub owed-chain : (c p r : Words) (plan script recording : List ℕ)
-    → IsRight (Compress, c) → apid p ≤ 2046 → apid r ≤ 2046 → apid p ≡ apid c → apid r ≡ apid c → bits r ≡ bits c
-    → All (λ b. b < 256) recording → IsInputWhole (Compress, c) recording
+    → IsValid (recorded_history c plan recording) → apid p ≤ 2046 → apid p ≡ apid c → apid r ≡ apid c → bits r ≡ bits c → IsInputWhole (Compress, c) recording
     → AreGapsShort (copies_of (copy_rows_of script)) (length (recorded_history c plan recording).steps) → length (arrivals (copies_of (copy_rows_of script)) (length (recorded_history c plan recording).steps)) ≤ 2 ^ 32
     → owed (course_of (Restore, r) [] (owed (course_of (Play, p) script (owed (course_of (Compress, c) plan recording)).output)).output)
     ≡ record { output = restored_bytes (recorded_history c plan recording) (copies_of (copy_rows_of script)); report = report_text (recorded_history c plan recording) (copies_of (copy_rows_of script)) }
-owed-chain c p r plan script recording right chosen restoring same_play same_restore same_bits bytes whole short few =
+owed-chain c p r plan script recording valid chosen same_play same_restore same_bits whole short few =
     let h : History = recorded_history c plan recording in
     let copies : ℕ → ℕ = copies_of (copy_rows_of script) in
-    let valid : IsValid h = IsValid-recorded c plan recording right bytes in
+    let restoring : apid r ≤ 2046 = omega (arith, chosen, same_play, same_restore) in
     let stored : (owed (course_of (Compress, c) plan recording)).output ≡ store_of h (apid p) =
     ap (λ (all : Outputs). all.output) (owed-recorded c plan recording whole) ∙ ap (store_of h) (sym same_play) in
     let handed : (owed (course_of (Play, p) script (owed (course_of (Compress, c) plan recording)).output)).output ≡ played_bytes copies (apid r) (store_of h (apid r)) =

@@ -2,11 +2,8 @@
 ghost use Rattle.std.specs.Prelude.{◌≡◌};
 ghost use Rattle.desk_ports.specs.declared.desk.Inlet.TheVariants as inlet;
 ghost use Rattle.pocket_cmd.specs.declared.status.Refusal.TheVariants as why;
-ghost use Rattle.packet_store.specs.Faults.{stop_of};
+ghost use Rattle.packet_store.specs.Faults.{stop_by, stop_of};
 ghost use Rattle.flight_chain.specs.Compressing.{stop_by as flight_stop};
-ghost use Rattle.loss_player.specs.Playing.{stop_by as play_stop};
-ghost use Rattle.ground_chain.specs.Restoring.{stop_by as restore_stop};
-ghost use Rattle.param_table.specs.Faults.{stop_by as table_stop};
 ghost use Rattle.pocket_cmd.specs.Faults.{of_recording, of_store, stop_with};
 ghost use Rattle.pocket_cmd.specs.Status.{exit_number, refusal_at, refusal_by, refusal_in, status_by};
 
@@ -14,10 +11,7 @@ use crate::text::TextFault;
 use bit_vectors::NoMemory;
 use desk_ports::Inlet;
 use flight_chain::FlightFault;
-use ground_chain::RestoreFault;
-use loss_player::PlayFault;
-use packet_store::{StoreFault, StoreKind};
-use param_table::TableFault;
+use packet_store::{RunFault, StoreFault, StoreKind};
 use side_tables::SideFault;
 use thiserror::Error;
 
@@ -140,38 +134,13 @@ impl From<StoreFault> for Refusal {
     }
 }
 
-impl From<PlayFault> for Refusal {
-    ghost from_gives = { λ f e. e ≡ refusal_by (stop_with of_store (play_stop f)) };
+impl From<RunFault> for Refusal {
+    ghost from_gives = { λ f e. e ≡ refusal_by (stop_with of_store (stop_by f)) };
 
-    fn from(fault: PlayFault) -> Refusal {
+    fn from(fault: RunFault) -> Refusal {
         match fault {
-            PlayFault::Store(fault) => fault.into(),
-            PlayFault::WriteFault => Refusal::WriteFault,
-        }
-    }
-}
-
-impl From<RestoreFault> for Refusal {
-    ghost from_gives = { λ f e. e ≡ refusal_by (stop_with of_store (restore_stop f)) };
-
-    fn from(fault: RestoreFault) -> Refusal {
-        match fault {
-            RestoreFault::Store(fault) => fault.into(),
-            RestoreFault::WriteFault => Refusal::WriteFault,
-        }
-    }
-}
-
-impl From<TableFault> for Refusal {
-    ghost from_gives = { λ f e. e ≡ refusal_by (stop_with of_recording (table_stop f)) };
-
-    fn from(fault: TableFault) -> Refusal {
-        match fault {
-            TableFault::CutRecord { t } => Refusal::CutRecord { t },
-            TableFault::SpareBit { t } => Refusal::SpareBit { t },
-            TableFault::TooMany => Refusal::TooMany,
-            TableFault::ReadFault => Refusal::ReadFault,
-            TableFault::WriteFault => Refusal::WriteFault,
+            RunFault::Store(fault) => fault.into(),
+            RunFault::WriteFault => Refusal::WriteFault,
         }
     }
 }

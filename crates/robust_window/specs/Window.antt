@@ -32,6 +32,10 @@ marks_of marks = number_bits 16 marks
 abbrev pub mark_back : ℕ → ℕ → Bool
 mark_back marks back = bit_at marks back == 1
 
+-- so many of the latest steps are kept: from 1 to 16
+abbrev pub AreKept : ℕ → Type 0
+AreKept count = (1 ≤ count) × (count ≤ 16)
+
 -- none of the latest marks is set
 abbrev pub AreClear : ℕ → ℕ → Type 0
 AreClear marks count = (back : ℕ) → back < count → mark_back marks back ≡ false
@@ -68,6 +72,11 @@ pub record StandsFor (steps : List MaskStep) (value : WindowState) : Type 0 wher
   pub level : 0 < length steps → value.level ≡ level_of steps (latest_change steps)
   pub twice : 0 < length steps → value.twice ≡ twice_of steps (latest_change steps)
   pub taken : value.taken ≡ length steps
+
+-- What the next step may take: it is one of the first 4,294,967,296 and its required robustness is at most 7; the first
+-- takes no new mask.
+abbrev pub IsNextStep : WindowState → Bool → ℕ → Type 0
+IsNextStep window new_mask robust = (window.taken < 4294967296) × (window.taken ≡ 0 → new_mask ≡ false) × (robust ≤ 7)
 
 -- What a window becomes at a step whose change is the latest of those kept already: the recent changes, the effective
 -- robustness level and 'twice' by what is kept.

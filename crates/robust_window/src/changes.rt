@@ -4,7 +4,7 @@ ghost use Rattle.std.specs.Prelude.{◌≡◌, ℕ, ◌+◌, ◌<◌, ◌≤◌,
 ghost use Rattle.std.specs.Bool.{OnFalse, OnTrue};
 ghost use Rattle.std.specs.List.{list_any, range_with_len};
 ghost use Rattle.mask_update.specs.Masks.{vector_of};
-ghost use Rattle.robust_window.specs.Window.{change_back};
+ghost use Rattle.robust_window.specs.Window.{AreKept, change_back};
 ghost use Rattle.bit_vectors.specs.Vectors.{IsPlaces};
 
 use crate::marks;
@@ -133,8 +133,7 @@ impl Changes {
     /// is zero then. `quiet` tells that it is zero before: if it is, and no such change is marked, it stays as it is.
     pub(crate) fn gather(&self, count: u8, recent: &mut Bits, quiet: bool) -> bool
         requires places { length recent.old ≡ self.now.places }
-        requires some { 1 ≤ count }
-        requires most { count ≤ 16 }
+        requires kept { AreKept count }
         requires quiet { OnTrue quiet (recent.old ≡ replicate (length recent.old) false) }
         ensures recent { recent.new ≡ vector_of (length recent.old) (λ place.
             list_any (λ back. slice_index_or (change_back self.now.latest back) place false)

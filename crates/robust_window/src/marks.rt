@@ -2,7 +2,7 @@
 
 ghost use Rattle.std.specs.Prelude.{◌≡◌, ℕ, ◌+◌, ◌<◌, ◌≤◌, ◌↔◌, IsTrue, nat_le, false, true, [], ◌∷◌, ◌++◌, drop, max, count_by};
 ghost use Rattle.std.specs.List.{range_with_len};
-ghost use Rattle.robust_window.specs.Window.{AreClear, mark_back, marks_of, new_mask_back};
+ghost use Rattle.robust_window.specs.Window.{AreKept, AreClear, mark_back, marks_of, new_mask_back};
 
 /// The marks with that of one more step, without the oldest.
 pub(crate) fn pushed(marks: u16, mark: bool) -> u16
@@ -21,8 +21,7 @@ pub(crate) fn is_set(marks: u16, back: u8) -> bool
 
 /// Whether none of the latest `count` marks is set. `count` is at least 1 and at most 16.
 pub(crate) fn are_clear(marks: u16, count: u8) -> bool
-    requires some { 1 ≤ count }
-    requires most { count ≤ 16 }
+    requires { AreKept count }
     ensures { IsTrue result ↔ AreClear marks count }
 {
     marks << (16 - count) == 0
@@ -30,8 +29,7 @@ pub(crate) fn are_clear(marks: u16, count: u8) -> bool
 
 /// Whether two or more of the latest `count` marks are set. `count` is at least 1 and at most 16.
 pub(crate) fn has_two(marks: u16, count: u8) -> bool
-    requires some { 1 ≤ count }
-    requires most { count ≤ 16 }
+    requires { AreKept count }
     ensures { result ≡ nat_le 2
         (count_by (new_mask_back (marks_of marks)) (range_with_len 0 count)) }
 {

@@ -3,7 +3,7 @@
 ghost use Rattle.std.specs.Prelude.{◌≡◌, ◌+◌, ◌-◌, ◌<◌, ◌≤◌, List, [], ◌∷◌, ◌++◌, length, drop, replicate, true, false, Contains, IfOk};
 ghost use Rattle.std.specs.Bool.{OnFalse, OnTrue};
 ghost use Rattle.robust_window.specs.Changes.{MaskStep, latest_change, level_of, mask_step, recent_of, twice_of};
-ghost use Rattle.robust_window.specs.Window.{Advances, StandsFor};
+ghost use Rattle.robust_window.specs.Window.{Advances, IsNextStep, StandsFor};
 ghost use Rattle.bit_vectors.specs.Vectors.{IsPlaces};
 
 use crate::changes::Changes;
@@ -69,11 +69,9 @@ impl Window {
     /// packet, at most 7. The first step does not change the mask and takes no new one.
     pub fn step(&mut self, change: &Bits, new_mask: bool, robust: u8)
         requires places { length change.now ≡ length self.old.recent }
-        requires most { self.old.taken < 4294967296 }
         requires first_change { self.old.taken ≡ 0
             → change.now ≡ replicate (length change.now) false }
-        requires first_new_mask { self.old.taken ≡ 0 → new_mask ≡ false }
-        requires robust { robust ≤ 7 }
+        requires next { IsNextStep self.old new_mask robust }
         // If it stood for some changes, it now stands for these and one more.
         ensures stands { (steps : List MaskStep) (step : MaskStep) → StandsFor steps self.old
             → step.change ≡ change.now → step.new_mask ≡ new_mask → step.robust ≡ robust
@@ -92,9 +90,7 @@ impl Window {
     /// The same for a step that does not change the mask: it looks at no vector for that.
     #[inline(always)]
     pub fn step_still(&mut self, new_mask: bool, robust: u8)
-        requires most { self.old.taken < 4294967296 }
-        requires first_new_mask { self.old.taken ≡ 0 → new_mask ≡ false }
-        requires robust { robust ≤ 7 }
+        requires { IsNextStep self.old new_mask robust }
         // If it stood for some changes, it now stands for these and one more, of zeros.
         ensures stands { (steps : List MaskStep) (step : MaskStep) → StandsFor steps self.old
             → step.change ≡ replicate (length self.old.recent) false → step.new_mask ≡ new_mask
@@ -109,8 +105,7 @@ impl Window {
     /// Makes the values at a step whose change is taken already.
     #[inline(always)]
     fn advance(&mut self, new_mask: bool, robust: u8)
-        requires most { self.old.taken < 4294967296 }
-        requires robust { robust ≤ 7 }
+        requires { IsNextStep self.old new_mask robust }
         ensures { Advances self.old self.new new_mask robust }
     {
         let most = self.taken.min(MOST_LEVEL) as u8;

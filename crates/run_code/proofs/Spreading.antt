@@ -261,7 +261,7 @@ span_skip b index all some within is_b =
 abbrev pub ShowsFirst : ℕ → List Bool → ℕ → Type 0
 ShowsFirst count bits word = (k : ℕ) → k < count → eqb (bit_at word (63 - k)) 1 ≡ get_or bits k false
 
-shown_take : (bits : List Bool) (word width : ℕ) → ShowsFirst width bits word → width ≤ 64 → width ≤ length bits → take width (number_bits 64 word) ≡ take width bits
+pub shown_take : (bits : List Bool) (word width : ℕ) → ShowsFirst width bits word → width ≤ 64 → width ≤ length bits → take width (number_bits 64 word) ≡ take width bits
 shown_take bits word width shows most enough =
     ext_get_or false (take width (number_bits 64 word)) (take width bits)
     (length-take-le width (number_bits 64 word) (omega (arith, length-number_bits 64 word)) ∙ sym (length-take-le width bits enough))
@@ -278,15 +278,15 @@ ShowsFirst-after bits word shown count most le shows =
     rw by (ap (λ (b : ℕ). eqb b 1) (bit_at_mod (word * 2 ^ count) 64 (63 - k) (omega arith) ∙ bit_at_shl word count (63 - k) (omega arith)) ∙ rw weight (shows (count + k) (omega arith) ∙ sym (get_or-drop count bits k false)))
 
 -- one word more
-pub spread_more : (old left a new b : List Bool) (index all at word ahead : ℕ) → 0 < index → 64 * index ≤ all → at < 2 ^ 64 → IsWord b (index - 1) at → IsWord new (index - 1) word → ((k : ℕ) → k / 64 ≢ index - 1 → get_or new k false ≡ get_or a k false)
-    → word_extract word at ≡ take (count_ones at) (number_bits 64 ahead) → ShowsFirst (count_ones at) left ahead → count_ones at ≤ length left
+pub spread_more : (old left a new b : List Bool) (index all at word : ℕ) → 0 < index → 64 * index ≤ all → IsWord b (index - 1) at → IsWord new (index - 1) word → ((k : ℕ) → k / 64 ≢ index - 1 → get_or new k false ≡ get_or a k false)
+    → word_extract word at ≡ take (count_ones at) left
     → old ≡ bits_at a (ones_span (64 * index) (all - 64 * index) b) ++ left → old ≡ bits_at new (ones_span (64 * (index - 1)) (all - 64 * (index - 1)) b) ++ drop (count_ones at) left
-spread_more old left a new b index all at word ahead some within small is_b is_new same bits shows enough so_far =
+spread_more old left a new b index all at word some within is_b is_new same bits so_far =
     let parts : all - 64 * (index - 1) ≡ 64 + (all - 64 * index) = omega arith in
     let next : 64 * (index - 1) + 64 ≡ 64 * index = omega arith in
     let kept : bits_at a (ones_span (64 * index) (all - 64 * index) b) ≡ bits_at new (ones_span (64 * index) (all - 64 * index) b) =
     span_same a new b (64 * index) (all - 64 * index) (λ k le. let other : k / 64 ≢ index - 1 = omega arith in sym (same k other)) in
-    let here : bits_at new (ones_span (64 * (index - 1)) 64 b) ≡ take (count_ones at) left = span_word new b (index - 1) word at is_new is_b ∙ bits ∙ shown_take left ahead (count_ones at) shows (ones-le 64 at small) enough in
+    let here : bits_at new (ones_span (64 * (index - 1)) 64 b) ≡ take (count_ones at) left = span_word new b (index - 1) word at is_new is_b ∙ bits in
     let split : bits_at new (ones_span (64 * (index - 1)) (all - 64 * (index - 1)) b) ≡ bits_at new (ones_span (64 * index) (all - 64 * index) b) ++ take (count_ones at) left =
     rw (parts, span_cat (64 * (index - 1)) 64 (all - 64 * index) b, next) (map-append _ (ones_span (64 * index) (all - 64 * index) b) (ones_span (64 * (index - 1)) 64 b) ∙ ap (λ (last : List Bool). bits_at new (ones_span (64 * index) (all - 64 * index) b) ++ last) here) in
     so_far ∙ rw (kept, split) (ap (λ (rest : List Bool). bits_at new (ones_span (64 * index) (all - 64 * index) b) ++ rest) (sym (take-append-drop (count_ones at) left)) ∙ sym (append_assoc (bits_at new (ones_span (64 * index) (all - 64 * index) b)) (take (count_ones at) left) (drop (count_ones at) left)))

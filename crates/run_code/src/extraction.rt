@@ -25,8 +25,7 @@ pub fn put_extract(pen: &mut BitPen, a: &Bits, b: &Bits)
 }
 
 /// Appends the bits of `a` at the ones of `b`, which has the same number of places, from the highest place down.
-/// The pen has room for them. The moves, one for each word of `b`, are those of any words: they are then those of the words
-/// of `b` with many ones, and where they are so already none is found anew. If there are fewer, the others are not kept.
+/// The pen has room for them. The moves may be those of any words, and any number of them; as many are left.
 pub fn put_extract_with(pen: &mut BitPen, a: &Bits, b: &Bits, moves: &mut [WordMoves])
     requires places { length a.now ≡ length b.now }
     requires room { length pen.old.bits + count_by (λ bit. bit) b.now ≤ pen.old.room }

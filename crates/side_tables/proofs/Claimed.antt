@@ -92,7 +92,7 @@ steps_from t step = record { first = t; last = 4294967295; step = step }
 pub RunHolds-joined : (claim : Claim) (cells : List Cell) (t next : ℕ) (run further : Run) → length cells ≤ 16384
     → RunHolds cells t run → RunHolds cells next further → Serves claim t run → Serves claim next further
     → names (steps_from t run.step) next ≡ true → ((n : ℕ) → run.until ≤ n → n < next → names (steps_from t run.step) n ≡ false)
-    → (n : ℕ) → t ≤ n → n < further.until → n < length cells → (n - t) % run.step ≡ 0 → claim.rank ≤ (cell_at cells n).rank
+    → RunHolds cells t (record { step = run.step; until = further.until; rank = claim.rank })
 RunHolds-joined claim cells t next run further few one two serves more named none n from until inside steps = elim (cases_lt n run.until) [
   | inl before ↦ let has = one n from before inside steps in let enough = serves.enough in omega (arith, has, enough)
   | inr past ↦ elim (cases_lt n next) [

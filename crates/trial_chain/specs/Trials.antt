@@ -14,9 +14,10 @@ use Rattle.trial_chain.specs.Draws.{input_draw, copies_draw}
 
 -- the bounds of a trial
 pub record IsTrial (packets f robust : ℕ) : Type 0 where
+  pub some : 1 ≤ packets
+  pub few : packets ≤ 10000
   pub places : 1 ≤ f
   pub most : f ≤ 4096
-  pub few : packets ≤ 10000
   pub required : robust ≤ 7
 
 -- ---- inputs

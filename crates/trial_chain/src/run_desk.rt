@@ -1,9 +1,8 @@
 //! A desk in memory for one run, of which no call is told to fail.
 
-ghost use Rattle.std.specs.Prelude.{◌≡◌, IsSome, IfOk, OnOk};
-ghost use Rattle.std.specs.FinMap as map;
+ghost use Rattle.std.specs.Prelude.{◌≡◌, IfOk, OnOk};
 ghost use Rattle.desk_ports.specs.Meanings.{Begins, Keeps, IsReadyOut};
-ghost use Rattle.trial_chain.specs.RunDesk.{NothingFails, run_meanings, run_counts, run_opened};
+ghost use Rattle.trial_chain.specs.RunDesk.{IsRunDesk, NothingFails, run_meanings, run_counts, run_opened};
 
 use bit_vectors::NoMemory;
 use desk_ports::{Desk, Failed, Inlet, MemDesk, Outlet};
@@ -36,8 +35,7 @@ impl RunDesk {
         input: &'static str,
         output: &'static str,
     ) -> Result<RunDesk, NoMemory>
-        requires nothing { NothingFails desk.plan }
-        requires held { IsSome (map.get desk.held input.now) }
+        requires { IsRunDesk desk input.now }
         ensures { IfOk result (λ run. run_meanings run ≡ run_opened desk input.now output.now) }
     {
         let mut run = RunDesk::over(desk, input);
@@ -50,8 +48,7 @@ impl RunDesk {
 
     /// A desk for a run whose input has this name.
     fn over(desk: MemDesk, input: &'static str) -> RunDesk
-        requires nothing { NothingFails desk.plan }
-        requires held { IsSome (map.get desk.held input.now) }
+        requires { IsRunDesk desk input.now }
         ensures { result ≡ record { desk = desk; input = input.now } }
     {
         RunDesk { desk, input }

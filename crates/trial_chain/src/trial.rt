@@ -53,11 +53,7 @@ pub fn run_trial(
     robust: u8,
     desk: &mut MemDesk,
 ) -> Result<Summary, NoMemory>
-    requires some { 1 ≤ packets }
-    requires few { packets ≤ 10000 }
-    requires places { 1 ≤ f }
-    requires most { f ≤ 4096 }
-    requires robust { robust ≤ 7 }
+    requires trial { IsTrial packets f robust }
     requires new { desk.old ≡ empty_desk }
     ensures held { OnOk result (HoldsTrial seed packets f robust desk.new.held) }
     ensures summary { IfOk result (λ summary. summary ≡ trial_summary seed packets f robust) }
@@ -97,8 +93,7 @@ struct Trial {
 impl Trial {
     /// Generates the trial, and holds its recording. Gives the rows of its script too.
     fn record(self, alloc: Global) -> Result<(MemDesk, Vec<CopyRow>), NoMemory>
-        requires trial { IsTrial self.packets self.f self.robust }
-        requires some { 1 ≤ self.packets }
+        requires { IsTrial self.packets self.f self.robust }
         ensures nothing { IfOk result (λ r. NothingFails r.0.plan) }
         ensures held { IfOk result
             (λ r. r.0.held ≡ held_recording self.seed self.packets self.f) }

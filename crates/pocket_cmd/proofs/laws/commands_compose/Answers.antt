@@ -15,7 +15,6 @@ returns-clause-restore c = λ r h copies right valid places short few.
     (whole-restored r h copies chosen.1 valid few, owed-restored r h copies chosen.1 valid places short few)
 
 pub returns-clause-chain : goal.returns-clause-chain
-returns-clause-chain c = λ k p r plan script recording right playing restoring.
-    let (_, (_, (_, (_, (one, _))))) = playing in
-    let (_, (_, (_, (_, (other, _))))) = restoring in
-    owed-chain k p r plan script recording right one.1 other.1
+returns-clause-chain c = λ k p r plan script recording right playing restoring same_play same_restore same_bits bytes.
+    let (_, (_, (_, (_, (chosen, _))))) = playing in
+    owed-chain k p r plan script recording (IsValid-recorded k plan recording right bytes) chosen.1 same_play same_restore same_bits

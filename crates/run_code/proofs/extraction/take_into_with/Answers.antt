@@ -13,7 +13,7 @@ use Rattle.run_code.proofs.InverseBits.{length-bits_at}
 use Rattle.run_code.proofs.Ones.{ones_below, places_down_apart, places_down_has, length-places_down, one_or_zero}
 use Rattle.run_code.proofs.Filling.{OnlyAt, IsExact-filled_at, parse_filled-few}
 use Rattle.run_code.proofs.Gathering.{ones_step, ones_below-past}
-use Rattle.run_code.proofs.Spreading.{ones_span, span_none, span_all, span_skip, places_parts, spread_more, spread_others, ShowsFirst, ShowsFirst-after}
+use Rattle.run_code.proofs.Spreading.{ones_span, span_none, span_all, span_skip, places_parts, spread_more, spread_others, ShowsFirst, ShowsFirst-after, shown_take}
 use Rattle.run_code.proofs.extraction.take_into_with.Goals as goal
 use Rattle.run_code.proofs.extraction.take_into_with.Goals.{After-word-at, Then-shown-count-2, then-shown-count+else-shown-count-2, else-shown-count}
 
@@ -103,8 +103,8 @@ loop-index-preserved c =
       places = c.set_word.ensures.len ∙ i.places;
       others = λ k zero. spread_others c.loop-index.a c.set_word.new.self c.args.b.now (c.loop-index.index - 1) c.word.result c.word-at.result c.spread-word.result c.word.ensures c.word-at.ensures c.set_word.ensures.word c.set_word.ensures.others c.spread-word.ensures.others k zero ∙ i.others k zero;
       taken = rw c.pass-in-loop-index.ensures.left
-          (spread_more (bits_left c.args.eye.now) (bits_left c.loop-index.eye) c.loop-index.a c.set_word.new.self c.args.b.now c.loop-index.index (64 * word_count (length c.args.b.now)) c.word-at.result c.spread-word.result c.if-shown-count.ahead (omega arith) (within (goal.at.loop-index-preserved c).After-word-at) c.word-at.type_inv c.word-at.ensures c.set_word.ensures.word c.set_word.ensures.others c.spread-word.ensures.bits
-          (λ k lt. here.shows k (omega (arith, lt, here.enough))) (omega (arith, here.enough, here.within)) i.taken);
+          (spread_more (bits_left c.args.eye.now) (bits_left c.loop-index.eye) c.loop-index.a c.set_word.new.self c.args.b.now c.loop-index.index (64 * word_count (length c.args.b.now)) c.word-at.result c.spread-word.result (omega arith) (within (goal.at.loop-index-preserved c).After-word-at) c.word-at.ensures c.set_word.ensures.word c.set_word.ensures.others
+          (c.spread-word.ensures.bits ∙ shown_take (bits_left c.loop-index.eye) c.if-shown-count.ahead (count_ones c.word-at.result) (λ k lt. here.shows k (omega (arith, lt, here.enough))) (ones-le 64 c.word-at.result c.word-at.type_inv) (omega (arith, here.enough, here.within))) i.taken);
       few = omega (arith, here.most);
       within = rw c.pass-in-loop-index.ensures.left (omega (arith, here.within, length-drop (count_ones c.word-at.result) (bits_left c.loop-index.eye)));
       shows = rw c.pass-in-loop-index.ensures.left (ShowsFirst-after (bits_left c.loop-index.eye) c.if-shown-count.ahead c.if-shown-count.shown (count_ones c.word-at.result) here.most here.enough here.shows);

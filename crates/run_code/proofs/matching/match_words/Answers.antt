@@ -21,13 +21,10 @@ loop-place-init c =
       same = rw (len, all) refl;
     }
 
-pub match_count-requires-clause-some : goal.match_count-requires-clause-some
-match_count-requires-clause-some c =
+pub match_count-requires : goal.match_count-requires
+match_count-requires c =
     let falling = rw c.in-Some.ensures.steps at c.loop-place.invariant.falling in
-    omega (arith, falling.0)
-
-pub match_count-requires-clause-most : goal.match_count-requires-clause-most
-match_count-requires-clause-most c = omega (arith, c.loop-place.invariant.within, c.len-below.ensures.vector)
+    record { valid = (omega (arith, falling.0), omega (arith, c.loop-place.invariant.within, c.len-below.ensures.vector)) }
 
 pub loop-place-preserved : goal.loop-place-preserved
 loop-place-preserved c =

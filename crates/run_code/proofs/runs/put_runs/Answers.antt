@@ -18,13 +18,10 @@ loop-place-init c =
       bits = rw (len, all) refl;
     }
 
-pub put_count-requires-clause-some : goal.put_count-requires-clause-some
-put_count-requires-clause-some c =
+pub put_count-requires-clause-valid : goal.put_count-requires-clause-valid
+put_count-requires-clause-valid c =
     let falling = rw c.in-Some.ensures.steps at c.loop-place.invariant.falling in
-    omega (arith, falling.0)
-
-pub put_count-requires-clause-most : goal.put_count-requires-clause-most
-put_count-requires-clause-most c = omega (arith, c.loop-place.invariant.within, c.len-below.ensures.vector)
+    (omega (arith, falling.0), omega (arith, c.loop-place.invariant.within, c.len-below.ensures.vector))
 
 pub put_count-requires-clause-room : goal.put_count-requires-clause-room
 put_count-requires-clause-room c =

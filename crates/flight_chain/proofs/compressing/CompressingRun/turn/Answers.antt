@@ -4,11 +4,13 @@ use Rattle.desk_ports.specs.declared.desk.Outlet.TheVariants as outlet
 use Rattle.desk_ports.specs.Courses.{to_output}
 use Rattle.desk_ports.proofs.Runs.{Ran-none}
 use Rattle.desk_ports.proofs.Steps.{AreReady-moved}
+use Rattle.desk_ports.proofs.WalkTurns.{Advances-on, Finishes-on, IsCutShort-on}
+use Rattle.desk_ports.specs.WalkWorks.{work_on}
 use Rattle.desk_ports.proofs.Writings.{Writes-is}
 use Rattle.flight_chain.specs.Compressing.{history_by, left_to_compress, Owes}
-use Rattle.flight_chain.specs.RecordWorks.{work_on}
-use Rattle.flight_chain.proofs.CompressCourses.{AfterStop-next, HasTaken-number, HasTaken-next, IsDone-compress, IsNext-read, rest_work-next}
-use Rattle.flight_chain.proofs.RecordTurns.{Advances-on, Finishes-on, IsCutShort-on}
+use Rattle.flight_chain.specs.Recordings.{walk_over}
+use Rattle.flight_chain.proofs.CompressCourses.{AfterStop-next, GoesOn-compress, HasTaken-number, HasTaken-next, IsDone-compress, IsNext-read, rest_work-next}
+use Rattle.flight_chain.proofs.RecordTurns.{IsOver-recording}
 use Rattle.flight_chain.proofs.compressing.CompressingRun.turn.Goals as goal
 
 -- the recording is not read on
@@ -24,7 +26,7 @@ pub returns-in_default-clause-turned : goal.returns-in_default-clause-turned
 returns-in_default-clause-turned g c = λ work owes.
     let told = rw c.in_default.is at c.in_ok-t.ensures in
     let number = c.taken-number.ensures.kept ∙ HasTaken-number owes.k owes.inputs c.args.self.now owes.taken in
-    Finishes-on _ _ (IsDone-compress owes.k owes.inputs c.taken-number.result number) owes.work_is told.ahead told.none told.at_end (Ran-none (g.D.Desk.meaning c.read_input.new.desk))
+    Finishes-on (IsDone-compress owes.k owes.inputs c.taken-number.result number) (IsOver-recording owes.k.places (length owes.inputs) told.ahead told.none told.at_end) owes.work_is (Ran-none (g.D.Desk.meaning c.read_input.new.desk))
 
 -- a packet was read
 pub put-requires-clause-output : goal.put-requires-clause-output
@@ -41,7 +43,7 @@ returns-in_err-put-clause-turned g c = λ work owes.
     let next = IsNext-read owes.k owes.inputs c.args.self.now _ c.taken-number.result c.in-Some.t c.args.self.now.ahead c.read_input.new.ahead a b input owes.taken owes.right.places c.taken-number.ensures.kept told.number told.taken in
     let written = Writes-is (ap to_output next.packet) (c.in_err-put.ensures.written (history_by owes.k owes.inputs) owes.taken.stands) in
     let p = err_from_is_err_and c.from_residual-in_err-put.result c.from_residual-in_err-put.ensures.1 in
-    rw (p.1, p.2) (IsCutShort-on next.reads owes.work_is written.front)
+    rw (p.1, p.2) (IsCutShort-on next.takes (GoesOn-compress owes.k owes.inputs input) owes.work_is written.front)
 
 pub returns-clause-turned : goal.returns-clause-turned
 returns-clause-turned g c = λ work owes.
@@ -57,6 +59,6 @@ returns-clause-turned g c = λ work owes.
     let stands = put.stands (history_by owes.k owes.inputs) owes.taken.stands in
     let inputs : List (List Bool) = owes.inputs ++ input ∷ [] in
     let taken = HasTaken-next owes.k owes.inputs s owes.taken c.in-Some.t next.number input c.put.new.self stands put.places put.robust put.apid put.rows in
-    let owed : Owes c.put.new.self (work_on (left_to_compress owes.k inputs) owes.k.places (length owes.inputs + 1) after) =
+    let owed : Owes c.put.new.self (work_on (left_to_compress owes.k inputs) (walk_over owes.k.places (length owes.inputs + 1) after)) =
     record { k = owes.k; inputs = inputs; taken = taken; work_is = rest_work-next owes.k owes.inputs input after c.put.new.self.ahead put.ahead; right = put.right } in
-    Advances-on next.reads owes.work_is written.wrote owed
+    Advances-on next.takes (GoesOn-compress owes.k owes.inputs input) owes.work_is written.wrote owed

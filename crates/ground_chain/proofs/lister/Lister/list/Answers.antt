@@ -7,7 +7,8 @@ use Rattle.desk_ports.proofs.Steps.{AfterRun-after, Reaches-wrote}
 use Rattle.ground_chain.specs.declared.listing.Listing.{Listing}
 use Rattle.ground_chain.specs.declared.receiving.Receiving.{Receiving}
 use Rattle.ground_chain.specs.Listing.{listed_texts, listing_course, listing_work}
-use Rattle.ground_chain.specs.Restoring.{RestorerState, stop_by}
+use Rattle.packet_store.specs.Faults.{stop_by}
+use Rattle.ground_chain.specs.Restoring.{RestorerState}
 use Rattle.ground_chain.specs.Receiving.{IsUnread, receiving_state, rest_work}
 use Rattle.ground_chain.proofs.DeliveredRuns.{IsOk-run}
 use Rattle.ground_chain.proofs.RestCourses.{Owes-unread, Steps-unread, listing_course-is}

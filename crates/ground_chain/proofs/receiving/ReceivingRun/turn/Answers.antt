@@ -5,21 +5,25 @@ use Rattle.desk_ports.specs.Courses.{Outputs}
 use Rattle.desk_ports.specs.Turns.{Wrote}
 use Rattle.desk_ports.proofs.Steps.{AreReady-moved}
 use Rattle.desk_ports.proofs.Parts.{WroteFront-by, WroteWithin-one, put_all-one}
-use Rattle.packet_store.proofs.StoreTurns.{AfterStop-on, Advances-on, IsCutShort-on, Finishes-on, IsCutShort-end-on}
-use Rattle.packet_store.proofs.StoreParts.{AdvancesParts-on, IsCutWithin-on, IsCutWithin-end-on, StopsWithin-on}
+use Rattle.desk_ports.proofs.WalkTurns.{Advances-on, AdvancesParts-on, AfterStop-on, Finishes-on, IsCutShort-on, IsCutShort-end-on, IsCutWithin-on, IsCutWithin-end-on, StopsWithin-on}
+use Rattle.packet_store.specs.Faults.{stop_of}
+use Rattle.packet_store.specs.StoreReader.{walk_over}
+use Rattle.packet_store.proofs.StoreTurns.{AfterWalk-store, IsOver-store, TakesItem-store}
 use Rattle.ground_chain.specs.Reception.{next_judged}
 use Rattle.ground_chain.specs.Receiving.{left_to_receive, parts_left}
 use Rattle.ground_chain.specs.declared.restored.Restored.{Restored}
-use Rattle.ground_chain.proofs.RestCourses.{EndsWithin-received, IsDone-received, Owes-next, Reads-judged, Reads-passed, ReadsParts-judged, ReadsParts-passed}
+use Rattle.ground_chain.proofs.RestCourses.{EndsWithin-received, GoesOn-judged, GoesOn-passed, IsDone-received, Owes-next, PartsGoOn-judged, PartsGoOn-passed}
 use Rattle.ground_chain.proofs.receiving.ReceivingRun.turn.Goals as goal
 
 -- the store is not read on
 pub returns-in_err-taken-clause-turned : goal.returns-in_err-taken-clause-turned
 returns-in_err-taken-clause-turned g c = λ work owes.
     let s = c.args.self.now in
-    let meaning = g.D.Desk.meaning in
+    let a = g.D.Desk.meaning c.args.desk.now in
+    let b = g.D.Desk.meaning c.next.new.desk in
+    let reason = c.in_err-taken.field-0.0 in
     let p = err_from_is_err_and c.from_residual.result c.from_residual.ensures.1 in
-    rw (p.1, p.2) (AfterStop-on (left_to_receive g.A.Account.texts s) work s.reader c.next.new.self.ahead (meaning c.args.desk.now) (meaning c.next.new.desk) c.in_err-taken.field-0.0 owes.work_is refl c.in_err-taken.ensures.fault)
+    rw (p.1, p.2) (AfterStop-on (left_to_receive g.A.Account.texts s) (walk_over s.reader) work a b (stop_of reason) owes.work_is refl (AfterWalk-store s.reader c.next.new.self.ahead a b reason c.in_err-taken.ensures.fault))
 
 -- the store is at its end
 pub end-requires : goal.end-requires
@@ -32,13 +36,13 @@ returns-in_err-end-clause-turned g c = λ work owes.
     let s = c.args.self.now in
     let told = rw c.in_default.is at c.in_ok-taken.ensures in
     let p = err_from_is_err_and c.from_residual-in_err-end.result c.from_residual-in_err-end.ensures.1 in
-    rw (p.1, p.2) (IsCutShort-end-on s.reader (IsDone-received g.A.Account.texts s) owes.work_is told.ahead told.none told.at_end (WroteFront-by c.in_err-end.ensures.front))
+    rw (p.1, p.2) (IsCutShort-end-on (IsDone-received g.A.Account.texts s) (IsOver-store s.reader told.ahead told.none told.at_end) owes.work_is (WroteFront-by c.in_err-end.ensures.front))
 
 pub returns-in_default-clause-turned : goal.returns-in_default-clause-turned
 returns-in_default-clause-turned g c = λ work owes.
     let s = c.args.self.now in
     let told = rw c.in_default.is at c.in_ok-taken.ensures in
-    rw c.restored.ensures (Finishes-on s.reader (IsDone-received g.A.Account.texts s) owes.work_is told.ahead told.none told.at_end c.in_ok-end.ensures.wrote)
+    rw c.restored.ensures (Finishes-on (IsDone-received g.A.Account.texts s) (IsOver-store s.reader told.ahead told.none told.at_end) owes.work_is c.in_ok-end.ensures.wrote)
 
 -- a packet was read
 pub arrive-requires-clause-ready : goal.arrive-requires-clause-ready
@@ -53,10 +57,10 @@ returns-in_err-arrive-clause-turned g c = λ work owes.
     let meaning = g.D.Desk.meaning in
     let told = rw c.in-Some.is at c.in_ok-taken.ensures in
     let judges = rw c.body-body.ensures at c.arrive.ensures.judges in
-    let reads = Reads-judged g.A.Account.texts s t (meaning c.args.desk.now) (meaning c.next.new.desk) c.in-Some.taken told.some c.if-taken.true judges in
+    let goes_on = GoesOn-judged g.A.Account.texts s t (meaning c.args.desk.now) (meaning c.next.new.desk) c.in-Some.taken told.some c.if-taken.true judges in
     let p = err_from_is_err_and c.from_residual-in_err-arrive.result c.from_residual-in_err-arrive.ensures.1 in
     let front = rw c.body-body.ensures at c.in_err-arrive.ensures.written.front in
-    rw (p.1, p.2) (IsCutShort-on reads owes.work_is (WroteFront-by front))
+    rw (p.1, p.2) (IsCutShort-on (TakesItem-store told.some) goes_on owes.work_is (WroteFront-by front))
 
 pub returns-in_ok-arrive-clause-turned : goal.returns-in_ok-arrive-clause-turned
 returns-in_ok-arrive-clause-turned g c = λ work owes.
@@ -67,10 +71,10 @@ returns-in_ok-arrive-clause-turned g c = λ work owes.
     let b = g.D.Desk.meaning c.next.new.desk in
     let told = rw c.in-Some.is at c.in_ok-taken.ensures in
     let judges = rw c.body-body.ensures at c.arrive.ensures.judges in
-    let reads = Reads-judged texts s t a b c.in-Some.taken told.some c.if-taken.true judges in
+    let goes_on = GoesOn-judged texts s t a b c.in-Some.taken told.some c.if-taken.true judges in
     let wrote = rw c.body-body.ensures at c.in_ok-arrive.ensures.written.wrote in
     let packets = ap (λ (r : Restored). r.packets) judges.restored in
-    Advances-on reads owes.work_is wrote (Owes-next texts s t a b c.in-Some.taken work owes told.some (omega (arith, packets)))
+    Advances-on (TakesItem-store told.some) goes_on owes.work_is wrote (Owes-next texts s t a b c.in-Some.taken work owes told.some (omega (arith, packets)))
 
 pub returns-else-taken-clause-turned : goal.returns-else-taken-clause-turned
 returns-else-taken-clause-turned g c = λ work owes.
@@ -80,16 +84,19 @@ returns-else-taken-clause-turned g c = λ work owes.
     let a = g.D.Desk.meaning c.args.desk.now in
     let b = g.D.Desk.meaning c.next.new.desk in
     let told = rw c.in-Some.is at c.in_ok-taken.ensures in
-    let reads = Reads-passed texts s reader a b c.in-Some.taken told.some c.if-taken.false in
-    Advances-on reads owes.work_is (Ran-none b) (Owes-next texts s (record s { reader = reader }) a b c.in-Some.taken work owes told.some (omega arith))
+    let goes_on = GoesOn-passed texts s reader a b c.in-Some.taken told.some c.if-taken.false in
+    Advances-on (TakesItem-store told.some) goes_on owes.work_is (Ran-none b) (Owes-next texts s (record s { reader = reader }) a b c.in-Some.taken work owes told.some (omega arith))
 
 -- ---- part by part
 
 pub returns-in_err-taken-clause-parts : goal.returns-in_err-taken-clause-parts
 returns-in_err-taken-clause-parts g c = λ parts_of owes.
-    let meaning = g.D.Desk.meaning in
+    let reader = c.args.self.now.reader in
+    let a = g.D.Desk.meaning c.args.desk.now in
+    let b = g.D.Desk.meaning c.next.new.desk in
+    let reason = c.in_err-taken.field-0.0 in
     let p = err_from_is_err_and c.from_residual.result c.from_residual.ensures.1 in
-    rw (p.1, p.2) (StopsWithin-on g.A.Account.texts.first parts_of (meaning c.args.desk.now) (meaning c.next.new.desk) c.in_err-taken.field-0.0)
+    rw (p.1, p.2) (StopsWithin-on g.A.Account.texts.first parts_of (walk_over reader) a b (stop_of reason) (AfterWalk-store reader c.next.new.self.ahead a b reason c.in_err-taken.ensures.fault))
 
 pub returns-in_err-end-clause-parts : goal.returns-in_err-end-clause-parts
 returns-in_err-end-clause-parts g c = λ parts_of owes.
@@ -98,7 +105,7 @@ returns-in_err-end-clause-parts g c = λ parts_of owes.
     let told = rw c.in_default.is at c.in_ok-taken.ensures in
     let front = c.in_err-end.ensures.front in
     let p = err_from_is_err_and c.from_residual-in_err-end.result c.from_residual-in_err-end.ensures.1 in
-    rw (p.1, p.2) (IsCutWithin-end-on (parts_left texts s) s.reader refl owes told.ahead told.none told.at_end (record { stand = front.stand; wrote = front.wrote; within = EndsWithin-received texts s front.front }))
+    rw (p.1, p.2) (IsCutWithin-end-on (parts_left texts s) refl (IsOver-store s.reader told.ahead told.none told.at_end) owes (record { stand = front.stand; wrote = front.wrote; within = EndsWithin-received texts s front.front }))
 
 pub returns-in_err-arrive-clause-parts : goal.returns-in_err-arrive-clause-parts
 returns-in_err-arrive-clause-parts g c = λ parts_of owes.
@@ -107,10 +114,10 @@ returns-in_err-arrive-clause-parts g c = λ parts_of owes.
     let meaning = g.D.Desk.meaning in
     let told = rw c.in-Some.is at c.in_ok-taken.ensures in
     let judges = rw c.body-body.ensures at c.arrive.ensures.judges in
-    let reads = ReadsParts-judged g.A.Account.texts s t (meaning c.args.desk.now) (meaning c.next.new.desk) c.in-Some.taken told.some c.if-taken.true judges in
+    let goes_on = PartsGoOn-judged g.A.Account.texts s t (meaning c.args.desk.now) (meaning c.next.new.desk) c.in-Some.taken told.some c.if-taken.true judges in
     let p = err_from_is_err_and c.from_residual-in_err-arrive.result c.from_residual-in_err-arrive.ensures.1 in
     let front = rw c.body-body.ensures at c.in_err-arrive.ensures.written.front in
-    rw (p.1, p.2) (IsCutWithin-on reads owes (WroteWithin-one front))
+    rw (p.1, p.2) (IsCutWithin-on (TakesItem-store told.some) goes_on owes (WroteWithin-one front))
 
 pub returns-in_ok-arrive-clause-parts : goal.returns-in_ok-arrive-clause-parts
 returns-in_ok-arrive-clause-parts g c = λ parts_of owes.
@@ -122,10 +129,10 @@ returns-in_ok-arrive-clause-parts g c = λ parts_of owes.
     let d = g.D.Desk.meaning c.arrive.new.desk in
     let told = rw c.in-Some.is at c.in_ok-taken.ensures in
     let judges = rw c.body-body.ensures at c.arrive.ensures.judges in
-    let reads = ReadsParts-judged texts s t a b c.in-Some.taken told.some c.if-taken.true judges in
+    let goes_on = PartsGoOn-judged texts s t a b c.in-Some.taken told.some c.if-taken.true judges in
     let part = texts.parts (next_judged s.judging.reception c.in-Some.taken.count c.next.new.self.body) in
     let wrote = rw c.body-body.ensures at c.in_ok-arrive.ensures.written.wrote in
-    AdvancesParts-on (part ∷ []) reads owes (subst (λ (o : Outputs). Wrote b d o) (sym (put_all-one part)) wrote) refl
+    AdvancesParts-on (part ∷ []) (TakesItem-store told.some) goes_on owes (subst (λ (o : Outputs). Wrote b d o) (sym (put_all-one part)) wrote) refl
 
 pub returns-else-taken-clause-parts : goal.returns-else-taken-clause-parts
 returns-else-taken-clause-parts g c = λ parts_of owes.
@@ -133,5 +140,5 @@ returns-else-taken-clause-parts g c = λ parts_of owes.
     let a = g.D.Desk.meaning c.args.desk.now in
     let b = g.D.Desk.meaning c.next.new.desk in
     let told = rw c.in-Some.is at c.in_ok-taken.ensures in
-    let reads = ReadsParts-passed g.A.Account.texts s c.next.new.self a b c.in-Some.taken told.some c.if-taken.false in
-    AdvancesParts-on [] reads owes (Ran-none b) refl
+    let goes_on = PartsGoOn-passed g.A.Account.texts s c.next.new.self a b c.in-Some.taken told.some c.if-taken.false in
+    AdvancesParts-on [] (TakesItem-store told.some) goes_on owes (Ran-none b) refl

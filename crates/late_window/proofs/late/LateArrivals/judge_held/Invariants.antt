@@ -1,12 +1,9 @@
-use Rattle.std.proofs.Common.{◌≡◌, length}
+use Rattle.std.proofs.Common.{length}
 use Rattle.late_window.proofs.Held.{JudgedPart}
 use Rattle.late_window.proofs.late.LateArrivals.judge_held.Given as goal
 
 abbrev pub invariant-loop-self : goal.invariant-loop-self
-invariant-loop-self g l = record {
-  part : JudgedPart l.initial.self l.self (g.D.Desk.meaning l.initial.desk) (g.D.Desk.meaning l.desk);
-  counts : g.D.Desk.counts l.desk ≡ g.D.Desk.counts l.initial.desk;
-}
+invariant-loop-self g l = JudgedPart g.D.Desk.meaning g.D.Desk.counts l.initial.self l.self l.initial.desk l.desk
 
 abbrev pub decreases-loop-self : goal.decreases-loop-self
 decreases-loop-self g l = length l.self.sorter.line.held

@@ -6,11 +6,12 @@ use Rattle.desk_ports.specs.Courses.{AfterRun, HasCause, IsCutShort, by_stop, to
 use Rattle.desk_ports.specs.Turns.{Reaches, Wrote}
 use Rattle.desk_ports.specs.Parts.{InParts, IsCutWithin}
 use Rattle.desk_ports.proofs.Parts.{InParts-after, IsCutWithin-wrote, ReachesParts-wrote}
-use Rattle.packet_store.specs.StoreWorks.{parts_on}
+use Rattle.desk_ports.specs.WalkWorks.{parts_on}
+use Rattle.packet_store.specs.StoreReader.{walk_over}
 use Rattle.desk_ports.proofs.Steps.{AfterRun-after, IsCutShort-wrote, Reaches-wrote}
 use Rattle.desk_ports.proofs.Writings.{Writes-is, WritesBy-alone}
 use Rattle.ground_chain.specs.Report.{header_row}
-use Rattle.ground_chain.specs.Restoring.{stop_by}
+use Rattle.packet_store.specs.Faults.{stop_by}
 use Rattle.late_window.specs.declared.run.LateRun.{LateRun}
 use Rattle.late_window.specs.Restoring.{IsUnread, LateState, late_course, late_parts, late_state, late_work, parts_to_sort, rest_work}
 use Rattle.late_window.proofs.Delivered.{IsLateDelivered-run, IsOk-run}
@@ -55,7 +56,7 @@ returns-in_err-write_all-clause-order g c =
     let r = c.self.inside.run in
     let k = late_state r in
     let written = WritesBy-alone outlet.Report outlet.Report _ (Writes-is (ap to_report c.as_bytes.ensures.value) c.in_err-write_all.ensures) in
-    let cut = IsCutWithin-wrote outlet.Report (late_parts k.places k.apid k.window) (parts_on (parts_to_sort r) r.reader) a b (to_report header_row) (late_parts-unread r c.self.invariant) written.front in
+    let cut = IsCutWithin-wrote outlet.Report (late_parts k.places k.apid k.window) (parts_on (parts_to_sort r) (walk_over r.reader)) a b (to_report header_row) (late_parts-unread r c.self.invariant) written.front in
     let p = err_from_is_err_and c.from_residual.result c.from_residual.ensures.1 in
     rw (p.1, p.2) (subst (λ (s : LateState). IsCutWithin outlet.Report (late_parts s.places s.apid s.window) a b) c.self.view_is cut)
 
@@ -66,7 +67,7 @@ returns-clause-order g c =
     let d = g.D.Desk.meaning c.drive.new.desk in
     let r = c.self.inside.run in
     let k = late_state r in
-    let here = parts_on (parts_to_sort r) r.reader in
+    let here = parts_on (parts_to_sort r) (walk_over r.reader) in
     let written = Writes-is (ap to_report c.as_bytes.ensures.value) c.in_ok-write_all.ensures in
     let reached = ReachesParts-wrote (late_parts k.places k.apid k.window) here a b (to_report header_row) (late_parts-unread r c.self.invariant) written.wrote in
     subst (λ (s : LateState). InParts outlet.Report (late_parts s.places s.apid s.window) a d (by_stop stop_by c.drive.result)) c.self.view_is

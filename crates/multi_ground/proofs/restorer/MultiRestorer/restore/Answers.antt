@@ -8,11 +8,12 @@ use Rattle.desk_ports.specs.Parts.{InParts, IsCutWithin}
 use Rattle.desk_ports.proofs.Parts.{InParts-after, IsCutWithin-wrote, ReachesParts-wrote}
 use Rattle.desk_ports.proofs.Steps.{AfterRun-after, IsCutShort-wrote, Reaches-wrote}
 use Rattle.desk_ports.proofs.Writings.{WritesBy-alone}
-use Rattle.packet_store.specs.StoreWorks.{parts_on, work_on}
+use Rattle.desk_ports.specs.WalkWorks.{parts_on, work_on}
+use Rattle.packet_store.specs.StoreReader.{walk_over}
 use Rattle.side_tables.specs.declared.rows.StreamRow.{StreamRow}
 use Rattle.side_tables.specs.Streams.{AreStreams}
-use Rattle.ground_chain.specs.declared.fault.RestoreFault.{RestoreFault}
-use Rattle.ground_chain.specs.Restoring.{stop_by}
+use Rattle.packet_store.specs.declared.fault.RunFault.{RunFault}
+use Rattle.packet_store.specs.Faults.{stop_by}
 use Rattle.multi_ground.specs.Apart.{AreRestored}
 use Rattle.multi_ground.specs.MultiOutputs.{multi_course, multi_header, multi_parts, multi_work}
 use Rattle.multi_ground.specs.Receiving.{left_after, parts_left}
@@ -26,12 +27,12 @@ returns-in_err-write_header-clause-ran g c =
     let a = g.D.Desk.meaning c.args.desk.now in
     let b = g.D.Desk.meaning c.write_header.new.desk in
     let s = c.self.inside.receiving in
-    let cut = IsCutShort-wrote (multi_work s.streams) (work_on (left_after s.streams []) s.reader) a b (to_report multi_header) (Steps-unread s c.self.invariant) c.in_err-write_header.ensures.front in
+    let cut = IsCutShort-wrote (multi_work s.streams) (work_on (left_after s.streams []) (walk_over s.reader)) a b (to_report multi_header) (Steps-unread s c.self.invariant) c.in_err-write_header.ensures.front in
     let p = err_from_is_err_and c.from_residual.result c.from_residual.ensures.1 in
     rw (p.1, p.2) (subst (λ (streams : List StreamRow). IsCutShort (multi_course streams) a b) c.self.view_is cut)
 
 pub drive-requires-clause-owed : goal.drive-requires-clause-owed
-drive-requires-clause-owed g c = let s = c.self.inside.receiving in record { work = work_on (left_after s.streams []) s.reader; owed = Owes-unread s c.self.invariant }
+drive-requires-clause-owed g c = let s = c.self.inside.receiving in record { work = work_on (left_after s.streams []) (walk_over s.reader); owed = Owes-unread s c.self.invariant }
 
 pub returns-clause-ran : goal.returns-clause-ran
 returns-clause-ran g c =
@@ -39,7 +40,7 @@ returns-clause-ran g c =
     let b = g.D.Desk.meaning c.write_header.new.desk in
     let d = g.D.Desk.meaning c.drive.new.desk in
     let s = c.self.inside.receiving in
-    let here = work_on (left_after s.streams []) s.reader in
+    let here = work_on (left_after s.streams []) (walk_over s.reader) in
     let reached = Reaches-wrote (multi_work s.streams) here a b (to_report multi_header) (Steps-unread s c.self.invariant) c.in_ok-write_header.ensures.wrote in
     subst (λ (streams : List StreamRow). AfterRun (multi_work streams) a d (by_stop stop_by c.drive.result)) c.self.view_is
     (AfterRun-after (multi_work s.streams) here a b d (by_stop stop_by c.drive.result) reached (c.drive.ensures.ran here (Owes-unread s c.self.invariant)))
@@ -52,7 +53,7 @@ returns-in_err-write_header-clause-order g c =
     let b = g.D.Desk.meaning c.write_header.new.desk in
     let s = c.self.inside.receiving in
     let written = WritesBy-alone outlet.Report outlet.Report _ c.in_err-write_header.ensures in
-    let cut = IsCutWithin-wrote outlet.Report (multi_parts s.streams) (parts_on (parts_left s.streams []) s.reader) a b (to_report multi_header) (multi_parts-unread s c.self.invariant) written.front in
+    let cut = IsCutWithin-wrote outlet.Report (multi_parts s.streams) (parts_on (parts_left s.streams []) (walk_over s.reader)) a b (to_report multi_header) (multi_parts-unread s c.self.invariant) written.front in
     let p = err_from_is_err_and c.from_residual.result c.from_residual.ensures.1 in
     rw (p.1, p.2) (subst (λ (streams : List StreamRow). IsCutWithin outlet.Report (multi_parts streams) a b) c.self.view_is cut)
 
@@ -62,7 +63,7 @@ returns-clause-order g c =
     let b = g.D.Desk.meaning c.write_header.new.desk in
     let d = g.D.Desk.meaning c.drive.new.desk in
     let s = c.self.inside.receiving in
-    let here = parts_on (parts_left s.streams []) s.reader in
+    let here = parts_on (parts_left s.streams []) (walk_over s.reader) in
     let reached = ReachesParts-wrote (multi_parts s.streams) here a b (to_report multi_header) (multi_parts-unread s c.self.invariant) c.in_ok-write_header.ensures.wrote in
     subst (λ (streams : List StreamRow). InParts outlet.Report (multi_parts streams) a d (by_stop stop_by c.drive.result)) c.self.view_is
     (InParts-after outlet.Report (multi_parts s.streams) here a b d (by_stop stop_by c.drive.result) reached (c.drive.ensures.parts here (OwesParts-unread s c.self.invariant)))
@@ -71,9 +72,9 @@ pub returns-clause-shape : goal.returns-clause-shape
 returns-clause-shape g c = λ byte is.
     let a = g.D.Desk.meaning c.args.desk.now in
     let d = g.D.Desk.meaning c.drive.new.desk in
-    no_shape c.args.self a d byte (subst (λ (result : Result ℕ RestoreFault). AfterRun (multi_work c.args.self) a d (by_stop stop_by result)) is (returns-clause-ran g c))
+    no_shape c.args.self a d byte (subst (λ (result : Result ℕ RunFault). AfterRun (multi_work c.args.self) a d (by_stop stop_by result)) is (returns-clause-ran g c))
 
-done : (streams : List StreamRow) (store : List ℕ) (a b : Meanings) (result : Result ℕ RestoreFault) → AreStreams streams → All (λ n. n < 256) store → left a inlet.Main ≡ Some store → AfterRun (multi_work streams) a b (by_stop stop_by result) → OnOk result (AreRestored streams store a b)
+done : (streams : List StreamRow) (store : List ℕ) (a b : Meanings) (result : Result ℕ RunFault) → AreStreams streams → All (λ n. n < 256) store → left a inlet.Main ≡ Some store → AfterRun (multi_work streams) a b (by_stop stop_by result) → OnOk result (AreRestored streams store a b)
 done streams store a b (Ok written) are bytes told ran = AreRestored-done streams store a b are bytes told ran.ends
 done streams store a b (Err fault) are bytes told ran = tt
 

@@ -34,6 +34,9 @@ module _ (c : After-repeats) (level : ℕ) (is : parse_whole_packet (length c.se
   again_has : IsState c.args.self.now.places c.args.self.now.state
   again_has = has_state c.args.self.now c.self.inside.latest c.self.inside.shown c.self.view_is c.self.invariant.latest_vectors
 
+pub set_level-requires : goal.set_level-requires
+set_level-requires c = ((c.in-Some.ensures.when c.in-Some.level).0 refl).0.below
+
 pub returns-in-Some-clause-exact : goal.returns-in-Some-clause-exact
 returns-in-Some-clause-exact c =
     let at = (goal.at.returns-in-Some-clause-exact c).After-repeats in
@@ -216,12 +219,12 @@ told_both : (c : After-keep_mask) → tells_mask c.in_ok-kind.kind ≡ true → 
 told_both c mask content quiet kept after vector kept_bytes after_is content_is =
     let places : length vector ≡ c.args.self.now.places =
     ap length content_is ∙ c.take_whole_packet.ensures.places ∙ c.self.invariant.room_places ∙ ap (λ (d : Decoding). d.places) c.self.view_is in
-    spell_latest c.args.self.now.places c.args.self.now.state c.args.t c.args.bytes.now kept
-    (record { mask_number = c.keep_mask.new.latest.mask_number; mask = c.keep_mask.new.latest.mask; content_number = Some c.args.t; content = vector }) after c.take_whole_packet.new.room.next (told c).mask c.take_whole_packet.new.room.draft.content
+    rw after_is (spell_latest c.args.self.now.places c.args.self.now.state c.args.t c.args.bytes.now kept
+    (record { mask_number = c.keep_mask.new.latest.mask_number; mask = c.keep_mask.new.latest.mask; content_number = Some c.args.t; content = vector }) c.take_whole_packet.new.room.next (told c).mask c.take_whole_packet.new.room.draft.content
     ((says_by c.args.self.now.places c.args.self.now.state c.args.t (bits_of c.args.bytes.now) (spelled_has c) (Ok Written) (spelled_answer c true content) Written).0 refl)
-    (found c true content) kept_bytes ((told c).is_new mask) content_is after_is places
+    (found c true content) kept_bytes ((told c).is_new mask) content_is places
     (c.is_quiet-quiet.ensures.zero.0 quiet)
-    (c.keep_mask.ensures.number mask)
+    (c.keep_mask.ensures.number mask))
 
 remembered : (c : After-swap) → IsRemembered (record { mask_number = c.keep_mask.new.latest.mask_number; mask = c.keep_mask.new.latest.mask; content_number = Some c.args.t; content = c.swap.new.x }) c.take_over.new.self c.keep.new.self
 remembered c some =

@@ -20,9 +20,9 @@ use Rattle.packet_encode.proofs.Bounds.{form_bits-some}
 use Rattle.packet_encode.proofs.OfHistories.{form_of-most, form_of-same}
 use Rattle.packet_encode.proofs.Plain.{plain_bits, plain_form, plain_form-is}
 use Rattle.packet_encode.proofs.encoder.Encoder.encode.Goals as goal
-use Rattle.packet_encode.proofs.encoder.Encoder.encode.Goals.{After-is_plain, After-put_level, After-put_pen}
+use Rattle.packet_encode.proofs.encoder.Encoder.encode.Goals.{After-takes_kept, After-put_level, After-put_pen}
 
-module _ (c : After-is_plain) where
+module _ (c : After-takes_kept) where
   abbrev masks : Running
   masks = c.step.new.self
 
@@ -100,16 +100,16 @@ module _ (c : After-is_plain) where
       )
 
   -- if it is plain
-  plain : c.is_plain.result ≡ true → form ≡ plain_form masks window.level
+  plain : c.takes_kept.result ≡ true → form ≡ plain_form masks window.level
   plain is =
-      let plain = c.is_plain.ensures.0 is in
+      let plain = c.takes_kept.ensures.0 is in
       plain_form-is masks masks.mask window.recent window.level window.twice c.args.input.now c.forced-flags.result window.level plain.0 plain.1 plain.2 refl refl (sym c.step.ensures.previous) recent_len
 
   below : window.level ≤ 15 → window.level < 16
   below most = omega arith
 
   -- the bits of a plain packet
-  whole : c.is_plain.result ≡ true → window.level ≤ 15 → form_bits form ≡ number_bits 6 (32 + window.level) ++ plain_data masks
+  whole : c.takes_kept.result ≡ true → window.level ≤ 15 → form_bits form ≡ number_bits 6 (32 + window.level) ++ plain_data masks
   whole is most = ap form_bits (plain is) ∙ plain_bits masks window.level (below most)
 
 -- the data that are kept are those of an input that comes again
@@ -121,62 +121,62 @@ keep-requires-clause-kept c =
     OnTrue_at is_kept c.self.invariant.bits ∙ (λ i. data_bits None (Part (extract (previous i) (sym mask i))))))
 
 -- the first part, and the data that are kept
-plain_whole : (c : After-put_level) → form_bits (form (goal.at.After-put_level c).After-is_plain) ≡ c.put_level.new.pen.bits ++ c.keep.new.kept.bits
+plain_whole : (c : After-put_level) → form_bits (form (goal.at.After-put_level c).After-takes_kept) ≡ c.put_level.new.pen.bits ++ c.keep.new.kept.bits
 plain_whole c =
-    let d = (goal.at.After-put_level c).After-is_plain in
-    whole d c.if-is_plain.true (omega (arith, c.effective.ensures.kept, c.effective.ensures.most))
+    let d = (goal.at.After-put_level c).After-takes_kept in
+    whole d c.if-takes_kept.true (omega (arith, c.effective.ensures.kept, c.effective.ensures.most))
     ∙ sym ((λ i. c.put_level.ensures.bits i ++ c.keep.ensures.bits i) ∙ (λ i. (c.requires.empty i ++ number_bits 6 (32 + c.effective.ensures.kept i)) ++ plain_data (masks d)))
 
 pub put_pen-requires : goal.put_pen-requires
 put_pen-requires c =
     let d = (goal.at.put_pen-requires c).After-put_level in
-    omega (arith, ap length (plain_whole d), length-append c.put_level.new.pen.bits c.keep.new.kept.bits, most (goal.at.put_pen-requires c).After-is_plain, c.requires.room, c.put_level.ensures.room)
+    omega (arith, ap length (plain_whole d), length-append c.put_level.new.pen.bits c.keep.new.kept.bits, most (goal.at.put_pen-requires c).After-takes_kept, c.requires.room, c.put_level.ensures.room)
 
-bits_again : (c : After-put_pen) → c.put_pen.new.self.bits ≡ form_bits (form (goal.at.After-put_pen c).After-is_plain)
+bits_again : (c : After-put_pen) → c.put_pen.new.self.bits ≡ form_bits (form (goal.at.After-put_pen c).After-takes_kept)
 bits_again c = c.put_pen.ensures.bits ∙ sym (plain_whole (goal.at.After-put_pen c).After-put_level)
 
-pub returns-then-is_plain-clause-stands : goal.returns-then-is_plain-clause-stands
-returns-then-is_plain-clause-stands c = λ h stands.
-    let d = (goal.at.returns-then-is_plain-clause-stands c).After-is_plain in
+pub returns-then-takes_kept-clause-stands : goal.returns-then-takes_kept-clause-stands
+returns-then-takes_kept-clause-stands c = λ h stands.
+    let d = (goal.at.returns-then-takes_kept-clause-stands c).After-takes_kept in
     record { masks = masks_stand d h stands; window = window_stands d h stands }
 
-pub returns-then-is_plain-clause-bits : goal.returns-then-is_plain-clause-bits
-returns-then-is_plain-clause-bits c = λ h stands.
-    bits_again (goal.at.returns-then-is_plain-clause-bits c).After-put_pen ∙ ap form_bits (form_is (goal.at.returns-then-is_plain-clause-bits c).After-is_plain h stands)
+pub returns-then-takes_kept-clause-bits : goal.returns-then-takes_kept-clause-bits
+returns-then-takes_kept-clause-bits c = λ h stands.
+    bits_again (goal.at.returns-then-takes_kept-clause-bits c).After-put_pen ∙ ap form_bits (form_is (goal.at.returns-then-takes_kept-clause-bits c).After-takes_kept h stands)
 
-pub returns-then-is_plain-clause-packet : goal.returns-then-is_plain-clause-packet
-returns-then-is_plain-clause-packet c = λ h stands.
-    ap padded (bits_again (goal.at.returns-then-is_plain-clause-packet c).After-put_pen ∙ ap form_bits (form_is (goal.at.returns-then-is_plain-clause-packet c).After-is_plain h stands))
+pub returns-then-takes_kept-clause-packet : goal.returns-then-takes_kept-clause-packet
+returns-then-takes_kept-clause-packet c = λ h stands.
+    ap padded (bits_again (goal.at.returns-then-takes_kept-clause-packet c).After-put_pen ∙ ap form_bits (form_is (goal.at.returns-then-takes_kept-clause-packet c).After-takes_kept h stands))
 
-pub returns-then-is_plain-clause-some : goal.returns-then-is_plain-clause-some
-returns-then-is_plain-clause-some c =
-    omega (arith, ap length (bits_again (goal.at.returns-then-is_plain-clause-some c).After-put_pen), form_bits-some (form (goal.at.returns-then-is_plain-clause-some c).After-is_plain))
+pub returns-then-takes_kept-clause-some : goal.returns-then-takes_kept-clause-some
+returns-then-takes_kept-clause-some c =
+    omega (arith, ap length (bits_again (goal.at.returns-then-takes_kept-clause-some c).After-put_pen), form_bits-some (form (goal.at.returns-then-takes_kept-clause-some c).After-takes_kept))
 
-pub returns-then-is_plain-clause-most : goal.returns-then-is_plain-clause-most
-returns-then-is_plain-clause-most c =
-    omega (arith, ap length (bits_again (goal.at.returns-then-is_plain-clause-most c).After-put_pen), most (goal.at.returns-then-is_plain-clause-most c).After-is_plain)
+pub returns-then-takes_kept-clause-most : goal.returns-then-takes_kept-clause-most
+returns-then-takes_kept-clause-most c =
+    omega (arith, ap length (bits_again (goal.at.returns-then-takes_kept-clause-most c).After-put_pen), most (goal.at.returns-then-takes_kept-clause-most c).After-takes_kept)
 
-pub returns-else-is_plain-clause-stands : goal.returns-else-is_plain-clause-stands
-returns-else-is_plain-clause-stands c = λ h stands.
-    let d = (goal.at.returns-else-is_plain-clause-stands c).After-is_plain in
+pub returns-else-takes_kept-clause-stands : goal.returns-else-takes_kept-clause-stands
+returns-else-takes_kept-clause-stands c = λ h stands.
+    let d = (goal.at.returns-else-takes_kept-clause-stands c).After-takes_kept in
     record { masks = masks_stand d h stands; window = window_stands d h stands }
 
-pub returns-else-is_plain-clause-bits : goal.returns-else-is_plain-clause-bits
-returns-else-is_plain-clause-bits c = λ h stands.
-    let d = (goal.at.returns-else-is_plain-clause-bits c).After-is_plain in
+pub returns-else-takes_kept-clause-bits : goal.returns-else-takes_kept-clause-bits
+returns-else-takes_kept-clause-bits c = λ h stands.
+    let d = (goal.at.returns-else-takes_kept-clause-bits c).After-takes_kept in
     c.write_packet.ensures.bits ∙ ap form_bits (form_is d h stands)
 
-pub returns-else-is_plain-clause-packet : goal.returns-else-is_plain-clause-packet
-returns-else-is_plain-clause-packet c = λ h stands.
-    let d = (goal.at.returns-else-is_plain-clause-packet c).After-is_plain in
+pub returns-else-takes_kept-clause-packet : goal.returns-else-takes_kept-clause-packet
+returns-else-takes_kept-clause-packet c = λ h stands.
+    let d = (goal.at.returns-else-takes_kept-clause-packet c).After-takes_kept in
     ap padded (c.write_packet.ensures.bits ∙ ap form_bits (form_is d h stands))
 
-pub returns-else-is_plain-clause-some : goal.returns-else-is_plain-clause-some
-returns-else-is_plain-clause-some c =
-    let d = (goal.at.returns-else-is_plain-clause-some c).After-is_plain in
+pub returns-else-takes_kept-clause-some : goal.returns-else-takes_kept-clause-some
+returns-else-takes_kept-clause-some c =
+    let d = (goal.at.returns-else-takes_kept-clause-some c).After-takes_kept in
     omega (arith, ap length c.write_packet.ensures.bits, form_bits-some (form d))
 
-pub returns-else-is_plain-clause-most : goal.returns-else-is_plain-clause-most
-returns-else-is_plain-clause-most c =
-    let d = (goal.at.returns-else-is_plain-clause-most c).After-is_plain in
+pub returns-else-takes_kept-clause-most : goal.returns-else-takes_kept-clause-most
+returns-else-takes_kept-clause-most c =
+    let d = (goal.at.returns-else-takes_kept-clause-most c).After-takes_kept in
     omega (arith, ap length c.write_packet.ensures.bits, most d)

@@ -16,7 +16,7 @@ returns-then-are_clear-clause-recent c =
     let s = c.self.inside in
     OnTrue_at c.if-quiet.true c.requires.quiet
     ∙ gathered-zeros (length c.args.recent.now) c.args.self.now.latest c.args.count
-    (λ back lt. latest-quiet s.slots s.marks s.zeros c.args.self.now c.self.invariant c.self.view_is back (omega (arith, lt, c.requires.most)) (c.are_clear.ensures.0 c.if-are_clear.true back lt) ∙ ap (λ n. replicate n false) (sym c.requires.places))
+    (λ back lt. latest-quiet s.slots s.marks s.zeros c.args.self.now c.self.invariant c.self.view_is back (omega (arith, lt, c.requires.kept.1)) (c.are_clear.ensures.0 c.if-are_clear.true back lt) ∙ ap (λ n. replicate n false) (sym c.requires.places))
 
 pub loop-back-init : goal.loop-back-init
 loop-back-init c =

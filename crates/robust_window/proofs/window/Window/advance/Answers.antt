@@ -20,7 +20,7 @@ invariant_of-self c =
       full = c.self.invariant.full;
       zero = subst (λ (n : ℕ). OnTrue c.gather-self-inside.result (c.gather-self-inside.new.recent ≡ replicate n false)) (sym same) c.gather-self-inside.ensures.zero;
       some = c.gather-self-inside.ensures.some;
-      level_most = omega (arith, c.requires.robust, c.quiet_level-self-inside.ensures.most);
+      level_most = omega (arith, c.requires.2, c.quiet_level-self-inside.ensures.most);
       taken_most = omega arith;
     }
 

@@ -9,4 +9,4 @@ returns-else-is_zero-clause-stands c = λ steps step stands change new_mask robu
     let changes = ap (λ (k : LatestChanges). k.latest) c.push.ensures ∙ ap (λ (k : WindowState). drop 1 k.changes ++ c.args.change.now ∷ []) c.self.view_is in
     subst (λ (s : MaskStep). StandsFor (steps ++ s ∷ []) c.advance.new.self) (sym (λ i. record { change = change i; new_mask = new_mask i; robust = robust i }))
     (StandsFor-next steps (record { change = c.args.change.now; new_mask = c.args.new_mask; robust = c.args.robust }) c.args.self.now c.advance.new.self stands (ap (λ (k : WindowState). length k.changes) (sym c.self.view_is) ∙ c.self.invariant.full)
-    c.requires.robust c.requires.places c.requires.first_change (subst (λ (k : WindowState). Advances k c.advance.new.self c.args.new_mask c.args.robust) (λ i. record (c.self.view_is i) { changes = changes i }) c.advance.ensures))
+    c.requires.next.2 c.requires.places c.requires.first_change (subst (λ (k : WindowState). Advances k c.advance.new.self c.args.new_mask c.args.robust) (λ i. record (c.self.view_is i) { changes = changes i }) c.advance.ensures))

@@ -11,8 +11,8 @@ use Rattle.trial_chain.proofs.TrialRuns.{whole-recording}
 use Rattle.trial_chain.proofs.TrialHeld.{IsSome-here, held-compressed, kept-recording}
 use Rattle.trial_chain.proofs.trial.Trial.compress.Goals as goal
 
-pub compress-requires-clause-held : goal.compress-requires-clause-held
-compress-requires-clause-held c = IsSome-here c.args.held.held map.empty recording_name (trial_recording c.args.self.seed c.args.self.packets c.args.self.f) c.requires.held
+pub compress-requires-clause-run : goal.compress-requires-clause-run
+compress-requires-clause-run c = record { nothing = c.requires.nothing; held = IsSome-here c.args.held.held map.empty recording_name (trial_recording c.args.self.seed c.args.self.packets c.args.self.f) c.requires.held }
 
 pub compress-requires-clause-whole : goal.compress-requires-clause-whole
 compress-requires-clause-whole c =

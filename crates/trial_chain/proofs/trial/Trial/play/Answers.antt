@@ -12,10 +12,8 @@ use Rattle.trial_chain.proofs.TrialRuns.{numbers-store, whole-store}
 use Rattle.trial_chain.proofs.TrialHeld.{IsSome-here, held-played, kept-store, same-copies}
 use Rattle.trial_chain.proofs.trial.Trial.play.Goals as goal
 
-pub play-requires-clause-held : goal.play-requires-clause-held
-play-requires-clause-held c =
-    IsSome-here c.args.held.held (held_recording c.args.self.seed c.args.self.packets c.args.self.f) store_name
-    (trial_store c.args.self.seed c.args.self.packets c.args.self.f c.args.self.robust) c.requires.held
+pub play-requires-clause-run : goal.play-requires-clause-run
+play-requires-clause-run c = record { nothing = c.requires.nothing; held = IsSome-here c.args.held.held (held_recording c.args.self.seed c.args.self.packets c.args.self.f) store_name (trial_store c.args.self.seed c.args.self.packets c.args.self.f c.args.self.robust) c.requires.held }
 
 pub play-requires-clause-whole : goal.play-requires-clause-whole
 play-requires-clause-whole c =

@@ -12,8 +12,8 @@ use Rattle.trial_chain.proofs.TrialRuns.{numbers-restored, whole-played}
 use Rattle.trial_chain.proofs.TrialHeld.{IsSome-played, held-restored, kept-played}
 use Rattle.trial_chain.proofs.trial.Trial.restore.Goals as goal
 
-pub restore-requires-clause-held : goal.restore-requires-clause-held
-restore-requires-clause-held c = IsSome-played c.args.self.seed c.args.self.packets c.args.self.f c.args.self.robust c.args.held.held c.requires.held
+pub restore-requires-clause-run : goal.restore-requires-clause-run
+restore-requires-clause-run c = record { nothing = c.requires.nothing; held = IsSome-played c.args.self.seed c.args.self.packets c.args.self.f c.args.self.robust c.args.held.held c.requires.held }
 
 pub restore-requires-clause-whole : goal.restore-requires-clause-whole
 restore-requires-clause-whole c =
