@@ -1,6 +1,6 @@
 //! Making packets from inputs.
 
-ghost use Rattle.std.specs.Prelude.{List, [], ◌∷◌, ◌++◌, ◌≡◌, ℕ, ◌↔◌, ◌+◌, ◌*◌, ◌/◌, ◌<◌, ◌≤◌, ◌||◌, nat_le, false, length, replicate, IfOk, IsTrue};
+ghost use Rattle.std.specs.Prelude.{List, [], ◌∷◌, ◌++◌, ◌≡◌, ℕ, ◌↔◌, ◌+◌, ◌*◌, ◌/◌, ◌<◌, ◌≤◌, ◌||◌, nat_le, max, false, length, replicate, IfOk, IsTrue};
 ghost use Rattle.std.specs.Bool.{OnTrue};
 ghost use Rattle.bit_vectors.specs.Vectors.{IsPlaces, padded};
 ghost use Rattle.mask_update.specs.Histories.{History, flags_after, no_steps};
@@ -25,6 +25,9 @@ const FORCED: Flags = Flags {
     f: true,
     r: true,
 };
+
+/// How many bits of data are few for any number of places.
+const FEW: u32 = 64;
 
 /// The room for each packet of an input of `f` places: at most 491,563 bits.
 pub fn room(f: u32) -> u32
@@ -226,16 +229,16 @@ fn keep(kept: &mut BitPen, is_kept: bool, input: &Bits, masks: &Masks, scratch: 
 }
 
 /// Whether a packet with these flags takes its data from those that are kept: it has no recent change, no mask and no whole
-/// content, and the input came again, or the data kept now are so few, bits for a fourth of the places at most, that to copy
-/// them is cheaper than to find them again.
+/// content, and the input came again, or the data kept now are so few, one word of bits or bits for a fourth of the places at
+/// most, that to copy them is cheaper than to find them again.
 fn takes_kept(window: &Window, masks: &Masks, kept: &BitPen, flags: Flags) -> bool
     requires { 0 < window.now.taken }
     ensures { IsTrue result ↔ ((flags.f ≡ false) × (flags.r ≡ false)
         × (window.now.recent ≡ replicate (length window.now.recent) false)
-        × IsTrue (masks.now.again || nat_le (length kept.now.bits) (length masks.now.mask / 4))) }
+        × IsTrue (masks.now.again || nat_le (length kept.now.bits) (max 64 (length masks.now.mask / 4)))) }
 {
     !flags.f
         && !flags.r
         && window.is_quiet()
-        && (masks.is_again() || kept.len() <= masks.mask().len() / 4)
+        && (masks.is_again() || kept.len() <= FEW.max(masks.mask().len() / 4))
 }
