@@ -26,6 +26,10 @@ pub record StandsFor (h : History) (value : EncoderState) : Type 0 where
 abbrev pub plain_data : Running → List Bool
 plain_data masks = data_bits None (Part (extract masks.previous masks.mask))
 
+-- mask, recent changes and spare vector have a bit for each of `f` places
+abbrev pub HavePlaces : ℕ → List Bool → List Bool → List Bool → Type 0
+HavePlaces f mask recent spare = (length mask ≡ f) × (length recent ≡ f) × (length spare ≡ f)
+
 -- Masks and window have taken the same number of steps, of vectors of the same length. What is kept has room for a packet,
 -- and if data are kept, they are plain ones of the latest input.
 pub record IsEncoder (masks : Running) (window : WindowState) (spare : List Bool) (kept : PenState) (is_kept : Bool) : Type 0 where

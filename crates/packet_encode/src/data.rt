@@ -4,6 +4,7 @@ ghost use Rattle.std.specs.Prelude.{◌≡◌, ◌+◌, ◌*◌, ◌≤◌, ◌+
 ghost use Rattle.bit_vectors.specs.Vectors.{IsPlaces, or_bits};
 ghost use Rattle.count_code.specs.Code.{count_bits};
 ghost use Rattle.run_code.specs.Extraction.{extract};
+ghost use Rattle.packet_encode.specs.Encoder.{HavePlaces};
 ghost use Rattle.packet_encode.specs.Forms.{Part, data_bits, mask_bits};
 ghost use Rattle.packet_encode.specs.Packets.{sent_content, sent_of};
 
@@ -46,9 +47,7 @@ pub(crate) fn put_data(
     wide: bool,
     scratch: &mut Scratch,
 )
-    requires places { length mask.now ≡ length input.now }
-    requires recent { length recent.now ≡ length input.now }
-    requires spare { length scratch.old.spare ≡ length input.now }
+    requires places { HavePlaces (length input.now) mask.now recent.now scratch.old.spare }
     requires room { length pen.old.bits + (5 * length input.now + 34) ≤ pen.old.room }
     ensures bits { let places = if wide then or_bits mask.now recent.now else mask.now in
         pen.new.bits ≡ pen.old.bits
@@ -120,9 +119,7 @@ fn put_part(
     wide: bool,
     scratch: &mut Scratch,
 )
-    requires places { length mask.now ≡ length content.now }
-    requires recent { length recent.now ≡ length content.now }
-    requires spare { length scratch.old.spare ≡ length content.now }
+    requires places { HavePlaces (length content.now) mask.now recent.now scratch.old.spare }
     requires room { length pen.old.bits + length content.now ≤ pen.old.room }
     ensures bits { pen.new.bits
         ≡ pen.old.bits ++ extract content.now

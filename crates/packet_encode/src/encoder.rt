@@ -6,7 +6,7 @@ ghost use Rattle.bit_vectors.specs.Vectors.{IsPlaces, padded};
 ghost use Rattle.mask_update.specs.Histories.{History, flags_after, no_steps};
 ghost use Rattle.robust_window.specs.Changes.{MaskStep};
 ghost use Rattle.robust_window.specs.Window.{IsNextStep, StandsFor as WindowStandsFor};
-ghost use Rattle.packet_encode.specs.Encoder.{StandsFor, plain_data};
+ghost use Rattle.packet_encode.specs.Encoder.{HavePlaces, StandsFor, plain_data};
 ghost use Rattle.packet_encode.specs.Forms.{form_bits};
 ghost use Rattle.packet_encode.specs.Packets.{form_at, form_of, packet_at, with_next_input};
 ghost use Rattle.robust_window.specs.Histories.{level_at};
@@ -196,9 +196,7 @@ fn write_packet(
 )
     requires empty { pen.old.bits ≡ [] }
     requires taken { 0 < window.now.taken }
-    requires places { length masks.now.mask ≡ length input.now }
-    requires recent { length window.now.recent ≡ length input.now }
-    requires spare { length scratch.old.spare ≡ length input.now }
+    requires places { HavePlaces (length input.now) masks.now.mask window.now.recent scratch.old.spare }
     requires room { 10 * length input.now + 43 ≤ pen.old.room }
     ensures bits { let window = window.now in
         pen.new.bits
