@@ -84,24 +84,20 @@ module _ (k : Compression) (inputs : List (List Bool)) (s : Compressing) (taken 
     rows = rows ∙ taken.rows;
   }
 
--- the next packet was read: its number is t, the encoder stands for the inputs before it, and what is then written is owed
-pub record IsNext (k : Compression) (inputs : List (List Bool)) (s : Compressing) (t : ℕ) (before after : List ℕ) (a b : Meanings) (input : List Bool) : Type 0 where
-  pub taken : HasTaken k inputs s
-  pub takes : TakesItem (walk_over k.places (length inputs) before) (walk_over k.places (length inputs + 1) after) a b input
-  pub number : t ≡ length inputs
-  pub packet : space_packet s.writer.apid (t % period) (data_at (with_packet (history_by k inputs) s input t) (length (history_by k inputs).steps)) ≡ next_packet k inputs input
+-- reading changes none of the inputs that are taken
+pub HasTaken-read : (k : Compression) (inputs : List (List Bool)) (s : Compressing) (ahead : List ℕ) (input : List Bool) → HasTaken k inputs s → HasTaken k inputs (record { encoder = s.encoder; plan = s.plan; robust = s.robust; writer = s.writer; ahead = ahead; input = input; pen = s.pen })
+HasTaken-read k inputs s ahead input taken = record { stands = taken.stands; places = taken.places; robust = taken.robust; apid = taken.apid; rows = taken.rows }
+
+-- the next packet was read, and its number is t
+abbrev pub IsNext : (k : Compression) (inputs : List (List Bool)) (t : ℕ) (before after : List ℕ) (a b : Meanings) (input : List Bool) → Type 0
+IsNext k inputs t before after a b input = (length inputs ≡ t) × TakesItem (walk_over k.places (length inputs) before) (walk_over k.places (length inputs + 1) after) a b input
 
 pub IsNext-read : (k : Compression) (inputs : List (List Bool)) (s : Compressing) (f t' t : ℕ) (before after : List ℕ) (a b : Meanings) (input : List Bool) → HasTaken k inputs s → length s.encoder.masks.mask ≡ f → t' ≡ s.encoder.masks.taken → t ≡ t'
-    → Takes f t' before after a b input → IsNext k inputs s t before after a b input
+    → Takes f t' before after a b input → IsNext k inputs t before after a b input
 IsNext-read k inputs s f t' t before after a b input taken places kept number takes =
     let f_is = sym places ∙ taken.places in
     let t_is = kept ∙ HasTaken-number k inputs s taken in
-    record {
-      taken = taken;
-      takes = TakesItem-recording (subst (λ (n : ℕ). Takes k.places n before after a b input) t_is (subst (λ (n : ℕ). Takes n t' before after a b input) f_is takes));
-      number = number ∙ t_is;
-      packet = next_packet-is k inputs s taken t (number ∙ t_is) input;
-    }
+    (sym (number ∙ t_is), TakesItem-recording (subst (λ (n : ℕ). Takes k.places n before after a b input) t_is (subst (λ (n : ℕ). Takes n t' before after a b input) f_is takes)))
 
 -- after it the rest of the recording is left to do
 pub rest_work-next : (k : Compression) (inputs : List (List Bool)) (input : List Bool) (after ahead : List ℕ) → ahead ≡ after → work_on (left_to_compress k (inputs ++ input ∷ [])) (walk_over k.places (length inputs + 1) after) ≡ rest_work k (inputs ++ input ∷ []) ahead

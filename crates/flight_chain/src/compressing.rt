@@ -1,14 +1,10 @@
 //! A recording that is being compressed, packet by packet.
 
-ghost use Rattle.std.specs.Prelude.{◌≡◌, ◌+◌, ◌*◌, ◌-◌, ◌%◌, ◌^◌, ◌<◌, ◌≤◌, [], length, replicate, false, IfOk};
+ghost use Rattle.std.specs.Prelude.{◌≡◌, ◌+◌, ◌*◌, ◌-◌, ◌^◌, ◌<◌, ◌≤◌, Bool, List, [], ◌∷◌, ◌++◌, length, replicate, false, IfOk};
 ghost use Rattle.desk_ports.specs.Meanings.{IsReadyOut, HasWriteCause};
 ghost use Rattle.desk_ports.specs.Courses.{to_output};
 ghost use Rattle.desk_ports.specs.Writings.{Writes};
-ghost use Rattle.mask_update.specs.Histories.{History};
-ghost use Rattle.packet_encode.specs.Encoder.{StandsFor};
-ghost use Rattle.packet_store.specs.SpacePackets.{space_packet};
-ghost use Rattle.flight_chain.specs.Compressing.{with_packet};
-ghost use Rattle.flight_chain.specs.Stores.{data_at};
+ghost use Rattle.flight_chain.specs.Compressing.{Compression, next_packet};
 ghost use Rattle.bit_vectors.specs.Vectors.{IsPlaces};
 
 use crate::fault::{FlightFault, RecordFault};
@@ -110,20 +106,15 @@ impl Compressing {
         requires right { IsCompressing self.old }
         requires output { IsReadyOut (D.meaning desk.old) Outlet.Main }
         requires most { self.old.encoder.masks.taken < 4294967296 }
-        ensures stands { (h : History) → StandsFor h self.old.encoder
-            → StandsFor (with_packet h self.old self.old.input t) self.new.encoder }
-        ensures written { (h : History) → StandsFor h self.old.encoder
-            → Writes D.meaning D.counts desk.old desk.new
-            (to_output (space_packet self.old.writer.apid (t % PERIOD)
-            (data_at (with_packet h self.old self.old.input t) (length h.steps)))) result }
+        // If `t` inputs were taken, this one is now the next of them, and its Space Packet is written.
+        ensures taken { (k : Compression) (inputs : List (List Bool)) → HasTaken k inputs self.old
+            → length inputs ≡ t → HasTaken k (inputs ++ self.old.input ∷ []) self.new }
+        ensures written { (k : Compression) (inputs : List (List Bool)) → HasTaken k inputs self.old
+            → length inputs ≡ t → Writes D.meaning D.counts desk.old desk.new
+            (to_output (next_packet k inputs self.old.input)) result }
         ensures cause { HasWriteCause (D.counts desk.old) (D.counts desk.new) result }
         ensures right { IsCompressing self.new }
-        ensures places { length self.new.encoder.masks.mask ≡ length self.old.encoder.masks.mask }
-        ensures robust { self.new.robust ≡ self.old.robust }
-        ensures taken { self.new.encoder.masks.taken ≡ self.old.encoder.masks.taken + 1 }
-        ensures apid { self.new.writer.apid ≡ self.old.writer.apid }
-        ensures rows { self.new.plan ≡ self.old.plan }
-        ensures input { self.new.input ≡ self.old.input }
+        ensures number { self.new.encoder.masks.taken ≡ self.old.encoder.masks.taken + 1 }
         ensures ahead { self.new.ahead ≡ self.old.ahead }
     {
         self.pen.clear();

@@ -1,15 +1,13 @@
-use Rattle.std.proofs.Common.{List, Bool, [], ◌∷◌, ◌++◌, ◌+◌, length, refl, ap, ◌∙◌}
+use Rattle.std.proofs.Common.{List, Bool, [], ◌∷◌, ◌++◌, ◌+◌, length, refl, ◌∙◌}
 use Rattle.std.proofs.lemmas.Result.{err_from_is_err_and}
 use Rattle.desk_ports.specs.declared.desk.Outlet.TheVariants as outlet
-use Rattle.desk_ports.specs.Courses.{to_output}
 use Rattle.desk_ports.proofs.Runs.{Ran-none}
 use Rattle.desk_ports.proofs.Steps.{AreReady-moved}
 use Rattle.desk_ports.proofs.WalkTurns.{Advances-on, Finishes-on, IsCutShort-on}
 use Rattle.desk_ports.specs.WalkWorks.{work_on}
-use Rattle.desk_ports.proofs.Writings.{Writes-is}
-use Rattle.flight_chain.specs.Compressing.{history_by, left_to_compress, Owes}
+use Rattle.flight_chain.specs.Compressing.{left_to_compress, Owes}
 use Rattle.flight_chain.specs.Recordings.{walk_over}
-use Rattle.flight_chain.proofs.CompressCourses.{AfterStop-next, GoesOn-compress, HasTaken-number, HasTaken-next, IsDone-compress, IsNext-read, rest_work-next}
+use Rattle.flight_chain.proofs.CompressCourses.{AfterStop-next, GoesOn-compress, HasTaken-number, HasTaken-read, IsDone-compress, IsNext-read, rest_work-next}
 use Rattle.flight_chain.proofs.RecordTurns.{IsOver-recording}
 use Rattle.flight_chain.proofs.compressing.CompressingRun.turn.Goals as goal
 
@@ -38,12 +36,14 @@ pub returns-in_err-put-clause-turned : goal.returns-in_err-put-clause-turned
 returns-in_err-put-clause-turned g c = λ work owes.
     let a = g.D.Desk.meaning c.args.desk.now in
     let b = g.D.Desk.meaning c.read_input.new.desk in
+    let s = c.args.self.now in
+    let after = c.read_input.new.ahead in
     let input = c.read_input.new.input in
     let told = rw c.in-Some.is at c.in_ok-t.ensures in
-    let next = IsNext-read owes.k owes.inputs c.args.self.now _ c.taken-number.result c.in-Some.t c.args.self.now.ahead c.read_input.new.ahead a b input owes.taken owes.right.places c.taken-number.ensures.kept told.number told.taken in
-    let written = Writes-is (ap to_output next.packet) (c.in_err-put.ensures.written (history_by owes.k owes.inputs) owes.taken.stands) in
+    let next = IsNext-read owes.k owes.inputs s _ c.taken-number.result c.in-Some.t s.ahead after a b input owes.taken owes.right.places c.taken-number.ensures.kept told.number told.taken in
+    let written = c.in_err-put.ensures.written owes.k owes.inputs (HasTaken-read owes.k owes.inputs s after input owes.taken) next.0 in
     let p = err_from_is_err_and c.from_residual-in_err-put.result c.from_residual-in_err-put.ensures.1 in
-    rw (p.1, p.2) (IsCutShort-on next.takes (GoesOn-compress owes.k owes.inputs input) owes.work_is written.front)
+    rw (p.1, p.2) (IsCutShort-on next.1 (GoesOn-compress owes.k owes.inputs input) owes.work_is written.front)
 
 pub returns-clause-turned : goal.returns-clause-turned
 returns-clause-turned g c = λ work owes.
@@ -55,10 +55,8 @@ returns-clause-turned g c = λ work owes.
     let input = c.read_input.new.input in
     let told = rw c.in-Some.is at c.in_ok-t.ensures in
     let next = IsNext-read owes.k owes.inputs s _ c.taken-number.result c.in-Some.t s.ahead after a b input owes.taken owes.right.places c.taken-number.ensures.kept told.number told.taken in
-    let written = Writes-is (ap to_output next.packet) (put.written (history_by owes.k owes.inputs) owes.taken.stands) in
-    let stands = put.stands (history_by owes.k owes.inputs) owes.taken.stands in
+    let taken = HasTaken-read owes.k owes.inputs s after input owes.taken in
     let inputs : List (List Bool) = owes.inputs ++ input ∷ [] in
-    let taken = HasTaken-next owes.k owes.inputs s owes.taken c.in-Some.t next.number input c.put.new.self stands put.places put.robust put.apid put.rows in
     let owed : Owes c.put.new.self (work_on (left_to_compress owes.k inputs) (walk_over owes.k.places (length owes.inputs + 1) after)) =
-    record { k = owes.k; inputs = inputs; taken = taken; work_is = rest_work-next owes.k owes.inputs input after c.put.new.self.ahead put.ahead; right = put.right } in
-    Advances-on next.takes (GoesOn-compress owes.k owes.inputs input) owes.work_is written.wrote owed
+    record { k = owes.k; inputs = inputs; taken = put.taken owes.k owes.inputs taken next.0; work_is = rest_work-next owes.k owes.inputs input after c.put.new.self.ahead put.ahead; right = put.right } in
+    Advances-on next.1 (GoesOn-compress owes.k owes.inputs input) owes.work_is (put.written owes.k owes.inputs taken next.0).wrote owed
