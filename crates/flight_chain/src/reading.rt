@@ -71,9 +71,10 @@ pub fn read_input<D: Desk>(
     if ahead.bytes().is_empty() {
         return Ok(None);
     }
-    let Ok(t) = u32::try_from(t) else {
+    if t > u64::from(u32::MAX) {
         return Err(Unread::Data(RecordFault::TooMany));
-    };
+    }
+    let t = t as u32;
     if !whole {
         return Err(Unread::Data(RecordFault::CutRecord { t }));
     }

@@ -19,13 +19,6 @@ use robust_window::Window;
 use std::alloc::Global;
 use std::marker::Model;
 
-/// The flags of a packet that carries mask and whole content and takes no new mask.
-const FORCED: Flags = Flags {
-    p: false,
-    f: true,
-    r: true,
-};
-
 /// How many bits of data are few for any number of places.
 const FEW: u32 = 64;
 
@@ -147,10 +140,11 @@ impl Encoder {
     fn forced(&self, flags: Flags, robust: u8) -> Flags
         ensures { result ≡ flags_after robust self.now.masks.taken flags }
     {
-        if self.masks.taken() <= u64::from(robust) {
-            FORCED
-        } else {
-            flags
+        let is_forced = self.masks.taken() <= u64::from(robust);
+        Flags {
+            p: flags.p && !is_forced,
+            f: flags.f || is_forced,
+            r: flags.r || is_forced,
         }
     }
 
@@ -238,5 +232,5 @@ fn takes_kept(window: &Window, masks: &Masks, kept: &BitPen, flags: Flags) -> bo
     !flags.f
         && !flags.r
         && window.is_quiet()
-        && (masks.is_again() || kept.len() <= FEW.max(masks.mask().len() / 4))
+        && (masks.is_again() || kept.len() <= FEW || kept.len() <= masks.mask().len() / 4)
 }

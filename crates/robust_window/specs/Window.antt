@@ -32,6 +32,10 @@ marks_of marks = number_bits 16 marks
 abbrev pub mark_back : ℕ → ℕ → Bool
 mark_back marks back = bit_at marks back == 1
 
+-- two or more of the latest marks are set
+abbrev pub has_two_marks : ℕ → ℕ → Bool
+has_two_marks marks count = nat_le 2 (count_by (new_mask_back (marks_of marks)) (range_with_len 0 count))
+
 -- so many of the latest steps are kept: from 1 to 16
 abbrev pub AreKept : ℕ → Type 0
 AreKept count = (1 ≤ count) × (count ≤ 16)

@@ -1,8 +1,7 @@
 //! Marks of the latest sixteen steps: the bits of a number, with the latest step in the lowest bit.
 
-ghost use Rattle.std.specs.Prelude.{◌≡◌, ℕ, ◌+◌, ◌<◌, ◌≤◌, ◌↔◌, IsTrue, nat_le, false, true, [], ◌∷◌, ◌++◌, drop, max, count_by};
-ghost use Rattle.std.specs.List.{range_with_len};
-ghost use Rattle.robust_window.specs.Window.{AreKept, AreClear, mark_back, marks_of, new_mask_back};
+ghost use Rattle.std.specs.Prelude.{◌≡◌, ◌+◌, ◌<◌, ◌≤◌, ◌↔◌, IsTrue, [], ◌∷◌, ◌++◌, drop};
+ghost use Rattle.robust_window.specs.Window.{AreKept, AreClear, has_two_marks, mark_back, marks_of};
 
 /// The marks with that of one more step, without the oldest.
 pub(crate) fn pushed(marks: u16, mark: bool) -> u16
@@ -30,8 +29,7 @@ pub(crate) fn are_clear(marks: u16, count: u8) -> bool
 /// Whether two or more of the latest `count` marks are set. `count` is at least 1 and at most 16.
 pub(crate) fn has_two(marks: u16, count: u8) -> bool
     requires { AreKept count }
-    ensures { result ≡ nat_le 2
-        (count_by (new_mask_back (marks_of marks)) (range_with_len 0 count)) }
+    ensures { result ≡ has_two_marks marks count }
 {
     (marks << (16 - count)).count_ones() >= 2
 }

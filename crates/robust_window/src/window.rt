@@ -1,6 +1,6 @@
 //! The window over the latest changes of a mask.
 
-ghost use Rattle.std.specs.Prelude.{◌≡◌, ◌+◌, ◌-◌, ◌<◌, ◌≤◌, List, [], ◌∷◌, ◌++◌, length, drop, replicate, true, false, Contains, IfOk};
+ghost use Rattle.std.specs.Prelude.{◌≡◌, ◌+◌, ◌-◌, ◌<◌, ◌≤◌, List, [], ◌∷◌, ◌++◌, length, replicate, true, false, Contains, IfOk};
 ghost use Rattle.std.specs.Bool.{OnFalse, OnTrue};
 ghost use Rattle.robust_window.specs.Changes.{MaskStep, latest_change, level_of, mask_step, recent_of, twice_of};
 ghost use Rattle.robust_window.specs.Window.{Advances, IsNextStep, StandsFor};
@@ -25,12 +25,12 @@ pub struct Window {
     /// There is no recent change.
     quiet: bool,
     level: u8,
-    twice: bool,
     taken: u64,
 }
 
 impl Model for Window {
-    ghost use Rattle.robust_window.specs.Window.{WindowState, IsWindow, marks_of};
+    ghost use Rattle.std.specs.Prelude.{◌+◌};
+    ghost use Rattle.robust_window.specs.Window.{WindowState, IsWindow, has_two_marks, marks_of};
 
     ghost Value = { WindowState };
 
@@ -39,7 +39,7 @@ impl Model for Window {
       new_masks = marks_of w.new_masks;
       recent = w.recent;
       level = w.level;
-      twice = w.twice;
+      twice = has_two_marks w.new_masks (w.level + 1);
       taken = w.taken;
     } };
 
@@ -60,7 +60,6 @@ impl Window {
             recent: Bits::zeros(alloc, f)?,
             quiet: true,
             level: 0,
-            twice: false,
             taken: 0,
         })
     }
@@ -114,7 +113,6 @@ impl Window {
             .changes
             .gather(robust + 1, &mut self.recent, self.quiet);
         self.level = self.changes.quiet_level(robust, most);
-        self.twice = marks::has_two(self.new_masks, self.level + 1);
         self.taken += 1;
     }
 
@@ -157,7 +155,7 @@ impl Window {
             → result ≡ twice_of steps (latest_change steps) }
         ensures kept { result ≡ self.now.twice }
     {
-        self.twice
+        marks::has_two(self.new_masks, self.level + 1)
     }
 
     /// The change of the mask the given number of steps back: at most 15, and below the number of steps taken.

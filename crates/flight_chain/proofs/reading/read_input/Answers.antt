@@ -3,8 +3,7 @@ use Rattle.std.proofs.lemmas.Bool.{false≢true}
 use Rattle.std.proofs.lemmas.Result.{err_from_is_err_and}
 use Rattle.bit_vectors.specs.Vectors.{byte_count}
 use Rattle.desk_ports.specs.ReadAhead.{ReadsOn}
-use Rattle.flight_chain.specs.declared.fault.RecordFault.TheVariants.{CutRecord, SpareBit}
-use Rattle.flight_chain.specs.Reading.{Takes, Stops}
+use Rattle.flight_chain.specs.Reading.{Takes}
 use Rattle.flight_chain.proofs.Readings.{Takes-whole, Stops-too_many, Stops-cut, Stops-spare, Waits-short}
 use Rattle.flight_chain.proofs.reading.read_input.Goals as goal
 
@@ -19,11 +18,11 @@ returns-in_err-whole-clause-unread g c =
     let p = err_from_is_err_and c.from_residual.result c.from_residual.ensures.1 in
     rw (p.1, p.2) (Waits-short f c.args.t c.args.ahead.now c.hold.new.self a b c.requires.vector.0 c.requires.number short told.read)
 
-pub returns-in_default-clause-unread : goal.returns-in_default-clause-unread
-returns-in_default-clause-unread g c =
+pub returns-then-t-from-clause-unread : goal.returns-then-t-from-clause-unread
+returns-then-t-from-clause-unread g c =
     let a = g.D.Desk.meaning c.args.desk.now in
     let b = g.D.Desk.meaning c.hold.new.desk in
-    let full : c.args.t ≡ 2 ^ 32 = omega (arith, c.requires.number, c.in_default.ensures) in
+    let full : c.args.t ≡ 2 ^ 32 = omega (arith, c.requires.number, c.if-t-from.true, c.from.ensures) in
     let nonempty : 0 < length c.hold.new.self = search rules in
     Stops-too_many (length c.args.input.now) c.args.t c.args.ahead.now c.hold.new.self a b c.requires.vector.0 full nonempty c.in_ok-whole.ensures.read
 
@@ -39,11 +38,11 @@ returns-then-not-whole-clause-unread g c =
     let fewer = told.short not_whole in
     let short : length c.hold.new.self < byte_count f = omega (arith, fewer, size) in
     let nonempty : 0 < length c.hold.new.self = search rules in
-    let few : c.args.t < 2 ^ 32 = omega (arith, c.in-Ok.ensures.0) in
-    subst (λ t. Stops f c.args.t before a b (CutRecord t)) (sym c.in-Ok.ensures.1) (Stops-cut f c.args.t before c.hold.new.self a b c.requires.vector.0 few nonempty short told.read (told.at_end not_whole))
+    let few : c.args.t < 2 ^ 32 = omega (arith, c.if-t-from.false, c.from.ensures) in
+    Stops-cut f c.args.t before c.hold.new.self a b c.requires.vector.0 few nonempty short told.read (told.at_end not_whole)
 
-pub returns-in_default-load-clause-unread : goal.returns-in_default-load-clause-unread
-returns-in_default-load-clause-unread g c =
+pub returns-in_default-clause-unread : goal.returns-in_default-clause-unread
+returns-in_default-clause-unread g c =
     let a = g.D.Desk.meaning c.args.desk.now in
     let b = g.D.Desk.meaning c.hold.new.desk in
     let f = length c.args.input.now in
@@ -54,9 +53,9 @@ returns-in_default-load-clause-unread g c =
     let size : n ≡ byte_count f = c.byte_len-size.ensures ∙ ap byte_count c.len.ensures.len in
     let enough = told.held (ap Ok c.if-not-whole.false) in
     let long : n ≤ length held = omega (arith, enough, ap length c.bytes-2.ensures.ahead) in
-    let few : c.args.t < 2 ^ 32 = omega (arith, c.in-Ok.ensures.0) in
+    let few : c.args.t < 2 ^ 32 = omega (arith, c.if-t-from.false, c.from.ensures) in
     let read = subst (λ l. ReadsOn before l a b) (sym c.bytes-2.ensures.ahead) told.read in
-    subst (λ t. Stops f c.args.t before a b (SpareBit t)) (sym c.in-Ok.ensures.1) (Stops-spare f c.args.t n before held a b c.requires.vector.0 few size long (c.in_default-load.ensures.spare.0 refl) read)
+    Stops-spare f c.args.t n before held a b c.requires.vector.0 few size long (c.in_default.ensures.spare.0 refl) read
 
 pub returns-clause-taken : goal.returns-clause-taken
 returns-clause-taken g c =
@@ -70,8 +69,8 @@ returns-clause-taken g c =
     let size : n ≡ byte_count f = c.byte_len-size.ensures ∙ ap byte_count c.len.ensures.len in
     let enough = told.held (ap Ok c.if-not-whole.false) in
     let long : n ≤ length held = omega (arith, enough, ap length c.bytes-2.ensures.ahead) in
-    let few : c.args.t < 2 ^ 32 = omega (arith, c.in-Ok.ensures.0) in
+    let few : c.args.t < 2 ^ 32 = omega (arith, c.if-t-from.false, c.from.ensures) in
     let read = subst (λ l. ReadsOn before l a b) (sym c.bytes-2.ensures.ahead) told.read in
-    let loaded = c.in-Ok-load.ensures in
+    let loaded = c.in-Ok.ensures in
     let left = ap (drop n) c.bytes-2.ensures.ahead ∙ sym c.pass.ensures in
     subst (λ after. Takes f c.args.t before after a b c.load.new.self) left (Takes-whole f c.args.t n before held a b c.load.new.self c.requires.vector.0 few size long (λ one. false≢true (loaded.spare.1 one)) loaded.loaded loaded.len read)

@@ -1,4 +1,4 @@
-use Rattle.std.proofs.Common.{◌≡◌, ℕ, ◌+◌, ◌∷◌, ◌++◌, [], length, false, true, drop, replicate, subst, sym, ap, ◌∙◌, arith}
+use Rattle.std.proofs.Common.{◌≡◌, ℕ, ◌+◌, ◌∷◌, ◌++◌, [], length, false, true, drop, replicate, subst, refl, sym, ap, ◌∙◌, arith}
 use Rattle.std.specs.Prelude.{Contains}
 use Rattle.std.specs.Bool.{OnTrue}
 use Rattle.robust_window.specs.Window.{WindowState, change_back}
@@ -41,6 +41,6 @@ returns c =
           subst (λ (k : WindowState). change_back k.changes back ≡ replicate (length k.recent) false) c.self.view_is
           (c.quiet_level-self-inside.ensures.quiet back above within ∙ ap (λ n. replicate n false) c.self.invariant.places);
       stops = λ less. subst (λ (k : WindowState). Contains (change_back k.changes (c.quiet_level-self-inside.result + 1)) true) c.self.view_is (c.quiet_level-self-inside.ensures.stops (omega arith));
-      twice = c.has_two-self-inside.ensures;
+      twice = refl;
       taken = omega arith;
     }
