@@ -1,6 +1,6 @@
 //! The command `forecast`: which packets will be written, whatever the recording is.
 
-ghost use Rattle.std.specs.Prelude.{◌≡◌, ◌≤◌, ◌<◌, ◌^◌, ◌+◌, ◌++◌, length, IfOk, IsOk};
+ghost use Rattle.std.specs.Prelude.{◌≡◌, ◌≤◌, ◌++◌, length, IfOk};
 ghost use Rattle.desk_ports.specs.Meanings.{IsReadyOut};
 ghost use Rattle.desk_ports.specs.Courses.{to_output};
 ghost use Rattle.desk_ports.specs.Writings.{Writes};
@@ -48,8 +48,7 @@ impl Forecast {
         plan: Schedule,
         script: Script,
     ) -> Result<Forecast, NoMemory>
-        requires some { 1 ≤ packets }
-        requires most { packets ≤ 1000000 }
+        requires count { IsCount packets }
         requires robust { robust ≤ 7 }
         ensures opened { IfOk result (λ forecast. forecast ≡ record {
           packets = packets;
@@ -69,26 +68,14 @@ impl Forecast {
             (λ sure. sure ≡ sure_count (foresees self.outlook) self.packets) }
     {
         let mut running = Running::of(self.foresight);
-        write_text(desk, &mut running, self.packets)
+        write_all(desk, Outlet::Main, HEADER.as_bytes())?;
+        for _ in 0..self.packets {
+            write_row(desk, running.take())?;
+        }
+        write_row(desk, running.stretch())?;
+        write_closing(desk, &running)?;
+        Ok(running.sure())
     }
-}
-
-/// Writes the forecast for so many packets, of which none was taken, and tells how many are sure.
-fn write_text<D: Desk>(desk: &mut D, running: &mut Running, packets: u32) -> Result<u64, Failed>
-    requires ready { IsReadyOut (D.meaning desk.old) Outlet.Main }
-    requires none { running.old.packets ≡ 0 }
-    requires count { IsCount packets }
-    ensures written { Writes D.meaning D.counts desk.old desk.new
-        (to_output (forecast_text (foresees running.old.outlook) packets)) result }
-    ensures sure { IfOk result (λ sure. sure ≡ sure_count (foresees running.old.outlook) packets) }
-{
-    write_all(desk, Outlet::Main, HEADER.as_bytes())?;
-    for _ in 0..packets {
-        write_row(desk, running.take())?;
-    }
-    write_row(desk, running.stretch())?;
-    write_closing(desk, running)?;
-    Ok(running.sure())
 }
 
 /// Writes the line of a stretch, if there is one.
@@ -109,18 +96,17 @@ fn write_closing<D: Desk>(desk: &mut D, running: &Running) -> Result<(), Failed>
         (to_output (closing_rows (foresees running.now.outlook) running.now.packets)) result }
 {
     let played = running.played();
-    let mut rows = Row::new();
-    put_gaps(&mut rows, played.first, played.widest);
+    let mut rows = gaps(played.first, played.widest);
     put_end(&mut rows, played.packets, running.sure());
     write_all(desk, Outlet::Main, rows.as_bytes())
 }
 
-/// Appends the line of the first number that arrives, or a dash, and of the widest difference of two that do.
-fn put_gaps(rows: &mut Row, first: Option<u64>, widest: u64)
-    requires { length rows.old ≤ 64 }
-    ensures text { rows.new ≡ rows.old ++ gaps_row first widest }
-    ensures few { length rows.new ≤ length rows.old + 47 }
+/// The line of the first number that arrives, or a dash, and of the widest difference of two that do.
+fn gaps(first: Option<u64>, widest: u64) -> Row
+    ensures text { result ≡ gaps_row first widest }
+    ensures few { length result ≤ 64 }
 {
+    let mut rows = Row::new();
     rows.put_text("gaps,");
     match first {
         None => rows.put_text("-"),
@@ -129,6 +115,7 @@ fn put_gaps(rows: &mut Row, first: Option<u64>, widest: u64)
     rows.put_text(",");
     rows.put_number(widest);
     rows.put_text("\n");
+    rows
 }
 
 /// Appends the last line: how many packets there are, and how many are sure.

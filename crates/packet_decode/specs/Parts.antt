@@ -90,6 +90,11 @@ pub record IsReady (first : Change) (mask content : Option (List Bool)) (vectors
   pub deduced : IfSome mask (λ v. length v ≡ length vectors.content)
   pub known : IfSome content (λ v. length v ≡ length vectors.content)
 
+-- What holds when a mask can be sent besides: the vector for it has the draft's places too.
+pub record AreReady (first : Change) (mask content : Option (List Bool)) (sent : List Bool) (vectors : Draft) : Type 0 where
+  pub ready : IsReady first mask content vectors
+  pub for_sent : length sent ≡ length vectors.content
+
 -- these bytes with this level in the four bits after the first two
 abbrev pub with_level : ℕ → List ℕ → List ℕ
 with_level level [] = []

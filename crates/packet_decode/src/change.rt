@@ -1,19 +1,18 @@
 //! The first part of a packet: the recent changes of the mask, the effective robustness level, and the
 //! directions of the changes if they are sent (CCSDS 124.0-B-1).
 
-ghost use Rattle.std.specs.Prelude.{◌≡◌, ◌<◌, ◌≤◌, ◌↔◌, false, true, Bool, List, length, replicate, None, IfOk, Contains, IsTrue};
+ghost use Rattle.std.specs.Prelude.{◌≡◌, ◌<◌, ◌↔◌, false, Bool, List, length, replicate, None, IfOk, IsTrue};
 ghost use Rattle.std.specs.Bool.{OnFalse, OnTrue};
 ghost use Rattle.bit_vectors.specs.Eye.{bits_left};
 ghost use Rattle.bit_vectors.specs.Reading.{MovesOn, Gives};
 ghost use Rattle.run_code.specs.Runs.{parse_vector};
 ghost use Rattle.packet_encode.specs.Forms.{wide_by};
 ghost use Rattle.packet_decode.specs.State.{mask_after};
-ghost use Rattle.packet_decode.specs.PacketReading.{parse_change};
+ghost use Rattle.packet_decode.specs.PacketReading.{parse_change, parse_directions};
 ghost use Rattle.bit_vectors.specs.Vectors.{IsPlaces};
 
-use crate::directions::take_directions;
 use bit_vectors::{BitEye, BitFault, Bits, NoMemory};
-use run_code::take_runs;
+use run_code::{take_inverse_up, take_runs};
 use std::alloc::Global;
 use std::marker::Model;
 use std::mem::swap;
@@ -75,16 +74,58 @@ impl FirstPart {
         ensures reading { Gives (λ _. self.new) result eye.new
             (parse_change (length self.old.recent) (bits_left eye.old)) }
     {
-        self.twice = None;
-        take_recent(eye, &mut self.recent, &mut self.quiet)?;
+        self.take_recent(eye)?;
         self.level = eye.take_number(4)? as u8;
-        self.twice = take_directions(
-            eye,
-            &self.recent,
-            self.quiet,
-            self.level,
-            &mut self.predictable,
-        )?;
+        self.take_directions(eye)
+    }
+
+    /// Takes recent changes, and no directions. If there was no change and there is none again, no place is looked at.
+    fn take_recent(&mut self, eye: &mut BitEye) -> Result<(), BitFault>
+        ensures places { length self.new.recent ≡ length self.old.recent }
+        ensures moves { MovesOn eye.old eye.new }
+        ensures reading { Gives (λ _. self.new.recent) result eye.new
+            (parse_vector (length self.old.recent) (bits_left eye.old)) }
+    {
+        self.twice = None;
+        if eye.comes_next(NO_RUN, 2) {
+            eye.pass(2);
+            if !self.quiet {
+                self.recent.clear();
+                self.quiet = true;
+            }
+            return Ok(());
+        }
+        match take_runs(eye, &mut self.recent) {
+            Ok(()) => {
+                self.quiet = false;
+                Ok(())
+            }
+            Err(fault) => {
+                self.quiet = self.recent.is_zero();
+                Err(fault)
+            }
+        }
+    }
+
+    /// Takes the directions of the recent changes, if they are sent, which they can be if there are changes and the level is
+    /// above 0: for each change whether it made its place predictable, and then whether all recent changes are extracted.
+    #[tactic(auto, unfolding(crate::specs::PacketReading::parse_directions, crate::specs::PacketReading::parse_named))]
+    fn take_directions(&mut self, eye: &mut BitEye) -> Result<(), BitFault>
+        ensures recent { self.new.recent ≡ self.old.recent }
+        ensures level { self.new.level ≡ self.old.level }
+        ensures moves { MovesOn eye.old eye.new }
+        ensures reading { Gives (λ _. self.new.directions) result eye.new
+            (parse_directions self.old.recent self.old.level (bits_left eye.old)) }
+    {
+        self.twice = None;
+        if self.quiet || self.level == 0 {
+            return Ok(());
+        }
+        if !eye.take_bit()? {
+            return Ok(());
+        }
+        take_inverse_up(eye, &self.recent, &mut self.predictable)?;
+        self.twice = Some(eye.take_bit()?);
         Ok(())
     }
 
@@ -169,37 +210,6 @@ impl FirstPart {
     {
         if self.twice == Some(true) {
             places.or_in(&self.recent);
-        }
-    }
-}
-
-/// Takes recent changes. Before, `quiet` may say that there was none so far; afterwards it tells whether there is none.
-/// If it said so and there is none again, no place is looked at.
-fn take_recent(eye: &mut BitEye, recent: &mut Bits, quiet: &mut bool) -> Result<(), BitFault>
-    requires { OnTrue quiet.old (recent.old ≡ replicate (length recent.old) false) }
-    ensures none { IsTrue quiet.new ↔ (recent.new ≡ replicate (length recent.new) false) }
-    ensures some { OnFalse quiet.new (Contains recent.new true) }
-    ensures places { length recent.new ≡ length recent.old }
-    ensures moves { MovesOn eye.old eye.new }
-    ensures reading { Gives (λ _. recent.new) result eye.new
-        (parse_vector (length recent.old) (bits_left eye.old)) }
-{
-    if eye.comes_next(NO_RUN, 2) {
-        eye.pass(2);
-        if !*quiet {
-            recent.clear();
-            *quiet = true;
-        }
-        return Ok(());
-    }
-    match take_runs(eye, recent) {
-        Ok(()) => {
-            *quiet = false;
-            Ok(())
-        }
-        Err(fault) => {
-            *quiet = recent.is_zero();
-            Err(fault)
         }
     }
 }

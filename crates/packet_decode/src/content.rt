@@ -26,7 +26,7 @@ pub fn take_content(
     known: Option<&Bits>,
     draft: &mut Draft,
 ) -> Result<bool, BitFault>
-    requires ready { IsReady change.now (Some mask.now) (lent known) draft.old }
+    requires { IsReady change.now (Some mask.now) (lent known) draft.old }
     ensures places { length draft.new.content ≡ length draft.old.content }
     ensures taken { Takes
         (λ known. content_outcome known mask.now draft.new.content) result eye.old eye.new
@@ -50,7 +50,7 @@ pub fn take_part(
     known: Option<&Bits>,
     draft: &mut Draft,
 ) -> Result<bool, BitFault>
-    requires ready { IsReady change.now (Some mask.now) (lent known) draft.old }
+    requires { IsReady change.now (Some mask.now) (lent known) draft.old }
     ensures places { length draft.new.content ≡ length draft.old.content }
     ensures taken { Takes
         (λ known. content_outcome known mask.now draft.new.content) result eye.old eye.new
@@ -73,7 +73,7 @@ fn take_untold(
     mask: &Bits,
     draft: &mut Draft,
 ) -> Result<(), BitFault>
-    requires ready { IsReady change.now (Some mask.now) None draft.old }
+    requires { IsReady change.now (Some mask.now) None draft.old }
     ensures places { length draft.new.content ≡ length draft.old.content }
     ensures taken { Takes
         (λ _. Spelled (Some mask.now) None) result eye.old eye.new
@@ -90,7 +90,7 @@ fn take_extracted(
     mask: &Bits,
     draft: &mut Draft,
 ) -> Result<(), BitFault>
-    requires ready { IsReady change.now (Some mask.now) None draft.old }
+    requires { IsReady change.now (Some mask.now) None draft.old }
     ensures places { length draft.new.content ≡ length draft.old.content }
     ensures moves { MovesOn eye.old eye.new }
     ensures reading { Gives (λ _. draft.new.content) result eye.new
@@ -116,7 +116,7 @@ pub fn take_whole(
     known: Option<&Bits>,
     draft: &mut Draft,
 ) -> Result<(), BitFault>
-    requires ready { IsReady change.now (Some mask.now) (lent known) draft.old }
+    requires { IsReady change.now (Some mask.now) (lent known) draft.old }
     ensures places { length draft.new.content ≡ length draft.old.content }
     ensures taken { Takes
         (λ _. content_outcome true mask.now draft.new.content) result eye.old eye.new

@@ -5,7 +5,6 @@ mod change;
 mod content;
 mod data;
 mod decoder;
-mod directions;
 mod draft;
 mod latest;
 mod laws;

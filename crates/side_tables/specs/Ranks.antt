@@ -61,11 +61,15 @@ pub record AreRanks (claims : List Claim) (base numbers : ℕ) (cells : List Cel
   pub len : length cells ≡ numbers
   pub ranks : (n : ℕ) → n < numbers → IsRank claims (base + n) (cell_at cells n).rank
 
+-- for how many numbers ranks can be found together
+pub record IsBlock (numbers : ℕ) : Type 0 where
+  pub some : 1 ≤ numbers
+  pub few : numbers ≤ 16384
+
 -- claims with the ranks of a block of numbers
 pub record IsRanked (claims : List Claim) (base : ℕ) (cells : List Cell) : Type 0 where
   pub right : All (λ claim. IsSpan claim.span) claims
-  pub some : 1 ≤ length cells
-  pub few : length cells ≤ 16384
+  pub block : IsBlock (length cells)
   pub ranks : AreRanks claims base (length cells) cells
 
 -- all numbers of a run, in its steps from the number t, have at least its rank
@@ -76,11 +80,26 @@ RunHolds cells t run = (n : ℕ) → t ≤ n → n < run.until → n < length ce
 abbrev pub RunsHold : List Cell → Type 0
 RunsHold cells = (t : ℕ) → t < length cells → RunHolds cells t (cell_at cells t).run
 
+-- the cells of a block, in which each number's run holds
+pub record AreCells (cells : List Cell) : Type 0 where
+  pub few : length cells ≤ 16384
+  pub runs : RunsHold cells
+
+-- a number that the claim names and that has a cell
+pub record IsDue (claim : Claim) (t : ℕ) (cells : List Cell) : Type 0 where
+  pub inside : t < length cells
+  pub named : names claim.span t ≡ true
+
 -- a run from the number t, in a claim's steps, whose numbers have the claim's rank
 pub record Serves (claim : Claim) (t : ℕ) (run : Run) : Type 0 where
   pub steps : run.step ≡ claim.span.step
   pub enough : claim.rank ≤ run.rank
   pub after : t < run.until
+
+-- a run that holds and serves the claim
+pub record IsRunOf (claim : Claim) (t : ℕ) (cells : List Cell) (run : Run) : Type 0 where
+  pub serves : Serves claim t run
+  pub holds : RunHolds cells t run
 
 -- the numbers of a claim have this rank now, or that which they had, and no rank is less
 pub record Takes (named : ℕ → Bool) (rank : ℕ) (old new : List Cell) : Type 0 where

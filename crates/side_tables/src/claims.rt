@@ -1,12 +1,13 @@
 //! What rows claim of the numbers that they name.
 
-ghost use Rattle.std.specs.Prelude.{◌≡◌, ◌+◌, ℕ, List, All, false, IfOk, IfNone, IfSome};
-ghost use Rattle.side_tables.specs.Rows.{IsFlagRow};
+ghost use Rattle.std.specs.Prelude.{◌≡◌, ◌+◌, ℕ, All, false, IfOk, IfNone, IfSome};
 ghost use Rattle.side_tables.specs.Spans.{IsSpan, names};
 ghost use Rattle.side_tables.specs.Ranks.{AreClaims, flag_claim, flag_in, row_claim};
 
-use crate::rows::{FlagRow, TableRow};
+use crate::rows::TableRow;
+use crate::schedule::Schedule;
 use crate::span::Span;
+use crate::table::Table;
 use bit_vectors::{Flags, NoMemory};
 use std::alloc::Global;
 
@@ -68,13 +69,13 @@ impl Claim {
 }
 
 /// A claim for each row of flags: the rank 1 if the flag is set, and otherwise 0.
-pub fn flag_claims(alloc: Global, rows: &[FlagRow], flag: Flag) -> Result<Vec<Claim>, NoMemory>
-    requires { All IsFlagRow rows.now }
-    ensures claims { IfOk result (λ claims. AreClaims (flag_claim flag) rows.now claims.items) }
+pub fn flag_claims(alloc: Global, plan: &Schedule, flag: Flag) -> Result<Vec<Claim>, NoMemory>
+    ensures claims { IfOk result
+        (λ claims. AreClaims (flag_claim flag) plan.now.flags claims.items) }
     ensures right { IfOk result (λ claims. All (λ claim. IsSpan claim.span) claims.items) }
 {
     let mut claims = Vec::new(alloc);
-    for row in rows {
+    for row in plan.flag_rows() {
         claims.push(Claim {
             span: row.span(),
             rank: usize::from(flag.is_set(row.flags)),
@@ -84,13 +85,13 @@ pub fn flag_claims(alloc: Global, rows: &[FlagRow], flag: Flag) -> Result<Vec<Cl
 }
 
 /// A claim for each row: its place, counted from 1.
-pub fn row_claims<R: TableRow>(alloc: Global, rows: &[R]) -> Result<Vec<Claim>, NoMemory>
-    requires { All R.is_right rows.now }
-    ensures claims { IfOk result (λ claims. AreClaims (row_claim R.span_of) rows.now claims.items) }
+pub fn row_claims<R: TableRow>(alloc: Global, table: &Table<R>) -> Result<Vec<Claim>, NoMemory>
+    ensures claims { IfOk result
+        (λ claims. AreClaims (row_claim R.span_of) table.now claims.items) }
     ensures right { IfOk result (λ claims. All (λ claim. IsSpan claim.span) claims.items) }
 {
     let mut claims = Vec::new(alloc);
-    for (place, row) in rows.iter().enumerate() {
+    for (place, row) in table.rows().iter().enumerate() {
         claims.push(Claim {
             span: row.span(),
             rank: place + 1,

@@ -128,7 +128,7 @@ impl CopyLookup {
         let ranks = if rows <= FEW {
             None
         } else {
-            Some(latest_ranks(alloc, script.rows(), block(rows))?)
+            Some(latest_ranks(alloc, &script, block(rows))?)
         };
         Ok(CopyLookup { script, ranks })
     }
@@ -142,7 +142,7 @@ impl CopyLookup {
     {
         match &mut self.ranks {
             None => self.script.times(t),
-            Some(ranks) => copies_at(self.script.rows(), ranks.at(t)),
+            Some(ranks) => copies_at(&self.script, ranks.at(t)),
         }
     }
 }

@@ -1,8 +1,8 @@
 //! The greatest rank that is claimed of each number.
 
-ghost use Rattle.std.specs.Prelude.{◌≡◌, ℕ, ◌+◌, ◌-◌, ◌<◌, ◌≤◌, ◌%◌, true, All, IfOk, IfSome, length};
+ghost use Rattle.std.specs.Prelude.{◌≡◌, ℕ, ◌+◌, ◌<◌, ◌≤◌, true, All, IfOk, length};
 ghost use Rattle.side_tables.specs.Spans.{IsSpan, names};
-ghost use Rattle.side_tables.specs.Ranks.{AreRanks, HasTaken, IsRank, RunHolds, RunsHold, Serves, Takes, cell_at, no_cell};
+ghost use Rattle.side_tables.specs.Ranks.{AreCells, AreRanks, HasTaken, IsBlock, IsDue, IsRank, IsRunOf, RunHolds, Serves, Takes};
 
 use crate::claims::Claim;
 use crate::span::Span;
@@ -66,8 +66,7 @@ impl Model for Ranks {
 impl Ranks {
     /// The ranks that are claimed, of so many numbers at once, 1 to 16,384. Takes all memory that `at` needs.
     pub fn open(alloc: Global, claims: Vec<Claim>, numbers: usize) -> Result<Ranks, NoMemory>
-        requires some { 1 ≤ numbers }
-        requires few { numbers ≤ 16384 }
+        requires block { IsBlock numbers }
         requires right { All (λ claim. IsSpan claim.span) claims.items }
         ensures { IfOk result
             (λ ranks. (n rank : ℕ) → IsRank ranks n rank → IsRank claims.items n rank) }
@@ -110,11 +109,10 @@ fn find(cells: &mut [Cell], claims: &[Claim], base: u32)
 
 /// Takes a claim: each number that it names has its rank, or a greater one.
 fn take(cells: &mut [Cell], claim: &Claim, base: u32)
-    requires few { length cells.old ≤ 16384 }
+    requires cells { AreCells cells.old }
     requires right { IsSpan claim.now.span }
-    requires runs { RunsHold cells.old }
     ensures takes { Takes (λ n. names claim.now.span (base + n)) claim.now.rank cells.old cells.new }
-    ensures runs { RunsHold cells.new }
+    ensures cells { AreCells cells.new }
     ensures all { HasTaken (λ n. names claim.now.span (base + n)) claim.now.rank cells.new }
 {
     if claim.rank == 0 {
@@ -127,11 +125,10 @@ fn take(cells: &mut [Cell], claim: &Claim, base: u32)
 
 /// Takes a claim of numbers that are counted from the first cell on.
 fn take_all(cells: &mut [Cell], claim: &Claim)
-    requires few { length cells.old ≤ 16384 }
+    requires cells { AreCells cells.old }
     requires right { IsSpan claim.now.span }
-    requires runs { RunsHold cells.old }
     ensures takes { Takes (names claim.now.span) claim.now.rank cells.old cells.new }
-    ensures runs { RunsHold cells.new }
+    ensures cells { AreCells cells.new }
     ensures all { HasTaken (names claim.now.span) claim.now.rank cells.new }
 {
     let numbers = cells.len() as u32;
@@ -149,13 +146,11 @@ fn take_all(cells: &mut [Cell], claim: &Claim)
 
 /// Comes to a number that a claim names, and tells up to which number all that the claim names have its rank then.
 fn visit(cells: &mut [Cell], t: u32, claim: &Claim) -> u32
-    requires few { length cells.old ≤ 16384 }
-    requires inside { t < length cells.old }
+    requires cells { AreCells cells.old }
     requires right { IsSpan claim.now.span }
-    requires named { names claim.now.span t ≡ true }
-    requires runs { RunsHold cells.old }
+    requires due { IsDue claim.now t cells.old }
     ensures takes { Takes (names claim.now.span) claim.now.rank cells.old cells.new }
-    ensures runs { RunsHold cells.new }
+    ensures cells { AreCells cells.new }
     ensures after { t < result }
     ensures holds { RunHolds cells.new t
         (record { step = claim.now.span.step; until = result; rank = claim.now.rank }) }
@@ -186,13 +181,10 @@ fn serves(run: Run, t: u32, claim: &Claim) -> bool
 
 /// A run that serves a claim, joined with that from the next number in its steps, if that serves the claim too.
 fn longer(cells: &[Cell], t: u32, run: Run, claim: &Claim) -> Run
-    requires few { length cells.now ≤ 16384 }
-    requires steps { 1 ≤ claim.now.span.step }
-    requires runs { RunsHold cells.now }
-    requires serves { Serves claim.now t run }
-    requires holds { RunHolds cells.now t run }
-    ensures serves { Serves claim.now t result }
-    ensures holds { RunHolds cells.now t result }
+    requires cells { AreCells cells.now }
+    requires right { IsSpan claim.now.span }
+    requires run { IsRunOf claim.now t cells.now run }
+    ensures { IsRunOf claim.now t cells.now result }
 {
     let steps = Span {
         first: t,

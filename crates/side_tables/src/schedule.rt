@@ -80,7 +80,13 @@ impl Schedule {
     pub fn flags(&self, t: u32) -> Flags
         ensures { result ≡ flags_of self.now.flags t }
     {
-        flags_in(self.flags.rows(), t)
+        let mut flags = Flags::default();
+        for row in self.flag_rows() {
+            if row.span().names(t) {
+                flags = joined(flags, row.flags);
+            }
+        }
+        flags
     }
 
     /// The required robustness of the packet, at most 7: what the last `robust` row that names it says, or none if
@@ -109,6 +115,13 @@ impl Schedule {
         self.robust.rows()
     }
 
+    /// The table of the `robust` rows.
+    pub(crate) fn robust_table(&self) -> &Table<RobustRow>
+        ensures { result.now ≡ self.now.robust }
+    {
+        &self.robust
+    }
+
     /// A number `result` such that no packet in `t..result` is given anything. If there are many rows, it is `t`.
     pub fn next_named(&self, t: u32) -> u32
         ensures least { t ≤ result }
@@ -117,20 +130,6 @@ impl Schedule {
         let flags = self.flags.next_named(t);
         flags.min(self.robust.next_named(t))
     }
-}
-
-/// The flags of all rows that name the packet, combined.
-fn flags_in(rows: &[FlagRow], t: u32) -> Flags
-    requires { All IsFlagRow rows.now }
-    ensures { result ≡ flags_of rows.now t }
-{
-    let mut flags = Flags::default();
-    for row in rows {
-        if row.span().names(t) {
-            flags = joined(flags, row.flags);
-        }
-    }
-    flags
 }
 
 /// The flags that are set in at least one of the two.

@@ -60,7 +60,13 @@ impl<R: TableRow> Table<R> {
         ensures row { result ≡ last_row R.span_of self.now t }
         ensures right { IfSome result R.is_right }
     {
-        latest_of(&self.rows, t)
+        let mut latest = None;
+        for row in self.rows() {
+            if row.span().names(t) {
+                latest = Some(*row);
+            }
+        }
+        latest
     }
 
     /// A number `result` such that no row names a packet in `t..result`. If there are many rows, it is `t`.
@@ -72,38 +78,13 @@ impl<R: TableRow> Table<R> {
         if self.rows.len() > FEW {
             return t;
         }
-        next_of(&self.rows, t)
-    }
-}
-
-/// The last row that names the packet.
-fn latest_of<R: TableRow>(rows: &[R], t: u32) -> Option<R>
-    requires { All R.is_right rows.now }
-    ensures row { result ≡ last_row R.span_of rows.now t }
-    ensures right { IfSome result R.is_right }
-{
-    let mut latest = None;
-    for row in rows {
-        if row.span().names(t) {
-            latest = Some(*row);
+        let mut next = u32::MAX;
+        for row in self.rows() {
+            next = match row.span().next(t) {
+                Some(named) => next.min(named),
+                None => next,
+            };
         }
+        next
     }
-    latest
-}
-
-/// A number `result` such that no row names a packet in `t..result`.
-fn next_of<R: TableRow>(rows: &[R], t: u32) -> u32
-    requires { All R.is_right rows.now }
-    ensures least { t ≤ result }
-    ensures none { (n : ℕ) → t ≤ n → n < result
-        → All (λ row. names (R.span_of row) n ≡ false) rows.now }
-{
-    let mut next = u32::MAX;
-    for row in rows {
-        next = match row.span().next(t) {
-            Some(named) => next.min(named),
-            None => next,
-        };
-    }
-    next
 }

@@ -6,6 +6,6 @@ use Rattle.side_tables.proofs.claims.flag_claims.Given as goal
 
 abbrev pub invariant-loop-row : goal.invariant-loop-row
 invariant-loop-row l = record {
-  are : AreClaims (flag_claim l.flag) (take l.row-index l.rows) l.claims.items;
+  are : AreClaims (flag_claim l.flag) (take l.row-index l.row-items) l.claims.items;
   right : All (λ (claim : Claim). IsSpan claim.span) l.claims.items;
 }

@@ -18,7 +18,7 @@ loop-claim-preserved c =
     let more : take (k + 1) claims ≡ take k claims ++ claim_at claims k ∷ [] = take_more claims k no_claim inside in
     record {
       len = took.takes.len ∙ kept.len;
-      runs = took.runs;
+      runs = took.cells.runs;
       claimed = AreClaimed-more claims (claim_at claims k) c.args.base old new among kept.claimed took.takes;
       ranks = subst (λ (taken : List Claim). HaveRanks taken c.args.base new) (sym more)
           (HaveRanks-more (take k claims) (claim_at claims k) c.args.base old new kept.ranks took.takes took.all);

@@ -9,7 +9,7 @@ loop-reached-preserved c =
     let visited = c.visit-reached.ensures in
     record {
       takes = Takes-then (names claim.span) claim.rank c.args.cells.now c.loop-reached.cells c.visit-reached.new.cells kept.takes visited.takes;
-      runs = visited.runs;
+      runs = visited.cells.runs;
       numbers = kept.numbers;
       past = HasReached-more claim c.loop-reached.cells c.visit-reached.new.cells c.loop-reached.reached c.in-Some.t c.visit-reached.result kept.past visited.takes c.in-Some.ensures.named c.in-Some.ensures.first visited.holds;
     }

@@ -3,11 +3,11 @@ use Rattle.std.specs.Option.{option_map}
 use Rattle.side_tables.specs.declared.rows.RobustRow.{RobustRow}
 use Rattle.side_tables.proofs.columns.Columns.at.Goals as goal
 
-pub robust_at-robust-requires-clause-inside : goal.robust_at-robust-requires-clause-inside
-robust_at-robust-requires-clause-inside c =
+pub robust_at-robust-requires : goal.robust_at-robust-requires
+robust_at-robust-requires c =
     let latest = c.requires.robusts c.args.t c.at-4.result c.at-4.ensures.rank in
     let inside = latest.inside in
-    rw c.robust_rows.ensures.rows inside
+    rw c.robust_table.ensures inside
 
 pub returns-clause-flags : goal.returns-clause-flags
 returns-clause-flags c =
@@ -19,4 +19,4 @@ returns-clause-flags c =
 pub returns-clause-robust : goal.returns-clause-robust
 returns-clause-robust c =
     let latest = c.requires.robusts c.args.t c.at-4.result c.at-4.ensures.rank in
-    c.robust_at-robust.ensures.robust ∙ (rw c.robust_rows.ensures.rows (ap (option_map (λ (row : RobustRow). row.value)) (sym latest.row)))
+    c.robust_at-robust.ensures.robust ∙ (rw c.robust_table.ensures (ap (option_map (λ (row : RobustRow). row.value)) (sym latest.row)))

@@ -15,5 +15,5 @@ some_kept script ranks own same are found is = let eq : own ≡ found = cc in su
 pub invariant_of-result : goal.invariant_of-result
 invariant_of-result c = elim c.if-rows-le-FEW.branch [
   | then-rows-le-FEW w ↦ none_kept c.args.script c.if-rows-le-FEW.ranks w.ranks-is
-  | else-rows-le-FEW+in_ok-latest_ranks w ↦ some_kept c.args.script c.if-rows-le-FEW.ranks _ w.ranks-is (subst (λ (rows : List CopyRow). AreLatestRanks copy_span rows w.in_ok-latest_ranks.field-0) w.rows.ensures.rows w.in_ok-latest_ranks.ensures)
+  | else-rows-le-FEW+in_ok-latest_ranks w ↦ some_kept c.args.script c.if-rows-le-FEW.ranks _ w.ranks-is w.in_ok-latest_ranks.ensures
 ]

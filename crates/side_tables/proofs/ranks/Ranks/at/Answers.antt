@@ -1,6 +1,6 @@
 use Rattle.std.proofs.Common.{◌≡◌, ℕ, List, ◌+◌, ◌-◌, ◌<◌, ◌≤◌, length, ap, sym, subst, refl, arith}
 use Rattle.std.proofs.lemmas.List.{get_or_read, with_items_is}
-use Rattle.side_tables.specs.Ranks.{AreRanks, IsRank, IsRanked, cell_at, no_cell}
+use Rattle.side_tables.specs.Ranks.{AreRanks, IsBlock, IsRank, IsRanked, cell_at, no_cell}
 use Rattle.side_tables.specs.declared.claims.Claim.{Claim}
 use Rattle.side_tables.specs.declared.ranks.Cell.{Cell}
 use Rattle.side_tables.proofs.ranks.Ranks.at.Goals as goal
@@ -10,9 +10,7 @@ use Rattle.side_tables.proofs.ranks.Ranks.at.Goals.{then-t-self, else-t-self+els
 anew : (claims : List Claim) (old base : ℕ) (cells new : List Cell) → IsRanked claims old cells → AreRanks claims base (length cells) new → IsRanked claims base new
 anew claims old base cells new was are =
     let len : length new ≡ length cells = are.len in
-    let some = was.some in
-    let few = was.few in
-    record { right = was.right; some = omega (arith, len, some); few = omega (arith, len, few); ranks = subst (λ (n : ℕ). AreRanks claims base n new) (sym len) are }
+    record { right = was.right; block = subst IsBlock (sym len) was.block; ranks = subst (λ (n : ℕ). AreRanks claims base n new) (sym len) are }
 
 -- the number that is asked for is in the block
 at_rank : (claims : List Claim) (base t : ℕ) (cells : List Cell) → IsRanked claims base cells → base ≤ t → t - base < length cells → IsRank claims t (cell_at cells (t - base)).rank
@@ -35,7 +33,7 @@ returns-clause-rank c =
       | then-t-self w ↦ rw w.self-inside-is c.self.view_is
       | else-t-self+else-len-t w ↦ rw w.self-inside-is c.self.view_is
     ] in
-    let some : 1 ≤ length inside.cells.items = ranked.some in
+    let some : 1 ≤ length inside.cells.items = ranked.block.some in
     let from : inside.base ≤ c.args.t = elim c.if-t-self.branch [
       | then-t-self w ↦ rw w.self-inside-is (omega arith)
       | else-t-self+else-len-t w ↦ rw w.self-inside-is (omega arith)

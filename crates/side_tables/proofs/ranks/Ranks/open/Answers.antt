@@ -1,8 +1,8 @@
-use Rattle.std.proofs.Common.{◌≡◌, ℕ, ◌++◌, List, All, length, take, drop, sym, ap, append-nil, subst, arith}
+use Rattle.std.proofs.Common.{◌≡◌, ℕ, ◌++◌, List, All, length, take, drop, ◌∙◌, sym, ap, append-nil, subst, arith}
 use Rattle.std.proofs.lemmas.List.{drop_all, take_all}
 use Rattle.std.proofs.lemmas.List.Sorted.{All-permutation, IsPermutation-sym}
 use Rattle.side_tables.specs.Spans.{IsSpan}
-use Rattle.side_tables.specs.Ranks.{AreRanks}
+use Rattle.side_tables.specs.Ranks.{AreRanks, IsBlock}
 use Rattle.side_tables.specs.declared.claims.Claim.{Claim}
 use Rattle.side_tables.specs.declared.ranks.Cell.{Cell}
 use Rattle.side_tables.proofs.Claimed.{IsRank-permuted}
@@ -29,8 +29,7 @@ invariant_of-result c =
     let same : length new ≡ length items = are.len in
     rw (written items new c.in_ok-cells.cells.len are.len len) (record {
       right = All-permutation (λ (claim : Claim). IsSpan claim.span) c.args.claims.items _ c.sort_unstable_by_key.ensures.permutation c.requires.right;
-      some = omega (arith, same, numbers, c.requires.some);
-      few = omega (arith, same, numbers, c.requires.few);
+      block = subst IsBlock (sym (same ∙ numbers)) c.requires.block;
       ranks = subst (λ (n : ℕ). AreRanks claims 0 n new) (sym same) are;
     })
 

@@ -3,12 +3,12 @@ use Rattle.std.proofs.lemmas.List.{take_all, take_more}
 use Rattle.std.proofs.lemmas.List.Elements.{All-push}
 use Rattle.side_tables.specs.Spans.{names}
 use Rattle.side_tables.specs.declared.span.Span.{Span}
-use Rattle.side_tables.proofs.table.next_of.Goals as goal
-use Rattle.side_tables.proofs.table.next_of.Goals.{in-Some, in-None}
+use Rattle.side_tables.proofs.table.Table.next_named.Goals as goal
+use Rattle.side_tables.proofs.table.Table.next_named.Goals.{in-Some, in-None}
 
 pub loop-row-preserved : goal.loop-row-preserved
 loop-row-preserved g c =
-    let rows = c.args.rows.now in
+    let rows = c.rows-row-items.result.now in
     let k = c.loop-row.row-index in
     let row = c.row-item.result in
     let kept = c.loop-row.invariant in
@@ -34,5 +34,6 @@ loop-row-preserved g c =
 
 pub returns-clause-none : goal.returns-clause-none
 returns-clause-none g c n from below =
-    let all : take c.loop-row.row-index c.args.rows.now ≡ c.args.rows.now = take_all c.loop-row.row-index c.args.rows.now c.loop-row-test.false in
+    let rows = c.rows-row-items.result.now in
+    let all : take c.loop-row.row-index rows ≡ c.args.self.now = take_all c.loop-row.row-index rows c.loop-row-test.false ∙ c.rows-row-items.ensures.rows in
     subst (All (λ row. names (g.R.TableRow.span_of row) n ≡ false)) all (c.loop-row.invariant.none n from below)
