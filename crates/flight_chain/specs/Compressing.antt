@@ -31,10 +31,8 @@ pub record Compression : Type 0 where
   pub rows : ScheduleRows
 
 -- what a flight may be opened with: a stream, a required robustness of at most 7, and a first mask of the vectors' places
-pub record IsCompression (f robust apid : ℕ) (mask : List Bool) : Type 0 where
-  pub stream : IsStream f apid
-  pub most : robust ≤ 7
-  pub places : length mask ≡ f
+abbrev pub IsCompression : ℕ → ℕ → ℕ → List Bool → Type 0
+IsCompression f robust apid mask = IsStream f apid × (robust ≤ 7) × (length mask ≡ f)
 
 -- the required robustness of a packet: what the rows of the schedule give it, and this one if they give none
 abbrev pub required_robustness : List RobustRow → ℕ → ℕ → ℕ
