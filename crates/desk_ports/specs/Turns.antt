@@ -2,6 +2,7 @@
 use Rattle.std.specs.Prelude.{◌≡◌, ℕ, Bool, IsTrue, List, [], ◌++◌, None, Result, Ok, Err}
 use Rattle.desk_ports.specs.declared.desk.Inlet.TheVariants as inlet
 use Rattle.desk_ports.specs.declared.desk.Outlet.{Outlet}
+use Rattle.desk_ports.specs.declared.desk.Outlet.TheVariants as outlet
 use Rattle.desk_ports.specs.Stop.{Stop}
 use Rattle.desk_ports.specs.declared.turns.Turn.{Turn}
 use Rattle.desk_ports.specs.declared.turns.Turn.TheVariants.{More, Done}
@@ -18,6 +19,10 @@ pub record IsOwed {A F : Type 0} (owes : Work A F → Type 0) : Type 0 where
 pub record AreReady (writes : Outlet → Bool) (m : Meanings) : Type 0 where
   pub input : IsReadyIn m inlet.Main
   pub outputs : (outlet : Outlet) → IsTrue (writes outlet) → IsReadyOut m outlet
+
+-- the main input, the main output and the report were opened
+abbrev pub IsReadyRun : Meanings → Type 0
+IsReadyRun m = IsReadyIn m inlet.Main × IsReadyOut m outlet.Main × IsReadyOut m outlet.Report
 
 -- If the input begins with these bytes, these outputs are owed for them, and for the bytes after them the other work is
 -- to do.

@@ -19,7 +19,7 @@ use Rattle.flight_chain.specs.declared.fault.FlightFault.{FlightFault}
 use Rattle.flight_chain.specs.declared.fault.RecordFault.TheVariants as record_fault
 use Rattle.flight_chain.specs.declared.fault.FlightFault.TheVariants.{CutRecord, SpareBit, TooMany, ReadFault, WriteFault}
 use Rattle.flight_chain.specs.Recordings.{recording_walk, walk_over}
-use Rattle.flight_chain.specs.Stores.{data_at, store_of}
+use Rattle.flight_chain.specs.Stores.{IsStream, data_at, store_of}
 
 -- a flight that has read nothing: the places of its vectors, the required robustness of packets to which the schedule gives
 -- none, the APID, the first mask, and the rows of the schedule
@@ -29,6 +29,10 @@ pub record Compression : Type 0 where
   pub apid : ℕ
   pub mask : List Bool
   pub rows : ScheduleRows
+
+-- what a flight may be opened with: a stream, a required robustness of at most 7, and a first mask of the vectors' places
+abbrev pub IsCompression : ℕ → ℕ → ℕ → List Bool → Type 0
+IsCompression f robust apid mask = IsStream f apid × (robust ≤ 7) × (length mask ≡ f)
 
 -- the required robustness of a packet: what the rows of the schedule give it, and this one if they give none
 abbrev pub required_robustness : List RobustRow → ℕ → ℕ → ℕ

@@ -1,11 +1,15 @@
 -- The store of a history.
-use Rattle.std.specs.Prelude.{ℕ, ◌%◌, List, length, map}
+use Rattle.std.specs.Prelude.{ℕ, ◌%◌, ◌≤◌, List, length, map}
 use Rattle.std.specs.List.{range_with_len}
-use Rattle.bit_vectors.specs.Vectors.{vector_bytes}
+use Rattle.bit_vectors.specs.Vectors.{IsPlaces, vector_bytes}
 use Rattle.mask_update.specs.Histories.{History}
 use Rattle.packet_encode.specs.Forms.{form_bits}
 use Rattle.packet_encode.specs.Packets.{form_at}
 use Rattle.packet_store.specs.SpacePackets.{period, store_bytes}
+
+-- a stream of packets: vectors of f places, on an APID that is not the idle one
+abbrev pub IsStream : ℕ → ℕ → Type 0
+IsStream f apid = IsPlaces f × (apid ≤ 2046)
 
 -- the bytes of the packet t
 abbrev pub data_at : History → ℕ → List ℕ

@@ -1,10 +1,11 @@
 //! A recording that is being compressed, packet by packet.
 
-ghost use Rattle.std.specs.Prelude.{◌≡◌, ◌+◌, ◌*◌, ◌-◌, ◌^◌, ◌<◌, ◌≤◌, Bool, List, [], ◌∷◌, ◌++◌, length, replicate, false, IfOk};
+ghost use Rattle.std.specs.Prelude.{◌≡◌, ◌+◌, ◌*◌, ◌-◌, ◌^◌, ◌<◌, Bool, List, [], ◌∷◌, ◌++◌, length, replicate, false, IfOk};
 ghost use Rattle.desk_ports.specs.Meanings.{IsReadyOut, HasWriteCause};
 ghost use Rattle.desk_ports.specs.Courses.{to_output};
 ghost use Rattle.desk_ports.specs.Writings.{Writes};
-ghost use Rattle.flight_chain.specs.Compressing.{Compression, next_packet};
+ghost use Rattle.flight_chain.specs.Compressing.{Compression, IsCompression, next_packet};
+ghost use Rattle.flight_chain.specs.Stores.{IsStream};
 ghost use Rattle.bit_vectors.specs.Vectors.{IsPlaces};
 
 use crate::fault::{FlightFault, RecordFault};
@@ -73,10 +74,7 @@ impl Compressing {
         mask: &Bits,
         plan: Schedule,
     ) -> Result<Compressing, NoMemory>
-        requires valid { IsPlaces f }
-        requires places { length mask.now ≡ f }
-        requires robust { robust ≤ 7 }
-        requires chosen { apid ≤ 2046 }
+        requires { IsCompression f robust apid mask.now }
         ensures right { IfOk result IsCompressing }
         ensures none { IfOk result
             (HasTaken (record {
@@ -138,8 +136,7 @@ fn reading(alloc: Global, f: u32) -> Result<(ReadAhead, Bits), NoMemory>
 
 /// What a store is written with: its writer, and a pen for a packet.
 fn writing(alloc: Global, f: u32, apid: u16) -> Result<(StoreWriter, BitPen), NoMemory>
-    requires valid { IsPlaces f }
-    requires chosen { apid ≤ 2046 }
+    requires { IsStream f apid }
     ensures apid { IfOk result (λ made. made.0.apid ≡ apid) }
     ensures bits { IfOk result (λ made. made.1.bits ≡ []) }
     ensures room { IfOk result (λ made. made.1.room ≡ 10 * f + 43) }

@@ -1,15 +1,14 @@
 //! The command `compress`: from a recording to the store of its compressed packets.
 
-ghost use Rattle.std.specs.Prelude.{◌≡◌, ◌≤◌, length, IfOk};
-ghost use Rattle.desk_ports.specs.Meanings.{IsReadyIn, IsReadyOut};
+ghost use Rattle.std.specs.Prelude.{◌≡◌, IfOk};
+ghost use Rattle.desk_ports.specs.Turns.{AreReady};
 ghost use Rattle.desk_ports.specs.Courses.{AfterRun, HasCause, by_stop};
-ghost use Rattle.flight_chain.specs.Compressing.{compress_work, stop_by};
-ghost use Rattle.bit_vectors.specs.Vectors.{IsPlaces};
+ghost use Rattle.flight_chain.specs.Compressing.{IsCompression, compress_work, is_main, stop_by};
 
 use crate::compressing::Compressing;
 use crate::fault::FlightFault;
 use bit_vectors::{Bits, NoMemory};
-use desk_ports::{Desk, Inlet, Outlet, drive};
+use desk_ports::{Desk, drive};
 use side_tables::Schedule;
 use std::alloc::Global;
 use std::marker::Model;
@@ -44,10 +43,7 @@ impl Flight {
         mask: &Bits,
         plan: Schedule,
     ) -> Result<Flight, NoMemory>
-        requires valid { IsPlaces f }
-        requires places { length mask.now ≡ f }
-        requires robust { robust ≤ 7 }
-        requires chosen { apid ≤ 2046 }
+        requires { IsCompression f robust apid mask.now }
         ensures { IfOk result
             (λ flight. flight ≡ record
             { places = f; robust = robust; apid = apid; mask = mask.now; rows = plan }) }
@@ -58,8 +54,7 @@ impl Flight {
 
     /// Compresses the recording, and tells the number of its packets. It takes no memory.
     pub fn compress<D: Desk>(self, desk: &mut D) -> Result<u64, FlightFault>
-        requires input { IsReadyIn (D.meaning desk.old) Inlet.Main }
-        requires output { IsReadyOut (D.meaning desk.old) Outlet.Main }
+        requires { AreReady is_main (D.meaning desk.old) }
         // What stands after each answer is what the recording owes, all of it or up to where its walk or the desk ends it;
         // the number is that of the packets of the same recording, whatever the desk tells.
         ensures ran { AfterRun (compress_work self) (D.meaning desk.old) (D.meaning desk.new)

@@ -1,9 +1,9 @@
 -- What is kept of judged arrivals: what the ground knows after them, and their numbers.
-use Rattle.std.specs.Prelude.{◌≡◌, ℕ, ◌*◌, ◌^◌, ◌≤◌, List, [], Option}
+use Rattle.std.specs.Prelude.{◌≡◌, ℕ, ◌*◌, ◌^◌, ◌<◌, ◌≤◌, List, [], Option}
 use Rattle.ground_chain.specs.declared.restored.Restored.{Restored}
 use Rattle.ground_chain.specs.Numbers.{expected}
-use Rattle.ground_chain.specs.Run.{Arrival, Judged, run, run_from}
-use Rattle.ground_chain.specs.Report.{restored_of, restored_by, added}
+use Rattle.ground_chain.specs.Run.{Arrival, IsArrival, Judged, run, run_from}
+use Rattle.ground_chain.specs.Report.{IsTally, restored_of, restored_by, added}
 use Rattle.ground_chain.specs.Reception.{Reception, StandsFor, known_of, next_judged, nothing_arrived}
 
 pub record Reckoning : Type 0 where
@@ -24,6 +24,10 @@ pub record HasJudged (f : ℕ) (arrivals : List Arrival) (r : Reckoning) : Type 
   pub stands : StandsFor arrivals r.reception
   pub counted : r.restored ≡ restored_of (run f arrivals)
 
+-- what may be judged next: an arrival, one of the first 4,294,967,296
+abbrev pub IsNextArrival : Reckoning → ℕ → List ℕ → Type 0
+IsNextArrival r count body = IsArrival count body × (r.restored.packets < 2 ^ 32)
+
 -- one more arrival was judged, with this count and these data bytes: what is kept and counted is what the run knows after it
 pub record Judges (old new : Reckoning) (count : ℕ) (body : List ℕ) : Type 0 where
   pub known : known_of new.reception ≡ (next_judged old.reception count body).after
@@ -33,6 +37,4 @@ pub record Judges (old new : Reckoning) (count : ℕ) (body : List ℕ) : Type 0
 -- the numbers are within their limits, which the arrivals set
 pub record IsWithinLimits (latest : Option ℕ) (restored : Restored) : Type 0 where
   pub near : expected latest ≤ 2 ^ 14 * restored.packets
-  pub written : restored.written ≤ restored.packets
-  pub repeats : restored.repeats ≤ restored.packets
-  pub listed : restored.listed ≤ 2 ^ 14 * restored.packets
+  pub tally : IsTally restored

@@ -1,5 +1,5 @@
 -- What is written of a run: the restored packets and the report, and the numbers of the report's last row.
-use Rattle.std.specs.Prelude.{◌≡◌, ℕ, ◌+◌, ◌-◌, ◌^◌, ◌<◌, IfSome, Bool, true, false, ◌||◌, if◌then◌else◌, List, [], ◌++◌, length, codes, Option, Some, None}
+use Rattle.std.specs.Prelude.{◌≡◌, ℕ, ◌+◌, ◌-◌, ◌*◌, ◌^◌, ◌<◌, ◌≤◌, IfSome, Bool, true, false, ◌||◌, if◌then◌else◌, List, [], ◌++◌, length, codes, Option, Some, None}
 use Rattle.std.specs.Fmt.{decimal}
 use Rattle.std.specs.List.{flat_map, count_by, sum_by}
 use Rattle.std.specs.Option.{option_map}
@@ -136,6 +136,10 @@ restored_of judged = record {
   repeats = count_by (λ j. is_repeat j.verdict.kind) judged;
   listed = sum_by (λ j. listed_by j.verdict) judged;
 }
+
+-- the numbers are within their limits, which the number of arrivals sets
+abbrev pub IsTally : Restored → Type 0
+IsTally r = (r.written ≤ r.packets) × (r.repeats ≤ r.packets) × (r.listed ≤ 2 ^ 14 * r.packets)
 
 -- the numbers of one part of a run and of another
 abbrev pub added : Restored → Restored → Restored

@@ -1,8 +1,9 @@
 -- The run over a list of arrivals: a verdict for each, and what is known after it.
-use Rattle.std.specs.Prelude.{ℕ, ◌-◌, nat_lt, if◌then◌else◌, List, [], ◌∷◌, Bool, Option, Some, None, Result, Ok, Err, unwrap_or}
+use Rattle.std.specs.Prelude.{ℕ, ◌-◌, ◌<◌, ◌≤◌, nat_lt, if◌then◌else◌, List, [], ◌∷◌, length, Bool, Option, Some, None, Result, Ok, Err, unwrap_or}
 use Rattle.bit_vectors.specs.declared.fault.BitFault.{BitFault}
 use Rattle.bit_vectors.specs.Reading.{Parsed, Read, WrongBit, TooShort}
 use Rattle.bit_vectors.specs.Vectors.{bits_of}
+use Rattle.packet_store.specs.SpacePackets.{period}
 use Rattle.packet_decode.specs.declared.decoder.Reading.{Reading}
 use Rattle.packet_decode.specs.declared.decoder.Reading.TheVariants as answer
 use Rattle.packet_decode.specs.State.{State, Change, next_state, no_vectors}
@@ -17,6 +18,10 @@ use Rattle.ground_chain.specs.Numbers.{number_after, expected}
 pub record Arrival : Type 0 where
   pub count : ℕ
   pub body : List ℕ
+
+-- an arrival may have this sequence count, of 14 bits, and these data bytes, at most 65,536
+abbrev pub IsArrival : ℕ → List ℕ → Type 0
+IsArrival count body = (count < period) × (length body ≤ 65536)
 
 -- what is known between two arrivals: the number of the latest one, and the latest mask and content
 pub record Known : Type 0 where

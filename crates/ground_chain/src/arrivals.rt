@@ -1,8 +1,8 @@
 //! The arrivals, one after the other, with a verdict for each.
 
-ghost use Rattle.std.specs.Prelude.{◌≡◌, ◌+◌, ◌^◌, ◌<◌, ◌≤◌, ◌↔◌, ◌∷◌, ◌++◌, [], List, true, false, None, IfSome, IfOk, length};
+ghost use Rattle.std.specs.Prelude.{◌≡◌, ◌+◌, ◌^◌, ◌<◌, ◌≤◌, ◌↔◌, ◌∷◌, ◌++◌, [], List, true, false, None, IfSome, IfOk};
 ghost use Rattle.ground_chain.specs.Numbers.{expected, number_after};
-ghost use Rattle.ground_chain.specs.Run.{Arrival, kind_of, lost_from};
+ghost use Rattle.ground_chain.specs.Run.{Arrival, IsArrival, kind_of, lost_from};
 ghost use Rattle.ground_chain.specs.Refusals.{IsExactVerdict};
 ghost use Rattle.ground_chain.specs.Report.{is_told, tells_mask_alone};
 ghost use Rattle.ground_chain.specs.Reception.{AreLost, HasDecoded, HasMasked, AgreesWith, StandsFor, known_of, next_judged, nothing_arrived};
@@ -52,9 +52,8 @@ impl Ground {
     /// nothing, and its data are not read. It takes no memory.
     #[inline(always)]
     pub fn arrive(&mut self, count: u16, bytes: &[u8]) -> Verdict
-        requires count_bits { count < PERIOD }
+        requires arrival { IsArrival count bytes.now }
         requires latest { IfSome self.old.latest (λ latest. latest < 2 ^ 61) }
-        requires size { length bytes.now ≤ 65536 }
         // The verdict is the run's next one, and what is known is what the run knows after it.
         ensures verdict { result ≡ (next_judged self.old count bytes.now).verdict }
         ensures known { known_of self.new ≡ (next_judged self.old count bytes.now).after }

@@ -1,10 +1,10 @@
 //! Arrivals that are judged, and what an account writes of them.
 
-ghost use Rattle.std.specs.Prelude.{◌≡◌, ◌^◌, ◌<◌, ◌≤◌, IfOk, length};
+ghost use Rattle.std.specs.Prelude.{◌≡◌, IfOk};
 ghost use Rattle.desk_ports.specs.Turns.{AreReady};
 ghost use Rattle.desk_ports.specs.Writings.{WritesBy};
 ghost use Rattle.ground_chain.specs.Reception.{next_judged};
-ghost use Rattle.ground_chain.specs.Reckoning.{Judges, nothing_judged};
+ghost use Rattle.ground_chain.specs.Reckoning.{IsNextArrival, Judges, nothing_judged};
 ghost use Rattle.bit_vectors.specs.Vectors.{IsPlaces};
 
 use crate::account::Account;
@@ -12,7 +12,6 @@ use crate::restored::Restored;
 use crate::tallied::Tallied;
 use bit_vectors::NoMemory;
 use desk_ports::{Desk, Failed};
-use packet_store::PERIOD;
 use std::alloc::Global;
 use std::marker::Model;
 
@@ -47,9 +46,7 @@ impl<A: Account> Judging<A> {
     /// Judges the next arrival, with this sequence count and these data bytes, and writes what the account writes of it. It
     /// takes no memory.
     pub fn arrive<D: Desk>(&mut self, desk: &mut D, count: u16, bytes: &[u8]) -> Result<(), Failed>
-        requires count_bits { count < PERIOD }
-        requires size { length bytes.now ≤ 65536 }
-        requires few { self.old.restored.packets < 2 ^ 32 }
+        requires next { IsNextArrival self.old count bytes.now }
         requires ready { AreReady A.writes (D.meaning desk.old) }
         ensures judges { Judges self.old self.new count bytes.now }
         ensures written { WritesBy A.texts.first D.meaning D.counts desk.old desk.new

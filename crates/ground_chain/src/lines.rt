@@ -6,7 +6,7 @@ ghost use Rattle.ground_chain.specs.Listing.{end_line, front_line, lost_line, ow
 use crate::restored::Restored;
 use crate::verdict::{Kind, Lost, Verdict};
 use bit_vectors::BitFault;
-use desk_ports::Row;
+use desk_ports::{ROW_BYTES, Row};
 
 /// The line of the numbers lost before the arrival, and its own line up to the vectors, if it has some.
 pub fn front_of(verdict: &Verdict, level: u8) -> Row
@@ -56,9 +56,7 @@ fn put_own(row: &mut Row, t: u64, kind: &Kind, level: u8)
 
 /// Appends a word, a number, and what stands after it.
 fn put_value(row: &mut Row, word: &str, value: u64, after: &str)
-    requires room { length row.old ≤ 67 }
-    requires word { length word.now ≤ 9 }
-    requires after { length after.now ≤ 6 }
+    requires { length row.old + length word.now + 20 + length after.now ≤ ROW_BYTES }
     ensures { row.new ≡ row.old ++ line_with word.now value after.now }
 {
     row.put_text(word);

@@ -1,21 +1,23 @@
 //! The command `show`: from a store to the listing of its arrivals.
 
 ghost use Rattle.std.specs.Prelude.{◌≡◌, ◌≤◌, ◌^◌, ℕ, length, IsOk, IfOk};
-ghost use Rattle.desk_ports.specs.Meanings.{IsReadyIn, IsReadyOut, Rose};
+ghost use Rattle.desk_ports.specs.Meanings.{Rose};
+ghost use Rattle.desk_ports.specs.Turns.{AreReady};
 ghost use Rattle.desk_ports.specs.Courses.{AfterRun, HasCause, by_stop};
 ghost use Rattle.mask_update.specs.Histories.{History};
 ghost use Rattle.packet_encode.specs.Deliveries.{arrivals};
 ghost use Rattle.ground_chain.specs.Deliveries.{IsPlayed};
 ghost use Rattle.ground_chain.specs.Listing.{listing_work};
 ghost use Rattle.packet_store.specs.Faults.{stop_by};
-ghost use Rattle.bit_vectors.specs.Vectors.{IsPlaces};
+ghost use Rattle.flight_chain.specs.Compressing.{is_main};
+ghost use Rattle.flight_chain.specs.Stores.{IsStream};
 
 use crate::RestoreFault;
 use crate::listing::Listing;
 use crate::receiving::Receiving;
 use crate::restored::Restored;
 use bit_vectors::NoMemory;
-use desk_ports::{Desk, Inlet, Outlet, drive};
+use desk_ports::{Desk, drive};
 use std::alloc::Global;
 use std::marker::Model;
 
@@ -41,8 +43,7 @@ impl Lister {
     /// A lister of packets of a chosen APID, which is not the idle one, with vectors of `f` places. It takes all memory
     /// of the run.
     pub fn open(alloc: Global, f: u32, apid: u16) -> Result<Lister, NoMemory>
-        requires valid { IsPlaces f }
-        requires chosen { apid ≤ 2046 }
+        requires { IsStream f apid }
         ensures { IfOk result (λ lister. lister ≡ record { places = f; apid = apid }) }
     {
         let account = Listing::open(alloc, f)?;
@@ -52,8 +53,7 @@ impl Lister {
 
     /// Lists the store, and tells the numbers of its run. It takes no memory.
     pub fn list<D: Desk>(self, desk: &mut D) -> Result<Restored, RestoreFault>
-        requires input { IsReadyIn (D.meaning desk.old) Inlet.Main }
-        requires output { IsReadyOut (D.meaning desk.old) Outlet.Main }
+        requires { AreReady is_main (D.meaning desk.old) }
         // What stands after each answer is what the store owes, all of it or up to where its walk or the desk ends it; the
         // numbers are those of the run over the same store, whatever the desk tells.
         ensures ran { AfterRun (listing_work self.places self.apid) (D.meaning desk.old)

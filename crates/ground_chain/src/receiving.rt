@@ -1,7 +1,7 @@
 //! A store that is being received, packet by packet, with an account of its arrivals.
 
-ghost use Rattle.std.specs.Prelude.{◌≡◌, ◌-◌, ◌^◌, ◌≤◌, IfOk};
-ghost use Rattle.bit_vectors.specs.Vectors.{IsPlaces};
+ghost use Rattle.std.specs.Prelude.{◌≡◌, ◌-◌, ◌^◌, IfOk};
+ghost use Rattle.flight_chain.specs.Stores.{IsStream};
 
 use crate::RestoreFault;
 use crate::account::Account;
@@ -59,8 +59,7 @@ impl<A: Account> Receiving<A> {
 
     /// Nothing is read. Takes all memory of the run but the account's.
     pub fn open(alloc: Global, f: u32, apid: u16, account: A) -> Result<Receiving<A>, NoMemory>
-        requires valid { IsPlaces f }
-        requires chosen { apid ≤ 2046 }
+        requires stream { IsStream f apid }
         requires room { A.has_room account f }
         ensures { IfOk result (λ receiving. receiving ≡ nothing_received f apid) }
     {

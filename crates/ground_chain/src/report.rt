@@ -7,7 +7,7 @@ ghost use Rattle.std.specs.Prelude.{Some};
 use crate::restored::Restored;
 use crate::verdict::{Kind, Lost, Verdict};
 use bit_vectors::BitFault;
-use desk_ports::Row;
+use desk_ports::{ROW_BYTES, Row};
 
 /// The report's first line.
 pub const HEADER: &str = "first,last,cause,value\n";
@@ -56,8 +56,7 @@ fn put_own(row: &mut Row, t: u64, kind: &Kind)
 
 /// Appends a row of one number.
 fn put_row(row: &mut Row, t: u64, cause: &str, value: u64)
-    requires room { length row.old ≤ 49 }
-    requires cause { length cause.now ≤ 8 }
+    requires { length row.old + length cause.now + 64 ≤ ROW_BYTES }
     ensures { row.new ≡ row.old ++ number_row t cause.now value }
 {
     row.put_number(t);

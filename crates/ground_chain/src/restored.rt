@@ -1,7 +1,8 @@
 //! How many packets were restored.
 
-ghost use Rattle.std.specs.Prelude.{◌≡◌, ◌*◌, ◌+◌, ◌^◌, ◌<◌, ◌≤◌, [], IfSome};
-ghost use Rattle.ground_chain.specs.Report.{added, lost_count, restored_by, restored_of};
+ghost use Rattle.std.specs.Prelude.{◌≡◌, ◌^◌, ◌<◌, [], IfSome};
+ghost use Rattle.ground_chain.specs.Report.{IsTally, added, restored_by, restored_of};
+ghost use Rattle.ground_chain.specs.Reception.{AreLost};
 
 use crate::verdict::{Kind, Verdict};
 
@@ -34,16 +35,11 @@ impl Restored {
 
     /// Counts one more arrival.
     pub(crate) fn count(&mut self, verdict: &Verdict)
-        requires packets { self.old.packets < 2 ^ 32 }
-        requires written { self.old.written ≤ self.old.packets }
-        requires repeats { self.old.repeats ≤ self.old.packets }
-        requires listed { self.old.listed ≤ 2 ^ 14 * self.old.packets }
-        requires order { IfSome verdict.now.lost (λ lost. lost.first ≤ lost.last) }
-        requires lost { lost_count verdict.now.lost < 2 ^ 14 }
+        requires few { self.old.packets < 2 ^ 32 }
+        requires tally { IsTally self.old }
+        requires lost { IfSome verdict.now.lost AreLost }
         ensures counted { self.new ≡ added self.old (restored_by verdict.now) }
-        ensures written { self.new.written ≤ self.new.packets }
-        ensures repeats { self.new.repeats ≤ self.new.packets }
-        ensures listed { self.new.listed ≤ 2 ^ 14 * self.new.packets }
+        ensures tally { IsTally self.new }
     {
         self.packets += 1;
         if let Some(lost) = verdict.lost {

@@ -1,7 +1,8 @@
 //! The command `restore`: from a store to the restored packets and the report.
 
 ghost use Rattle.std.specs.Prelude.{◌≡◌, ◌≤◌, ◌^◌, ℕ, length, IsOk, IfOk};
-ghost use Rattle.desk_ports.specs.Meanings.{IsReadyIn, IsReadyOut, Rose};
+ghost use Rattle.desk_ports.specs.Meanings.{Rose};
+ghost use Rattle.desk_ports.specs.Turns.{IsReadyRun};
 ghost use Rattle.desk_ports.specs.Courses.{AfterRun, HasCause, by_stop};
 ghost use Rattle.desk_ports.specs.Parts.{InParts};
 ghost use Rattle.mask_update.specs.Histories.{History};
@@ -9,7 +10,7 @@ ghost use Rattle.packet_encode.specs.Deliveries.{arrivals};
 ghost use Rattle.ground_chain.specs.Deliveries.{IsDelivered, IsPlayed};
 ghost use Rattle.packet_store.specs.Faults.{stop_by};
 ghost use Rattle.ground_chain.specs.Restoring.{restore_parts, restore_work};
-ghost use Rattle.bit_vectors.specs.Vectors.{IsPlaces};
+ghost use Rattle.flight_chain.specs.Stores.{IsStream};
 
 use crate::RestoreFault;
 use crate::receiving::Receiving;
@@ -17,7 +18,7 @@ use crate::report::HEADER;
 use crate::reporting::Reporting;
 use crate::restored::Restored;
 use bit_vectors::NoMemory;
-use desk_ports::{Desk, Inlet, Outlet, drive, write_all};
+use desk_ports::{Desk, Outlet, drive, write_all};
 use std::alloc::Global;
 use std::marker::Model;
 
@@ -43,8 +44,7 @@ impl Restorer {
     /// A restorer of packets of a chosen APID, which is not the idle one, with vectors of `f` places. It takes all
     /// memory of the run.
     pub fn open(alloc: Global, f: u32, apid: u16) -> Result<Restorer, NoMemory>
-        requires valid { IsPlaces f }
-        requires chosen { apid ≤ 2046 }
+        requires { IsStream f apid }
         ensures { IfOk result (λ restorer. restorer ≡ record { places = f; apid = apid }) }
     {
         let account = Reporting::open(alloc, f)?;
@@ -54,9 +54,7 @@ impl Restorer {
 
     /// Restores the store, and tells the numbers of its run. It takes no memory.
     pub fn restore<D: Desk>(self, desk: &mut D) -> Result<Restored, RestoreFault>
-        requires input { IsReadyIn (D.meaning desk.old) Inlet.Main }
-        requires output { IsReadyOut (D.meaning desk.old) Outlet.Main }
-        requires report { IsReadyOut (D.meaning desk.old) Outlet.Report }
+        requires { IsReadyRun (D.meaning desk.old) }
         // What stands after each answer is what the store owes, all of it or up to where its walk or the desk ends it; the
         // numbers are those of the run over the same store, whatever the desk tells.
         ensures ran { AfterRun (restore_work self.places self.apid) (D.meaning desk.old)

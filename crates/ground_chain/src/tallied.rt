@@ -1,9 +1,9 @@
 //! The arrivals with their numbers.
 
-ghost use Rattle.std.specs.Prelude.{◌≡◌, ℕ, ◌^◌, ◌<◌, ◌≤◌, ◌∷◌, ◌++◌, [], List, IfOk, length};
+ghost use Rattle.std.specs.Prelude.{◌≡◌, ℕ, ◌∷◌, ◌++◌, [], List, IfOk};
 ghost use Rattle.ground_chain.specs.Run.{Arrival};
 ghost use Rattle.ground_chain.specs.Reception.{AgreesWith, next_judged};
-ghost use Rattle.ground_chain.specs.Reckoning.{HasJudged, Judges, nothing_judged};
+ghost use Rattle.ground_chain.specs.Reckoning.{HasJudged, IsNextArrival, Judges, nothing_judged};
 ghost use Rattle.bit_vectors.specs.Vectors.{IsPlaces};
 
 use crate::arrivals::Ground;
@@ -11,7 +11,6 @@ use crate::restored::Restored;
 use crate::verdict::Verdict;
 use bit_vectors::NoMemory;
 use packet_decode::Decoder;
-use packet_store::PERIOD;
 use std::alloc::Global;
 use std::marker::Model;
 
@@ -49,9 +48,7 @@ impl Tallied {
     /// Judges and counts the next arrival, with this sequence count and these data bytes. It takes no memory.
     #[inline(always)]
     pub fn judge(&mut self, count: u16, bytes: &[u8]) -> Verdict
-        requires count_bits { count < PERIOD }
-        requires size { length bytes.now ≤ 65536 }
-        requires few { self.old.restored.packets < 2 ^ 32 }
+        requires { IsNextArrival self.old count bytes.now }
         // The verdict is the run's next one. For every list of arrivals that was judged, now that list and this one is.
         ensures verdict { result ≡ (next_judged self.old.reception count bytes.now).verdict }
         ensures judges { Judges self.old self.new count bytes.now }

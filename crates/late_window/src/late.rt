@@ -3,7 +3,7 @@
 ghost use Rattle.std.specs.Prelude.{◌≡◌, ◌+◌, ◌-◌, ◌^◌, ◌<◌, ◌≤◌, ◌*◌, [], length, take, true, IfOk, IfErr, OnOk};
 ghost use Rattle.desk_ports.specs.Turns.{AreReady};
 ghost use Rattle.desk_ports.specs.Writings.{WritesWithin};
-ghost use Rattle.ground_chain.specs.Run.{Arrival};
+ghost use Rattle.ground_chain.specs.Run.{Arrival, IsArrival};
 ghost use Rattle.late_window.specs.Late.{AreJudged, IsWithinLimits, Sorts, arrival_each, arrival_parts, held_each, held_parts, last_each, last_parts, given_at, done_of, nothing_late};
 ghost use Rattle.late_window.specs.Lines.{given_up};
 ghost use Rattle.bit_vectors.specs.Vectors.{IsPlaces};
@@ -51,8 +51,7 @@ impl LateArrivals {
         count: u16,
         bytes: &[u8],
     ) -> Result<(), Failed>
-        requires count_bits { count < PERIOD }
-        requires size { length bytes.now ≤ 65536 }
+        requires arrival { IsArrival count bytes.now }
         requires limits { IsWithinLimits self.old (2 ^ 32 - 1) }
         requires ready { AreReady (λ _. true) (D.meaning desk.old) }
         ensures sorts { Sorts self.old self.new (record { count = count; body = bytes.now }) }

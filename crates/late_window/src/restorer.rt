@@ -1,7 +1,8 @@
 //! The command `late`: from a store whose packets may come late to the restored packets and the report.
 
 ghost use Rattle.std.specs.Prelude.{◌≡◌, ◌≤◌, ℕ, List, None, Some, IsOk, IfOk};
-ghost use Rattle.desk_ports.specs.Meanings.{IsReadyIn, IsReadyOut, Rose, left};
+ghost use Rattle.desk_ports.specs.Meanings.{Rose, left};
+ghost use Rattle.desk_ports.specs.Turns.{IsReadyRun};
 ghost use Rattle.desk_ports.specs.Courses.{AfterRun, HasCause, by_stop};
 ghost use Rattle.desk_ports.specs.Parts.{InParts};
 ghost use Rattle.mask_update.specs.Histories.{History};
@@ -9,7 +10,7 @@ ghost use Rattle.packet_store.specs.Walks.{walk};
 ghost use Rattle.packet_store.specs.Faults.{stop_by};
 ghost use Rattle.late_window.specs.Restoring.{late_parts, late_work};
 ghost use Rattle.late_window.specs.Deliveries.{IsLateDelivered, IsLatePlayed};
-ghost use Rattle.bit_vectors.specs.Vectors.{IsPlaces};
+ghost use Rattle.flight_chain.specs.Stores.{IsStream};
 
 use crate::done::LateDone;
 use crate::run::LateRun;
@@ -41,8 +42,7 @@ impl LateRestorer {
     /// A restorer of packets of a chosen APID, which is not the idle one, with vectors of `f` places, that come late by up to
     /// `window` packets, at most 64. It takes all memory of the run.
     pub fn open(alloc: Global, f: u32, apid: u16, window: u8) -> Result<LateRestorer, NoMemory>
-        requires valid { IsPlaces f }
-        requires chosen { apid ≤ 2046 }
+        requires stream { IsStream f apid }
         requires window { window ≤ 64 }
         ensures { IfOk result
             (λ restorer. restorer ≡ record { places = f; apid = apid; window = window }) }
@@ -53,9 +53,7 @@ impl LateRestorer {
 
     /// Restores the store, and tells the numbers of its run. It takes no memory.
     pub fn restore<D: Desk>(self, desk: &mut D) -> Result<LateDone, RestoreFault>
-        requires input { IsReadyIn (D.meaning desk.old) Inlet.Main }
-        requires output { IsReadyOut (D.meaning desk.old) Outlet.Main }
-        requires report { IsReadyOut (D.meaning desk.old) Outlet.Report }
+        requires { IsReadyRun (D.meaning desk.old) }
         // What stands after each answer is what the store owes, all of it or up to where its walk or the desk ends it; the
         // numbers are those of the run over the same store, whatever the desk tells.
         ensures ran { AfterRun (late_work self.places self.apid self.window) (D.meaning desk.old)

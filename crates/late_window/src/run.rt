@@ -1,7 +1,7 @@
 //! A store that is read packet by packet, whose arrivals may come late.
 
 ghost use Rattle.std.specs.Prelude.{◌≡◌, ◌-◌, ◌^◌, ◌≤◌, IfOk};
-ghost use Rattle.bit_vectors.specs.Vectors.{IsPlaces};
+ghost use Rattle.flight_chain.specs.Stores.{IsStream};
 
 use crate::done::LateDone;
 use crate::late::LateArrivals;
@@ -59,8 +59,7 @@ impl LateRun {
 
     /// Nothing is read. Takes all memory of the run.
     pub(crate) fn open(alloc: Global, f: u32, apid: u16, window: u8) -> Result<LateRun, NoMemory>
-        requires valid { IsPlaces f }
-        requires chosen { apid ≤ 2046 }
+        requires stream { IsStream f apid }
         requires window { window ≤ 64 }
         ensures { IfOk result (λ run. run ≡ nothing_read f apid window) }
     {

@@ -1,7 +1,7 @@
 //! The command `play`: from a store to the played store and the play report.
 
 ghost use Rattle.std.specs.Prelude.{◌≡◌, ◌≤◌, IfOk};
-ghost use Rattle.desk_ports.specs.Meanings.{IsReadyIn, IsReadyOut};
+ghost use Rattle.desk_ports.specs.Turns.{IsReadyRun};
 ghost use Rattle.desk_ports.specs.Courses.{AfterRun, HasCause, by_stop};
 ghost use Rattle.side_tables.specs.Rows.{copies_of};
 ghost use Rattle.packet_store.specs.Faults.{stop_by};
@@ -11,7 +11,7 @@ use crate::PlayFault;
 use crate::played::Played;
 use crate::playing::Playing;
 use bit_vectors::NoMemory;
-use desk_ports::{Desk, Inlet, Outlet, drive};
+use desk_ports::{Desk, drive};
 use side_tables::Script;
 use std::alloc::Global;
 use std::marker::Model;
@@ -46,9 +46,7 @@ impl Player {
 
     /// Plays the store, and tells the numbers of the played store. It takes no memory.
     pub fn play<D: Desk>(self, desk: &mut D) -> Result<Played, PlayFault>
-        requires input { IsReadyIn (D.meaning desk.old) Inlet.Main }
-        requires output { IsReadyOut (D.meaning desk.old) Outlet.Main }
-        requires report { IsReadyOut (D.meaning desk.old) Outlet.Report }
+        requires { IsReadyRun (D.meaning desk.old) }
         // What stands after each answer is what the store owes, all of it or up to where its walk or the desk ends it; the
         // numbers are those of the packets of the same store and their copies, whatever the desk tells.
         ensures ran { AfterRun (play_work (copies_of self.rows) self.apid) (D.meaning desk.old)

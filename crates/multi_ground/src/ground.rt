@@ -1,16 +1,15 @@
 //! The arrivals of several streams.
 
-ghost use Rattle.std.specs.Prelude.{◌≡◌, ℕ, ◌^◌, ◌<◌, ◌≤◌, ◌∷◌, ◌++◌, [], List, IfOk, length, map, slice_set};
+ghost use Rattle.std.specs.Prelude.{◌≡◌, ℕ, ◌<◌, ◌∷◌, ◌++◌, [], List, IfOk, length, map, slice_set};
 ghost use Rattle.side_tables.specs.declared.rows.StreamRow.{StreamRow};
 ghost use Rattle.ground_chain.specs.Run.{Arrival};
 ghost use Rattle.ground_chain.specs.Reception.{AgreesWith, next_judged};
-ghost use Rattle.ground_chain.specs.Reckoning.{HasJudged, Judges, nothing_judged};
+ghost use Rattle.ground_chain.specs.Reckoning.{HasJudged, IsNextArrival, Judges, nothing_judged};
 ghost use Rattle.multi_ground.specs.Grounds.{reckoning_at};
 
 use bit_vectors::NoMemory;
 use ground_chain::{Tallied, Verdict};
 use packet_decode::Decoder;
-use packet_store::PERIOD;
 use side_tables::Streams;
 use std::alloc::Global;
 use std::marker::Model;
@@ -52,9 +51,7 @@ impl MultiGround {
     /// memory.
     pub fn arrive(&mut self, stream: u32, count: u16, bytes: &[u8]) -> Verdict
         requires stream { stream < length self.old }
-        requires count_bits { count < PERIOD }
-        requires size { length bytes.now ≤ 65536 }
-        requires few { (reckoning_at self.old stream).restored.packets < 2 ^ 32 }
+        requires next { IsNextArrival (reckoning_at self.old stream) count bytes.now }
         // The verdict is the next one of the run over this stream's arrivals alone. For every list of arrivals of it that was
         // judged, now that list and this one is.
         ensures verdict { result

@@ -6,6 +6,7 @@ ghost use Rattle.desk_ports.specs.Turns.{AreReady};
 ghost use Rattle.desk_ports.specs.Courses.{to_report};
 ghost use Rattle.desk_ports.specs.Writings.{Writes, WritesWithin};
 ghost use Rattle.packet_store.specs.SpacePackets.{Packet};
+ghost use Rattle.ground_chain.specs.Run.{IsArrival};
 
 use crate::ground::MultiGround;
 use crate::writing::{LINE_BYTES, shape_row, write_arrival, write_tagged};
@@ -108,9 +109,8 @@ impl MultiReceiving {
     fn arrive<D: Desk>(&mut self, desk: &mut D, index: u32, count: u16) -> Result<(), Failed>
         requires stream { index < length self.old.streams }
         requires receiving { IsReceiving self.old }
-        requires count_bits { count < 16384 }
+        requires arrival { IsArrival count self.old.reader.body }
         requires some { 0 < length self.old.reader.body }
-        requires size { length self.old.reader.body ≤ 65536 }
         requires ready { AreReady (λ _. true) (D.meaning desk.old) }
         ensures judges { JudgesOne self.old self.new index count self.old.reader.body }
         ensures written { WritesWithin Outlet.Report D.meaning D.counts desk.old desk.new

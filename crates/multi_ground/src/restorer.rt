@@ -1,7 +1,8 @@
 //! The command `multi`: from a store of several streams to a store of their restored packets and one report.
 
 ghost use Rattle.std.specs.Prelude.{◌≡◌, ◌<◌, ℕ, All, Err, List, Some, IfOk, OnOk};
-ghost use Rattle.desk_ports.specs.Meanings.{IsReadyIn, IsReadyOut, left};
+ghost use Rattle.desk_ports.specs.Meanings.{left};
+ghost use Rattle.desk_ports.specs.Turns.{IsReadyRun};
 ghost use Rattle.desk_ports.specs.Courses.{AfterRun, HasCause, by_stop};
 ghost use Rattle.desk_ports.specs.Parts.{InParts};
 ghost use Rattle.packet_store.specs.Faults.{stop_by};
@@ -48,9 +49,7 @@ impl MultiRestorer {
 
     /// Restores the streams of the store, and tells how many packets were written. It takes no memory.
     pub fn restore<D: Desk>(self, desk: &mut D) -> Result<u64, RestoreFault>
-        requires input { IsReadyIn (D.meaning desk.old) Inlet.Main }
-        requires output { IsReadyOut (D.meaning desk.old) Outlet.Main }
-        requires report { IsReadyOut (D.meaning desk.old) Outlet.Report }
+        requires { IsReadyRun (D.meaning desk.old) }
         // What stands after each answer is what the store owes, all of it or up to where its walk or the desk ends it.
         ensures ran { AfterRun (multi_work self) (D.meaning desk.old) (D.meaning desk.new)
             (by_stop stop_by result) }

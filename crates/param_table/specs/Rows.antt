@@ -43,11 +43,14 @@ abbrev pub names_limit : List ℕ → TextRow → Bool
 names_limit name (row.Field field) = false
 names_limit name (row.Limit limit) = same_name limit.name name
 
--- a field within vectors of f places
-pub record IsFieldRow (f : ℕ) (field : FieldRow) : Type 0 where
-  pub some : 1 ≤ field.width
-  pub most : field.width ≤ 64
-  pub within : field.place + field.width ≤ f
+-- the places of a field within vectors of f places: 1 to 64 of them, from the given one on
+pub record IsField (f place width : ℕ) : Type 0 where
+  pub some : 1 ≤ width
+  pub most : width ≤ 64
+  pub within : place + width ≤ f
+
+abbrev pub IsFieldRow : ℕ → FieldRow → Type 0
+IsFieldRow f field = IsField f field.place field.width
 
 -- limits have absolute values of 64 bits
 pub record IsLimit (limit : Limit) : Type 0 where

@@ -1,7 +1,8 @@
 //! Numbers out of vectors.
 
-ghost use Rattle.std.specs.Prelude.{◌≡◌, ◌+◌, ◌^◌, ◌<◌, ◌≤◌, length, unsigned_abs};
+ghost use Rattle.std.specs.Prelude.{◌≡◌, ◌^◌, ◌<◌, length, unsigned_abs};
 ghost use Rattle.param_table.specs.Cells.{cell_in};
+ghost use Rattle.param_table.specs.Rows.{IsField};
 
 use bit_vectors::Bits;
 
@@ -9,9 +10,7 @@ use bit_vectors::Bits;
 /// A signed one whose first bit is 1 is less by 2 to the power `width`. It looks at the one or two words of the vector that
 /// have the bits, and takes no memory.
 pub fn cell(packet: &Bits, place: u32, width: u32, signed: bool) -> i128
-    requires some { 1 ≤ width }
-    requires most { width ≤ 64 }
-    requires within { place + width ≤ length packet.now }
+    requires { IsField (length packet.now) place width }
     ensures value { result ≡ cell_in packet.now place width signed }
     ensures small { unsigned_abs result < 2 ^ 64 }
 {

@@ -1,7 +1,7 @@
 //! The command `table`: from a recording to the table of its fields, and the values out of their limits.
 
-ghost use Rattle.std.specs.Prelude.{◌≡◌, ◌≤◌, IfOk};
-ghost use Rattle.desk_ports.specs.Meanings.{IsReadyIn, IsReadyOut};
+ghost use Rattle.std.specs.Prelude.{◌≡◌, IfOk};
+ghost use Rattle.desk_ports.specs.Turns.{IsReadyRun};
 ghost use Rattle.desk_ports.specs.Courses.{AfterRun, HasCause, by_stop};
 ghost use Rattle.desk_ports.specs.Parts.{InParts};
 ghost use Rattle.flight_chain.specs.Compressing.{stop_by};
@@ -15,7 +15,7 @@ use crate::line::Line;
 use crate::tabling::Tabling;
 use crate::writing::write_headers;
 use bit_vectors::{Bits, NoMemory};
-use desk_ports::{Desk, Inlet, Outlet, ReadAhead, drive};
+use desk_ports::{Desk, Outlet, ReadAhead, drive};
 use std::alloc::Global;
 use std::marker::Model;
 
@@ -58,9 +58,7 @@ impl Tabler {
 
     /// Tabulates the recording, and tells the number of its packets. It takes no memory.
     pub fn tabulate<D: Desk>(self, desk: &mut D) -> Result<u64, TableFault>
-        requires input { IsReadyIn (D.meaning desk.old) Inlet.Main }
-        requires output { IsReadyOut (D.meaning desk.old) Outlet.Main }
-        requires report { IsReadyOut (D.meaning desk.old) Outlet.Report }
+        requires { IsReadyRun (D.meaning desk.old) }
         // What stands after each answer is what the recording owes, all of it or up to where its walk or the desk ends it;
         // the number is that of the packets of the same recording, whatever the desk tells.
         ensures ran { AfterRun (table_work self) (D.meaning desk.old) (D.meaning desk.new)

@@ -3,6 +3,7 @@
 ghost use Rattle.std.specs.Prelude.{◌≡◌, ◌+◌, ◌≤◌, ◌^◌, ◌<◌, length, is_some, IfOk};
 ghost use Rattle.std.specs.Option.{option_to_list};
 ghost use Rattle.desk_ports.specs.Meanings.{IsReadyOut};
+ghost use Rattle.desk_ports.specs.Turns.{IsReadyRun};
 ghost use Rattle.desk_ports.specs.Courses.{to_report};
 ghost use Rattle.desk_ports.specs.Writings.{Writes, WritesBy};
 ghost use Rattle.param_table.specs.Rows.{AreColumns, IsColumn};
@@ -25,8 +26,7 @@ pub fn write_headers<D: Desk>(
     line: &mut Line,
     columns: &[Column],
 ) -> Result<(), Failed>
-    requires output { IsReadyOut (D.meaning desk.old) Outlet.Main }
-    requires report { IsReadyOut (D.meaning desk.old) Outlet.Report }
+    requires ready { IsReadyRun (D.meaning desk.old) }
     requires few { length columns.now ≤ 256 }
     ensures { WritesBy Outlet.Main D.meaning D.counts desk.old desk.new (headers columns.now) result }
 {
@@ -43,8 +43,7 @@ pub fn write_packet<D: Desk>(
     packet: &Bits,
     t: u32,
 ) -> Result<u64, Failed>
-    requires output { IsReadyOut (D.meaning desk.old) Outlet.Main }
-    requires report { IsReadyOut (D.meaning desk.old) Outlet.Report }
+    requires ready { IsReadyRun (D.meaning desk.old) }
     requires columns { AreColumns (length packet.now) columns.now }
     ensures written { WritesBy Outlet.Main D.meaning D.counts desk.old desk.new
         (packet_texts columns.now (t, packet.now)) result }

@@ -85,6 +85,6 @@ pub invariant_of-self-2 : goal.invariant_of-self-2
 invariant_of-self-2 c =
     let number : number_after c.self.inside.numbers c.args.count ≡ Some c.in-Some.t = sym c.next.ensures.number ∙ c.in-Some.is in
     let latest : c.next.new.self ≡ Some c.in-Some.t = c.next.ensures.latest ∙ ap (latest_after c.self.inside.numbers) c.in-Some.is in
-    let later = subst (IsLater c.self.inside.numbers) number (number_later c.self.inside.numbers c.args.count c.requires.count_bits) in
+    let later = subst (IsLater c.self.inside.numbers) number (number_later c.self.inside.numbers c.args.count c.requires.arrival.0) in
     kept_read c.self.inside.numbers c.next.new.self c.self.inside.decoder c.read.new.self c.in-Some.t (bits_of c.args.bytes.now) c.read.result c.self.invariant later latest c.read.ensures.places c.read.ensures.exact
     (record { decodes = c.read.ensures.written; masks = c.read.ensures.mask_alone; unchanged = c.read.ensures.unchanged })

@@ -50,15 +50,11 @@ returns-in_default-clause-turned g c = λ work owes.
     Finishes-on (IsDone-table s.fields s.taken s.found) (IsOver-recording (length s.packet) s.taken told.ahead told.none told.at_end) owes.work_is c.in_ok-write_end.ensures.wrote
 
 -- a packet was read
-pub write_packet-requires-clause-output : goal.write_packet-requires-clause-output
-write_packet-requires-clause-output g c =
+pub write_packet-requires-clause-ready : goal.write_packet-requires-clause-ready
+write_packet-requires-clause-ready g c =
     let told = rw c.in-Some.is at c.in_ok-t.ensures in
-    (AreReady-moved told.taken.moved c.requires.ready).outputs outlet.Main refl
-
-pub write_packet-requires-clause-report : goal.write_packet-requires-clause-report
-write_packet-requires-clause-report g c =
-    let told = rw c.in-Some.is at c.in_ok-t.ensures in
-    (AreReady-moved told.taken.moved c.requires.ready).outputs outlet.Report refl
+    let ready = AreReady-moved told.taken.moved c.requires.ready in
+    (ready.input, ready.outputs outlet.Main refl, ready.outputs outlet.Report refl)
 
 pub returns-in_err-self-clause-turned : goal.returns-in_err-self-clause-turned
 returns-in_err-self-clause-turned g c = λ work owes.
