@@ -60,11 +60,14 @@ AfterJob reads course old new (Err WriteFault) = IsCutShortBy reads course old n
 
 -- ---- before a job
 
+-- names have an input exactly if a job reads one, and a report exactly if it writes one
+abbrev pub AreNamesOf : Job → Names → Type 0
+AreNamesOf job names = (reads_input job ≡ is_some names.input) × (writes_report job ≡ is_some names.report)
+
 -- a job does what these names and this course say, and begins here
 pub record IsJobOf (job : Job) (names : Names) (course : List ℕ → Course DataFault) (start new : Meanings) : Type 0 where
   pub owes : job_course job ≡ course
-  pub reads : reads_input job ≡ is_some names.input
-  pub reports : writes_report job ≡ is_some names.report
+  pub named : AreNamesOf job names
   pub is : new ≡ start
 
 -- after the making of a command's job, whose side input has this text

@@ -1,7 +1,7 @@
 -- What reading a text, and opening and finishing the names of a command, do to a desk.
-use Rattle.std.specs.Prelude.{◌≡◌, ℕ, ◌<◌, ◌≤◌, ◌⊎◌, true, List, [], length, drop, Option, Some, None, Result, Ok, Err, IfSome, IsSome}
+use Rattle.std.specs.Prelude.{◌≡◌, ℕ, ◌<◌, ◌≤◌, ◌⊎◌, Bool, true, IsTrue, List, [], length, drop, Option, Some, None, Result, Ok, Err, IfSome, IsSome}
 use Rattle.std.specs.Option.{option_map}
-use Rattle.desk_ports.specs.Meanings.{Meanings, Counts, Kept, FailsToRead, FailsToWrite, incoming, kept_at, kept_after, left, made, with_incoming, with_outgoing}
+use Rattle.desk_ports.specs.Meanings.{Meanings, Counts, Kept, FailsToRead, FailsToWrite, IsReadyIn, IsReadyOut, incoming, kept_at, kept_after, left, made, with_incoming, with_outgoing}
 use Rattle.desk_ports.specs.declared.desk.Inlet.{Inlet}
 use Rattle.desk_ports.specs.declared.desk.Inlet.TheVariants as inlet
 use Rattle.desk_ports.specs.declared.desk.Outlet.TheVariants as outlet
@@ -11,6 +11,7 @@ use Rattle.pocket_cmd.specs.declared.run.Unopened.TheVariants as unopened
 use Rattle.pocket_cmd.specs.declared.text.TextFault.{TextFault}
 use Rattle.pocket_cmd.specs.declared.text.TextFault.TheVariants as unread
 use Rattle.pocket_cmd.specs.Command.{Names}
+use Rattle.pocket_cmd.specs.Words.{Words, AssignsToOne, read_keys, written_keys}
 
 abbrev pub view_names : Held → Names
 view_names names = record {
@@ -44,6 +45,17 @@ input_given m input = given_at m inlet.Main input
 -- the desk tells both inputs of these names
 abbrev pub AreTold : Names → Meanings → List ℕ → List ℕ → Type 0
 AreTold names m text input = (side_given m names.side ≡ Some text) × (input_given m names.input ≡ Some input)
+
+-- the desk grants each name that words give to what is read, and to what is written
+pub record GrantsNames (words : Words) (m : Meanings) : Type 0 where
+  pub reads : (name : List ℕ) → AssignsToOne words read_keys name → IsTrue (m.grants_in name)
+  pub writes : (name : List ℕ) → AssignsToOne words written_keys name → IsTrue (m.grants_out name)
+
+-- the desk grants the names that a command opens
+abbrev pub AreGranted : Names → Meanings → Type 0
+AreGranted names m =
+    IfSome names.side (λ name. IsTrue (m.grants_in name)) × IfSome names.input (λ name. IsTrue (m.grants_in name))
+    × IsTrue (m.grants_out names.output) × IfSome names.report (λ name. IsTrue (m.grants_out name))
 
 -- ---- a text, which is that of a side input, or of an input that is read whole too
 
@@ -91,7 +103,15 @@ HasTextCause old new (Err unread.TooLong) = new ≡ old
 HasTextCause old new (Err unread.ReadFault) = FailsToRead old new
 HasTextCause old new (Err unread.NoMemory) = new ≡ old
 
+-- so many bytes of a room for a text are filled, and the room has at most one byte more than a text may have
+abbrev pub IsRoom : ℕ → List ℕ → Type 0
+IsRoom filled room = (filled ≤ length room) × (length room ≤ 1048577)
+
 -- ---- opening
+
+-- what a run needs is opened: the input if it reads one, the output, and the report if it writes one
+abbrev pub IsReadyFor : Bool → Bool → Meanings → Type 0
+IsReadyFor reads reports m = (IsTrue reads → IsReadyIn m inlet.Main) × IsReadyOut m outlet.Main × (IsTrue reports → IsReadyOut m outlet.Report)
 
 -- the input is opened, if there is one, and has these bytes
 abbrev pub with_input : Meanings → Option (List ℕ) → List ℕ → Meanings

@@ -1,7 +1,5 @@
 -- What the words of a command line after its verb say: `key=value` in any order.
-use Rattle.std.specs.Prelude.{ℕ, ◌+◌, Bool, true, false, not, ◌&&◌, ◌||◌, ◌==◌, nat_lt, List, [], ◌∷◌, ◌++◌, length, Contains, codes, map, Option, Some, None, is_some, unwrap_or, if◌then◌else◌}
-use Rattle.std.specs.String.{string_bytes}
-use Rattle.std.specs.declared.string.String.{String}
+use Rattle.std.specs.Prelude.{ℕ, ◌+◌, Bool, true, false, not, ◌&&◌, ◌||◌, ◌==◌, nat_lt, List, [], ◌∷◌, ◌++◌, length, Contains, codes, Option, Some, None, is_some, unwrap_or, if◌then◌else◌}
 use Rattle.std.specs.List.{list_any, before_first, after_first, position_or_len}
 use Rattle.std.specs.Str.{bytes_eq}
 use Rattle.side_tables.specs.Numbers.{number_of}
@@ -168,6 +166,3 @@ Assigns words key value = Contains words (key ++ 61 ∷ value)
 -- one of the words gives this value to one of the keys
 abbrev pub AssignsToOne : List (List ℕ) → List (List ℕ) → List ℕ → Type 0
 AssignsToOne words keys value = (key : List ℕ) × Contains keys key × Assigns words key value
-
-abbrev pub AssignsOneOf : {Z : Type 0} → List (String Z) → List (List ℕ) → List ℕ → Type 0
-AssignsOneOf words keys name = AssignsToOne (map string_bytes words) keys name

@@ -1,8 +1,8 @@
 //! A command whose texts are read and whose memory is taken.
-ghost use Rattle.std.specs.Prelude.{◌≡◌, ◌≤◌, ◌⊎◌, ℕ, None, length, map, IsTrue, IfSome, IfOk, IfErr, OnOk};
+ghost use Rattle.std.specs.Prelude.{◌≡◌, ◌⊎◌, ℕ, None, map, IsTrue, IfSome, IfOk, IfErr, OnOk};
 ghost use Rattle.std.specs.Option.{option_map};
 ghost use Rattle.std.specs.String.{string_bytes};
-ghost use Rattle.desk_ports.specs.Meanings.{IsReadyIn, IsReadyOut};
+ghost use Rattle.desk_ports.specs.Meanings.{IsReadyOut};
 ghost use Rattle.desk_ports.specs.Courses.{to_output};
 ghost use Rattle.desk_ports.specs.Writings.{Writes};
 ghost use Rattle.side_tables.specs.Grammar.{bad_copy_row, bad_schedule_row, copy_rows_of, schedule_rows_of};
@@ -11,6 +11,7 @@ ghost use Rattle.param_table.specs.Grammar.{bad_text_row};
 ghost use Rattle.pocket_cmd.specs.Command.{IsRight, names_of, view_command};
 ghost use Rattle.pocket_cmd.specs.Courses.{compression_by, tabulation_by};
 ghost use Rattle.pocket_cmd.specs.Jobs.{AfterJob, AfterMaking, HasMakingCause, IsScriptRead, job_course, reads_input, writes_report};
+ghost use Rattle.pocket_cmd.specs.Openings.{AreGranted, IsReadyFor};
 ghost use Rattle.pocket_cmd.specs.Outcome.{IsRowRefused, IsTextRefused};
 ghost use Rattle.pocket_cmd.specs.Status.{HasStatusCause, IsEnded, class_of, status_by};
 ghost use Rattle.pocket_cmd.specs.Words.{apid, bits, packets, robust, window};
@@ -18,7 +19,7 @@ ghost use Rattle.pocket_cmd.specs.Words.{apid, bits, packets, robust, window};
 use crate::mask::first_mask;
 use crate::status::{Refusal, no_table, unread};
 use crate::summary::summary_text;
-use crate::text::text_at;
+use crate::text::{Text, text_at};
 use crate::verbs::Verb;
 use crate::words::{Command, number_at, text_of};
 use bit_vectors::NoMemory;
@@ -53,14 +54,12 @@ impl Job {
     pub fn of<D: Desk>(
         alloc: Global,
         command: &Command<'_>,
-        text: &[u8],
+        text: &Text,
         desk: &mut D,
     ) -> Result<Job, Refusal>
-        requires within { length text.now ≤ 1048576 }
-        requires input { IfSome (names_of (view_command command.now)).input
-            (λ name. IsTrue ((D.meaning desk.old).grants_in name)) }
-        ensures after { AfterMaking (view_command command.now) text.now (D.meaning desk.old)
-            (D.meaning desk.new) result }
+        requires { AreGranted (names_of (view_command command.now)) (D.meaning desk.old) }
+        ensures after { AfterMaking (view_command command.now) text.now.bytes.items
+            (D.meaning desk.old) (D.meaning desk.new) result }
         ensures cause { HasMakingCause (D.counts desk.old) (D.counts desk.new) result }
     {
         let words = command.words;
@@ -85,10 +84,7 @@ impl Job {
 
     /// Runs over a desk at which the input and the outputs are opened. It takes no memory.
     pub fn run<D: Desk>(self, desk: &mut D) -> Result<(), Refusal>
-        requires input { IsTrue (reads_input self) → IsReadyIn (D.meaning desk.old) Inlet.Main }
-        requires output { IsReadyOut (D.meaning desk.old) Outlet.Main }
-        requires report { IsTrue (writes_report self)
-            → IsReadyOut (D.meaning desk.old) Outlet.Report }
+        requires { IsReadyFor (reads_input self) (writes_report self) (D.meaning desk.old) }
         ensures ran { IsEnded
             (AfterJob (reads_input self) (job_course self) (D.meaning desk.old)
             (D.meaning desk.new))
@@ -148,16 +144,15 @@ fn write_text<D: Desk>(text: Vec<u8>, desk: &mut D) -> Result<(), Failed>
 }
 
 /// The flight of `compress`, whose schedule has this text.
-fn flight(alloc: Global, words: &[String], text: &[u8]) -> Result<Flight, Refusal>
-    requires right { IsRight (Verb.Compress, map string_bytes words.now) }
-    requires within { length text.now ≤ 1048576 }
+fn flight(alloc: Global, words: &[String], text: &Text) -> Result<Flight, Refusal>
+    requires { IsRight (Verb.Compress, map string_bytes words.now) }
     ensures flight { IfOk result
-        (λ flight. flight ≡ compression_by (map string_bytes words.now) text.now) }
-    ensures rows { OnOk result (bad_schedule_row text.now ≡ None) }
+        (λ flight. flight ≡ compression_by (map string_bytes words.now) text.now.bytes.items) }
+    ensures rows { OnOk result (bad_schedule_row text.now.bytes.items ≡ None) }
     ensures refused { IfErr result
-        (λ refusal. IsRowRefused (bad_schedule_row text.now) (class_of refusal)) }
+        (λ refusal. IsRowRefused (bad_schedule_row text.now.bytes.items) (class_of refusal)) }
 {
-    let plan = Schedule::read(alloc, text)?;
+    let plan = Schedule::read(alloc, &text.bytes)?;
     let f = number_at(words, "bits");
     let (robust, apid) = (
         number_at(words, "robust") as u8,
@@ -168,17 +163,16 @@ fn flight(alloc: Global, words: &[String], text: &[u8]) -> Result<Flight, Refusa
 }
 
 /// The player of `play`, whose script has this text.
-fn player(alloc: Global, words: &[String], text: &[u8]) -> Result<Player, Refusal>
-    requires right { IsRight (Verb.Play, map string_bytes words.now) }
-    requires within { length text.now ≤ 1048576 }
+fn player(alloc: Global, words: &[String], text: &Text) -> Result<Player, Refusal>
+    requires { IsRight (Verb.Play, map string_bytes words.now) }
     ensures player { let words = map string_bytes words.now in
         IfOk result
-        (λ player. player ≡ record { apid = apid words; rows = copy_rows_of text.now }) }
-    ensures rows { OnOk result (bad_copy_row text.now ≡ None) }
+        (λ player. player ≡ record { apid = apid words; rows = copy_rows_of text.now.bytes.items }) }
+    ensures rows { OnOk result (bad_copy_row text.now.bytes.items ≡ None) }
     ensures refused { IfErr result
-        (λ refusal. IsRowRefused (bad_copy_row text.now) (class_of refusal)) }
+        (λ refusal. IsRowRefused (bad_copy_row text.now.bytes.items) (class_of refusal)) }
 {
-    let script = Script::read(alloc, text)?;
+    let script = Script::read(alloc, &text.bytes)?;
     Ok(Player::open(alloc, number_at(words, "apid") as u16, script)?)
 }
 
@@ -209,14 +203,13 @@ fn lister(alloc: Global, words: &[String]) -> Result<Lister, NoMemory>
 }
 
 /// The restorer of `multi`, whose streams have this text.
-fn multi_restorer(alloc: Global, text: &[u8]) -> Result<MultiRestorer, Refusal>
-    requires within { length text.now ≤ 1048576 }
-    ensures restorer { IfOk result (λ restorer. restorer ≡ streams_of text.now) }
-    ensures rows { OnOk result (bad_stream_row text.now ≡ None) }
+fn multi_restorer(alloc: Global, text: &Text) -> Result<MultiRestorer, Refusal>
+    ensures restorer { IfOk result (λ restorer. restorer ≡ streams_of text.now.bytes.items) }
+    ensures rows { OnOk result (bad_stream_row text.now.bytes.items ≡ None) }
     ensures refused { IfErr result
-        (λ refusal. IsRowRefused (bad_stream_row text.now) (class_of refusal)) }
+        (λ refusal. IsRowRefused (bad_stream_row text.now.bytes.items) (class_of refusal)) }
 {
-    let streams = Streams::read(alloc, text)?;
+    let streams = Streams::read(alloc, &text.bytes)?;
     Ok(MultiRestorer::open(alloc, streams)?)
 }
 
@@ -236,19 +229,18 @@ fn late_restorer(alloc: Global, words: &[String]) -> Result<LateRestorer, NoMemo
 }
 
 /// The tabler of `table`, whose fields have this text.
-fn tabler(alloc: Global, words: &[String], text: &[u8]) -> Result<Tabler, Refusal>
-    requires right { IsRight (Verb.Table, map string_bytes words.now) }
-    requires within { length text.now ≤ 1048576 }
+fn tabler(alloc: Global, words: &[String], text: &Text) -> Result<Tabler, Refusal>
+    requires { IsRight (Verb.Table, map string_bytes words.now) }
     ensures tabler { IfOk result
-        (λ tabler. tabler ≡ tabulation_by (map string_bytes words.now) text.now) }
+        (λ tabler. tabler ≡ tabulation_by (map string_bytes words.now) text.now.bytes.items) }
     ensures rows { let words = map string_bytes words.now in
-        OnOk result (bad_text_row (bits words) text.now ≡ None) }
+        OnOk result (bad_text_row (bits words) text.now.bytes.items ≡ None) }
     ensures refused { let words = map string_bytes words.now in
         IfErr result
-        (λ refusal. IsRowRefused (bad_text_row (bits words) text.now) (class_of refusal)) }
+        (λ refusal. IsRowRefused (bad_text_row (bits words) text.now.bytes.items) (class_of refusal)) }
 {
     let f = number_at(words, "bits");
-    let fields = Fields::read(alloc, text, f)?;
+    let fields = Fields::read(alloc, &text.bytes, f)?;
     Ok(Tabler::open(alloc, f, fields)?)
 }
 
@@ -256,14 +248,13 @@ fn tabler(alloc: Global, words: &[String], text: &[u8]) -> Result<Tabler, Refusa
 fn forecast<D: Desk>(
     alloc: Global,
     words: &[String],
-    text: &[u8],
+    text: &Text,
     name: Option<&str>,
     desk: &mut D,
 ) -> Result<Forecast, Refusal>
     requires right { IsRight (Verb.Forecast, map string_bytes words.now) }
-    requires within { length text.now ≤ 1048576 }
     requires input { IfSome name (λ name. IsTrue ((D.meaning desk.old).grants_in name.now)) }
-    ensures rows { OnOk result (bad_schedule_row text.now ≡ None) }
+    ensures rows { OnOk result (bad_schedule_row text.now.bytes.items ≡ None) }
     ensures read { let words = map string_bytes words.now in
         let name = option_map (λ name. name.now) name.entry in
         IfOk result (λ forecast. IsScriptRead name bad_copy_row (D.meaning desk.old)
@@ -271,21 +262,21 @@ fn forecast<D: Desk>(
         (λ script. forecast ≡ record {
           packets = packets words;
           outlook = record {
-            plan = schedule_rows_of text.now;
+            plan = schedule_rows_of text.now.bytes.items;
             robust = robust words;
             script = copy_rows_of script;
           };
         })) }
     ensures refused { let name = option_map (λ name. name.now) name.entry in
         IfErr result (λ refusal.
-        (IsRowRefused (bad_schedule_row text.now) (class_of refusal)
+        (IsRowRefused (bad_schedule_row text.now.bytes.items) (class_of refusal)
         × (D.meaning desk.new ≡ D.meaning desk.old))
-        ⊎ ((bad_schedule_row text.now ≡ None)
+        ⊎ ((bad_schedule_row text.now.bytes.items ≡ None)
         × IsTextRefused bad_copy_row name (D.meaning desk.old) (D.meaning desk.new)
         (class_of refusal))) }
     ensures cause { HasMakingCause (D.counts desk.old) (D.counts desk.new) result }
 {
-    let schedule = Schedule::read(alloc, text)?;
+    let schedule = Schedule::read(alloc, &text.bytes)?;
     let script = script(alloc, desk, name)?;
     let packets = number_at(words, "packets");
     let robust = number_at(words, "robust") as u8;
@@ -305,7 +296,7 @@ fn script<D: Desk>(alloc: Global, desk: &mut D, name: Option<&str>) -> Result<Sc
 {
     match text_at(alloc, desk, Inlet::Main, name) {
         Err(fault) => Err(unread(Inlet::Main, fault)),
-        Ok(text) => match Script::read(alloc, &text) {
+        Ok(text) => match Script::read(alloc, &text.bytes) {
             Ok(script) => Ok(script),
             Err(fault) => Err(no_table(Inlet::Main, fault)),
         },

@@ -1,9 +1,9 @@
 //! A run over a desk: opening the names of a command, running its job, and finishing its outputs.
-ghost use Rattle.std.specs.Prelude.{◌≡◌, ℕ, List, is_some, IsTrue, IfSome, IsSome, IfErr, OnOk, OnErr};
+ghost use Rattle.std.specs.Prelude.{◌≡◌, ℕ, List, false, is_some, IsTrue, IfSome, IsSome, IfErr, OnOk, OnErr};
 ghost use Rattle.std.specs.Option.{option_map};
 ghost use Rattle.desk_ports.specs.Meanings.{Meanings, IsReadyIn, IsReadyOut, HasReadCause, HasWriteCause};
-ghost use Rattle.pocket_cmd.specs.Jobs.{job_course, reads_input, writes_report};
-ghost use Rattle.pocket_cmd.specs.Openings.{view_names, AfterOpening, HasOpeningCause, AfterFinishing, AreKept, with_input, with_report};
+ghost use Rattle.pocket_cmd.specs.Jobs.{AreNamesOf, job_course, reads_input, writes_report};
+ghost use Rattle.pocket_cmd.specs.Openings.{view_names, AfterOpening, AreGranted, HasOpeningCause, IsReadyFor, AfterFinishing, AreKept, with_input, with_report};
 ghost use Rattle.pocket_cmd.specs.Outcome.{AfterNames, AreOpened};
 ghost use Rattle.pocket_cmd.specs.Status.{HasStatusCause, IsEnded, status_by};
 ghost use Rattle.pocket_cmd.specs.declared.run.Unopened.TheVariants as unopened;
@@ -30,13 +30,8 @@ enum Unopened {
 
 /// Opens the names, runs the job, and finishes the outputs.
 pub fn run<D: Desk>(desk: &mut D, names: &Names<'_>, job: Job) -> Result<(), Refusal>
-    requires input { IfSome names.now.input
-        (λ name. IsTrue ((D.meaning desk.old).grants_in name.now)) }
-    requires output { IsTrue ((D.meaning desk.old).grants_out names.now.output.now) }
-    requires report { IfSome names.now.report
-        (λ name. IsTrue ((D.meaning desk.old).grants_out name.now)) }
-    requires reads { reads_input job ≡ is_some names.now.input }
-    requires writes { writes_report job ≡ is_some names.now.report }
+    requires granted { AreGranted (view_names names.now) (D.meaning desk.old) }
+    requires named { AreNamesOf job (view_names names.now) }
     ensures ran { let names = view_names names.now in
         IsEnded (AfterNames names (job_course job) (D.meaning desk.old)
         (D.meaning desk.new)) result }
@@ -60,11 +55,8 @@ fn let_go<T: Drop>(_job: T) {}
 
 /// Runs the job at a desk at which the names are opened, and finishes the outputs.
 fn run_opened<D: Desk>(desk: &mut D, names: &Names<'_>, job: Job) -> Result<(), Refusal>
-    requires input { IsTrue (reads_input job) → IsReadyIn (D.meaning desk.old) Inlet.Main }
-    requires output { IsReadyOut (D.meaning desk.old) Outlet.Main }
-    requires report { IsSome names.now.report → IsReadyOut (D.meaning desk.old) Outlet.Report }
-    requires reads { reads_input job ≡ is_some names.now.input }
-    requires writes { writes_report job ≡ is_some names.now.report }
+    requires ready { IsReadyFor (reads_input job) (writes_report job) (D.meaning desk.old) }
+    requires named { AreNamesOf job (view_names names.now) }
     ensures ran { let names = view_names names.now in
         (old : Meanings) → AreOpened names old (D.meaning desk.old)
         → IsEnded (AfterNames names (job_course job) old (D.meaning desk.new)) result }
@@ -82,19 +74,13 @@ fn run_opened<D: Desk>(desk: &mut D, names: &Names<'_>, job: Job) -> Result<(), 
 
 /// Opens the input if there is one, the output, and the report if there is one.
 fn open_all<D: Desk>(desk: &mut D, names: &Names<'_>) -> Result<(), Unopened>
-    requires input { IfSome names.now.input
-        (λ name. IsTrue ((D.meaning desk.old).grants_in name.now)) }
-    requires output { IsTrue ((D.meaning desk.old).grants_out names.now.output.now) }
-    requires report { IfSome names.now.report
-        (λ name. IsTrue ((D.meaning desk.old).grants_out name.now)) }
+    requires { AreGranted (view_names names.now) (D.meaning desk.old) }
     ensures opened { AfterOpening (view_names names.now) (D.meaning desk.old)
         (D.meaning desk.new) result }
     ensures cause { HasOpeningCause (D.counts desk.old) (D.counts desk.new) result }
-    ensures ready_in { OnOk result
-        (IsSome names.now.input → IsReadyIn (D.meaning desk.new) Inlet.Main) }
-    ensures ready_out { OnOk result (IsReadyOut (D.meaning desk.new) Outlet.Main) }
-    ensures ready_report { OnOk result
-        (IsSome names.now.report → IsReadyOut (D.meaning desk.new) Outlet.Report) }
+    ensures ready { let names = view_names names.now in
+        OnOk result
+        (IsReadyFor (is_some names.input) (is_some names.report) (D.meaning desk.new)) }
 {
     open_input(desk, names.input)?;
     let Ok(()) = desk.open_out(Outlet::Main, names.output) else {
@@ -153,8 +139,7 @@ fn open_report<D: Desk>(desk: &mut D, name: Option<&str>) -> Result<(), Unopened
 
 /// Finishes the output, and then the report, if there is one.
 fn finish_all<D: Desk>(desk: &mut D, report: Option<&str>) -> Result<(), Failed>
-    requires output { IsReadyOut (D.meaning desk.old) Outlet.Main }
-    requires report { IsSome report → IsReadyOut (D.meaning desk.old) Outlet.Report }
+    requires { IsReadyFor false (is_some report) (D.meaning desk.old) }
     ensures finished { AfterFinishing (option_map (λ name. name.now) report.entry)
         (D.meaning desk.old) (D.meaning desk.new) result }
     ensures cause { HasWriteCause (D.counts desk.old) (D.counts desk.new) result }

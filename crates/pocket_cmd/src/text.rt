@@ -4,7 +4,7 @@ ghost use Rattle.std.specs.Option.{option_map};
 ghost use Rattle.std.specs.Io.KnownBytes.{IsAtEnd};
 ghost use Rattle.desk_ports.specs.Meanings.{IsReadyIn, Moves, left};
 ghost use Rattle.pocket_cmd.specs.declared.text.TextFault.TheVariants as unread;
-ghost use Rattle.pocket_cmd.specs.Openings.{IsText, IsTextLong, IsTextReadTo, IsTextUnread, HasTextBytes, KeepsAllBut, HasTextCause, with_text};
+ghost use Rattle.pocket_cmd.specs.Openings.{HasTextBytes, IsRoom, IsText, IsTextLong, IsTextReadTo, IsTextUnread, KeepsAllBut, HasTextCause, with_text};
 
 use desk_ports::{Desk, Failed, Inlet};
 use std::alloc::{AllocError, Global};
@@ -14,6 +14,13 @@ const MOST_BYTES: usize = 1_048_576;
 
 /// The bytes of the first room for a text, which is doubled as often as it is full.
 const FIRST_BYTES: usize = 4096;
+
+/// A text, of at most 1,048,576 bytes.
+#[derive(Debug, Drop)]
+pub struct Text {
+    pub bytes: Vec<u8>,
+    ghost within: { length bytes.items ≤ 1048576 },
+}
 
 /// Why a text is not read.
 #[derive(Clone, Copy, Debug, PartialEq, Eq)]
@@ -47,13 +54,12 @@ pub fn text_at<D: Desk>(
     desk: &mut D,
     inlet: Inlet,
     name: Option<&str>,
-) -> Result<Vec<u8>, TextFault>
+) -> Result<Text, TextFault>
     requires { IfSome name (λ name. IsTrue ((D.meaning desk.old).grants_in name.now)) }
     ensures text { let name = option_map (λ name. name.now) name.entry in
-        IfOk result (λ text. IsText (D.meaning desk.old) inlet name text.items) }
+        IfOk result (λ text. IsText (D.meaning desk.old) inlet name text.bytes.items) }
     ensures read { let name = option_map (λ name. name.now) name.entry in
         OnOk result (D.meaning desk.new ≡ with_text (D.meaning desk.old) inlet name) }
-    ensures within { IfOk result (λ text. length text.items ≤ 1048576) }
     ensures long { let name = option_map (λ name. name.now) name.entry in
         result ≡ Err unread.TooLong → IsTextLong (D.meaning desk.old) inlet name }
     ensures no_further { let name = option_map (λ name. name.now) name.entry in
@@ -68,7 +74,9 @@ pub fn text_at<D: Desk>(
     ensures cause { HasTextCause (D.counts desk.old) (D.counts desk.new) result }
 {
     match name {
-        None => Ok(Vec::new(alloc)),
+        None => Ok(Text {
+            bytes: Vec::new(alloc),
+        }),
         Some(name) => text_of(alloc, desk, inlet, name),
     }
 }
@@ -79,13 +87,12 @@ fn text_of<D: Desk>(
     desk: &mut D,
     inlet: Inlet,
     name: &str,
-) -> Result<Vec<u8>, TextFault>
+) -> Result<Text, TextFault>
     requires { IsTrue ((D.meaning desk.old).grants_in name.now) }
     ensures text { IfOk result
-        (λ text. IsText (D.meaning desk.old) inlet (Some name.now) text.items) }
+        (λ text. IsText (D.meaning desk.old) inlet (Some name.now) text.bytes.items) }
     ensures read { OnOk result
         (D.meaning desk.new ≡ with_text (D.meaning desk.old) inlet (Some name.now)) }
-    ensures within { IfOk result (λ text. length text.items ≤ 1048576) }
     ensures long { result ≡ Err unread.TooLong → IsTextLong (D.meaning desk.old) inlet (Some name.now) }
     ensures no_further { result ≡ Err unread.TooLong
         → IsTextReadTo 1048577 (D.meaning desk.old) inlet (Some name.now) (D.meaning desk.new) }
@@ -95,13 +102,13 @@ fn text_of<D: Desk>(
         (KeepsAllBut inlet (Some name.now) (D.meaning desk.old) (D.meaning desk.new)) }
     ensures cause { HasTextCause (D.counts desk.old) (D.counts desk.new) result }
 {
-    let mut text = vec![in alloc; 0; FIRST_BYTES]?;
-    let moved = read_text(desk, inlet, name, &mut text)?;
+    let mut room = vec![in alloc; 0; FIRST_BYTES]?;
+    let moved = read_text(desk, inlet, name, &mut room)?;
     if moved > MOST_BYTES {
         return Err(TextFault::TooLong);
     }
-    text.truncate(moved);
-    Ok(text)
+    room.truncate(moved);
+    Ok(Text { bytes: room })
 }
 
 /// Opens an inlet, and reads into a room, which grows with the text, until it holds more than a text may have or the input
@@ -113,19 +120,16 @@ fn read_text<D: Desk>(
     room: &mut Vec<u8>,
 ) -> Result<usize, TextFault>
     requires granted { IsTrue ((D.meaning desk.old).grants_in name.now) }
-    requires most { length room.old.items ≤ 1048577 }
-    ensures within { IfOk result (λ n. n ≤ length room.new.items) }
-    ensures most { IfOk result (λ n. n ≤ 1048577) }
+    requires room { IsRoom 0 room.old.items }
+    ensures room { IfOk result (λ n. IsRoom n room.new.items) }
     ensures front { IfOk result (λ n. HasTextBytes (D.meaning desk.old) inlet name.now n) }
     ensures moved { IfOk result
         (λ n. IsTextReadTo n (D.meaning desk.old) inlet (Some name.now) (D.meaning desk.new)) }
     ensures cut_off { OnErr result
         (IsTextUnread 1048577 (D.meaning desk.old) inlet (Some name.now) (D.meaning desk.new)) }
     ensures text { IfOk result (λ n. n < 1048577
-        → IsText (D.meaning desk.old) inlet (Some name.now) (take n room.new.items)) }
-    ensures read { IfOk result
-        (λ n. n < 1048577
-        → D.meaning desk.new ≡ with_text (D.meaning desk.old) inlet (Some name.now)) }
+        → IsText (D.meaning desk.old) inlet (Some name.now) (take n room.new.items)
+        × (D.meaning desk.new ≡ with_text (D.meaning desk.old) inlet (Some name.now))) }
     ensures short { IfErr result (λ fault. fault ≢ unread.TooLong) }
     ensures keeps { KeepsAllBut inlet (Some name.now) (D.meaning desk.old) (D.meaning desk.new) }
     ensures cause { HasTextCause (D.counts desk.old) (D.counts desk.new) result }
@@ -138,9 +142,8 @@ fn read_text<D: Desk>(
 /// Tells how many bytes were moved to its front. At a fault those that were moved before are lost.
 fn fill_text<D: Desk>(desk: &mut D, inlet: Inlet, room: &mut Vec<u8>) -> Result<usize, TextFault>
     requires ready { IsReadyIn (D.meaning desk.old) inlet }
-    requires most { length room.old.items ≤ 1048577 }
-    ensures within { IfOk result (λ n. n ≤ length room.new.items) }
-    ensures most { IfOk result (λ n. n ≤ 1048577) }
+    requires room { IsRoom 0 room.old.items }
+    ensures room { IfOk result (λ n. IsRoom n room.new.items) }
     ensures moved { IfOk result
         (λ n. Moves (D.meaning desk.old) (D.meaning desk.new) inlet (take n room.new.items)) }
     ensures at_end { IfOk result
@@ -165,13 +168,11 @@ fn fill_text<D: Desk>(desk: &mut D, inlet: Inlet, room: &mut Vec<u8>) -> Result<
 
 /// Doubles a room of which all bytes are filled, but not beyond the bytes of the longest text and one more.
 fn widen(room: &mut Vec<u8>, filled: usize) -> Result<(), AllocError>
-    requires within { filled ≤ length room.old.items }
-    requires most { length room.old.items ≤ 1048577 }
+    requires room { IsRoom filled room.old.items }
     requires few { filled ≤ 1048576 }
     ensures front { take filled room.new.items ≡ take filled room.old.items }
     ensures left { OnOk result (filled < length room.new.items) }
-    ensures within { filled ≤ length room.new.items }
-    ensures most { length room.new.items ≤ 1048577 }
+    ensures room { IsRoom filled room.new.items }
 {
     if filled < room.len() {
         return Ok(());

@@ -1,5 +1,5 @@
 //! The top call: from the words of the command line to the outputs of a desk.
-ghost use Rattle.std.specs.Prelude.{◌≡◌, ◌≢◌, ◌<◌, ◌≤◌, ◌^◌, ◌↔◌, ℕ, List, Option, length, drop, map, Some, Err, IsTrue};
+ghost use Rattle.std.specs.Prelude.{◌≡◌, ◌≢◌, ◌<◌, ◌≤◌, ◌^◌, ◌↔◌, ℕ, List, Option, length, drop, map, Some, Err};
 ghost use Rattle.std.specs.String.{string_bytes};
 ghost use Rattle.pocket_cmd.specs.Apart.{AreKeptAsMade};
 ghost use Rattle.pocket_cmd.specs.Faults.{DataFault as Fault};
@@ -12,10 +12,10 @@ ghost use Rattle.pocket_cmd.specs.Delivery.{HasWritten, IsPlayedStore, IsSideRig
 ghost use Rattle.desk_ports.specs.declared.desk.Inlet.TheVariants as inlet;
 ghost use Rattle.desk_ports.specs.Meanings.{Rose, left};
 ghost use Rattle.pocket_cmd.specs.Kept.{Leaves};
-ghost use Rattle.pocket_cmd.specs.Openings.{AreTold, side_given};
+ghost use Rattle.pocket_cmd.specs.Openings.{AreTold, GrantsNames, side_given};
 ghost use Rattle.pocket_cmd.specs.Outcome.{AfterRefusal, IsScriptFirst, IsSideJudged, IsTextBad, IsTextFirst, NoneRose, Stands, answer_to};
 ghost use Rattle.pocket_cmd.specs.Status.{BadText, HasStatusCause, status_of};
-ghost use Rattle.pocket_cmd.specs.Words.{Words, AssignsOneOf, read_keys, written_keys};
+ghost use Rattle.pocket_cmd.specs.Words.{Words};
 
 use crate::status::{Refusal, Status};
 use crate::verbs::Verb;
@@ -50,10 +50,7 @@ pub fn pocket<D: Desk>(alloc: Global, words: &[String], desk: &mut D) -> Status
     requires few { length words.now < 2 ^ 32 }
 
     // The desk grants each name that the words give.
-    requires reads { (name : List ℕ) → AssignsOneOf words.now read_keys name
-        → IsTrue ((D.meaning desk.old).grants_in name) }
-    requires writes { (name : List ℕ) → AssignsOneOf words.now written_keys name
-        → IsTrue ((D.meaning desk.old).grants_out name) }
+    requires granted { GrantsNames (map string_bytes words.now) (D.meaning desk.old) }
 
     // Words that give no command are refused at the first fault, and the desk is not called.
     ensures bad_words { (word : ℕ) → (result ≡ Status.Refused (Refusal.BadWords word))

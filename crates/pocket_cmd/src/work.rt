@@ -1,27 +1,20 @@
 //! The work of a command.
-ghost use Rattle.std.specs.Prelude.{◌≤◌, length, IsTrue, IfSome};
 ghost use Rattle.pocket_cmd.specs.Command.{names_of, view_command};
+ghost use Rattle.pocket_cmd.specs.Openings.{AreGranted};
 ghost use Rattle.pocket_cmd.specs.Outcome.{AfterCommand, AfterText, IsAnswered, IsAnsweredBy};
 ghost use Rattle.pocket_cmd.specs.Status.{HasStatusCause, status_by};
 
 use crate::job::Job;
 use crate::run::run;
 use crate::status::{Refusal, unread};
-use crate::text::text_at;
+use crate::text::{Text, text_at};
 use crate::words::Command;
 use desk_ports::{Desk, Inlet};
 use std::alloc::Global;
 
 /// Reads the side input of a command, takes the memory of its run, and runs it.
 pub fn perform<D: Desk>(alloc: Global, command: &Command<'_>, desk: &mut D) -> Result<(), Refusal>
-    requires side { IfSome (names_of (view_command command.now)).side
-        (λ name. IsTrue ((D.meaning desk.old).grants_in name)) }
-    requires input { IfSome (names_of (view_command command.now)).input
-        (λ name. IsTrue ((D.meaning desk.old).grants_in name)) }
-    requires output { IsTrue
-        ((D.meaning desk.old).grants_out (names_of (view_command command.now)).output) }
-    requires report { IfSome (names_of (view_command command.now)).report
-        (λ name. IsTrue ((D.meaning desk.old).grants_out name)) }
+    requires { AreGranted (names_of (view_command command.now)) (D.meaning desk.old) }
     ensures after { AfterCommand (view_command command.now) (D.meaning desk.old)
         (D.meaning desk.new) result }
     ensures cause { HasStatusCause (D.counts desk.old) (D.counts desk.new) (status_by result) }
@@ -38,21 +31,15 @@ pub fn perform<D: Desk>(alloc: Global, command: &Command<'_>, desk: &mut D) -> R
 fn perform_with<D: Desk>(
     alloc: Global,
     command: &Command<'_>,
-    text: &[u8],
+    text: &Text,
     desk: &mut D,
 ) -> Result<(), Refusal>
-    requires within { length text.now ≤ 1048576 }
-    requires input { IfSome (names_of (view_command command.now)).input
-        (λ name. IsTrue ((D.meaning desk.old).grants_in name)) }
-    requires output { IsTrue
-        ((D.meaning desk.old).grants_out (names_of (view_command command.now)).output) }
-    requires report { IfSome (names_of (view_command command.now)).report
-        (λ name. IsTrue ((D.meaning desk.old).grants_out name)) }
-    ensures after { AfterText (view_command command.now) text.now (D.meaning desk.old)
+    requires { AreGranted (names_of (view_command command.now)) (D.meaning desk.old) }
+    ensures after { AfterText (view_command command.now) text.now.bytes.items (D.meaning desk.old)
         (D.meaning desk.new) result }
     ensures cause { HasStatusCause (D.counts desk.old) (D.counts desk.new) (status_by result) }
-    ensures ends { IsAnsweredBy (view_command command.now) text.now (D.meaning desk.old)
-        (D.counts desk.old) (D.counts desk.new) result }
+    ensures ends { IsAnsweredBy (view_command command.now) text.now.bytes.items
+        (D.meaning desk.old) (D.counts desk.old) (D.counts desk.new) result }
 {
     match Job::of(alloc, command, text, desk) {
         Ok(job) => run(desk, &command.names_left(), job),

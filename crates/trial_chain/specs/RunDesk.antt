@@ -3,7 +3,7 @@ use Rattle.std.specs.Prelude.{◌≡◌, ℕ, true, List, [], Some, IsSome, refl
 use Rattle.std.specs.Coded.{Coded, code_by, coded×}
 use Rattle.std.specs.FinMap as map
 use Rattle.std.specs.Str.{bytes_eq}
-use Rattle.desk_ports.specs.Meanings.{Meanings, Counts, kept_at}
+use Rattle.desk_ports.specs.Meanings.{Meanings, Counts, Kept, kept_at}
 use Rattle.desk_ports.specs.MemState.{MemState, MemPlan, bytes_code, mem_meanings, state_code}
 
 -- the desk, and the name of the run's input
@@ -21,6 +21,10 @@ pub record NothingFails (plan : MemPlan) : Type 0 where
   pub read : plan.read.failing ≡ []
   pub write : plan.write.failing ≡ []
   pub finish : plan.finish.failing ≡ []
+
+-- no call is told to fail, and this is held
+abbrev pub HoldsJust : MemState → Kept → Type 0
+HoldsJust desk kept = NothingFails desk.plan × (desk.held ≡ kept)
 
 -- no call is told to fail, and the input is held
 pub record IsRunDesk (desk : MemState) (input : List ℕ) : Type 0 where

@@ -1,9 +1,10 @@
 -- The history of a trial, how often each of its packets arrives, and the numbers that a trial tells.
-use Rattle.std.specs.Prelude.{ℕ, zero, suc, ◌-◌, ◌/◌, ◌%◌, ◌==◌, ◌≤◌, nat_lt, ◌&&◌, not, Bool, true, false, if◌then◌else◌, List, [], ◌∷◌, length, map, replicate, slice_index_or, slice_set}
+use Rattle.std.specs.Prelude.{◌≡◌, ℕ, zero, suc, ◌-◌, ◌/◌, ◌%◌, ◌==◌, ◌≤◌, nat_lt, ◌&&◌, not, Bool, true, false, if◌then◌else◌, List, [], ◌∷◌, length, map, replicate, slice_index_or, slice_set, All}
 use Rattle.std.specs.List.{range_with_len}
 use Rattle.bit_vectors.specs.declared.flags.Flags.{Flags}
 use Rattle.side_tables.specs.declared.rows.CopyRow.{CopyRow}
 use Rattle.side_tables.specs.declared.rows.FlagRow.{FlagRow}
+use Rattle.side_tables.specs.Rows.{IsCopyRow, copies_of}
 use Rattle.mask_update.specs.Histories.{History, history_of}
 use Rattle.flight_chain.specs.Recordings.{recording_of}
 use Rattle.flight_chain.specs.Stores.{store_of}
@@ -79,6 +80,10 @@ row_of_one t copies = record { first = t; last = t; step = 1; copies = copies }
 -- the rows that they need: none if the packet arrives once
 abbrev pub rows_for : ℕ → ℕ → List CopyRow
 rows_for t copies = if copies == 1 then [] else row_of_one t copies ∷ []
+
+-- rows of a script, each of them right, that say how often the packets of a trial arrive
+abbrev pub IsTrialScript : ℕ → ℕ → List CopyRow → Type 0
+IsTrialScript seed packets rows = All IsCopyRow rows × ((t : ℕ) → copies_of rows t ≡ trial_copies seed packets t)
 
 -- ---- the history
 

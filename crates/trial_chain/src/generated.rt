@@ -1,15 +1,25 @@
 //! What a trial generates before it runs: the recording, and the rows of the schedule and of the script.
 
-ghost use Rattle.std.specs.Prelude.{◌≡◌, ◌≤◌, ◌++◌, ℕ, length, All, IfOk, OnOk};
+ghost use Rattle.std.specs.Prelude.{◌≡◌, ◌≤◌, ◌++◌, length, All, IfOk, OnOk};
 ghost use Rattle.bit_vectors.specs.Vectors.{byte_count, vector_bytes};
-ghost use Rattle.side_tables.specs.Rows.{IsCopyRow, copies_of};
+ghost use Rattle.side_tables.specs.Rows.{IsCopyRow};
 ghost use Rattle.flight_chain.specs.Recordings.{recording_of};
-ghost use Rattle.trial_chain.specs.Trials.{rows_for, trial_copies, trial_inputs};
+ghost use Rattle.trial_chain.specs.Trials.{IsTrial, IsTrialScript, rows_for, trial_inputs};
 
 use crate::generator::Generator;
 use bit_vectors::{Bits, NoMemory, byte_len};
 use side_tables::CopyRow;
 use std::alloc::Global;
+
+/// The numbers that a trial is generated from.
+#[derive(Clone, Copy, Debug)]
+pub(crate) struct Trial {
+    pub seed: u32,
+    pub packets: u32,
+    pub f: u32,
+    pub robust: u8,
+    ghost bounds: { IsTrial packets f robust },
+}
 
 /// The recording of a trial, and a row of its script for each packet that does not arrive just once.
 #[derive(Debug, Drop)]
@@ -18,28 +28,19 @@ pub(crate) struct Generated {
     pub script: Vec<CopyRow>,
 }
 
-/// Generates so many packets of `f` bits.
-pub(crate) fn generate(
-    alloc: Global,
-    seed: u32,
-    packets: u32,
-    f: u32,
-) -> Result<Generated, NoMemory>
-    requires some { 1 ≤ packets }
-    requires places { 1 ≤ f }
-    requires most { f ≤ 4096 }
-    ensures recording { IfOk result
-        (λ r. r.recording.items ≡ recording_of (trial_inputs seed packets f)) }
+/// Generates the packets of a trial.
+pub(crate) fn generate(alloc: Global, trial: Trial) -> Result<Generated, NoMemory>
+    ensures recording { IfOk result (λ r. r.recording.items
+        ≡ recording_of (trial_inputs trial.seed trial.packets trial.f)) }
     ensures script { IfOk result
-        (λ r. (t : ℕ) → copies_of r.script.items t ≡ trial_copies seed packets t) }
-    ensures right { IfOk result (λ r. All IsCopyRow r.script.items) }
+        (λ r. IsTrialScript trial.seed trial.packets r.script.items) }
 {
-    let mut generator = Generator::open(alloc, seed, f)?;
-    let mut line = vec![in alloc; 0; byte_len(f) as usize]?;
+    let mut generator = Generator::open(alloc, trial.seed, trial.f)?;
+    let mut line = vec![in alloc; 0; byte_len(trial.f) as usize]?;
     let mut recording = Vec::new(alloc);
     append(&mut recording, &generator.input, &mut line)?;
     let mut script = Vec::new(alloc);
-    'packets: for t in 1..packets {
+    'packets: for t in 1..trial.packets {
         let copies = generator.advance();
         append(&mut recording, &generator.input, &mut line)?;
         note(&mut script, t, copies)?;

@@ -10,7 +10,7 @@ ghost use Rattle.loss_player.specs.Played.{store_numbers};
 ghost use Rattle.loss_player.specs.Playing.{play_course};
 ghost use Rattle.ground_chain.specs.Report.{restored_of};
 ghost use Rattle.ground_chain.specs.Restoring.{restore_course, store_run};
-ghost use Rattle.trial_chain.specs.RunDesk.{IsRunDesk, NothingFails};
+ghost use Rattle.trial_chain.specs.RunDesk.{HoldsJust, IsRunDesk};
 ghost use Rattle.trial_chain.specs.Stages.{recording_name, store_name, played_name, play_name, restored_name, report_name, with_outputs};
 
 use crate::run_desk::RunDesk;
@@ -24,10 +24,9 @@ use loss_player::{PlayFault, Played, Player};
 pub(crate) fn compress(desk: MemDesk, flight: Flight) -> Result<MemDesk, NoMemory>
     requires run { IsRunDesk desk recording_name }
     requires whole { (compress_course flight (kept_at desk.held recording_name)).ending ≡ None }
-    ensures nothing { IfOk result (λ after. NothingFails after.plan) }
-    ensures held { IfOk result (λ after. after.held
-        ≡ map.insert desk.held store_name
-        (owed (compress_course flight (kept_at desk.held recording_name))).output) }
+    ensures { IfOk result (λ after. HoldsJust after
+        (map.insert desk.held store_name
+        (owed (compress_course flight (kept_at desk.held recording_name))).output)) }
 {
     let mut run = RunDesk::open(desk, "recording", "store")?;
     match flight.compress(&mut run) {
@@ -47,10 +46,9 @@ pub(crate) fn play(desk: MemDesk, player: Player) -> Result<(MemDesk, Played), N
     requires run { IsRunDesk desk store_name }
     requires whole { (play_course (copies_of player.rows) player.apid
         (kept_at desk.held store_name)).ending ≡ None }
-    ensures nothing { IfOk result (λ after. NothingFails after.0.plan) }
-    ensures held { IfOk result (λ after. after.0.held
-        ≡ with_outputs desk.held played_name play_name
-        (owed (play_course (copies_of player.rows) player.apid (kept_at desk.held store_name)))) }
+    ensures held { IfOk result (λ after. HoldsJust after.0
+        (with_outputs desk.held played_name play_name
+        (owed (play_course (copies_of player.rows) player.apid (kept_at desk.held store_name))))) }
     ensures numbers { IfOk result
         (λ after. after.1 ≡ store_numbers (copies_of player.rows) player.apid
         (kept_at desk.held store_name)) }

@@ -1,15 +1,15 @@
 //! A trial: a generated history, through the three chains over a desk in memory.
 
-ghost use Rattle.std.specs.Prelude.{◌≡◌, ◌≤◌, ℕ, false, [], replicate, All, IfOk, OnOk, OnErr};
+ghost use Rattle.std.specs.Prelude.{◌≡◌, false, [], replicate, All, IfOk, OnOk, OnErr};
 ghost use Rattle.desk_ports.specs.MemState.{empty_desk};
-ghost use Rattle.side_tables.specs.Rows.{IsCopyRow, copies_of};
+ghost use Rattle.side_tables.specs.Rows.{IsCopyRow};
 ghost use Rattle.loss_player.specs.Played.{played_of};
 ghost use Rattle.ground_chain.specs.Deliveries.{delivered_numbers};
-ghost use Rattle.trial_chain.specs.RunDesk.{NothingFails};
+ghost use Rattle.trial_chain.specs.RunDesk.{HoldsJust};
 ghost use Rattle.trial_chain.specs.Stages.{HoldsTrial, held_recording, held_store, held_played, held_restored};
-ghost use Rattle.trial_chain.specs.Trials.{IsTrial, every, trial_copies, trial_history, trial_plan, trial_summary};
+ghost use Rattle.trial_chain.specs.Trials.{IsTrial, IsTrialScript, every, trial_copies, trial_history, trial_plan, trial_summary};
 
-use crate::generated::generate;
+use crate::generated::{Trial, generate};
 use crate::stages::{compress, play, restore};
 use bit_vectors::{Bits, Flags, NoMemory};
 use desk_ports::MemDesk;
@@ -81,27 +81,14 @@ pub fn run_trial(
     })
 }
 
-/// The numbers that a trial is generated from.
-#[derive(Clone, Copy, Debug)]
-struct Trial {
-    seed: u32,
-    packets: u32,
-    f: u32,
-    robust: u8,
-}
-
 impl Trial {
     /// Generates the trial, and holds its recording. Gives the rows of its script too.
     fn record(self, alloc: Global) -> Result<(MemDesk, Vec<CopyRow>), NoMemory>
-        requires { IsTrial self.packets self.f self.robust }
-        ensures nothing { IfOk result (λ r. NothingFails r.0.plan) }
         ensures held { IfOk result
-            (λ r. r.0.held ≡ held_recording self.seed self.packets self.f) }
-        ensures script { IfOk result
-            (λ r. (t : ℕ) → copies_of r.1.items t ≡ trial_copies self.seed self.packets t) }
-        ensures right { IfOk result (λ r. All IsCopyRow r.1.items) }
+            (λ r. HoldsJust r.0 (held_recording self.seed self.packets self.f)) }
+        ensures script { IfOk result (λ r. IsTrialScript self.seed self.packets r.1.items) }
     {
-        let generated = generate(alloc, self.seed, self.packets, self.f)?;
+        let generated = generate(alloc, self)?;
         let mut held = MemDesk::new(alloc);
         held.put("recording", &generated.recording)?;
         Ok((held, generated.script))
@@ -109,15 +96,38 @@ impl Trial {
 
     /// Compresses the recording.
     fn compress(self, alloc: Global, held: MemDesk) -> Result<MemDesk, NoMemory>
-        requires trial { IsTrial self.packets self.f self.robust }
-        requires nothing { NothingFails held.plan }
-        requires held { held.held ≡ held_recording self.seed self.packets self.f }
-        ensures nothing { IfOk result (λ after. NothingFails after.plan) }
-        ensures held { IfOk result
-            (λ after. after.held ≡ held_store self.seed self.packets self.f self.robust) }
+        requires { HoldsJust held (held_recording self.seed self.packets self.f) }
+        ensures { IfOk result
+            (λ after. HoldsJust after (held_store self.seed self.packets self.f self.robust)) }
     {
-        let flight = flight(alloc, self.f, self.robust)?;
+        let flight = self.flight(alloc)?;
         compress(held, flight)
+    }
+
+    /// Its flight, with a zero mask at the start.
+    fn flight(self, alloc: Global) -> Result<Flight, NoMemory>
+        ensures { IfOk result (λ flight. flight
+            ≡ record {
+              places = self.f;
+              robust = self.robust;
+              apid = 100;
+              mask = replicate self.f false;
+              rows = record { flags = trial_plan; robust = [] };
+            }) }
+    {
+        let none = Flags {
+            p: false,
+            f: false,
+            r: false,
+        };
+        let rows = [
+            every(20, Flags { p: true, ..none }),
+            every(50, Flags { f: true, ..none }),
+            every(100, Flags { r: true, ..none }),
+        ];
+        let plan = Schedule::with_rows(alloc, &rows)?;
+        let mask = Bits::zeros(alloc, self.f)?;
+        Flight::open(alloc, self.f, self.robust, APID, &mask, plan)
     }
 
     /// Plays the store by the script.
@@ -127,15 +137,11 @@ impl Trial {
         held: MemDesk,
         script: &[CopyRow],
     ) -> Result<(MemDesk, Played), NoMemory>
-        requires trial { IsTrial self.packets self.f self.robust }
-        requires nothing { NothingFails held.plan }
-        requires held { held.held ≡ held_store self.seed self.packets self.f self.robust }
-        requires script { (t : ℕ) → copies_of script.now t
-            ≡ trial_copies self.seed self.packets t }
-        requires right { All IsCopyRow script.now }
-        ensures nothing { IfOk result (λ after. NothingFails after.0.plan) }
+        requires held { HoldsJust held (held_store self.seed self.packets self.f self.robust) }
+        requires script { IsTrialScript self.seed self.packets script.now }
         ensures held { IfOk result
-            (λ after. after.0.held ≡ held_played self.seed self.packets self.f self.robust) }
+            (λ after. HoldsJust after.0
+            (held_played self.seed self.packets self.f self.robust)) }
         ensures numbers { IfOk result
             (λ after. after.1 ≡ played_of (trial_copies self.seed self.packets) self.packets) }
     {
@@ -145,9 +151,7 @@ impl Trial {
 
     /// Restores the played store.
     fn restore(self, alloc: Global, held: MemDesk) -> Result<(MemDesk, Restored), NoMemory>
-        requires trial { IsTrial self.packets self.f self.robust }
-        requires nothing { NothingFails held.plan }
-        requires held { held.held ≡ held_played self.seed self.packets self.f self.robust }
+        requires { HoldsJust held (held_played self.seed self.packets self.f self.robust) }
         ensures held { IfOk result
             (λ after. after.0.held ≡ held_restored self.seed self.packets self.f self.robust) }
         ensures numbers { IfOk result (λ after. after.1
@@ -157,35 +161,6 @@ impl Trial {
         let restorer = Restorer::open(alloc, self.f, APID)?;
         restore(held, restorer)
     }
-}
-
-/// The flight of a trial, with a zero mask at the start.
-fn flight(alloc: Global, f: u32, robust: u8) -> Result<Flight, NoMemory>
-    requires places { 1 ≤ f }
-    requires most { f ≤ 4096 }
-    requires robust { robust ≤ 7 }
-    ensures { IfOk result (λ flight. flight
-        ≡ record {
-          places = f;
-          robust = robust;
-          apid = 100;
-          mask = replicate f false;
-          rows = record { flags = trial_plan; robust = [] };
-        }) }
-{
-    let none = Flags {
-        p: false,
-        f: false,
-        r: false,
-    };
-    let rows = [
-        every(20, Flags { p: true, ..none }),
-        every(50, Flags { f: true, ..none }),
-        every(100, Flags { r: true, ..none }),
-    ];
-    let plan = Schedule::with_rows(alloc, &rows)?;
-    let mask = Bits::zeros(alloc, f)?;
-    Flight::open(alloc, f, robust, APID, &mask, plan)
 }
 
 /// Flags for every packet whose number is so many times a whole number above 0.

@@ -1,12 +1,9 @@
-use Rattle.std.proofs.Common.{◌≡◌, Err, inl, refl, sym, ◌∙◌, subst}
+use Rattle.std.proofs.Common.{◌≡◌, Err, inl, refl, subst}
 use Rattle.desk_ports.specs.Stop.{ReadFault, WriteFault}
 use Rattle.pocket_cmd.specs.declared.run.Unopened.TheVariants as unopened
 use Rattle.pocket_cmd.specs.Openings.{view_names, AfterOpening, HasOpeningCause}
 use Rattle.pocket_cmd.specs.Status.{HasStatusCause, status_by}
 use Rattle.pocket_cmd.proofs.run.run.Goals as goal
-
-pub run_opened-requires-clause-input : goal.run_opened-requires-clause-input
-run_opened-requires-clause-input g c = λ reads. c.in-Ok.ensures.ready_in (sym c.requires.reads ∙ reads)
 
 pub returns-in-Ok-clause-ran : goal.returns-in-Ok-clause-ran
 returns-in-Ok-clause-ran g c =

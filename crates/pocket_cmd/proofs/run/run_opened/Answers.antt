@@ -1,49 +1,37 @@
-use Rattle.std.proofs.Common.{◌≡◌, Option, Some, None, is_some, Result, Ok, Err, refl, sym, ◌∙◌, subst}
-use Rattle.std.specs.Option.{option_map}
+use Rattle.std.proofs.Common.{is_some, Result, Ok, Err, refl, ◌∙◌, subst}
 use Rattle.desk_ports.specs.Meanings.{FailsToWrite, Meanings}
 use Rattle.desk_ports.specs.Stop.{WriteFault}
 use Rattle.pocket_cmd.specs.declared.job.Job.{Job}
-use Rattle.pocket_cmd.specs.declared.run.Names.{Names as Held}
 use Rattle.pocket_cmd.specs.declared.status.Refusal.{Refusal}
-use Rattle.pocket_cmd.specs.Jobs.{AfterJob, job_course, reads_input}
+use Rattle.pocket_cmd.specs.Command.{Names}
+use Rattle.pocket_cmd.specs.Jobs.{AfterJob, AreNamesOf, job_course, reads_input}
 use Rattle.pocket_cmd.specs.Openings.{view_names}
 use Rattle.pocket_cmd.specs.Status.{IsEnded}
 use Rattle.pocket_cmd.proofs.Opened.{EndsBy-ended, IsEnded-stopped, RunStands-finished, HasRunWriteFailed-unfinished}
 use Rattle.pocket_cmd.proofs.run.run_opened.Goals as goal
 
-is_some-map : {A B : Type 0} (f : A → B) (o : Option A) → is_some o ≡ is_some (option_map f o)
-is_some-map f None = refl
-is_some-map f (Some x) = refl
-
 -- the job reads an input if there is a name of one
-ran_by : (job : Job) (names : Held) (start end : Meanings) (answer : Result (Unit {0}) Refusal) → reads_input job ≡ is_some names.input → IsEnded (AfterJob (reads_input job) (job_course job) start end) answer
-    → IsEnded (AfterJob (is_some (view_names names).input) (job_course job) start end) answer
-ran_by job names start end answer is e =
-    subst (λ reads. IsEnded (AfterJob reads (job_course job) start end) answer) (is ∙ is_some-map (λ name. name.now) names.input) e
-
-pub run-requires-clause-report : goal.run-requires-clause-report
-run-requires-clause-report g c = λ writes. c.requires.report (sym c.requires.writes ∙ writes)
-
-pub finish_all-requires-clause-report : goal.finish_all-requires-clause-report
-finish_all-requires-clause-report g c = λ some. c.in-Ok.ensures.ready_report (c.requires.report some)
+ran_by : (job : Job) (names : Names) (start end : Meanings) (answer : Result (Unit {0}) Refusal) → AreNamesOf job names → IsEnded (AfterJob (reads_input job) (job_course job) start end) answer
+    → IsEnded (AfterJob (is_some names.input) (job_course job) start end) answer
+ran_by job names start end answer named e = subst (λ reads. IsEnded (AfterJob reads (job_course job) start end) answer) named.0 e
 
 pub returns-in-Ok-finish_all-clause-ran : goal.returns-in-Ok-finish_all-clause-ran
 returns-in-Ok-finish_all-clause-ran g c = λ old opened. record {
   ended = Ok tt;
   over = RunStands-finished (view_names c.args.names.now) (job_course c.args.job) old _ _ _ opened
-      (EndsBy-ended (is_some (view_names c.args.names.now).input) (job_course c.args.job) _ _ tt (ran_by c.args.job c.args.names.now _ _ _ c.requires.reads c.in-Ok.ensures.ran)) c.in-Ok-finish_all.ensures.finished;
+      (EndsBy-ended (is_some (view_names c.args.names.now).input) (job_course c.args.job) _ _ tt (ran_by c.args.job (view_names c.args.names.now) _ _ _ c.requires.named c.in-Ok.ensures.ran)) c.in-Ok-finish_all.ensures.finished;
   answered = refl;
 }
 
 pub returns-in-Err-clause-ran : goal.returns-in-Err-clause-ran
 returns-in-Err-clause-ran g c = λ old opened.
-    IsEnded-stopped (view_names c.args.names.now) (job_course c.args.job) old _ _ opened c.in-Err.refusal (ran_by c.args.job c.args.names.now _ _ _ c.requires.reads c.in-Err.ensures.ran)
+    IsEnded-stopped (view_names c.args.names.now) (job_course c.args.job) old _ _ opened c.in-Err.refusal (ran_by c.args.job (view_names c.args.names.now) _ _ _ c.requires.named c.in-Err.ensures.ran)
 
 pub returns-in-Err-finish_all-clause-ran : goal.returns-in-Err-finish_all-clause-ran
 returns-in-Err-finish_all-clause-ran g c = λ old opened. record {
   ended = Err WriteFault;
   over = HasRunWriteFailed-unfinished (view_names c.args.names.now) (job_course c.args.job) old _ _ _ opened
-      (EndsBy-ended (is_some (view_names c.args.names.now).input) (job_course c.args.job) _ _ tt (ran_by c.args.job c.args.names.now _ _ _ c.requires.reads c.in-Ok.ensures.ran)) c.in-Err-finish_all.ensures.finished;
+      (EndsBy-ended (is_some (view_names c.args.names.now).input) (job_course c.args.job) _ _ tt (ran_by c.args.job (view_names c.args.names.now) _ _ _ c.requires.named c.in-Ok.ensures.ran)) c.in-Err-finish_all.ensures.finished;
   answered = refl;
 }
 

@@ -27,8 +27,7 @@ loop-filled-preserved g c =
     let joined = ap (take (k + n)) whole ∙ (take-put_mid-add slice c.read.new.buf k (length slice - k) n within few
     ∙ (ap (λ l. take k l ++ take n c.read.new.buf) c.deref_mut.ensures.value ∙ ap (λ l. l ++ take n c.read.new.buf) c.widen.ensures.front)) in
     record {
-      within = rw whole (search rules);
-      most = rw (whole, long) (omega (arith, count, c.widen.ensures.most));
+      room = (rw whole (search rules), rw (whole, long) (omega (arith, count, c.widen.ensures.room.1)));
       moved = subst (Moves first after c.args.inlet) (sym joined) (Moves-then first before after c.args.inlet _ _ kept.moved read.moved);
       ready = Moves-ready before after c.args.inlet _ read.moved kept.ready;
       steady = read.cause ∙ kept.steady;

@@ -1,5 +1,6 @@
-use Rattle.std.proofs.Common.{◌≡◌, length, take, ◌-◌, ◌≤◌}
+use Rattle.std.proofs.Common.{◌≡◌, take, ◌-◌}
 use Rattle.desk_ports.specs.Meanings.{Moves, IsReadyIn}
+use Rattle.pocket_cmd.specs.Openings.{IsRoom}
 use Rattle.pocket_cmd.proofs.text.fill_text.Given as goal
 
 -- the front of the room came from the desk, and nothing else happened
@@ -8,8 +9,7 @@ invariant-loop-filled g l =
     let meaning = g.D.Desk.meaning in
     let counts = g.D.Desk.counts in
     record {
-      within : l.filled ≤ length l.room.items;
-      most : length l.room.items ≤ 1048577;
+      room : IsRoom l.filled l.room.items;
       moved : Moves (meaning l.fn.desk) (meaning l.desk) l.inlet (take l.filled l.room.items);
       ready : IsReadyIn (meaning l.desk) l.inlet;
       steady : counts l.desk ≡ counts l.fn.desk;

@@ -8,7 +8,7 @@ use Rattle.pocket_cmd.specs.Outcome.{Stands, AfterCommand, AfterRefusal, IsScrip
 use Rattle.pocket_cmd.proofs.Apart.{AreApart-command_of, kept_as_made}
 use Rattle.pocket_cmd.specs.Status.{class_of}
 use Rattle.pocket_cmd.proofs.Given.{IsCommand-command_of}
-use Rattle.pocket_cmd.proofs.Granted.{same_command, side_granted, input_granted, output_granted, report_granted, not_both, ends_for}
+use Rattle.pocket_cmd.proofs.Granted.{AreGranted-command, same_command, not_both, ends_for}
 use Rattle.pocket_cmd.proofs.Performed.{AfterRefusal-answer, Stands-answer}
 use Rattle.pocket_cmd.proofs.Kept.{Leaves-refused}
 use Rattle.pocket_cmd.proofs.Sided.{IsSideJudged-answer, left-too_long}
@@ -16,17 +16,8 @@ use Rattle.pocket_cmd.proofs.TextsFirst.{script-first, side-first}
 use Rattle.pocket_cmd.proofs.Headline.{Done-whole, HasWritten-restored}
 use Rattle.pocket_cmd.proofs.top.pocket.Goals as goal
 
-pub perform-requires-clause-side : goal.perform-requires-clause-side
-perform-requires-clause-side g c = side_granted _ (view_command c.in-Ok.command) (IsCommand-command_of (map string_bytes c.args.words.now) _ (sym c.in-Ok.ensures)).given (g.D.Desk.meaning c.args.desk.now).grants_in c.requires.reads
-
-pub perform-requires-clause-input : goal.perform-requires-clause-input
-perform-requires-clause-input g c = input_granted _ (view_command c.in-Ok.command) (IsCommand-command_of (map string_bytes c.args.words.now) _ (sym c.in-Ok.ensures)).given (g.D.Desk.meaning c.args.desk.now).grants_in c.requires.reads
-
-pub perform-requires-clause-output : goal.perform-requires-clause-output
-perform-requires-clause-output g c = output_granted _ (view_command c.in-Ok.command) (IsCommand-command_of (map string_bytes c.args.words.now) _ (sym c.in-Ok.ensures)).given (g.D.Desk.meaning c.args.desk.now).grants_out c.requires.writes
-
-pub perform-requires-clause-report : goal.perform-requires-clause-report
-perform-requires-clause-report g c = report_granted _ (view_command c.in-Ok.command) (IsCommand-command_of (map string_bytes c.args.words.now) _ (sym c.in-Ok.ensures)).given (g.D.Desk.meaning c.args.desk.now).grants_out c.requires.writes
+pub perform-requires : goal.perform-requires
+perform-requires g c = AreGranted-command _ (view_command c.in-Ok.command) (IsCommand-command_of (map string_bytes c.args.words.now) _ (sym c.in-Ok.ensures)).given (g.D.Desk.meaning c.args.desk.now) c.requires.granted
 
 pub returns-in-Ok-clause-refused : goal.returns-in-Ok-clause-refused
 returns-in-Ok-clause-refused g c = λ refusal command is given.

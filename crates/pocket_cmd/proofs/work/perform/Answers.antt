@@ -24,8 +24,7 @@ returns-in-Ok-clause-after g c =
     let new = g.D.Desk.meaning c.perform_with.new.desk in
     let side = ap (λ (names : Names). names.side) c.names.ensures in
     let read : g.D.Desk.meaning c.text_at.new.desk ≡ with_text old inlet.Side (names_of command).side = c.in-Ok.ensures.read ∙ ap (with_text old inlet.Side) side in
-    AfterCommand-read command old new c.in-Ok.text.items c.perform_with.result
-    (subst (λ name. IsText old inlet.Side name c.in-Ok.text.items) side c.in-Ok.ensures.text)
-    c.in-Ok.ensures.within
-    (subst (λ m. AfterText command c.in-Ok.text.items m new c.perform_with.result) read
-    (subst (λ text. AfterText command text (g.D.Desk.meaning c.text_at.new.desk) new c.perform_with.result) c.deref.ensures.value c.perform_with.ensures.after))
+    AfterCommand-read command old new c.in-Ok.text.bytes.items c.perform_with.result
+    (subst (λ name. IsText old inlet.Side name c.in-Ok.text.bytes.items) side c.in-Ok.ensures.text)
+    c.in-Ok.text.within
+    (subst (λ m. AfterText command c.in-Ok.text.bytes.items m new c.perform_with.result) read c.perform_with.ensures.after)

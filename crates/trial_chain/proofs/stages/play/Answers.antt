@@ -10,11 +10,13 @@ use Rattle.trial_chain.proofs.HeldOutputs.{kept_outputs, run_reported-is}
 use Rattle.trial_chain.proofs.stages.play.Goals as goal
 
 pub returns-clause-held : goal.returns-clause-held
-returns-clause-held c =
-    ap (λ (d : MemState). d.held) c.into_desk.ensures.desk
-    ∙ kept_outputs c.args.desk c.keep-2.new.self.desk.held store_name played_name play_name (play_course (copies_of c.args.player.rows) c.args.player.apid) (run_meanings c.begin.new.self) (run_meanings c.play.new.desk)
-    (run_meanings c.keep.new.self) (run_meanings c.keep-2.new.self)
-    (run_reported-is c.args.desk store_name played_name play_name (run_meanings c.in_ok-run.run') (run_meanings c.begin.new.self) c.in_ok-run.ensures c.in_ok-begin.ensures) c.in-Ok.ensures.ran.ends c.in_ok-keep.ensures c.in_ok-keep-2.ensures refl
+returns-clause-held c = (
+  c.into_desk.ensures.nothing,
+  ap (λ (d : MemState). d.held) c.into_desk.ensures.desk
+      ∙ kept_outputs c.args.desk c.keep-2.new.self.desk.held store_name played_name play_name (play_course (copies_of c.args.player.rows) c.args.player.apid) (run_meanings c.begin.new.self) (run_meanings c.play.new.desk)
+      (run_meanings c.keep.new.self) (run_meanings c.keep-2.new.self)
+      (run_reported-is c.args.desk store_name played_name play_name (run_meanings c.in_ok-run.run') (run_meanings c.begin.new.self) c.in_ok-run.ensures c.in_ok-begin.ensures) c.in-Ok.ensures.ran.ends c.in_ok-keep.ensures c.in_ok-keep-2.ensures refl,
+)
 
 pub returns-clause-numbers : goal.returns-clause-numbers
 returns-clause-numbers c =

@@ -44,57 +44,57 @@ module _ (command : Held) (v : Verb) (is : command.verb ≡ v) where
   streamed text m job no_text rows owes reads reports = made text m m job (
     rows,
     subst (λ script. OnceAllRead script (names_of (v, words)) (course_of (v, words) text) m (λ names course start. IsJobOf job names course start m)) (sym no_text)
-        (record { owes = owes; reads = reads ∙ named port.Input refl; reports = reports ∙ named port.Report refl; is = refl }),
+        (record { owes = owes; named = (reads ∙ named port.Input refl, reports ∙ named port.Report refl); is = refl }),
   )
 
-pub flight-requires-clause-right : goal.flight-requires-clause-right
-flight-requires-clause-right g c = right c.args.command.now _ c.in-Compress.is
+pub flight-requires : goal.flight-requires
+flight-requires g c = right c.args.command.now _ c.in-Compress.is
 
 pub returns-in_ok-flight-in-Compress-clause-after : goal.returns-in_ok-flight-in-Compress-clause-after
 returns-in_ok-flight-in-Compress-clause-after g c =
-    streamed c.args.command.now verb.Compress c.in-Compress.is c.args.text.now _ (job.Compress c.in_ok-flight-in-Compress.field-0) refl c.in_ok-flight-in-Compress.ensures.rows (ap (λ flight. job_course (job.Compress flight)) c.in_ok-flight-in-Compress.ensures.flight) refl refl
+    streamed c.args.command.now verb.Compress c.in-Compress.is c.args.text.now.bytes.items _ (job.Compress c.in_ok-flight-in-Compress.field-0) refl c.in_ok-flight-in-Compress.ensures.rows (ap (λ flight. job_course (job.Compress flight)) c.in_ok-flight-in-Compress.ensures.flight) refl refl
 
-pub player-requires-clause-right : goal.player-requires-clause-right
-player-requires-clause-right g c = right c.args.command.now _ c.in-Play.is
+pub player-requires : goal.player-requires
+player-requires g c = right c.args.command.now _ c.in-Play.is
 
 pub returns-in_ok-player-in-Play-clause-after : goal.returns-in_ok-player-in-Play-clause-after
 returns-in_ok-player-in-Play-clause-after g c =
-    streamed c.args.command.now verb.Play c.in-Play.is c.args.text.now _ (job.Play c.in_ok-player-in-Play.field-0) refl c.in_ok-player-in-Play.ensures.rows (ap (λ player. job_course (job.Play player)) c.in_ok-player-in-Play.ensures.player) refl refl
+    streamed c.args.command.now verb.Play c.in-Play.is c.args.text.now.bytes.items _ (job.Play c.in_ok-player-in-Play.field-0) refl c.in_ok-player-in-Play.ensures.rows (ap (λ player. job_course (job.Play player)) c.in_ok-player-in-Play.ensures.player) refl refl
 
 pub restorer-requires : goal.restorer-requires
 restorer-requires g c = right c.args.command.now _ c.in-Restore.is
 
 pub returns-in_ok-restorer-in-Restore-clause-after : goal.returns-in_ok-restorer-in-Restore-clause-after
 returns-in_ok-restorer-in-Restore-clause-after g c =
-    streamed c.args.command.now verb.Restore c.in-Restore.is c.args.text.now _ (job.Restore c.in_ok-restorer-in-Restore.field-0) refl refl (ap (λ restorer. job_course (job.Restore restorer)) c.in_ok-restorer-in-Restore.ensures) refl refl
+    streamed c.args.command.now verb.Restore c.in-Restore.is c.args.text.now.bytes.items _ (job.Restore c.in_ok-restorer-in-Restore.field-0) refl refl (ap (λ restorer. job_course (job.Restore restorer)) c.in_ok-restorer-in-Restore.ensures) refl refl
 
 pub lister-requires : goal.lister-requires
 lister-requires g c = right c.args.command.now _ c.in-Show.is
 
 pub returns-in_ok-lister-in-Show-clause-after : goal.returns-in_ok-lister-in-Show-clause-after
 returns-in_ok-lister-in-Show-clause-after g c =
-    streamed c.args.command.now verb.Show c.in-Show.is c.args.text.now _ (job.Show c.in_ok-lister-in-Show.field-0) refl refl (ap (λ lister. job_course (job.Show lister)) c.in_ok-lister-in-Show.ensures) refl refl
+    streamed c.args.command.now verb.Show c.in-Show.is c.args.text.now.bytes.items _ (job.Show c.in_ok-lister-in-Show.field-0) refl refl (ap (λ lister. job_course (job.Show lister)) c.in_ok-lister-in-Show.ensures) refl refl
 
 pub summary_text-requires : goal.summary_text-requires
 summary_text-requires g c = right c.args.command.now _ c.in-Trial.is
 
 pub returns-in_ok-multi_restorer-in-Multi-clause-after : goal.returns-in_ok-multi_restorer-in-Multi-clause-after
 returns-in_ok-multi_restorer-in-Multi-clause-after g c =
-    streamed c.args.command.now verb.Multi c.in-Multi.is c.args.text.now _ (job.Multi c.in_ok-multi_restorer-in-Multi.field-0) refl c.in_ok-multi_restorer-in-Multi.ensures.rows (ap (λ restorer. job_course (job.Multi restorer)) c.in_ok-multi_restorer-in-Multi.ensures.restorer) refl refl
+    streamed c.args.command.now verb.Multi c.in-Multi.is c.args.text.now.bytes.items _ (job.Multi c.in_ok-multi_restorer-in-Multi.field-0) refl c.in_ok-multi_restorer-in-Multi.ensures.rows (ap (λ restorer. job_course (job.Multi restorer)) c.in_ok-multi_restorer-in-Multi.ensures.restorer) refl refl
 
 pub late_restorer-requires : goal.late_restorer-requires
 late_restorer-requires g c = right c.args.command.now _ c.in-Late.is
 
 pub returns-in_ok-late_restorer-in-Late-clause-after : goal.returns-in_ok-late_restorer-in-Late-clause-after
 returns-in_ok-late_restorer-in-Late-clause-after g c =
-    streamed c.args.command.now verb.Late c.in-Late.is c.args.text.now _ (job.Late c.in_ok-late_restorer-in-Late.field-0) refl refl (ap (λ restorer. job_course (job.Late restorer)) c.in_ok-late_restorer-in-Late.ensures) refl refl
+    streamed c.args.command.now verb.Late c.in-Late.is c.args.text.now.bytes.items _ (job.Late c.in_ok-late_restorer-in-Late.field-0) refl refl (ap (λ restorer. job_course (job.Late restorer)) c.in_ok-late_restorer-in-Late.ensures) refl refl
 
-pub tabler-requires-clause-right : goal.tabler-requires-clause-right
-tabler-requires-clause-right g c = right c.args.command.now _ c.in-Table.is
+pub tabler-requires : goal.tabler-requires
+tabler-requires g c = right c.args.command.now _ c.in-Table.is
 
 pub returns-in_ok-tabler-in-Table-clause-after : goal.returns-in_ok-tabler-in-Table-clause-after
 returns-in_ok-tabler-in-Table-clause-after g c =
-    streamed c.args.command.now verb.Table c.in-Table.is c.args.text.now _ (job.Table c.in_ok-tabler-in-Table.field-0) refl c.in_ok-tabler-in-Table.ensures.rows (ap (λ tabler. job_course (job.Table tabler)) c.in_ok-tabler-in-Table.ensures.tabler) refl refl
+    streamed c.args.command.now verb.Table c.in-Table.is c.args.text.now.bytes.items _ (job.Table c.in_ok-tabler-in-Table.field-0) refl c.in_ok-tabler-in-Table.ensures.rows (ap (λ tabler. job_course (job.Table tabler)) c.in_ok-tabler-in-Table.ensures.tabler) refl refl
 
 pub forecast-requires-clause-right : goal.forecast-requires-clause-right
 forecast-requires-clause-right g c = right c.args.command.now _ c.in-Forecast.is
@@ -113,7 +113,7 @@ forecast_made command is text old new forecast name same rows read =
         text = e.text;
         told = e.told;
         within = e.within;
-        after = (e.after.0, record { owes = ap (λ forecast. job_course (job.Forecast forecast)) e.after.1; reads = refl; reports = refl; is = e.after.2 });
+        after = (e.after.0, record { owes = ap (λ forecast. job_course (job.Forecast forecast)) e.after.1; named = (refl, refl); is = e.after.2 });
       },
     )
 
@@ -121,4 +121,4 @@ pub returns-in_ok-forecast-in-Forecast-clause-after : goal.returns-in_ok-forecas
 returns-in_ok-forecast-in-Forecast-clause-after g c =
     let command = c.args.command.now in
     let named = ap (λ (names : Names). names.input) (c.names.ensures ∙ ap (λ v. names_of (v, map string_bytes command.words.now)) c.in-Forecast.is) in
-    forecast_made command c.in-Forecast.is c.args.text.now _ _ c.in_ok-forecast-in-Forecast.field-0 _ named c.in_ok-forecast-in-Forecast.ensures.rows c.in_ok-forecast-in-Forecast.ensures.read
+    forecast_made command c.in-Forecast.is c.args.text.now.bytes.items _ _ c.in_ok-forecast-in-Forecast.field-0 _ named c.in_ok-forecast-in-Forecast.ensures.rows c.in_ok-forecast-in-Forecast.ensures.read
