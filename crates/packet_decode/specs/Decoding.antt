@@ -1,6 +1,6 @@
 -- What a decoder is: the number of places of its vectors, the known mask and the known content, and the recent changes of
 -- the mask and the effective robustness level of the latest written packet, which are zero before the first.
-use Rattle.std.specs.Prelude.{ℕ, Bool, true, false, List, replicate, Option, Result, Ok, Err, unwrap_or}
+use Rattle.std.specs.Prelude.{ℕ, ◌<◌, Bool, true, false, List, replicate, IfSome, Option, Result, Ok, Err, unwrap_or}
 use Rattle.std.specs.Option.{option_map}
 use Rattle.bit_vectors.specs.declared.fault.BitFault.{BitFault}
 use Rattle.packet_decode.specs.declared.decoder.Reading.{Reading}
@@ -28,6 +28,11 @@ latest_number state = number_of state.content
 -- the number of the latest packet whose mask became known
 abbrev pub latest_mask_number : State → Option ℕ
 latest_mask_number state = number_of state.mask
+
+-- this number is greater than those of the packets with which the mask and the content became known
+pub record IsAfter (t : ℕ) (state : State) : Type 0 where
+  pub content : IfSome (latest_number state) (λ last. last < t)
+  pub mask : IfSome (latest_mask_number state) (λ last. last < t)
 
 -- the latest mask that became known, and zeros before the first
 abbrev pub latest_mask : ℕ → State → List Bool

@@ -9,7 +9,7 @@ ghost use Rattle.packet_decode.specs.Spelling.{Spells};
 ghost use Rattle.packet_decode.specs.Answers.{Says, IsExactAnswer};
 ghost use Rattle.packet_decode.specs.PacketReading.{Spelled, missed, parse_whole_packet};
 ghost use Rattle.packet_decode.specs.Parts.{IsAtLevel, IsBefore, IsDeduced, IsRemembered, kept_state, part_by, tells_mask};
-ghost use Rattle.packet_decode.specs.Decoding.{latest_number, latest_mask_number, latest_mask, latest_content, tells_nothing};
+ghost use Rattle.packet_decode.specs.Decoding.{IsAfter, latest_number, latest_mask_number, latest_mask, latest_content, tells_nothing};
 
 use crate::change::FirstPart;
 use crate::draft::Room;
@@ -80,8 +80,7 @@ impl Decoder {
     /// after which the data can neither spell a packet nor be those of one that can't be understood (CCSDS 124.0-B-1).
     pub fn read(&mut self, t: u64, bytes: &[u8]) -> Result<Reading, BitFault>
         requires number { t < 2 ^ 62 }
-        requires later { IfSome (latest_number self.old.state) (λ last. last < t) }
-        requires later_mask { IfSome (latest_mask_number self.old.state) (λ last. last < t) }
+        requires later { IsAfter t self.old.state }
         requires size { length bytes.now ≤ 65536 }
         // Each answer comes exactly when it is the right one, and a fault names the first bit.
         ensures exact { IsExactAnswer self.old.places self.old.state t (bits_of bytes.now) result }
