@@ -1,10 +1,10 @@
 //! Arrivals that are put in order and then judged.
 
-ghost use Rattle.std.specs.Prelude.{◌≡◌, ◌+◌, ◌-◌, ◌^◌, ◌<◌, ◌≤◌, ◌*◌, [], length, take, true, IfOk, IfErr, OnOk};
+ghost use Rattle.std.specs.Prelude.{◌≡◌, ◌+◌, ◌-◌, ◌^◌, ◌<◌, ◌≤◌, ◌*◌, [], length, take, true, IfOk, OnOk};
 ghost use Rattle.desk_ports.specs.Turns.{AreReady};
 ghost use Rattle.desk_ports.specs.Writings.{WritesWithin};
-ghost use Rattle.ground_chain.specs.Run.{Arrival, IsArrival};
-ghost use Rattle.late_window.specs.Late.{AreJudged, IsWithinLimits, Sorts, arrival_each, arrival_parts, held_each, held_parts, last_each, last_parts, given_at, done_of, nothing_late};
+ghost use Rattle.ground_chain.specs.Run.{IsArrival};
+ghost use Rattle.late_window.specs.Late.{AreJudged, IsWithinLimits, Sorts, arrival_each, arrival_parts, held_each, held_parts, last_each, last_parts, done_of, nothing_late};
 ghost use Rattle.late_window.specs.Lines.{given_up};
 ghost use Rattle.bit_vectors.specs.Vectors.{IsPlaces};
 

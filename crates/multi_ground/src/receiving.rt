@@ -1,6 +1,6 @@
 //! A store of several streams that is being received, packet by packet.
 
-ghost use Rattle.std.specs.Prelude.{◌≡◌, ℕ, ◌+◌, ◌-◌, ◌^◌, ◌<◌, ◌≤◌, ◌∷◌, ◌++◌, [], List, length, true, IfOk, vec_len};
+ghost use Rattle.std.specs.Prelude.{◌≡◌, ◌+◌, ◌-◌, ◌^◌, ◌<◌, ◌∷◌, ◌++◌, [], List, length, true, IfOk};
 ghost use Rattle.desk_ports.specs.Meanings.{HasWriteCause};
 ghost use Rattle.desk_ports.specs.Turns.{AreReady};
 ghost use Rattle.desk_ports.specs.Courses.{to_report};
