@@ -1,5 +1,5 @@
 //! The top call: from the words of the command line to the outputs of a desk.
-ghost use Rattle.std.specs.Prelude.{◌≡◌, ◌≢◌, ◌<◌, ◌≤◌, ◌^◌, ◌↔◌, ℕ, List, Option, length, drop, map, Some, Err};
+ghost use Rattle.std.specs.Prelude.{◌≡◌, ◌≢◌, ◌<◌, ◌^◌, ◌↔◌, ℕ, List, Option, length, drop, map, Some, Err};
 ghost use Rattle.std.specs.String.{string_bytes};
 ghost use Rattle.pocket_cmd.specs.Apart.{AreKeptAsMade};
 ghost use Rattle.pocket_cmd.specs.Faults.{DataFault as Fault};

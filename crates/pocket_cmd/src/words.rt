@@ -1,5 +1,5 @@
 //! The words of the command line after its verb: `key=value` in any order.
-ghost use Rattle.std.specs.Prelude.{◌≡◌, ◌+◌, ◌<◌, ◌^◌, true, false, None, [], length, map, codes, MatchOption, IsSome};
+ghost use Rattle.std.specs.Prelude.{◌≡◌, ◌+◌, ◌<◌, ◌≤◌, ◌^◌, true, false, None, [], length, map, codes, MatchOption, IfSome, IsSome};
 ghost use Rattle.std.specs.Option.{option_map};
 ghost use Rattle.std.specs.String.{string_bytes};
 ghost use Rattle.bit_vectors.specs.Vectors.{IsPlaces};
@@ -73,7 +73,7 @@ pub fn fault_of(verb: Verb, words: &[String]) -> Option<u32>
 {
     let rows = verb.rows();
     if let Some(place) = wrong_word(rows, words) {
-        return Some(place);
+        return Some(place as u32);
     }
     if is_missing(rows, words) {
         return Some(words.len() as u32 + 1);
@@ -82,14 +82,14 @@ pub fn fault_of(verb: Verb, words: &[String]) -> Option<u32>
 }
 
 /// The place of the first word that is not right after all before it.
-fn wrong_word(rows: &[Row], words: &[String]) -> Option<u32>
-    requires { length words.now + 1 < 2 ^ 32 }
-    ensures { result ≡ wrong_word (map view_row rows.now) [] (map string_bytes words.now) }
+fn wrong_word(rows: &[Row], words: &[String]) -> Option<usize>
+    ensures place { result ≡ wrong_word (map view_row rows.now) [] (map string_bytes words.now) }
+    ensures within { IfSome result (λ place. place ≤ length words.now) }
 {
     let mut place = 0;
     for word in words {
         if !is_right(rows, &words[..place], word.as_str()) {
-            return Some(place as u32 + 1);
+            return Some(place + 1);
         }
         place += 1;
     }
@@ -183,13 +183,13 @@ fn wrong_mask(words: &[String]) -> Option<u32>
     if is_mask(number_at(words, "bits"), text) {
         return None;
     }
-    Some(place_of(words, "mask"))
+    Some(place_of(words, "mask") as u32)
 }
 
 /// The place of the first word with a key; the number of all words, if none has it.
-fn place_of(words: &[String], key: &str) -> u32
-    requires { length words.now + 1 < 2 ^ 32 }
-    ensures { result ≡ place_of (map string_bytes words.now) key.now }
+fn place_of(words: &[String], key: &str) -> usize
+    ensures place { result ≡ place_of (map string_bytes words.now) key.now }
+    ensures within { result ≤ length words.now + 1 }
 {
     let mut place = 1;
     for word in words {

@@ -1,8 +1,9 @@
 -- A desk in memory for one run, of which no call is told to fail: what it is seen as, and what it tells.
-use Rattle.std.specs.Prelude.{◌≡◌, ℕ, true, List, [], Some, IsSome, refl}
+use Rattle.std.specs.Prelude.{◌≡◌, ℕ, true, List, [], Some, None, IsSome, refl}
 use Rattle.std.specs.Coded.{Coded, code_by, coded×}
 use Rattle.std.specs.FinMap as map
 use Rattle.std.specs.Str.{bytes_eq}
+use Rattle.desk_ports.specs.Courses.{Course}
 use Rattle.desk_ports.specs.Meanings.{Meanings, Counts, Kept, kept_at}
 use Rattle.desk_ports.specs.MemState.{MemState, MemPlan, bytes_code, mem_meanings, state_code}
 
@@ -30,6 +31,10 @@ HoldsJust desk kept = NothingFails desk.plan × (desk.held ≡ kept)
 pub record IsRunDesk (desk : MemState) (input : List ℕ) : Type 0 where
   pub nothing : NothingFails desk.plan
   pub held : IsSome (map.get desk.held input)
+
+-- the same, and the course of the input has no fault
+abbrev pub HoldsWhole : {F : Type 0} → MemState → List ℕ → (List ℕ → Course F) → Type 0
+HoldsWhole desk input course = IsRunDesk desk input × ((course (kept_at desk.held input)).ending ≡ None)
 
 -- what it tells, which is everything. It grants the input's name, and every name of an output
 abbrev pub run_meanings : RunState → Meanings

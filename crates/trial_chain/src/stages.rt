@@ -1,6 +1,6 @@
 //! The three runs of a trial, each over a desk in memory that holds its input, and its outputs after it.
 
-ghost use Rattle.std.specs.Prelude.{◌≡◌, ◌≤◌, IfOk, None};
+ghost use Rattle.std.specs.Prelude.{◌≡◌, IfOk};
 ghost use Rattle.std.specs.FinMap as map;
 ghost use Rattle.desk_ports.specs.Courses.{owed};
 ghost use Rattle.desk_ports.specs.Meanings.{kept_at};
@@ -10,7 +10,7 @@ ghost use Rattle.loss_player.specs.Played.{store_numbers};
 ghost use Rattle.loss_player.specs.Playing.{play_course};
 ghost use Rattle.ground_chain.specs.Report.{restored_of};
 ghost use Rattle.ground_chain.specs.Restoring.{restore_course, store_run};
-ghost use Rattle.trial_chain.specs.RunDesk.{HoldsJust, IsRunDesk};
+ghost use Rattle.trial_chain.specs.RunDesk.{HoldsJust, HoldsWhole};
 ghost use Rattle.trial_chain.specs.Stages.{recording_name, store_name, played_name, play_name, restored_name, report_name, with_outputs};
 
 use crate::run_desk::RunDesk;
@@ -22,8 +22,7 @@ use loss_player::{PlayFault, Played, Player};
 
 /// Compresses the recording to the store.
 pub(crate) fn compress(desk: MemDesk, flight: Flight) -> Result<MemDesk, NoMemory>
-    requires run { IsRunDesk desk recording_name }
-    requires whole { (compress_course flight (kept_at desk.held recording_name)).ending ≡ None }
+    requires { HoldsWhole desk recording_name (compress_course flight) }
     ensures { IfOk result (λ after. HoldsJust after
         (map.insert desk.held store_name
         (owed (compress_course flight (kept_at desk.held recording_name))).output)) }
@@ -43,9 +42,7 @@ pub(crate) fn compress(desk: MemDesk, flight: Flight) -> Result<MemDesk, NoMemor
 
 /// Plays the store to the played store and the play report.
 pub(crate) fn play(desk: MemDesk, player: Player) -> Result<(MemDesk, Played), NoMemory>
-    requires run { IsRunDesk desk store_name }
-    requires whole { (play_course (copies_of player.rows) player.apid
-        (kept_at desk.held store_name)).ending ≡ None }
+    requires { HoldsWhole desk store_name (play_course (copies_of player.rows) player.apid) }
     ensures held { IfOk result (λ after. HoldsJust after.0
         (with_outputs desk.held played_name play_name
         (owed (play_course (copies_of player.rows) player.apid (kept_at desk.held store_name))))) }
@@ -67,9 +64,7 @@ pub(crate) fn play(desk: MemDesk, player: Player) -> Result<(MemDesk, Played), N
 
 /// Restores the played store to the restored packets and the report.
 pub(crate) fn restore(desk: MemDesk, restorer: Restorer) -> Result<(MemDesk, Restored), NoMemory>
-    requires run { IsRunDesk desk played_name }
-    requires whole { (restore_course restorer.places restorer.apid
-        (kept_at desk.held played_name)).ending ≡ None }
+    requires { HoldsWhole desk played_name (restore_course restorer.places restorer.apid) }
     ensures held { IfOk result (λ after. after.0.held
         ≡ with_outputs desk.held restored_name report_name
         (owed (restore_course restorer.places restorer.apid (kept_at desk.held played_name)))) }

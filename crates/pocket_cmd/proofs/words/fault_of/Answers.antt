@@ -9,5 +9,5 @@ wrong_mask-requires-clause-places c =
     let words = map string_bytes c.args.words.now in
     let none : c.wrong_word.result ≡ None = search in
     IsPlaces-with_mask c.args.verb words
-    (subst (λ rows. wrong_word rows [] words ≡ None) c.rows-rows.ensures (sym c.wrong_word.ensures ∙ none))
+    (subst (λ rows. wrong_word rows [] words ≡ None) c.rows-rows.ensures (sym c.wrong_word.ensures.place ∙ none))
     (subst (λ rows. is_missing rows words ≡ false) c.rows-rows.ensures (sym c.is_missing.ensures ∙ c.if-is_missing.false))

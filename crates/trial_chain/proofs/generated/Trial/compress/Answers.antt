@@ -12,13 +12,12 @@ use Rattle.trial_chain.proofs.TrialRuns.{whole-recording}
 use Rattle.trial_chain.proofs.TrialHeld.{IsSome-here, held-compressed, kept-recording}
 use Rattle.trial_chain.proofs.generated.Trial.compress.Goals as goal
 
-pub compress-requires-clause-run : goal.compress-requires-clause-run
-compress-requires-clause-run c = record { nothing = c.requires.0; held = IsSome-here c.args.held.held map.empty recording_name (trial_recording c.args.self.seed c.args.self.packets c.args.self.f) c.requires.1 }
-
-pub compress-requires-clause-whole : goal.compress-requires-clause-whole
-compress-requires-clause-whole c =
-    (λ i. (compress_course (c.in_ok-flight.ensures i) (kept-recording c.args.self.seed c.args.self.packets c.args.self.f c.args.held.held c.requires.1 i)).ending)
-    ∙ whole-recording c.args.self.seed c.args.self.packets c.args.self.f c.args.self.robust c.args.self.bounds
+pub compress-requires : goal.compress-requires
+compress-requires c = (
+  record { nothing = c.requires.0; held = IsSome-here c.args.held.held map.empty recording_name (trial_recording c.args.self.seed c.args.self.packets c.args.self.f) c.requires.1 },
+  (λ i. (compress_course (c.in_ok-flight.ensures i) (kept-recording c.args.self.seed c.args.self.packets c.args.self.f c.args.held.held c.requires.1 i)).ending)
+      ∙ whole-recording c.args.self.seed c.args.self.packets c.args.self.f c.args.self.robust c.args.self.bounds,
+)
 
 pub returns : goal.returns
 returns c =

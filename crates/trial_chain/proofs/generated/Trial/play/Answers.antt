@@ -13,14 +13,13 @@ use Rattle.trial_chain.proofs.TrialRuns.{numbers-store, whole-store}
 use Rattle.trial_chain.proofs.TrialHeld.{IsSome-here, held-played, kept-store, same-copies}
 use Rattle.trial_chain.proofs.generated.Trial.play.Goals as goal
 
-pub play-requires-clause-run : goal.play-requires-clause-run
-play-requires-clause-run c = record { nothing = c.requires.held.0; held = IsSome-here c.args.held.held (held_recording c.args.self.seed c.args.self.packets c.args.self.f) store_name (trial_store c.args.self.seed c.args.self.packets c.args.self.f c.args.self.robust) c.requires.held.1 }
-
-pub play-requires-clause-whole : goal.play-requires-clause-whole
-play-requires-clause-whole c =
-    (λ i. (walk (Some (ap (λ (p : PlayerState). p.apid) c.in_ok-player.ensures i))
-    (kept-store c.args.self.seed c.args.self.packets c.args.self.f c.args.self.robust c.args.held.held c.requires.held.1 i)).ending)
-    ∙ whole-store c.args.self.seed c.args.self.packets c.args.self.f c.args.self.robust c.args.self.bounds
+pub play-requires : goal.play-requires
+play-requires c = (
+  record { nothing = c.requires.held.0; held = IsSome-here c.args.held.held (held_recording c.args.self.seed c.args.self.packets c.args.self.f) store_name (trial_store c.args.self.seed c.args.self.packets c.args.self.f c.args.self.robust) c.requires.held.1 },
+  (λ i. (walk (Some (ap (λ (p : PlayerState). p.apid) c.in_ok-player.ensures i))
+      (kept-store c.args.self.seed c.args.self.packets c.args.self.f c.args.self.robust c.args.held.held c.requires.held.1 i)).ending)
+      ∙ whole-store c.args.self.seed c.args.self.packets c.args.self.f c.args.self.robust c.args.self.bounds,
+)
 
 pub returns-clause-held : goal.returns-clause-held
 returns-clause-held c =

@@ -12,14 +12,13 @@ use Rattle.trial_chain.proofs.TrialRuns.{numbers-restored, whole-played}
 use Rattle.trial_chain.proofs.TrialHeld.{IsSome-played, held-restored, kept-played}
 use Rattle.trial_chain.proofs.generated.Trial.restore.Goals as goal
 
-pub restore-requires-clause-run : goal.restore-requires-clause-run
-restore-requires-clause-run c = record { nothing = c.requires.0; held = IsSome-played c.args.self.seed c.args.self.packets c.args.self.f c.args.self.robust c.args.held.held c.requires.1 }
-
-pub restore-requires-clause-whole : goal.restore-requires-clause-whole
-restore-requires-clause-whole c =
-    (λ i. (walk (Some (ap (λ (r : RestorerState). r.apid) c.in_ok-restorer.ensures i))
-    (kept-played c.args.self.seed c.args.self.packets c.args.self.f c.args.self.robust c.args.held.held c.requires.1 i)).ending)
-    ∙ whole-played c.args.self.seed c.args.self.packets c.args.self.f c.args.self.robust c.args.self.bounds
+pub restore-requires : goal.restore-requires
+restore-requires c = (
+  record { nothing = c.requires.0; held = IsSome-played c.args.self.seed c.args.self.packets c.args.self.f c.args.self.robust c.args.held.held c.requires.1 },
+  (λ i. (walk (Some (ap (λ (r : RestorerState). r.apid) c.in_ok-restorer.ensures i))
+      (kept-played c.args.self.seed c.args.self.packets c.args.self.f c.args.self.robust c.args.held.held c.requires.1 i)).ending)
+      ∙ whole-played c.args.self.seed c.args.self.packets c.args.self.f c.args.self.robust c.args.self.bounds,
+)
 
 pub returns-clause-held : goal.returns-clause-held
 returns-clause-held c =
