@@ -24,88 +24,6 @@ use std::str;
 /// The room for the text of a refusal, in bytes.
 const TEXT_BYTES: usize = 128;
 
-/// Opens a desk in memory, at which nothing is kept, in a handle that holds nothing.
-fn open(alloc: Global, handle: &mut Handle) -> Status
-    ensures only { IsOneOf (number_of result) (Status.Done ∷ Status.NoMemory ∷ Status.Open ∷ []) }
-    ensures open { (result ≡ Status.Open) ↔ (handle.old.held ≡ None → ⊥) }
-    ensures right { (result ≡ Status.NoMemory → ⊥) → (result ≡ Status.Done) ↔ (handle.old.held ≡ None) }
-    ensures opened { result ≡ Status.Done
-        → handle.new.held ≡ Some (Held.Bench (record { desk = empty_desk; words = [] })) }
-    ensures unchanged { (result ≡ Status.Done → ⊥) → handle.new.held ≡ handle.old.held }
-{
-    if let Some(held) = handle.take(alloc) {
-        handle.put(alloc, held);
-        return Status::Open;
-    }
-    match Box::new(alloc, Held::Bench(Bench::new(alloc))) {
-        Ok(held) => {
-            handle.put(alloc, held);
-            Status::Done
-        }
-        Err(_) => Status::NoMemory,
-    }
-}
-
-/// Keeps bytes under a name.
-fn put(alloc: Global, handle: &mut Handle, name: &str, bytes: &[u8]) -> Status
-    ensures only { IsOneOf (number_of result)
-        (Status.Done ∷ Status.Closed ∷ Status.OtherKind ∷ Status.NoMemory ∷ []) }
-    ensures closed { (result ≡ Status.Closed) ↔ (handle.old.held ≡ None) }
-    ensures other { (result ≡ Status.OtherKind) ↔ HasOtherThanBench handle.old.held }
-    ensures text { result ≡ Status.NoText → ⊥ }
-    ensures right { (b : BenchState) → handle.old.held ≡ Some (Held.Bench b)
-        → (result ≡ Status.NoMemory → ⊥) → result ≡ Status.Done }
-    ensures done { (b : BenchState) → handle.old.held ≡ Some (Held.Bench b)
-        → result ≡ Status.Done → handle.new.held ≡ Some (Held.Bench (record b {
-          desk = record b.desk { held = map.insert b.desk.held name.now bytes.now };
-        })) }
-    ensures unchanged { (result ≡ Status.Done → ⊥) → handle.new.held ≡ handle.old.held }
-{
-    let Some(mut held) = handle.take(alloc) else {
-        return Status::Closed;
-    };
-    let status = match &mut *held {
-        Held::Bench(bench) => match bench.put(name, bytes) {
-            Ok(()) => Status::Done,
-            Err(_) => Status::NoMemory,
-        },
-        Held::Sender(_) | Held::Receiver(_) => Status::OtherKind,
-    };
-    handle.put(alloc, held);
-    status
-}
-
-/// Adds a word.
-fn word(alloc: Global, handle: &mut Handle, word: &str) -> Status
-    ensures only { IsOneOf (number_of result)
-        (Status.Done ∷ Status.Closed ∷ Status.OtherKind ∷ Status.TooManyWords ∷ Status.NoMemory ∷ []) }
-    ensures closed { (result ≡ Status.Closed) ↔ (handle.old.held ≡ None) }
-    ensures other { (result ≡ Status.OtherKind) ↔ HasOtherThanBench handle.old.held }
-    ensures text { result ≡ Status.NoText → ⊥ }
-    ensures full { (b : BenchState) → handle.old.held ≡ Some (Held.Bench b)
-        → (result ≡ Status.TooManyWords) ↔ (1000 ≤ length b.words) }
-    ensures right { (b : BenchState) → handle.old.held ≡ Some (Held.Bench b)
-        → (result ≡ Status.NoMemory → ⊥) → (result ≡ Status.Done) ↔ (length b.words < 1000) }
-    ensures done { (b : BenchState) → handle.old.held ≡ Some (Held.Bench b)
-        → result ≡ Status.Done
-        → handle.new.held ≡ Some (Held.Bench (record b { words = b.words ++ word.now ∷ [] })) }
-    ensures unchanged { (result ≡ Status.Done → ⊥) → handle.new.held ≡ handle.old.held }
-{
-    let Some(mut held) = handle.take(alloc) else {
-        return Status::Closed;
-    };
-    let status = match &mut *held {
-        Held::Bench(bench) if !bench.has_room() => Status::TooManyWords,
-        Held::Bench(bench) => match bench.word(word) {
-            Ok(()) => Status::Done,
-            Err(_) => Status::NoMemory,
-        },
-        Held::Sender(_) | Held::Receiver(_) => Status::OtherKind,
-    };
-    handle.put(alloc, held);
-    status
-}
-
 /// Runs the command of the words.
 fn run(alloc: Global, handle: &mut Handle) -> Result<pocket_cmd::Status, Status>
     ensures only { (status : Status) → result ≡ Err status
@@ -129,37 +47,6 @@ fn run(alloc: Global, handle: &mut Handle) -> Result<pocket_cmd::Status, Status>
     };
     handle.put(alloc, held);
     answer
-}
-
-/// Writes what is kept under a name, and tells how long it is.
-fn get(alloc: Global, handle: &mut Handle, name: &str, out: &mut [u8], len: &mut usize) -> Status
-    ensures only { IsOneOf (number_of result)
-        (Status.Done ∷ Status.Closed ∷ Status.OtherKind ∷ Status.NoRoom ∷ []) }
-    ensures closed { (result ≡ Status.Closed) ↔ (handle.old.held ≡ None) }
-    ensures other { (result ≡ Status.OtherKind) ↔ HasOtherThanBench handle.old.held }
-    ensures text { result ≡ Status.NoText → ⊥ }
-    ensures told { (b : BenchState) → handle.old.held ≡ Some (Held.Bench b)
-        → len.new ≡ length (kept_at b.desk.held name.now) }
-    ensures done { (b : BenchState) → handle.old.held ≡ Some (Held.Bench b)
-        → (result ≡ Status.Done) ↔ (length (kept_at b.desk.held name.now) ≤ length out.old) }
-    ensures no_room { (b : BenchState) → handle.old.held ≡ Some (Held.Bench b)
-        → (result ≡ Status.NoRoom) ↔ (length out.old < length (kept_at b.desk.held name.now)) }
-    ensures bytes { (b : BenchState) → handle.old.held ≡ Some (Held.Bench b)
-        → result ≡ Status.Done → take len.new out.new ≡ kept_at b.desk.held name.now }
-    ensures rest { result ≡ Status.Done → drop len.new out.new ≡ drop len.new out.old }
-    ensures untouched { (result ≡ Status.Done → ⊥) → out.new ≡ out.old }
-    ensures len_kept { (result ≡ Status.Done → ⊥) → (result ≡ Status.NoRoom → ⊥) → len.new ≡ len.old }
-    ensures unchanged { handle.new.held ≡ handle.old.held }
-{
-    let Some(held) = handle.take(alloc) else {
-        return Status::Closed;
-    };
-    let status = match &*held {
-        Held::Bench(bench) => write_out(bench.get(name), out, len),
-        Held::Sender(_) | Held::Receiver(_) => Status::OtherKind,
-    };
-    handle.put(alloc, held);
-    status
 }
 
 /// Writes bytes into the room for them, and tells how many they are.
@@ -209,7 +96,17 @@ pub extern "C" fn pocket_desk_open(alloc: Global, handle: &mut Handle) -> u32
     ensures unchanged { (result ≡ number_of Status.Done → ⊥)
         → handle.new.held ≡ handle.old.held }
 {
-    open(alloc, handle).number()
+    if let Some(held) = handle.take(alloc) {
+        handle.put(alloc, held);
+        return Status::Open.number();
+    }
+    match Box::new(alloc, Held::Bench(Bench::new(alloc))) {
+        Ok(held) => {
+            handle.put(alloc, held);
+            Status::Done.number()
+        }
+        Err(_) => Status::NoMemory.number(),
+    }
 }
 
 /// Keeps bytes under a name at the desk that a handle holds.
@@ -231,10 +128,21 @@ pub extern "C" fn pocket_put(alloc: Global, handle: &mut Handle, name: &[u8], by
     ensures unchanged { (result ≡ number_of Status.Done → ⊥)
         → handle.new.held ≡ handle.old.held }
 {
-    match str::from_utf8(name) {
-        Ok(name) => put(alloc, handle, name, bytes).number(),
-        Err(_) => Status::NoText.number(),
-    }
+    let Ok(name) = str::from_utf8(name) else {
+        return Status::NoText.number();
+    };
+    let Some(mut held) = handle.take(alloc) else {
+        return Status::Closed.number();
+    };
+    let status = match &mut *held {
+        Held::Bench(bench) => match bench.put(name, bytes) {
+            Ok(()) => Status::Done,
+            Err(_) => Status::NoMemory,
+        },
+        Held::Sender(_) | Held::Receiver(_) => Status::OtherKind,
+    };
+    handle.put(alloc, held);
+    status.number()
 }
 
 /// Adds a word to those of the next command at the desk that a handle holds.
@@ -257,10 +165,22 @@ pub extern "C" fn pocket_word(alloc: Global, handle: &mut Handle, text: &[u8]) -
     ensures unchanged { (result ≡ number_of Status.Done → ⊥)
         → handle.new.held ≡ handle.old.held }
 {
-    match str::from_utf8(text) {
-        Ok(text) => word(alloc, handle, text).number(),
-        Err(_) => Status::NoText.number(),
-    }
+    let Ok(word) = str::from_utf8(text) else {
+        return Status::NoText.number();
+    };
+    let Some(mut held) = handle.take(alloc) else {
+        return Status::Closed.number();
+    };
+    let status = match &mut *held {
+        Held::Bench(bench) if !bench.has_room() => Status::TooManyWords,
+        Held::Bench(bench) => match bench.word(word) {
+            Ok(()) => Status::Done,
+            Err(_) => Status::NoMemory,
+        },
+        Held::Sender(_) | Held::Receiver(_) => Status::OtherKind,
+    };
+    handle.put(alloc, held);
+    status.number()
 }
 
 /// Runs the command of the words at the desk that a handle holds, after which there is no word. `exit` is the exit number of
@@ -343,8 +263,16 @@ pub extern "C" fn pocket_get(
         → (result ≡ number_of Status.NoRoom → ⊥) → len.new ≡ len.old }
     ensures unchanged { handle.new.held ≡ handle.old.held }
 {
-    match str::from_utf8(name) {
-        Ok(name) => get(alloc, handle, name, out, len).number(),
-        Err(_) => Status::NoText.number(),
-    }
+    let Ok(name) = str::from_utf8(name) else {
+        return Status::NoText.number();
+    };
+    let Some(held) = handle.take(alloc) else {
+        return Status::Closed.number();
+    };
+    let status = match &*held {
+        Held::Bench(bench) => write_out(bench.get(name), out, len),
+        Held::Sender(_) | Held::Receiver(_) => Status::OtherKind,
+    };
+    handle.put(alloc, held);
+    status.number()
 }

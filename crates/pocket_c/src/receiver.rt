@@ -110,115 +110,16 @@ fn is_mask_alone(kind: Kind) -> bool
     }
 }
 
-/// Opens a receiver in a handle that holds nothing.
-fn open(alloc: Global, handle: &mut Handle, places: u32) -> Status
-    ensures only { IsOneOf (number_of result)
-        (Status.Done ∷ Status.NoMemory ∷ Status.Open ∷ Status.Places ∷ []) }
-    ensures open { (result ≡ Status.Open) ↔ (handle.old.held ≡ None → ⊥) }
-    ensures places { (result ≡ Status.Places)
-        ↔ ((handle.old.held ≡ None) × ((places ≡ 0) ⊎ (49152 < places))) }
-    ensures right { (result ≡ Status.NoMemory → ⊥) → (result ≡ Status.Done)
-        ↔ ((handle.old.held ≡ None) × (1 ≤ places) × (places ≤ 49152)) }
-    ensures opened { result ≡ Status.Done
-        → (r : Reckoning) × (handle.new.held ≡ Some (Held.Receiver r))
-        × (r ≡ nothing_judged places) × HasJudged places [] r }
-    ensures unchanged { (result ≡ Status.Done → ⊥) → handle.new.held ≡ handle.old.held }
+/// The numbers of the arrivals so far, as C sees them.
+fn counts_by(restored: &Restored) -> Counts
+    ensures { result ≡ counts_of restored.now }
 {
-    if let Some(held) = handle.take(alloc) {
-        handle.put(alloc, held);
-        return Status::Open;
+    Counts {
+        packets: restored.packets,
+        written: restored.written,
+        repeats: restored.repeats,
+        listed: restored.listed,
     }
-    match Receiver::open(alloc, places) {
-        Ok(receiver) => match Box::new(alloc, Held::Receiver(receiver)) {
-            Ok(held) => {
-                handle.put(alloc, held);
-                Status::Done
-            }
-            Err(_) => Status::NoMemory,
-        },
-        Err(fault) => fault.into(),
-    }
-}
-
-/// Judges an arrival by the receiver that a handle holds.
-fn receive(
-    alloc: Global,
-    handle: &mut Handle,
-    count: u16,
-    bytes: &[u8],
-    out: &mut [u8],
-) -> Result<Verdict, Status>
-    ensures only { (status : Status) → result ≡ Err status → IsOneOf (number_of status)
-        (Status.Closed ∷ Status.OtherKind ∷ Status.Count ∷ Status.TooLong ∷ Status.NoRoom ∷ Status.TooMany ∷ []) }
-    ensures closed { (result ≡ Err Status.Closed) ↔ (handle.old.held ≡ None) }
-    ensures other { (result ≡ Err Status.OtherKind) ↔ HasOtherThanReceiver handle.old.held }
-    ensures taken { (r : Reckoning) → handle.old.held ≡ Some (Held.Receiver r) → IsOk result
-        ↔ ((count < period) × (length bytes.now ≤ 65536)
-        × (byte_count r.reception.decoder.places ≤ length out.old)
-        × (r.restored.packets < 2 ^ 32)) }
-    ensures count { (r : Reckoning) → handle.old.held ≡ Some (Held.Receiver r)
-        → (result ≡ Err Status.Count) ↔ (period ≤ count) }
-    ensures too_long { (r : Reckoning) → handle.old.held ≡ Some (Held.Receiver r)
-        → (result ≡ Err Status.TooLong)
-        ↔ ((count < period) × (65536 < length bytes.now)) }
-    ensures no_room { (r : Reckoning) → handle.old.held ≡ Some (Held.Receiver r)
-        → (result ≡ Err Status.NoRoom)
-        ↔ ((count < period) × (length bytes.now ≤ 65536)
-        × (length out.old < byte_count r.reception.decoder.places)) }
-    ensures too_many { (r : Reckoning) → handle.old.held ≡ Some (Held.Receiver r)
-        → (result ≡ Err Status.TooMany)
-        ↔ ((count < period) × (length bytes.now ≤ 65536)
-        × (byte_count r.reception.decoder.places ≤ length out.old)
-        × (2 ^ 32 ≤ r.restored.packets)) }
-    ensures fault { result ≡ Err Status.Done → ⊥ }
-    ensures unchanged { OnErr result (handle.new.held ≡ handle.old.held) }
-    ensures untouched { OnErr result (out.new ≡ out.old) }
-    ensures verdict { (r : Reckoning) → handle.old.held ≡ Some (Held.Receiver r) → IfOk result
-        (λ verdict. verdict ≡ (next_judged r.reception count bytes.now).verdict) }
-    ensures stands { (r : Reckoning) → handle.old.held ≡ Some (Held.Receiver r)
-        → OnOk result ((next : Reckoning) × (handle.new.held ≡ Some (Held.Receiver next))
-        × (next.reception.decoder.places ≡ r.reception.decoder.places)
-        × Judges r next count bytes.now
-        × ((f : ℕ) (arrivals : List Arrival) → HasJudged f arrivals r
-        → HasJudged f (arrivals ++ record { count = count; body = bytes.now } ∷ []) next)) }
-    ensures content { (r : Reckoning) → handle.old.held ≡ Some (Held.Receiver r) → OnOk result
-        (let content = written_bytes (next_judged r.reception count bytes.now) in
-        out.new ≡ content ++ drop (length content) out.old) }
-{
-    let Some(mut held) = handle.take(alloc) else {
-        return Err(Status::Closed);
-    };
-    let verdict = match &mut *held {
-        Held::Receiver(receiver) => match receiver.receive(count, bytes, out) {
-            Ok(verdict) => Ok(verdict),
-            Err(fault) => Err(Status::from(fault)),
-        },
-        Held::Sender(_) | Held::Bench(_) => Err(Status::OtherKind),
-    };
-    handle.put(alloc, held);
-    verdict
-}
-
-/// The numbers of the receiver that a handle holds.
-fn restored(alloc: Global, handle: &mut Handle) -> Result<Restored, Status>
-    ensures only { (status : Status) → result ≡ Err status
-        → IsOneOf (number_of status) (Status.Closed ∷ Status.OtherKind ∷ []) }
-    ensures closed { (result ≡ Err Status.Closed) ↔ (handle.old.held ≡ None) }
-    ensures other { (result ≡ Err Status.OtherKind) ↔ HasOtherThanReceiver handle.old.held }
-    ensures fault { result ≡ Err Status.Done → ⊥ }
-    ensures told { (r : Reckoning) → handle.old.held ≡ Some (Held.Receiver r)
-        → IsOk result × IfOk result (λ restored. restored ≡ r.restored) }
-    ensures unchanged { handle.new.held ≡ handle.old.held }
-{
-    let Some(held) = handle.take(alloc) else {
-        return Err(Status::Closed);
-    };
-    let told = match &*held {
-        Held::Receiver(receiver) => Ok(*receiver.restored()),
-        Held::Sender(_) | Held::Bench(_) => Err(Status::OtherKind),
-    };
-    handle.put(alloc, held);
-    told
 }
 
 /// Opens a receiver of vectors of 1 to 49,152 places in a handle that holds nothing. It takes all memory that later calls
@@ -237,7 +138,20 @@ pub extern "C" fn pocket_receiver_open(alloc: Global, handle: &mut Handle, place
     ensures unchanged { (result ≡ number_of Status.Done → ⊥)
         → handle.new.held ≡ handle.old.held }
 {
-    open(alloc, handle, places).number()
+    if let Some(held) = handle.take(alloc) {
+        handle.put(alloc, held);
+        return Status::Open.number();
+    }
+    match Receiver::open(alloc, places) {
+        Ok(receiver) => match Box::new(alloc, Held::Receiver(receiver)) {
+            Ok(held) => {
+                handle.put(alloc, held);
+                Status::Done.number()
+            }
+            Err(_) => Status::NoMemory.number(),
+        },
+        Err(fault) => Status::from(fault).number(),
+    }
 }
 
 /// Judges the next arrival by the receiver that a handle holds: `finding` tells what is found of it, and if it is written its
@@ -292,7 +206,18 @@ pub extern "C" fn pocket_receive(
         → let content = written_bytes (next_judged r.reception count bytes.now) in
         out.new ≡ content ++ drop (length content) out.old }
 {
-    match receive(alloc, handle, count, bytes, out) {
+    let Some(mut held) = handle.take(alloc) else {
+        return Status::Closed.number();
+    };
+    let verdict = match &mut *held {
+        Held::Receiver(receiver) => match receiver.receive(count, bytes, out) {
+            Ok(verdict) => Ok(verdict),
+            Err(fault) => Err(Status::from(fault)),
+        },
+        Held::Sender(_) | Held::Bench(_) => Err(Status::OtherKind),
+    };
+    handle.put(alloc, held);
+    match verdict {
         Ok(verdict) => {
             *found = found_by(&verdict);
             Status::Done.number()
@@ -313,16 +238,16 @@ pub extern "C" fn pocket_counts(alloc: Global, handle: &mut Handle, told: &mut C
     ensures unchanged { handle.new.held ≡ handle.old.held }
     ensures untold { (result ≡ number_of Status.Done → ⊥) → told.new ≡ told.old }
 {
-    match restored(alloc, handle) {
-        Ok(restored) => {
-            *told = Counts {
-                packets: restored.packets,
-                written: restored.written,
-                repeats: restored.repeats,
-                listed: restored.listed,
-            };
-            Status::Done.number()
+    let Some(held) = handle.take(alloc) else {
+        return Status::Closed.number();
+    };
+    let status = match &*held {
+        Held::Receiver(receiver) => {
+            *told = counts_by(receiver.restored());
+            Status::Done
         }
-        Err(status) => status.number(),
-    }
+        Held::Sender(_) | Held::Bench(_) => Status::OtherKind,
+    };
+    handle.put(alloc, held);
+    status.number()
 }

@@ -13,118 +13,8 @@ ghost use Rattle.pocket_c.specs.Statuses.{IsOneOf, number_of};
 use crate::held::{Handle, Held};
 use crate::status::Status;
 use bit_vectors::Flags;
-use packet_calls::{Sender, Sent};
+use packet_calls::Sender;
 use std::alloc::Global;
-
-/// Opens a sender in a handle that holds nothing.
-fn open(alloc: Global, handle: &mut Handle, places: u32, mask: Option<&[u8]>) -> Status
-    ensures only { IsOneOf (number_of result)
-        (Status.Done ∷ Status.NoMemory ∷ Status.Open ∷ Status.Places ∷ Status.MaskLength
-        ∷ Status.MaskSpareBit ∷ []) }
-    ensures open { (result ≡ Status.Open) ↔ (handle.old.held ≡ None → ⊥) }
-    ensures places { (result ≡ Status.Places)
-        ↔ ((handle.old.held ≡ None) × ((places ≡ 0) ⊎ (49152 < places))) }
-    ensures misfit { (result ≡ Status.MaskLength)
-        ↔ ((handle.old.held ≡ None) × (1 ≤ places) × (places ≤ 49152)
-        × (MaskFits places (given mask.entry) → ⊥)) }
-    // A spare bit is looked at after the memory for the mask was found.
-    ensures spared { (result ≡ Status.NoMemory → ⊥) → (result ≡ Status.MaskSpareBit)
-        ↔ ((handle.old.held ≡ None) × (1 ≤ places) × (places ≤ 49152)
-        × MaskFits places (given mask.entry) × MaskHasSpareBit places (given mask.entry)) }
-    ensures right { (result ≡ Status.NoMemory → ⊥) → (result ≡ Status.Done)
-        ↔ ((handle.old.held ≡ None) × (1 ≤ places) × (places ≤ 49152)
-        × MaskFits places (given mask.entry) × (MaskHasSpareBit places (given mask.entry) → ⊥)) }
-    ensures opened { result ≡ Status.Done
-        → (s : SenderState) × (handle.new.held ≡ Some (Held.Sender s))
-        × StandsFor (no_steps (first_mask places (given mask.entry))) s.encoder
-        × (length s.encoder.masks.mask ≡ places) × (s.encoder.masks.taken ≡ 0)
-        × (s.room ≡ room_bits places) }
-    ensures unchanged { (result ≡ Status.Done → ⊥) → handle.new.held ≡ handle.old.held }
-{
-    if let Some(held) = handle.take(alloc) {
-        handle.put(alloc, held);
-        return Status::Open;
-    }
-    match Sender::open(alloc, places, mask) {
-        Ok(sender) => match Box::new(alloc, Held::Sender(sender)) {
-            Ok(held) => {
-                handle.put(alloc, held);
-                Status::Done
-            }
-            Err(_) => Status::NoMemory,
-        },
-        Err(fault) => fault.into(),
-    }
-}
-
-/// Sends an input by the sender that a handle holds.
-fn send(
-    alloc: Global,
-    handle: &mut Handle,
-    input: &[u8],
-    flags: Flags,
-    robust: u8,
-    out: &mut [u8],
-) -> Result<Sent, Status>
-    ensures only { (status : Status) → result ≡ Err status → IsOneOf (number_of status)
-        (Status.Closed ∷ Status.OtherKind ∷ Status.InputLength ∷ Status.SpareBit ∷ Status.Robust ∷ Status.NoRoom ∷ Status.TooMany ∷ []) }
-    ensures closed { (result ≡ Err Status.Closed) ↔ (handle.old.held ≡ None) }
-    ensures other { (result ≡ Err Status.OtherKind) ↔ HasOtherThanSender handle.old.held }
-    ensures taken { (s : SenderState) → handle.old.held ≡ Some (Held.Sender s)
-        → let f = length s.encoder.masks.mask in
-        IsOk result ↔ (Fits f input.now × (HasSpareBit f input.now → ⊥) × (robust ≤ 7)
-        × (room_bytes f ≤ length out.old) × (s.encoder.masks.taken < 2 ^ 32)) }
-    ensures misfit { (s : SenderState) → handle.old.held ≡ Some (Held.Sender s)
-        → (result ≡ Err Status.InputLength)
-        ↔ (Fits (length s.encoder.masks.mask) input.now → ⊥) }
-    ensures spare { (s : SenderState) → handle.old.held ≡ Some (Held.Sender s)
-        → let f = length s.encoder.masks.mask in (result ≡ Err Status.SpareBit)
-        ↔ (Fits f input.now × HasSpareBit f input.now) }
-    ensures robust { (s : SenderState) → handle.old.held ≡ Some (Held.Sender s)
-        → let f = length s.encoder.masks.mask in (result ≡ Err Status.Robust)
-        ↔ (Fits f input.now × (HasSpareBit f input.now → ⊥) × (7 < robust)) }
-    ensures no_room { (s : SenderState) → handle.old.held ≡ Some (Held.Sender s)
-        → let f = length s.encoder.masks.mask in (result ≡ Err Status.NoRoom)
-        ↔ (Fits f input.now × (HasSpareBit f input.now → ⊥) × (robust ≤ 7)
-        × (length out.old < room_bytes f)) }
-    ensures too_many { (s : SenderState) → handle.old.held ≡ Some (Held.Sender s)
-        → let f = length s.encoder.masks.mask in (result ≡ Err Status.TooMany)
-        ↔ (Fits f input.now × (HasSpareBit f input.now → ⊥) × (robust ≤ 7)
-        × (room_bytes f ≤ length out.old) × (2 ^ 32 ≤ s.encoder.masks.taken)) }
-    ensures fault { result ≡ Err Status.Done → ⊥ }
-    ensures unchanged { OnErr result (handle.new.held ≡ handle.old.held) }
-    ensures untouched { OnErr result (out.new ≡ out.old) }
-    ensures stands { (s : SenderState) → handle.old.held ≡ Some (Held.Sender s)
-        → OnOk result ((next : SenderState) × (handle.new.held ≡ Some (Held.Sender next))
-        × ((h : History) → StandsFor h s.encoder → StandsFor (with_next_input h robust
-        (vector_in (length s.encoder.masks.mask) input.now) flags) next.encoder)
-        × (length next.encoder.masks.mask ≡ length s.encoder.masks.mask)
-        × (next.encoder.masks.taken ≡ s.encoder.masks.taken + 1) × (next.room ≡ s.room)) }
-    ensures packet { (s : SenderState) (h : History) → handle.old.held ≡ Some (Held.Sender s)
-        → StandsFor h s.encoder → IfOk result (λ sent. take sent.len out.new ≡ data_at
-        (with_next_input h robust (vector_in (length s.encoder.masks.mask) input.now) flags)
-        (length h.steps)) }
-    ensures level { (s : SenderState) (h : History) → handle.old.held ≡ Some (Held.Sender s)
-        → StandsFor h s.encoder → IfOk result (λ sent. sent.level ≡ level_at
-        (with_next_input h robust (vector_in (length s.encoder.masks.mask) input.now) flags)
-        (length h.steps)) }
-    ensures length { (s : SenderState) → handle.old.held ≡ Some (Held.Sender s) → IfOk result
-        (λ sent. (1 ≤ sent.len) × (sent.len ≤ room_bytes (length s.encoder.masks.mask))) }
-    ensures rest { IfOk result (λ sent. drop sent.len out.new ≡ drop sent.len out.old) }
-{
-    let Some(mut held) = handle.take(alloc) else {
-        return Err(Status::Closed);
-    };
-    let sent = match &mut *held {
-        Held::Sender(sender) => match sender.send(input, flags, robust, out) {
-            Ok(sent) => Ok(sent),
-            Err(fault) => Err(Status::from(fault)),
-        },
-        Held::Receiver(_) | Held::Bench(_) => Err(Status::OtherKind),
-    };
-    handle.put(alloc, held);
-    sent
-}
 
 /// Opens a sender of vectors of 1 to 49,152 places in a handle that holds nothing. Its first mask is the one that these bytes
 /// spell, or of zeros if there is no byte. It takes all memory that later calls need.
@@ -159,7 +49,20 @@ pub extern "C" fn pocket_sender_open(
     ensures unchanged { (result ≡ number_of Status.Done → ⊥)
         → handle.new.held ≡ handle.old.held }
 {
-    open(alloc, handle, places, mask_in(mask)).number()
+    if let Some(held) = handle.take(alloc) {
+        handle.put(alloc, held);
+        return Status::Open.number();
+    }
+    match Sender::open(alloc, places, mask_in(mask)) {
+        Ok(sender) => match Box::new(alloc, Held::Sender(sender)) {
+            Ok(held) => {
+                handle.put(alloc, held);
+                Status::Done.number()
+            }
+            Err(_) => Status::NoMemory.number(),
+        },
+        Err(fault) => Status::from(fault).number(),
+    }
 }
 
 /// No mask if there is no byte.
@@ -240,7 +143,18 @@ pub extern "C" fn pocket_send(
         f: send_mask,
         r: whole,
     };
-    match send(alloc, handle, input, flags, robust, out) {
+    let Some(mut held) = handle.take(alloc) else {
+        return Status::Closed.number();
+    };
+    let sent = match &mut *held {
+        Held::Sender(sender) => match sender.send(input, flags, robust, out) {
+            Ok(sent) => Ok(sent),
+            Err(fault) => Err(Status::from(fault)),
+        },
+        Held::Receiver(_) | Held::Bench(_) => Err(Status::OtherKind),
+    };
+    handle.put(alloc, held);
+    match sent {
         Ok(sent) => {
             *len = sent.len;
             *level = sent.level;
