@@ -1,12 +1,12 @@
 //! A small caller of the encoder and the decoder: an input is encoded, and its packet is read back.
 #![tactic(auto)]
 
-ghost use Rattle.std.specs.Prelude.{◌≡◌, ℕ, ◌+◌, ◌*◌, ◌<◌, ◌≤◌, [], false, length, replicate, true, Option, Ok, IfSome, IfOk};
+ghost use Rattle.std.specs.Prelude.{◌≡◌, ℕ, ◌+◌, ◌*◌, ◌<◌, ◌≤◌, [], false, length, replicate, true, Option, Ok, IfOk};
 ghost use Rattle.bit_vectors.specs.Vectors.{IsPlaces, padded};
 ghost use Rattle.mask_update.specs.Histories.{History};
 ghost use Rattle.mask_update.specs.Masks.{mask_at};
 ghost use Rattle.packet_decode.specs.Answers.{IsExactAnswer};
-ghost use Rattle.packet_decode.specs.Decoding.{latest_mask_number, latest_number, tells_nothing};
+ghost use Rattle.packet_decode.specs.Decoding.{IsAfter, tells_nothing};
 ghost use Rattle.packet_decode.specs.State.{both_known};
 ghost use Rattle.packet_encode.specs.Encoder.{StandsFor};
 ghost use Rattle.packet_encode.specs.Packets.{packet_at};
@@ -35,10 +35,7 @@ pub fn carry(
     requires places { length input.now ≡ length encoder.old.masks.mask }
     requires decoder_places { decoder.old.places ≡ length input.now }
     requires most { encoder.old.masks.taken < 4294967296 }
-    requires later { IfSome (latest_number decoder.old.state)
-        (λ last. last < encoder.old.masks.taken) }
-    requires later_mask { IfSome (latest_mask_number decoder.old.state)
-        (λ last. last < encoder.old.masks.taken) }
+    requires later { IsAfter encoder.old.masks.taken decoder.old.state }
     requires empty { pen.old.bits ≡ [] }
     requires room { 10 * length input.now + 43 ≤ pen.old.room }
     // Whatever the decoder knows, the answer is the exact one to this packet.
