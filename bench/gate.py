@@ -40,9 +40,18 @@ class Process(collections.namedtuple("Process", "number started parent words sec
         return cls(number, fields[19], fields[1], words, sum(map(int, fields[11:15])) / TICKS)
 
 
-def processes():
-    """The prover's processes that no other one of them started, each with the time of those that it started."""
-    found = [process for number in filter(str.isdigit, os.listdir("/proc")) if (process := Process.of(number))]
+def is_in(session, number):
+    """Whether a process that may have ended is one of this session."""
+    try:
+        return os.getsid(int(number)) == session
+    except OSError:
+        return False
+
+
+def processes(session):
+    """The prover's processes of a session that no other one of them started, each with the time of those that it started."""
+    numbers = [number for number in filter(str.isdigit, os.listdir("/proc")) if is_in(session, number)]
+    found = [process for number in numbers if (process := Process.of(number))]
     numbers = {process.number for process in found}
     first = [process for process in found if process.parent not in numbers]
     below = collections.Counter()
@@ -77,9 +86,9 @@ def part(process):
 def watched(command):
     """Runs a command, and gives the processor time of each part of it by its crate, and its exit number."""
     seen = {}
-    with subprocess.Popen(command) as running:
+    with subprocess.Popen(command, start_new_session=True) as running:
         while running.poll() is None:
-            seen.update({(process.number, process.started): (part(process), process.seconds) for process in processes()})
+            seen.update({(it.number, it.started): (part(it), it.seconds) for it in processes(running.pid)})
             time.sleep(PAUSE)
     parts = collections.defaultdict(collections.Counter)
     for (crate, name), seconds in seen.values():
