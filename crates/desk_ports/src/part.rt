@@ -110,13 +110,18 @@ impl Part {
         self.node == node || is_target(rt, node, Some(self))
     }
 
-    /// Gives the part the name that it waits for. What existed under that name is then gone. It fails if another file has
-    /// come in the part's place, as that of another run over the same name.
-    pub fn take_name(&self, rt: &HostRuntime) -> io::Result<()> {
+    /// Fails if another file has come in the part's place, as that of another run over the same name.
+    pub fn stands(&self, rt: &HostRuntime) -> io::Result<()> {
         let standing = fs::symlink_metadata(rt, &self.own)?;
         if Node::of(&standing) != self.node {
             return Err(refused());
         }
+        Ok(())
+    }
+
+    /// Gives the part the name that it waits for, if it still stands. What existed under that name is then gone.
+    pub fn take_name(&self, rt: &HostRuntime) -> io::Result<()> {
+        self.stands(rt)?;
         fs::rename(rt, &self.own, &self.target)
     }
 }

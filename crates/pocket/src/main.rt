@@ -4,9 +4,9 @@
 ghost use Rattle.std.specs.Prelude.{◌≡◌, ℕ, ◌≤◌, ◌↔◌, ◌⊎◌, drop, is_some, length, map, take, Err, IsSome, None};
 ghost use Rattle.std.specs.Process.{exit_status};
 ghost use Rattle.std.specs.String.{string_bytes};
-ghost use Rattle.desk_ports.specs.FileDesk.{file_counts};
+ghost use Rattle.desk_ports.specs.FileDesk.{file_counts, GathersNothing};
 ghost use Rattle.desk_ports.specs.Meanings.{nothing_told};
-ghost use Rattle.pocket.specs.Program.{GathersNothing, IsHandedOver, answered, asked_by, asked_of, asked_of_verb, seen};
+ghost use Rattle.pocket.specs.Program.{IsHandedOver, answered, asked_by, asked_of, asked_of_verb, seen};
 ghost use Rattle.pocket_cmd.specs.Command.{HasCommand, command_of};
 ghost use Rattle.pocket_cmd.specs.Status.{exit_number};
 ghost use Rattle.pocket_cmd.specs.Verbs.{verb_of};
