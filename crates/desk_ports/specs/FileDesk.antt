@@ -133,7 +133,12 @@ pub record IsKept (old new : Sink) : Type 0 where
   pub waits : waits new ≡ waits old
   pub unfinished : is_unfinished new ≡ is_unfinished old
 
--- the same of both outlets
+-- and what it gathered is as before
+pub record IsSteady (old new : Sink) : Type 0 where
+  pub kept : IsKept old new
+  pub gathered : gathered new ≡ gathered old
+
+-- both outlets are kept
 abbrev pub KeepsOutlets : FileDesk → FileDesk → Type 0
 KeepsOutlets old new = IsKept old.output new.output × IsKept old.report new.report
 

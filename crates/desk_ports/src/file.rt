@@ -5,7 +5,7 @@ ghost use Rattle.std.specs.Bool.{OnFalse, OnTrue};
 ghost use Rattle.std.specs.Io.KnownBytes.{IsAtEnd};
 ghost use Rattle.desk_ports.specs.Meanings.{nothing_told, Adds, Begins, HasReadCause, HasWriteCause, IsReadyIn, IsReadyOut, Keeps, Moves, Opens, left};
 ghost use Rattle.desk_ports.specs.Parts.{other_than};
-ghost use Rattle.desk_ports.specs.FileDesk.{file_counts, file_meanings, gathered, gathered_at, is_live, is_opened_sink, is_pending, is_standard_input, is_standard_output, is_unfinished, names_standard_input, names_standard_output, other_sink, other_source, sink_at, source_at, unfinished_at, waits_at, GathersNothing, IsHandedOn, IsWhole, KeepsOutlets, SameInlets, SameOutlets};
+ghost use Rattle.desk_ports.specs.FileDesk.{file_counts, file_meanings, gathered, gathered_at, is_live, is_opened_sink, is_pending, is_standard_input, is_standard_output, is_unfinished, names_standard_input, names_standard_output, other_sink, other_source, sink_at, source_at, unfinished_at, waits_at, GathersNothing, IsHandedOn, IsSteady, IsWhole, KeepsOutlets, SameInlets, SameOutlets};
 
 use crate::desk::{Desk, Failed, Inlet, Outlet};
 use crate::progress::Progress;
@@ -31,6 +31,7 @@ use std::io;
 #[derive(Drop)]
 pub struct FileDesk<'a> {
     rt: &'a HostRuntime,
+    has_report: bool,
     side: Source,
     input: Source,
     output: Sink,
@@ -41,8 +42,9 @@ pub struct FileDesk<'a> {
 }
 
 impl<'a> FileDesk<'a> {
-    /// A desk on which nothing was opened. It grants every name.
-    pub fn new(rt: &'a HostRuntime) -> FileDesk<'a>
+    /// A desk on which nothing was opened. It grants every name. If it has a report, no earlier part is replaced before both
+    /// outlets were opened, and until then the first one takes no bytes.
+    pub fn new(rt: &'a HostRuntime, has_report: bool) -> FileDesk<'a>
         ensures untold { ⟦<FileDesk<'a> as Desk>⟧.meaning result ≡ nothing_told }
         ensures no_faults { ⟦<FileDesk<'a> as Desk>⟧.counts result
             ≡ record { reads = 0; writes = 0 } }
@@ -51,6 +53,7 @@ impl<'a> FileDesk<'a> {
     {
         FileDesk {
             rt,
+            has_report,
             side: Source::Nothing,
             input: Source::Nothing,
             output: Sink::Nothing,
@@ -143,7 +146,7 @@ impl<'a> FileDesk<'a> {
         }
     }
 
-    // Opens what the bytes of an outlet go to.
+    // Opens what the bytes of an outlet go to. If it fails, no part is left that was made for the other one and is not begun.
     fn open_sink(&self, outlet: Outlet, name: &str) -> io::Result<Sink>
         ensures opened { IfOk result (λ sink. IsTrue (is_opened_sink sink)) }
         ensures none { IfOk result (λ sink. gathered sink ≡ []) }
@@ -156,7 +159,40 @@ impl<'a> FileDesk<'a> {
             Outlet::Main => &self.report,
             Outlet::Report => &self.output,
         };
-        Sink::open(self.rt, name, &read, other)
+        let opened = Sink::open(self.rt, name, &read, other);
+        if opened.is_err() {
+            other.withdraw(self.rt);
+        }
+        opened
+    }
+
+    // Whether nothing was opened at the other outlet.
+    fn is_alone(&self, outlet: Outlet) -> bool {
+        match outlet {
+            Outlet::Main => self.report.is_nothing(),
+            Outlet::Report => self.output.is_nothing(),
+        }
+    }
+
+    // Begins to write what is opened for an outlet, and the other one, unless that is still to be opened.
+    fn begin(&mut self, outlet: Outlet, sink: &mut Sink) -> io::Result<()>
+        ensures opened { is_opened_sink sink.new ≡ is_opened_sink sink.old }
+        ensures steady { IsSteady sink.old sink.new }
+        ensures meaning { file_meanings self.new ≡ file_meanings self.old }
+        ensures same { sink_at self.new outlet ≡ sink_at self.old outlet }
+        ensures other { IsSteady (other_sink self.old outlet) (other_sink self.new outlet) }
+        ensures inlets { SameInlets self.old self.new }
+        ensures faults { self.new.write_faults ≡ self.old.write_faults }
+        ensures reads { self.new.read_faults ≡ self.old.read_faults }
+    {
+        if self.has_report && self.is_alone(outlet) {
+            return Ok(());
+        }
+        sink.begin(self.rt)?;
+        match outlet {
+            Outlet::Main => self.report.begin(self.rt),
+            Outlet::Report => self.output.begin(self.rt),
+        }
     }
 
     // Hands everything to the system that was gathered for both outlets, and finishes one of them. If the other one is
@@ -238,19 +274,22 @@ impl<'a> Desk for FileDesk<'a> {
         ensures cause { HasWriteCause (file_counts self.old) (file_counts self.new) result }
 
         // Nothing is gathered for the outlet, it is unfinished, and its name says whether it is standard output. At `Failed` it
-        // is as before, with what it gathered. The other one and both inlets always are.
+        // is as before, with what it gathered. The other one is kept, with what it gathered, and both inlets are as before.
         ensures none { OnOk result (gathered_at self.new outlet ≡ []) }
         ensures unfinished { OnOk result (IsTrue (unfinished_at self.new outlet)) }
         ensures standard { OnOk result
             (is_standard_output (sink_at self.new outlet) ≡ names_standard_output name.now) }
         ensures same { OnErr result (sink_at self.new outlet ≡ sink_at self.old outlet) }
-        ensures other { other_sink self.new outlet ≡ other_sink self.old outlet }
+        ensures other { IsSteady (other_sink self.old outlet) (other_sink self.new outlet) }
         ensures inlets { SameInlets self.old self.new }
         ensures pending { is_pending self.new ≡ is_pending self.old }
     {
-        let Ok(sink) = self.open_sink(outlet, name) else {
+        let Ok(mut sink) = self.open_sink(outlet, name) else {
             return Err(self.write_faults.fault());
         };
+        if self.begin(outlet, &mut sink).is_err() {
+            return Err(self.write_faults.fault());
+        }
         if sink.is_terminal(self.rt) {
             self.progress.hide();
         }

@@ -1,7 +1,7 @@
 //! Where the bytes of an outlet of real files go.
 
 ghost use Rattle.std.specs.Prelude.{◌≡◌, ◌≤◌, false, true, [], length, IsFalse, IsTrue, IfOk, IfSome, OnOk, OnErr};
-ghost use Rattle.desk_ports.specs.FileDesk.{gathered, is_opened_sink, is_standard_output, is_unfinished, names_standard_output, waits, IsKept};
+ghost use Rattle.desk_ports.specs.FileDesk.{gathered, is_opened_sink, is_standard_output, is_unfinished, names_standard_output, waits, IsKept, IsSteady};
 
 use crate::part::{Node, Part, refused};
 use std::fs::File;
@@ -53,6 +53,33 @@ impl Sink {
         let (file, part) = Part::open(rt, name, read, other.node(rt), other.part())?;
         let file = BufWriter::with_capacity(rt.alloc(), GATHERED, file)?;
         Ok(Sink::File(file, part, true))
+    }
+
+    /// Begins to be what is written. Before that an earlier part stands as it was, and takes no bytes.
+    pub fn begin(&mut self, rt: &HostRuntime) -> io::Result<()>
+        ensures opened { is_opened_sink self.new ≡ is_opened_sink self.old }
+        ensures steady { IsSteady self.old self.new }
+    {
+        if let Sink::File(writer, part, _) = self {
+            if let Some(part) = part {
+                if let Some(file) = part.begin(rt)? {
+                    *writer.get_mut() = file;
+                }
+            }
+        }
+        Ok(())
+    }
+
+    /// Removes a part that was made and is not begun.
+    pub fn withdraw(&self, rt: &HostRuntime) {
+        if let Some(part) = self.part() {
+            part.withdraw(rt);
+        }
+    }
+
+    /// Whether nothing was opened.
+    pub fn is_nothing(&self) -> bool {
+        matches!(self, Sink::Nothing)
     }
 
     /// Whether it is standard output, and that is a terminal.

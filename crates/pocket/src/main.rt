@@ -198,11 +198,18 @@ fn answer(rt: &HostRuntime, words: &[String]) -> ExitCode
     match Asked::by(words) {
         Some(asked) => printed(rt, asked.print(rt, words)),
         None => {
-            let mut desk = FileDesk::new(rt);
+            let mut desk = FileDesk::new(rt, names_report(words));
             let status = run(rt, first_words(words), &mut desk);
             ended(rt, words, status)
         }
     }
+}
+
+/// Whether a word names a report. A command has one then, or is refused for that word.
+fn names_report(words: &[String]) -> bool {
+    words
+        .iter()
+        .any(|word| word.as_str().starts_with("report="))
 }
 
 /// Runs the command at a desk of files at which nothing was opened. What is gathered there is handed over at the end,
