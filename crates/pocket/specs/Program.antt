@@ -3,9 +3,8 @@ use Rattle.std.specs.Prelude.{◌≡◌, ℕ, ◌≤◌, ◌⊎◌, List, [], �
 use Rattle.std.specs.Str.{bytes_eq}
 use Rattle.std.specs.String.{string_bytes}
 use Rattle.std.specs.declared.string.String.{String}
-use Rattle.desk_ports.specs.declared.desk.Outlet.TheVariants as outlet
 use Rattle.desk_ports.specs.declared.file.FileDesk.{FileDesk}
-use Rattle.desk_ports.specs.FileDesk.{file_counts, gathered_at}
+use Rattle.desk_ports.specs.FileDesk.{file_counts, GathersNothing}
 use Rattle.pocket_cmd.specs.declared.status.Refusal.TheVariants.{WriteFault}
 use Rattle.pocket_cmd.specs.declared.status.Status.{Status}
 use Rattle.pocket_cmd.specs.declared.status.Status.TheVariants.{Done, Refused}
@@ -34,10 +33,6 @@ asked_by (word ∷ next ∷ third ∷ rest) = None
 -- the words that are looked at
 abbrev pub seen : {Z : Type 0} → List (String Z) → List (List ℕ)
 seen words = map string_bytes (take 1000 words)
-
--- nothing is gathered for either output
-abbrev pub GathersNothing : FileDesk → Type 0
-GathersNothing desk = (gathered_at desk outlet.Main ≡ []) × (gathered_at desk outlet.Report ≡ [])
 
 -- nothing is gathered for either output, or a fault of writing was counted
 abbrev pub IsHandedOver : FileDesk → Type 0

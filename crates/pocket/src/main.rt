@@ -4,9 +4,9 @@
 ghost use Rattle.std.specs.Prelude.{◌≡◌, ℕ, ◌≤◌, ◌↔◌, ◌⊎◌, drop, is_some, length, map, take, Err, IsSome, None};
 ghost use Rattle.std.specs.Process.{exit_status};
 ghost use Rattle.std.specs.String.{string_bytes};
-ghost use Rattle.desk_ports.specs.FileDesk.{file_counts};
+ghost use Rattle.desk_ports.specs.FileDesk.{file_counts, GathersNothing};
 ghost use Rattle.desk_ports.specs.Meanings.{nothing_told};
-ghost use Rattle.pocket.specs.Program.{GathersNothing, IsHandedOver, answered, asked_by, asked_of, asked_of_verb, seen};
+ghost use Rattle.pocket.specs.Program.{IsHandedOver, answered, asked_by, asked_of, asked_of_verb, seen};
 ghost use Rattle.pocket_cmd.specs.Command.{HasCommand, command_of};
 ghost use Rattle.pocket_cmd.specs.Status.{exit_number};
 ghost use Rattle.pocket_cmd.specs.Verbs.{verb_of};
@@ -198,11 +198,18 @@ fn answer(rt: &HostRuntime, words: &[String]) -> ExitCode
     match Asked::by(words) {
         Some(asked) => printed(rt, asked.print(rt, words)),
         None => {
-            let mut desk = FileDesk::new(rt);
+            let mut desk = FileDesk::new(rt, names_report(words));
             let status = run(rt, first_words(words), &mut desk);
             ended(rt, words, status)
         }
     }
+}
+
+/// Whether a word names a report. A command has one then, or is refused for that word.
+fn names_report(words: &[String]) -> bool {
+    words
+        .iter()
+        .any(|word| word.as_str().starts_with("report="))
 }
 
 /// Runs the command at a desk of files at which nothing was opened. What is gathered there is handed over at the end,
