@@ -1,12 +1,15 @@
 """python3 -m pocket bits=BITS apid=APID: shows what is found of the Space Packets of standard input, each as it arrives.
 
-The lines are those of the command `show`, but that a written packet has its content alone.
+The lines are those of the command `show`, but that a written packet has its content alone. `python3 -m pocket TOOL ..` does what a
+tool says by `--help`: merge joins records of several stations.
 """
 
+import importlib
 import sys
 
 from . import Arrival, Kind, PocketError, Receiver, space_packets
 
+TOOLS = ("merge",)
 WORDS = {"bits": range(1, 49153), "apid": range(2047)}
 
 
@@ -35,6 +38,9 @@ def chosen(words):
 
 
 def main():
+    if sys.argv[1:2] and sys.argv[1] in TOOLS:
+        importlib.import_module("." + sys.argv[1], __package__).main(sys.argv[2:])
+        return
     bits, apid = chosen(sys.argv[1:])
     try:
         with Receiver(bits) as receiver:
