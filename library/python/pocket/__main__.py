@@ -1,7 +1,7 @@
 """python3 -m pocket bits=BITS apid=APID: shows what is found of the Space Packets of standard input, each as it arrives.
 
 The lines are those of the command `show`, but that a written packet has its content alone. `python3 -m pocket TOOL ..` does what a
-tool says by `--help`: merge joins records of several stations.
+tool says by `--help`: `frames` takes packets out of transfer frames, `merge` joins records of several stations.
 """
 
 import importlib
@@ -9,7 +9,7 @@ import sys
 
 from . import Arrival, Kind, PocketError, Receiver, space_packets
 
-TOOLS = ("merge",)
+TOOLS = ("frames", "merge")
 WORDS = {"bits": range(1, 49153), "apid": range(2047)}
 
 
