@@ -156,7 +156,7 @@ def definitions(folder):
         is_right = is_right and (header.first_header_pointer >= 0x7FE or header.first_header_pointer < len(data))
         wanted = frames.Frame(0, header.virtual_channel_id, header.virtual_channel_frame_count, header.first_header_pointer, data)
         try:
-            agreed += is_right and frames.frame_of(0, frame, False) == wanted
+            agreed += (frames.frame_of(0, frame, False) == wanted) and is_right
         except frames.FramesError:
             refused += not is_right
     judge(f"{agreed} frames agree and {refused} are refused by both", agreed + refused == 10000 and agreed > 3000 and refused > 3000)
