@@ -5,6 +5,7 @@ tool says by `--help`: `frames` takes packets out of transfer frames, `merge` jo
 """
 
 import importlib
+import os
 import sys
 
 from . import Arrival, Kind, PocketError, Receiver, space_packets
@@ -38,10 +39,19 @@ def chosen(words):
 
 
 def main():
-    if sys.argv[1:2] and sys.argv[1] in TOOLS:
-        importlib.import_module("." + sys.argv[1], __package__).main(sys.argv[2:])
-        return
-    bits, apid = chosen(sys.argv[1:])
+    try:
+        if sys.argv[1:2] and sys.argv[1] in TOOLS:
+            importlib.import_module("." + sys.argv[1], __package__).main(sys.argv[2:])
+        else:
+            show(*chosen(sys.argv[1:]))
+        sys.stdout.flush()
+    except BrokenPipeError:
+        os.dup2(os.open(os.devnull, os.O_WRONLY), 1)
+        sys.exit(1)
+
+
+def show(bits, apid):
+    """Shows what is found of the packets of standard input."""
     try:
         with Receiver(bits) as receiver:
             for packet in space_packets(open(0, "rb", buffering=0), apid):
@@ -51,8 +61,6 @@ def main():
             print(f"end {counts.packets} {counts.written} {counts.repeats}")
     except PocketError as refusal:
         sys.exit(f"pocket: {refusal}")
-    except BrokenPipeError:
-        sys.exit(1)
 
 
 if __name__ == "__main__":

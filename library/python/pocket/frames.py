@@ -235,5 +235,3 @@ def main(words: List[str]) -> None:
     except FramesError as refusal:
         sys.stdout.buffer.flush()
         sys.exit(f"pocket frames: {refusal}")
-    except BrokenPipeError:
-        sys.exit(1)

@@ -272,5 +272,3 @@ def main(words: List[str]) -> None:
         sys.stdout.buffer.flush()
     except MergeError as refusal:
         sys.exit(f"pocket merge: {refusal}")
-    except BrokenPipeError:
-        sys.exit(1)
