@@ -10,6 +10,7 @@ import random
 import sys
 
 from pocket import frames
+from pocket.tool import ToolError
 
 ROUNDS = 150
 results = []
@@ -107,7 +108,7 @@ def passes(draw):
 def refusal_of(call):
     try:
         call()
-    except frames.FramesError as error:
+    except ToolError as error:
         return str(error)
     return None
 
@@ -130,10 +131,10 @@ def rows():
         (lambda: taken(one[:4] + b"\x18\x09" + one[6:], length=15), "the frame at byte 0 points past its data for its first packet: length= may not be its length"),
         (lambda: taken(frame_of(2, 7, 0, b"", False, operational=b"clcw"), length=10), "the frame at byte 0 has no room for data: length= may not be its length"),
         (lambda: taken(one + frame_of(3, 7, 0, packet, False), length=15), "the frame at byte 15 is of virtual channel 3, and those before it of 2: say vcid="),
-        (lambda: frames.choice_of([]), "length= is missing: the bytes of a frame, without its mark"),
+        (lambda: frames.choice_of([]), "length= is missing"),
         (lambda: frames.choice_of(["length=7"]), "length=7: length= takes a number from 8 to 2048"),
-        (lambda: frames.choice_of(["length=8", "length=9"]), "length=9: the words are length=, vcid=, sync= and control=, each once at most"),
-        (lambda: frames.choice_of(["size=8"]), "size=8: the words are length=, vcid=, sync= and control=, each once at most"),
+        (lambda: frames.choice_of(["length=8", "length=9"]), "length= is given twice"),
+        (lambda: frames.choice_of(["size=8"]), "size=8: the words are length=, vcid=, sync=, control="),
     ]
     for call, wanted in refused:
         found = refusal_of(call)
@@ -157,7 +158,7 @@ def definitions(folder):
         wanted = frames.Frame(0, header.virtual_channel_id, header.virtual_channel_frame_count, header.first_header_pointer, data)
         try:
             agreed += (frames.frame_of(0, frame, False) == wanted) and is_right
-        except frames.FramesError:
+        except ToolError:
             refused += not is_right
     judge(f"{agreed} frames agree and {refused} are refused by both", agreed + refused == 10000 and agreed > 3000 and refused > 3000)
 

@@ -9,6 +9,7 @@ import os
 import sys
 
 from . import Arrival, Kind, PocketError, Receiver, space_packets
+from .tool import ToolError
 
 TOOLS = ("frames", "merge")
 WORDS = {"bits": range(1, 49153), "apid": range(2047)}
@@ -41,13 +42,25 @@ def chosen(words):
 def main():
     try:
         if sys.argv[1:2] and sys.argv[1] in TOOLS:
-            importlib.import_module("." + sys.argv[1], __package__).main(sys.argv[2:])
+            use(sys.argv[1], sys.argv[2:])
         else:
             show(*chosen(sys.argv[1:]))
         sys.stdout.flush()
     except BrokenPipeError:
         os.dup2(os.open(os.devnull, os.O_WRONLY), 1)
         sys.exit(1)
+
+
+def use(tool, words):
+    """Does what a tool does, or prints how it is used."""
+    module = importlib.import_module("." + tool, __package__)
+    if words in (["--help"], ["-h"]):
+        print(module.__doc__.rstrip())
+        return
+    try:
+        module.run(words)
+    except ToolError as refusal:
+        sys.exit(f"pocket {tool}: {refusal}")
 
 
 def show(bits, apid):

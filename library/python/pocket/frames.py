@@ -18,19 +18,16 @@ from __future__ import annotations
 import binascii
 import sys
 from dataclasses import dataclass, field
-from typing import BinaryIO, Callable, Dict, Iterator, List, NamedTuple, Optional, Tuple
+from typing import BinaryIO, Callable, Iterator, List, NamedTuple, Optional, Tuple
+
+from .tool import IDLE, ToolError, given, number_of, read
 
 MARK = bytes.fromhex("1ACFFC1D")
 # What the pointer to the first header says if no packet begins in the frame, and if the frame has idle data alone.
 NO_PACKET, IDLE_DATA = 0x7FF, 0x7FE
-IDLE_APID = 2047
 KEYS = {"length": (8, 2048), "vcid": (0, 7), "sync": (0, 1), "control": (0, 1)}
 
 Tell = Callable[[str], None]
-
-
-class FramesError(ValueError):
-    """Words that say nothing, or frames of another kind."""
 
 
 class Frame(NamedTuple):
@@ -48,31 +45,22 @@ def frame_of(place: int, whole: bytes, has_control: bool) -> Frame:
     """The parts of a frame, whose error control was looked at."""
     identifier, _, count, status = (int.from_bytes(whole[at:to], "big") for at, to in ((0, 2), (2, 3), (3, 4), (4, 6)))
     if identifier >> 14:
-        raise FramesError(f"the frame at byte {place} is of another version")
+        raise ToolError(f"the frame at byte {place} is of another version")
     if status >> 14 & 1:
-        raise FramesError(f"the frame at byte {place} carries no packets, by its synchronization flag")
+        raise ToolError(f"the frame at byte {place} carries no packets, by its synchronization flag")
     start = 6 + ((whole[6] & 0x3F) + 1 if status >> 15 else 0)
     end = len(whole) - 4 * (identifier & 1) - 2 * has_control
     if start >= end:
-        raise FramesError(f"the frame at byte {place} has no room for data: length= may not be its length")
+        raise ToolError(f"the frame at byte {place} has no room for data: length= may not be its length")
     first = status & 0x7FF
     if first < IDLE_DATA and first >= end - start:
-        raise FramesError(f"the frame at byte {place} points past its data for its first packet: length= may not be its length")
+        raise ToolError(f"the frame at byte {place} points past its data for its first packet: length= may not be its length")
     return Frame(place, identifier >> 1 & 7, count, first, whole[start:end])
 
 
 def is_whole(frame: bytes) -> bool:
     """Whether the error control of a frame is right: the remainder by x^16 + x^12 + x^5 + 1, begun with ones."""
     return binascii.crc_hqx(frame, 0xFFFF) == 0
-
-
-def read(source: BinaryIO, number: int) -> bytes:
-    """So many bytes, or fewer at the end."""
-    parts: List[bytes] = []
-    while number and (part := source.read(number)):
-        parts.append(part)
-        number -= len(part)
-    return b"".join(parts)
 
 
 def plain(source: BinaryIO, length: int, tell: Tell) -> Iterator[Tuple[int, bytes]]:
@@ -157,7 +145,7 @@ class Packets:
             if len(self.gathered) < size:
                 return
             packet, self.gathered = self.gathered[:size], self.gathered[size:]
-            if int.from_bytes(packet[:2], "big") & 0x7FF != IDLE_APID:
+            if int.from_bytes(packet[:2], "big") & 0x7FF != IDLE:
                 yield packet
         self.is_within = bool(self.gathered)
 
@@ -174,18 +162,9 @@ class Choice:
 
 def choice_of(words: List[str]) -> Choice:
     """What the words say."""
-    given: Dict[str, int] = {}
-    for word in words:
-        key, _, text = word.partition("=")
-        if key not in KEYS or key in given:
-            raise FramesError(f"{word}: the words are length=, vcid=, sync= and control=, each once at most")
-        least, most = KEYS[key]
-        if not (text.isascii() and text.isdecimal() and len(text) < 6 and least <= int(text) <= most):
-            raise FramesError(f"{word}: {key}= takes a number from {least} to {most}")
-        given[key] = int(text)
-    if "length" not in given:
-        raise FramesError("length= is missing: the bytes of a frame, without its mark")
-    return Choice(given["length"], given.get("vcid"), bool(given.get("sync")), bool(given.get("control")))
+    said = given(words, list(KEYS), ["length"])
+    found = {key: number_of(said, key, *bounds) for key, bounds in KEYS.items()}
+    return Choice(found["length"] or 0, found["vcid"], bool(found["sync"]), bool(found["control"]))
 
 
 @dataclass
@@ -203,7 +182,7 @@ class Channel:
         if self.vcid is None:
             self.vcid = frame.channel
         if frame.channel != self.vcid and not self.was_said:
-            raise FramesError(f"the frame at byte {frame.place} is of virtual channel {frame.channel}, and those before it of {self.vcid}: say vcid=")
+            raise ToolError(f"the frame at byte {frame.place} is of virtual channel {frame.channel}, and those before it of {self.vcid}: say vcid=")
         return frame.channel == self.vcid
 
 
@@ -222,16 +201,11 @@ def packets(source: BinaryIO, choice: Choice, tell: Tell) -> Iterator[bytes]:
         taken.drop("the frames end")
 
 
-def main(words: List[str]) -> None:
-    """Writes the store of the frames of standard input to standard output, or ends with what is wrong."""
-    if words in (["--help"], ["-h"]):
-        print(__doc__.rstrip())
-        return
+def run(words: List[str]) -> None:
+    """Writes the store of the frames of standard input to standard output."""
+    choice = choice_of(words)
     try:
-        choice = choice_of(words)
         for packet in packets(sys.stdin.buffer, choice, lambda text: print(f"pocket frames: {text}", file=sys.stderr)):
             sys.stdout.buffer.write(packet)
+    finally:
         sys.stdout.buffer.flush()
-    except FramesError as refusal:
-        sys.stdout.buffer.flush()
-        sys.exit(f"pocket frames: {refusal}")

@@ -23,16 +23,12 @@ from __future__ import annotations
 import sys
 from collections import defaultdict
 from dataclasses import dataclass, field
-from typing import BinaryIO, Dict, Iterator, List, NamedTuple, Optional, Tuple
+from typing import Dict, Iterator, List, NamedTuple, Optional, Tuple
 
-PERIOD = 16384
-IDLE = 2047
+from .tool import IDLE, PERIOD, ToolError, contents, number
+
 # So many packets that both records have must differ from the one before, so that a stream which stays the same isn't taken to fit by chance.
 TELLING = 3
-
-
-class MergeError(ValueError):
-    """Records that can't be joined, or words that say nothing."""
 
 
 class Packet(NamedTuple):
@@ -62,10 +58,10 @@ class Stream:
         step = (packet.count - before.count) % PERIOD
         if step == 0:
             if packet.whole != before.whole:
-                raise MergeError(differ(self.name, before, self.name, packet))
+                raise ToolError(differ(self.name, before, self.name, packet))
             return
         if step >= PERIOD // 2:
-            raise MergeError(f"{self.name}: from the packet of APID {packet.apid} at byte {before.place} to the one at byte {packet.place} "
+            raise ToolError(f"{self.name}: from the packet of APID {packet.apid} at byte {before.place} to the one at byte {packet.place} "
                              f"the count goes from {before.count} to {packet.count}: the record is not in order there, or too many are lost")
         self.packets.append(packet)
         self.numbers.append(self.numbers[-1] + step)
@@ -90,9 +86,9 @@ def packets_of(name: str, record: bytes) -> Iterator[Packet]:
     while at < len(record):
         end = at + 7 + int.from_bytes(record[at + 4:at + 6], "big")
         if at + 6 > len(record) or end > len(record):
-            raise MergeError(f"{name}: the packet at byte {at} is cut")
+            raise ToolError(f"{name}: the packet at byte {at} is cut")
         if record[at] >> 5:
-            raise MergeError(f"{name}: at byte {at} begins no Space Packet")
+            raise ToolError(f"{name}: at byte {at} begins no Space Packet")
         apid = int.from_bytes(record[at:at + 2], "big") & 0x7FF
         if apid != IDLE:
             yield Packet(apid, int.from_bytes(record[at + 2:at + 4], "big") & 0x3FFF, at, record[at:end])
@@ -150,11 +146,11 @@ def found_shift(known: Dict[int, Packet], stream: Stream, first: str, apid: int)
         return told[0].shift
     say = f"say after={apid}:N, the number in {first} after which {stream.name} begins"
     if whole:
-        raise MergeError(f"{stream.name}: its packets of APID {apid} fit {first} at {'more than one place' if len(whole) > 1 else 'one place by too few packets'}: {say}")
+        raise ToolError(f"{stream.name}: its packets of APID {apid} fit {first} at {'more than one place' if len(whole) > 1 else 'one place by too few packets'}: {say}")
     best = max(found, key=lambda place: place.telling, default=None)
     if best is not None and best.apart and best.telling >= TELLING:
-        raise MergeError(differ(first, best.apart[0], stream.name, best.apart[1]))
-    raise MergeError(f"{stream.name}: none of its packets of APID {apid} is in {first}: {say}")
+        raise ToolError(differ(first, best.apart[0], stream.name, best.apart[1]))
+    raise ToolError(f"{stream.name}: none of its packets of APID {apid} is in {first}: {say}")
 
 
 def given_shift(stream: Stream, after: int) -> int:
@@ -180,7 +176,7 @@ class Merged:
             for number, packet in zip(stream.numbers, stream.packets):
                 other = known.setdefault(number + shift, packet)
                 if other.whole != packet.whole:
-                    raise MergeError(differ(before, other, name, packet))
+                    raise ToolError(differ(before, other, name, packet))
                 self.order.append((apid, number + shift))
         self.names.append(name)
 
@@ -203,28 +199,23 @@ class Record:
 
     def begins(self, told: str) -> None:
         """Takes what a word `after=` says."""
-        apid, colon, number = told.rpartition(":")
-        if not is_number(number, 2**32) or (colon and not is_number(apid, IDLE)):
-            raise MergeError(f"after={told}: after= takes N or APID:N, a number below 4294967296 and an APID below 2047")
-        key = int(apid) if colon else None
-        if key in self.after:
-            raise MergeError(f"after={told} is said twice of {self.name}")
-        self.after[key] = int(number)
+        apid, colon, text = told.rpartition(":")
+        start, own = number(text, 0, 2**32 - 1), number(apid, 0, IDLE - 1)
+        if start is None or (colon and own is None):
+            raise ToolError(f"after={told}: after= takes N or APID:N, a number below 4294967296 and an APID below 2047")
+        if own in self.after:
+            raise ToolError(f"after={told} is said twice of {self.name}")
+        self.after[own] = start
 
-    def streams(self, source: BinaryIO) -> Streams:
+    def streams(self) -> Streams:
         """The packets of the record, if what was said of its beginning belongs to them."""
-        streams = streams_of(self.name, source.read())
+        streams = streams_of(self.name, contents(self.name))
         strange = [apid for apid in self.after if apid is not None and apid not in streams]
         if strange:
-            raise MergeError(f"{self.name} has no packet of APID {strange[0]}, which after= names")
+            raise ToolError(f"{self.name} has no packet of APID {strange[0]}, which after= names")
         if None in self.after and len(streams) > 1:
-            raise MergeError(f"{self.name} has packets of {len(streams)} APIDs: say after=APID:N")
+            raise ToolError(f"{self.name} has packets of {len(streams)} APIDs: say after=APID:N")
         return streams
-
-
-def is_number(text: str, most: int) -> bool:
-    """Whether a text is a number below another one, in digits."""
-    return text.isascii() and text.isdecimal() and len(text) <= 10 and int(text) < most
 
 
 def records_of(words: List[str]) -> List[Record]:
@@ -234,41 +225,20 @@ def records_of(words: List[str]) -> List[Record]:
         if not word.startswith("after="):
             records.append(Record(word))
         elif len(records) < 2:
-            raise MergeError(f"{word} follows the record that it is said of, which isn't the first one")
+            raise ToolError(f"{word} follows the record that it is said of, which isn't the first one")
         else:
             records[-1].begins(word[len("after="):])
     if len(records) < 2:
-        raise MergeError("merge takes two records or more")
+        raise ToolError("merge takes two records or more")
     if [record.name for record in records].count("-") > 1:
-        raise MergeError("standard input is one record")
+        raise ToolError("standard input is one record")
     return records
 
 
-def merged(words: List[str]) -> Merged:
-    """The records that the words name, in one."""
+def run(words: List[str]) -> None:
+    """Writes the store of the records to standard output."""
     joined = Merged()
     for record in records_of(words):
-        try:
-            if record.name == "-":
-                streams = record.streams(sys.stdin.buffer)
-            else:
-                with open(record.name, "rb") as source:
-                    streams = record.streams(source)
-        except OSError as error:
-            raise MergeError(f"{record.name}: {error.strerror}") from error
-        joined.add(record.name, streams, record.after)
-    return joined
-
-
-def main(words: List[str]) -> None:
-    """Writes the store of the records to standard output, or ends with what is wrong."""
-    if words in (["--help"], ["-h"]):
-        print(__doc__.rstrip())
-        return
-    try:
-        joined = merged(words)
-        for packet in joined.store():
-            sys.stdout.buffer.write(packet)
-        sys.stdout.buffer.flush()
-    except MergeError as refusal:
-        sys.exit(f"pocket merge: {refusal}")
+        joined.add(record.name, record.streams(), record.after)
+    for packet in joined.store():
+        sys.stdout.buffer.write(packet)
