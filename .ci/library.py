@@ -184,6 +184,7 @@ def tries():
                ("each allocation refused", refused_memory), ("a million random bytes", random_bytes), ("calls from Python", python_calls),
                ("the module shows a store", shows), ("records of stations joined", lambda room: tool(room, "merge")),
                ("packets out of frames", lambda room: tool(room, "frames")), ("the headers of 10,000 frames", frame_headers),
+               ("tables with numbers and times, and back", lambda room: tool(room, "tables")),
                ("random histories", histories), ("the examples", examples),
                ("the program in C of docs/CALLING.md", lambda room: printed(room, "c")), ("the program in Python of docs/CALLING.md", lambda room: printed(room, "python"))])
 

@@ -1,7 +1,8 @@
 """python3 -m pocket bits=BITS apid=APID: shows what is found of the Space Packets of standard input, each as it arrives.
 
 The lines are those of the command `show`, but that a written packet has its content alone. `python3 -m pocket TOOL ..` does what a
-tool says by `--help`: `frames` takes packets out of transfer frames, `merge` joins records of several stations.
+tool says by `--help`: `frames` takes packets out of transfer frames, `merge` joins records of several stations, `numbers` gives a table
+its packets' numbers and times, `pack` makes a recording of a table.
 """
 
 import importlib
@@ -11,7 +12,7 @@ import sys
 from . import Arrival, Kind, PocketError, Receiver, space_packets
 from .tool import ToolError
 
-TOOLS = ("frames", "merge")
+TOOLS = ("frames", "merge", "numbers", "pack")
 WORDS = {"bits": range(1, 49153), "apid": range(2047)}
 
 
