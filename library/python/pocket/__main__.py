@@ -1,8 +1,10 @@
 """python3 -m pocket bits=BITS apid=APID: shows what is found of the Space Packets of standard input, each as it arrives.
 
-The lines are those of the command `show`, but that a written packet has its content alone. `python3 -m pocket TOOL ..` does what a
-tool says by `--help`: `frames` takes packets out of transfer frames, `merge` joins records of several stations, `numbers` gives a table
-its packets' numbers and times, `pack` makes a recording of a table.
+The lines are those of the command `show`, but that a written packet has its content alone.
+
+`python3 -m pocket TOOL ..` does what a tool says by `--help`: `advise` finds a schedule for an assumed loss, `frames` takes packets out of
+transfer frames, `merge` joins records of several stations, `numbers` gives a table its packets' numbers and times, `pack` makes a
+recording of a table.
 """
 
 import importlib
@@ -12,7 +14,7 @@ import sys
 from . import Arrival, Kind, PocketError, Receiver, space_packets
 from .tool import ToolError
 
-TOOLS = ("frames", "merge", "numbers", "pack")
+TOOLS = ("advise", "frames", "merge", "numbers", "pack")
 WORDS = {"bits": range(1, 49153), "apid": range(2047)}
 
 
