@@ -1,6 +1,6 @@
 -- What a desk over real files tells: of each inlet and outlet whether it was opened, and no content. And what it has
 -- gathered, and what stands at each inlet and outlet.
-use Rattle.std.specs.Prelude.{◌≡◌, Bool, true, false, ◌||◌, ℕ, List, [], codes, is_some}
+use Rattle.std.specs.Prelude.{◌≡◌, Bool, true, false, IsFalse, ◌||◌, ℕ, List, [], codes, is_some}
 use Rattle.std.specs.Bool.{OnFalse}
 use Rattle.std.specs.Io.Buffered.{writer_buffer}
 use Rattle.std.specs.Str.{bytes_eq}
@@ -22,8 +22,8 @@ is_opened_source (source.File file live) = true
 
 abbrev pub is_opened_sink : Sink → Bool
 is_opened_sink sink.Nothing = false
-is_opened_sink (sink.StandardOutput stdout) = true
-is_opened_sink (sink.File file part) = true
+is_opened_sink (sink.StandardOutput stdout unfinished) = true
+is_opened_sink (sink.File file part unfinished) = true
 
 abbrev pub file_meanings : FileDesk → Meanings
 file_meanings desk = untold (is_opened_source desk.side) (is_opened_source desk.input) (is_opened_sink desk.output) (is_opened_sink desk.report)
@@ -34,24 +34,43 @@ file_counts desk = record { reads = desk.read_faults.count; writes = desk.write_
 -- the bytes that were written to a sink and not yet handed to the system
 abbrev pub gathered : Sink → List ℕ
 gathered sink.Nothing = []
-gathered (sink.StandardOutput stdout) = writer_buffer stdout
-gathered (sink.File file part) = writer_buffer file
+gathered (sink.StandardOutput stdout unfinished) = writer_buffer stdout
+gathered (sink.File file part unfinished) = writer_buffer file
 
 -- those of an outlet
 abbrev pub gathered_at : FileDesk → Outlet → List ℕ
 gathered_at desk outlet.Main = gathered desk.output
 gathered_at desk outlet.Report = gathered desk.report
 
+-- nothing is gathered for either output
+abbrev pub GathersNothing : FileDesk → Type 0
+GathersNothing desk = (gathered_at desk outlet.Main ≡ []) × (gathered_at desk outlet.Report ≡ [])
+
 -- whether a part waits for its name
 abbrev pub waits : Sink → Bool
 waits sink.Nothing = false
-waits (sink.StandardOutput stdout) = false
-waits (sink.File file part) = is_some part
+waits (sink.StandardOutput stdout unfinished) = false
+waits (sink.File file part unfinished) = is_some part
 
 -- the same for an outlet
 abbrev pub waits_at : FileDesk → Outlet → Bool
 waits_at desk outlet.Main = waits desk.output
 waits_at desk outlet.Report = waits desk.report
+
+-- the sink was opened, or written to, and not finished since
+abbrev pub is_unfinished : Sink → Bool
+is_unfinished sink.Nothing = false
+is_unfinished (sink.StandardOutput stdout unfinished) = unfinished
+is_unfinished (sink.File file part unfinished) = unfinished
+
+-- the same of an outlet
+abbrev pub unfinished_at : FileDesk → Outlet → Bool
+unfinished_at desk outlet.Main = is_unfinished desk.output
+unfinished_at desk outlet.Report = is_unfinished desk.report
+
+-- nothing is gathered for either output, and each that was opened is finished
+abbrev pub IsWhole : FileDesk → Type 0
+IsWhole desk = GathersNothing desk × IsFalse (unfinished_at desk outlet.Main) × IsFalse (unfinished_at desk outlet.Report)
 
 -- the source is standard input
 abbrev pub is_standard_input : Source → Bool
@@ -68,8 +87,8 @@ is_live (source.File file live) = live
 -- the sink is standard output
 abbrev pub is_standard_output : Sink → Bool
 is_standard_output sink.Nothing = false
-is_standard_output (sink.StandardOutput stdout) = true
-is_standard_output (sink.File file part) = false
+is_standard_output (sink.StandardOutput stdout unfinished) = true
+is_standard_output (sink.File file part unfinished) = false
 
 -- it is the name of standard input
 abbrev pub names_standard_input : List ℕ → Bool
@@ -108,11 +127,20 @@ SameInlets old new = (new.side ≡ old.side) × (new.input ≡ old.input)
 abbrev pub SameOutlets : FileDesk → FileDesk → Type 0
 SameOutlets old new = (new.output ≡ old.output) × (new.report ≡ old.report)
 
--- each output stays standard output, or a file, and its part waits for its name as before
+-- a sink stays standard output, or a file, its part waits for its name as before, and it is finished if it was
+pub record IsKept (old new : Sink) : Type 0 where
+  pub standard : is_standard_output new ≡ is_standard_output old
+  pub waits : waits new ≡ waits old
+  pub unfinished : is_unfinished new ≡ is_unfinished old
+
+-- and what it gathered is as before
+pub record IsSteady (old new : Sink) : Type 0 where
+  pub kept : IsKept old new
+  pub gathered : gathered new ≡ gathered old
+
+-- both outlets are kept
 abbrev pub KeepsOutlets : FileDesk → FileDesk → Type 0
-KeepsOutlets old new =
-    (is_standard_output new.output ≡ is_standard_output old.output) × (is_standard_output new.report ≡ is_standard_output old.report)
-    × (waits new.output ≡ waits old.output) × (waits new.report ≡ waits old.report)
+KeepsOutlets old new = IsKept old.output new.output × IsKept old.report new.report
 
 -- a writing failed while something else was done, and no call has answered for it
 abbrev pub is_pending : FileDesk → Bool
@@ -120,4 +148,4 @@ is_pending desk = desk.write_faults.pending
 
 -- what was gathered for both outputs was handed to the system, or a failed writing is pending
 abbrev pub IsHandedOn : FileDesk → Type 0
-IsHandedOn desk = OnFalse (is_pending desk) ((gathered desk.output ≡ []) × (gathered desk.report ≡ []))
+IsHandedOn desk = OnFalse (is_pending desk) (GathersNothing desk)

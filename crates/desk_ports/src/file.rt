@@ -4,7 +4,8 @@ ghost use Rattle.std.specs.Prelude.{◌≡◌, ◌≤◌, ◌<◌, false, [], le
 ghost use Rattle.std.specs.Bool.{OnFalse, OnTrue};
 ghost use Rattle.std.specs.Io.KnownBytes.{IsAtEnd};
 ghost use Rattle.desk_ports.specs.Meanings.{nothing_told, Adds, Begins, HasReadCause, HasWriteCause, IsReadyIn, IsReadyOut, Keeps, Moves, Opens, left};
-ghost use Rattle.desk_ports.specs.FileDesk.{file_counts, file_meanings, gathered, gathered_at, is_live, is_opened_sink, is_pending, is_standard_input, is_standard_output, names_standard_input, names_standard_output, other_sink, other_source, sink_at, source_at, waits, waits_at, IsHandedOn, KeepsOutlets, SameInlets, SameOutlets};
+ghost use Rattle.desk_ports.specs.Parts.{other_than};
+ghost use Rattle.desk_ports.specs.FileDesk.{file_counts, file_meanings, gathered, gathered_at, is_live, is_opened_sink, is_pending, is_standard_input, is_standard_output, is_unfinished, names_standard_input, names_standard_output, other_sink, other_source, sink_at, source_at, unfinished_at, waits_at, GathersNothing, IsHandedOn, IsSteady, IsWhole, KeepsOutlets, SameInlets, SameOutlets};
 
 use crate::desk::{Desk, Failed, Inlet, Outlet};
 use crate::progress::Progress;
@@ -22,13 +23,15 @@ use std::io;
 /// before each read of an inlet that is no regular file, since it may wait for bytes that are still to come. A failure
 /// there is answered by the next write, `finish` or `hand_over`.
 ///
-/// An output appears under its name when it is complete: it is written to a part beside the name, `NAME.part`, which
-/// takes the name at `finish`. Until then the name keeps what it had. If the name is that of something other than a
+/// An output appears under its name when all that is open is complete: it is written to a part beside the name, `NAME.part`,
+/// which takes the name at the `finish` after which no outlet is unfinished, when everything of both was handed to the
+/// system; the output's part first, and then the report's. Until then the name keeps what it had. If the name is that of something other than a
 /// regular file, such as a device or a pipe, it is written directly. If standard error is a terminal, a line there shows
 /// how far the main input is.
 #[derive(Drop)]
 pub struct FileDesk<'a> {
     rt: &'a HostRuntime,
+    has_report: bool,
     side: Source,
     input: Source,
     output: Sink,
@@ -39,15 +42,18 @@ pub struct FileDesk<'a> {
 }
 
 impl<'a> FileDesk<'a> {
-    /// A desk on which nothing was opened. It grants every name.
-    pub fn new(rt: &'a HostRuntime) -> FileDesk<'a>
+    /// A desk on which nothing was opened. It grants every name. If it has a report, no earlier part is replaced before both
+    /// outlets were opened, and until then the first one takes no bytes.
+    pub fn new(rt: &'a HostRuntime, has_report: bool) -> FileDesk<'a>
         ensures untold { ⟦<FileDesk<'a> as Desk>⟧.meaning result ≡ nothing_told }
         ensures no_faults { ⟦<FileDesk<'a> as Desk>⟧.counts result
             ≡ record { reads = 0; writes = 0 } }
         ensures settled { IsFalse (is_pending result) }
+        ensures finished { (outlet : Outlet) → IsFalse (unfinished_at result outlet) }
     {
         FileDesk {
             rt,
+            has_report,
             side: Source::Nothing,
             input: Source::Nothing,
             output: Sink::Nothing,
@@ -65,10 +71,11 @@ impl<'a> FileDesk<'a> {
             ≡ ⟦<FileDesk<'a> as Desk>⟧.meaning self.old }
         ensures cause { HasWriteCause (⟦<FileDesk<'a> as Desk>⟧.counts self.old)
             (⟦<FileDesk<'a> as Desk>⟧.counts self.new) result }
-        ensures main { OnOk result (gathered_at self.new Outlet.Main ≡ []) }
-        ensures report { OnOk result (gathered_at self.new Outlet.Report ≡ []) }
+        ensures handed { OnOk result (GathersNothing self.new) }
         ensures waits { (outlet : Outlet)
             → waits_at self.new outlet ≡ waits_at self.old outlet }
+        ensures unfinished { (outlet : Outlet)
+            → unfinished_at self.new outlet ≡ unfinished_at self.old outlet }
         ensures inlets { SameInlets self.old self.new }
         ensures told { IsTrue (is_pending self.old) → IsErr result }
         ensures settled { IsFalse (is_pending self.new) }
@@ -139,10 +146,11 @@ impl<'a> FileDesk<'a> {
         }
     }
 
-    // Opens what the bytes of an outlet go to.
+    // Opens what the bytes of an outlet go to. If it fails, no part is left that was made for the other one and is not begun.
     fn open_sink(&self, outlet: Outlet, name: &str) -> io::Result<Sink>
         ensures opened { IfOk result (λ sink. IsTrue (is_opened_sink sink)) }
         ensures none { IfOk result (λ sink. gathered sink ≡ []) }
+        ensures unfinished { IfOk result (λ sink. IsTrue (is_unfinished sink)) }
         ensures standard { IfOk result
             (λ sink. is_standard_output sink ≡ names_standard_output name.now) }
     {
@@ -151,7 +159,77 @@ impl<'a> FileDesk<'a> {
             Outlet::Main => &self.report,
             Outlet::Report => &self.output,
         };
-        Sink::open(self.rt, name, &read, other)
+        let opened = Sink::open(self.rt, name, &read, other);
+        if opened.is_err() {
+            other.withdraw(self.rt);
+        }
+        opened
+    }
+
+    // Whether nothing was opened at the other outlet.
+    fn is_alone(&self, outlet: Outlet) -> bool {
+        match outlet {
+            Outlet::Main => self.report.is_nothing(),
+            Outlet::Report => self.output.is_nothing(),
+        }
+    }
+
+    // Begins to write what is opened for an outlet, and the other one, unless that is still to be opened.
+    fn begin(&mut self, outlet: Outlet, sink: &mut Sink) -> io::Result<()>
+        ensures opened { is_opened_sink sink.new ≡ is_opened_sink sink.old }
+        ensures steady { IsSteady sink.old sink.new }
+        ensures meaning { file_meanings self.new ≡ file_meanings self.old }
+        ensures same { sink_at self.new outlet ≡ sink_at self.old outlet }
+        ensures other { IsSteady (other_sink self.old outlet) (other_sink self.new outlet) }
+        ensures inlets { SameInlets self.old self.new }
+        ensures faults { self.new.write_faults ≡ self.old.write_faults }
+        ensures reads { self.new.read_faults ≡ self.old.read_faults }
+    {
+        if self.has_report && self.is_alone(outlet) {
+            return Ok(());
+        }
+        sink.begin(self.rt)?;
+        match outlet {
+            Outlet::Main => self.report.begin(self.rt),
+            Outlet::Report => self.output.begin(self.rt),
+        }
+    }
+
+    // Hands everything to the system that was gathered for both outlets, and finishes one of them. If the other one is
+    // finished too, both parts take their names, which is last of all.
+    fn end(&mut self, outlet: Outlet) -> io::Result<()>
+        requires { IsReadyOut (file_meanings self.old) outlet }
+        ensures meaning { file_meanings self.new ≡ file_meanings self.old }
+        ensures faults { self.new.write_faults ≡ self.old.write_faults }
+        ensures reads { self.new.read_faults ≡ self.old.read_faults }
+        ensures handed { OnOk result (GathersNothing self.new) }
+        ensures finished { OnOk result (IsFalse (unfinished_at self.new outlet)) }
+        ensures other { unfinished_at self.new (other_than outlet)
+            ≡ unfinished_at self.old (other_than outlet) }
+        ensures standard { (outlet : Outlet) → is_standard_output (sink_at self.new outlet)
+            ≡ is_standard_output (sink_at self.old outlet) }
+        ensures inlets { SameInlets self.old self.new }
+        ensures named { OnOk result (IsFalse (unfinished_at self.old (other_than outlet))
+            → (outlet : Outlet) → IsFalse (waits_at self.new outlet)) }
+        ensures whole { (outlet : Outlet) → IsTrue (waits_at self.old outlet)
+            → IsFalse (waits_at self.new outlet) → IsWhole self.new }
+        ensures order { IsTrue (waits_at self.new Outlet.Main)
+            → waits_at self.new Outlet.Report ≡ waits_at self.old Outlet.Report }
+        ensures waits { (outlet : Outlet) → IsFalse (waits_at self.old outlet)
+            → IsFalse (waits_at self.new outlet) }
+    {
+        self.output.flush()?;
+        self.report.flush()?;
+        match outlet {
+            Outlet::Main => self.output.finish()?,
+            Outlet::Report => self.report.finish()?,
+        }
+        if self.output.is_unfinished() || self.report.is_unfinished() {
+            return Ok(());
+        }
+        self.report.stands(self.rt)?;
+        self.output.take_name(self.rt)?;
+        self.report.take_name(self.rt)
     }
 }
 
@@ -195,19 +273,23 @@ impl<'a> Desk for FileDesk<'a> {
         ensures unchanged { OnErr result (file_meanings self.new ≡ file_meanings self.old) }
         ensures cause { HasWriteCause (file_counts self.old) (file_counts self.new) result }
 
-        // Nothing is gathered for the outlet, and its name says whether it is standard output. At `Failed` it is as before,
-        // with what it gathered. The other one and both inlets always are.
+        // Nothing is gathered for the outlet, it is unfinished, and its name says whether it is standard output. At `Failed` it
+        // is as before, with what it gathered. The other one is kept, with what it gathered, and both inlets are as before.
         ensures none { OnOk result (gathered_at self.new outlet ≡ []) }
+        ensures unfinished { OnOk result (IsTrue (unfinished_at self.new outlet)) }
         ensures standard { OnOk result
             (is_standard_output (sink_at self.new outlet) ≡ names_standard_output name.now) }
         ensures same { OnErr result (sink_at self.new outlet ≡ sink_at self.old outlet) }
-        ensures other { other_sink self.new outlet ≡ other_sink self.old outlet }
+        ensures other { IsSteady (other_sink self.old outlet) (other_sink self.new outlet) }
         ensures inlets { SameInlets self.old self.new }
         ensures pending { is_pending self.new ≡ is_pending self.old }
     {
-        let Ok(sink) = self.open_sink(outlet, name) else {
+        let Ok(mut sink) = self.open_sink(outlet, name) else {
             return Err(self.write_faults.fault());
         };
+        if self.begin(outlet, &mut sink).is_err() {
+            return Err(self.write_faults.fault());
+        }
         if sink.is_terminal(self.rt) {
             self.progress.hide();
         }
@@ -261,11 +343,14 @@ impl<'a> Desk for FileDesk<'a> {
         ensures unchanged { OnErr result (file_meanings self.new ≡ file_meanings self.old) }
         ensures cause { HasWriteCause (file_counts self.old) (file_counts self.new) result }
 
-        // It stays standard output, or a file, and a part waits as before. The other outlet is as before, with what it
-        // gathered, and both inlets are. If a failed writing is pending, that is all that is answered.
+        // It stays standard output, or a file, and a part waits as before; after Ok it is unfinished. The other outlet is as
+        // before, with what it gathered, and both inlets are. If a failed writing is pending, that is all that is answered.
         ensures standard { is_standard_output (sink_at self.new outlet)
             ≡ is_standard_output (sink_at self.old outlet) }
         ensures waits { waits_at self.new outlet ≡ waits_at self.old outlet }
+        ensures unfinished { OnOk result (IsTrue (unfinished_at self.new outlet)) }
+        ensures stays { IsTrue (unfinished_at self.old outlet)
+            → IsTrue (unfinished_at self.new outlet) }
         ensures other { other_sink self.new outlet ≡ other_sink self.old outlet }
         ensures inlets { SameInlets self.old self.new }
         ensures told { IsTrue (is_pending self.old) → IsErr result × SameOutlets self.old self.new }
@@ -289,25 +374,32 @@ impl<'a> Desk for FileDesk<'a> {
         ensures unchanged { OnErr result (file_meanings self.new ≡ file_meanings self.old) }
         ensures cause { HasWriteCause (file_counts self.old) (file_counts self.new) result }
 
-        // Nothing is gathered for the outlet any more, and its part no longer waits for its name; at `Failed` it waits as
-        // before. It stays standard output, or a file. The other outlet is as before, and both inlets are.
-        ensures handed { OnOk result (gathered_at self.new outlet ≡ []) }
-        ensures named { OnOk result (waits_at self.new outlet ≡ false) }
-        ensures waits { OnErr result (waits_at self.new outlet ≡ waits_at self.old outlet) }
-        ensures standard { is_standard_output (sink_at self.new outlet)
+        // Nothing is gathered for either outlet any more, and this one is finished. The other one is if it was, and each stays
+        // standard output, or a file. Both inlets are as before.
+        ensures handed { OnOk result (GathersNothing self.new) }
+        ensures finished { OnOk result (IsFalse (unfinished_at self.new outlet)) }
+        ensures other { unfinished_at self.new (other_than outlet)
+            ≡ unfinished_at self.old (other_than outlet) }
+        ensures standard { (outlet : Outlet) → is_standard_output (sink_at self.new outlet)
             ≡ is_standard_output (sink_at self.old outlet) }
-        ensures other { other_sink self.new outlet ≡ other_sink self.old outlet }
         ensures inlets { SameInlets self.old self.new }
+
+        // If the other one is finished, no part waits for its name any more. A part takes its name only if nothing is gathered
+        // for either outlet and both are finished, and the report's only after the output's; at `Failed` too.
+        ensures named { OnOk result (IsFalse (unfinished_at self.old (other_than outlet))
+            → (outlet : Outlet) → IsFalse (waits_at self.new outlet)) }
+        ensures whole { (outlet : Outlet) → IsTrue (waits_at self.old outlet)
+            → IsFalse (waits_at self.new outlet) → IsWhole self.new }
+        ensures order { IsTrue (waits_at self.new Outlet.Main)
+            → waits_at self.new Outlet.Report ≡ waits_at self.old Outlet.Report }
+        ensures waits { (outlet : Outlet) → IsFalse (waits_at self.old outlet)
+            → IsFalse (waits_at self.new outlet) }
         ensures told { IsTrue (is_pending self.old) → IsErr result × SameOutlets self.old self.new }
         ensures settled { IsFalse (is_pending self.new) }
     {
         self.progress.end(self.rt);
         self.write_faults.due()?;
-        let finished = match outlet {
-            Outlet::Main => self.output.finish(self.rt),
-            Outlet::Report => self.report.finish(self.rt),
-        };
-        match finished {
+        match self.end(outlet) {
             Ok(()) => Ok(()),
             Err(_) => Err(self.write_faults.fault()),
         }

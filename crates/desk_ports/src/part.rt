@@ -1,6 +1,6 @@
 //! The part of an output: a file beside a name, which takes the name when the output is complete.
 
-use std::fs::{File, Metadata, OpenOptions};
+use std::fs::{File, Metadata, OpenOptions, Permissions};
 use std::os::unix::fs::MetadataExt;
 use std::{fs, io};
 
@@ -32,6 +32,17 @@ impl Node {
     }
 }
 
+/// How far a part is.
+#[derive(Clone, Copy, Debug, PartialEq, Eq)]
+enum Stage {
+    /// It was made, and nothing was written to it.
+    New,
+    /// A part of an earlier run stands in its place, which it is still to replace.
+    Earlier,
+    /// It is written to.
+    Begun,
+}
+
 /// A file beside a name, which takes the name when the output is complete.
 #[derive(Debug, Drop)]
 pub struct Part {
@@ -39,12 +50,17 @@ pub struct Part {
     own: String,
     /// The name that it takes.
     target: String,
+    /// The mode of what stands under that name.
+    mode: Option<Permissions>,
+    /// What stands under its own name.
     node: Node,
+    stage: Stage,
 }
 
 impl Part {
     /// Opens what an output is written to: the file that has this name, if it is a device, a pipe or something else that
-    /// is not a regular file, and otherwise a part beside the name. Nothing that exists under the name is changed.
+    /// is not a regular file, and otherwise a part beside the name. Nothing that exists under the name is changed, and an
+    /// earlier part stays until this one begins.
     ///
     /// It fails if one of the files that are `read` has this name, by whatever link, or if the part would have to replace
     /// one of them, or the other output or what that is written to, which is the file `taken`.
@@ -55,7 +71,7 @@ impl Part {
         taken: Option<Node>,
         other: Option<&Part>,
     ) -> io::Result<(File, Option<Part>)> {
-        match OpenOptions::new().write(true).open(rt, name) {
+        let mode = match OpenOptions::new().write(true).open(rt, name) {
             Ok(standing) => {
                 let metadata = standing.metadata()?;
                 if !metadata.is_file() {
@@ -65,39 +81,53 @@ impl Part {
                 if taken == node || read.contains(&node) {
                     return Err(refused());
                 }
-                let (file, part) = Part::beside(rt, name, read, taken, other)?;
-                file.set_permissions(metadata.permissions())?;
-                Ok((file, Some(part)))
+                Some(metadata.permissions())
             }
-            Err(error) if error.kind() == io::ErrorKind::NotFound => {
-                let (file, part) = Part::beside(rt, name, read, taken, other)?;
-                Ok((file, Some(part)))
-            }
-            Err(error) => Err(error),
-        }
-    }
-
-    /// Makes the part of a name.
-    fn beside(
-        rt: &HostRuntime,
-        name: &str,
-        read: &[Option<Node>],
-        taken: Option<Node>,
-        other: Option<&Part>,
-    ) -> io::Result<(File, Part)> {
+            Err(error) if error.kind() == io::ErrorKind::NotFound => None,
+            Err(error) => return Err(error),
+        };
         let target = target_of(rt, name)?;
         let own = format!(in rt.alloc(); "{target}.part")?;
-        remove_standing(rt, &own, read, taken, other)?;
-        let file = OpenOptions::new()
-            .write(true)
-            .create_new(true)
-            .open(rt, &own)?;
-        let node = Node::of(&file.metadata()?);
+        let (file, node, stage) = match earlier_at(rt, &own, read, taken, other)? {
+            Some(node) => (fs::open(rt, "/")?, node, Stage::Earlier),
+            None => {
+                let (file, node) = made(rt, &own, mode.clone()?)?;
+                (file, node, Stage::New)
+            }
+        };
+        let part = Part {
+            own,
+            target,
+            mode,
+            node,
+            stage,
+        };
         if is_target(rt, node, other) {
-            fs::remove_file(rt, &own)?;
+            part.withdraw(rt);
             return Err(refused());
         }
-        Ok((file, Part { own, target, node }))
+        Ok((file, Some(part)))
+    }
+
+    /// Begins to be what is written: replaces an earlier part, and gives the file that is written to then.
+    pub fn begin(&mut self, rt: &HostRuntime) -> io::Result<Option<File>> {
+        self.stands(rt)?;
+        if self.stage != Stage::Earlier {
+            self.stage = Stage::Begun;
+            return Ok(None);
+        }
+        fs::remove_file(rt, &self.own)?;
+        let (file, node) = made(rt, &self.own, self.mode.clone()?)?;
+        self.node = node;
+        self.stage = Stage::Begun;
+        Ok(Some(file))
+    }
+
+    /// Removes the file, if it was made and is not begun.
+    pub fn withdraw(&self, rt: &HostRuntime) {
+        if self.stage == Stage::New && self.stands(rt).is_ok() {
+            let _ = fs::remove_file(rt, &self.own);
+        }
     }
 
     /// Which file it is.
@@ -110,13 +140,18 @@ impl Part {
         self.node == node || is_target(rt, node, Some(self))
     }
 
-    /// Gives the part the name that it waits for. What existed under that name is then gone. It fails if another file has
-    /// come in the part's place, as that of another run over the same name.
-    pub fn take_name(&self, rt: &HostRuntime) -> io::Result<()> {
+    /// Fails if another file has come in the part's place, as that of another run over the same name.
+    pub fn stands(&self, rt: &HostRuntime) -> io::Result<()> {
         let standing = fs::symlink_metadata(rt, &self.own)?;
         if Node::of(&standing) != self.node {
             return Err(refused());
         }
+        Ok(())
+    }
+
+    /// Gives the part the name that it waits for, if it still stands. What existed under that name is then gone.
+    pub fn take_name(&self, rt: &HostRuntime) -> io::Result<()> {
+        self.stands(rt)?;
         fs::rename(rt, &self.own, &self.target)
     }
 }
@@ -131,17 +166,30 @@ fn target_of(rt: &HostRuntime, name: &str) -> io::Result<String> {
     Ok(format!(in rt.alloc(); "{}", path.display())?)
 }
 
-/// Removes what exists under the name of a part. It is an earlier part, and not a file that is read, standard output, a
-/// link, or what the other output is or is written to.
-fn remove_standing(
+/// Makes the file of a part, with the mode of what it will replace.
+fn made(rt: &HostRuntime, own: &str, mode: Option<Permissions>) -> io::Result<(File, Node)> {
+    let file = OpenOptions::new()
+        .write(true)
+        .create_new(true)
+        .open(rt, own)?;
+    if let Some(mode) = mode {
+        file.set_permissions(mode)?;
+    }
+    let node = Node::of(&file.metadata()?);
+    Ok((file, node))
+}
+
+/// What stands under the name of a part. It must be an earlier part, and not a file that is read, standard output, a link,
+/// or what the other output is or is written to.
+fn earlier_at(
     rt: &HostRuntime,
     own: &str,
     read: &[Option<Node>],
     taken: Option<Node>,
     other: Option<&Part>,
-) -> io::Result<()> {
+) -> io::Result<Option<Node>> {
     match fs::symlink_metadata(rt, own) {
-        Err(error) if error.kind() == io::ErrorKind::NotFound => Ok(()),
+        Err(error) if error.kind() == io::ErrorKind::NotFound => Ok(None),
         Err(error) => Err(error),
         Ok(standing) => {
             let node = Node::of(&standing);
@@ -150,7 +198,7 @@ fn remove_standing(
             if !standing.is_file() || is_used || is_other {
                 return Err(refused());
             }
-            fs::remove_file(rt, own)
+            Ok(Some(node))
         }
     }
 }

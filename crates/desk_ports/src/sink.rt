@@ -1,7 +1,7 @@
 //! Where the bytes of an outlet of real files go.
 
-ghost use Rattle.std.specs.Prelude.{◌≡◌, ◌≤◌, false, [], length, IsTrue, IfOk, IfSome, OnOk, OnErr};
-ghost use Rattle.desk_ports.specs.FileDesk.{gathered, is_opened_sink, is_standard_output, names_standard_output, waits};
+ghost use Rattle.std.specs.Prelude.{◌≡◌, ◌≤◌, false, true, [], length, IsFalse, IsTrue, IfOk, IfSome, OnOk, OnErr};
+ghost use Rattle.desk_ports.specs.FileDesk.{gathered, is_opened_sink, is_standard_output, is_unfinished, names_standard_output, waits, IsKept, IsSteady};
 
 use crate::part::{Node, Part, refused};
 use std::fs::File;
@@ -18,13 +18,14 @@ fn is_standard_output(name: &str) -> bool
     matches!(name, "-" | "/dev/stdout" | "/dev/fd/1" | "/proc/self/fd/1")
 }
 
-/// Where the bytes of an outlet go. They are gathered, and handed to the system when there are enough. An output that is
-/// written to a part, a file beside its name, waits for its name.
+/// Where the bytes of an outlet go, and whether it is unfinished: it was opened, or written to, and not finished since. The
+/// bytes are gathered, and handed to the system when there are enough. An output that is written to a part, a file beside
+/// its name, waits for its name.
 #[derive(Drop)]
 pub enum Sink {
     Nothing,
-    StandardOutput(BufWriter<Stdout>),
-    File(BufWriter<File>, Option<Part>),
+    StandardOutput(BufWriter<Stdout>, bool),
+    File(BufWriter<File>, Option<Part>, bool),
 }
 
 impl Sink {
@@ -38,6 +39,7 @@ impl Sink {
     ) -> io::Result<Sink>
         ensures opened { IfOk result (λ sink. IsTrue (is_opened_sink sink)) }
         ensures none { IfOk result (λ sink. gathered sink ≡ []) }
+        ensures unfinished { IfOk result (λ sink. IsTrue (is_unfinished sink)) }
         ensures standard { IfOk result
             (λ sink. is_standard_output sink ≡ names_standard_output name.now) }
     {
@@ -46,22 +48,49 @@ impl Sink {
                 return Err(refused());
             }
             let stdout = BufWriter::with_capacity(rt.alloc(), GATHERED, rt.stdout())?;
-            return Ok(Sink::StandardOutput(stdout));
+            return Ok(Sink::StandardOutput(stdout, true));
         }
         let (file, part) = Part::open(rt, name, read, other.node(rt), other.part())?;
         let file = BufWriter::with_capacity(rt.alloc(), GATHERED, file)?;
-        Ok(Sink::File(file, part))
+        Ok(Sink::File(file, part, true))
+    }
+
+    /// Begins to be what is written. Before that an earlier part stands as it was, and takes no bytes.
+    pub fn begin(&mut self, rt: &HostRuntime) -> io::Result<()>
+        ensures opened { is_opened_sink self.new ≡ is_opened_sink self.old }
+        ensures steady { IsSteady self.old self.new }
+    {
+        if let Sink::File(writer, part, _) = self {
+            if let Some(part) = part {
+                if let Some(file) = part.begin(rt)? {
+                    *writer.get_mut() = file;
+                }
+            }
+        }
+        Ok(())
+    }
+
+    /// Removes a part that was made and is not begun.
+    pub fn withdraw(&self, rt: &HostRuntime) {
+        if let Some(part) = self.part() {
+            part.withdraw(rt);
+        }
+    }
+
+    /// Whether nothing was opened.
+    pub fn is_nothing(&self) -> bool {
+        matches!(self, Sink::Nothing)
     }
 
     /// Whether it is standard output, and that is a terminal.
     pub fn is_terminal(&self, rt: &HostRuntime) -> bool {
-        matches!(self, Sink::StandardOutput(_)) && rt.stdout().is_terminal()
+        matches!(self, Sink::StandardOutput(..)) && rt.stdout().is_terminal()
     }
 
     /// Which file of the system it is, unless it is written to under its own name.
     pub fn node(&self, rt: &HostRuntime) -> Option<Node> {
         match self {
-            Sink::StandardOutput(_) => Node::standard_output(rt),
+            Sink::StandardOutput(..) => Node::standard_output(rt),
             Sink::Nothing | Sink::File(..) => self.part().map(|part| part.node()),
         }
     }
@@ -77,8 +106,18 @@ impl Sink {
     // The part that waits for its name.
     fn part(&self) -> Option<&Part> {
         match self {
-            Sink::Nothing | Sink::StandardOutput(_) => None,
-            Sink::File(_, part) => part.as_ref(),
+            Sink::Nothing | Sink::StandardOutput(..) => None,
+            Sink::File(_, part, _) => part.as_ref(),
+        }
+    }
+
+    /// Whether it is unfinished.
+    pub fn is_unfinished(&self) -> bool
+        ensures { result ≡ is_unfinished self.now }
+    {
+        match self {
+            Sink::Nothing => false,
+            Sink::StandardOutput(_, unfinished) | Sink::File(_, _, unfinished) => *unfinished,
         }
     }
 
@@ -90,11 +129,18 @@ impl Sink {
         ensures opened { IsTrue (is_opened_sink self.new) }
         ensures standard { is_standard_output self.new ≡ is_standard_output self.old }
         ensures waits { waits self.new ≡ waits self.old }
+        ensures unfinished { IsTrue (is_unfinished self.new) }
     {
         match self {
             Sink::Nothing => unreachable!(),
-            Sink::StandardOutput(stdout) => stdout.write(bytes).ok(),
-            Sink::File(file, _) => file.write(bytes).ok(),
+            Sink::StandardOutput(stdout, unfinished) => {
+                *unfinished = true;
+                stdout.write(bytes).ok()
+            }
+            Sink::File(file, _, unfinished) => {
+                *unfinished = true;
+                file.write(bytes).ok()
+            }
         }
     }
 
@@ -102,28 +148,56 @@ impl Sink {
     pub fn flush(&mut self) -> io::Result<()>
         ensures opened { is_opened_sink self.new ≡ is_opened_sink self.old }
         ensures handed { OnOk result (gathered self.new ≡ []) }
-        ensures standard { is_standard_output self.new ≡ is_standard_output self.old }
-        ensures waits { waits self.new ≡ waits self.old }
+        ensures kept { IsKept self.old self.new }
     {
         match self {
             Sink::Nothing => Ok(()),
-            Sink::StandardOutput(stdout) => stdout.flush(),
-            Sink::File(file, _) => file.flush(),
+            Sink::StandardOutput(stdout, _) => stdout.flush(),
+            Sink::File(file, _, _) => file.flush(),
         }
     }
 
-    /// Hands everything that was gathered to the system, and gives a part the name that it waits for.
-    pub fn finish(&mut self, rt: &HostRuntime) -> io::Result<()>
+    /// Has the system bring a part that waits for its name to the disk. Then the outlet is finished.
+    pub fn finish(&mut self) -> io::Result<()>
         ensures opened { is_opened_sink self.new ≡ is_opened_sink self.old }
-        ensures handed { OnOk result (gathered self.new ≡ []) }
+        ensures gathered { gathered self.new ≡ gathered self.old }
         ensures standard { is_standard_output self.new ≡ is_standard_output self.old }
-        ensures named { OnOk result (waits self.new ≡ false) }
-        ensures waits { OnErr result (waits self.new ≡ waits self.old) }
+        ensures waits { waits self.new ≡ waits self.old }
+        ensures finished { OnOk result (IsFalse (is_unfinished self.new)) }
+        ensures same { OnErr result (self.new ≡ self.old) }
     {
-        self.flush()?;
-        if let Sink::File(file, part) = self {
+        match self {
+            Sink::Nothing => {}
+            Sink::StandardOutput(_, unfinished) => *unfinished = false,
+            Sink::File(file, part, unfinished) => {
+                if part.is_some() {
+                    file.get_ref().sync_all()?;
+                }
+                *unfinished = false;
+            }
+        }
+        Ok(())
+    }
+
+    /// Fails if another file has come in the place of a part that waits for its name.
+    pub fn stands(&self, rt: &HostRuntime) -> io::Result<()> {
+        match self.part() {
+            None => Ok(()),
+            Some(part) => part.stands(rt),
+        }
+    }
+
+    /// Gives a part the name that it waits for.
+    pub fn take_name(&mut self, rt: &HostRuntime) -> io::Result<()>
+        ensures opened { is_opened_sink self.new ≡ is_opened_sink self.old }
+        ensures gathered { gathered self.new ≡ gathered self.old }
+        ensures standard { is_standard_output self.new ≡ is_standard_output self.old }
+        ensures unfinished { is_unfinished self.new ≡ is_unfinished self.old }
+        ensures named { OnOk result (IsFalse (waits self.new)) }
+        ensures same { OnErr result (self.new ≡ self.old) }
+    {
+        if let Sink::File(_, part, _) = self {
             if let Some(waiting) = part {
-                file.get_ref().sync_all()?;
                 waiting.take_name(rt)?;
             }
             *part = None;

@@ -1,7 +1,9 @@
 //! The room for what reading the next packet fills.
 
 ghost use Rattle.std.specs.Prelude.{◌≡◌, ◌≤◌, length, IfOk};
+ghost use Rattle.std.specs.Vec.{vec_capacity};
 ghost use Rattle.bit_vectors.specs.Vectors.{IsPlaces};
+ghost use Rattle.bit_vectors.specs.Words.{word_count};
 
 use crate::change::FirstPart;
 use bit_vectors::{Bits, NoMemory};
@@ -21,6 +23,8 @@ pub struct Draft {
     pub moves: Vec<WordMoves>,
     ghost extracted_places: { length places ≡ length content },
     ghost spare_places: { length spare ≡ length content },
+    // The moves have the room that `zeros` took.
+    ghost moves_taken: { vec_capacity moves ≡ word_count (length content) },
 }
 
 /// What the next packet fills: vectors of the same number of places.

@@ -1,7 +1,9 @@
 //! The second part of a packet: the mask and the content, whole or in part (CCSDS 124.0-B-1).
 
 ghost use Rattle.std.specs.Prelude.{◌≡◌, ◌+◌, ◌*◌, ◌≤◌, ◌++◌, length, if◌then◌else◌, IfOk, None};
+ghost use Rattle.std.specs.Vec.{vec_capacity};
 ghost use Rattle.bit_vectors.specs.Vectors.{IsPlaces, or_bits};
+ghost use Rattle.bit_vectors.specs.Words.{word_count};
 ghost use Rattle.count_code.specs.Code.{count_bits};
 ghost use Rattle.run_code.specs.Extraction.{extract};
 ghost use Rattle.packet_encode.specs.Encoder.{HavePlaces};
@@ -21,6 +23,8 @@ pub(crate) struct Scratch {
     /// How the extracted bits of each word of the content moved. If the next packet extracts the same places, they are not
     /// found anew.
     pub(crate) moves: Vec<WordMoves>,
+    // The moves have the room that `open` took.
+    ghost moves_taken: { vec_capacity moves ≡ word_count (length spare) },
 }
 
 impl Scratch {

@@ -25,3 +25,4 @@ pub use rehearsal::rehearse;
 pub use status::{Refusal, Status, exit_code};
 pub use top::pocket;
 pub use trial_chain::{Summary, run_trial};
+pub use verbs::{Kind, Port, Row, VERB_WORDS, Verb};

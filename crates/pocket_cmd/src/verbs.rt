@@ -16,7 +16,7 @@ pub enum Verb {
     Restore,
     /// Lists what is found for each packet.
     Show,
-    /// Runs the other three over a generated history.
+    /// Runs `compress`, `play` and `restore` over a generated history.
     Trial,
     /// Gives back the packets of several streams of one store.
     Multi,
@@ -27,6 +27,11 @@ pub enum Verb {
     /// Tells which packets will be written, whatever the recording is.
     Forecast,
 }
+
+/// The words of the verbs, in the order of the help.
+pub const VERB_WORDS: [&str; 9] = [
+    "compress", "play", "restore", "show", "trial", "multi", "late", "table", "forecast",
+];
 
 /// Where what has a name is opened.
 #[derive(Clone, Copy, Debug)]

@@ -6,6 +6,7 @@ ghost use Rattle.std.specs.Prelude.{◌≡◌, ℕ, ◌*◌, ◌/◌, ◌%◌, �
 ghost use Rattle.std.specs.Int.{bit_at, bit_not, w64};
 ghost use Rattle.std.specs.Int.Bits.{bit_and, bit_or, bit_xor};
 ghost use Rattle.std.specs.Int.RustNames.{count_ones};
+ghost use Rattle.std.specs.Vec.{vec_capacity};
 ghost use Rattle.bit_vectors.specs.Words.{word_count};
 ghost use Rattle.run_code.specs.Places.{AreZeroCounts, ones_under};
 
@@ -33,9 +34,10 @@ impl Model for WordMoves {
     ghost invariant = { λ m. AreZeroCounts m.word m.counts };
 }
 
-/// The moves of each word of a vector of `f` zeros.
+/// The moves of each word of a vector of `f` zeros, with no capacity for more.
 pub fn moves_of_zeros(alloc: Global, f: u32) -> Result<Vec<WordMoves>, NoMemory>
-    ensures { IfOk result (λ moves. moves.items ≡ replicate (word_count f) 0) }
+    ensures moves { IfOk result (λ moves. moves.items ≡ replicate (word_count f) 0) }
+    ensures full { IfOk result (λ moves. vec_capacity moves ≡ word_count f) }
 {
     let count = f.div_ceil(64) as usize;
     let mut moves = Vec::with_capacity(alloc, count)?;

@@ -7,7 +7,7 @@ use Rattle.side_tables.specs.declared.columns.Columns.{Columns}
 use Rattle.side_tables.specs.declared.rows.CopyRow.{CopyRow}
 use Rattle.side_tables.specs.declared.rows.FlagRow.{FlagRow}
 use Rattle.side_tables.specs.declared.span.Span.{Span}
-use Rattle.side_tables.specs.Ranks.{IsRank, flag_in}
+use Rattle.side_tables.specs.Ranks.{IsRank, RankState, flag_in}
 use Rattle.side_tables.specs.Rows.{GiveNothing, ScheduleRows, copy_span, flags_of, last_row, robust_span}
 
 -- the ranks by a flag: 0 exactly of the numbers for which no row sets it
@@ -30,10 +30,10 @@ AreLatestRanks span_of rows claims = (n rank : ℕ) → IsRank claims n rank →
 
 -- the ranks by the three flags, and those of the last rows of required robustness
 pub record AreColumns (plan : ScheduleRows) (columns : Columns) : Type 0 where
-  pub new_masks : AreFlagRanks NewMask plan.flags columns.new_masks
-  pub masks : AreFlagRanks SendMask plan.flags columns.masks
-  pub contents : AreFlagRanks WholeContent plan.flags columns.contents
-  pub robusts : AreLatestRanks robust_span plan.robust columns.robusts
+  pub new_masks : AreFlagRanks NewMask plan.flags columns.new_masks.claims
+  pub masks : AreFlagRanks SendMask plan.flags columns.masks.claims
+  pub contents : AreFlagRanks WholeContent plan.flags columns.contents.claims
+  pub robusts : AreLatestRanks robust_span plan.robust columns.robusts.claims
 
 -- of few rows, numbers that they give nothing; of many, the ranks that they claim
 pub record IsLookup (plan : ScheduleRows) (idle_from idle_until : ℕ) (columns : Option Columns) : Type 0 where
@@ -41,5 +41,5 @@ pub record IsLookup (plan : ScheduleRows) (idle_from idle_until : ℕ) (columns 
   pub many : (found : Columns) → columns ≡ Some found → AreColumns plan found
 
 -- the ranks of the rows of a script, if it has many
-abbrev pub IsCopyLookup : List CopyRow → Option (List Claim) → Type 0
-IsCopyLookup script ranks = (found : List Claim) → ranks ≡ Some found → AreLatestRanks copy_span script found
+abbrev pub IsCopyLookup : List CopyRow → Option RankState → Type 0
+IsCopyLookup script ranks = (found : RankState) → ranks ≡ Some found → AreLatestRanks copy_span script found.claims

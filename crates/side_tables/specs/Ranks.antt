@@ -36,6 +36,12 @@ pub record AreClaims {R : Type 0} (claim_of : ℕ → R → Claim) (rows : List 
   pub len : length claims ≡ length rows
   pub each : (k : ℕ) (default : R) → k < length rows → claim_at claims k ≡ claim_of k (slice_index_or rows k default)
 
+-- Claims that are asked about, and for how many claims and how many ranks there is room.
+pub record RankState : Type 0 where
+  pub claims : List Claim
+  pub claims_taken : ℕ
+  pub cells_taken : ℕ
+
 -- one of the claims gives the number this rank
 pub record IsClaimed (claims : List Claim) (n rank : ℕ) : Type 0 where
   pub claim : Claim

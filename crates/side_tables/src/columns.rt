@@ -89,7 +89,7 @@ pub fn copies_at(script: &Script, rank: usize) -> u8
 /// The ranks by a flag.
 fn flag_ranks(alloc: Global, plan: &Schedule, flag: Flag, numbers: usize) -> Result<Ranks, NoMemory>
     requires { IsBlock numbers }
-    ensures { IfOk result (AreFlagRanks flag plan.now.flags) }
+    ensures { IfOk result (λ ranks. AreFlagRanks flag plan.now.flags ranks.claims) }
 {
     let claims = flag_claims(alloc, plan, flag)?;
     Ranks::open(alloc, claims, numbers)
@@ -102,7 +102,7 @@ pub fn latest_ranks<R: TableRow>(
     numbers: usize,
 ) -> Result<Ranks, NoMemory>
     requires { IsBlock numbers }
-    ensures { IfOk result (AreLatestRanks R.span_of table.now) }
+    ensures { IfOk result (λ ranks. AreLatestRanks R.span_of table.now ranks.claims) }
 {
     let claims = row_claims(alloc, table)?;
     Ranks::open(alloc, claims, numbers)

@@ -39,7 +39,7 @@ const NONE: Cell = Cell {
 pub const MOST_NUMBERS: usize = 16_384;
 
 /// Claims, asked about one number after another: the ranks of a block of numbers are found together. Contracts see the
-/// claims.
+/// claims, and the room for them and for ranks, which is taken when the value is made.
 ///
 /// Claims with one step and one remainder come one after another, those of higher rank first, and a number that has its
 /// rank by an earlier one is passed over together with its run. So a number is come to about once for each pair of a step
@@ -52,13 +52,16 @@ pub struct Ranks {
 }
 
 impl Model for Ranks {
-    ghost use Rattle.std.specs.Prelude.{List};
-    ghost use Rattle.side_tables.specs.declared.claims.Claim.{Claim};
-    ghost use Rattle.side_tables.specs.Ranks.{IsRanked};
+    ghost use Rattle.std.specs.Vec.{vec_capacity};
+    ghost use Rattle.side_tables.specs.Ranks.{IsRanked, RankState};
 
-    ghost Value = { List Claim };
+    ghost Value = { RankState };
 
-    ghost view = { λ r. r.claims.items };
+    ghost view = { λ r. record {
+      claims = r.claims.items;
+      claims_taken = vec_capacity r.claims;
+      cells_taken = vec_capacity r.cells;
+    } };
 
     ghost invariant = { λ r. IsRanked r.claims.items r.base r.cells.items };
 }
@@ -69,7 +72,7 @@ impl Ranks {
         requires block { IsBlock numbers }
         requires right { All (λ claim. IsSpan claim.span) claims.items }
         ensures { IfOk result
-            (λ ranks. (n rank : ℕ) → IsRank ranks n rank → IsRank claims.items n rank) }
+            (λ ranks. (n rank : ℕ) → IsRank ranks.claims n rank → IsRank claims.items n rank) }
     {
         let mut cells = vec![in alloc; NONE; numbers]?;
         let mut claims = claims;
@@ -84,7 +87,7 @@ impl Ranks {
 
     /// The greatest rank that is claimed of the number, or 0 if none is. It takes no memory.
     pub fn at(&mut self, t: u32) -> usize
-        ensures rank { IsRank self.old t result }
+        ensures rank { IsRank self.old.claims t result }
         ensures same { self.new ≡ self.old }
     {
         if t < self.base || self.cells.len() <= (t - self.base) as usize {

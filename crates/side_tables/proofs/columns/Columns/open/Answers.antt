@@ -9,5 +9,5 @@ returns c = record {
   new_masks = c.in_ok-flag_ranks.ensures;
   masks = c.in_ok-flag_ranks-2.ensures;
   contents = c.in_ok-flag_ranks-3.ensures;
-  robusts = subst (λ (rows : List RobustRow). AreLatestRanks robust_span rows c.in_ok-latest_ranks.field-0) c.robust_table.ensures c.in_ok-latest_ranks.ensures;
+  robusts = subst (λ (rows : List RobustRow). AreLatestRanks robust_span rows c.in_ok-latest_ranks.field-0.claims) c.robust_table.ensures c.in_ok-latest_ranks.ensures;
 }

@@ -1,6 +1,6 @@
 use Rattle.std.proofs.Common.{◌≡◌, ℕ, List, ◌+◌, ◌-◌, ◌<◌, ◌≤◌, length, ap, sym, subst, refl, arith}
 use Rattle.std.proofs.lemmas.List.{get_or_read, with_items_is}
-use Rattle.side_tables.specs.Ranks.{AreRanks, IsBlock, IsRank, IsRanked, cell_at, no_cell}
+use Rattle.side_tables.specs.Ranks.{AreRanks, IsBlock, IsRank, IsRanked, RankState, cell_at, no_cell}
 use Rattle.side_tables.specs.declared.claims.Claim.{Claim}
 use Rattle.side_tables.specs.declared.ranks.Cell.{Cell}
 use Rattle.side_tables.proofs.ranks.Ranks.at.Goals as goal
@@ -29,9 +29,9 @@ returns-clause-rank c =
           (anew c.self.inside.claims.items c.self.inside.base c.args.t c.self.inside.cells.items w.find.new.cells c.self.invariant new)
       | else-t-self+else-len-t w ↦ rw w.self-inside-is c.self.invariant
     ] in
-    let claims : inside.claims.items ≡ c.args.self.now = elim c.if-t-self.branch [
-      | then-t-self w ↦ rw w.self-inside-is c.self.view_is
-      | else-t-self+else-len-t w ↦ rw w.self-inside-is c.self.view_is
+    let claims : inside.claims.items ≡ c.args.self.now.claims = elim c.if-t-self.branch [
+      | then-t-self w ↦ rw w.self-inside-is (ap (λ (r : RankState). r.claims) c.self.view_is)
+      | else-t-self+else-len-t w ↦ rw w.self-inside-is (ap (λ (r : RankState). r.claims) c.self.view_is)
     ] in
     let some : 1 ≤ length inside.cells.items = ranked.block.some in
     let from : inside.base ≤ c.args.t = elim c.if-t-self.branch [
@@ -44,4 +44,4 @@ returns-clause-rank c =
     ] in
     let is = at_rank inside.claims.items inside.base c.args.t inside.cells.items ranked from at in
     let cell : c.index.result.now ≡ cell_at inside.cells.items (c.args.t - inside.base) = get_or_read inside.cells.items (c.args.t - inside.base) c.index.result.now at c.index.ensures no_cell in
-    subst (λ (cell : Cell). IsRank c.args.self.now c.args.t cell.rank) (sym cell) (subst (λ (all : List Claim). IsRank all c.args.t (cell_at inside.cells.items (c.args.t - inside.base)).rank) claims is)
+    subst (λ (cell : Cell). IsRank c.args.self.now.claims c.args.t cell.rank) (sym cell) (subst (λ (all : List Claim). IsRank all c.args.t (cell_at inside.cells.items (c.args.t - inside.base)).rank) claims is)

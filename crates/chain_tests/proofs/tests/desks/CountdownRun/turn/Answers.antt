@@ -5,7 +5,7 @@ use Rattle.desk_ports.specs.Courses.{Course, Went, no_outputs, owed}
 use Rattle.desk_ports.proofs.Runs.{Ran-none}
 use Rattle.desk_ports.proofs.Courses.{Went-ran, rest_of}
 use Rattle.desk_ports.proofs.Steps.{Reaches-none}
-use Rattle.crate_tests.proofs.tests.desks.CountdownRun.turn.Goals as goal
+use Rattle.chain_tests.proofs.tests.desks.CountdownRun.turn.Goals as goal
 
 pub returns-then-self-eq0-clause-turned : goal.returns-then-self-eq0-clause-turned
 returns-then-self-eq0-clause-turned g c = λ work owes.

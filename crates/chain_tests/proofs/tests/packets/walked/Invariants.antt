@@ -1,7 +1,7 @@
 use Rattle.std.proofs.Common.{IsTrue}
 use Rattle.desk_ports.specs.Meanings.{IsReadyIn}
 use Rattle.desk_ports.specs.declared.desk.Inlet.TheVariants as inlet
-use Rattle.crate_tests.proofs.tests.packets.walked.Given as goal
+use Rattle.chain_tests.proofs.tests.packets.walked.Given as goal
 
 -- the reader goes on
 abbrev pub invariant-packets : goal.invariant-packets
