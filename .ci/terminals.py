@@ -59,8 +59,13 @@ def watched(runner, words, before, output=None, pieces=0, pause=0.0):
     return program.wait(LIMIT), told, time.monotonic() - start
 
 
+# What `compress` says at its end, on a terminal, if it has no schedule.
+CAUTION = b"pocket: without plan= no later packet carries its mask and whole content: more than robust= lost in a row may leave all after them unwritten\r\n"
+
+
 def is_told(told, whole):
     """Whether a terminal was told how far a run is, of so many bytes or of none that are known, and at last that it is done."""
+    told = told.removesuffix(CAUTION)
     line = rb"\rpocket: \d+ of %d bytes" % whole if whole else rb"\rpocket: \d+ bytes"
     return re.fullmatch(rb"(%s)+%s" % (line, re.escape(AWAY)), told) is not None
 
@@ -107,7 +112,7 @@ def hides(runner):
     """Whether nothing is told if an output goes to the terminal, if little is read, or if a side text alone is long."""
     listing, restored = (text.replace(b"\n", b"\r\n") for text in (NOTHING_LISTED, NOTHING_RESTORED))
     rows = [("show in=x out=- bits=8 apid=100", {"x": PASSED}, listing), ("show in=x out=/dev/stdout bits=8 apid=100", {"x": PASSED}, listing),
-            ("restore in=x out=y report=- bits=8 apid=100", {"x": PASSED}, restored), (LONG, {"x": bytes(1024)}, b""),
+            ("restore in=x out=y report=- bits=8 apid=100", {"x": PASSED}, restored), (LONG, {"x": bytes(1024)}, CAUTION),
             (LONG + " plan=s", {"x": bytes(1024), "s": b"\n" * (1 << 20)}, b"")]
     for words, before, wanted in rows:
         status, told, _ = watched(runner, words, before, "terminal")

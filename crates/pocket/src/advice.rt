@@ -186,6 +186,19 @@ fn tell_row(rt: &HostRuntime, words: &[String], key: &str, kind: RowKind, row: u
     }
 }
 
+/// Says of a command that was done what its sender risks, if standard error is a terminal: a recording that was compressed
+/// without a schedule, so that only its first packets carry their mask and whole content.
+pub fn caution(rt: &HostRuntime, words: &[String]) {
+    let is_compress = words
+        .first()
+        .is_some_and(|verb| verb.as_str() == "compress");
+    if is_compress && value_of(words, "plan").is_none() && rt.stderr().is_terminal() {
+        let _ = eprintln!(rt;
+            "pocket: without plan= no later packet carries its mask and whole content: more than robust= lost in a row may leave all after them unwritten"
+        );
+    }
+}
+
 /// The row of this number, counted from 1, of a text without quotes.
 fn row_of_text(text: &str, row: u32) -> Option<&str> {
     if text.contains('"') {

@@ -16,7 +16,7 @@ mod keys;
 mod row_faults;
 mod verb_help;
 
-use advice::advise;
+use advice::{advise, caution};
 use desk_ports::{Desk, Failed, FileDesk};
 use pocket_cmd::{Refusal, Status, Verb, exit_code, pocket};
 use std::fs::File;
@@ -250,13 +250,17 @@ fn printed(rt: &HostRuntime, print: io::Result<()>) -> ExitCode {
     }
 }
 
-/// Prints a refusal on standard error, and on a terminal what these words have to do with it; and gives the exit number.
+/// Prints a refusal on standard error, and on a terminal what these words have to do with it, or what a sender risks; and gives
+/// the exit number.
 fn ended(rt: &HostRuntime, words: &[String], status: Status) -> ExitCode
     ensures { exit_status result ≡ exit_number status }
 {
-    if let Status::Refused(refusal) = &status {
-        let _ = eprintln!(rt; "pocket: {refusal}");
-        advise(rt, words, refusal);
+    match &status {
+        Status::Done => caution(rt, words),
+        Status::Refused(refusal) => {
+            let _ = eprintln!(rt; "pocket: {refusal}");
+            advise(rt, words, refusal);
+        }
     }
     ExitCode::from(exit_code(&status))
 }
