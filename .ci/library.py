@@ -185,6 +185,7 @@ def tries():
                ("the module shows a store", shows), ("records of stations joined", lambda room: tool(room, "merge")),
                ("packets out of frames", lambda room: tool(room, "frames")), ("the headers of 10,000 frames", frame_headers),
                ("tables with numbers and times, and back", lambda room: tool(room, "tables")),
+               ("a schedule for an assumed loss", lambda room: tool(room, "advise")),
                ("random histories", histories), ("the examples", examples),
                ("the program in C of docs/CALLING.md", lambda room: printed(room, "c")), ("the program in Python of docs/CALLING.md", lambda room: printed(room, "python"))])
 
