@@ -4,6 +4,7 @@ which lose some and repeat some; the first pass is cut in the midst of a packet,
 events of limits and a plot's numbers. What the commands and the tools give back is compared with what was sent and what arrived, which this
 script keeps. Takes the program; its last line is 'N passed, M failed'."""
 
+import itertools
 import os
 import random
 import subprocess
@@ -101,10 +102,8 @@ def woven(streams):
 
 def framed(draw, packets):
     """Packets in transfer frames of one virtual channel, each after a mark; some frames are lost. Also which packets they carry whole."""
-    stream, begins = b"".join(packets), []
-    for packet in packets:
-        begins.append(begins[-1] + len(previous) if begins else 0)
-        previous = packet
+    stream = b"".join(packets)
+    begins = list(itertools.accumulate(map(len, packets[:-1]), initial=0))
     idle = -len(stream) % FRAME
     idle += FRAME if 0 < idle < 7 else 0
     if idle:

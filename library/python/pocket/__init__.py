@@ -24,7 +24,7 @@ import ctypes.util
 import enum
 import os
 from dataclasses import dataclass
-from typing import Any, BinaryIO, Iterator, Mapping, Optional
+from typing import Any, BinaryIO, Iterator, Mapping, Optional, TypeVar
 
 __all__ = ["Arrival", "BitsOutOfRange", "Closed", "Counts", "CountOutOfRange", "Desk", "Kind", "NotText", "OutOfMemory", "PocketError",
            "Receiver", "Refused", "RobustnessOutOfRange", "Sender", "Sent", "SpareBitSet", "SpacePacket", "StoreError", "TooLong",
@@ -231,6 +231,9 @@ class Counts:
     listed: int
 
 
+_Own = TypeVar("_Own", bound="_Held")
+
+
 class _Held:
     """A handle that is closed at the end of a `with`, or with its object."""
 
@@ -242,7 +245,7 @@ class _Held:
         """Gives back its memory. A second time does nothing."""
         self._close(self._handle)
 
-    def __enter__(self):
+    def __enter__(self: _Own) -> _Own:
         return self
 
     def __exit__(self, *_: object) -> None:

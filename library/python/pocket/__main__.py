@@ -10,6 +10,7 @@ recording of a table.
 import importlib
 import os
 import sys
+from typing import Iterator, List, Tuple
 
 from . import Arrival, Kind, PocketError, Receiver, space_packets
 from .tool import ToolError
@@ -18,12 +19,12 @@ TOOLS = ("advise", "frames", "merge", "numbers", "pack")
 WORDS = {"bits": range(1, 49153), "apid": range(2047)}
 
 
-def lines(arrival: Arrival):
+def lines(arrival: Arrival) -> Iterator[str]:
     """What is lost before an arrival, and what is found of it."""
     if arrival.lost:
         yield f"{arrival.lost[0]}-{arrival.lost[-1]} lost"
     name = arrival.kind.name.lower()
-    if arrival.kind == Kind.WRITTEN:
+    if arrival.content is not None:
         yield f"{arrival.number} written {arrival.content.hex()}"
     elif arrival.kind in (Kind.REPEAT, Kind.UNSYNCED):
         yield f"{arrival.number} {name}"
@@ -31,7 +32,7 @@ def lines(arrival: Arrival):
         yield f"{arrival.number} {name} {arrival.value}"
 
 
-def chosen(words):
+def chosen(words: List[str]) -> Tuple[int, int]:
     """The numbers that the words give, or the end with a text."""
     given = dict(word.partition("=")[::2] for word in words)
     if set(given) != set(WORDS) or len(words) != len(WORDS):
@@ -42,7 +43,7 @@ def chosen(words):
     return int(given["bits"]), int(given["apid"])
 
 
-def main():
+def main() -> None:
     try:
         if sys.argv[1:2] and sys.argv[1] in TOOLS:
             use(sys.argv[1], sys.argv[2:])
@@ -54,11 +55,11 @@ def main():
         sys.exit(1)
 
 
-def use(tool, words):
+def use(tool: str, words: List[str]) -> None:
     """Does what a tool does, or prints how it is used."""
     module = importlib.import_module("." + tool, __package__)
     if words in (["--help"], ["-h"]):
-        print(module.__doc__.rstrip())
+        print((module.__doc__ or "").rstrip())
         return
     try:
         module.run(words)
@@ -66,7 +67,7 @@ def use(tool, words):
         sys.exit(f"pocket {tool}: {refusal}")
 
 
-def show(bits, apid):
+def show(bits: int, apid: int) -> None:
     """Shows what is found of the packets of standard input."""
     try:
         with Receiver(bits) as receiver:

@@ -8,7 +8,7 @@ import re
 from dataclasses import dataclass, field
 from typing import Dict, List, NamedTuple, Tuple
 
-from .tool import ToolError, contents, number
+from .tool import ToolError, contents, whole_number
 
 NAME = re.compile(r"[A-Za-z][A-Za-z0-9_]{0,31}")
 LEAST, MOST = -(2**63), 2**64 - 1
@@ -44,7 +44,7 @@ class Fields:
         return "it is neither field,place,width,kind,name nor limit,name,low,high"
 
     def take_field(self, row: List[str], bits: int) -> str:
-        place, width = number(row[1], 0, bits - 1), number(row[2], 1, 64)
+        place, width = whole_number(row[1], 0, bits - 1), whole_number(row[2], 1, 64)
         names = [one.name for one in self.fields]
         if place is None or width is None or place + width > bits:
             return f"its bits are not within the {bits} of a packet, 64 at most"
@@ -56,7 +56,7 @@ class Fields:
         return ""
 
     def take_limit(self, row: List[str]) -> str:
-        low, high = number(row[2], LEAST, MOST), number(row[3], LEAST, MOST)
+        low, high = whole_number(row[2], LEAST, MOST), whole_number(row[3], LEAST, MOST)
         if row[1] not in [one.name for one in self.fields] or row[1] in self.limits:
             return f"no row before it has the field {row[1]}, or it has a limit already"
         if low is None or high is None or low > high:

@@ -31,12 +31,12 @@ Tell = Callable[[str], None]
 
 
 class Frame(NamedTuple):
-    """A TM Transfer Frame: the byte at which it begins, its virtual channel and its count there, the place of the first packet that begins
+    """A TM Transfer Frame: the byte at which it begins, its virtual channel and its number there, from 0 to 255, the place of the first packet that begins
     in its data, or NO_PACKET or IDLE_DATA, and its data."""
 
     place: int
     channel: int
-    count: int
+    number: int
     first: int
     data: bytes
 
@@ -111,8 +111,8 @@ class Packets:
 
     def take(self, frame: Frame) -> Iterator[bytes]:
         """The packets that are whole with this frame."""
-        missing = 0 if self.latest is None else (frame.count - self.latest - 1) % 256
-        self.latest = frame.count
+        missing = 0 if self.latest is None else (frame.number - self.latest - 1) % 256
+        self.latest = frame.number
         if missing:
             self.drop(f"{missing} frames are missing before the frame at byte {frame.place}")
         if frame.first == IDLE_DATA:

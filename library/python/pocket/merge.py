@@ -25,7 +25,7 @@ from collections import defaultdict
 from dataclasses import dataclass, field
 from typing import Dict, Iterator, List, NamedTuple, Optional, Tuple
 
-from .tool import IDLE, PERIOD, ToolError, contents, number
+from .tool import IDLE, PERIOD, ToolError, contents, whole_number
 
 # So many packets that both records have must differ from the one before, so that a stream which stays the same isn't taken to fit by chance.
 TELLING = 3
@@ -35,7 +35,7 @@ class Packet(NamedTuple):
     """A Space Packet of a record, and the byte at which it begins."""
 
     apid: int
-    count: int
+    sequence_count: int
     place: int
     whole: bytes
 
@@ -52,17 +52,17 @@ class Stream:
         """Takes the next packet of the record. One that comes again at once is left out."""
         if not self.packets:
             self.packets.append(packet)
-            self.numbers.append(packet.count)
+            self.numbers.append(packet.sequence_count)
             return
         before = self.packets[-1]
-        step = (packet.count - before.count) % PERIOD
+        step = (packet.sequence_count - before.sequence_count) % PERIOD
         if step == 0:
             if packet.whole != before.whole:
                 raise ToolError(differ(self.name, before, self.name, packet))
             return
         if step >= PERIOD // 2:
             raise ToolError(f"{self.name}: from the packet of APID {packet.apid} at byte {before.place} to the one at byte {packet.place} "
-                             f"the count goes from {before.count} to {packet.count}: the record is not in order there, or too many are lost")
+                             f"the count goes from {before.sequence_count} to {packet.sequence_count}: the record is not in order there, or too many are lost")
         self.packets.append(packet)
         self.numbers.append(self.numbers[-1] + step)
 
@@ -76,7 +76,7 @@ Streams = Dict[int, Stream]
 
 def differ(first: str, one: Packet, second: str, other: Packet) -> str:
     """That two packets of one number have other data."""
-    return (f"the packets of APID {one.apid} and count {one.count} at byte {one.place} of {first} and at byte {other.place} of {second} "
+    return (f"the packets of APID {one.apid} and count {one.sequence_count} at byte {one.place} of {first} and at byte {other.place} of {second} "
             "differ: one of them is damaged")
 
 
@@ -200,7 +200,7 @@ class Record:
     def begins(self, told: str) -> None:
         """Takes what a word `after=` says."""
         apid, colon, text = told.rpartition(":")
-        start, own = number(text, 0, 2**32 - 1), number(apid, 0, IDLE - 1)
+        start, own = whole_number(text, 0, 2**32 - 1), whole_number(apid, 0, IDLE - 1)
         if start is None or (colon and own is None):
             raise ToolError(f"after={told}: after= takes N or APID:N, a number below 4294967296 and an APID below 2047")
         if own in self.after:

@@ -17,7 +17,6 @@ proved.
 
 from __future__ import annotations
 
-import csv
 import datetime
 import decimal
 import io
@@ -27,7 +26,7 @@ from dataclasses import dataclass, field
 from typing import Callable, Dict, Iterator, List, NamedTuple, Optional, Sequence, Tuple
 
 from .fields import Fields, fields_of
-from .tool import ToolError, contents, given, number, number_of
+from .tool import ToolError, contents, given, whole_number, number_of
 
 KEYS = ("table", "report", "fields", "bits", "as", "apid", "start", "step", "time", "epoch", "unit", "measurement")
 BILLION = 10**9
@@ -58,13 +57,13 @@ def written(name: str, apid: Optional[int]) -> Iterator[int]:
     expected, rows = 0, rows_of(name, apid)
     for place, row in enumerate(rows, 2):
         if row[0] == "end" and len(row) == 4:
-            count = number(row[2], 0, MOST)
+            count = whole_number(row[2], 0, MOST)
             if count is None:
                 break
             left = count - (expected - sum(int(one[1]) - int(one[0]) + 1 for one in rows[:place - 2]))
             yield from range(expected, expected + left)
             return
-        first, last = (number(text, 0, 2**64) for text in (row + ["", ""])[:2])
+        first, last = (whole_number(text, 0, 2**64) for text in (row + ["", ""])[:2])
         if len(row) != 4 or first is None or last is None or not expected <= first <= last:
             raise ToolError(f"{name}: line {place} is no row of a report: {','.join(row)}")
         yield from range(expected, first)
@@ -80,7 +79,7 @@ def table_of(name: str) -> Tuple[List[str], List[List[int]]]:
         raise ToolError(f"{name}: line 1 is not that of a table: t and the names of fields")
     found = []
     for place, line in enumerate(lines[1:]):
-        values = [number(text, -(2**63), 2**64 - 1) for text in line.split(",")]
+        values = [whole_number(text, -(2**63), 2**64 - 1) for text in line.split(",")]
         if len(values) != len(names) or None in values or values[0] != place:
             raise ToolError(f"{name}: line {place + 2} is no line of this table: {line[:60]}")
         found.append([value for value in values[1:] if value is not None])

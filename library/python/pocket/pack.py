@@ -16,7 +16,7 @@ import sys
 from typing import Iterator, List, Optional, Tuple
 
 from .fields import Field, fields_of
-from .tool import ToolError, contents, given, number, number_of
+from .tool import ToolError, contents, given, whole_number, number_of
 
 KEYS = ("fields", "bits", "in")
 PASSED_OVER = ("t", "number")
@@ -48,7 +48,7 @@ def packed(name: str, line: int, row: List[str], columns: List[Optional[Field]],
         if own is None:
             continue
         low, high = own.range()
-        value = number(text, low, high)
+        value = whole_number(text, low, high)
         if value is None:
             raise ToolError(f"{name}: line {line}, column {place}: {own.name} takes a number from {low} to {high}, and not {text or 'nothing'}")
         shift, ones = bits - own.place - own.width, (1 << own.width) - 1

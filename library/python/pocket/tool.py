@@ -31,7 +31,7 @@ def given(words: Sequence[str], keys: Sequence[str], needed: Sequence[str]) -> D
     return found
 
 
-def number(text: str, least: int, most: int) -> Optional[int]:
+def whole_number(text: str, least: int, most: int) -> Optional[int]:
     """The number that a text spells in plain digits, if it is within its bounds."""
     if not re.fullmatch(r"-?(0|[1-9][0-9]{0,19})", text) or text == "-0":
         return None
@@ -42,7 +42,7 @@ def number_of(said: Dict[str, str], key: str, least: int, most: int) -> Optional
     """The number that a key is given, or None if it isn't."""
     if key not in said:
         return None
-    found = number(said[key], least, most)
+    found = whole_number(said[key], least, most)
     if found is None:
         raise ToolError(f"{key}={said[key]}: {key}= takes a number from {least} to {most}")
     return found
