@@ -1,8 +1,10 @@
 #!/usr/bin/env python3
-"""An operator's day, over the proved program: three streams of packets of different lengths come down over two stations, which lose
-some, send some late and repeat some; the first pass is cut in the midst of a packet. What the commands give back is compared with what
-was sent and what arrived, which this script keeps. Takes the program; its last line is 'N passed, M failed'."""
+"""An operator's day, over the proved program: three streams of packets of different lengths come down in transfer frames over two stations,
+which lose some and repeat some; the first pass is cut in the midst of a packet, and a third pass has packets that come late. At its end are
+events of limits and a plot's numbers. What the commands and the tools give back is compared with what was sent and what arrived, which this
+script keeps. Takes the program; its last line is 'N passed, M failed'."""
 
+import itertools
 import os
 import random
 import subprocess
@@ -10,6 +12,10 @@ import sys
 import tempfile
 
 from table import table
+
+ROOT = os.path.dirname(os.path.dirname(os.path.abspath(__file__)))
+# The data of a transfer frame, in bytes.
+FRAME = 211
 
 # The streams: APID, bits of a packet, packets, required robustness, schedule.
 STREAMS = [(100, 64, 900, 2, "0,4294967295,60,p\n200,4294967295,200,fr\n"), (101, 1000, 500, 1, "50,4294967295,50,f\n100,4294967295,100,r\n"),
@@ -41,6 +47,14 @@ class Pocket:
         """How a command ended, and what it said."""
         ran = subprocess.run([self.program, *words.split()], cwd=self.folder, capture_output=True, timeout=60, check=False)
         return ran.returncode, ran.stderr.decode()
+
+    def tool(self, words, given=None):
+        """What a tool of the Python module writes and says."""
+        env = dict(os.environ, PYTHONPATH=os.path.join(ROOT, "library", "python"), PYTHONDONTWRITEBYTECODE="1")
+        ran = subprocess.run([sys.executable, "-m", "pocket", *words.split()], cwd=self.folder, input=given, capture_output=True, env=env, timeout=60, check=False)
+        if ran.returncode:
+            raise AssertionError(f"{words} ended with {ran.returncode} and said {ran.stderr.decode()}")
+        return ran.stdout, ran.stderr.decode()
 
     def done(self, words):
         ended = self.run(words)
@@ -84,6 +98,27 @@ def woven(streams):
     """Packets of all streams in one store, each stream in its own order, in the order of their times."""
     timed = [((place + 1) / len(packets), packet) for packets in streams for place, packet in enumerate(packets)]
     return [packet for _, packet in sorted(timed, key=lambda one: one[0])]
+
+
+def framed(draw, packets):
+    """Packets in transfer frames of one virtual channel, each after a mark; some frames are lost. Also which packets they carry whole."""
+    stream = b"".join(packets)
+    begins = list(itertools.accumulate(map(len, packets[:-1]), initial=0))
+    idle = -len(stream) % FRAME
+    idle += FRAME if 0 < idle < 7 else 0
+    if idle:
+        begins.append(len(stream))
+        stream += b"\x07\xff\xc0\x00" + (idle - 7).to_bytes(2, "big") + bytes(idle - 6)
+    frames, lost = [], set()
+    for number, at in enumerate(range(0, len(stream), FRAME)):
+        first = next((begin - at for begin in begins if at <= begin < at + FRAME), 0x7FF)
+        frame = b"\x12\x30" + bytes([number % 256, number % 256]) + (0x1800 | first).to_bytes(2, "big") + stream[at:at + FRAME]
+        if number and draw.random() < 0.02:
+            lost.add(number)
+        else:
+            frames.append(bytes.fromhex("1ACFFC1D") + frame)
+    whole = [packet for begin, packet in zip(begins, packets) if not lost & set(range(begin // FRAME, (begin + len(packet) - 1) // FRAME + 1))]
+    return b"".join(frames), whole, lost
 
 
 def missing(numbers):
@@ -131,8 +166,14 @@ def day(pocket):
         yield f"the packets of {apid}", None if len(sent[apid]) == count else f"{len(sent[apid])} packets and not {count}"
     cut = {apid: 2 * count // 3 for apid, _, count, _, _ in STREAMS}
     first = {apid: over_a_link(draw, range(cut[apid]), late=False) for apid in sent}
-    second = {apid: over_a_link(draw, range(cut[apid] - OVERLAP, len(sent[apid])), late=True) for apid in sent}
-    stations = [woven([[sent[apid][number] for number in arrived[apid]] for apid in sent]) for arrived in (first, second)]
+    second = {apid: over_a_link(draw, range(cut[apid] - OVERLAP, len(sent[apid])), late=False) for apid in sent}
+    stations = []
+    for name, arrived in (("first", first), ("second", second)):
+        frames, whole, lost = framed(draw, woven([[sent[apid][number] for number in arrived[apid]] for apid in sent]))
+        store, told = pocket.tool(f"frames length={FRAME + 6} sync=1", frames)
+        yield f"the frames of the {name} station", None if (store, told.count("are missing")) == (b"".join(whole), runs_of(lost)) else f"it told {told}"
+        stations.append(whole)
+        arrived.update({apid: [sent[apid].index(packet) for packet in whole if int.from_bytes(packet[:2], "big") == apid] for apid in sent})
     pass_one, at = b"".join(stations[0]), len(b"".join(stations[0][:-1]))
     pocket.put("streams.csv", "".join(f"{apid},{bits}\n" for apid, bits, *_ in STREAMS).encode())
 
@@ -143,31 +184,84 @@ def day(pocket):
     last = int.from_bytes(stations[0][-1][:2], "big")
     first[last].pop()
     pocket.put("first.store", pass_one[:at])
-    pocket.done("multi in=first.store out=first.out report=first.report streams=streams.csv")
-    lines, out = pocket.get("first.report").decode().splitlines(), list(space_packets(pocket.get("first.out")))
+    pocket.put("second.store", b"".join(stations[1]))
+    yield from restored_together(pocket, "first", recordings, first)
+
+    # The second station begins before the first one ends: both are joined, and each stream is restored out of all that came.
+    both = {apid: sorted(set(first[apid] + second[apid])) for apid in sent}
+    joined, _ = pocket.tool("merge first.store second.store")
+    pocket.put("both.store", joined)
+    yield "the stations joined", None if sorted(space_packets(joined)) == sorted(sent[apid][number] for apid in sent for number in both[apid]) else "another store"
+    yield from restored_together(pocket, "both", recordings, both)
+
+    # A pass of the rest, in which packets come late.
+    late = {apid: over_a_link(draw, range(len(sent[apid])), late=True) for apid in sent}
+    pocket.put("late.store", b"".join(woven([[sent[apid][number] for number in late[apid]] for apid in sent])))
+    for apid, bits, *_ in STREAMS:
+        pocket.done(f"late in=late.store out={apid}.late report={apid}.report bits={bits} apid={apid} window={WINDOW}")
+        *rows, left = pocket.get(f"{apid}.report").decode().splitlines()[1:]
+        yield f"{apid} of a late pass", agrees(f"{apid} of late", recordings[apid], bits, late[apid], rows, pocket.get(f"{apid}.late"), int(left.split(",")[1]))
+    yield from looked_at(pocket, recordings[100], both)
+
+
+def runs_of(numbers):
+    """How many runs of numbers in a row there are."""
+    return sum(number - 1 not in numbers for number in numbers)
+
+
+def restored_together(pocket, name, recordings, arrived):
+    """What `multi` gives back of a store, stream by stream."""
+    pocket.done(f"multi in={name}.store out={name}.out report={name}.report streams=streams.csv")
+    lines, out = pocket.get(f"{name}.report").decode().splitlines(), list(space_packets(pocket.get(f"{name}.out")))
     for apid, bits, *_ in STREAMS:
         rows = [line.partition(",")[2] for line in lines if line.startswith(f"{apid},")]
         own = b"".join(packet[6:] for packet in out if int.from_bytes(packet[:2], "big") == apid)
-        yield f"{apid} of the first pass", agrees(apid, recordings[apid], bits, first[apid], rows, own, None)
+        pocket.put(f"{apid}.{name}", own)
+        yield f"{apid} of {name}", agrees(apid, recordings[apid], bits, arrived[apid], rows, own, None)
 
-    # The second station begins before the first one ends, and some packets come late: both are joined, stream by stream.
-    pocket.put("second.store", b"".join(stations[1]))
-    pocket.put("both.store", pass_one[:at] + b"".join(stations[1]))
-    for apid, bits, *_ in STREAMS:
-        for name, arrived in (("second", second[apid]), ("both", first[apid] + second[apid])):
-            pocket.done(f"late in={name}.store out={apid}.{name} report={apid}.report bits={bits} apid={apid} window={WINDOW}")
-            *rows, late = pocket.get(f"{apid}.report").decode().splitlines()[1:]
-            yield f"{apid} of {name}", agrees(f"{apid} of {name}", recordings[apid], bits, arrived, rows, pocket.get(f"{apid}.{name}"), int(late.split(",")[1]))
 
-    # The numbers of the first stream.
+def looked_at(pocket, recording, both):
+    """The numbers of the first stream: the table, the plot's numbers with their times, the events of limits, and the way back."""
     pocket.put("fields.csv", FIELDS.encode())
     pocket.done("table in=100.both out=100.table report=100.limits fields=fields.csv bits=64")
     restored = sum(len(pocket.get(f"{apid}.both")) * 8 // (bits + -bits % 8) for apid, bits, *_ in STREAMS)
-    arrived = sum(len(set(first[apid] + second[apid])) for apid in sent)
+    arrived = sum(map(len, both.values()))
     yield "most packets", None if 2 * restored > arrived else f"of {arrived} packets that arrived only {restored} are restored"
     wanted = [part.encode() for part in table(pocket.get("100.both"), FIELDS, 64)]
     found = [pocket.get("100.table"), pocket.get("100.limits")]
     yield "the table", None if found == wanted and b",current," in found[1] else "it is another one"
+    packed, _ = pocket.tool("pack fields=fields.csv bits=64 in=100.table")
+    yield "the table packed again", None if packed == pocket.get("100.both") else "another recording"
+    plot, _ = pocket.tool("numbers table=100.table report=both.report apid=100 start=2026-11-30T00:00:00Z step=1")
+    numbers = [int(line.split(b",")[0]) for line in plot.splitlines()[1:]]
+    rows = {number: [b"%d" % number, b"2026-11-30T%02d:%02d:%02dZ" % (number // 3600, number // 60 % 60, number % 60)] for number in numbers}
+    values = [line.split(b",")[1:] for line in wanted[0].splitlines()[1:]]
+    lines = [b",".join(rows[number] + own) for number, own in zip(numbers, values)]
+    own = [recording[8 * number:8 * number + 8] for number in numbers]
+    is_right = b"".join(own) == pocket.get("100.both") and plot.splitlines() == [b"number,time,mode,current,clock", *lines]
+    yield "the numbers of the plot", None if is_right else "they are others"
+    events, _ = pocket.tool("numbers table=100.table report=both.report apid=100 fields=fields.csv bits=64 as=events")
+    yield "the events", None if stretches_of(events) == out_of_limits(numbers, own) else "they are others"
+
+
+def out_of_limits(numbers, packets):
+    """The stretches of packets at which the current is out of its limits: the first packet, how many, and the worst value."""
+    found, before = [], 0
+    for number, packet in zip(numbers, packets):
+        value = int.from_bytes(packet[1:3], "big", signed=True)
+        side = (value > 900) - (value < -900)
+        if side and side == before:
+            found[-1] = (found[-1][0], found[-1][1] + 1, max(found[-1][2], value) if side > 0 else min(found[-1][2], value))
+        elif side:
+            found.append((number, 1, value))
+        before = side
+    return found
+
+
+def stretches_of(events):
+    """The same of the lines of events."""
+    cells = [line.split(",") for line in events.decode().splitlines()[1:]]
+    return [(int(row[3]), int(row[7]), int(row[8])) for row in cells if row[0] == "current"]
 
 
 def main():

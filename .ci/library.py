@@ -119,6 +119,26 @@ def shows(room):
     return None if (cut.returncode, cut.stderr) == (1, b"pocket: the packet at byte 20 is cut\n") else cut.stderr
 
 
+def tool(room, name):
+    """A tool of the module, by a test of its own."""
+    return told(room.run(sys.executable, os.path.join(ROOT, "library", "tests", name + ".py")))
+
+
+def frame_headers(room):
+    """Whether frames are read as gr-satellites defines them, if its package can be had: its files are looked at, and not installed."""
+    folder = room.at("gr-satellites")
+    os.makedirs(folder)
+    try:
+        room.run("apt-get", "-q", "download", "gr-satellites", "python3-construct", cwd=folder)
+        for name in os.listdir(folder):
+            room.run("dpkg", "-x", name, ".", cwd=folder)
+    except (OSError, RuntimeError):
+        raise Skipped("gr-satellites") from None
+    packages = os.path.join(folder, "usr", "lib", "python3", "dist-packages")
+    room.env["PYTHONPATH"] += os.pathsep + packages
+    return told(room.run(sys.executable, os.path.join(ROOT, "library", "tests", "frames.py"), packages))
+
+
 def histories(room):
     return told(room.run(sys.executable, os.path.join(ROOT, "library", "tests", "histories.py"), room.program, str(HISTORIES)))
 
@@ -162,7 +182,11 @@ def tries():
             + [("no error under valgrind", lambda room: clean(room, "tests/worked.c", "worked-debug")),
                ("no error under valgrind with memory refused", lambda room: clean(room, "tests/refused_memory.c", "refused-debug", "-Wl,--wrap=malloc,--wrap=realloc,--wrap=free")),
                ("each allocation refused", refused_memory), ("a million random bytes", random_bytes), ("calls from Python", python_calls),
-               ("the module shows a store", shows), ("random histories", histories), ("the examples", examples),
+               ("the module shows a store", shows), ("records of stations joined", lambda room: tool(room, "merge")),
+               ("packets out of frames", lambda room: tool(room, "frames")), ("the headers of 10,000 frames", frame_headers),
+               ("tables with numbers and times, and back", lambda room: tool(room, "tables")),
+               ("a schedule for an assumed loss", lambda room: tool(room, "advise")),
+               ("random histories", histories), ("the examples", examples),
                ("the program in C of docs/CALLING.md", lambda room: printed(room, "c")), ("the program in Python of docs/CALLING.md", lambda room: printed(room, "python"))])
 
 

@@ -34,7 +34,7 @@ def commands(page):
 
 def said(command, folder, path):
     """What a command prints, on either stream."""
-    environment = {**os.environ, "PATH": f"{path}:{os.environ['PATH']}", "LC_ALL": "C"}
+    environment = {**os.environ, "PATH": f"{path}:{os.environ['PATH']}", "LC_ALL": "C", "PYTHONPATH": str(ROOT / "library" / "python"), "PYTHONDONTWRITEBYTECODE": "1"}
     ran = subprocess.run(["bash", "-c", command], cwd=folder, env=environment, stdout=subprocess.PIPE, stderr=subprocess.STDOUT, text=True, timeout=LIMIT, check=False)
     return ran.stdout.splitlines()
 

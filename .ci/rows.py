@@ -41,9 +41,14 @@ SUMMARY = b"packets 3\nrecording 3\nstore 29\nplayed 19\ndelivered 2\nwritten 2\
 # What --help prints, to the last byte.
 with open(os.path.join(documents.ROOT, ".ci", "help.txt"), "rb") as file:
     HELP = file.read()
-# What is printed of a verb: the lines of the help on it and its keys, and then its formats.
-RESTORE_HELP = b"".join(HELP.splitlines(True)[4:6]) + b"Keys:\n" + b"".join(
-    line for line in HELP.splitlines(True) if line.startswith((b"    in, ", b"    out, ", b"    bits  ", b"    apid  "))) + b"""\
+# What is printed of a verb: its lines of the help, its own keys, and its formats.
+RESTORE_HELP = b"".join(HELP.splitlines(True)[4:6]) + b"""\
+Keys:
+    in       a file to read, or - for standard input
+    out      a file to write, or - for standard output
+    report   a file to write, or - for standard output
+    bits     the bits of a packet, 1 to 49152
+    apid     the APID, 0 to 2046
 Formats:
     STORE    Space Packets, one after the other
     PACKETS  packets of F bits, each in whole bytes with spare bits 0, and nothing between
@@ -119,7 +124,11 @@ VERBS = [
          before={"x": bytes.fromhex("0064C000000385B8D6000064C002000144C00064C0010003424B8D620064C0030002C085C0")}, after={"y": bytes.fromhex("B0B1B3")}),
     case("version", "--version", out=b"pocket 1.1.0\n"),
     case("help", "--help", out=HELP),
+    case("help in one letter", "-h", out=HELP),
+    case("help in a word", "help", out=HELP),
+    case("version in one letter", "-V", out=b"pocket 1.1.0\n"),
     case("help of a verb", "restore --help", out=RESTORE_HELP),
+    case("help of a verb in one letter", "restore -h", out=RESTORE_HELP),
 ]
 
 # Words that are wrong, by the index of the first one that is.

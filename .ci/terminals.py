@@ -59,8 +59,13 @@ def watched(runner, words, before, output=None, pieces=0, pause=0.0):
     return program.wait(LIMIT), told, time.monotonic() - start
 
 
+# What `compress` says at its end, on a terminal, if it has no schedule.
+CAUTION = b"pocket: without plan= no later packet carries its mask and whole content: more than robust= lost in a row may leave all after them unwritten\r\n"
+
+
 def is_told(told, whole):
     """Whether a terminal was told how far a run is, of so many bytes or of none that are known, and at last that it is done."""
+    told = told.removesuffix(CAUTION)
     line = rb"\rpocket: \d+ of %d bytes" % whole if whole else rb"\rpocket: \d+ bytes"
     return re.fullmatch(rb"(%s)+%s" % (line, re.escape(AWAY)), told) is not None
 
@@ -107,7 +112,7 @@ def hides(runner):
     """Whether nothing is told if an output goes to the terminal, if little is read, or if a side text alone is long."""
     listing, restored = (text.replace(b"\n", b"\r\n") for text in (NOTHING_LISTED, NOTHING_RESTORED))
     rows = [("show in=x out=- bits=8 apid=100", {"x": PASSED}, listing), ("show in=x out=/dev/stdout bits=8 apid=100", {"x": PASSED}, listing),
-            ("restore in=x out=y report=- bits=8 apid=100", {"x": PASSED}, restored), (LONG, {"x": bytes(1024)}, b""),
+            ("restore in=x out=y report=- bits=8 apid=100", {"x": PASSED}, restored), (LONG, {"x": bytes(1024)}, CAUTION),
             (LONG + " plan=s", {"x": bytes(1024), "s": b"\n" * (1 << 20)}, b"")]
     for words, before, wanted in rows:
         status, told, _ = watched(runner, words, before, "terminal")
@@ -132,11 +137,10 @@ NUMBER = "; digits alone, without a zero in front"
 # Words, the files before them, the exit number, and both lines on a terminal.
 SECOND_LINES = [
     ("", {}, 2, "word 0 is wrong", HELPS),
-    ("help", {}, 2, "word 0 is wrong", HELPS),
-    ("-h", {}, 2, "word 0 is wrong", HELPS),
+    ("-x", {}, 2, "word 0 is wrong", "-x is no verb; the verbs are compress play restore show trial multi late table forecast"),
     ("retsore in=x", {}, 2, "word 0 is wrong", "retsore is no verb: did you mean restore"),
     ("zzzzzzz", {}, 2, "word 0 is wrong", "zzzzzzz is no verb; the verbs are compress play restore show trial multi late table forecast"),
-    (COMPRESS.replace("bits=8", "bits=08"), {}, 2, "word 3 is wrong", "bits=08: the bits of a packet, 1 to 49152, of trial 1 to 4096" + NUMBER),
+    (COMPRESS.replace("bits=8", "bits=08"), {}, 2, "word 3 is wrong", "bits=08: the bits of a packet, 1 to 49152" + NUMBER),
     (COMPRESS.replace("apid=100", "apid=2047"), {}, 2, "word 4 is wrong", "apid=2047: the APID, 0 to 2046" + NUMBER),
     ("restore in=a out=b report=c bits=8", {}, 2, "word 5 is wrong", "apid= is missing: the APID, 0 to 2046"),
     ("compress", {}, 2, "word 1 is wrong", "in= is missing: a file to read, or - for standard input"),
@@ -144,6 +148,9 @@ SECOND_LINES = [
     ("restore in=a in=b", {}, 2, "word 2 is wrong", "in=b: an earlier word has this key"),
     ("restore in=", {}, 2, "word 1 is wrong", "in=: a file to read, or - for standard input"),
     ("show in=x pakets=3", {}, 2, "word 2 is wrong", "show has no key pakets; the keys of show are in out bits apid"),
+    ("show in=x apdi=3", {}, 2, "word 2 is wrong", "show has no key apdi: did you mean apid="),
+    ("trial bits=4097", {}, 2, "word 1 is wrong", "bits=4097: the bits of a packet, 1 to 4096" + NUMBER),
+    ("forecast packets=0", {}, 2, "word 1 is wrong", "packets=0: how many packets there are, 1 to 1000000" + NUMBER),
     ("show in", {}, 2, "word 1 is wrong", "in has no =; the keys of show are in out bits apid"),
     ("compress mask=123 in=a out=b bits=13 apid=1 robust=2", {}, 2, "word 1 is wrong",
      "mask=123: the first mask, two hexadecimal digits for each byte of a packet"),
@@ -153,15 +160,50 @@ SECOND_LINES = [
     (SHOW.replace("out=y", "out=no/y"), {"x": STORE}, 1, "writing failed", "no/y: No such file or directory (os error 2)"),
     (SHOW.replace("out=y", "out=."), {"x": STORE}, 1, "writing failed", ".: Is a directory (os error 21)"),
     (SHOW.replace("out=y", "out=./x"), {"x": STORE}, 1, "writing failed", "./x: the command reads this file"),
-    (PLAY, {"x": STORE, "s": b"drop,1,2,1\n\ndro\x1bp,2,2,1\n"}, 3, "side row 2 is wrong", "dro?p,2,2,1"),
-    (FORECAST, {"s": b"", "x": b"drop,2,1,1\n"}, 3, "script row 1 is wrong", "drop,2,1,1"),
+    (SHOW.replace("out=y", "out=/dev/full"), {"x": STORE}, 1, "writing failed", "the disk or the device is full, or nobody reads the output any more"),
+    (PLAY, {"x": STORE, "s": b"drop,1,2,1\n\ndro\x1bp,2,2,1\n"}, 3, "side row 2 is wrong", "dro?p,2,2,1: a row of a script begins with drop or repeat"),
+    (FORECAST, {"s": b"", "x": b"drop,2,1,1\n"}, 3, "script row 1 is wrong", "drop,2,1,1: the last packet is below the first"),
     (COMPRESS.replace("bits=8", "bits=16"), {"x": b"abc"}, 4, "recording ends inside packet 1", "what came before stands in y.part"),
     (RESTORE, {"x": STORE[:-1]}, 4, "store packet at byte 28 is cut", "what came before stands in y.part and z.part"),
     # There is no second line where nothing is known, where the text came from standard input, or where a quote may hide the end of a row.
     (PLAY.replace("script=s", "script=-"), {"x": STORE}, 3, "side row 1 is wrong", None),
     (PLAY, {"x": STORE, "s": b'"drop",2,1,1\n'}, 3, "side row 1 is wrong", None),
-    (SHOW.replace("out=y", "out=/dev/full"), {"x": STORE}, 1, "writing failed", None),
 ]
+
+
+# Rows of side texts, each wrong in one part: the verb's words, the row, and why.
+TABLE, MULTI = "table in=x out=y report=z fields=s bits=16", "multi in=x out=y report=z streams=s"
+WRONG_ROWS = [
+    (COMPRESS + " plan=s", [("1,2,3", "a row of a schedule is first,last,step,flags or robust,first,last,step,value"),
+                            ("01,2,1,p", "the first packet is no number from 0 to 4294967295 in plain digits"),
+                            ("1,4294967296,1,p", "the last packet is no number from 0 to 4294967295 in plain digits"),
+                            ("1,2,0,p", "the step is no number from 1 to 4294967295 in plain digits"),
+                            ("1,2,1,pp", "the flags are one to three of p, f and r, none twice"), ("robust,1,2,1,8", "the value is no number from 0 to 7")]),
+    (PLAY, [("drop,1,2", "a row of a script is drop,first,last,step or repeat,first,last,step,extra"), ("repeat,1,2,1,9", "the extra copies are no number from 1 to 8")]),
+    (TABLE, [("field,16,1,u,a", "the place is no number below bits in plain digits"), ("field,0,65,u,a", "the width is no number from 1 to 64 in plain digits"),
+             ("field,9,8,u,a", "the field reaches past the last bit of a packet"), ("field,0,8,x,a", "the kind is neither u nor s"),
+             ("field,0,8,u,1a", "the name is not 1 to 32 letters, digits or _, the first a letter"),
+             ("field,0,8,u,b", "an earlier row has this name, or there are 256 fields before it"), ("limit,b,x,1", "the low limit is no number from -9223372036854775808 to 18446744073709551615"),
+             ("limit,b,1,x", "the high limit is no number from -9223372036854775808 to 18446744073709551615"), ("limit,b,2,1", "the high limit is below the low one"),
+             ("limit,c,1,2", "no earlier row has a field of this name, or it has a limit already"), ("fields", "a row of fields is field,place,width,kind,name or limit,name,low,high")]),
+    (MULTI, [("1,2,3", "a row of streams is apid,bits"), ("2047,8", "the APID is no number from 0 to 2046 in plain digits"),
+             ("1,49153", "the bits are no number from 1 to 49152 in plain digits"), ("100,8", "an earlier row has this APID, or there are 64 rows before it")]),
+]
+BEFORE = {TABLE: "field,0,8,u,b\n", MULTI: "100,8\n"}
+
+
+def explains_rows(runner):
+    """Whether it is told which part of a row is wrong, in a pipe too if the environment asks for it, and there at no other time."""
+    for words, rows in WRONG_ROWS:
+        for row, why in rows:
+            folder = runner.folder({"x": STORE, "s": (BEFORE.get(words, "") + row + "\n").encode()})
+            for asked, lines in (("1", 2), ("0", 1), ("", 1)):
+                program = runner.start(words.split(), cwd=folder, stdin=subprocess.DEVNULL, stdout=subprocess.PIPE, stderr=subprocess.PIPE, env=dict(os.environ, POCKET_EXPLAIN=asked))
+                status, _, told = ended(program)
+                wanted = [f"pocket: side row {1 + (words in BEFORE)} is wrong", f"pocket: {row}: {why}"][:lines]
+                if (status, told.decode().splitlines()) != (3, wanted):
+                    return f"{words} with {row} ended with {status} and told {told}"
+    return None
 
 
 def explains(runner):
@@ -179,4 +221,4 @@ def tries():
     """What is tried: each with its name, and a function that takes the runner and gives what is wrong, or None."""
     return [("progress", tells), ("progress of a pipe", tells_of_pipes), ("progress before a refusal", tells_before_refusals),
             ("progress at most ten times a second", tells_seldom), ("progress that is hidden", hides), ("progress without a terminal", is_silent),
-            ("second lines of refusals", explains)]
+            ("second lines of refusals", explains), ("wrong rows", explains_rows)]

@@ -1,5 +1,5 @@
 -- What the program itself answers, and what it leaves at its desk of files.
-use Rattle.std.specs.Prelude.{◌≡◌, ℕ, ◌≤◌, ◌⊎◌, List, [], ◌∷◌, codes, ◌&&◌, Option, Some, None, is_some, Result, Err, if◌then◌else◌, take, map}
+use Rattle.std.specs.Prelude.{◌≡◌, ℕ, ◌≤◌, ◌⊎◌, List, [], ◌∷◌, codes, ◌&&◌, ◌||◌, Option, Some, None, is_some, Result, Err, if◌then◌else◌, take, map}
 use Rattle.std.specs.Str.{bytes_eq}
 use Rattle.std.specs.String.{string_bytes}
 use Rattle.std.specs.declared.string.String.{String}
@@ -15,13 +15,14 @@ use Rattle.pocket.specs.declared.Asked.TheVariants as asked
 -- what a word asks about the program itself
 abbrev pub asked_of : List ℕ → Option Asked
 asked_of word =
-    if bytes_eq word (codes "--help") then Some asked.Help
-    else if bytes_eq word (codes "--version") then Some asked.Version
+    if bytes_eq word (codes "--help") || bytes_eq word (codes "-h") || bytes_eq word (codes "help") then Some asked.Help
+    else if bytes_eq word (codes "--version") || bytes_eq word (codes "-V") then Some asked.Version
     else None
 
 -- what a word asks after a first word: the help of that, if it is a verb
 abbrev pub asked_of_verb : List ℕ → List ℕ → Option Asked
-asked_of_verb verb word = if is_some (verb_of verb) && bytes_eq word (codes "--help") then Some asked.VerbHelp else None
+asked_of_verb verb word =
+    if (bytes_eq word (codes "--help") || bytes_eq word (codes "-h")) && is_some (verb_of verb) then Some asked.VerbHelp else None
 
 -- what the program is asked by the only word, or by the second of two
 abbrev pub asked_by : List (List ℕ) → Option Asked

@@ -1,11 +1,13 @@
-//! What a second line on standard error says of a refusal, if that is a terminal. Nothing that is decided looks at it.
+//! What a second line on standard error says of a refusal, if that is a terminal or the environment asks for it. Nothing
+//! that is decided looks at it.
 
-use crate::HELP;
 use crate::causes::{reading_cause, told_writing};
-use pocket_cmd::Refusal;
+use crate::keys::{Takes, row_of, value_of};
+use crate::row_faults::{RowKind, fault_of};
+use pocket_cmd::{Kind, Refusal, VERB_WORDS, Verb};
 use std::fmt::{Display, Formatter};
 use std::io::IsTerminal;
-use std::{fmt, fs};
+use std::{env, fmt, fs};
 use strsim::levenshtein;
 
 /// The longest text of which a row is told, in bytes. No text that is longer is read as rows.
@@ -27,17 +29,23 @@ impl<'a> Display for Shown<'a> {
     }
 }
 
-/// Says more of a refusal, if standard error is a terminal.
+/// The variable of the environment that asks for the second line in a pipe, a file or a log too, if it is `1`.
+const EXPLAIN: &str = "POCKET_EXPLAIN";
+
+/// Whether a second line is asked for.
+fn is_asked_for(rt: &HostRuntime) -> bool {
+    rt.stderr().is_terminal() || env::var(rt, EXPLAIN).is_ok_and(|value| value.as_str() == "1")
+}
+
+/// Says more of a refusal, if that is asked for.
 pub fn advise(rt: &HostRuntime, words: &[String], refusal: &Refusal) {
-    if !rt.stderr().is_terminal() {
+    if !is_asked_for(rt) {
         return;
     }
     match refusal {
         Refusal::BadWords { word } => tell_word(rt, words, *word as usize),
-        Refusal::BadSide { row } => {
-            tell_row(rt, words, &["plan", "script", "fields", "streams"], *row)
-        }
-        Refusal::BadScript { row } => tell_row(rt, words, &["script"], *row),
+        Refusal::BadSide { row } => tell_side(rt, words, *row),
+        Refusal::BadScript { row } => tell_row(rt, words, "script", RowKind::Script, *row),
         Refusal::ReadFault => tell_reading(rt, words),
         Refusal::WriteFault => tell_writing(rt, words),
         Refusal::CutRecord { .. } | Refusal::SpareBit { .. } => tell_parts(rt, words),
@@ -46,202 +54,123 @@ pub fn advise(rt: &HostRuntime, words: &[String], refusal: &Refusal) {
     }
 }
 
-/// The keys of a verb, as the help has them.
-fn keys_of(verb: &str) -> Option<&'static str> {
-    for line in HELP.lines() {
-        if let Some((name, keys)) = verb_in(line) {
-            if name == verb {
-                return Some(keys);
-            }
-        }
-    }
-    None
-}
-
-/// The verb and the keys that a line of the help has.
-pub fn verb_in(line: &'static str) -> Option<(&'static str, &'static str)> {
-    let rest = line.strip_prefix("pocket ")?;
-    rest.split_once(' ')
-}
-
-/// The name of a key that the help has as `KEY=VALUE` or `[KEY=VALUE]`, and whether it is needed.
-fn key_in(word: &'static str) -> (&'static str, bool) {
-    let (word, is_needed) = match word.strip_prefix('[') {
-        None => (word, true),
-        Some(inner) => (inner, false),
-    };
-    match word.split_once('=') {
-        None => (word, is_needed),
-        Some((name, _)) => (name, is_needed),
-    }
-}
-
-/// Whether a verb has this key.
-pub fn is_key(verb: &str, key: &str) -> bool {
-    match keys_of(verb) {
-        None => false,
-        Some(keys) => is_in(keys, key),
-    }
-}
-
-/// Whether the keys of a verb have this one.
-fn is_in(keys: &'static str, key: &str) -> bool {
-    for word in keys.split(' ') {
-        if key_in(word).0 == key {
-            return true;
-        }
-    }
-    false
-}
-
-/// What the help says of a key.
-fn meaning_of(key: &str) -> &'static str {
-    for line in HELP.lines() {
-        if let Some((names, meaning)) = key_line(line) {
-            if is_among(names, key) {
-                return meaning.trim_start();
-            }
-        }
-    }
-    ""
-}
-
-/// The keys of which a line of the help tells, and what it says of them.
-pub fn key_line(line: &'static str) -> Option<(&'static str, &'static str)> {
-    let rest = line.strip_prefix("    ")?;
-    rest.split_once("  ")
-}
-
-/// Whether a list of names has this one.
-fn is_among(names: &str, key: &str) -> bool {
-    for name in names.split(", ") {
-        if name == key {
-            return true;
-        }
-    }
-    false
-}
-
-/// The value that words give to a key.
-pub fn value_of<'a>(words: &'a [String], key: &str) -> Option<&'a str> {
-    for word in words {
-        if let Some((name, value)) = word.as_str().split_once('=') {
-            if name == key {
-                return Some(value);
-            }
-        }
-    }
-    None
-}
-
 /// Tells what is wrong with the word at this place, or which one is missing.
 fn tell_word(rt: &HostRuntime, words: &[String], place: usize) {
-    let Some((verb, given)) = words.split_first() else {
+    let Some((word, given)) = words.split_first() else {
         let _ = eprintln!(rt; "pocket: pocket --help has the verbs and their keys");
         return;
     };
-    let verb = verb.as_str();
-    let Some(keys) = keys_of(verb) else {
-        return tell_verb(rt, verb);
+    let Some(verb) = Verb::of(word.as_str()) else {
+        return tell_verb(rt, word.as_str());
     };
     match words.get(place) {
-        None => tell_missing(rt, keys, given),
-        Some(word) => tell_value(rt, verb, keys, &words[..place], word.as_str()),
+        None => tell_missing(rt, verb, given),
+        Some(wrong) => tell_value(rt, word.as_str(), verb, &words[..place], wrong.as_str()),
     }
 }
 
 /// Tells the verb that this word is near, or all verbs.
 fn tell_verb(rt: &HostRuntime, word: &str) {
-    if matches!(word, "help" | "-h" | "-help" | "-?") {
-        let _ = eprintln!(rt; "pocket: pocket --help has the verbs and their keys");
-        return;
-    }
     let shown = Shown(word);
-    if let Some(verb) = near(rt, word) {
+    if let Some(verb) = near(rt, word, &VERB_WORDS) {
         let _ = eprintln!(rt; "pocket: {shown} is no verb: did you mean {verb}");
         return;
     }
     let _ = eprint!(rt; "pocket: {shown} is no verb; the verbs are");
-    for line in HELP.lines() {
-        if let Some((verb, _)) = verb_in(line) {
-            let _ = eprint!(rt; " {verb}");
-        }
+    for verb in VERB_WORDS {
+        let _ = eprint!(rt; " {verb}");
     }
     let _ = eprintln!(rt; "");
 }
 
-/// The first verb that is one or two letters off this word.
-fn near(rt: &HostRuntime, word: &str) -> Option<&'static str> {
-    for line in HELP.lines() {
-        if let Some((verb, _)) = verb_in(line) {
-            if levenshtein(rt.alloc(), verb, word).is_ok_and(|off| off <= 2) {
-                return Some(verb);
-            }
+/// The first of some words that is one or two letters off this one.
+fn near(rt: &HostRuntime, word: &str, all: &[&'static str]) -> Option<&'static str> {
+    for one in all {
+        if levenshtein(rt.alloc(), one, word).is_ok_and(|off| off <= 2) {
+            return Some(one);
         }
     }
     None
 }
 
 /// Tells the first key that is needed and that no word has.
-fn tell_missing(rt: &HostRuntime, keys: &'static str, given: &[String]) {
-    for word in keys.split(' ') {
-        let (key, is_needed) = key_in(word);
-        if is_needed && value_of(given, key).is_none() {
-            let meaning = meaning_of(key);
-            let _ = eprintln!(rt; "pocket: {key}= is missing: {meaning}");
+fn tell_missing(rt: &HostRuntime, verb: Verb, given: &[String]) {
+    for row in verb.rows() {
+        let key = row.key();
+        if row.is_needed() && value_of(given, key).is_none() {
+            let takes = Takes(*row);
+            let _ = eprintln!(rt; "pocket: {key}= is missing: {takes}");
             return;
         }
     }
 }
 
 /// Tells what the key of a word takes, or which keys the verb has.
-fn tell_value(rt: &HostRuntime, verb: &str, keys: &'static str, before: &[String], word: &str) {
+fn tell_value(rt: &HostRuntime, name: &str, verb: Verb, before: &[String], word: &str) {
     let shown = Shown(word);
     let Some((key, value)) = word.split_once('=') else {
         let _ = eprint!(rt; "pocket: {shown} has no =; ");
-        return tell_keys(rt, verb, keys);
+        return tell_keys(rt, name, verb);
     };
-    if !is_in(keys, key) {
-        let key = Shown(key);
-        let _ = eprint!(rt; "pocket: {verb} has no key {key}; ");
-        return tell_keys(rt, verb, keys);
-    }
-    let meaning = meaning_of(key);
-    let is_name = meaning.starts_with("a file");
+    let Some(row) = row_of(verb, key) else {
+        return tell_key(rt, name, verb, key);
+    };
+    let takes = Takes(row);
+    let is_number = matches!(row.value(), Kind::Number(..));
     let _ = if value_of(before, key).is_some() {
         eprintln!(rt; "pocket: {shown}: an earlier word has this key")
-    } else if is_name && !value.is_empty() {
+    } else if is_number {
+        eprintln!(rt; "pocket: {shown}: {takes}; digits alone, without a zero in front")
+    } else if matches!(row.value(), Kind::Name(_)) && !value.is_empty() {
         eprintln!(rt; "pocket: {shown}: another key has this name")
-    } else if is_name || key == "mask" {
-        eprintln!(rt; "pocket: {shown}: {meaning}")
     } else {
-        eprintln!(rt; "pocket: {shown}: {meaning}; digits alone, without a zero in front")
+        eprintln!(rt; "pocket: {shown}: {takes}")
     };
 }
 
+/// Tells the key that this one is near, or all keys that the verb has.
+fn tell_key(rt: &HostRuntime, name: &str, verb: Verb, key: &str) {
+    let shown = Shown(key);
+    for row in verb.rows() {
+        let own = row.key();
+        if near(rt, key, &[own]).is_some() {
+            let _ = eprintln!(rt; "pocket: {name} has no key {shown}: did you mean {own}=");
+            return;
+        }
+    }
+    let _ = eprint!(rt; "pocket: {name} has no key {shown}; ");
+    tell_keys(rt, name, verb);
+}
+
 /// Tells the keys that a verb has.
-fn tell_keys(rt: &HostRuntime, verb: &str, keys: &'static str) {
-    let _ = eprint!(rt; "the keys of {verb} are");
-    for word in keys.split(' ') {
-        let (name, _) = key_in(word);
-        let _ = eprint!(rt; " {name}");
+fn tell_keys(rt: &HostRuntime, name: &str, verb: Verb) {
+    let _ = eprint!(rt; "the keys of {name} are");
+    for row in verb.rows() {
+        let key = row.key();
+        let _ = eprint!(rt; " {key}");
     }
     let _ = eprintln!(rt; "");
 }
 
-/// The name that words give to the first of these keys that they have.
-fn first_name<'a>(words: &'a [String], keys: &[&str]) -> Option<&'a str> {
-    for key in keys {
-        if let Some(name) = value_of(words, key) {
-            return Some(name);
+/// Tells what is wrong with a row of the side input, which is the first of these that the words have.
+fn tell_side(rt: &HostRuntime, words: &[String], row: u32) {
+    let bits = value_of(words, "bits").and_then(|text| text.parse::<u32>().ok());
+    let kinds = [
+        ("plan", RowKind::Schedule),
+        ("script", RowKind::Script),
+        ("fields", RowKind::Fields(bits.unwrap_or(0))),
+        ("streams", RowKind::Streams),
+    ];
+    for (key, kind) in kinds {
+        if value_of(words, key).is_some() {
+            return tell_row(rt, words, key, kind, row);
         }
     }
-    None
 }
 
-/// Tells the text of a row, if it was read from a file, and no quote stands in that.
-fn tell_row(rt: &HostRuntime, words: &[String], keys: &[&str], row: u32) {
-    let Some(name) = first_name(words, keys) else {
+/// Tells the text of a row and what is wrong with it, if it was read from a file, and no quote stands in that.
+fn tell_row(rt: &HostRuntime, words: &[String], key: &str, kind: RowKind, row: u32) {
+    let Some(name) = value_of(words, key) else {
         return;
     };
     let is_short = fs::metadata(rt, name).is_ok_and(|it| it.is_file() && it.len() <= LONGEST);
@@ -249,15 +178,29 @@ fn tell_row(rt: &HostRuntime, words: &[String], keys: &[&str], row: u32) {
         return;
     }
     if let Ok(text) = fs::read_to_string(rt, name) {
-        if let Some(line) = row_of(text.as_str(), row) {
+        if let Some(line) = row_of_text(text.as_str(), row) {
             let shown = Shown(line);
-            let _ = eprintln!(rt; "pocket: {shown}");
+            let why = fault_of(kind, line);
+            let _ = eprintln!(rt; "pocket: {shown}: {why}");
         }
     }
 }
 
+/// Says of a command that was done what its sender risks, if standard error is a terminal: a recording that was compressed
+/// without a schedule, so that only its first packets carry their mask and whole content.
+pub fn caution(rt: &HostRuntime, words: &[String]) {
+    let is_compress = words
+        .first()
+        .is_some_and(|verb| verb.as_str() == "compress");
+    if is_compress && value_of(words, "plan").is_none() && rt.stderr().is_terminal() {
+        let _ = eprintln!(rt;
+            "pocket: without plan= no later packet carries its mask and whole content: more than robust= lost in a row may leave all after them unwritten"
+        );
+    }
+}
+
 /// The row of this number, counted from 1, of a text without quotes.
-fn row_of(text: &str, row: u32) -> Option<&str> {
+fn row_of_text(text: &str, row: u32) -> Option<&str> {
     if text.contains('"') {
         return None;
     }
@@ -286,7 +229,8 @@ fn tell_reading(rt: &HostRuntime, words: &[String]) {
     }
 }
 
-/// Tells which output can't be written, and why, as far as the system still tells it.
+/// Tells which output can't be written, and why, as far as the system still tells it. If it doesn't, room has been made since,
+/// or there is none on a device that is never full.
 fn tell_writing(rt: &HostRuntime, words: &[String]) {
     for key in ["out", "report"] {
         if let Some(name) = value_of(words, key) {
@@ -295,6 +239,9 @@ fn tell_writing(rt: &HostRuntime, words: &[String]) {
             }
         }
     }
+    let _ = eprintln!(rt;
+        "pocket: the disk or the device is full, or nobody reads the output any more"
+    );
 }
 
 /// Tells where the parts of the outputs stand, with what came before the fault.

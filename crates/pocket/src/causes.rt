@@ -1,6 +1,7 @@
 //! What the system says of a file that could not be read or written. It is asked anew, once the run is over.
 
-use crate::advice::{Shown, value_of};
+use crate::advice::Shown;
+use crate::keys::value_of;
 use std::fs::OpenOptions;
 use std::io::Read;
 use std::os::unix::fs::MetadataExt;

@@ -1,7 +1,7 @@
 //! The program `pocket`: its words, the desk of files, and how it ends.
 #![tactic(auto)]
 
-ghost use Rattle.std.specs.Prelude.{◌≡◌, ℕ, ◌≤◌, ◌↔◌, ◌⊎◌, drop, is_some, length, map, take, Err, IsSome, None};
+ghost use Rattle.std.specs.Prelude.{◌≡◌, ℕ, ◌≤◌, ◌↔◌, ◌⊎◌, drop, length, map, take, Err, IsSome, None};
 ghost use Rattle.std.specs.Process.{exit_status};
 ghost use Rattle.std.specs.String.{string_bytes};
 ghost use Rattle.desk_ports.specs.FileDesk.{file_counts, GathersNothing};
@@ -9,15 +9,16 @@ ghost use Rattle.desk_ports.specs.Meanings.{nothing_told};
 ghost use Rattle.pocket.specs.Program.{IsHandedOver, answered, asked_by, asked_of, asked_of_verb, seen};
 ghost use Rattle.pocket_cmd.specs.Command.{HasCommand, command_of};
 ghost use Rattle.pocket_cmd.specs.Status.{exit_number};
-ghost use Rattle.pocket_cmd.specs.Verbs.{verb_of};
 
 mod advice;
 mod causes;
+mod keys;
+mod row_faults;
 mod verb_help;
 
-use advice::advise;
+use advice::{advise, caution};
 use desk_ports::{Desk, Failed, FileDesk};
-use pocket_cmd::{Refusal, Status, exit_code, pocket};
+use pocket_cmd::{Refusal, Status, Verb, exit_code, pocket};
 use std::fs::File;
 use std::process::ExitCode;
 use std::{env, fs, io};
@@ -98,8 +99,8 @@ impl Asked {
         ensures { result ≡ asked_of word.now }
     {
         match word {
-            "--help" => Some(Asked::Help),
-            "--version" => Some(Asked::Version),
+            "--help" | "-h" | "help" => Some(Asked::Help),
+            "--version" | "-V" => Some(Asked::Version),
             _ => None,
         }
     }
@@ -108,10 +109,9 @@ impl Asked {
     fn of_verb(verb: &str, word: &str) -> Option<Asked>
         ensures { result ≡ asked_of_verb verb.now word.now }
     {
-        if is_verb(verb) && word == "--help" {
-            Some(Asked::VerbHelp)
-        } else {
-            None
+        match word {
+            "--help" | "-h" if Verb::of(verb).is_some() => Some(Asked::VerbHelp),
+            _ => None,
         }
     }
 
@@ -123,16 +123,6 @@ impl Asked {
             _ => println!(rt; "{HELP}"),
         }
     }
-}
-
-/// Whether a word names a verb.
-fn is_verb(word: &str) -> bool
-    ensures { result ≡ is_some (verb_of word.now) }
-{
-    matches!(
-        word,
-        "compress" | "play" | "restore" | "show" | "trial" | "multi" | "late" | "table" | "forecast"
-    )
 }
 
 fn main(rt: HostRuntime) -> ExitCode {
@@ -260,13 +250,17 @@ fn printed(rt: &HostRuntime, print: io::Result<()>) -> ExitCode {
     }
 }
 
-/// Prints a refusal on standard error, and on a terminal what these words have to do with it; and gives the exit number.
+/// Prints a refusal on standard error, and on a terminal what these words have to do with it, or what a sender risks; and gives
+/// the exit number.
 fn ended(rt: &HostRuntime, words: &[String], status: Status) -> ExitCode
     ensures { exit_status result ≡ exit_number status }
 {
-    if let Status::Refused(refusal) = &status {
-        let _ = eprintln!(rt; "pocket: {refusal}");
-        advise(rt, words, refusal);
+    match &status {
+        Status::Done => caution(rt, words),
+        Status::Refused(refusal) => {
+            let _ = eprintln!(rt; "pocket: {refusal}");
+            advise(rt, words, refusal);
+        }
     }
     ExitCode::from(exit_code(&status))
 }

@@ -1,46 +1,41 @@
 //! What `pocket VERB --help` prints: the lines of the help on a verb and its keys, its formats, and an example.
 
 use crate::HELP;
-use crate::advice::{is_key, key_line, verb_in};
+use crate::keys::Takes;
+use pocket_cmd::Verb;
 use std::io;
 
-/// Prints the help of a verb on standard output.
-pub fn print_help(rt: &HostRuntime, verb: &str) -> io::Result<()> {
+/// Prints the help of a verb, which this word names, on standard output.
+pub fn print_help(rt: &HostRuntime, word: &str) -> io::Result<()> {
     let mut is_next = false;
     for line in HELP.lines() {
-        if is_next {
+        let is_own = is_of(line, word);
+        if is_next || is_own {
             println!(rt; "{line}")?;
         }
-        is_next = verb_in(line).is_some_and(|(name, _)| name == verb);
-        if is_next {
-            println!(rt; "{line}")?;
-        }
+        is_next = is_own;
     }
-    print_keys(rt, verb)?;
-    println!(rt; "{}", formats_of(verb))
+    if let Some(verb) = Verb::of(word) {
+        print_keys(rt, verb)?;
+    }
+    println!(rt; "{}", formats_of(word))
 }
 
-/// Prints what the help says of the keys of a verb.
-fn print_keys(rt: &HostRuntime, verb: &str) -> io::Result<()> {
+/// Whether a line of the help is the command of the verb that this word names.
+fn is_of(line: &str, word: &str) -> bool {
+    let rest = line.strip_prefix("pocket ").unwrap_or("");
+    rest.split_once(' ').is_some_and(|(verb, _)| verb == word)
+}
+
+/// Prints what each key of a verb takes.
+fn print_keys(rt: &HostRuntime, verb: Verb) -> io::Result<()> {
     println!(rt; "Keys:")?;
-    for line in HELP.lines() {
-        if let Some((names, _)) = key_line(line) {
-            if has_one(verb, names) {
-                println!(rt; "{line}")?;
-            }
-        }
+    for row in verb.rows() {
+        let key = row.key();
+        let takes = Takes(*row);
+        println!(rt; "    {key:<7}  {takes}")?;
     }
     Ok(())
-}
-
-/// Whether a verb has one of these keys.
-fn has_one(verb: &str, names: &str) -> bool {
-    for name in names.split(", ") {
-        if is_key(verb, name) {
-            return true;
-        }
-    }
-    false
 }
 
 /// The formats that a verb reads and writes, in a line each, and an example.

@@ -24,7 +24,7 @@ import ctypes.util
 import enum
 import os
 from dataclasses import dataclass
-from typing import BinaryIO, Iterator, Mapping, Optional
+from typing import Any, BinaryIO, Iterator, Mapping, Optional, TypeVar
 
 __all__ = ["Arrival", "BitsOutOfRange", "Closed", "Counts", "CountOutOfRange", "Desk", "Kind", "NotText", "OutOfMemory", "PocketError",
            "Receiver", "Refused", "RobustnessOutOfRange", "Sender", "Sent", "SpareBitSet", "SpacePacket", "StoreError", "TooLong",
@@ -145,17 +145,22 @@ _CALLS = {
 }
 
 
-def _loaded() -> ctypes.CDLL:
-    """The library, with the types of its calls."""
-    name = os.environ.get("POCKET_LIBRARY") or ctypes.util.find_library("pocket") or "libpocket.so"
-    library = ctypes.CDLL(name)
-    for call, types in _CALLS.items():
-        function = getattr(library, call)
-        function.argtypes, function.restype = types, ctypes.c_uint32
-    return library
+class _Library:
+    """The calls of the library, which is loaded as one of them is looked for: the tools that need none of them do without."""
+
+    def __getattr__(self, call: str) -> Any:
+        name = os.environ.get("POCKET_LIBRARY") or ctypes.util.find_library("pocket") or "libpocket.so"
+        library = ctypes.CDLL(name)
+        for own, types in _CALLS.items():
+            function = getattr(library, own)
+            function.argtypes, function.restype = types, ctypes.c_uint32
+            setattr(self, own, function)
+        if call not in _CALLS:
+            raise AttributeError(call)
+        return getattr(self, call)
 
 
-_library = _loaded()
+_library = _Library()
 
 
 def _done(status: int) -> None:
@@ -226,17 +231,21 @@ class Counts:
     listed: int
 
 
+_Own = TypeVar("_Own", bound="_Held")
+
+
 class _Held:
     """A handle that is closed at the end of a `with`, or with its object."""
 
     def __init__(self) -> None:
+        self._close = _library.pocket_close
         self._handle = _Handle()
 
     def close(self) -> None:
         """Gives back its memory. A second time does nothing."""
-        _library.pocket_close(self._handle)
+        self._close(self._handle)
 
-    def __enter__(self):
+    def __enter__(self: _Own) -> _Own:
         return self
 
     def __exit__(self, *_: object) -> None:
@@ -244,7 +253,7 @@ class _Held:
 
     def __del__(self) -> None:
         if hasattr(self, "_handle"):
-            _library.pocket_close(self._handle)
+            self._close(self._handle)
 
 
 class Sender(_Held):

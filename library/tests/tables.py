@@ -1,0 +1,187 @@
+#!/usr/bin/env python3
+"""`python3 -m pocket numbers` and `pack` over tables that .ci/table.py works out: packets are packed as they were, numbers and times are
+those of what was lost and when, events those of a walk value by value; and each refusal. Its last line is 'N passed, M failed'."""
+
+import contextlib
+import datetime
+import io
+import os
+import random
+import sys
+import tempfile
+
+sys.path.insert(0, os.path.join(os.path.dirname(os.path.abspath(__file__)), "..", "..", ".ci"))
+
+from pocket import numbers, pack
+from pocket.tool import ToolError
+from table import table
+
+ROUNDS = 60
+results = []
+
+
+def judge(name, right):
+    results.append(right)
+    if not right:
+        print(f"numbers: {name}")
+
+
+class Files:
+    """A folder, and the tools over files in it."""
+
+    def __init__(self, folder):
+        self.folder = folder
+
+    def put(self, name, text):
+        with open(os.path.join(self.folder, name), "wb") as file:
+            file.write(text.encode() if isinstance(text, str) else text)
+
+    def run(self, tool, *words):
+        """What a tool writes, or the text of its refusal."""
+        named = [f"{key}={os.path.join(self.folder, value)}" if key in ("table", "report", "fields", "in") else f"{key}={value}"
+                 for key, _, value in (word.partition("=") for word in words)]
+        out = io.TextIOWrapper(io.BytesIO(), newline="\n")
+        try:
+            with contextlib.redirect_stdout(out):
+                tool.run(named)
+            out.flush()
+            return out.buffer.getvalue()
+        except ToolError as error:
+            return str(error).replace(self.folder + os.sep, "")
+
+
+def fields_of(draw, bits):
+    """Fields of a packet, which may lie over each other, and limits of some."""
+    rows = []
+    for number in range(draw.randrange(1, 7)):
+        place = draw.randrange(bits)
+        width = draw.randrange(1, min(64, bits - place) + 1)
+        rows.append((place, width, draw.choice("us"), draw.choice(["t", "time", "number", "a", "b", "c"]) + str(number) * draw.randrange(2)))
+    rows = list({row[3]: row for row in rows}.values())
+    limits = [(name, *sorted(draw.randrange(-(1 << width - 1), 1 << width) for _ in range(2))) for _, width, _, name in rows if draw.random() < 0.7]
+    return rows, limits
+
+
+def text_of(rows, limits):
+    return "".join(",".join(map(str, ("field", *row))) + "\n" for row in rows) + "".join(",".join(map(str, ("limit", *row))) + "\n" for row in limits)
+
+
+def covered(rows, bits):
+    """The places of a packet that a field has."""
+    size = -(-bits // 8)
+    return sum({1 << 8 * size - 1 - place for start, width, _, _ in rows for place in range(start, start + width)}).to_bytes(size, "big")
+
+
+def events(names, limits, packets):
+    """The stretches out of limits, value by value: of each the field, the limit, the first and the last packet, how many, and the worst."""
+    found = []
+    for place, name in enumerate(names):
+        if name not in limits:
+            continue
+        low, high = limits[name]
+        before = None
+        for number, values in packets:
+            side = "low" if values[place] < low else "high" if values[place] > high else None
+            if side and side == before:
+                found[-1][4] += 1
+                if (values[place] < found[-1][5]) if side == "low" else (values[place] > found[-1][5]):
+                    found[-1][5:7] = values[place], number
+            elif side:
+                found.append([name, side, number, None, 1, values[place], number])
+            if before and side != before:
+                ended = [one for one in found if one[0] == name and one[3] is None and one[2] != number]
+                ended[-1][3] = number
+            before = side
+    return sorted(map(tuple, found), key=str)
+
+
+def rounds(draw, files):
+    for turn in range(ROUNDS):
+        bits = draw.choice([8, 13, 64, 200])
+        rows, limits = fields_of(draw, bits)
+        count = draw.randrange(0, 40)
+        spare = -bits % 8
+        recording = b"".join((draw.getrandbits(bits) << spare).to_bytes(-(-bits // 8), "big") for _ in range(count))
+        text = text_of(rows, limits)
+        own, _ = table(recording, text, bits)
+        files.put("fields", text)
+        files.put("table", own)
+        mask = covered(rows, bits)
+        wanted = b"".join(bytes(one & other for one, other in zip(recording[at:at + len(mask)], mask)) for at in range(0, len(recording), len(mask)))
+        judge(f"turn {turn}, pack", files.run(pack, "fields=fields", f"bits={bits}", "in=table") == wanted)
+        lost = [draw.random() < 0.2 for _ in range(2 * count)]
+        places = [place for place, is_lost in enumerate(lost) if not is_lost][:count]
+        count_all = places[-1] + 1 if places else 0
+        gaps = [f"{place},{place},{draw.choice(['lost,0', 'gap,3', 'wrong,17'])}" for place in range(count_all) if place not in places]
+        files.put("report", "first,last,cause,value\n" + "".join(gap + "\n" for gap in gaps) + f"end,{count_all},{len(places)},0\n")
+        names, values = [row[3] for row in rows], [[int(cell) for cell in line.split(",")[1:]] for line in own.splitlines()[1:]]
+        found = files.run(numbers, "table=table", "report=report", "start=2026-11-30T06:00:00Z", "step=0.25").decode().splitlines()
+        judge(f"turn {turn}, names", len(set(found[0].split(","))) == len(names) + (2 if count else 1) and found[0].endswith(",".join(names)))
+        begin = datetime.datetime(2026, 11, 30, 6)
+        times = [(begin + datetime.timedelta(seconds=place / 4)).isoformat() for place in places]
+        lines = [",".join([str(place), (time[:-6] + time[-6:].rstrip("0") if "." in time else time) + "Z", *map(str, own)]) for place, time, own in zip(places, times, values)]
+        judge(f"turn {turn}, csv", found[1:] == lines)
+        told = files.run(numbers, "table=table", "report=report", "fields=fields", f"bits={bits}", "as=events").decode().splitlines()[1:]
+        cells = [line.split(",") for line in told]
+        got = sorted(((c[0], c[1], int(c[3]), int(c[5]) if c[5] else None, int(c[7]), int(c[8]), int(c[9])) for c in cells), key=str)
+        judge(f"turn {turn}, events", got == events(names, {name: (low, high) for name, low, high in limits}, list(zip(places, values))))
+        points = files.run(numbers, "table=table", "report=report", "fields=fields", f"bits={bits}", "as=influx", "measurement=hk of a,b").decode().splitlines()
+        judge(f"turn {turn}, influx", len(points) == count and all(point.startswith("hk\\ of\\ a\\,b ") for point in points))
+
+
+def rows(files):
+    """Worked rows, and each refusal."""
+    files.put("fields", "field,0,8,u,t\nfield,8,8,s,temp\nlimit,temp,-10,40\n")
+    files.put("table", "t,t,temp\n0,1,-16\n1,2,40\n2,3,-12\n3,4,41\n")
+    files.put("report", "first,last,cause,value\n0,0,lost,0\n3,4,gap,2\nend,4,4,0\nlate,0\n")
+    words = ["table=table", "report=report"]
+    fields = ["fields=fields", "bits=16"]
+    judge("csv", files.run(numbers, *words) == b"number,t,temp\n1,1,-16\n2,2,40\n5,3,-12\n6,4,41\n")
+    judge("a time from a field", files.run(numbers, *words, "time=t", "epoch=2000-01-01T00:00:00Z", "unit=0.001").splitlines()[1] == b"1,2000-01-01T00:00:00.001Z,1,-16")
+    judge("influx", files.run(numbers, *words, *fields, "as=influx", "start=1970-01-01T00:00:01Z", "step=1").splitlines()[0] == b"pocket number=1i,t=1i,temp=-16i 2000000000")
+    judge("events", files.run(numbers, *words, *fields, "as=events").splitlines()[1:] == [b"temp,low,-10,1,,2,,1,-16,1,", b"temp,low,-10,5,,6,,1,-12,5,", b"temp,high,40,6,,,,1,41,6,"])
+    files.put("streams", "apid,first,last,cause,value\n100,0,0,lost,0\n100,3,4,gap,2\n101,0,9,lost,0\n100,end,4,4,0\n101,end,0,0,0\nshape,0\n")
+    judge("of several streams", files.run(numbers, "table=table", "report=streams", "apid=100") == files.run(numbers, *words))
+    judge("a field named t", files.run(pack, *fields, "in=table") == bytes.fromhex("01F0 0228 03F4 0429"))
+    for name, text in [("short", "first,last,cause,value\nend,3,3,0\n"), ("open", "first,last,cause,value\n0,0,lost,0\n"), ("rows", "first,last,cause,value\n5,3,lost,0\n"),
+                       ("columns", "temp,u\n1,2\n"), ("twice", "temp,temp\n1,2\n"), ("great", "temp\n128\n"), ("less", "temp,t\n1\n"), ("empty", ""), ("over", "t,temp\n1,5\n"),
+                       ("many", "field,0,8,u,t\nfield,0,9,u,temp\n"), ("limits", "field,0,8,u,t\nlimit,u,1,2\n")]:
+        files.put(name, text)
+    refused = [
+        ((numbers, "table=table", "report=short"), "table has 4 packets, and by short 3 were restored"),
+        ((numbers, "table=table", "report=open"), "open has no row end: the store was not read to its end"),
+        ((numbers, "table=table", "report=rows"), "rows: line 2 is no row of a report: 5,3,lost,0"),
+        ((numbers, "table=table", "report=streams"), "streams: line 1 is not first,last,cause,value: say apid=N of a report of several streams"),
+        ((numbers, "table=report", "report=report"), "report: line 1 is not that of a table: t and the names of fields"),
+        ((numbers, *words, "as=xml"), "as=xml: as= takes csv, influx or events"),
+        ((numbers, *words, "as=events"), "as=events takes fields= and bits=, those of the table"),
+        ((numbers, *words, "start=today", "step=1"), "start=today: start= takes a time in UTC, as 2026-11-30T06:00:00Z"),
+        ((numbers, *words, "step=1"), "start= goes with step=, and epoch= and unit= with time="),
+        ((numbers, *words, "time=x", "epoch=2000-01-01T00:00:00Z", "unit=1"), "time=x: the table has no such field"),
+        ((numbers, *words, "unti=1"), "unti=1: did you mean unit=?"),
+        ((numbers, "table=table"), "report= is missing"),
+        ((pack, *fields, "in=columns"), "columns: line 1, column 2: no field has the name u"),
+        ((pack, *fields, "in=twice"), "twice: line 1, column 2: temp stands twice"),
+        ((pack, *fields, "in=great"), "great: line 2, column 1: temp takes a number from -128 to 127, and not 128"),
+        ((pack, *fields, "in=less"), "less: line 2 has 1 columns, and the first line 2"),
+        ((pack, *fields, "in=empty"), "empty: line 1 names no field"),
+        ((pack, "fields=many", "bits=16", "in=over"), "over: line 2, column 2: temp lies over a field before it, which says another bit"),
+        ((pack, "fields=limits", "bits=16", "in=over"), "limits: row 2, limit,u,1,2: no row before it has the field u, or it has a limit already"),
+        ((pack, "fields=missing", "bits=16", "in=over"), "missing: No such file or directory"),
+    ]
+    for call, wanted in refused:
+        judge(f"{wanted}: {files.run(*call)}", files.run(*call) == wanted)
+
+
+def main():
+    with tempfile.TemporaryDirectory(prefix="pocket-numbers-") as folder:
+        files = Files(folder)
+        rows(files)
+        rounds(random.Random(20261130), files)
+    failed = results.count(False)
+    print(f"{len(results) - failed} passed, {failed} failed")
+    sys.exit(1 if failed else 0)
+
+
+if __name__ == "__main__":
+    main()
