@@ -32,10 +32,6 @@
 #include <stdbool.h>
 #endif
 
-#if SIZE_MAX != UINT64_MAX || !defined(__BYTE_ORDER__) || __BYTE_ORDER__ != __ORDER_LITTLE_ENDIAN__
-#error "pocket is for processors of 64 bits with the little end first"
-#endif
-
 #ifdef __cplusplus
 extern "C" {
 #endif
@@ -237,6 +233,31 @@ static inline pocket_status pocket_checked_close(pocket_handle *handle)
 #define pocket_run pocket_checked_run
 #define pocket_get pocket_checked_get
 #define pocket_close pocket_checked_close
+
+/* ---- The calls that the one file pocket.c alone has ---- */
+
+#define POCKET_NO_STATE 252         /* the bytes are no state of pocket_save: damaged, cut, or of another version */
+#define POCKET_OTHER_STATE 253      /* the state is of the other kind, or of other bits */
+#define POCKET_BROKEN 254           /* an access outside the memory of the handle, which was not made: it can only be closed */
+
+/* The memory of a handle, in bytes, for a static array of any alignment. */
+#define POCKET_STACK_BYTES 1280u
+#define POCKET_FIXED_BYTES (15u + 48u + POCKET_STACK_BYTES + 64u + 8u)
+#define POCKET_UP8(bytes) (((size_t)(bytes) + 7u) / 8u * 8u)
+#define POCKET_VECTOR_BYTES(bits) (((size_t)(bits) + 63u) / 64u * 8u)
+#define POCKET_SENDER_HEAP(bits) (31u * POCKET_VECTOR_BYTES(bits) + 2u * ((10u * (size_t)(bits) + 43u) / 64u * 8u + 16u) + 1080u)
+#define POCKET_RECEIVER_HEAP(bits) (18u * POCKET_VECTOR_BYTES(bits) + 568u)
+#define POCKET_SENDER_BYTES(bits) (POCKET_FIXED_BYTES + POCKET_SENDER_HEAP(bits) + POCKET_UP8(POCKET_INPUT_BYTES(bits) + 1u))
+#define POCKET_RECEIVER_BYTES(bits) \
+    (POCKET_FIXED_BYTES + POCKET_RECEIVER_HEAP(bits) + POCKET_UP8(POCKET_INPUT_BYTES(bits) + 1u) + POCKET_UP8(POCKET_PACKET_BYTES(bits) + 8u))
+
+size_t pocket_sender_bytes(uint32_t bits);
+size_t pocket_receiver_bytes(uint32_t bits);
+uint32_t pocket_sender_open_in(pocket_handle *handle, void *memory, size_t size, uint32_t bits, const uint8_t *mask, size_t mask_length);
+uint32_t pocket_receiver_open_in(pocket_handle *handle, void *memory, size_t size, uint32_t bits);
+uint32_t pocket_state_size(pocket_handle *handle, size_t *size);
+uint32_t pocket_save(pocket_handle *handle, uint8_t *state, size_t room, size_t *length);
+uint32_t pocket_load(pocket_handle *handle, const uint8_t *state, size_t length);
 
 #ifdef __cplusplus
 }
