@@ -2,7 +2,6 @@
  * calls tell, its heap, room for an input or a content, and of a receiver room for the data of a packet. An address from OUTSIDE on is a
  * place in the caller's room for a packet: only copies go there. */
 #define OUTSIDE 0x80000000u
-#define ROUNDED(bytes, to) (((u32)(bytes) + ((to) - 1u)) / (to) * (to))
 enum { SENDER = 1, RECEIVER = 2 };
 enum { HANDLE = (HEAP_BASE + 15) / 16 * 16, TOLD = HANDLE + 16, TOLD_LEVEL = TOLD + 8, FIRST = TOLD + 48 };
 
@@ -10,15 +9,6 @@ enum { HANDLE = (HEAP_BASE + 15) / 16 * 16, TOLD = HANDLE + 16, TOLD_LEVEL = TOL
  * have the room that is taken here. */
 typedef char stack_is_deep_enough[DEEPEST <= STACK_BYTES && STACK_BYTES < DEEPEST + 256 ? 1 : -1];
 typedef char fixed_bytes_are_told[POCKET_FIXED_BYTES == 15 + HEAD_BYTES + (FIRST - BASE) + SLACK ? 1 : -1];
-
-static u32 content_bytes(u32 bits) {
-    return ROUNDED(POCKET_INPUT_BYTES(bits) + 1u, 8u);
-}
-
-/* No packet has as many bytes of data, so one with more is wrong at a bit before their end. */
-static u32 data_bytes(u32 bits) {
-    return ROUNDED(POCKET_PACKET_BYTES(bits) + 8u, 8u);
-}
 
 static u32 heap_bytes(u32 kind, u32 bits) {
     return (u32)(kind == SENDER ? POCKET_SENDER_HEAP(bits) : POCKET_RECEIVER_HEAP(bits));
@@ -28,9 +18,16 @@ static u32 content_at(u32 kind, u32 bits) {
     return FIRST + heap_bytes(kind, bits);
 }
 
+#ifndef POCKET_NO_RECEIVER
 static u32 data_at(u32 bits) {
-    return content_at(RECEIVER, bits) + content_bytes(bits);
+    return content_at(RECEIVER, bits) + ROUNDED(POCKET_INPUT_BYTES(bits) + 1u, 8u);
 }
+
+/* No packet has as many bytes of data, so one with more is wrong at a bit before their end. */
+static u32 data_bytes(u32 bits) {
+    return ROUNDED(POCKET_PACKET_BYTES(bits) + 8u, 8u);
+}
+#endif
 
 /* Memory of the heap: the next bytes that are free, since nothing is given back before the handle is closed. */
 static void heap_alloc(u8 *m, u32 last, u64 told, u64 bytes, u64 align) {

@@ -22,6 +22,7 @@ typedef uint64_t u64;
 typedef int64_t s64;
 
 enum { BASE = STACK_TOP - STACK_BYTES, SLACK = 8 };
+#define ROUNDED(bytes, to) (((u32)(bytes) + ((to) - 1u)) / (to) * (to))
 
 /* The head of a block: numbers of 32 bits, each so many bytes in front of it, and two pointers: to the caller's room for a packet during a
  * send, and to what malloc gave, if it did. */

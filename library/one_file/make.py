@@ -113,6 +113,26 @@ def calls(kept, kit):
     return f"{head}\n{named}\n{constants(code)}{text_of('machine.c')}\n{before}\n{quiet(generated(code))}\n{after}\n{text_of('state.c')}"
 
 
+def helps():
+    """What the program's help prints, as arrays of lines: all of it, and that of each verb (crates/pocket/src/verb_help.rt)."""
+    source = {}
+    for name in ("main", "verb_help"):
+        with open(f"{TOP}/crates/pocket/src/{name}.rt", encoding="utf-8") as file:
+            source.update(re.findall(r'^const ([A-Z]+): &str = "\\\n(.*?)";$', file.read(), re.M | re.S))
+    lines = source["HELP"].split("\n")
+    texts = {"": lines}
+    for number, line in enumerate(lines):
+        verb, *words = line.removeprefix("pocket ").split(" ")
+        if line.startswith("pocket ") and verb.upper() in source:
+            keys = {re.match(r"\[?(\w+)=", word)[1] for word in words}
+            of = [it for it in lines if re.match(r"    \S.*  ", it) and keys & set(it.strip().partition("  ")[0].split(", "))]
+            texts[verb] = [line, lines[number + 1], "Keys:", *of, *source[verb.upper()].split("\n")]
+    told = lambda it: '"' + it.replace("\\", "\\\\").replace('"', '\\"') + '"'
+    made = "".join(f"static const char *const help_of_{verb or 'all'}[] = {{\n" + "".join(f"    {told(it)},\n" for it in text) + "    NULL\n};\n" for verb, text in texts.items())
+    rows = "".join(f'    {{ "{verb}", help_of_{verb or "all"} }},\n' for verb in texts)
+    return f"{made}static const struct {{ const char *verb; const char *const *lines; }} helps[] = {{\n{rows}}};\n"
+
+
 def program(kept, kit):
     """The text of pocket-program.c."""
     code, _ = module_of(kept, DESK, kit)
@@ -120,7 +140,8 @@ def program(kept, kit):
                "VERSION": f'"{version()}"'}
     named = "".join(f"#define {name} {value}\n" for name, value in numbers.items())
     text = joined([it for name, it in code.functions.items() if name in code.reached(DESK)])
-    return f"{text_of('program_head.c')}\n{named}\n{constants(code)}{text_of('machine.c')}\n{text_of('heap.c')}\n{quiet(text)}\n{text_of('program.c')}"
+    head = text_of("program_head.c").replace("@VERSION@", version())
+    return f"{head}\n{named}\n{constants(code)}{text_of('machine.c')}\n{text_of('heap.c')}\n{quiet(text)}\n{helps()}\n{text_of('program.c')}"
 
 
 def write(path, text):
