@@ -154,7 +154,7 @@ def complains(room, compiler):
     for flags, needs in (([], bare | {"malloc", "free"}), (["-DPOCKET_NO_HEAP"], bare), (["-DPOCKET_NO_RECEIVER", "-DPOCKET_NO_HEAP"], bare),
                          (["-DPOCKET_NO_SENDER", "-DPOCKET_NO_HEAP"], bare), (["-DPOCKET_UNCHECKED"], bare | {"malloc", "free"})):
         to = room.at(f"{compiler}.o")
-        run([compiler, *STRICT, "-O2", *flags, "-c", f"{room.made}/pocket.c", "-o", to])
+        run([compiler, *STRICT, "-O0" if flags else "-O2", *flags, "-c", f"{room.made}/pocket.c", "-o", to])
         told = [line.split() for line in run(["nm", to]).decode().splitlines()]
         asked = {words[1] for words in told if words[0] == "U"} - {"_GLOBAL_OFFSET_TABLE_"}
         calls = {words[2] for words in told if words[1] == "T"}
@@ -210,6 +210,15 @@ def board(room):
     return None if same(f"{folder}/hk.store", f"{folder}/wanted") else "its packets are others"
 
 
+def from_python(room):
+    """How the states of library/tests/states.py fail, from Python over a shared library that is made of the file, or None."""
+    to = room.at("libpocket.so")
+    run(["gcc", "-std=c99", "-O1", "-fPIC", "-shared", "-o", to, f"{room.made}/pocket.c"])
+    env = dict(os.environ, PYTHONPATH=f"{TOP}/library/python", POCKET_LIBRARY=to, PYTHONDONTWRITEBYTECODE="1")
+    found = subprocess.run([sys.executable, f"{TOP}/library/tests/states.py"], capture_output=True, env=env, timeout=100)
+    return None if found.returncode == 0 and found.stdout.endswith(b" passed, 0 failed\n") else (found.stdout + found.stderr)[-400:]
+
+
 def tries(room, saved):
     """All that is tried beside the making: each with its name, and a function that gives what is wrong, or None."""
     yield "dist/ is what the sources make", lambda: same_as_committed(room)
@@ -224,6 +233,7 @@ def tries(room, saved):
     for name in WRONG:
         yield f"a wrong build fails: {name}", lambda n=name: wrong(room, n)
     yield "the example for Cortex-M", lambda: board(room)
+    yield "states from Python", lambda: from_python(room)
 
 
 def tried(attempt):

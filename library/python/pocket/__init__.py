@@ -26,9 +26,9 @@ import os
 from dataclasses import dataclass
 from typing import BinaryIO, Iterator, Mapping, Optional
 
-__all__ = ["Arrival", "BitsOutOfRange", "Closed", "Counts", "CountOutOfRange", "Desk", "Kind", "NotText", "OutOfMemory", "PocketError",
-           "Receiver", "Refused", "RobustnessOutOfRange", "Sender", "Sent", "SpareBitSet", "SpacePacket", "StoreError", "TooLong",
-           "TooManyPackets", "TooManyWords", "WrongLength", "packed", "run", "space_packets"]
+__all__ = ["Arrival", "BitsOutOfRange", "Broken", "Closed", "Counts", "CountOutOfRange", "Desk", "Kind", "NoState", "NotText",
+           "OutOfMemory", "PocketError", "Receiver", "Refused", "RobustnessOutOfRange", "Sender", "Sent", "SpareBitSet", "SpacePacket",
+           "StoreError", "TooLong", "TooManyPackets", "TooManyWords", "WrongLength", "packed", "run", "space_packets"]
 
 MOST_BITS = 49152
 
@@ -90,6 +90,14 @@ class Refused(PocketError):
         self.exit_number = exit_number
 
 
+class NoState(PocketError, ValueError):
+    """Bytes that are no state of this kind: damaged, cut, or of another version."""
+
+
+class Broken(PocketError):
+    """The memory of a sender or a receiver was damaged. It can only be closed."""
+
+
 class StoreError(PocketError, ValueError):
     """Bytes that are no Space Packets, or none of whole packets."""
 
@@ -112,6 +120,9 @@ _REFUSED = {
     14: (TooLong, "the packet is too long"),
     15: (NotText, "it is not UTF-8"),
     16: (TooManyWords, "the command has too many words"),
+    252: (NoState, "it is no state"),
+    253: (NoState, "it is a state of the other kind or of other bits"),
+    254: (Broken, "its memory was damaged"),
 }
 
 
@@ -143,19 +154,33 @@ _CALLS = {
     "pocket_get": [_HANDLE, _BYTES, _SIZE, ctypes.c_void_p, _SIZE, ctypes.POINTER(_SIZE)],
     "pocket_close": [_HANDLE],
 }
+# What the library made of the one C file has (docs/CALLING.md), which has no desk.
+_STATE_CALLS = {
+    "pocket_state_size": [_HANDLE, ctypes.POINTER(_SIZE)],
+    "pocket_save": [_HANDLE, ctypes.c_void_p, _SIZE, ctypes.POINTER(_SIZE)],
+    "pocket_load": [_HANDLE, _BYTES, _SIZE],
+}
 
 
 def _loaded() -> ctypes.CDLL:
     """The library, with the types of its calls."""
     name = os.environ.get("POCKET_LIBRARY") or ctypes.util.find_library("pocket") or "libpocket.so"
     library = ctypes.CDLL(name)
-    for call, types in _CALLS.items():
-        function = getattr(library, call)
-        function.argtypes, function.restype = types, ctypes.c_uint32
+    for call, types in {**_CALLS, **_STATE_CALLS}.items():
+        if hasattr(library, call):
+            function = getattr(library, call)
+            function.argtypes, function.restype = types, ctypes.c_uint32
     return library
 
 
 _library = _loaded()
+
+
+def _states() -> ctypes.CDLL:
+    """The library, if it has states."""
+    if not hasattr(_library, "pocket_save"):
+        raise PocketError("only the library made of the one C file has states")
+    return _library
 
 
 def _done(status: int) -> None:
@@ -247,7 +272,26 @@ class _Held:
             _library.pocket_close(self._handle)
 
 
-class Sender(_Held):
+class _Kept(_Held):
+    """What has a state."""
+
+    def save(self) -> bytes:
+        """Its state, from which `load` goes on, on any processor. Only the library made of the one C file has this."""
+        size = ctypes.c_size_t()
+        _done(_states().pocket_state_size(self._handle, size))
+        state = ctypes.create_string_buffer(size.value)
+        _done(_states().pocket_save(self._handle, state, len(state), size))
+        return state.raw
+
+    @classmethod
+    def load(cls, state: bytes):
+        """A sender or a receiver that goes on from the state of one. Only the library made of the one C file has this."""
+        held = cls(int.from_bytes(state[8:12], "big") if len(state) > 32 else 1)
+        _done(_states().pocket_load(held._handle, bytes(state), len(state)))
+        return held
+
+
+class Sender(_Kept):
     """Makes the packet of each input of `bits` bits, 1 to 49,152. The first mask has ceil(bits / 8) bytes, or is zeros."""
 
     def __init__(self, bits: int, mask: bytes = b"") -> None:
@@ -264,7 +308,7 @@ class Sender(_Held):
         return Sent(ctypes.string_at(self._data, self._length.value), self._level.value)
 
 
-class Receiver(_Held):
+class Receiver(_Kept):
     """Judges the packets of a sender of `bits` bits, 1 to 49,152, as they arrive, whichever were lost."""
 
     def __init__(self, bits: int) -> None:
