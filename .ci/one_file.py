@@ -40,6 +40,7 @@ TARGETS = {
     "powerpc": ("powerpc-linux-gnu-gcc", ["-Os", "-static"], ["qemu-ppc"]),
     "s390x": ("s390x-linux-gnu-gcc", ["-Os", "-static"], ["qemu-s390x"]),
     "sparc64": ("sparc64-linux-gnu-gcc", ["-Os", "-static"], ["qemu-sparc64"]),
+    "sparc, by the instructions of LEON3": ("sparc64-linux-gnu-gcc", ["-Os", "-static", "-m32", "-mcpu=leon3"], ["qemu-sparc32plus"]),
     "riscv64": ("riscv64-linux-gnu-gcc", ["-Os", "-static"], ["qemu-riscv64"]),
     "aarch64": ("aarch64-linux-gnu-gcc", ["-Os", "-static"], ["qemu-aarch64"]),
     "Cortex-M3": ("arm-none-eabi-gcc", ["-Os", "-mcpu=cortex-m3", "-mthumb", "--specs=rdimon.specs", "-nostartfiles", "-DDRIVER_ROOM=(1<<17)",
@@ -48,6 +49,7 @@ TARGETS = {
 WANTED = "x86-64, gcc"
 PACKAGES = """wabt binaryen qemu-user gcc-i686-linux-gnu libc6-dev-i386-cross gcc-arm-linux-gnueabihf libc6-dev-armhf-cross
     gcc-powerpc-linux-gnu libc6-dev-powerpc-cross gcc-s390x-linux-gnu libc6-dev-s390x-cross gcc-sparc64-linux-gnu libc6-dev-sparc64-cross
+    gcc-multilib-sparc64-linux-gnu libc6-dev-sparc-sparc64-cross
     gcc-riscv64-linux-gnu libc6-dev-riscv64-cross gcc-aarch64-linux-gnu libc6-dev-arm64-cross gcc-arm-none-eabi libnewlib-arm-none-eabi
     qemu-system-arm""".split()
 # Builds in which the big end is wrong: a text of the file, and what stands in its place.

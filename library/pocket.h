@@ -9,9 +9,9 @@
  * unchanged. Not proved are this header, its checks of null, strlen, the compiler, the linker, memmove, memset, malloc and free.
  * For x86-64 the library is proved by the gate. For aarch64 it is proved and compiled for that target by the toolchain, outside the
  * gate. For riscv64 it is compiled another way: compared, not proved. So is the one file: its C is made from the library's module, and
- * compared with the library, packet for packet and verdict for verdict; LEON (SPARC V8) was not at hand for that, other processors of
- * 32 and of 64 bits with the big end first were. Accesses of the library on aarch64 and riscv64 are aligned unless it was built with
- * unaligned=1.
+ * compared with the library, packet for packet and verdict for verdict, under qemu. LEON itself was not at hand for that: the file was
+ * compiled for the instructions of LEON3 (SPARC V8) and run as a SPARC of 32 bits, and on three others with the big end first. Accesses of
+ * the library on aarch64 and riscv64 are aligned unless it was built with unaligned=1.
  *
  * A sender makes the packet of each input. A receiver judges each packet that arrives: it gives its content, or why there is
  * none. At a desk in memory the nine commands of the program are run, over bytes that are kept under names. Inputs and contents are

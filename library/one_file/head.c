@@ -10,8 +10,9 @@
  *
  * Where the proof ends. The functions of the generated part are written in Rattle and proved; this file is made from the module of the
  * proved library and compiled another way: compared with the library, packet for packet and verdict for verdict, not proved. What
- * stands outside the generated part is written by hand. No processor of the kind SPARC V8 (LEON) was at hand for the comparison: it
- * was made on one of 32 bits and two of 64 bits that have the big end first, among others.
+ * stands outside the generated part is written by hand. LEON itself was not at hand for the comparison: the file was compiled for the
+ * instructions of LEON3 (SPARC V8) and run as a SPARC of 32 bits under qemu, and so on PowerPC, s390x and sparc64, which have the big end
+ * first too.
  *
  * Made by `make dist` from the sources of the project: no change is made here.
  */

@@ -4,7 +4,7 @@ receiver, FOLDER/pocket.h, and FOLDER/pocket-program.c, the program.
 
 MODULE is the module that library/retarget.py kept as the library was proved and built for x86-64 (crates/pocket_c/out/module.bc).
 page/module.py turns it to WebAssembly, Debian's wasm2c (the package wabt) turns that to C, and translate.py that to the generated part,
-which is joined with what is written by hand: machine.c, calls.c and state.c for the calls; machine.c, heap.c and program.c for the program.
+which is joined with what is written by hand: machine.c, calls.c and state.c for the calls; machine.c, heap.c, files.c and program.c for the program.
 So the files are compiled another way: compared (.ci/one_file.py), not proved. Two runs give the same bytes.
 """
 
@@ -141,7 +141,7 @@ def program(kept, kit):
     named = "".join(f"#define {name} {value}\n" for name, value in numbers.items())
     text = joined([it for name, it in code.functions.items() if name in code.reached(DESK)])
     head = text_of("program_head.c").replace("@VERSION@", version())
-    return f"{head}\n{named}\n{constants(code)}{text_of('machine.c')}\n{text_of('heap.c')}\n{quiet(text)}\n{helps()}\n{text_of('program.c')}"
+    return f"{head}\n{named}\n{constants(code)}{text_of('machine.c')}\n{text_of('heap.c')}\n{quiet(text)}\n{helps()}\n{text_of('files.c')}\n{text_of('program.c')}"
 
 
 def write(path, text):

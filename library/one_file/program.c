@@ -1,15 +1,7 @@
 /* The program, written by hand: its words, its files, and how it ends. */
 enum { DONE = 0, FILE_FAULT = 1, WRONG_WORD = 2, NO_MEMORY = 5, OUTSIDE_MEMORY = 6, MOST_WORDS = 1000, TEXT_ROOM = 128, NO_ROOM = 11 };
-enum { LEAST_MEMORY = 1 << 24, MOST_FILES = 5, MOST_OUTPUTS = 2 };
-static const u32 MOST_MEMORY = 0xC0000000u;
-
-/* The bytes of a name. */
-struct file {
-    const char *name;
-    u8 *bytes;
-    size_t length;
-    struct stat of;
-};
+enum { LEAST_MEMORY = 1 << 24, WORDS_CANNOT_BE_READ = 7, NO_TEXT = 15 };
+static const u64 MOST_MEMORY = 0xC0000000u;
 
 /* What a command came to: its exit number, the text of a refusal, and what it wrote. */
 struct answer {
@@ -18,9 +10,6 @@ struct answer {
     struct file outputs[MOST_OUTPUTS];
     unsigned count;
 };
-
-static struct file inputs[MOST_FILES];
-static unsigned input_count;
 
 /* The value that a word gives to one of these keys, or NULL. */
 static const char *value_of(const char *word, const char *const *keys) {
@@ -37,46 +26,9 @@ static const char *input_of(const char *word) {
     return value_of(word, keys);
 }
 
-static const char *output_of(const char *word) {
-    static const char *const keys[] = { "out", "report", NULL };
-    return value_of(word, keys);
-}
-
-/* Reads an open file to its end; gives whether all was read. */
-static bool read_whole(int from, struct file *file) {
-    size_t room = 0;
-    ssize_t count = 1;
-    while (count > 0) {
-        if (file->length == room) {
-            u8 *more = realloc(file->bytes, room = room ? 2 * room : 65536);
-            if (more == NULL)
-                return false;
-            file->bytes = more;
-        }
-        do
-            count = read(from, file->bytes + file->length, room - file->length);
-        while (count < 0 && errno == EINTR);
-        file->length += count > 0 ? (size_t)count : 0u;
-    }
-    return count == 0;
-}
-
-/* Reads the input of a name, if it can be read and was not yet; otherwise the command finds nothing under it. */
-static void read_input(const char *name) {
-    struct file file = { name, NULL, 0, { 0 } };
-    const bool is_standard = strcmp(name, "-") == 0;
-    unsigned at;
-    int from;
-    for (at = 0; at < input_count; at++)
-        if (strcmp(inputs[at].name, name) == 0)
-            return;
-    from = is_standard ? 0 : open(name, O_RDONLY);
-    if (from < 0 || input_count == MOST_FILES)
-        return;
-    if (fstat(from, &file.of) == 0 && read_whole(from, &file))
-        inputs[input_count++] = file;
-    if (!is_standard)
-        close(from);
+static const char *output_of(const char *word, unsigned which) {
+    static const char *const keys[][2] = { { "out", NULL }, { "report", NULL } };
+    return value_of(word, keys[which]);
 }
 
 /* Bytes in the memory of the generated part, or 0. */
@@ -94,7 +46,7 @@ static bool got(u8 *m, u32 last, u32 handle, u32 told, struct file *to) {
     if (name == 0 || none == 0)
         return false;
     if (code_pocket_get(m, last, handle, name, strlen(to->name), none, 0, told) != NO_ROOM)
-        return true;
+        return true; /* no byte */
     to->length = (size_t)get64(place(told));
     at = taken(m, last, to->length);
     to->bytes = malloc(to->length);
@@ -104,13 +56,14 @@ static bool got(u8 *m, u32 last, u32 handle, u32 told, struct file *to) {
     return true;
 }
 
-/* Runs the command of the words in a memory; gives whether there was room for it. */
-static bool run_in(u8 *m, u32 last, char **words, unsigned count, struct answer *answer) {
-    const u32 handle = handed(m, last, "\0\0\0\0\0\0\0\0\0\0\0\0\0\0\0\0", 16), told = taken(m, last, 8), exit = taken(m, last, 1),
-              text = taken(m, last, TEXT_ROOM);
+static void refuse(struct answer *answer, unsigned exit, const char *text) {
+    answer->exit = exit;
+    strcpy(answer->text, text);
+}
+
+/* Keeps the inputs at the desk of a handle. */
+static void keep_inputs(u8 *m, u32 last, u32 handle) {
     unsigned at;
-    u32 length;
-    code_pocket_desk_open(m, last, handle);
     for (at = 0; at < input_count && !wanted; at++) {
         const u32 name = handed(m, last, inputs[at].name, strlen(inputs[at].name));
         const u32 bytes = handed(m, last, inputs[at].bytes, inputs[at].length);
@@ -119,10 +72,30 @@ static bool run_in(u8 *m, u32 last, char **words, unsigned count, struct answer 
         if (bytes != 0)
             heap_dealloc(m, last, bytes);
     }
+}
+
+/* Hands the words over; gives whether all are text. */
+static bool hands_words(u8 *m, u32 last, u32 handle, char **words, unsigned count) {
+    unsigned at;
     for (at = 0; at < count && !wanted; at++) {
         const u32 word = handed(m, last, words[at], strlen(words[at]));
-        if (word != 0)
-            code_pocket_word(m, last, handle, word, strlen(words[at]));
+        if (word != 0 && code_pocket_word(m, last, handle, word, strlen(words[at])) == NO_TEXT)
+            return false;
+    }
+    return true;
+}
+
+/* Runs the command of the words in a memory; gives whether there was room for it. Words that are right have each key once. */
+static bool run_in(u8 *m, u32 last, char **words, unsigned count, struct answer *answer) {
+    const u32 handle = handed(m, last, "\0\0\0\0\0\0\0\0\0\0\0\0\0\0\0\0", 16), told = taken(m, last, 8), exit = taken(m, last, 1),
+              text = taken(m, last, TEXT_ROOM);
+    unsigned at, which;
+    u32 length;
+    code_pocket_desk_open(m, last, handle);
+    keep_inputs(m, last, handle);
+    if (!hands_words(m, last, handle, words, count)) {
+        refuse(answer, WORDS_CANNOT_BE_READ, "words cannot be read");
+        return true;
     }
     if (wanted)
         return false;
@@ -130,19 +103,15 @@ static bool run_in(u8 *m, u32 last, char **words, unsigned count, struct answer 
     length = (u32)get64(place(told));
     answer->exit = get8(place(exit));
     memcpy(answer->text, place(text), length < TEXT_ROOM ? length : TEXT_ROOM);
-    answer->count = 0;
-    for (at = 0; at < count && answer->exit == DONE && !wanted; at++)
-        if (output_of(words[at]) != NULL && answer->count < MOST_OUTPUTS) {
-            answer->outputs[answer->count].name = output_of(words[at]);
-            if (!got(m, last, handle, told, &answer->outputs[answer->count++]))
-                wanted = true;
-        }
+    for (which = 0; which < MOST_OUTPUTS && answer->exit == DONE && !wanted; which++)
+        for (at = 0; at < count && answer->count < MOST_OUTPUTS; at++)
+            if (output_of(words[at], which) != NULL) {
+                struct file *const to = &answer->outputs[answer->count++];
+                to->name = output_of(words[at], which);
+                if (!got(m, last, handle, told, to))
+                    return false;
+            }
     return !wanted;
-}
-
-static void refuse(struct answer *answer, unsigned exit, const char *text) {
-    answer->exit = exit;
-    strcpy(answer->text, text);
 }
 
 /* Runs a command: in more and more memory, until there is room for it or no more. */
@@ -179,95 +148,6 @@ static struct answer ran(char **words, unsigned count) {
     return answer;
 }
 
-static bool are_one(const struct stat *one, const struct stat *other) {
-    return one->st_dev == other->st_dev && one->st_ino == other->st_ino;
-}
-
-/* Whether a file is one that was read. */
-static bool was_read(const struct stat *of) {
-    unsigned at;
-    for (at = 0; at < input_count; at++)
-        if (are_one(&inputs[at].of, of))
-            return true;
-    return false;
-}
-
-static bool write_whole(int to, const u8 *bytes, size_t length) {
-    while (length > 0) {
-        const ssize_t count = write(to, bytes, length);
-        if (count < 0 && errno == EINTR)
-            continue;
-        if (count <= 0)
-            return false;
-        bytes += count;
-        length -= (size_t)count;
-    }
-    return true;
-}
-
-/* An output that was opened: what it is written to, and the part that takes its name, if it has one. */
-struct sink {
-    int to;
-    char *part, *target;
-    struct stat of;
-};
-
-/* Opens the part beside the name of an output, in the place of an earlier part. */
-static bool opens_part(const char *name, mode_t mode, const struct sink *other, struct sink *sink) {
-    struct stat standing;
-    sink->target = lstat(name, &standing) == 0 && S_ISLNK(standing.st_mode) ? realpath(name, NULL) : strdup(name);
-    sink->part = sink->target == NULL ? NULL : malloc(strlen(sink->target) + sizeof ".part");
-    if (sink->part == NULL)
-        return false;
-    strcpy(sink->part, sink->target);
-    strcat(sink->part, ".part");
-    if (lstat(sink->part, &standing) == 0) {
-        if (!S_ISREG(standing.st_mode) || was_read(&standing) || (other != NULL && are_one(&other->of, &standing)))
-            return false;
-        if (unlink(sink->part) != 0)
-            return false;
-    }
-    sink->to = open(sink->part, O_WRONLY | O_CREAT | O_EXCL, 0666);
-    if (sink->to < 0 || fstat(sink->to, &sink->of) != 0)
-        return false;
-    return mode == 0 || fchmod(sink->to, mode & 07777) == 0;
-}
-
-/* Opens what an output is written to: standard output, a pipe or a device, or a part beside its name. */
-static bool opens(const char *name, const struct sink *other, struct sink *sink) {
-    struct stat standing;
-    memset(sink, 0, sizeof *sink);
-    if (strcmp(name, "-") == 0) {
-        sink->to = 1;
-        return fstat(1, &sink->of) == 0;
-    }
-    sink->to = open(name, O_WRONLY);
-    if (sink->to < 0)
-        return errno == ENOENT && opens_part(name, 0, other, sink);
-    if (fstat(sink->to, &standing) != 0 || !S_ISREG(standing.st_mode))
-        return fstat(sink->to, &sink->of) == 0;
-    close(sink->to);
-    if (was_read(&standing) || (other != NULL && are_one(&other->of, &standing)))
-        return false;
-    return opens_part(name, standing.st_mode, other, sink);
-}
-
-/* Writes what a command wrote, and then gives both parts their names. */
-static bool hands_over(const struct answer *answer) {
-    struct sink sinks[MOST_OUTPUTS];
-    unsigned at;
-    for (at = 0; at < answer->count; at++)
-        if (!opens(answer->outputs[at].name, at ? &sinks[0] : NULL, &sinks[at]))
-            return false;
-    for (at = 0; at < answer->count; at++)
-        if (!write_whole(sinks[at].to, answer->outputs[at].bytes, answer->outputs[at].length) || (sinks[at].part != NULL && fsync(sinks[at].to) != 0))
-            return false;
-    for (at = 0; at < answer->count; at++)
-        if (sinks[at].part != NULL && rename(sinks[at].part, sinks[at].target) != 0)
-            return false;
-    return true;
-}
-
 /* Prints what the words ask of the program itself; gives whether they ask anything. */
 static bool asked(int count, char **words) {
     const bool is_of_verb = count == 2 && strcmp(words[1], "--help") == 0;
@@ -292,6 +172,8 @@ int main(int count, char **words) {
     struct answer answer;
     int at;
     words += count > 0, count -= count > 0;
+    stand_in();
+    signal(SIGPIPE, SIG_IGN);
     if (asked(count, words)) {
         if (fflush(stdout) == 0)
             return DONE;
@@ -307,7 +189,7 @@ int main(int count, char **words) {
         if (input_count > 0)
             answer = ran(words, (unsigned)count);
     }
-    if (answer.exit == DONE && !hands_over(&answer))
+    if (answer.exit == DONE && !hands_over(answer.outputs, answer.count))
         refuse(&answer, FILE_FAULT, "writing failed");
     if (answer.exit != DONE)
         fprintf(stderr, "pocket: %s\n", answer.text);
