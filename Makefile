@@ -6,6 +6,8 @@
 # make deb: a Debian package of the program, in the folder build.
 # make page: the operator's page, page/pocket.html, one file that a browser opens from disk. It takes the toolchain, the gate's libraries
 # (crates/*/out/rlib) and Debian's binaryen.
+# make dist: the files for those who have no toolchain, in the folder DIST: pocket.c and pocket.h (the calls of a sender and a receiver, for
+# any processor), pocket-program.c (the program), pocket.html (the page). It takes what `make page` takes, and Debian's wabt.
 PREFIX = /usr/local
 DESTDIR =
 BUILD = build
@@ -70,10 +72,15 @@ page/pocket.html: page/out/pocket.wasm page/make.py page/page.html page/style.cs
 
 page: page/pocket.html
 
+DIST = dist
+dist: $(MODULE) page/pocket.html
+	python3 library/one_file/make.py $(MODULE) $(DIST)
+	cp page/pocket.html $(DIST)/pocket.html
+
 test: lib
 	python3 .ci/library.py $(dir $(PROVED)) $(PROGRAM)
 
 clean:
 	rm -rf $(BUILD) page/out page/pocket.html
 
-.PHONY: lib install install-program deb page test clean
+.PHONY: lib install install-program deb page dist test clean

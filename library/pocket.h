@@ -1,13 +1,17 @@
 /*
  * pocket.h: POCKET+ packets (CCSDS 124.0-B-1, in this project's profile) from C99 and C++.
  *
+ * One header for two builds. *The library* (make lib) is for x86-64, 64-bit ARM and RISC-V (rv64gc), all with the little end first.
+ * *The one file*, pocket.c (make dist), is for any processor of 32 or 64 bits, whichever end comes first; it has the calls of a sender and
+ * a receiver, none of a desk, and more that stand at the end of this header.
+ *
  * Where the proof ends. The functions behind this header are written in Rattle and proved: what each answers, gives and leaves
  * unchanged. Not proved are this header, its checks of null, strlen, the compiler, the linker, memmove, memset, malloc and free.
- * For x86-64, 64-bit ARM and RISC-V (rv64gc), all with the little end first. For x86-64 the library is proved by the gate. For
- * aarch64 it is proved and compiled for that target by the toolchain, outside the gate. For riscv64 it is compiled another way:
- * compared, not proved. Processors of 32 bits are left out, since sizes have 64 bits in what is proved, and those with the big
- * end first (LEON) too, since a word of 64 bits is read as it lies in memory. Accesses on aarch64 and riscv64 are aligned unless
- * the library was built with unaligned=1.
+ * For x86-64 the library is proved by the gate. For aarch64 it is proved and compiled for that target by the toolchain, outside the
+ * gate. For riscv64 it is compiled another way: compared, not proved. So is the one file: its C is made from the library's module, and
+ * compared with the library, packet for packet and verdict for verdict, under qemu. LEON itself was not at hand for that: the file was
+ * compiled for the instructions of LEON3 (SPARC V8) and run as a SPARC of 32 bits, and on three others with the big end first. Accesses of
+ * the library on aarch64 and riscv64 are aligned unless it was built with unaligned=1.
  *
  * A sender makes the packet of each input. A receiver judges each packet that arrives: it gives its content, or why there is
  * none. At a desk in memory the nine commands of the program are run, over bytes that are kept under names. Inputs and contents are
@@ -20,7 +24,7 @@
  * A handle may be passed from thread to thread, one call at a time, each call seen to end before the next one begins (by a lock, or
  * by the start or join of a thread); different handles may be used by different threads at once.
  * Opening a sender or a receiver takes memory (malloc), all that later calls need: they take none. A desk takes memory as it is used.
- * Only pocket_close gives it back.
+ * Only pocket_close gives it back. The one file also opens in memory that the caller has.
  */
 #ifndef POCKET_H
 #define POCKET_H
@@ -30,10 +34,6 @@
 #include <string.h>
 #ifndef __cplusplus
 #include <stdbool.h>
-#endif
-
-#if SIZE_MAX != UINT64_MAX || !defined(__BYTE_ORDER__) || __BYTE_ORDER__ != __ORDER_LITTLE_ENDIAN__
-#error "pocket is for processors of 64 bits with the little end first"
 #endif
 
 #ifdef __cplusplus
@@ -51,7 +51,7 @@ extern "C" {
 #define POCKET_PACKET_BYTES(bits) ((10u * (size_t)(bits) + 43u + 7u) / 8u)    /* room for each packet's data, at most 61,446 */
 
 /* What a call answers. After each answer but POCKET_DONE nothing has changed: not the handle, nor what a call writes, but for the
- * length that pocket_get tells with POCKET_NO_ROOM. */
+ * length that pocket_get tells with POCKET_NO_ROOM, and after POCKET_BROKEN. */
 typedef enum pocket_status {
     POCKET_DONE = 0,
     POCKET_NO_MEMORY = 1,       /* malloc gave no memory */
@@ -71,6 +71,9 @@ typedef enum pocket_status {
     POCKET_TOO_LONG = 14,       /* the packet has more than 65,536 bytes of data */
     POCKET_NO_TEXT = 15,        /* a name or a word is not UTF-8 */
     POCKET_TOO_MANY_WORDS = 16, /* the command has 1,000 words */
+    POCKET_NO_STATE = 252,      /* of the one file: the bytes are no state, but damaged, cut, or of another version of the file */
+    POCKET_OTHER_STATE = 253,   /* of the one file: the state is of the other kind, or of another number of bits */
+    POCKET_BROKEN = 254,        /* of the one file: an access outside the memory of the handle, which can then only be closed */
     POCKET_NULL = 255           /* a pointer is null, answered by this header; null with the length 0 is no byte */
 } pocket_status;
 
@@ -237,6 +240,79 @@ static inline pocket_status pocket_checked_close(pocket_handle *handle)
 #define pocket_run pocket_checked_run
 #define pocket_get pocket_checked_get
 #define pocket_close pocket_checked_close
+
+/* ---- What the one file pocket.c alone has: a program that is linked with the library doesn't find it ---- */
+
+/* The bytes of memory that an open sender or receiver of so many bits takes, for a static array: those that pocket_sender_bytes and
+ * pocket_receiver_bytes give. The stack of the calls lies in it, and is as deep as the deepest of them. */
+#define POCKET_STACK_BYTES 1280u
+#define POCKET_FIXED_BYTES (POCKET_STACK_BYTES + 15u + 48u + 64u + 8u)
+#define POCKET_UP_TO_EIGHT(bytes) (((size_t)(bytes) + 7u) / 8u * 8u)
+#define POCKET_VECTOR_BYTES(bits) (((size_t)(bits) + 63u) / 64u * 8u)
+#define POCKET_SENDER_HEAP(bits) (31u * POCKET_VECTOR_BYTES(bits) + 2u * ((10u * (size_t)(bits) + 43u) / 64u * 8u + 16u) + 1080u)
+#define POCKET_RECEIVER_HEAP(bits) (18u * POCKET_VECTOR_BYTES(bits) + 568u)
+#define POCKET_SENDER_BYTES(bits) \
+    (POCKET_FIXED_BYTES + POCKET_SENDER_HEAP(bits) + POCKET_UP_TO_EIGHT(POCKET_INPUT_BYTES(bits) + 1u))
+#define POCKET_RECEIVER_BYTES(bits) \
+    (POCKET_FIXED_BYTES + POCKET_RECEIVER_HEAP(bits) + POCKET_UP_TO_EIGHT(POCKET_INPUT_BYTES(bits) + 1u) + \
+     POCKET_UP_TO_EIGHT(POCKET_PACKET_BYTES(bits) + 8u))
+
+/* The bytes of memory, or 0 if the number of bits is not from 1 to 49,152. */
+size_t pocket_sender_bytes(uint32_t bits);
+size_t pocket_receiver_bytes(uint32_t bits);
+uint32_t pocket_sender_open_in(pocket_handle *handle, void *memory, size_t size, uint32_t bits, const uint8_t *mask, size_t mask_length);
+uint32_t pocket_receiver_open_in(pocket_handle *handle, void *memory, size_t size, uint32_t bits);
+uint32_t pocket_state_size(pocket_handle *handle, size_t *size);
+uint32_t pocket_save(pocket_handle *handle, uint8_t *state, size_t room, size_t *length);
+uint32_t pocket_load(pocket_handle *handle, const uint8_t *state, size_t length);
+
+/* Opens a sender as pocket_sender_open does, in memory of the caller, aligned or not, which is the handle's own until it is closed. With
+ * POCKET_NO_HEAP there is no other way. POCKET_IS_OPEN, BITS, MASK_LENGTH, MASK_SPARE_BIT, NO_MEMORY if size is below
+ * pocket_sender_bytes(bits). */
+static inline pocket_status pocket_checked_sender_open_in(pocket_handle *handle, void *memory, size_t size, uint32_t bits,
+                                                          const uint8_t *mask, size_t mask_length)
+{
+    if (handle == NULL || memory == NULL || POCKET_BYTES_ARE_NULL(mask, mask_length))
+        return POCKET_NULL;
+    return (pocket_status)pocket_sender_open_in(handle, memory, size, bits, POCKET_NO_BYTES(mask), mask_length);
+}
+
+/* Opens a receiver in memory of the caller. POCKET_IS_OPEN, BITS, NO_MEMORY if size is below pocket_receiver_bytes(bits). */
+static inline pocket_status pocket_checked_receiver_open_in(pocket_handle *handle, void *memory, size_t size, uint32_t bits)
+{
+    return handle == NULL || memory == NULL ? POCKET_NULL : (pocket_status)pocket_receiver_open_in(handle, memory, size, bits);
+}
+
+/* Tells how many bytes the state of an open sender or receiver has, the same for all of its kind and bits. POCKET_IS_CLOSED, BROKEN. */
+static inline pocket_status pocket_checked_state_size(pocket_handle *handle, size_t *size)
+{
+    return handle == NULL || size == NULL ? POCKET_NULL : (pocket_status)pocket_state_size(handle, size);
+}
+
+/* Gives what a sender or a receiver holds, as the first *length bytes of state: the same bytes on all processors, with a magic, a version,
+ * the kind, the bits, and zlib's crc32. POCKET_IS_CLOSED, BROKEN, NO_ROOM. */
+static inline pocket_status pocket_checked_save(pocket_handle *handle, uint8_t *state, size_t room, size_t *length)
+{
+    if (handle == NULL || length == NULL || POCKET_BYTES_ARE_NULL(state, room))
+        return POCKET_NULL;
+    return (pocket_status)pocket_save(handle, state, room, length);
+}
+
+/* Puts a state in place of what an open handle of its kind and bits holds, which then goes on as the saved one would have. The sum finds
+ * damage, not a forged state: that is read as far as the memory of the handle, and no further.
+ * POCKET_IS_CLOSED, BROKEN, NO_STATE, OTHER_STATE: the first that is so. */
+static inline pocket_status pocket_checked_load(pocket_handle *handle, const uint8_t *state, size_t length)
+{
+    if (handle == NULL || POCKET_BYTES_ARE_NULL(state, length))
+        return POCKET_NULL;
+    return (pocket_status)pocket_load(handle, POCKET_NO_BYTES(state), length);
+}
+
+#define pocket_sender_open_in pocket_checked_sender_open_in
+#define pocket_receiver_open_in pocket_checked_receiver_open_in
+#define pocket_state_size pocket_checked_state_size
+#define pocket_save pocket_checked_save
+#define pocket_load pocket_checked_load
 
 #ifdef __cplusplus
 }

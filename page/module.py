@@ -46,10 +46,10 @@ def with_attributes(text, line, name, attributes):
     return f"{text}\nattributes #{number} = {{{own}{attributes}}}\n"
 
 
-def turned(text):
-    """The text of a module for x86-64, for wasm64."""
+def turned(text, exports):
+    """The text of a module for x86-64, for wasm64, which exports these calls."""
     text = retarget.ATTRIBUTES.sub("", retarget.retold(text, LAYOUT, TARGET))
-    for name in EXPORTS:
+    for name in exports:
         text = with_attributes(text, "define", name, f'"wasm-export-name"="{name}" ')
     for name in IMPORTS:
         text = with_attributes(text, "declare", name, f'"wasm-import-module"="env" "wasm-import-name"="{name}" ')
@@ -58,8 +58,8 @@ def turned(text):
     return text
 
 
-def make(module, to, kit):
-    """Writes the WebAssembly module of a module that was kept."""
+def make(module, to, kit, exports):
+    """Writes the WebAssembly module of a module that was kept, with these calls."""
     lower = shutil.which("wasm-opt")
     if not lower:
         sys.exit(f"page/module.py: {HELP}")
@@ -67,7 +67,7 @@ def make(module, to, kit):
     with tempfile.TemporaryDirectory(prefix="pocket-module-") as folder:
         at = lambda name: os.path.join(folder, name)
         with open(at("turned.ll"), "w", encoding="utf-8", errors="surrogateescape") as file:
-            file.write(turned(retarget.text_of(module, f"{tools}/clang", "x86_64-unknown-linux-gnu")))
+            file.write(turned(retarget.text_of(module, f"{tools}/clang", "x86_64-unknown-linux-gnu"), exports))
         run = lambda *words: subprocess.run(words, check=True, stderr=subprocess.PIPE)
         try:
             run(f"{tools}/clang", *FLAGS, "-c", "-x", "ir", at("turned.ll"), "-o", at("turned.o"))
@@ -85,7 +85,7 @@ def main():
     rattle = shutil.which("rattle")
     if not rattle or len(sys.argv) != 3:
         sys.exit(__doc__ if rattle else "the toolchain's rattle is not on the path")
-    return make(sys.argv[1], sys.argv[2], os.path.dirname(os.path.dirname(os.path.realpath(rattle))))
+    return make(sys.argv[1], sys.argv[2], os.path.dirname(os.path.dirname(os.path.realpath(rattle))), EXPORTS)
 
 
 if __name__ == "__main__":

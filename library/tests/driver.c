@@ -1,5 +1,6 @@
 /* Both ends of a link, driven by lines of standard input: what each call gives is printed, so that the output of two processors can be
- * compared. One source is compiled for each processor; with -DPOCKET_DESK it has the calls of a desk in memory too.
+ * compared. One source is compiled for each processor; with -DPOCKET_DESK it has the calls of a desk in memory too, with
+ * -DPOCKET_ONE_FILE those of the one file: it opens in memory of its own, and saves.
  *
  *   open BITS MASK               opens a sender and a receiver; the mask in hexadecimal, or - for none
  *   send FLAGS ROBUST ON INPUT   sends an input, flags 1 new mask, 2 send mask, 4 whole content; then, by ON, the packet is lost (0), is
@@ -8,6 +9,8 @@
  *   close                        tells the counts, and closes both
  *   desk, end                    opens a desk, and closes it
  *   put NAME BYTES, word WORD, run, get NAME
+ *   save                         prints the states of the sender and the receiver
+ *   resume SENT SENDER RECEIVER  loads states, after so many packets were sent
  */
 #include <stdbool.h>
 #include <stdint.h>
@@ -34,7 +37,17 @@ uint32_t pocket_run(struct handle *, uint8_t *text, size_t room, size_t *len, ui
 uint32_t pocket_get(struct handle *, const uint8_t *name, size_t name_len, uint8_t *out, size_t room, size_t *len);
 #endif
 
-enum { ROOM = 1 << 20 };
+#ifdef POCKET_ONE_FILE
+uint32_t pocket_sender_open_in(struct handle *, void *memory, size_t size, uint32_t bits, const uint8_t *mask, size_t mask_len);
+uint32_t pocket_receiver_open_in(struct handle *, void *memory, size_t size, uint32_t bits);
+uint32_t pocket_save(struct handle *, uint8_t *state, size_t room, size_t *len);
+uint32_t pocket_load(struct handle *, const uint8_t *state, size_t len);
+#endif
+
+#ifndef DRIVER_ROOM
+#define DRIVER_ROOM (1 << 20)
+#endif
+enum { ROOM = DRIVER_ROOM };
 static char line[2 * ROOM + 1000];
 static uint8_t in[ROOM + 1], data[ROOM], content[ROOM];
 static struct handle sender, receiver;
@@ -64,11 +77,55 @@ static void show(const char *what, const uint8_t *bytes, size_t len) {
     printf(" %s %s", what, text);
 }
 
+#ifdef POCKET_ONE_FILE
+static uint8_t memory[2][340000];
+
+static uint32_t open_sender(size_t mask_len) {
+    return pocket_sender_open_in(&sender, memory[0], sizeof *memory, bits, in, mask_len);
+}
+
+static uint32_t open_receiver(void) {
+    return pocket_receiver_open_in(&receiver, memory[1], sizeof *memory, bits);
+}
+
+static void save(void) {
+    size_t len = 0;
+    printf("saved %u", pocket_save(&sender, data, sizeof data, &len));
+    show("sender", data, len);
+    printf(" %u", pocket_save(&receiver, data, sizeof data, &len));
+    show("receiver", data, len);
+    printf("\n");
+}
+
+static void resume(const char *count, const char *of_sender, const char *of_receiver) {
+    sent = (unsigned)strtoul(count, NULL, 10);
+    size_t len = bytes_of(of_sender);
+    printf("resumed %u", pocket_load(&sender, in, len));
+    len = bytes_of(of_receiver);
+    printf(" %u\n", pocket_load(&receiver, in, len));
+}
+#else
+static uint32_t open_sender(size_t mask_len) {
+    return pocket_sender_open(&sender, bits, in, mask_len);
+}
+
+static uint32_t open_receiver(void) {
+    return pocket_receiver_open(&receiver, bits);
+}
+
+static void save(void) {
+}
+
+static void resume(const char *count, const char *of_sender, const char *of_receiver) {
+    (void)count, (void)of_sender, (void)of_receiver;
+}
+#endif
+
 static void open_both(const char *mask) {
     size_t len = bytes_of(mask);
     sent = 0;
-    printf("open %u", pocket_sender_open(&sender, bits, in, len));
-    printf(" %u\n", pocket_receiver_open(&receiver, bits));
+    printf("open %u", open_sender(len));
+    printf(" %u\n", open_receiver());
 }
 
 static void receive(unsigned count, const uint8_t *bytes, size_t len) {
@@ -188,6 +245,12 @@ int main(void) {
             receive(count, in, len);
         } else if (!strcmp(verb, "close"))
             close_both();
+        else if (!strcmp(verb, "save"))
+            save();
+        else if (!strcmp(verb, "resume")) {
+            char *count = next_word(&from), *of_sender = next_word(&from);
+            resume(count, of_sender, next_word(&from));
+        }
         else {
             char *name = next_word(&from);
             if (!at_desk(verb, name, next_word(&from)))

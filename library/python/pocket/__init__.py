@@ -24,11 +24,11 @@ import ctypes.util
 import enum
 import os
 from dataclasses import dataclass
-from typing import Any, BinaryIO, Iterator, Mapping, Optional, TypeVar
+from typing import Any, BinaryIO, Iterator, Mapping, Optional, Type, TypeVar
 
-__all__ = ["Arrival", "BitsOutOfRange", "Closed", "Counts", "CountOutOfRange", "Desk", "Kind", "NotText", "OutOfMemory", "PocketError",
-           "Receiver", "Refused", "RobustnessOutOfRange", "Sender", "Sent", "SpareBitSet", "SpacePacket", "StoreError", "TooLong",
-           "TooManyPackets", "TooManyWords", "WrongLength", "packed", "run", "space_packets"]
+__all__ = ["Arrival", "BitsOutOfRange", "Broken", "Closed", "Counts", "CountOutOfRange", "Desk", "Kind", "NoState", "NotText",
+           "OutOfMemory", "PocketError", "Receiver", "Refused", "RobustnessOutOfRange", "Sender", "Sent", "SpareBitSet", "SpacePacket",
+           "StoreError", "TooLong", "TooManyPackets", "TooManyWords", "WrongLength", "packed", "run", "space_packets"]
 
 MOST_BITS = 49152
 
@@ -90,6 +90,14 @@ class Refused(PocketError):
         self.exit_number = exit_number
 
 
+class NoState(PocketError, ValueError):
+    """Bytes that are no state of this kind: damaged, cut, or of another version."""
+
+
+class Broken(PocketError):
+    """The memory of a sender or a receiver was damaged. It can only be closed."""
+
+
 class StoreError(PocketError, ValueError):
     """Bytes that are no Space Packets, or none of whole packets."""
 
@@ -112,6 +120,9 @@ _REFUSED = {
     14: (TooLong, "the packet is too long"),
     15: (NotText, "it is not UTF-8"),
     16: (TooManyWords, "the command has too many words"),
+    252: (NoState, "it is no state"),
+    253: (NoState, "it is a state of the other kind or of other bits"),
+    254: (Broken, "its memory was damaged"),
 }
 
 
@@ -143,6 +154,12 @@ _CALLS = {
     "pocket_get": [_HANDLE, _BYTES, _SIZE, ctypes.c_void_p, _SIZE, ctypes.POINTER(_SIZE)],
     "pocket_close": [_HANDLE],
 }
+# What the library made of the one C file has (docs/CALLING.md), which has no desk.
+_STATE_CALLS = {
+    "pocket_state_size": [_HANDLE, ctypes.POINTER(_SIZE)],
+    "pocket_save": [_HANDLE, ctypes.c_void_p, _SIZE, ctypes.POINTER(_SIZE)],
+    "pocket_load": [_HANDLE, _BYTES, _SIZE],
+}
 
 
 class _Library:
@@ -151,16 +168,24 @@ class _Library:
     def __getattr__(self, call: str) -> Any:
         name = os.environ.get("POCKET_LIBRARY") or ctypes.util.find_library("pocket") or "libpocket.so"
         library = ctypes.CDLL(name)
-        for own, types in _CALLS.items():
-            function = getattr(library, own)
-            function.argtypes, function.restype = types, ctypes.c_uint32
-            setattr(self, own, function)
-        if call not in _CALLS:
+        for own, types in {**_CALLS, **_STATE_CALLS}.items():
+            if hasattr(library, own):
+                function = getattr(library, own)
+                function.argtypes, function.restype = types, ctypes.c_uint32
+                setattr(self, own, function)
+        if call not in self.__dict__:
             raise AttributeError(call)
-        return getattr(self, call)
+        return self.__dict__[call]
 
 
 _library = _Library()
+
+
+def _states() -> _Library:
+    """The library, if it has states."""
+    if not hasattr(_library, "pocket_save"):
+        raise PocketError("only the library made of the one C file has states")
+    return _library
 
 
 def _done(status: int) -> None:
@@ -256,11 +281,36 @@ class _Held:
             self._close(self._handle)
 
 
-class Sender(_Held):
+_State = TypeVar("_State", bound="_Kept")
+
+
+class _Kept(_Held):
+    """What has a state, of vectors of so many bits."""
+
+    def __init__(self, bits: int) -> None:
+        super().__init__()
+
+    def save(self) -> bytes:
+        """Its state, from which `load` goes on, on any processor. Only the library made of the one C file has this."""
+        size = ctypes.c_size_t()
+        _done(_states().pocket_state_size(self._handle, size))
+        state = ctypes.create_string_buffer(size.value)
+        _done(_states().pocket_save(self._handle, state, len(state), size))
+        return state.raw
+
+    @classmethod
+    def load(cls: Type[_State], state: bytes) -> _State:
+        """A sender or a receiver that goes on from the state of one. Only the library made of the one C file has this."""
+        held = cls(int.from_bytes(state[8:12], "big") if len(state) > 32 else 1)
+        _done(_states().pocket_load(held._handle, bytes(state), len(state)))
+        return held
+
+
+class Sender(_Kept):
     """Makes the packet of each input of `bits` bits, 1 to 49,152. The first mask has ceil(bits / 8) bytes, or is zeros."""
 
     def __init__(self, bits: int, mask: bytes = b"") -> None:
-        super().__init__()
+        super().__init__(bits)
         _done(_library.pocket_sender_open(self._handle, _bits(bits), bytes(mask), len(mask)))
         self._data = ctypes.create_string_buffer((10 * bits + 50) // 8)
         self._length, self._level = ctypes.c_size_t(), ctypes.c_uint8()
@@ -273,11 +323,11 @@ class Sender(_Held):
         return Sent(ctypes.string_at(self._data, self._length.value), self._level.value)
 
 
-class Receiver(_Held):
+class Receiver(_Kept):
     """Judges the packets of a sender of `bits` bits, 1 to 49,152, as they arrive, whichever were lost."""
 
     def __init__(self, bits: int) -> None:
-        super().__init__()
+        super().__init__(bits)
         _done(_library.pocket_receiver_open(self._handle, _bits(bits)))
         self._content = ctypes.create_string_buffer((bits + 7) // 8)
         self._finding, self._tally = _Finding(), _Tally()

@@ -1,0 +1,282 @@
+#!/usr/bin/env python3
+"""Compares the one C file of the library with the proved library of x86-64, on this processor and on others, byte for byte.
+
+At the top, after the gate's proofs: .ci/one_file.py. `make dist` makes the files anew; if dist/ is committed, it has to be the same. Then
+library/tests/driver.c runs over pocket.c, as it runs over the gate's library (crates/pocket_c/out): on this processor, on others under
+qemu-user, and on a Cortex-M3 without an operating system, its memory static and no heap in use. What is printed has to be the same; states
+that are saved on one processor are those of all others, and go on there. library/tests/one_file.c tries what the file alone has. Two builds
+in which the order of bytes is wrong with the big end first have to fail. What needs a package that can't be had from Debian (as root) is
+skipped, by name. Its last line is 'N passed, M failed, K skipped'.
+"""
+
+import concurrent.futures
+import os
+import random
+import shutil
+import subprocess
+import sys
+import tempfile
+
+sys.dont_write_bytecode = True
+import processors
+from one_file_lines import long_data, states
+
+TOP = processors.TOP
+DIST = f"{TOP}/dist"
+MADE = ["pocket.c", "pocket.h", "pocket-program.c", "pocket.html"]
+STRICT = "-std=c99 -Wall -Wextra -pedantic -Werror".split()
+DRIVER = f"{TOP}/library/tests/driver.c"
+OWN = f"{TOP}/library/tests/one_file.c"
+BOARD = f"{TOP}/library/examples/cortex-m"
+QEMU_BOARD = "qemu-system-arm -M mps2-an385 -display none -serial none -monitor none -semihosting-config enable=on,target=native -kernel".split()
+# What the driver is compiled by, with which flags, and what runs it.
+TARGETS = {
+    "x86-64, gcc": ("gcc", ["-O2"], []),
+    "x86-64, clang": ("clang", ["-O2"], []),
+    "x86-64, unchecked": ("gcc", ["-O2", "-DPOCKET_UNCHECKED"], []),
+    "x86-64, the sanitizers": ("gcc", ["-O1", "-g", "-fsanitize=address,undefined", "-fno-sanitize-recover=all"], []),
+    "i386": ("i686-linux-gnu-gcc", ["-Os", "-static"], ["qemu-i386"]),
+    "armhf": ("arm-linux-gnueabihf-gcc", ["-Os", "-static"], ["qemu-arm"]),
+    "powerpc": ("powerpc-linux-gnu-gcc", ["-Os", "-static"], ["qemu-ppc"]),
+    "s390x": ("s390x-linux-gnu-gcc", ["-Os", "-static"], ["qemu-s390x"]),
+    "sparc64": ("sparc64-linux-gnu-gcc", ["-Os", "-static"], ["qemu-sparc64"]),
+    "sparc, by the instructions of LEON3": ("sparc64-linux-gnu-gcc", ["-Os", "-static", "-m32", "-mcpu=leon3"], ["qemu-sparc32plus"]),
+    "riscv64": ("riscv64-linux-gnu-gcc", ["-Os", "-static"], ["qemu-riscv64"]),
+    "aarch64": ("aarch64-linux-gnu-gcc", ["-Os", "-static"], ["qemu-aarch64"]),
+    "Cortex-M3": ("arm-none-eabi-gcc", ["-Os", "-mcpu=cortex-m3", "-mthumb", "--specs=rdimon.specs", "-nostartfiles", "-DDRIVER_ROOM=(1<<17)",
+                                        "-DPOCKET_NO_HEAP", "-Wl,--wrap=main", "-T", f"{BOARD}/link.ld", f"{BOARD}/start.c", f"{TOP}/library/tests/board.c"], QEMU_BOARD),
+}
+WANTED = "x86-64, gcc"
+PACKAGES = """wabt binaryen qemu-user gcc-i686-linux-gnu libc6-dev-i386-cross gcc-arm-linux-gnueabihf libc6-dev-armhf-cross
+    gcc-powerpc-linux-gnu libc6-dev-powerpc-cross gcc-s390x-linux-gnu libc6-dev-s390x-cross gcc-sparc64-linux-gnu libc6-dev-sparc64-cross
+    gcc-multilib-sparc64-linux-gnu libc6-dev-sparc-sparc64-cross
+    gcc-riscv64-linux-gnu libc6-dev-riscv64-cross gcc-aarch64-linux-gnu libc6-dev-arm64-cross gcc-arm-none-eabi libnewlib-arm-none-eabi
+    qemu-system-arm""".split()
+# Builds in which the big end is wrong: a text of the file, and what stands in its place.
+WRONG = {"memory.copy backwards, with the big end first": ("memmove(place(to), place(from), count);", "memmove(m + last + SLACK - (to - BASE) - count, m + last + SLACK - (from - BASE) - count, count);"),
+         "words in the order of the processor": ("__builtin_bswap##bits(value)", "(value)")}
+
+
+class Skipped(Exception):
+    """What a try needs is not there."""
+
+
+def need(*programs):
+    missing = [it for it in programs if not shutil.which(it)]
+    if missing:
+        raise Skipped(", ".join(missing))
+
+
+def run(words, given=None, where=TOP, limit=600):
+    """What a command writes; one that does not end with 0 is an error."""
+    found = subprocess.run(words, input=given, capture_output=True, cwd=where, timeout=limit)
+    if found.returncode:
+        raise RuntimeError(f"{words[0]} ended with {found.returncode}: {(found.stdout + found.stderr)[-400:]!r}")
+    return found.stdout
+
+
+def fetched():
+    """Takes what is missing from Debian's packages, if it can."""
+    needed = [it for compiler, _, emulator in TARGETS.values() for it in (compiler, *emulator[:1])] + ["wasm2c", "wasm-opt"]
+    if all(map(shutil.which, needed)) or os.geteuid() or not shutil.which("apt-get"):
+        return
+    for words in (["update", "-q"], ["install", "-q", "-y", "--no-install-recommends", *PACKAGES]):
+        subprocess.run(["apt-get", *words], stdout=subprocess.DEVNULL, stderr=subprocess.DEVNULL, timeout=900)
+
+
+class Room:
+    """The folder of a run, with the files made anew, and what the gate's library prints."""
+
+    def __init__(self, folder):
+        self.folder, self.made, self.tests, self.wanted = folder, os.path.join(folder, "dist"), {}, {}
+
+    def at(self, name):
+        return os.path.join(self.folder, name)
+
+    def known(self):
+        """What the library of x86-64 prints of each test: the lines of one run after the other."""
+        draw = random.Random(processors.SEED)
+        cases = [processors.random_case(draw, number) for number in range(processors.CASES)]
+        self.tests = {"the worked inputs": processors.worked(), "wrong arguments": processors.wrong_lines(),
+                      f"{processors.CASES} random cases": ([line for case in cases for line in processors.lines_of(case)], None),
+                      "more data than a packet has": (long_data(draw), None)}
+        native = self.at("native")
+        processors.compile_driver("gcc", [processors.LIBRARY, f"{TOP}/library/heap.c"], native, False)
+        self.wanted = {name: processors.ran([native], lines) for name, (lines, _) in self.tests.items()}
+        self.whole, self.parts = states(random.Random(68))
+        self.unsaved = processors.ran([native], [line for line in self.whole if line != "save"])
+
+    def driver(self, name, made):
+        """The driver of a target over a pocket.c."""
+        compiler, flags, emulator = TARGETS[name]
+        need(compiler, *emulator[:1])
+        to = self.at(name.replace(", ", "-").replace(" ", "-"))
+        warned = ["-std=gnu99" if name == "Cortex-M3" else "-std=c99", "-Wall", "-Wextra", "-Werror"]
+        run([compiler, *warned, "-DPOCKET_ONE_FILE", *flags, "-I", made, "-o", to, DRIVER, f"{made}/pocket.c"])
+        return [*emulator, to]
+
+
+def printed(words, lines):
+    return run(words, "".join(line + "\n" for line in lines).encode()).decode().splitlines()
+
+
+def compares(room, name, saved):
+    """How a target's driver prints something else than the library, or its states are others than those of x86-64, or it goes on from those
+    in another way; or None. All is one run."""
+    words = room.driver(name, room.made)
+    resumed, goes_on = room.parts(saved)
+    tests = [(test, lines, room.wanted[test]) for test, (lines, _) in room.tests.items()]
+    tests += [("states", room.whole, saved), ("states that go on", resumed, goes_on)]
+    found = printed(words, [line for _, lines, _ in tests for line in lines])
+    for test, _, wanted in tests:
+        fault = processors.differing(found[:len(wanted)], wanted)
+        if fault:
+            return f"{test}: {fault}"
+        found = found[len(wanted):]
+    return f"{len(found)} lines too many" if found else None
+
+
+def same_as_committed(room):
+    """Whether dist/ has what `make dist` makes."""
+    if not os.path.isdir(DIST):
+        raise Skipped("dist/, which is made before a hand-in,")
+    other = [name for name in MADE if not os.path.exists(f"{DIST}/{name}") or not same(f"{DIST}/{name}", os.path.join(room.made, name))]
+    return f"{other} are others than the sources make: make dist" if other else None
+
+
+def same(one, other):
+    with open(one, "rb") as first, open(other, "rb") as second:
+        return first.read() == second.read()
+
+
+def complains(room, compiler):
+    """Whether a compiler takes the file without a flag and without a complaint, and what it asks the C library for."""
+    need(compiler)
+    bare = {"memcpy", "memmove", "memset"}
+    for flags, needs in (([], bare | {"malloc", "free"}), (["-DPOCKET_NO_HEAP"], bare), (["-DPOCKET_NO_RECEIVER", "-DPOCKET_NO_HEAP"], bare),
+                         (["-DPOCKET_NO_SENDER", "-DPOCKET_NO_HEAP"], bare), (["-DPOCKET_UNCHECKED"], bare | {"malloc", "free"})):
+        to = room.at(f"{compiler}.o")
+        run([compiler, *STRICT, "-O0" if flags else "-O2", *flags, "-c", f"{room.made}/pocket.c", "-o", to])
+        told = [line.split() for line in run(["nm", to]).decode().splitlines()]
+        asked = {words[1] for words in told if words[0] == "U"} - {"_GLOBAL_OFFSET_TABLE_"}
+        calls = {words[2] for words in told if words[1] == "T"}
+        if asked - needs:
+            return f"{flags} asks for {sorted(asked - needs)}"
+        if any(("send" in it if "NO_SENDER" in str(flags) else "receive" in it) for it in calls) and any("_NO_SENDER" in it or "_NO_RECEIVER" in it for it in flags):
+            return f"{flags} has {sorted(calls)}"
+    run([compiler, "-c", f"{room.made}/pocket.c", "-o", to])
+    return None
+
+
+def own(room, compiler, how, flags, before):
+    """How library/tests/one_file.c fails, or None."""
+    need(compiler, *before[:1])
+    to = room.at(f"own-{compiler}-{how}")
+    run([compiler, *STRICT, *flags, "-I", room.made, "-o", to, OWN])
+    found = run([*before, to, how]).decode().splitlines()[-1]
+    return None if found.endswith(" passed, 0 failed") and not found.startswith("0 ") else found
+
+
+def wrong(room, name):
+    """Whether a build with a wrong order of bytes fails on powerpc."""
+    text, instead = WRONG[name]
+    with open(f"{room.made}/pocket.c", encoding="utf-8") as file:
+        source = file.read()
+    if source.count(text) != 1:
+        return f"the file has {source.count(text)} times {text!r}"
+    folder = room.at(name.split(" ")[0])
+    os.makedirs(folder)
+    shutil.copy(f"{room.made}/pocket.h", folder)
+    with open(f"{folder}/pocket.c", "w", encoding="utf-8") as file:
+        file.write(source.replace(text, instead))
+    compiler, _, emulator = TARGETS["powerpc"]
+    need(compiler, *emulator)
+    to = os.path.join(folder, "driver")
+    run([compiler, "-std=c99", "-O1", "-static", "-DPOCKET_ONE_FILE", "-I", folder, "-o", to, DRIVER, f"{folder}/pocket.c"])
+    lines = "".join(line + "\n" for line in room.tests["the worked inputs"][0]).encode()
+    found = subprocess.run([*emulator, to], input=lines, capture_output=True, timeout=60).stdout.decode(errors="replace").splitlines()
+    return "it gives what is right" if found == room.wanted["the worked inputs"] else None
+
+
+def board(room):
+    """Whether the loop on board of the example makes the packets that `compress` makes."""
+    need("make", "arm-none-eabi-gcc", QEMU_BOARD[0])
+    folder, data = room.at("board"), f"{TOP}/crates/pocket/data/hk.rec"
+    os.makedirs(folder)
+    shutil.copy(data, folder)
+    run(["make", "-s", "-C", BOARD, f"POCKET={room.made}", f"OUT={folder}"])
+    run([*QEMU_BOARD, f"{folder}/onboard.elf"], where=folder)
+    with open(f"{folder}/plan", "w", encoding="ascii") as file:
+        file.write("20,4294967295,20,p\n30,30,1,fr\n")
+    run([processors.PROGRAM, "compress", "in=hk.rec", "out=wanted", "bits=64", "apid=100", "robust=2", "plan=plan"], where=folder)
+    return None if same(f"{folder}/hk.store", f"{folder}/wanted") else "its packets are others"
+
+
+def from_python(room):
+    """How the states of library/tests/states.py fail, from Python over a shared library that is made of the file, or None."""
+    to = room.at("libpocket.so")
+    run(["gcc", "-std=c99", "-O1", "-fPIC", "-shared", "-o", to, f"{room.made}/pocket.c"])
+    env = dict(os.environ, PYTHONPATH=f"{TOP}/library/python", POCKET_LIBRARY=to, PYTHONDONTWRITEBYTECODE="1")
+    found = subprocess.run([sys.executable, f"{TOP}/library/tests/states.py"], capture_output=True, env=env, timeout=100)
+    return None if found.returncode == 0 and found.stdout.endswith(b" passed, 0 failed\n") else (found.stdout + found.stderr)[-400:]
+
+
+def tries(room, saved):
+    """All that is tried beside the making: each with its name, and a function that gives what is wrong, or None."""
+    yield "dist/ is what the sources make", lambda: same_as_committed(room)
+    for compiler in ("gcc", "clang"):
+        yield f"{compiler} takes it without a flag or a complaint", lambda c=compiler: complains(room, c)
+    for name in TARGETS:
+        yield f"{name}: as the library", lambda n=name: compares(room, n, saved)
+    yield "the file's own", lambda: own(room, "gcc", "all", ["-O1"], [])
+    yield "the file's own, by the sanitizers", lambda: own(room, "clang", "some", ["-O1", "-g", "-fsanitize=address,undefined", "-fno-sanitize-recover=all"], [])
+    yield "the file's own, under valgrind", lambda: own(room, "gcc", "some", ["-O1", "-g"], ["valgrind", "-q", "--error-exitcode=9", "--leak-check=full"])
+    yield "the file's own, on powerpc", lambda: own(room, TARGETS["powerpc"][0], "some", ["-O1", "-static"], TARGETS["powerpc"][2])
+    for name in WRONG:
+        yield f"a wrong build fails: {name}", lambda n=name: wrong(room, n)
+    yield "the example for Cortex-M", lambda: board(room)
+    yield "states from Python", lambda: from_python(room)
+
+
+def tried(attempt):
+    """What a try gives: what is wrong, or None, or that it is skipped."""
+    try:
+        return attempt()
+    except Skipped as missing:
+        return missing
+    except Exception as error:
+        return f"it raised {error!r}"
+
+
+def main():
+    passed = failed = skipped = 0
+    fetched()
+    with tempfile.TemporaryDirectory(prefix="pocket-one-file-") as folder:
+        room = Room(folder)
+        if all(map(shutil.which, ("wasm2c", "wasm-opt"))):
+            run(["make", "-s", "dist", f"DIST={room.made}"], limit=1800)
+        else:
+            room.made = DIST
+            print("one file: skipped: the files are made: wasm2c or wasm-opt is not there", flush=True)
+            skipped += 1
+        room.known()
+        saved = printed(room.driver(WANTED, room.made), room.whole)
+        left = processors.differing([line for line in saved if not line.startswith("saved ")], room.unsaved)
+        names, attempts = zip(*tries(room, saved))
+        with concurrent.futures.ThreadPoolExecutor(os.cpu_count()) as at_once:
+            found = [("a sender and a receiver that are saved", left), *zip(names, at_once.map(tried, attempts))]
+        for name, fault in found:
+            if fault is None:
+                passed += 1
+            elif isinstance(fault, Skipped):
+                skipped += 1
+                print(f"one file: skipped: {name}: {fault} is not there", flush=True)
+            else:
+                failed += 1
+                print(f"one file: {name}: {fault}", flush=True)
+    print(f"{passed} passed, {failed} failed, {skipped} skipped")
+    sys.exit(1 if failed else 0)
+
+
+if __name__ == "__main__":
+    main()

@@ -1,0 +1,296 @@
+/* The calls of pocket.h, written by hand. From the head on a block has the stack, the constants, the handle of the generated part, what its
+ * calls tell, its heap, room for an input or a content, and of a receiver room for the data of a packet. An address from OUTSIDE on is a
+ * place in the caller's room for a packet: only copies go there. */
+#define OUTSIDE 0x80000000u
+enum { SENDER = 1, RECEIVER = 2 };
+enum { HANDLE = (HEAP_BASE + 15) / 16 * 16, TOLD = HANDLE + 16, TOLD_LEVEL = TOLD + 8, FIRST = TOLD + 48 };
+
+/* The stack that pocket.h tells is at least the deepest of the generated part, and at most a quarter of a kilobyte more; and its macros
+ * have the room that is taken here. */
+typedef char stack_is_deep_enough[DEEPEST <= STACK_BYTES && STACK_BYTES < DEEPEST + 256 ? 1 : -1];
+typedef char fixed_bytes_are_told[POCKET_FIXED_BYTES == 15 + HEAD_BYTES + (FIRST - BASE) + SLACK ? 1 : -1];
+
+static u32 heap_bytes(u32 kind, u32 bits) {
+    return (u32)(kind == SENDER ? POCKET_SENDER_HEAP(bits) : POCKET_RECEIVER_HEAP(bits));
+}
+
+static u32 content_at(u32 kind, u32 bits) {
+    return FIRST + heap_bytes(kind, bits);
+}
+
+#ifndef POCKET_NO_RECEIVER
+static u32 data_at(u32 bits) {
+    return content_at(RECEIVER, bits) + ROUNDED(POCKET_INPUT_BYTES(bits) + 1u, 8u);
+}
+
+/* No packet has as many bytes of data, so one with more is wrong at a bit before their end. */
+static u32 data_bytes(u32 bits) {
+    return ROUNDED(POCKET_PACKET_BYTES(bits) + 8u, 8u);
+}
+#endif
+
+/* Memory of the heap: the next bytes that are free, since nothing is given back before the handle is closed. */
+static void heap_alloc(u8 *m, u32 last, u64 told, u64 bytes, u64 align) {
+    const u32 free_at = ROUNDED(head_of(m, FREE_AT), 8u);
+    const u32 end = content_at(head_of(m, KIND_AT), head_of(m, BITS_AT));
+    const bool found = align <= 8u && free_at <= end && bytes <= end - free_at;
+    if (!lie_in(last, (u32)told, 16u)) {
+        set_broken(m);
+        return;
+    }
+    put64(place(told), found);
+    put64(place(told) + 8, found ? free_at : 0u);
+    if (found)
+        set_head(m, FREE_AT, free_at + (u32)bytes);
+}
+
+static void heap_dealloc(u8 *m, u32 last, u64 at) {
+    (void)m, (void)last, (void)at;
+}
+
+static bool copied(u8 *m, u32 last, u32 to, u32 from, u32 count) {
+    u8 *out;
+    if (count == 0)
+        return true;
+    if (!lie_in(last, from, count))
+        return false;
+    if (lie_in(last, to, count)) {
+        memmove(place(to), place(from), count);
+        return true;
+    }
+    memcpy(&out, m - OUT_AT, sizeof out);
+    if (out == NULL || to < OUTSIDE || to - OUTSIDE > head_of(m, ROOM_AT) || count > head_of(m, ROOM_AT) - (to - OUTSIDE))
+        return false;
+    memcpy(out + (to - OUTSIDE), place(from), count);
+    return true;
+}
+/* @generated@ */
+/* The block of a handle. */
+static u8 *block_of(const pocket_handle *handle) {
+    return (u8 *)handle->at + HEAD_BYTES;
+}
+
+static void set_out(u8 *m, u8 *out, u32 room) {
+    memcpy(m - OUT_AT, &out, sizeof out);
+    set_head(m, ROOM_AT, room);
+}
+
+/* Whether a call of a handle can begin: POCKET_DONE, or why not. */
+static u32 begun(const pocket_handle *handle, u32 kind) {
+    u8 *m;
+    if (handle->at == NULL)
+        return POCKET_IS_CLOSED;
+    m = block_of(handle);
+    if (head_of(m, BROKEN_AT))
+        return POCKET_BROKEN;
+    if (head_of(m, KIND_AT) != kind)
+        return POCKET_OTHER_KIND;
+    set_head(m, STACK_AT, STACK_TOP);
+    return POCKET_DONE;
+}
+
+/* What a call answers that had a status, or was ended. */
+static u32 ended(const u8 *m, u32 status) {
+    return head_of(m, BROKEN_AT) ? (u32)POCKET_BROKEN : status;
+}
+
+/* Puts bytes at an address, and a zero after them; of more than there is room for, the first. Gives how many the generated part is told:
+ * as many as there are, but one more than the room at most. */
+static u32 given(u8 *m, u32 at, const u8 *bytes, size_t length, u32 room) {
+    const u32 count = length > room ? room : (u32)length;
+    memcpy(place(at), bytes, count);
+    return length > room ? room + 1u : count;
+}
+
+/* Makes a block in memory, of zeros but for its constants, whose generated part has a handle that holds nothing. */
+static u8 *made_block(void *memory, u32 kind, u32 bits, size_t bytes) {
+    const size_t skip = (16u - ((uintptr_t)memory & 15u)) & 15u;
+    u8 *const m = (u8 *)memory + skip + HEAD_BYTES;
+    const u32 last = (u32)(bytes - 15u - HEAD_BYTES - SLACK);
+    memset(m - HEAD_BYTES, 0, HEAD_BYTES + (size_t)last + SLACK);
+#if CONSTANT_BYTES > 0
+    memcpy(place(STACK_TOP), constants, CONSTANT_BYTES);
+#endif
+    set_head(m, STACK_AT, STACK_TOP);
+    set_head(m, FREE_AT, FIRST);
+    set_head(m, LAST_AT, last);
+    set_head(m, BITS_AT, bits);
+    set_head(m, KIND_AT, kind);
+    return m;
+}
+
+/* Gives the handle a block that was opened, or none. */
+static u32 opened(pocket_handle *handle, u8 *m, u32 status) {
+    status = ended(m, status);
+    if (status == POCKET_DONE) {
+        handle->at = m - HEAD_BYTES;
+        handle->state = 1;
+    }
+    return status;
+}
+
+#ifndef POCKET_NO_HEAP
+/* Marks the block of a handle as one that is given back, or gives the memory back now if nothing was opened in it. */
+static u32 owned(const pocket_handle *handle, void *memory, u32 status) {
+    if (status == POCKET_DONE)
+        memcpy(block_of(handle) - OWNED_AT, &memory, sizeof memory);
+    else
+        free(memory);
+    return status;
+}
+#endif
+
+#ifndef POCKET_NO_SENDER
+size_t pocket_sender_bytes(uint32_t bits) {
+    return bits == 0 || bits > POCKET_MOST_BITS ? 0 : POCKET_SENDER_BYTES(bits);
+}
+
+uint32_t pocket_sender_open_in(pocket_handle *handle, void *memory, size_t size, uint32_t bits, const uint8_t *mask, size_t mask_length) {
+    const size_t bytes = pocket_sender_bytes(bits);
+    u32 at, length;
+    u8 *m;
+    if (handle->at != NULL)
+        return POCKET_IS_OPEN;
+    if (bytes == 0)
+        return POCKET_BITS;
+    if (size < bytes)
+        return POCKET_NO_MEMORY;
+    m = made_block(memory, SENDER, bits, bytes);
+    at = content_at(SENDER, bits);
+    length = given(m, at, mask, mask_length, (u32)POCKET_INPUT_BYTES(bits));
+    return opened(handle, m, code_pocket_sender_open(m, head_of(m, LAST_AT), HANDLE, bits, at, length));
+}
+
+#ifndef POCKET_NO_HEAP
+uint32_t pocket_sender_open(pocket_handle *handle, uint32_t bits, const uint8_t *mask, size_t mask_length) {
+    const size_t bytes = pocket_sender_bytes(bits);
+    void *memory;
+    if (handle->at != NULL)
+        return POCKET_IS_OPEN;
+    if (bytes == 0)
+        return POCKET_BITS;
+    memory = malloc(bytes);
+    if (memory == NULL)
+        return POCKET_NO_MEMORY;
+    return owned(handle, memory, pocket_sender_open_in(handle, memory, bytes, bits, mask, mask_length));
+}
+#endif
+
+uint32_t pocket_send(pocket_handle *handle, const uint8_t *input, size_t input_length, bool new_mask, bool send_mask, bool whole,
+                     uint8_t robustness, uint8_t *data, size_t room, size_t *length, uint8_t *level) {
+    u32 status = begun(handle, SENDER), bits, at, count, data_room;
+    u8 *m;
+    if (status != POCKET_DONE)
+        return status;
+    m = block_of(handle);
+    bits = head_of(m, BITS_AT);
+    at = content_at(SENDER, bits);
+    count = given(m, at, input, input_length, (u32)POCKET_INPUT_BYTES(bits));
+    data_room = room > POCKET_MOST_DATA ? POCKET_MOST_DATA : (u32)room;
+    set_out(m, data, data_room);
+    status = ended(m, code_pocket_send(m, head_of(m, LAST_AT), HANDLE, at, count, new_mask, send_mask, whole, robustness, OUTSIDE,
+                                       data_room, TOLD, TOLD_LEVEL));
+    set_out(m, NULL, 0);
+    if (status == POCKET_DONE) {
+        *length = (size_t)get64(place(TOLD));
+        *level = get8(place(TOLD_LEVEL));
+    }
+    return status;
+}
+#endif
+
+#ifndef POCKET_NO_RECEIVER
+size_t pocket_receiver_bytes(uint32_t bits) {
+    return bits == 0 || bits > POCKET_MOST_BITS ? 0 : POCKET_RECEIVER_BYTES(bits);
+}
+
+uint32_t pocket_receiver_open_in(pocket_handle *handle, void *memory, size_t size, uint32_t bits) {
+    const size_t bytes = pocket_receiver_bytes(bits);
+    u8 *m;
+    if (handle->at != NULL)
+        return POCKET_IS_OPEN;
+    if (bytes == 0)
+        return POCKET_BITS;
+    if (size < bytes)
+        return POCKET_NO_MEMORY;
+    m = made_block(memory, RECEIVER, bits, bytes);
+    return opened(handle, m, code_pocket_receiver_open(m, head_of(m, LAST_AT), HANDLE, bits));
+}
+
+#ifndef POCKET_NO_HEAP
+uint32_t pocket_receiver_open(pocket_handle *handle, uint32_t bits) {
+    const size_t bytes = pocket_receiver_bytes(bits);
+    void *memory;
+    if (handle->at != NULL)
+        return POCKET_IS_OPEN;
+    if (bytes == 0)
+        return POCKET_BITS;
+    memory = malloc(bytes);
+    if (memory == NULL)
+        return POCKET_NO_MEMORY;
+    return owned(handle, memory, pocket_receiver_open_in(handle, memory, bytes, bits));
+}
+#endif
+
+uint32_t pocket_receive(pocket_handle *handle, uint16_t count, const uint8_t *data, size_t length, uint8_t *content, size_t room,
+                        pocket_finding *finding) {
+    u32 status = begun(handle, RECEIVER), bits, told, most, content_room;
+    u8 *m;
+    if (status != POCKET_DONE)
+        return status;
+    m = block_of(handle);
+    bits = head_of(m, BITS_AT);
+    most = data_bytes(bits);
+    told = given(m, data_at(bits), data, length, most);
+    /* (more bytes than a packet has: the first are judged, and these have to be wrong) */
+    if (length > most)
+        told = length > POCKET_MOST_DATA ? POCKET_MOST_DATA + 1u : most;
+    content_room = room > POCKET_MOST_DATA ? POCKET_MOST_DATA : (u32)room;
+    status = ended(m, code_pocket_receive(m, head_of(m, LAST_AT), HANDLE, count, data_at(bits), told, content_at(RECEIVER, bits),
+                                          content_room, TOLD));
+    if (status != POCKET_DONE)
+        return status;
+    finding->number = get64(place(TOLD));
+    finding->first_lost = get64(place(TOLD) + 8);
+    finding->lost = get64(place(TOLD) + 16);
+    finding->kind = get32(place(TOLD) + 24);
+    finding->value = get32(place(TOLD) + 28);
+    finding->mask_alone = get8(place(TOLD) + 32) != 0;
+    if (length > most && finding->kind != POCKET_WRONG && finding->kind != POCKET_REPEAT) {
+        set_broken(m);
+        return POCKET_BROKEN;
+    }
+    if (finding->kind == POCKET_WRITTEN)
+        memcpy(content, place(content_at(RECEIVER, bits)), POCKET_INPUT_BYTES(bits));
+    return POCKET_DONE;
+}
+
+uint32_t pocket_counts(pocket_handle *handle, pocket_tally *tally) {
+    u32 status = begun(handle, RECEIVER);
+    u8 *m;
+    if (status != POCKET_DONE)
+        return status;
+    m = block_of(handle);
+    status = ended(m, code_pocket_counts(m, head_of(m, LAST_AT), HANDLE, TOLD));
+    if (status == POCKET_DONE) {
+        tally->packets = get64(place(TOLD));
+        tally->written = get64(place(TOLD) + 8);
+        tally->repeats = get64(place(TOLD) + 16);
+        tally->listed = get64(place(TOLD) + 24);
+    }
+    return status;
+}
+#endif
+
+uint32_t pocket_close(pocket_handle *handle) {
+    void *memory;
+    if (handle->at == NULL)
+        return POCKET_IS_CLOSED;
+    memcpy(&memory, block_of(handle) - OWNED_AT, sizeof memory);
+    handle->at = NULL;
+    handle->state = 0;
+#ifndef POCKET_NO_HEAP
+    free(memory);
+#endif
+    return POCKET_DONE;
+}

@@ -1,0 +1,181 @@
+/* The files of the program, written by hand: inputs are read whole, outputs are written when a command is done. */
+enum { MOST_FILES = 5, MOST_OUTPUTS = 2 };
+
+/* The bytes of a name. */
+struct file {
+    const char *name;
+    u8 *bytes;
+    size_t length;
+    struct stat of;
+};
+
+static struct file inputs[MOST_FILES];
+static unsigned input_count;
+
+/* Reads an open file to its end; gives whether all was read. */
+static bool read_whole(int from, struct file *file) {
+    size_t room = 0;
+    ssize_t count = 1;
+    while (count > 0) {
+        if (file->length == room) {
+            u8 *more = realloc(file->bytes, room = room ? 2 * room : 65536);
+            if (more == NULL)
+                return false;
+            file->bytes = more;
+        }
+        do
+            count = read(from, file->bytes + file->length, room - file->length);
+        while (count < 0 && errno == EINTR);
+        file->length += count > 0 ? (size_t)count : 0u;
+    }
+    return count == 0;
+}
+
+/* Reads the input of a name, if it can be read and was not yet; otherwise the command finds nothing under it. */
+static void read_input(const char *name) {
+    struct file file = { name, NULL, 0, { 0 } };
+    const bool is_standard = strcmp(name, "-") == 0;
+    unsigned at;
+    int from;
+    for (at = 0; at < input_count; at++)
+        if (strcmp(inputs[at].name, name) == 0)
+            return;
+    from = is_standard ? 0 : open(name, O_RDONLY);
+    if (from < 0 || input_count == MOST_FILES)
+        return;
+    if (fstat(from, &file.of) == 0 && read_whole(from, &file))
+        inputs[input_count++] = file;
+    if (!is_standard)
+        close(from);
+}
+
+static bool are_one(const struct stat *one, const struct stat *other) {
+    return one->st_dev == other->st_dev && one->st_ino == other->st_ino;
+}
+
+/* Whether a file is one that was read. */
+static bool was_read(const struct stat *of) {
+    unsigned at;
+    for (at = 0; at < input_count; at++)
+        if (are_one(&inputs[at].of, of))
+            return true;
+    return false;
+}
+
+static bool is_standard_output(const char *name) {
+    return strcmp(name, "-") == 0 || strcmp(name, "/dev/stdout") == 0 || strcmp(name, "/dev/fd/1") == 0 || strcmp(name, "/proc/self/fd/1") == 0;
+}
+
+static bool write_whole(int to, const u8 *bytes, size_t length) {
+    while (length > 0) {
+        const ssize_t count = write(to, bytes, length);
+        if (count < 0 && errno == EINTR)
+            continue;
+        if (count <= 0)
+            return false;
+        bytes += count;
+        length -= (size_t)count;
+    }
+    return true;
+}
+
+/* An output that was opened: what it is written to, and the part beside its name that takes the name, if it has one. */
+struct sink {
+    int to;
+    char *part, *target;
+    struct stat of;
+};
+
+/* Whether a file is the part of an output, or the one that the part will replace. */
+static bool concerns(const struct sink *other, const struct stat *of) {
+    struct stat standing;
+    if (other == NULL || other->part == NULL)
+        return false;
+    return are_one(&other->of, of) || (stat(other->target, &standing) == 0 && are_one(&standing, of));
+}
+
+/* Whether a file is what the other output is written to: its part, or standard output. */
+static bool is_taken(const struct sink *other, const struct stat *of) {
+    return other != NULL && (other->part != NULL || other->to == 1) && are_one(&other->of, of);
+}
+
+/* Removes an earlier part, unless it is anything else. */
+static bool removes(const char *part, const struct sink *other) {
+    struct stat standing, standard;
+    if (lstat(part, &standing) != 0)
+        return errno == ENOENT;
+    if (!S_ISREG(standing.st_mode) || was_read(&standing) || is_taken(other, &standing) || concerns(other, &standing))
+        return false;
+    if (fstat(1, &standard) == 0 && are_one(&standard, &standing))
+        return false;
+    return unlink(part) == 0;
+}
+
+/* Opens the part beside the name of an output, with the mode of what stands there. */
+static bool opens_part(const char *name, const struct stat *stands, const struct sink *other, struct sink *sink) {
+    struct stat standing;
+    sink->target = lstat(name, &standing) == 0 && S_ISLNK(standing.st_mode) ? realpath(name, NULL) : strdup(name);
+    sink->part = sink->target == NULL ? NULL : malloc(strlen(sink->target) + sizeof ".part");
+    if (sink->part == NULL)
+        return false;
+    strcpy(sink->part, sink->target);
+    strcat(sink->part, ".part");
+    if (!removes(sink->part, other))
+        return false;
+    sink->to = open(sink->part, O_WRONLY | O_CREAT | O_EXCL, 0666);
+    if (sink->to < 0 || fstat(sink->to, &sink->of) != 0)
+        return false;
+    if (concerns(other, &sink->of)) {
+        unlink(sink->part);
+        return false;
+    }
+    return stands == NULL || fchmod(sink->to, stands->st_mode & 07777) == 0;
+}
+
+/* Opens what an output is written to: standard output, a pipe or a device, or a part beside its name. */
+static bool opens(const char *name, const struct sink *other, struct sink *sink) {
+    struct stat standing;
+    memset(sink, 0, sizeof *sink);
+    if (is_standard_output(name)) {
+        sink->to = 1;
+        return fstat(1, &sink->of) == 0 && !concerns(other, &sink->of);
+    }
+    sink->to = open(name, O_WRONLY);
+    if (sink->to < 0)
+        return errno == ENOENT && opens_part(name, NULL, other, sink);
+    if (fstat(sink->to, &standing) != 0)
+        return false;
+    if (!S_ISREG(standing.st_mode))
+        return true;
+    close(sink->to);
+    return !was_read(&standing) && !is_taken(other, &standing) && opens_part(name, &standing, other, sink);
+}
+
+static bool takes_name(const struct sink *sink) {
+    struct stat standing;
+    return lstat(sink->part, &standing) == 0 && are_one(&standing, &sink->of) && rename(sink->part, sink->target) == 0;
+}
+
+/* Writes outputs, and then gives their parts their names. */
+static bool hands_over(const struct file *outputs, unsigned count) {
+    struct sink sinks[MOST_OUTPUTS];
+    unsigned at;
+    for (at = 0; at < count; at++)
+        if (!opens(outputs[at].name, at ? &sinks[0] : NULL, &sinks[at]))
+            return false;
+    for (at = 0; at < count; at++)
+        if (!write_whole(sinks[at].to, outputs[at].bytes, outputs[at].length) || (sinks[at].part != NULL && fsync(sinks[at].to) != 0))
+            return false;
+    for (at = 0; at < count; at++)
+        if (sinks[at].part != NULL && !takes_name(&sinks[at]))
+            return false;
+    return true;
+}
+
+/* Something in the place of a standard stream that is closed, so that no file is taken for it. */
+static void stand_in(void) {
+    int stream;
+    for (stream = 0; stream < 3; stream++)
+        if (fcntl(stream, F_GETFD) < 0)
+            (void)open("/", O_RDONLY);
+}

@@ -1,0 +1,170 @@
+#!/usr/bin/env python3
+"""Makes the C files that any compiler takes: library/one_file/make.py MODULE FOLDER writes FOLDER/pocket.c, the calls of a sender and a
+receiver, FOLDER/pocket.h, and FOLDER/pocket-program.c, the program.
+
+MODULE is the module that library/retarget.py kept as the library was proved and built for x86-64 (crates/pocket_c/out/module.bc).
+page/module.py turns it to WebAssembly, Debian's wasm2c (the package wabt) turns that to C, and translate.py that to the generated part,
+which is joined with what is written by hand: machine.c, calls.c and state.c for the calls; machine.c, heap.c, files.c and program.c for the program.
+So the files are compiled another way: compared (.ci/one_file.py), not proved. Two runs give the same bytes.
+"""
+
+import os
+import re
+import shutil
+import subprocess
+import sys
+import tempfile
+import zlib
+
+sys.dont_write_bytecode = True
+HERE = os.path.dirname(os.path.abspath(__file__))
+TOP = os.path.dirname(os.path.dirname(HERE))
+sys.path[:0] = [HERE, f"{TOP}/page"]
+import module
+import translate
+
+SENDER = ["pocket_sender_open", "pocket_send"]
+RECEIVER = ["pocket_receiver_open", "pocket_receive", "pocket_counts"]
+DESK = ["pocket_desk_open", "pocket_put", "pocket_word", "pocket_run", "pocket_get"]
+PROGRAM_STACK = 1 << 20
+BEGIN = "/* ==== The generated part begins here: made from the proved library's module by wasm2c and library/one_file. ==== */"
+END = "/* ==== The generated part ends here. ==== */"
+# Warnings that the statements of a stack machine give, and no other text.
+QUIET = """#if defined(__clang__)
+#pragma clang diagnostic push
+#pragma clang diagnostic ignored "-Wall"
+#pragma clang diagnostic ignored "-Wextra"
+#pragma clang diagnostic ignored "-Wunused-label"
+#elif defined(__GNUC__)
+#pragma GCC diagnostic push
+#pragma GCC diagnostic ignored "-Wunused-label"
+#pragma GCC diagnostic ignored "-Wunused-variable"
+#pragma GCC diagnostic ignored "-Wunused-but-set-variable"
+#pragma GCC diagnostic ignored "-Wunused-parameter"
+#pragma GCC diagnostic ignored "-Wunused-function"
+#pragma GCC diagnostic ignored "-Wmaybe-uninitialized"
+#endif"""
+LOUD = """#if defined(__clang__)
+#pragma clang diagnostic pop
+#elif defined(__GNUC__)
+#pragma GCC diagnostic pop
+#endif"""
+
+
+def text_of(name):
+    with open(os.path.join(HERE, name), encoding="utf-8") as file:
+        return file.read()
+
+
+def version():
+    with open(f"{TOP}/crates/pocket/src/main.rt", encoding="utf-8") as file:
+        return re.search(r'^const VERSION: &str = "pocket (.*)";$', file.read(), re.M)[1]
+
+
+def module_of(kept, exports, kit):
+    """The module with these calls, and its sum."""
+    tool = shutil.which("wasm2c")
+    if not tool:
+        sys.exit("library/one_file/make.py: the package wabt, which has wasm2c, is not there")
+    with tempfile.TemporaryDirectory(prefix="pocket-one-file-") as folder:
+        wasm, made = os.path.join(folder, "pocket.wasm"), os.path.join(folder, "pocket.c")
+        module.make(kept, wasm, kit, exports)
+        subprocess.run([tool, wasm, "-n", "pocket", "-o", made], check=True)
+        with open(wasm, "rb") as binary, open(made, encoding="utf-8") as text:
+            return translate.module_of(text.read()), zlib.crc32(binary.read())
+
+
+def constants(code):
+    """The constants of a module, as an array."""
+    if not code.data:
+        return ""
+    lines = [", ".join(str(it) for it in code.data[at:at + 24]) for at in range(0, len(code.data), 24)]
+    return "static const uint8_t constants[] = {\n" + ",\n".join(lines) + "\n};\n"
+
+
+def joined(functions, guard=None):
+    """The prototypes and bodies of functions, left out if the guard is defined."""
+    if not functions:
+        return ""
+    heads = "".join(f"{it.head()};\n" for it in functions)
+    text = heads + "\n" + "\n".join(it.text for it in functions)
+    return f"#ifndef {guard}\n{text}#endif\n" if guard else text
+
+
+def generated(code):
+    """The functions of the calls: those of both, of a sender alone, and of a receiver alone."""
+    send, receive = code.reached(SENDER), code.reached(RECEIVER)
+    of = lambda names: [it for name, it in code.functions.items() if name in names]
+    return joined(of(send & receive)) + joined(of(send - receive), "POCKET_NO_SENDER") + joined(of(receive - send), "POCKET_NO_RECEIVER")
+
+
+def quiet(text):
+    return f"{BEGIN}\n{QUIET}\n{text}{LOUD}\n{END}\n"
+
+
+def calls(kept, kit):
+    """The text of pocket.c."""
+    code, number = module_of(kept, SENDER + RECEIVER, kit)
+    numbers = {"STACK_TOP": f"{code.top}u", "HEAP_BASE": f"{code.heap}u", "CONSTANT_BYTES": len(code.data), "DEEPEST": code.deepest(SENDER + RECEIVER),
+               "STACK_BYTES": "POCKET_STACK_BYTES", "MODULE_SUM": f"0x{number:08X}u"}
+    before, after = text_of("calls.c").split("/* @generated@ */\n")
+    named = "".join(f"#define {name} {value}\n" for name, value in numbers.items())
+    head = text_of("head.c").replace("@VERSION@", version())
+    return f"{head}\n{named}\n{constants(code)}{text_of('machine.c')}\n{before}\n{quiet(generated(code))}\n{after}\n{text_of('state.c')}"
+
+
+def helps():
+    """What the program's help prints, as arrays of lines: all of it, and that of each verb (crates/pocket/src/verb_help.rt)."""
+    source = {}
+    for name in ("main", "verb_help"):
+        with open(f"{TOP}/crates/pocket/src/{name}.rt", encoding="utf-8") as file:
+            source.update(re.findall(r'^const ([A-Z]+): &str = "\\\n(.*?)";$', file.read(), re.M | re.S))
+    lines = source["HELP"].split("\n")
+    texts = {"": lines}
+    for number, line in enumerate(lines):
+        verb, *words = line.removeprefix("pocket ").split(" ")
+        if line.startswith("pocket ") and verb.upper() in source:
+            keys = {re.match(r"\[?(\w+)=", word)[1] for word in words}
+            of = [it for it in lines if re.match(r"    \S.*  ", it) and keys & set(it.strip().partition("  ")[0].split(", "))]
+            texts[verb] = [line, lines[number + 1], "Keys:", *of, *source[verb.upper()].split("\n")]
+    told = lambda it: '"' + it.replace("\\", "\\\\").replace('"', '\\"') + '"'
+    made = "".join(f"static const char *const help_of_{verb or 'all'}[] = {{\n" + "".join(f"    {told(it)},\n" for it in text) + "    NULL\n};\n" for verb, text in texts.items())
+    rows = "".join(f'    {{ "{verb}", help_of_{verb or "all"} }},\n' for verb in texts)
+    return f"{made}static const struct {{ const char *verb; const char *const *lines; }} helps[] = {{\n{rows}}};\n"
+
+
+def program(kept, kit):
+    """The text of pocket-program.c."""
+    code, _ = module_of(kept, DESK, kit)
+    numbers = {"STACK_TOP": f"{code.top}u", "HEAP_BASE": f"{code.heap}u", "CONSTANT_BYTES": len(code.data), "STACK_BYTES": f"{PROGRAM_STACK}u",
+               "VERSION": f'"{version()}"'}
+    named = "".join(f"#define {name} {value}\n" for name, value in numbers.items())
+    text = joined([it for name, it in code.functions.items() if name in code.reached(DESK)])
+    head = text_of("program_head.c").replace("@VERSION@", version())
+    return f"{head}\n{named}\n{constants(code)}{text_of('machine.c')}\n{text_of('heap.c')}\n{quiet(text)}\n{helps()}\n{text_of('files.c')}\n{text_of('program.c')}"
+
+
+def write(path, text):
+    with open(path, "w", encoding="utf-8", newline="\n") as file:
+        file.write(text)
+
+
+def main():
+    rattle = shutil.which("rattle")
+    if not rattle or len(sys.argv) != 3:
+        sys.exit(__doc__ if rattle else "the toolchain's rattle is not on the path")
+    kit = os.path.dirname(os.path.dirname(os.path.realpath(rattle)))
+    kept, folder = sys.argv[1:]
+    os.makedirs(folder, exist_ok=True)
+    try:
+        made = {"pocket.c": calls(kept, kit), "pocket-program.c": program(kept, kit)}
+    except translate.OtherForm as other:
+        sys.exit(f"library/one_file/make.py: wasm2c wrote what is not known here: {other}")
+    for name, text in made.items():
+        write(os.path.join(folder, name), text)
+    shutil.copyfile(f"{TOP}/library/pocket.h", os.path.join(folder, "pocket.h"))
+    return 0
+
+
+if __name__ == "__main__":
+    sys.exit(main())

@@ -1,0 +1,214 @@
+"""Turns what wasm2c makes of a WebAssembly module into the generated part of a C file.
+
+wasm2c (Debian's package wabt) writes one statement a line. Its statements stay as they are, but for these, which stand on machine.c:
+
+- an access to the memory, a filling, a copy, a division, and what cannot be reached end the function by `goto trap` if they are wrong;
+- a call that was ended so ends its caller;
+- a function that takes a frame of the stack is asked once whether it fits; what lies in its frame by a constant is not asked again.
+
+A line of any other form is an error, so another wabt is not taken by chance. No function calls itself, so the deepest stack is known: the
+largest sum of frames on a way of calls.
+"""
+
+import re
+from dataclasses import dataclass, field
+
+MEMORY = r"&instance->w2c_memory"
+VALUE = r"w2c_[ijlp]\d+"
+
+HEAD = re.compile(r"^static (void|u32|u64) w2c_(\w+)\(Z_pocket_instance_t\* instance((?:, u(?:32|64) w2c_p\d+)*)\) \{$", re.M)
+LOCALS = re.compile(rf"^  (?:u32|u64) {VALUE}(?: = 0)?(?:, {VALUE}(?: = 0)?)*;$")
+LOAD = re.compile(rf"^({VALUE}) = (i(?:32|64)_load(?:8_u|8_s|16_u|16_s|32_u|32_s)?)\({MEMORY}, \(u64\)\((w2c_i\d+)\)(?: \+ (\d+)u)?\);$")
+STORE = re.compile(rf"^(i(?:32|64)_store(?:8|16|32)?)\({MEMORY}, \(u64\)\((w2c_i\d+)\)(?: \+ (\d+))?, ({VALUE})\);$")
+BULK = re.compile(rf"^memory_(fill|copy)\((?:{MEMORY}, )+({VALUE}), ({VALUE}), ({VALUE})\);$")
+CALL = re.compile(rf"^(?:({VALUE}) = )?w2c_(\w+)\(instance((?:, {VALUE})*)\);$")
+IMPORT = re.compile(rf"^\(\*Z_envZ_rattle_(\w+)\)\(instance->Z_env_instance((?:, {VALUE})*)\);$")
+DIVISION = re.compile(rf"^({VALUE}) = (DIV|REM)_U\(({VALUE}), ({VALUE})\);$")
+COUNT = re.compile(rf"^{VALUE} = I(?:32|64)_(?:CLZ|CTZ|POPCNT)\({VALUE}\);$|^{VALUE} = I(?:32|64)_ROT[LR]\({VALUE}, {VALUE}\);$")
+CAST = r"(?:\((?:u|s)(?:8|16|32|64)\))*"
+PLAIN = re.compile(
+    rf"^{VALUE} (?:=|\+=|-=|\*=|&=|\|=|\^=) {CAST}\(?{VALUE}\)?;$|^{VALUE} = \d+u(?:ll)?;$|^{VALUE} = !\({VALUE}\);$"
+    rf"|^{VALUE} (?:<<|>>)= \({VALUE} & (?:31|63)\);$|^{VALUE} = \(u(?:32|64)\)\(\(s(?:32|64)\){VALUE} (?:>>|<|>|<=|>=) \(?(?:\(s(?:32|64)\))?{VALUE}(?: & (?:31|63)\))?\);$"
+    rf"|^{VALUE} = {VALUE} (?:==|!=|<|>|<=|>=) {VALUE};$|^{VALUE} = {VALUE} \? {VALUE} : {VALUE};$"
+    r"|^if \(w2c_i\d+\) \{goto w2c_[BL](?:\d+|func);\}$|^goto w2c_[BL](?:\d+|func);$|^switch \(w2c_i\d+\) \{$|^case \d+: goto w2c_[BL](?:\d+|func);$"
+    r"|^default: goto w2c_[BL](?:\d+|func);$|^\}$|^$|^return w2c_[ij]0;$")
+LABEL = re.compile(r"^w2c_[BL](?:\d+|func):;?$")
+ASSIGNED = re.compile(rf"^({VALUE}) [^ ]*= (.*);$")
+ENTRY = re.compile(
+    r"^  w2c_j0 = instance->w2c_g0;\n  w2c_j1 = (\d+)ull;\n  w2c_j0 -= w2c_j1;\n  (w2c_[lp]\d+) = w2c_j0;\n(  instance->w2c_g0 = w2c_j0;\n)?", re.M)
+
+
+class OtherForm(Exception):
+    """What wasm2c wrote is not of the form that is known here."""
+
+
+@dataclass
+class Function:
+    """A function of the module: its text, whom it calls, and the bytes of its frame."""
+
+    name: str
+    result: str
+    parameters: str
+    text: str = ""
+    frame: int = 0
+    calls: set = field(default_factory=set)
+
+    def head(self):
+        return f"static {self.result} code_{self.name}(uint8_t *const m, const u32 last{self.parameters})"
+
+
+@dataclass
+class Module:
+    """What the generated part is made from."""
+
+    functions: dict
+    top: int        # the address at which the stack ends and the data begin
+    heap: int       # the address after the data
+    data: bytes
+
+    def reached(self, roots):
+        """The functions that these call, themselves too."""
+        found, more = set(), set(roots)
+        while more:
+            found |= more
+            more = set().union(*(self.functions[it].calls for it in more)) - found
+        return found
+
+    def deepest(self, roots):
+        """The most bytes of the stack that a call of one of these takes."""
+        known = {}
+
+        def depth(name, above):
+            if name in above:
+                raise OtherForm(f"{name} calls itself")
+            if name not in known:
+                one = self.functions[name]
+                known[name] = one.frame + max((depth(it, above | {name}) for it in one.calls), default=0)
+            return known[name]
+
+        return max(depth(it, frozenset()) for it in roots)
+
+
+def short(text):
+    """A statement with the short names."""
+    return re.sub(r"\bw2c_([ijlpBL](?:\d+|func))\b", r"\1", text)
+
+
+class Body:
+    """The lines of a function, one by one."""
+
+    def __init__(self, function, frame_at):
+        self.function, self.frame_at = function, frame_at
+        self.framed, self.traps, self.out = set(), False, []
+
+    def access(self, name, base, by, operands):
+        """An access: by the frame if its place there is known, and otherwise by its address."""
+        bits = re.match(r"i(\d+)_(?:load|store)(\d*)", name)
+        width = int(bits[2] or bits[1]) // 8
+        if base in self.framed and by + width <= self.function.frame:
+            return f"{name}_in({operands}, {by});"
+        self.traps = True
+        return f"{name}({operands}, {base}, {by});"
+
+    def note(self, line):
+        """Keeps which values are the address of the frame."""
+        found = ASSIGNED.match(line)
+        if found:
+            self.framed.discard(found[1])
+            source = re.sub(r"^\(u32\)\((\w+)\)$", r"\1", found[2])
+            if " = " in line and source in self.framed | {self.frame_at} and found[1] != self.frame_at:
+                self.framed.add(found[1])
+
+    def made(self, line):
+        """A statement of the generated part."""
+        if LABEL.match(line):
+            self.framed.clear()
+            return line
+        if found := LOAD.match(line):
+            text = self.access(found[2], found[3], int(found[4] or 0), found[1])
+        elif found := STORE.match(line):
+            return self.access(found[1], found[2], int(found[3] or 0), found[4])
+        elif found := BULK.match(line):
+            self.traps = True
+            return f"memory_{found[1]}({found[2]}, {found[3]}, {found[4]});"
+        elif found := IMPORT.match(line):
+            self.traps = True
+            return f"call(heap_{found[1]}(m, last{found[2]}));"
+        elif found := CALL.match(line):
+            self.traps = True
+            self.function.calls.add(found[2])
+            text = f"call({found[1] + ' = ' if found[1] else ''}code_{found[2]}(m, last{found[3]}));"
+        elif found := DIVISION.match(line):
+            self.traps = True
+            text = f"{found[2].lower()}_u({found[1]}, {found[3]}, {found[4]});"
+        elif line == "UNREACHABLE;":
+            self.traps = True
+            return "goto trap;"
+        elif found := re.match(rf"^instance->w2c_g0 = ({VALUE});$", line):
+            return f"set_stack({found[1]});"
+        elif COUNT.match(line) or PLAIN.match(line):
+            text = line
+        else:
+            raise OtherForm(f"{self.function.name}: {line!r}")
+        self.note(line)
+        return text
+
+
+def frame_of(function, text):
+    """Gives the text of a function with its entry in one line, if it has a frame, and the local that is the frame's address all along."""
+    entry = ENTRY.search(text)
+    if not entry:
+        return text, None
+    function.frame = int(entry[1])
+    if text.count("= instance->w2c_g0;") != 1:
+        raise OtherForm(f"{function.name} has another frame")
+    is_kept = len(re.findall(rf"^\s*{entry[2]} [^ ]*= ", text, re.M)) == 1
+    word = "enter" if entry[3] else "enter_leaf"
+    return ENTRY.sub(f"  @{word}({entry[2]}, {entry[1]});\n  w2c_j0 = {entry[2]};\n", text), entry[2] if is_kept else None
+
+
+def filled(function, text):
+    """Makes the text of a function from what wasm2c wrote between its braces."""
+    text, frame_at = frame_of(function, text)
+    body, lines = Body(function, frame_at), text.split("\n")
+    for line in lines:
+        if LOCALS.match(line):
+            body.out.append(line)
+        elif line.strip() in ("FUNC_PROLOGUE;", "FUNC_EPILOGUE;"):
+            continue
+        elif line.startswith("  @"):
+            body.traps = True
+            body.out.append("  " + line[3:])
+        else:
+            body.out.append(re.match(r" *", line)[0] + body.made(line.strip()))
+    out = "\n".join(it for it in body.out if it.strip())
+    if "_in(" in out:
+        out = "  uint8_t *frame;\n" + re.sub(rf"^(  enter\w*\({frame_at}, \d+\);)$", rf"\1\n  frame = place({frame_at});", out, count=1, flags=re.M)
+    if body.traps:
+        is_void = function.result == "void"
+        out += ("\n  return;" if is_void else "") + "\n  trap:\n  set_broken(m);\n  return" + (";" if is_void else " 0;")
+    function.text = short(f"{function.head()} {{\n{out}\n}}\n")
+
+
+def functions_of(text):
+    """The functions of a module, by name."""
+    found = {}
+    for head in HEAD.finditer(text):
+        function = Function(head[2], head[1], short(head[3]))
+        filled(function, text[head.end() + 1:text.index("\n}\n", head.end())])
+        found[function.name] = function
+    return found
+
+
+def module_of(text):
+    """What a module is, from the text that wasm2c wrote."""
+    text = re.sub(r", \n +", ", ", text)
+    numbers = dict(re.findall(r"^  instance->w2c_(g0|__heap_base) = (\d+)ull;$", text, re.M))
+    if len(numbers) != 2 or "CALL_INDIRECT(instance" in text:
+        raise OtherForm("the module has other globals, or calls by a table")
+    data = [bytes(int(it, 16) for it in re.findall(r"0x([0-9a-f]{2})", one)) for one in re.findall(r"^static const u8 data_segment_data_w2c_d\d+\[\] = \{(.*?)\};", text, re.M | re.S)]
+    loaded = re.findall(r"^  LOAD_DATA\(instance->w2c_memory, (\d+)u, data_segment_data_w2c_d\d+, (\d+)\);$", text, re.M)
+    top, heap = int(numbers["g0"]), int(numbers["__heap_base"])
+    if len(data) != len(loaded) or len(data) > 1 or [int(it) for it, _ in loaded] not in ([], [top]):
+        raise OtherForm("the module has other data")
+    return Module(functions_of(text), top, heap, b"".join(data))
