@@ -67,7 +67,7 @@ $(MODULE): $(wildcard crates/*/src/*.rt crates/*/src/*/*.rt) crates.txt library/
 page/out/pocket.wasm: $(MODULE) page/module.py library/retarget.py
 	python3 page/module.py $< $@
 
-page/pocket.html: page/out/pocket.wasm page/make.py page/page.html page/style.css $(wildcard page/*.js page/views/*.js)
+page/pocket.html: page/out/pocket.wasm page/make.py page/page.html page/style.css $(wildcard page/data/*.js page/views/*.js page/worker/*.js)
 	python3 page/make.py $<
 
 page: page/pocket.html

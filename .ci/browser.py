@@ -1,13 +1,14 @@
 #!/usr/bin/env python3
 """Builds the operator's page, and tries it in Debian's Chromium, without a window.
 
-At the top, after the gate's proofs: .ci/browser.py. It makes the page (`make page`), and a second one that has what the program
-crates/pocket/out/pocket does with the commands of .ci/browser_cases.py. That one runs its own tests (page/tests.js): each command byte for
-byte, and what the page says of itself. Then keys are pressed in the page as it ships, what it says of the packet under them is held to
-the program's forecast, and its picture is taken. If Chromium or wasm-opt is not there and can't be had from Debian's packages (as root),
-what needs it is skipped, by name. Its last line is 'N passed, M failed', or 'N passed, M failed, K skipped'.
+At the top, after the gate's proofs: .ci/browser.py. It makes the page (`make page`), and a second one that has its tests (page/tests) and
+what the program crates/pocket/out/pocket does with the commands of .ci/browser_cases.py: each command byte for byte, and what the page says
+of itself. Then keys are pressed in the page as it ships, what it says of the packet under them is held to the program's forecast, and its
+picture is taken. It is given files and hands (.ci/browser_ways.py) and looked at in windows of several sizes (.ci/browser_looks.py), and
+Debian's eslint reads its scripts. If Chromium, wasm-opt or eslint is not there and can't be had from Debian's packages (as root), what needs
+it is skipped, by name. Its last line is 'N passed, M failed', or 'N passed, M failed, K skipped'.
 
-.ci/browser.py MACHINE takes another file for page/machine.js, to see that the tests fail.
+.ci/browser.py MACHINE takes another file for page/worker/machine.js, to see that the tests fail.
 """
 
 import base64
@@ -22,6 +23,9 @@ import zlib
 
 sys.dont_write_bytecode = True
 import browser_cases
+import browser_files
+import browser_looks
+import browser_ways
 from chromium import Browser
 
 TOP = os.path.dirname(os.path.dirname(os.path.abspath(__file__)))
@@ -30,20 +34,38 @@ import make
 
 PROGRAM = f"{TOP}/crates/pocket/out/pocket"
 PAGE, MODULE = f"{TOP}/page/pocket.html", f"{TOP}/page/out/pocket.wasm"
-PACKAGES = {"chromium": "chromium", "wasm-opt": "binaryen"}
+PACKAGES = {"chromium": "chromium", "wasm-opt": "binaryen", "eslint": "eslint"}
 LIMIT = 600  # seconds for all tests of the page
 MOST_BYTES = 800_000
 CLOSING = re.compile(r"^(\d+) passed, (\d+) failed$", re.M)
 PARTS = ["the page is built", "the page's own tests", "the page as it ships", "its picture"]
+WAYS = [
+    ("the wheel", browser_ways.tell_wheel), ("fingers", browser_ways.tell_fingers), ("a drag", browser_ways.tell_drag),
+    ("a store of a million packets", browser_ways.tell_million), ("forty fields of 100,000 packets", browser_ways.tell_fields),
+    ("typing in 10,000 rows", browser_ways.tell_typing), ("a gigabyte that is no store", browser_ways.tell_no_store),
+    ("cancel, and a file that is gone", browser_ways.tell_cancel), ("a module that can't start", browser_ways.tell_start),
+    ("sizes of a window", browser_looks.tell_sizes), ("names, roles and contrast", browser_looks.tell_names),
+    ("files that are saved", browser_looks.tell_saved), ("its policy", browser_looks.tell_policy),
+]
+LINT = "its scripts, read by eslint"
+# Debian's eslint finds its modules here, whatever node there is.
+NODE_PATH = "/usr/share/nodejs:/usr/lib/nodejs"
 
 
-def has_tools():
-    """Whether the browser and wasm-opt are there, or could be had."""
-    missing = lambda: [package for name, package in PACKAGES.items() if not shutil.which(name)]
-    if missing() and os.geteuid() == 0 and shutil.which("apt-get"):
+def missing():
+    """The packages that are not there, after they were asked for."""
+    found = lambda: [package for name, package in PACKAGES.items() if not shutil.which(name)]
+    if found() and os.geteuid() == 0 and shutil.which("apt-get"):
         for words in (["update", "-q"], ["install", "-q", "-y", "--no-install-recommends", *PACKAGES.values(), "fonts-dejavu-core"]):
             subprocess.run(["apt-get", *words], stdout=subprocess.DEVNULL, stderr=subprocess.DEVNULL, timeout=900)
-    return not missing()
+    return found()
+
+
+def lint():
+    """What eslint finds in the page's scripts, or None."""
+    words = ["eslint", "--no-eslintrc", "-c", "page/eslint.json", "-f", "unix", "page"]
+    done = subprocess.run(words, cwd=TOP, capture_output=True, text=True, env={**os.environ, "NODE_PATH": NODE_PATH})
+    return (done.stdout + done.stderr)[-1500:] or f"it ends with {done.returncode}" if done.returncode else None
 
 
 def build(folder, machine):
@@ -58,7 +80,7 @@ def build(folder, machine):
     if machine:
         os.makedirs(os.path.join(folder, "top", "crates", "pocket", "src"))
         shutil.copyfile(f"{TOP}/crates/pocket/src/main.rt", os.path.join(folder, "top", "crates", "pocket", "src", "main.rt"))
-        shutil.copyfile(machine, os.path.join(place, "machine.js"))
+        shutil.copyfile(machine, os.path.join(place, "worker", "machine.js"))
     subprocess.run([sys.executable, f"{place}/make.py", MODULE, found, cases], check=True)
     return found
 
@@ -139,12 +161,18 @@ class Tally:
     """How much passed and failed, and a line for each fault."""
 
     def __init__(self):
-        self.passed = self.failed = 0
+        self.passed = self.failed = self.skipped = 0
 
     def tell(self, name, fault):
         self.passed, self.failed = self.passed + (fault is None), self.failed + (fault is not None)
         if fault is not None:
             print(f"browser: {name}: {fault}", flush=True)
+
+    def skip(self, names, package):
+        """Tells that what needs a package is skipped."""
+        self.skipped += len(names)
+        for name in names:
+            print(f"browser: skipped: {name}: {package} is not there", flush=True)
 
     def attempt(self, name, step, *given):
         """Tells what a step finds wrong, or that it raised an error."""
@@ -171,6 +199,9 @@ def try_all(folder, machine, tally):
         tally.attempt(PARTS[1], lambda: tally.add(*run_own(browser, made[0])))
         tally.attempt(PARTS[2], tell_shipped, browser)
         tally.attempt(PARTS[3], tell_picture, browser)
+        files = browser_files.files(PROGRAM, folder)
+        for name, way in WAYS:
+            tally.attempt(name, way, browser, PAGE, files)
     finally:
         browser.close()
 
@@ -178,18 +209,20 @@ def try_all(folder, machine, tally):
 def main():
     if len(sys.argv) > 2:
         sys.exit(__doc__)
-    if not has_tools():
-        for name in PARTS:
-            print(f"browser: skipped: {name}: Debian's chromium or binaryen is not there", flush=True)
-        print(f"0 passed, 0 failed, {len(PARTS)} skipped")
-        return
-    tally = Tally()
-    with tempfile.TemporaryDirectory(prefix="pocket-browser-") as folder:
-        try:
-            try_all(folder, sys.argv[1] if sys.argv[1:] else None, tally)
-        except (RuntimeError, OSError) as error:
-            tally.tell("the browser", f"it raised {error}")
-    print(f"{tally.passed} passed, {tally.failed} failed")
+    lacks, tally = missing(), Tally()
+    if {"chromium", "binaryen"} & set(lacks):
+        tally.skip([*PARTS, *(name for name, _ in WAYS)], "Debian's chromium or binaryen")
+    else:
+        with tempfile.TemporaryDirectory(prefix="pocket-browser-") as folder:
+            try:
+                try_all(folder, sys.argv[1] if sys.argv[1:] else None, tally)
+            except (RuntimeError, OSError) as error:
+                tally.tell("the browser", f"it raised {error}")
+    if "eslint" in lacks:
+        tally.skip([LINT], "Debian's eslint")
+    else:
+        tally.attempt(LINT, lint)
+    print(f"{tally.passed} passed, {tally.failed} failed" + (f", {tally.skipped} skipped" if tally.skipped else ""))
     sys.exit(1 if tally.failed else 0)
 
 

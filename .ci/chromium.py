@@ -19,6 +19,7 @@ class Browser:
     def __init__(self, program):
         self.folder = tempfile.mkdtemp(prefix="pocket-chromium-")
         self.kept, self.number, self.requests, self.session = b"", 0, [], None
+        self.traced, self.is_traced = [], False
         theirs, self.to = os.pipe()
         self.found, back = os.pipe()
         # The browser reads from its file 3 and writes to its file 4.
@@ -61,12 +62,42 @@ class Browser:
         until = time.monotonic() + limit
         while True:
             message = self.next(until)
-            if message.get("method") == "Network.requestWillBeSent":
-                self.requests.append(message["params"]["request"]["url"])
+            self.note(message)
             if message.get("id") == self.number:
                 if "error" in message:
                     raise RuntimeError(f"{method}: {message['error']}")
                 return message["result"]
+
+    def note(self, message):
+        """Keeps what the browser tells unasked: requests, and the tasks that are traced."""
+        told = message.get("params", {})
+        if message.get("method") == "Network.requestWillBeSent":
+            self.requests.append(told["request"]["url"])
+        elif message.get("method") == "Tracing.dataCollected":
+            self.traced += told["value"]
+        elif message.get("method") == "Tracing.tracingComplete":
+            self.is_traced = True
+
+    def longest_task(self, work):
+        """Does some work, and gives the processor's time of the longest task of the page's thread meanwhile, in milliseconds."""
+        self.traced, self.is_traced = [], False
+        self.ask("Tracing.start", traceConfig={"includedCategories": ["toplevel"]}, transferMode="ReportEvents")
+        try:
+            fault = work()
+        finally:
+            self.ask("Tracing.end")
+            self.wait_until(lambda: self.is_traced)
+        pages = {(it["pid"], it["tid"]) for it in self.traced if it["ph"] == "M" and it["args"].get("name") == "CrRendererMain"}
+        tasks = [it.get("tdur", 0) / 1000 for it in self.traced if it["ph"] == "X" and (it["pid"], it["tid"]) in pages]
+        return fault or max(tasks)
+
+    def wait_until(self, holds, limit=60):
+        """Hears the browser until something holds."""
+        until = time.monotonic() + limit
+        while not holds():
+            self.value("1", max(1, until - time.monotonic()))
+            if time.monotonic() > until:
+                raise RuntimeError("the browser does not tell what was traced")
 
     def value(self, expression, limit=120):
         """The value of an expression in the page."""
@@ -87,7 +118,7 @@ class Browser:
             found = self.value(expression, max(1, until - time.monotonic()))
             if found:
                 return found
-            time.sleep(0.3)
+            time.sleep(0.1)
         return None
 
     def press(self, key):
@@ -95,6 +126,34 @@ class Browser:
         text = {"text": key} if len(key) == 1 else {}
         for kind in ("keyDown", "keyUp"):
             self.ask("Input.dispatchKeyEvent", type=kind, key=key, code=key, **(text if kind == "keyDown" else {}))
+
+    def touch(self, *ways, steps=12):
+        """Moves as many fingers as there are ways over the page: each a pair of places (x, y), from one to the other."""
+        at = lambda share: [{"id": finger, "x": x + (to_x - x) * share, "y": y + (to_y - y) * share} for finger, ((x, y), (to_x, to_y)) in enumerate(ways)]
+        self.ask("Input.dispatchTouchEvent", type="touchStart", touchPoints=at(0))
+        for step in range(1, steps + 1):
+            self.ask("Input.dispatchTouchEvent", type="touchMove", touchPoints=at(step / steps))
+            time.sleep(0.02)
+        self.ask("Input.dispatchTouchEvent", type="touchEnd", touchPoints=[])
+        self.frame()
+
+    def choose(self, chooser, *paths):
+        """Chooses files of this machine in the chooser of this id."""
+        found = self.ask("Runtime.evaluate", expression=f"document.getElementById('{chooser}')")["result"]["objectId"]
+        self.ask("DOM.setFileInputFiles", files=list(paths), objectId=found)
+
+    def size(self, width, height):
+        """Gives the page this size."""
+        self.ask("Emulation.setDeviceMetricsOverride", width=width, height=height, deviceScaleFactor=1, mobile=False)
+        self.frame()
+
+    def frame(self):
+        """Waits until the page has drawn itself."""
+        self.value("new Promise(done => requestAnimationFrame(() => requestAnimationFrame(() => done(1))))")
+
+    def middle(self, part):
+        """Where the middle of the part of this id is."""
+        return self.value(f"(box => ({{x: box.x + box.width / 2, y: box.y + box.height / 2}}))(document.getElementById('{part}').getBoundingClientRect())")
 
     def close(self):
         self.process.kill()

@@ -1,24 +1,27 @@
-'use strict';
 // Vectors and data of packets as bytes in hexadecimal and as bits.
 
-const BYTES_A_ROW = 8;
-const ROWS_AT_ONCE = 64;
+import { button, element, fill } from './parts.js';
+import { counted, grouped } from '../data/text.js';
 
-function from_hex(text) {
+const BYTES_A_ROW = 8;
+const MOST_BYTES = 64;
+const ROWS_AT_ONCE = 64;
+const MOST_ROWS = 1024; // if all are asked for
+
+export function from_hex(text) {
   const bytes = new Uint8Array(text.length >> 1);
   for (let place = 0; place < bytes.length; place += 1) bytes[place] = parseInt(text.substr(2 * place, 2), 16);
   return bytes;
 }
 
-function to_hex(bytes) {
+export function to_hex(bytes) {
   return Array.from(bytes, (byte) => byte.toString(16).padStart(2, '0')).join(' ');
 }
 
-// Hexadecimal digits in pairs, of long ones the beginning.
-function hex_words(text) {
-  const most = 64;
-  const shown = to_hex(from_hex(text.slice(0, 2 * most)));
-  return text.length > 2 * most ? `${shown} .. (${grouped(text.length / 2)} bytes)` : shown;
+// Bytes as hexadecimal digits in pairs, of many the beginning and how many there are.
+export function hex_words(bytes) {
+  const shown = to_hex(bytes.subarray(0, MOST_BYTES));
+  return bytes.length > MOST_BYTES ? `${shown} .. (${grouped(bytes.length)} bytes)` : shown;
 }
 
 function bit_at(bytes, place) {
@@ -26,7 +29,7 @@ function bit_at(bytes, place) {
 }
 
 // The places at which a vector has a one, in words.
-function ones_words(bytes, most = 12) {
+export function ones_words(bytes, most = 12) {
   const places = [];
   let count = 0;
   for (let place = 0; place < 8 * bytes.length; place += 1) {
@@ -64,8 +67,8 @@ function bit_row(bytes, from, bits, kind_of) {
 
 // Bytes with their bits, in rows of eight bytes; `after_row` gives what stands below the row of a byte. If there are many rows, a
 // button gives the rest; the row of the bit `wanted` is among those at once.
-function bit_table(bytes, bits, kind_of, wanted = 0, after_row = () => '') {
-  const box = element('div', { class: 'bits', tabindex: '0', 'aria-label': 'Bytes and bits' });
+export function bit_table(bytes, bits, kind_of, wanted = 0, after_row = () => '') {
+  const box = element('div', { class: 'bits', role: 'group', tabindex: '0', 'aria-label': 'Bytes and bits' });
   const middle = Math.floor(wanted / 8 / BYTES_A_ROW), rows = Math.ceil(bytes.length / BYTES_A_ROW);
   const first = rows > ROWS_AT_ONCE ? Math.max(0, middle - ROWS_AT_ONCE / 2) : 0;
   const draw = (from, to) => {
@@ -76,13 +79,13 @@ function bit_table(bytes, bits, kind_of, wanted = 0, after_row = () => '') {
   const last = Math.min(rows, first + ROWS_AT_ONCE);
   draw(first, last);
   if (first > 0 || last < rows) {
-    box.append(element('button', { type: 'button', on_click: () => draw(0, Math.min(rows, 1024)) }, `All ${grouped(rows)} rows`));
+    box.append(button(rows > MOST_ROWS ? `The first ${grouped(MOST_ROWS)} of ${grouped(rows)} rows` : `All ${grouped(rows)} rows`, () => draw(0, Math.min(rows, MOST_ROWS))));
   }
   return box;
 }
 
 // The content of a written packet: the bits that its mask has, and those that changed lately, are told apart.
-function content_table(content, mask, changes, bits) {
+export function content_table(content, mask, changes, bits) {
   return bit_table(content, bits, (place) => {
     const classes = [];
     if (mask && bit_at(mask, place)) classes.push('mask');
@@ -92,7 +95,7 @@ function content_table(content, mask, changes, bits) {
 }
 
 // The data of a packet that has a first wrong bit: it is marked, with an arrow below, and what follows is faint.
-function wrong_table(data, wrong) {
+export function wrong_table(data, wrong) {
   const arrow = (from) => {
     if (wrong < 8 * from || wrong >= 8 * (from + BYTES_A_ROW)) return '';
     const inside = wrong - 8 * from, before = 9 + 3 * BYTES_A_ROW + 1 + inside + Math.floor(inside / 8);

@@ -1,74 +1,110 @@
-'use strict';
 // The numbers in a recording: its fields over the packets' numbers, with their limits.
 
-class FieldsView {
+import { Busy } from './busy.js';
+import { Chooser } from './chooser.js';
+import { Curve } from './curve.js';
+import { Desk } from './desk.js';
+import { Later, element, fill, part, refuse_value, save, take_choice, take_drops, tell, text_of_file } from './parts.js';
+import { Rows } from './rows.js';
+import { read_units, unit_of, value_words } from './scale.js';
+import { Span } from './span.js';
+import { zoom_buttons } from './steer.js';
+import { stretch_table } from './stretches.js';
+import { LOW_STRIP, Strip, fill_legend } from './strip.js';
+import { TimeAxis } from './time_axis.js';
+import { Runs } from '../data/runs.js';
+import { ABOVE, BELOW, Places, cells_of } from '../data/table.js';
+import { counted, grouped, sentence, text_of } from '../data/text.js';
+
+const [LEAST_HEIGHT, MOST_HEIGHT, HEAD] = [46, 110, 19]; // of a curve, and what stands above each
+
+export class FieldsView {
   constructor() {
-    this.span = new Span();
-    Object.assign(this, { recording: null, report: '', name: '', curves: [], table: null, runs: null });
-    this.loading = new Later();
-    this.rows = new Rows(part('fields-box'), 'fields', () => this.later());
-    this.strip = new Strip(part('fields-strip'), this.span, (at) => this.told(at), { key: (event) => this.key(event) });
+    Object.assign(this, { span: new Span(), desk: new Desk(), file: null, report: '', name: '', curves: [], table: null, runs: null, units: new Map() });
+    this.asking = new Later(() => this.run(), 200);
+    this.rows = new Rows(part('fields-box'), 'fields', () => this.asking.start());
+    this.unit_rows = new Rows(part('units-box'), 'units', () => this.take_units());
+    this.chooser = new Chooser(() => this.draw_curves());
+    this.axis = new TimeAxis(() => this.change_axis());
+    this.strip = new Strip(part('fields-strip'), this.span, (at) => this.told(at), { form: LOW_STRIP, key: (event) => this.key(event) });
     this.strip.clear('no recording yet');
+    this.busy = new Busy(part('fields-busy'), [part('fields-picture'), part('fields-side')], () => this.desk.end());
+    part('fields-zoom').append(zoom_buttons(this.span));
     this.span.watch(() => this.point());
-    pictures.push({ draw: () => this.curves.forEach((curve) => curve.draw()) });
+    this.listen();
+  }
+
+  listen() {
     take_drops(part('fields-drop'), (files) => this.take(files));
     take_choice(part('recording-file'), (files) => this.take(files));
-    take_choice(part('report-file'), (files) => this.take_report(files[0]));
-    part('fields-bits').addEventListener('input', () => this.later());
+    take_choice(part('report-file'), (files) => this.take(files));
+    part('fields-bits').addEventListener('input', () => this.asking.start());
     part('fields-example').addEventListener('click', () => this.example());
-    part('drop-report').addEventListener('click', () => this.open(this.name, this.recording, part('fields-bits').value, ''));
+    part('drop-report').addEventListener('click', () => this.open(this.name, this.file, part('fields-bits').value, ''));
+    part('save-table').addEventListener('click', () => save('table.csv', this.table.bytes));
+    part('save-outside').addEventListener('click', () => save('limits.csv', this.outside));
   }
 
   // Files by what they hold: a report and a text of fields are known by their first words, all else is a recording.
   async take(files) {
     const found = {};
-    for (const file of files) {
-      const bytes = await read_file(file), front = text_of(bytes.subarray(0, 40));
-      if (front.startsWith('first,last,cause,value')) found.report = text_of(bytes);
-      else if (/^\s*(field|limit),/.test(front)) this.rows.text = text_of(bytes);
-      else Object.assign(found, { recording: bytes, name: file.name });
+    try {
+      for (const file of files) {
+        const front = await text_of_file(file.slice(0, 40));
+        if (front.startsWith('first,last,cause,value')) found.report = await text_of_file(file);
+        else if (/^\s*(field|limit),/.test(front)) this.rows.text = await text_of_file(file);
+        else Object.assign(found, { file, name: file.name });
+      }
+    } catch (fault) {
+      tell('fields-refusal', fault.message);
+      return;
     }
-    Object.assign(this, found.recording ? { report: '', ...found } : found);
-    this.run();
+    Object.assign(this, found.file ? { report: '', ...found } : found);
+    await this.run();
   }
 
-  async take_report(file) {
-    this.report = text_of(await read_file(file));
-    this.run();
-  }
-
-  open(name, recording, bits, report) {
-    Object.assign(this, { name, recording, report });
+  // Looks at another recording; its report may be bytes or a text, or empty.
+  open(name, file, bits, report) {
+    Object.assign(this, { name, file, report: typeof report === 'string' ? report : text_of(report) });
     part('fields-bits').value = bits;
-    this.run();
+    return this.run();
   }
 
-  example() {
-    const done = run_program(['restore', 'in=store', 'out=recording', 'report=report', 'bits=64', 'apid=100'], { store: example_store() });
-    this.rows.text = EXAMPLE_FIELDS;
-    this.open('the example', done.outputs.recording, '64', text_of(done.outputs.report));
+  async example() {
+    const made = await this.desk.ask('example_recording', {});
+    if (!made) return;
+    this.rows.text = made.fields;
+    await this.open('The example', new Blob([made.recording]), '64', made.report);
   }
 
-  later() {
-    const view = this;
-    if (this.recording) this.loading.start((function* () { view.run(); })(), 200);
+  // Has the table made; a run before that one is ended.
+  async run() {
+    if (!this.file) return;
+    this.asking.stop();
+    const { file, report } = this, bits = part('fields-bits').value, given = { file, report, bits, fields: this.rows.text };
+    if (this.desk.asked) this.desk.end();
+    this.busy.begin();
+    let answer;
+    try {
+      answer = await this.desk.ask('recording', given, (progress) => this.busy.tell(progress));
+    } catch (fault) {
+      answer = { status: 5, text: fault.message };
+    }
+    if (answer) this.show(answer, bits);
+    else if (!this.desk.asked) this.busy.stop();
   }
 
-  // Runs `table`, and shows what it gives or its refusal.
-  run() {
-    if (!this.recording) return;
-    const bits = part('fields-bits').value;
-    const inputs = { recording: this.recording, fields: bytes_of(this.rows.text) };
-    const done = run_program(['table', 'in=recording', 'out=table', 'report=outside', 'fields=fields', `bits=${bits}`], inputs);
-    let fault = this.refuse(done, bits);
+  // Shows a table, or its refusal.
+  show(answer, bits) {
+    this.busy.end();
+    const { status, text, wrong_report } = answer, fault = wrong_report || this.refuse(answer, bits);
     this.forget();
-    if (!fault) fault = this.build(done.outputs);
-    const box = part('fields-refusal');
-    box.hidden = !fault || done.status === 2 || done.status === 3;
-    fill(box, fault);
-    if (fault) this.strip.clear(fault);
-    fill(part('recording-name'), `${this.name}: ${counted(this.recording.length, 'byte', 'bytes')}${this.report ? ', with its report' : ''}.`);
+    tell('fields-refusal', status === 2 || status === 3 ? '' : fault);
+    if (fault) this.strip.clear(status === 0 ? fault : text);
+    else this.build(answer);
+    tell('recording-name', `${this.name}: ${counted(this.file.size, 'byte', 'bytes')}${this.report ? ', with its report' : ''}.`);
     part('drop-report').hidden = !this.report;
+    for (const id of ['save-table', 'save-outside']) part(id).disabled = Boolean(fault);
     this.sum();
     this.point();
   }
@@ -78,40 +114,72 @@ class FieldsView {
     const wanted = bits ? 'A number from 1 to 49,152, digits alone.' : 'How many bits has a packet? From 1 to 49,152.';
     refuse_value(part('fields-bits'), text === 'word 5 is wrong' ? wanted : '');
     this.rows.refuse(status === 3 ? text : '');
-    if (status === 4) return `This is no recording of packets of ${bits} bits: ${text}.`;
-    return text;
+    return status === 4 ? `This is no recording of packets of ${bits} bits: ${text}.` : text;
   }
 
   forget() {
     for (const curve of this.curves) curve.end();
     Object.assign(this, { curves: [], table: null, runs: null });
-    fill(part('curves'));
+    for (const id of ['curves', 'fields-stretches']) fill(part(id));
   }
 
-  // The curves of a table; gives what is wrong with the report, or nothing.
-  build({ table: bytes, outside }) {
-    const table = read_table(bytes);
-    let runs = new Runs(FINDINGS);
-    if (table.count) runs.add(0, table.count - 1, WRITTEN);
-    if (this.report) runs = read_report(this.report, table.count);
-    if (typeof runs === 'string') return runs;
-    Object.assign(this, { table, runs, places: new Places(runs), any: mark_outside(table, outside) });
-    mark_limits(table, this.rows.text);
-    this.curves = table.fields.map((field) => new Curve(this, field));
-    fill(part('curves'), ...this.curves.map((curve) => curve.box));
+  build({ table, runs: sent, any, outside, stretches }) {
+    const runs = Runs.of(sent);
+    Object.assign(this, { table, runs, any, outside, places: new Places(runs) });
+    this.sum();
+    this.chooser.show(table.fields);
+    this.axis.show(table.fields);
+    this.draw_curves();
+    this.strip.axis_words = this.axis.words(this);
     this.strip.show(runs);
-    return '';
+    fill(part('fields-stretches'), ...stretch_table(this, stretches, (at) => {
+      this.span.go(at);
+      part('fields-strip').focus();
+    }));
+  }
+
+  // Draws the chosen fields.
+  draw_curves() {
+    for (const curve of this.curves) curve.end();
+    const shown = this.table ? this.chooser.shown() : [];
+    const height = this.curve_height(shown.length);
+    this.curves = shown.map((field) => new Curve(this, field, height));
+    fill(part('curves'), ...this.curves.map((curve) => curve.box));
+    this.curves.forEach((curve) => curve.change());
+  }
+
+  // So high that up to eight curves are in sight at once.
+  curve_height(count) {
+    const above = part('curves').getBoundingClientRect().top + window.scrollY, room = window.innerHeight - above - 12;
+    return Math.max(LEAST_HEIGHT, Math.min(MOST_HEIGHT, Math.floor(room / Math.min(8, Math.max(1, count))) - HEAD));
+  }
+
+  take_units() {
+    const { units, wrong } = read_units(this.unit_rows.text);
+    this.units = units;
+    this.unit_rows.tell(wrong ? `Row ${wrong} is not a field with its unit: name,unit,scale, or name,unit,scale,offset; scale and offset are numbers.` : '');
+    this.change_axis();
+  }
+
+  change_axis() {
+    if (!this.table) return;
+    this.strip.axis_words = this.axis.words(this);
+    this.strip.change();
+    this.point();
+  }
+
+  unit_of(field) {
+    return unit_of(this.units, field.name);
   }
 
   sum() {
     const { table, runs } = this;
     fill_legend(part('fields-legend'), table && this.report ? runs : null);
     if (!table) {
-      fill(part('fields-sum'), this.recording ? 'No picture, until what is refused is mended.' : 'No recording yet.');
+      fill(part('fields-sum'), this.file ? 'No picture, until what is refused is mended.' : 'No recording yet.');
       return;
     }
-    const outside = table.fields.reduce((sum, field) => sum + field.outside, 0);
-    const missing = this.runs.total - table.count;
+    const outside = table.fields.reduce((sum, field) => sum + field.outside, 0), missing = runs.total - table.count;
     const all = `${counted(table.count, 'packet', 'packets')} with ${counted(table.fields.length, 'field', 'fields')}`;
     const out = outside ? `${counted(outside, 'value is', 'values are')} out of limits` : 'no value is out of limits';
     const gaps = missing ? `; ${counted(missing, 'packet is', 'packets are')} missing` : '';
@@ -131,8 +199,14 @@ class FieldsView {
   value_words(field, at) {
     const t = this.table ? this.places.of(at) : -1;
     if (t < 0) return `${field.name} is not there`;
-    const cell = cells_of(this.table, t)[this.table.fields.indexOf(field)];
-    return `${field.name} is ${cell}${this.out_words(field, t)}`;
+    const cell = this.cells_at(t)[this.table.fields.indexOf(field)];
+    return `${field.name} is ${value_words(this.unit_of(field), cell)}${this.out_words(field, t)}`;
+  }
+
+  // The values of a packet as the table has them.
+  cells_at(t) {
+    if (!this.kept || this.kept.t !== t || this.kept.table !== this.table) this.kept = { t, table: this.table, cells: cells_of(this.table, t) };
+    return this.kept.cells;
   }
 
   out_words(field, t) {
@@ -144,29 +218,31 @@ class FieldsView {
   told(at) {
     const name = `packet ${grouped(at)}`, t = this.places.of(at);
     if (t < 0) return `${name} is ${this.runs.kinds[this.runs.kind_at(at)].word}: it is not in the recording`;
-    const cells = cells_of(this.table, t);
-    return `${name}: ${this.table.fields.map((field, place) => `${field.name} ${cells[place]}${this.out_words(field, t)}`).join('; ') || 'no fields'}`;
+    const cells = this.cells_at(t);
+    return `${name}: ${this.table.fields.map((field, place) => `${field.name} ${value_words(this.unit_of(field), cells[place])}${this.out_words(field, t)}`).join('; ') || 'no fields'}`;
   }
 
   value_row(field, t, cell) {
-    return element('tr', {}, element('th', { scope: 'row' }, field.name), element('td', { class: field.out[t] ? 'number out' : 'number' }, cell),
-      element('td', {}, field.limit ? field.limit.words : '–'), element('td', { class: 'out' }, this.out_words(field, t).replace(', ', '')));
+    return element('tr', {}, element('th', { scope: 'row' }, field.name), element('td', { class: field.out[t] ? 'number out' : 'number' }, value_words(this.unit_of(field), cell)),
+      element('td', {}, field.limit ? field.limit.words : '–'), element('td', { class: 'out' }, ['', 'below', 'above'][field.out[t]]));
   }
 
   point() {
-    for (const curve of this.curves) curve.draw();
+    for (const curve of this.curves) curve.change();
     const box = part('fields-words'), { table } = this;
     if (!table || table.count === 0) {
       fill(box);
       return;
     }
-    const at = this.span.at, t = this.places.of(at);
+    const { at } = this.span, t = this.places.of(at), time = this.strip.axis_words ? `, ${this.strip.axis_words(at)}` : '';
     if (t < 0) {
-      fill(box, element('p', { class: 'state' }, `${this.told(at)}.`.replace(/^p/, 'P')));
+      fill(box, element('p', { class: 'state' }, sentence(this.told(at))));
       return;
     }
-    const cells = cells_of(table, t), place = this.report ? `, at place ${grouped(t)} of the recording` : '';
-    const rows = table.fields.map((field, column) => this.value_row(field, t, cells[column]));
-    fill(box, element('p', { class: 'state' }, `Packet ${grouped(at)}${place}.`), table_of(['field', 'value', 'limits', ''], rows));
+    const cells = this.cells_at(t), place = this.report ? `, at place ${grouped(t)} of the recording` : '';
+    const fields = this.chooser.fields.map((field) => this.value_row(field, t, cells[table.fields.indexOf(field)]));
+    const heads = ['field', 'value', 'limits', ''].map((name) => element('th', { scope: 'col' }, name));
+    fill(box, element('p', { class: 'state' }, `Packet ${grouped(at)}${time}${place}.`),
+      element('table', {}, element('thead', {}, element('tr', {}, ...heads)), element('tbody', {}, ...fields)));
   }
 }

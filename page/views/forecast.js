@@ -1,35 +1,53 @@
-'use strict';
 // Before a pass: which packets are safe under a schedule and a loss.
 
-const EXAMPLE = {
-  packets: '1000',
-  robust: '2',
-  plan: '20,999,20,p\n50,999,50,f\n100,999,100,r\n',
-  script: 'drop,10,10,1\ndrop,50,51,1\ndrop,190,194,1\ndrop,205,207,1\nrepeat,300,309,1,2\ndrop,530,533,1\ndrop,999,999,1\n',
-};
+import { remember } from './address.js';
+import { Advice, adding } from './advice.js';
+import { Busy } from './busy.js';
+import { Desk, Latest } from './desk.js';
+import { Later, button, element, fill, part, refill, refuse_value, save, tell } from './parts.js';
+import { Rows } from './rows.js';
+import { Span } from './span.js';
+import { zoom_buttons } from './steer.js';
+import { Strip, fill_legend } from './strip.js';
+import { EXAMPLE } from '../data/example.js';
+import { first_open, forecast_words } from '../data/forecast.js';
+import { OPEN, Runs } from '../data/runs.js';
+import { counted, grouped, sentence } from '../data/text.js';
 
 const LONG_GAP = 'A gap is as long as the period of the sequence counts (16,384), or no packet arrives: the ground can then take a packet '
   + 'for a repeat, and nothing is promised.';
+const MISSING = 'These are the losses of a store. The schedule that was sent is missing: open it or type it, and say its robust; until then this '
+  + 'is the forecast of a sender without a schedule. ';
 
-class ForecastView {
+export class ForecastView {
   constructor() {
-    this.span = new Span();
-    this.before = [];
-    this.asking = new Later();
-    this.advising = new Later();
+    Object.assign(this, { span: new Span(), before: [], runs: null, asked: EXAMPLE, desk: new Desk(), why_desk: new Desk(), pending: null });
+    this.latest = new Latest(this.desk, (asked) => this.run(asked));
+    this.asking = new Later(() => this.explain(), 160);
     this.plan = new Rows(part('plan-box'), 'schedule', () => this.typed());
     this.script = new Rows(part('script-box'), 'script', () => this.typed());
-    for (const id of ['packets', 'robust']) part(id).addEventListener('input', () => this.typed());
+    this.advice = new Advice((robust) => this.change(() => this.put_robust(robust)), (rows) => this.change(() => this.plan.add(rows)));
+    this.busy = new Busy(part('forecast-busy'), [part('forecast-picture')], () => this.desk.end());
     this.strip = new Strip(part('forecast-strip'), this.span, (at) => forecast_words(this.runs, this.asked.script, at), {
       key: (event) => this.key(event),
       drag: (first, last, is_other) => this.make_row(first, last, this.makes_whole() !== is_other),
-      drag_word: (first, last) => this.row_of(first, last, this.makes_whole()),
+      drag_word: (first, last) => `${this.row_of(first, last, this.makes_whole())} when you let go; Escape leaves it`,
     });
+    part('forecast-zoom').append(zoom_buttons(this.span));
     this.span.watch(() => this.point());
-    part('undo').addEventListener('click', () => this.undo());
-    part('anew').addEventListener('click', () => this.change(() => this.put(EXAMPLE)));
-    part('make-loss').addEventListener('click', () => this.make_row(...this.span.chosen(), false));
-    part('make-whole').addEventListener('click', () => this.make_row(...this.span.chosen(), true));
+    this.listen();
+  }
+
+  listen() {
+    for (const id of ['packets', 'robust']) part(id).addEventListener('input', () => this.typed());
+    const acts = {
+      undo: () => this.undo(),
+      anew: () => this.change(() => this.put(EXAMPLE)),
+      'make-loss': () => this.make_row(...this.span.chosen(), false),
+      'make-whole': () => this.make_row(...this.span.chosen(), true),
+      'save-forecast': () => save('forecast.csv', this.bytes),
+    };
+    for (const [id, act] of Object.entries(acts)) part(id).addEventListener('click', act);
   }
 
   // The texts as they stand.
@@ -45,10 +63,20 @@ class ForecastView {
     this.typed();
   }
 
-  // Chooses the first packet that is open, if there is one.
-  begin() {
-    const head = this.runs ? first_open(this.runs) : -1;
-    if (head >= 0) this.span.go(head);
+  put_robust(robust) {
+    part('robust').value = String(robust);
+  }
+
+  // Takes the losses of a store. Its schedule is asked for, and until there is one, that it is missing stands beside the picture.
+  put_losses(packets, script) {
+    this.change(() => this.put({ ...this.texts(), packets: String(packets), script, plan: '' }));
+    const none = button('It had none', () => this.tell_missing(false)), open = element('label', { class: 'button plain', for: 'plan-file' }, 'Open the schedule');
+    this.tell_missing(true, open, ' ', none);
+  }
+
+  tell_missing(is_missing, ...inside) {
+    fill(part('forecast-missing'), ...(is_missing ? [MISSING, ...inside] : []));
+    this.is_missing = is_missing;
   }
 
   // A change that can be taken back.
@@ -59,7 +87,9 @@ class ForecastView {
   }
 
   undo() {
-    if (this.before.length) this.put(this.before.pop());
+    if (!this.before.length) return;
+    this.put(this.before.pop());
+    this.tell_change('The latest change is taken back.');
   }
 
   makes_whole() {
@@ -73,18 +103,44 @@ class ForecastView {
   // A row for these packets: in the schedule that they are whole, or in the script that they are lost.
   make_row(first, last, is_whole) {
     if (!this.runs) return;
-    this.change(() => (is_whole ? this.plan : this.script).add([this.row_of(first, last, is_whole)]));
+    const row = this.row_of(first, last, is_whole);
+    this.change(() => (is_whole ? this.plan : this.script).add([row]));
+    this.span.go(this.span.at);
+    this.tell_change(`${row} is added to ${is_whole ? 'the schedule' : 'the losses'}. Z takes it back.`);
+  }
+
+  tell_change(words) {
+    this.pending = null;
+    fill(part('forecast-change'), words);
+  }
+
+  // The first press of L or W shows the row, the second one makes it.
+  ask_row(is_whole) {
+    const key = `${this.span.chosen()} ${is_whole}`;
+    if (this.pending === key) {
+      this.make_row(...this.span.chosen(), is_whole);
+      return;
+    }
+    this.pending = key;
+    fill(part('forecast-change'), `${is_whole ? 'W' : 'L'} once more, or Enter, adds ${this.row_of(...this.span.chosen(), is_whole)}; Escape leaves it.`);
   }
 
   key(event) {
-    if (event.ctrlKey && event.key === 'z') this.undo();
+    const letter = event.key.toLowerCase();
+    if (event.ctrlKey && letter === 'z') this.undo();
     else if (event.ctrlKey || event.metaKey || event.altKey) return false;
-    else if (event.key === 'l' || event.key === 'L') this.make_row(...this.span.chosen(), false);
-    else if (event.key === 'w' || event.key === 'W') this.make_row(...this.span.chosen(), true);
-    else if (event.key === 'n' || event.key === 'p') this.leap(event.key === 'n' ? 1 : -1);
-    else if (event.key === 'Escape') this.span.go(this.span.at);
+    else if (letter === 'z' || event.key === 'Backspace') this.undo();
+    else if (letter === 'l' || letter === 'w') this.ask_row(letter === 'w');
+    else if (event.key === 'Enter' && this.pending) this.ask_row(this.pending.endsWith('true'));
+    else if (letter === 'n' || letter === 'p') this.leap(letter === 'n' ? 1 : -1);
+    else if (event.key === 'Escape') this.leave();
     else return false;
     return true;
+  }
+
+  leave() {
+    this.tell_change('');
+    this.span.go(this.span.at);
   }
 
   leap(way) {
@@ -92,24 +148,52 @@ class ForecastView {
     if (next >= 0) this.span.go(next);
   }
 
-  // Runs the forecast of the texts, and shows it or its refusal.
+  // Asks for the forecast of the texts.
   typed() {
-    this.asked = this.texts();
-    this.advising.stop();
+    const asked = this.texts(), is_example = Object.keys(EXAMPLE).every((name) => asked[name] === EXAMPLE[name]);
     part('undo').disabled = this.before.length === 0;
-    const { status, text, runs } = forecast(this.asked);
+    part('forecast-example').hidden = !is_example;
+    if (this.is_missing && asked.plan) this.tell_missing(false);
+    this.busy.begin('forecasting');
+    this.latest.start(asked);
+    remember(asked);
+  }
+
+  // Runs a forecast, and shows it or its refusal.
+  async run(asked) {
+    let answer;
+    try {
+      answer = await this.desk.ask('forecast', asked);
+    } catch (fault) {
+      answer = { status: 5, text: fault.message, runs: null };
+    }
+    if (answer) this.show(asked, answer);
+    if (this.latest.waits) return;
+    if (answer) this.busy.end();
+    else this.busy.stop();
+  }
+
+  show(asked, { status, text, runs, bytes }) {
+    const is_first = !this.runs && !this.refused;
+    Object.assign(this, { asked, runs: runs && Runs.of(runs), refused: text, bytes });
     this.refuse(text);
-    Object.assign(this, { runs, refused: text });
+    part('save-forecast').disabled = status !== 0;
     if (status === 0) {
-      this.strip.show(runs);
-      this.advise();
+      this.strip.show(this.runs);
+      this.advice.start(asked, this.runs.total);
     } else {
       this.strip.clear(text);
-      for (const id of ['robust-rows', 'robust-told', 'rows-told']) fill(part(id));
+      this.advice.clear();
     }
+    if (is_first) this.begin();
     this.sum();
     this.point();
-    remember(this.asked);
+  }
+
+  // Chooses the first packet that is open, if there is one.
+  begin() {
+    const head = this.runs ? first_open(this.runs) : -1;
+    if (head >= 0) this.span.go(head);
   }
 
   // Each refusal at what it is of: the number, the schedule or the script.
@@ -123,101 +207,59 @@ class ForecastView {
   sum() {
     const { runs } = this;
     fill_legend(part('forecast-legend'), runs);
+    tell('forecast-gaps', runs && this.is_long(runs.gaps) ? LONG_GAP : '');
     if (!runs) {
       fill(part('forecast-sum'), `No forecast: ${this.refused}.`);
-      fill(part('forecast-gaps'));
       return;
     }
     const [, sure] = runs.end, open = runs.totals[OPEN];
     const rest = open ? `; for ${grouped(open)} the recording decides` : '; all that arrive are';
     fill(part('forecast-sum'), element('b', {}, `${grouped(sure)} of ${counted(runs.total, 'packet is', 'packets are')} sure`), `${rest}.`);
-    const [first, widest] = runs.gaps;
-    const is_long = first === '-' || Number(first) > 16383 || Number(widest) > 16383;
-    fill(part('forecast-gaps'), is_long ? LONG_GAP : '');
+  }
+
+  is_long([first, widest]) {
+    return first === '-' || Number(first) > 16383 || Number(widest) > 16383;
   }
 
   // The chosen packet in words, and after a moment what would make it sure if it is open.
   point() {
+    const chosen = this.span.chosen();
+    for (const [id, is_whole] of [['loss-row', false], ['whole-row', true]]) fill(part(id), this.row_of(...chosen, is_whole));
+    if (this.pending && !this.pending.startsWith(`${chosen} `)) this.tell_change('');
     part('forecast-words').hidden = !this.runs;
     const words = this.runs ? forecast_words(this.runs, this.asked.script, this.span.at) : '';
     if (this.pointed && this.pointed.words === words && this.pointed.asked === this.asked) return;
     this.pointed = { words, asked: this.asked };
+    this.why_desk.drop();
     this.asking.stop();
-    fill(part('forecast-state'), words ? `${words[0].toUpperCase()}${words.slice(1)}.` : '');
-    fill(part('forecast-tried'));
-    if (this.runs && this.runs.kind_at(this.span.at) === OPEN) this.asking.start(this.explain(this.span.at, part('forecast-tried')), 160);
+    fill(part('forecast-state'), words ? sentence(words) : '');
+    refill(part('forecast-tried'));
+    if (this.runs && this.runs.kind_at(this.span.at) === OPEN) this.asking.start();
   }
 
   // What would make an open packet sure, tried by the program.
-  *explain(at, box) {
-    const found = { rows: [], heads: [], is_sure: false, robust: null }, { asked, runs } = this;
-    yield* rows_for(asked, runs, at, found);
-    const heads = found.heads.map((head) => grouped(head)).join(', ');
-    const many = found.heads.length > 1 ? 'packets' : 'packet', list = element('ul', { class: 'ways' });
-    if (found.is_sure) {
-      const name = found.heads.length === 1 && found.heads[0] === at ? 'it' : `${many} ${heads}`;
-      list.append(element('li', {}, `It would be sure if ${name} were whole, with its mask: `, this.adding(found.rows)));
+  async explain() {
+    const { at } = this.span, { asked } = this;
+    try {
+      const found = await this.why_desk.ask('why', { asked, at });
+      if (found) refill(part('forecast-tried'), element('p', { class: 'tried' }, 'Tried by the program:'), this.ways(found, at));
+    } catch (fault) {
+      fill(part('forecast-tried'), `What would make it sure can't be tried: ${fault.message}.`);
     }
-    yield* robust_for(asked, found.heads[0], at, found);
-    if (found.robust) {
-      const { row, value, is_enough } = found.robust;
-      const end = is_enough ? (found.heads[0] === at ? '' : ', and this one is then sure too') : ', but this one would still be open';
-      list.append(element('li', {}, `Packet ${grouped(found.heads[0])} would be sure if it required a robustness of ${value}${end}: `, this.adding([row])));
-    } else if (found.heads.length) {
-      list.append(element('li', {}, `No robustness up to 7 makes packet ${grouped(found.heads[0])} sure.`));
+  }
+
+  ways({ rows, heads, is_sure, robust }, at) {
+    const list = element('ul', { class: 'ways' }), [head] = heads, add = (more) => adding(more, () => this.change(() => this.plan.add(more)));
+    if (is_sure) {
+      const many = heads.length > 1 ? 'packets' : 'packet', name = heads.length === 1 && head === at ? 'it' : `${many} ${heads.map(grouped).join(', ')}`;
+      list.append(element('li', {}, `It would be sure if ${name} were whole, with its mask: `, add(rows)));
     }
-    fill(box, element('p', { class: 'tried' }, 'Tried by the program:'), list);
-  }
-
-  // A button that adds rows to the schedule.
-  adding(rows) {
-    const words = rows.length === 1 ? `Add ${rows[0]}` : `Add ${rows.length} rows`;
-    return element('button', { type: 'button', title: rows.join('\n'), on_click: () => this.change(() => this.plan.add(rows)) }, words);
-  }
-
-  // What would make all sure: the least robust, and rows of whole content.
-  advise() {
-    const rows = [], box = part('robust-rows'), { asked } = this;
-    fill(box);
-    fill(part('robust-told'), 'Trying 0 to 7 ..');
-    fill(part('rows-told'));
-    this.advising.start(this.advice(asked, rows, box), 250);
-  }
-
-  *advice(asked, rows, box) {
-    yield* each_robust(asked, (row) => {
-      rows.push(row);
-      box.append(this.robust_row(row, asked));
-    });
-    const least = rows.find((row) => row.open === 0);
-    fill(part('robust-told'), least ? `The least robust that makes all sure that arrive is ${least.robust}.` : 'No robust from 0 to 7 makes all sure that arrive.');
-    yield* rows_for_all(asked, (told) => this.tell_rows(told));
-  }
-
-  robust_row({ robust, sure, open }, asked) {
-    const is_own = String(robust) === asked.robust, share = (100 * sure) / this.runs.total;
-    const bar = element('span', { class: 'bar' }, element('span', { class: 'filled' }));
-    bar.firstChild.style.width = `${share}%`;
-    const put = () => {
-      part('robust').value = String(robust);
-    };
-    const take = element('button', { type: 'button', disabled: is_own, on_click: () => this.change(put) }, is_own ? 'taken' : 'Take');
-    return element('tr', is_own ? { class: 'own' } : {}, element('th', { scope: 'row' }, String(robust)), element('td', {}, bar),
-      element('td', { class: 'number' }, grouped(sure)), element('td', { class: 'number' }, open ? grouped(open) : 'none'), element('td', {}, take));
-  }
-
-  tell_rows({ rows, open, is_done }) {
-    const box = part('rows-told');
-    if (rows.length === 0 && is_done) {
-      fill(box, 'Nothing is open, so no row is wanted.');
-      return;
+    if (robust) {
+      const end = robust.is_enough ? (head === at ? '' : ', and this one is then sure too') : ', but this one would still be open';
+      list.append(element('li', {}, `Packet ${grouped(head)} would be sure if it required a robustness of ${robust.value}${end}: `, add([robust.row])));
+    } else if (heads.length) {
+      list.append(element('li', {}, `No robustness up to 7 makes packet ${grouped(head)} sure.`));
     }
-    if (!is_done) {
-      fill(box, `${counted(rows.length, 'row', 'rows')} tried, ${counted(open, 'packet', 'packets')} still open ..`);
-      return;
-    }
-    const these = rows.length === 1 ? 'this row' : `these ${rows.length} rows`;
-    const end = open ? `After ${MOST_ROWS} rows ${counted(open, 'packet is', 'packets are')} still open. ` : `With ${these} all that arrive are sure. `;
-    fill(box, element('code', { class: 'list' }, rows.join('\n')), end, this.adding(rows));
+    return list;
   }
 }

@@ -1,5 +1,6 @@
-'use strict';
-// What strips and curves have in common: colours, axes, the canvas and its size.
+// What strips and curves have in common: colours, axes, the canvas and its size, and when they are drawn.
+
+import { grouped } from '../data/text.js';
 
 const LIGHT = {
   paper: '#ffffff', ground: '#f4f5f2', ink: '#1c2321', faint: '#5d6764', grid: '#d9ddd8', edge: '#444444', rail: '#26302d',
@@ -9,38 +10,66 @@ const DARK = {
   paper: '#1b211f', ground: '#232a28', ink: '#e8ece9', faint: '#a3adaa', grid: '#36403d', edge: '#0d1110', rail: '#f2f4f2',
   curve: '#8fc7ee', limit: '#ff9d66', out: '#f0b429', choice: 'rgba(166, 211, 242, 0.28)', hatch: '#77817d',
 };
-const LEVEL_BAR = '#1f5f8b';
-const FACE = '"DejaVu Sans", Verdana, Arial, sans-serif';
+export const LEVEL_BAR = '#1f5f8b';
+export const FACE = '"DejaVu Sans", Verdana, Arial, sans-serif';
 const is_dark = window.matchMedia('(prefers-color-scheme: dark)');
 const pictures = []; // all that draw themselves anew when the light changes or the page is printed
-let is_printing = false;
+const asked = new Set(); // those that are to be drawn soon
+const MOST_TIME = 6; // milliseconds of drawing at once
+let is_printing = false, is_drawing = false;
 
-function colours() {
+export function is_on_paper() {
+  return is_printing;
+}
+
+export function colours() {
   return is_dark.matches && !is_printing ? DARK : LIGHT;
 }
 
-function draw_all() {
-  for (const picture of pictures) picture.draw();
+// Has a picture drawn soon. Many are drawn over several turns, so that they don't hold the page up.
+export function draw_soon(picture) {
+  asked.add(picture);
+  if (is_drawing) return;
+  is_drawing = true;
+  requestAnimationFrame(draw_some);
+}
+
+function draw_some() {
+  const end = performance.now() + MOST_TIME;
+  for (const picture of asked) {
+    asked.delete(picture);
+    picture.draw();
+    if (performance.now() > end) break;
+  }
+  is_drawing = asked.size > 0;
+  if (is_drawing) requestAnimationFrame(draw_some);
+}
+
+export function draw_all() {
+  pictures.forEach(draw_soon);
 }
 
 is_dark.addEventListener('change', draw_all);
-window.addEventListener('beforeprint', () => {
-  is_printing = true;
-  draw_all();
-});
-window.addEventListener('afterprint', () => {
-  is_printing = false;
-  draw_all();
-});
+for (const [name, is_now] of [['beforeprint', true], ['afterprint', false]]) {
+  window.addEventListener(name, () => {
+    is_printing = is_now;
+    pictures.forEach((picture) => picture.draw());
+  });
+}
 
-// Has a picture drawn anew whenever the width of its canvas changes.
-function keep_drawn(picture, canvas) {
+// Has a picture drawn anew whenever the width of its canvas changes; gives what ends that.
+export function keep_drawn(picture, canvas) {
+  const watcher = new ResizeObserver(() => draw_soon(picture));
   pictures.push(picture);
-  new ResizeObserver(() => picture.draw()).observe(canvas);
+  watcher.observe(canvas);
+  return () => {
+    watcher.disconnect();
+    pictures.splice(pictures.indexOf(picture), 1);
+  };
 }
 
 // The drawing of a canvas, cleared, in units of the page; null while it can't be seen.
-function begin_drawing(canvas, height) {
+export function begin_drawing(canvas, height) {
   const width = canvas.clientWidth, sharp = Math.max(1, window.devicePixelRatio || 1);
   if (width < 50) return null;
   if (canvas.width !== Math.round(width * sharp) || canvas.height !== Math.round(height * sharp)) {
@@ -54,7 +83,7 @@ function begin_drawing(canvas, height) {
   return pen;
 }
 
-function write(pen, text, x, y, colour, size = 11, anchor = 'start', weight = 'normal') {
+export function write(pen, text, x, y, colour, size = 11, anchor = 'start', weight = 'normal') {
   pen.font = `${weight} ${size}px ${FACE}`;
   pen.textAlign = anchor;
   pen.textBaseline = 'alphabetic';
@@ -63,16 +92,16 @@ function write(pen, text, x, y, colour, size = 11, anchor = 'start', weight = 'n
 }
 
 // The least step of 1, 2 or 5 times a power of ten of which at most `most` lie in `width`.
-function tick_step(width, most) {
+export function tick_step(width, most) {
   let step = 1;
   for (let turn = 0; width / step > most && turn < 60; turn += 1) step *= turn % 3 === 1 ? 2.5 : 2;
   return step;
 }
 
-// The numbers of packets with their ticks; the words stand above the line or below it.
-function draw_axis(pen, span, left, wide, y, is_above) {
+// The numbers of packets with their ticks; the words stand above the line or below it. `words` gives other words for a number.
+export function draw_axis(pen, span, left, wide, y, is_above, words = grouped) {
   const { faint, grid } = colours();
-  const step = tick_step(span.width, Math.max(2, Math.floor(wide / 90)));
+  const step = tick_step(span.width, Math.max(2, Math.floor(wide / (words === grouped ? 90 : 150))));
   const each = wide / span.width, middle = each >= 12 ? 0.5 : 0;
   pen.fillStyle = grid;
   pen.fillRect(left, y, wide, 1);
@@ -81,12 +110,12 @@ function draw_axis(pen, span, left, wide, y, is_above) {
     if (x > left + wide - 1) break;
     pen.fillStyle = faint;
     pen.fillRect(Math.round(x), is_above ? y - 4 : y, 1, 5);
-    write(pen, grouped(tick), Math.max(x, left + 4), is_above ? y - 7 : y + 16, faint, 11, x - left < 12 ? 'start' : 'center');
+    write(pen, words(tick), Math.max(x, left + 4), is_above ? y - 7 : y + 16, faint, 11, x - left < 12 ? 'start' : 'center');
   }
 }
 
 // A bar of all packets with the part that is seen.
-function draw_whole(pen, span, left, wide, y) {
+export function draw_whole(pen, span, left, wide, y) {
   const { grid, faint } = colours();
   if (span.width >= span.total) return;
   pen.fillStyle = grid;
@@ -97,7 +126,7 @@ function draw_whole(pen, span, left, wide, y) {
 }
 
 // A mark at the chosen packet, and the choice of several; on a strip with pointers above and below.
-function draw_choice(pen, span, left, wide, top, bottom, is_strip) {
+export function draw_choice(pen, span, left, wide, top, bottom, is_strip) {
   const { curve, choice, paper } = colours();
   const each = wide / span.width, [from, to] = span.chosen();
   const start = Math.max(0, (from - span.first) * each), end = Math.min(wide, (to + 1 - span.first) * each);
@@ -132,7 +161,7 @@ function draw_pointer(pen, x, y, high) {
 }
 
 // Lines from the lower left to the upper right, as a lost packet has.
-function draw_hatch(pen, x, y, width, height, colour) {
+export function draw_hatch(pen, x, y, width, height, colour) {
   pen.save();
   pen.beginPath();
   pen.rect(x, y, width, height);
@@ -146,4 +175,16 @@ function draw_hatch(pen, x, y, width, height, colour) {
   }
   pen.stroke();
   pen.restore();
+}
+
+// The pattern of what is lost, for parts of any form.
+export function lost_pattern(pen) {
+  const tile = document.createElement('canvas');
+  tile.width = tile.height = 4;
+  const brush = tile.getContext('2d');
+  brush.fillStyle = '#ffffff';
+  brush.fillRect(0, 0, 4, 4);
+  brush.fillStyle = '#555555';
+  for (let place = 0; place < 4; place += 1) brush.fillRect(place, 3 - place, 1, 1);
+  return pen.createPattern(tile, 'repeat');
 }

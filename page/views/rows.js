@@ -1,95 +1,53 @@
-'use strict';
-// Side texts that are typed: a text area with the numbers of its lines, at which a refusal stands at its row.
+// Side texts that are typed: a text area with the numbers of its lines, at which a refusal stands at its row; opened from a file and saved.
 
-const latest_records = { text: '', records: [] };
+import { button, element, fill, save, take_choice, take_drops, text_of_file } from './parts.js';
+import { WHY_ROW } from './why_row.js';
+import { records_of, with_rows } from '../data/records.js';
 
-// Where each record of a text begins and ends, by its lines from 0, as the program reads records: empty lines are none, and a line
-// within quotes goes on.
-function records_of(text) {
-  if (text !== latest_records.text) Object.assign(latest_records, { text, records: find_records(text) });
-  return latest_records.records;
-}
+const LINE = 20; // the height of a line
 
-function find_records(text) {
-  const records = [];
-  let line = 0, start = 0, first = 0, is_quoted = false;
-  for (let at = 0; at <= text.length; at += 1) {
-    const letter = text[at], is_end = at === text.length || (!is_quoted && (letter === '\n' || letter === '\r'));
-    if (letter === '"') is_quoted = !is_quoted;
-    if (is_end) {
-      if (at > start) records.push({ text: text.slice(start, at), first, last: line });
-      start = at + 1;
-    }
-    if (letter === '\n' || (letter === '\r' && text[at + 1] !== '\n')) line += 1;
-    if (is_end) first = letter === '\r' && text[at + 1] === '\n' ? line + 1 : line;
-  }
-  return records;
-}
-
-// The fields of the records of a text that has no quotes.
-function fields_of(text) {
-  return records_of(text).map((record) => record.text.split(','));
-}
-
-function is_plain(text) {
-  return /^(0|[1-9][0-9]{0,9})$/.test(text) && Number(text) <= 4294967295;
-}
-
-// What is wrong with the span of a row, or nothing.
-function wrong_span(first, last, step) {
-  for (const [name, text] of [['first', first], ['last', last], ['step', step]]) {
-    if (!is_plain(text ?? '')) return `${name} is a number, digits alone`;
-  }
-  if (Number(first) > Number(last)) return 'first is above last';
-  return step === '0' ? 'step is 1 or more' : '';
-}
-
-// A guess why a row is none; that it is none is what the program says.
-const WHY_ROW = {
-  schedule(cells) {
-    if (cells[0] === 'robust') {
-      if (cells.length !== 5) return 'it has five parts: robust,first,last,step,value';
-      return wrong_span(cells[1], cells[2], cells[3]) || (/^[0-7]$/.test(cells[4]) ? '' : 'value is 0 to 7');
-    }
-    if (cells.length !== 4) return 'it has four parts, first,last,step,flags, or begins with robust and has five';
-    return wrong_span(...cells) || 'flags are letters of p, f, r, none twice';
-  },
-  script(cells) {
-    if (cells[0] !== 'drop' && cells[0] !== 'repeat') return 'it begins with drop or repeat';
-    const parts = cells[0] === 'drop' ? 4 : 5;
-    if (cells.length !== parts) return parts === 4 ? 'it has four parts: drop,first,last,step' : 'it has five parts: repeat,first,last,step,extra';
-    return wrong_span(cells[1], cells[2], cells[3]) || 'extra is 1 to 8';
-  },
-  fields(cells) {
-    if (cells[0] === 'limit' && cells.length !== 4) return 'it has four parts: limit,name,low,high';
-    if (cells[0] === 'limit') return 'the name is of a field above it that has no limit yet, and low is at most high';
-    if (cells[0] !== 'field') return 'it begins with field or limit';
-    if (cells.length !== 5) return 'it has five parts: field,place,width,kind,name';
-    if (cells[3] !== 'u' && cells[3] !== 's') return 'kind is u or s';
-    return 'place and width lie within the bits of a packet (width 1 to 64), and the name is new, of letters, digits and _';
-  },
+// What each kind of text is called, and the name under which it is saved.
+const KINDS = {
+  schedule: { name: 'the schedule', row: 'a row of a schedule', file: 'schedule.csv' },
+  script: { name: 'the losses', row: 'a row of the losses', file: 'losses.csv' },
+  fields: { name: 'the fields', row: 'a field or a limit', file: 'fields.csv' },
+  streams: { name: 'the streams', row: 'an APID with its bits', file: 'streams.csv' },
+  units: { name: 'the units', row: 'a field with its unit', file: 'units.csv' },
 };
 
-class Rows {
-  // `kind` is schedule, script or fields; `typed` is called when the text changes.
+export class Rows {
+  // `kind` is one of KINDS; `typed` is called when the text changes.
   constructor(box, kind, typed) {
     this.area = box.querySelector('textarea');
     this.gutter = box.querySelector('.gutter');
     this.note = box.querySelector('.refusal');
-    this.kind = kind;
-    this.wrong = null;
+    Object.assign(this, { kind, typed, wrong: null, count: 1 });
     this.area.addEventListener('input', () => {
-      this.number_lines();
+      this.count_lines();
       typed();
     });
-    take_drops(box, async (files) => {
-      this.text = text_of(await read_file(files[0]));
-      typed();
-    });
-    this.area.addEventListener('scroll', () => {
-      this.gutter.scrollTop = this.area.scrollTop;
-    });
-    this.number_lines();
+    take_drops(box, (files) => this.open(files[0]));
+    this.area.addEventListener('scroll', () => this.number_lines());
+    new ResizeObserver(() => this.number_lines()).observe(this.area);
+    this.add_buttons(box.querySelector('.files'));
+  }
+
+  add_buttons(place) {
+    const { name, file } = KINDS[this.kind], id = `${this.area.id}-file`;
+    const chooser = element('input', { type: 'file', id, class: 'unseen', 'aria-label': `Open ${name} from a file` });
+    take_choice(chooser, (files) => this.open(files[0]));
+    place.append(element('label', { class: 'button plain', for: id }, 'Open'), chooser, ' ', button('Save', () => save(file, this.text), { 'aria-label': `Save ${name}` }));
+  }
+
+  // Takes the text of a file.
+  async open(file) {
+    try {
+      this.text = await text_of_file(file);
+    } catch (fault) {
+      this.tell(fault.message);
+      return;
+    }
+    this.typed();
   }
 
   get text() {
@@ -97,55 +55,54 @@ class Rows {
   }
 
   set text(text) {
-    this.area.value = text;
-    this.number_lines();
+    if (text !== this.area.value) this.area.value = text;
+    this.count_lines();
   }
 
   // Adds rows at the end.
   add(rows) {
-    const { text } = this;
-    this.text = text + (text && !text.endsWith('\n') ? '\n' : '') + rows.join('\n') + '\n';
+    this.text = with_rows(this.text, rows);
     this.area.scrollTop = this.area.scrollHeight;
   }
 
+  count_lines() {
+    this.count = this.area.value.split('\n').length;
+    this.number_lines();
+  }
+
+  // Numbers the lines that are in sight.
   number_lines() {
-    const count = this.area.value.split('\n').length, most = Math.min(count, 20000);
-    const is_wrong = (line) => this.wrong && line >= this.wrong.first && line <= this.wrong.last;
-    const numbered = `${count} ${this.wrong ? `${this.wrong.first} ${this.wrong.last}` : ''}`;
-    if (numbered === this.numbered) return;
-    this.numbered = numbered;
-    const rows = [];
-    for (let line = 0; line < most; line += 1) {
-      rows.push(is_wrong(line) ? element('span', { class: 'wrong' }, `✗ ${line + 1}`) : element('span', {}, `${line + 1}`));
+    const { scrollTop, clientHeight } = this.area, first = Math.floor(scrollTop / LINE), rows = element('div');
+    const last = Math.min(this.count, first + Math.ceil(clientHeight / LINE) + 1);
+    for (let line = first; line < last; line += 1) {
+      const is_wrong = this.wrong && line >= this.wrong.first && line <= this.wrong.last;
+      rows.append(is_wrong ? element('span', { class: 'wrong' }, `✗ ${line + 1}`) : element('span', {}, `${line + 1}`));
     }
-    fill(this.gutter, ...rows);
-    this.gutter.scrollTop = this.area.scrollTop;
+    rows.style.transform = `translateY(${-(scrollTop - first * LINE)}px)`;
+    fill(this.gutter, rows);
   }
 
   // Puts a refusal at its row, or takes it away. `told` is the program's text.
   refuse(told) {
-    const found = / row ([0-9]+) is wrong/.exec(told);
-    this.wrong = found ? records_of(this.text)[Number(found[1]) - 1] || null : null;
+    const found = / row ([0-9]+) is wrong/.exec(told), is_long = this.area.value.length > 0;
+    this.wrong = found && is_long ? records_of(this.text)[Number(found[1]) - 1] || null : null;
     const why = this.wrong ? WHY_ROW[this.kind](this.wrong.text.split(',')) : '';
-    const line = this.wrong ? `Line ${this.wrong.first + 1}, ${JSON.stringify(this.wrong.text.slice(0, 60))}, is no row of a ${this.kind}: ${why}. ` : '';
-    fill(this.note, ...(told ? [line, element('span', { class: 'program' }, `The program says: ${told}.`)] : []));
-    this.note.hidden = !told;
-    this.area.setAttribute('aria-invalid', told ? 'true' : 'false');
+    const line = this.wrong ? `Line ${this.wrong.first + 1}, ${JSON.stringify(this.wrong.text.slice(0, 60))}, is not ${KINDS[this.kind].row}: ${why}. ` : '';
+    this.tell(...(told ? [line, element('span', { class: 'program' }, `The program says: ${told}.`)] : []));
     this.number_lines();
     if (this.wrong && document.activeElement !== this.area) this.show_line(this.wrong.first);
   }
 
-  show_line(line) {
-    const high = parseFloat(getComputedStyle(this.area).lineHeight) || 20;
-    const top = line * high;
-    if (top < this.area.scrollTop || top + high > this.area.scrollTop + this.area.clientHeight) this.area.scrollTop = Math.max(0, top - high);
+  // Shows what is wrong with the text, or nothing.
+  tell(...inside) {
+    const is_wrong = inside.some((it) => it !== '');
+    fill(this.note, ...inside);
+    this.note.hidden = !is_wrong;
+    this.area.setAttribute('aria-invalid', is_wrong ? 'true' : 'false');
   }
-}
 
-// Puts a refusal at a field of one value, or takes it away.
-function refuse_value(input, told) {
-  const note = part(`${input.id}-refusal`);
-  fill(note, told);
-  note.hidden = !told;
-  input.setAttribute('aria-invalid', told ? 'true' : 'false');
+  show_line(line) {
+    const top = line * LINE, { scrollTop, clientHeight } = this.area;
+    if (top < scrollTop || top + LINE > scrollTop + clientHeight) this.area.scrollTop = Math.max(0, top - LINE);
+  }
 }

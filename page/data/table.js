@@ -1,10 +1,13 @@
-'use strict';
 // The table of a recording's fields as lists of numbers, and where its packets stand among all numbers.
 
-const [WITHIN, BELOW, ABOVE] = [0, 1, 2];
+import { WRITTEN } from './runs.js';
+import { fields_of } from './records.js';
+import { Reader, bytes_of, text_of } from './text.js';
+
+export const [WITHIN, BELOW, ABOVE] = [0, 1, 2];
 
 // The table that `table` writes: its fields' names, a list of values for each, and where the line of each packet begins.
-function read_table(bytes) {
+export function read_table(bytes) {
   const reader = new Reader(bytes), names = reader.line().split(',').slice(1);
   let count = 0;
   for (let at = bytes.indexOf(10, reader.at); at >= 0; at = bytes.indexOf(10, at + 1)) count += 1;
@@ -54,7 +57,7 @@ function is_below(reader) {
 }
 
 // Marks in the table what its report lists out of the limits; gives which packets have such a value.
-function mark_outside(table, bytes) {
+export function mark_outside(table, bytes) {
   const reader = new Reader(bytes), any = new Uint8Array(table.count), { fields } = table;
   const names = fields.map((field) => bytes_of(field.name));
   let place = 0;
@@ -73,7 +76,7 @@ function mark_outside(table, bytes) {
 }
 
 // The limits that the text of the fields gives, as texts and as numbers.
-function mark_limits(table, text) {
+export function mark_limits(table, text) {
   for (const [word, name, low, high] of fields_of(text)) {
     const field = word === 'limit' && table.fields.find((one) => one.name === name);
     if (field) field.limit = { low: Number(low), high: Number(high), words: `${low} to ${high}`, low_word: low, high_word: high };
@@ -81,14 +84,14 @@ function mark_limits(table, text) {
 }
 
 // The values of a packet of the table as they stand there.
-function cells_of(table, t) {
+export function cells_of(table, t) {
   const reader = new Reader(table.bytes);
   reader.at = table.line[t];
   return reader.line().split(',').slice(1);
 }
 
 // Between the numbers of packets and their places in a recording: of some runs those that are written are there, one after the other.
-class Places {
+export class Places {
   constructor(runs) {
     this.runs = runs;
     this.before = new Float64Array(runs.size + 1);
@@ -125,7 +128,7 @@ class Places {
 
 // What of a field stands in each column of a picture: the least and the greatest value, the first and the last, and whether one of
 // them is out of its limits. If there is room, each packet is a column of its own.
-function columns_of(field, places, span, wide) {
+export function columns_of(field, places, span, wide) {
   const each = span.width / wide, columns = [];
   const step = each <= 1 ? 1 : each, start = each <= 1 ? Math.floor(span.first) : span.first;
   for (let low = start; low < span.first + span.width && low < span.total; low += step) {
@@ -138,13 +141,45 @@ function columns_of(field, places, span, wide) {
 }
 
 function summary_of({ values, out }, from, to) {
-  let low = values[from], high = low, is_below = false, is_above = false;
+  let low = values[from], high = low, falls = false, rises = false;
   for (let t = from; t < to; t += 1) {
     const value = values[t];
     if (value < low) low = value;
     if (value > high) high = value;
-    if (out[t] === BELOW) is_below = true;
-    else if (out[t] === ABOVE) is_above = true;
+    if (out[t] === BELOW) falls = true;
+    else if (out[t] === ABOVE) rises = true;
   }
-  return { low, high, first: values[from], last: values[to - 1], is_below, is_above };
+  return { low, high, first: values[from], last: values[to - 1], is_below: falls, is_above: rises };
+}
+
+const MOST_STRETCHES = 500; // so many are listed
+
+// The stretches of packets, one after the other, in which a field is out of its limits on one side: the first and the last packet, and the
+// place of the worst value. `count` is how many there are in all.
+export function stretches_of(table, places) {
+  const found = [];
+  let count = 0;
+  table.fields.forEach((field, column) => {
+    const one = field.outside ? stretches_of_field(field, places) : [];
+    count += one.length;
+    for (const stretch of one.slice(0, MOST_STRETCHES)) found.push({ column, ...stretch });
+  });
+  return { count, found: found.slice(0, MOST_STRETCHES) };
+}
+
+function stretches_of_field({ values, out }, places) {
+  const found = [];
+  let open = null;
+  for (let t = 0; t < values.length; t += 1) {
+    if (out[t] === WITHIN) continue;
+    const at = places.number_of(t);
+    if (open && open.side === out[t] && open.last + 1 === at) {
+      open.last = at;
+      if (out[t] === ABOVE ? values[t] > values[open.worst] : values[t] < values[open.worst]) open.worst = t;
+    } else {
+      open = { side: out[t], first: at, last: at, worst: t };
+      found.push(open);
+    }
+  }
+  return found;
 }

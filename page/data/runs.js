@@ -1,14 +1,15 @@
-'use strict';
 // Runs of packets that have one state, out of a forecast, a listing or a report. A million packets are a few lists of numbers.
+
+import { Reader, with_room } from './text.js';
 
 // What can become of a packet, from the best to the worst: its word, letter, fill, the colour of its letter, and what it means.
 // Letters and colours are those of pictures/draw.py.
-const STATES = [
+export const STATES = [
   { word: 'sure', letter: '', fill: '#a6d3f2', ink: '#000000', told: 'written, whatever the recording is' },
   { word: 'open', letter: '?', fill: '#f5e663', ink: '#000000', told: 'it arrives, and the recording decides' },
   { word: 'lost', letter: 'L', fill: '#ffffff', ink: '#000000', told: 'no copy of it arrives' },
 ];
-const FINDINGS = [
+export const FINDINGS = [
   { word: 'written', letter: '', fill: '#a6d3f2', ink: '#000000', told: 'given back' },
   { word: 'lost', letter: 'L', fill: '#ffffff', ink: '#000000', told: 'did not arrive' },
   { word: 'gap', letter: 'G', fill: '#f5e663', ink: '#000000', told: 'its level does not reach back to what is known' },
@@ -16,12 +17,13 @@ const FINDINGS = [
   { word: 'early', letter: 'E', fill: '#5b2a6e', ink: '#ffffff', told: 'its data end too early' },
   { word: 'wrong', letter: 'W', fill: '#a63c00', ink: '#ffffff', told: 'its data are no packet\'s' },
 ];
-const [WRITTEN, LOST, GAP, UNSYNCED, EARLY, WRONG] = [0, 1, 2, 3, 4, 5];
-const [SURE, OPEN, GONE] = [0, 1, 2];
-const NO_LEVEL = 255;
+export const [WRITTEN, LOST, GAP, UNSYNCED, EARLY, WRONG] = [0, 1, 2, 3, 4, 5];
+export const [SURE, OPEN, GONE] = [0, 1, 2];
+export const NO_LEVEL = 255;
 const HALF_KNOWN = 1; // of a written packet the content alone is known, of another one the mask alone
+const BLOCK = 64; // so many runs have one sum of what is before them
 
-class Runs {
+export class Runs {
   constructor(kinds) {
     this.kinds = kinds;
     this.size = 0;
@@ -31,26 +33,41 @@ class Runs {
     this.arrival = new Uint32Array(256); // how many arrivals are before it
     this.kind = new Uint8Array(256);
     this.level = new Uint8Array(256);
+    this.value = new Uint32Array(256); // the first wrong bit, the bits of data that end too early, or a level
     this.half = new Uint8Array(256);
     this.repeats = new Uint32Array(256);
+    this.sums = new Float64Array(256 * kinds.length); // how many packets of each kind are before every block of runs
     this.totals = kinds.map(() => 0);
     this.end = null; // the numbers of the last line, if it is there
   }
 
-  add(first, last, kind, line = 0) {
+  // The runs that a worker sent.
+  static of(sent) {
+    return Object.assign(Object.create(Runs.prototype), sent);
+  }
+
+  add(first, last, kind, line = 0, value = 0) {
     if (this.size === this.first.length) this.grow();
     const place = this.size++;
+    if (place % BLOCK === 0) this.add_sums(place / BLOCK);
     this.first[place] = first;
     this.kind[place] = kind;
     this.line[place] = line;
     this.level[place] = NO_LEVEL;
+    this.value[place] = value;
     this.total = last + 1;
     this.totals[kind] += last - first + 1;
     return place;
   }
 
+  add_sums(block) {
+    const kinds = this.kinds.length;
+    if ((block + 1) * kinds > this.sums.length) this.sums = with_room(this.sums, 2 * this.sums.length);
+    this.sums.set(this.totals, block * kinds);
+  }
+
   grow() {
-    for (const name of ['first', 'line', 'arrival', 'kind', 'level', 'half', 'repeats']) this[name] = with_room(this[name], 2 * this.size);
+    for (const name of ['first', 'line', 'arrival', 'kind', 'level', 'value', 'half', 'repeats']) this[name] = with_room(this[name], 2 * this.size);
   }
 
   last(place) {
@@ -72,6 +89,15 @@ class Runs {
     return this.kind[this.place_of(number)];
   }
 
+  // How many packets of each kind have a lesser number; it may be a fraction.
+  before(number) {
+    const kinds = this.kinds.length, place = this.place_of(number), block = Math.floor(place / BLOCK);
+    const counts = this.sums.slice(block * kinds, (block + 1) * kinds);
+    for (let run = block * BLOCK; run < place; run += 1) counts[this.kind[run]] += this.first[run + 1] - this.first[run];
+    if (this.size) counts[this.kind[place]] += Math.min(number, this.total) - this.first[place];
+    return counts;
+  }
+
   // The nearest packet after this one (or before it) that is in another run and not of the best kind; -1 if there is none.
   next_bad(number, way) {
     for (let place = this.place_of(number) + way; place >= 0 && place < this.size; place += way) {
@@ -81,12 +107,12 @@ class Runs {
   }
 
   bytes() {
-    return this.first.length * (8 + 8 + 4 + 1 + 1 + 1 + 4);
+    return this.first.length * (8 + 8 + 4 + 1 + 1 + 4 + 1 + 4) + 8 * this.sums.length;
   }
 }
 
 // The runs of a forecast, and what its last two lines say.
-function read_forecast(bytes) {
+export function read_forecast(bytes) {
   const runs = new Runs(STATES), reader = new Reader(bytes);
   reader.next_line();
   while (reader.is_digit()) {
@@ -115,7 +141,7 @@ function is_half_known(bytes, reader, kind) {
   return (kind === GAP || kind === UNSYNCED) && bytes[reader.at] === 32;
 }
 
-// Takes the line of an arrival; gives whether it is one more run.
+// Takes the line of an arrival; a repeat is no run of its own.
 function read_arrival(reader, runs, number, line) {
   const { bytes } = reader, kind = finding_at(bytes, reader.at);
   if (kind < 0) {
@@ -125,13 +151,13 @@ function read_arrival(reader, runs, number, line) {
   const place = runs.add(number, number, kind, line);
   runs.arrival[place] = runs.arrivals;
   reader.at = kind === UNSYNCED ? reader.at + 8 : bytes.indexOf(32, reader.at) + 1;
-  const value = kind === UNSYNCED ? 0 : reader.number();
-  if (kind === WRITTEN || kind === GAP) runs.level[place] = value;
+  runs.value[place] = kind === UNSYNCED ? 0 : reader.number();
+  if (kind === WRITTEN || kind === GAP) runs.level[place] = runs.value[place];
   if (is_half_known(bytes, reader, kind)) runs.half[place] = HALF_KNOWN;
 }
 
 // The runs of a listing: a run for each arrival and for each range of lost packets.
-function read_listing(bytes) {
+export function read_listing(bytes) {
   const runs = new Runs(FINDINGS), reader = new Reader(bytes);
   runs.arrivals = 0;
   while (reader.is_digit()) {
@@ -148,31 +174,4 @@ function read_listing(bytes) {
   }
   if (!reader.is_done()) runs.end = reader.line().split(' ').slice(1).map(Number);
   return runs;
-}
-
-// The runs of packets that a report of `restore` or `late` names, and of those between, which are written. `written` is how many
-// packets the recording has. What is no such report of it is answered as a text.
-function read_report(text, written) {
-  const lines = text.split('\n'), runs = new Runs(FINDINGS);
-  if (lines[0].trim() !== 'first,last,cause,value') return 'The report is none of restore or late: its first line is not first,last,cause,value.';
-  for (let row = 1; row < lines.length; row += 1) {
-    const [first, last, cause, more] = lines[row].trim().split(',');
-    if (first === 'end') {
-      if (Number(cause) !== written) return `The report is of another recording: it says that ${cause} packets were written, and the recording has ${written}.`;
-      if (runs.total - named_in(runs) < written) runs.add(runs.total, runs.total + written - (runs.total - named_in(runs)) - 1, WRITTEN);
-      runs.end = [Number(last), Number(cause), Number(more)];
-      return runs;
-    }
-    const kind = FINDINGS.findIndex((finding) => finding.word === cause);
-    const is_row = kind > 0 && Number(first) >= runs.total && Number(last) >= Number(first);
-    if (!is_row) return `Line ${row + 1} of the report is no row of it: ${lines[row].slice(0, 60)}`;
-    if (Number(first) > runs.total) runs.add(runs.total, Number(first) - 1, WRITTEN);
-    runs.add(Number(first), Number(last), kind);
-  }
-  return 'The report has no last row (end): the store was not read to its end.';
-}
-
-// How many packets are in runs that are not written.
-function named_in(runs) {
-  return runs.totals.reduce((sum, count) => sum + count, 0) - runs.totals[WRITTEN];
 }

@@ -1,19 +1,13 @@
-'use strict';
-// Examples that the page makes itself, by the program's own verbs: a store of a pass, and a recording with its fields.
+// Examples that the page makes itself, by the program's own verbs: a store of a pass, and its recording.
 
-const EXAMPLE_FIELDS = `field,0,8,u,mode
-field,8,12,u,battery_mV
-field,20,12,s,current_mA
-field,32,8,s,temperature_C
-field,40,16,s,wheel_rpm
-limit,battery_mV,2800,3300
-limit,temperature_C,-10,40
-limit,current_mA,-500,500
-`;
+import { run_program } from './program.js';
+import { arrivals_of } from '../data/space.js';
+import { bytes_of } from '../data/text.js';
+
 const EXAMPLE_LOSS = 'drop,23,24,1\ndrop,61,66,1\nrepeat,80,81,1,1\ndrop,101,101,1\ndrop,130,133,1\n';
 
 // Housekeeping of a craft in sun and shadow: so many packets of 64 bits.
-function example_recording(count) {
+export function example_recording(count) {
   const bytes = new Uint8Array(8 * count);
   for (let t = 0; t < count; t += 1) {
     const turn = (t % 90) / 90, is_dark_now = turn > 0.62;
@@ -29,7 +23,7 @@ function example_recording(count) {
 }
 
 // The store of that recording as it comes over a link that loses and repeats packets, with one packet damaged on its way.
-function example_store() {
+export function example_store() {
   const plan = bytes_of('20,179,20,p\n45,179,45,fr\n');
   const made = run_program(['compress', 'in=recording', 'out=store', 'bits=64', 'apid=100', 'robust=2', 'plan=plan'], { recording: example_recording(180), plan });
   const inputs = { store: made.outputs.store, loss: bytes_of(EXAMPLE_LOSS) };

@@ -1,0 +1,142 @@
+"""How the page looks at several sizes of a window, and what it is for those who don't see it. Each case gives its fault, or None."""
+
+import os
+
+from browser_ways import begin, click, give
+
+VIEWS = ["forecast", "store", "streams", "fields"]
+SIZES = [(320, 640), (390, 844), (800, 900), (1280, 800), (1920, 1080)]
+LIGHTS = ["light", "dark"]
+EXAMPLES = {"store": "store-example", "fields": "fields-example"}
+# What is wider than the window, or nothing.
+TOO_WIDE = """(() => { const wide = document.documentElement.clientWidth;
+    if (document.documentElement.scrollWidth <= wide) return '';
+    return [...document.querySelectorAll('main *')].filter(it => it.getBoundingClientRect().right > wide + 1 && it.offsetParent).map(it => it.id || it.className || it.tagName).slice(0, 4).join(' ') || 'something'; })()"""
+# Where the inputs of a view and its picture are.
+PLACES = """(view => [view.querySelector('.inputs'), view.querySelector('.main')].map(it => { const box = it.getBoundingClientRect(); return [box.left, box.top, box.right, box.bottom]; }))(document.getElementById('view-%s'))"""
+TOPS = "new Set([...document.querySelectorAll('[role=tab]')].map(it => it.getBoundingClientRect().top)).size"
+# The names of the buttons that are seen, and the parts with a label and no role.
+NAMES = """[...document.querySelectorAll('button, label.button')].filter(it => it.offsetParent).map(it => (it.control ?? it).getAttribute('aria-label') || it.textContent.trim())"""
+NO_ROLE = """[...document.querySelectorAll('[aria-label]')].filter(it => !it.hasAttribute('role') && !['INPUT', 'BUTTON', 'TEXTAREA', 'SELECT', 'SECTION'].includes(it.tagName)).map(it => it.outerHTML.slice(0, 80))"""
+# The texts that are seen with less contrast than 4.5, each by its beginning.
+FAINT = """(() => {
+    const numbers = text => (text.match(/[0-9.]+/g) ?? []).map(Number);
+    const light = ([r, g, b]) => [r, g, b].map(it => it / 255).map(it => it <= 0.03928 ? it / 12.92 : ((it + 0.055) / 1.055) ** 2.4).reduce((sum, it, at) => sum + it * [0.2126, 0.7152, 0.0722][at], 0);
+    const over = (front, back) => { const a = front[3] ?? 1; return [0, 1, 2].map(at => front[at] * a + back[at] * (1 - a)); };
+    const ground = it => { const found = numbers(getComputedStyle(it).backgroundColor); return (found[3] ?? 1) >= 1 ? found : over(found, it.parentElement ? ground(it.parentElement) : [255, 255, 255]); };
+    const clear = it => it ? Number(getComputedStyle(it).opacity) * clear(it.parentElement) : 1;
+    const found = [], walk = document.createTreeWalker(document.body, NodeFilter.SHOW_TEXT);
+    while (walk.nextNode()) {
+        const it = walk.currentNode.parentElement, words = walk.currentNode.textContent.trim();
+        if (!words || !it.offsetParent || it.closest('.unseen, script')) continue;
+        const back = ground(it), front = over([...numbers(getComputedStyle(it).color).slice(0, 3), clear(it)], back);
+        const [high, low] = [light(front), light(back)].sort((one, other) => other - one), ratio = (high + 0.05) / (low + 0.05);
+        if (ratio < 4.5) found.push(words.slice(0, 30) + ' ' + ratio.toFixed(2));
+    }
+    return found.slice(0, 5);
+})()"""
+DROPS = """(() => { const drag = files => { const data = new DataTransfer(); if (files) data.items.add(new File(['x'], 'x')); else data.setData('text/plain', 'x');
+    const event = new DragEvent('dragover', {bubbles: true, cancelable: true, dataTransfer: data}); document.getElementById('plan').dispatchEvent(event); return event.defaultPrevented; };
+    return [drag(false), drag(true)]; })()"""
+
+
+def with_examples(browser, page):
+    """Opens the page with the examples of all views."""
+    begin(browser, page, "forecast")
+    for view, example in EXAMPLES.items():
+        click(browser, f"tab-{view}")
+        click(browser, example)
+        if not browser.wait(f"/given back|with 5 fields/.test(document.getElementById('{view}-sum').textContent)", 60):
+            raise RuntimeError(f"the example of {view} did not come")
+
+
+def misplaced(browser, view, width):
+    """What is wrong with a view in a window of this width, or None."""
+    wide = browser.value(TOO_WIDE)
+    if wide:
+        return f"{wide} is too wide"
+    inputs, main = browser.value(PLACES % view)
+    if width < 800 and inputs[3] > main[1]:
+        return "inputs and picture are not in one column"
+    if width >= 800 and inputs[2] > main[0]:
+        return "the inputs are not at the left of the picture"
+    return f"the picture ends at {main[2]}" if width >= 1280 and main[2] < width - 40 else None
+
+
+def tell_sizes(browser, page, _):
+    """Nothing is too wide at any size; inputs are at the left from 800 on; all tabs are on one line."""
+    with_examples(browser, page)
+    for width, height in SIZES:
+        browser.size(width, height)
+        if width >= 390 and browser.value(TOPS) != 1:
+            return f"at {width} the tabs are on {browser.value(TOPS)} lines"
+        for view in VIEWS:
+            click(browser, f"tab-{view}")
+            browser.frame()
+            fault = misplaced(browser, view, width)
+            if fault:
+                return f"{view} at {width}: {fault}"
+    return None
+
+
+def tell_names(browser, page, _):
+    """Buttons have names of their own, labelled parts have roles, texts have contrast, and a text can be dragged within a field."""
+    browser.size(1280, 800)
+    with_examples(browser, page)
+    for light in LIGHTS:
+        browser.ask("Emulation.setEmulatedMedia", features=[{"name": "prefers-color-scheme", "value": light}])
+        for view in VIEWS:
+            click(browser, f"tab-{view}")
+            browser.wait("document.querySelectorAll('.old').length === 0", 30)
+            names = browser.value(NAMES)
+            twice = sorted({name for name in names if names.count(name) > 1 or not name})
+            if twice:
+                return f"{view} has buttons of one name: {twice}"
+            if browser.value(FAINT):
+                return f"{view}, {light}: {browser.value(FAINT)} are faint"
+    if browser.value(NO_ROLE):
+        return f"{browser.value(NO_ROLE)} have a label and no role"
+    found = browser.value(DROPS)
+    return None if found == [False, True] else f"a text and a file that are dragged are taken: {found}"
+
+
+def tell_saved(browser, page, files):
+    """What is made can be kept: each file that is saved is what the program writes, or what was typed."""
+    browser.ask("Page.setDownloadBehavior", behavior="allow", downloadPath=files["saved"])
+    begin(browser, page, "forecast")
+    for name in ("plan", "script"):
+        browser.choose(f"{name}-file", files[name])
+    give(browser, "packets", "60")
+    browser.wait("document.getElementById('forecast-sum').textContent.includes('of 60')", 60)
+    save = lambda area: browser.value(f"document.querySelector('#{area}-box .files button').click()")
+    save("plan")
+    save("script")
+    click(browser, "save-forecast")
+    click(browser, "tab-fields")
+    give(browser, "fields-bits", "64")
+    browser.choose("fields-file", files["fields"])
+    browser.choose("recording-file", files["recording"])
+    browser.wait("document.getElementById('fields-sum').textContent.includes('with 5 fields')", 60)
+    save("fields")
+    click(browser, "save-table")
+    click(browser, "save-outside")
+    for name, wanted in files["wanted"].items():
+        path = os.path.join(files["saved"], name)
+        for _ in range(100):
+            if os.path.exists(path) and os.path.getsize(path) >= len(wanted):
+                break
+            browser.frame()
+        with open(path, "rb") as file:
+            if file.read() != wanted:
+                return f"{name} is another one"
+    return None
+
+
+def tell_policy(browser, page, _):
+    """No text becomes code, and the tests are not in the page as it ships."""
+    begin(browser, page, "forecast")
+    refused = browser.value("(() => { try { document.createElement('div').innerHTML = '<b>x</b>'; return ''; } catch (fault) { return fault.name; } })()")
+    worker = browser.value("(() => { try { new Worker('data:text/javascript,1'); return ''; } catch (fault) { return fault.name; } })()")
+    with open(page, encoding="utf-8") as file:
+        has_tests = "test_ten_packets" in file.read()
+    return None if (refused, worker, has_tests) == ("TypeError", "TypeError", False) else f"a text as HTML: {refused!r}, another worker: {worker!r}, tests: {has_tests}"

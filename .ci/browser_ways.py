@@ -1,0 +1,268 @@
+"""What is done with the page as it ships, in Chromium: hands and fingers, large files, sizes of a window. Each case gives its fault, or None."""
+
+import os
+import time
+
+TEXT = "(document.getElementById('{}').textContent)"
+IS_STILL = "document.querySelectorAll('.old').length === 0"
+# Notes how late the page draws after a key, in milliseconds.
+LATE = """window.late = 0; document.getElementById('plan').addEventListener('input', event =>
+    requestAnimationFrame(() => setTimeout(() => { window.late = Math.max(window.late, performance.now() - event.timeStamp); }, 0)))"""
+TRIES = 3  # of what is measured on a machine that has other work too
+
+
+def text(browser, part):
+    """The text of a part of the page."""
+    return browser.value(TEXT.format(part))
+
+
+def click(browser, part):
+    browser.value(f"document.getElementById('{part}').click()")
+
+
+def begin(browser, page, view):
+    """Opens the page anew, at a view."""
+    browser.open(f"file://{page}")
+    if not browser.wait("document.querySelector('main')?.hidden === false", 60):
+        raise RuntimeError(f"the page did not begin: {browser.value('document.body.innerText')[:300]!r}")
+    click(browser, f"tab-{view}")
+    browser.wait(IS_STILL, 60)
+
+
+def give(browser, name, value):
+    """Puts a text into a field."""
+    browser.value(f"((field) => {{ field.value = {value!r}; field.dispatchEvent(new Event('input', {{bubbles: true}})); }})(document.getElementById('{name}'))")
+
+
+def seen(browser, strip):
+    """How many packets a strip shows: a tenth of them lie between the first and the one after PageDown."""
+    browser.value(f"document.getElementById('{strip}').focus()")
+    browser.press("Home")
+    browser.press("PageDown")
+    return 10 * int(browser.value(f"document.getElementById('{strip}').getAttribute('aria-valuenow')"))
+
+
+def measured(take, most):
+    """What is measured at the best of some tries is at most so much, or what it is."""
+    found = []
+    for _ in range(TRIES):
+        found.append(take())
+        if isinstance(found[-1], str) or found[-1] <= most:
+            break
+    return found[-1] if isinstance(found[-1], str) or found[-1] > most else None
+
+
+def tell_wheel(browser, page, _):
+    """The wheel scrolls the page; with Ctrl, or on a strip that has the focus, it zooms."""
+    browser.size(1280, 500)
+    begin(browser, page, "forecast")
+    wheel = lambda modifiers: browser.ask("Input.dispatchMouseEvent", type="mouseWheel", deltaX=0, deltaY=-60 if modifiers else 120, modifiers=modifiers, **browser.middle("forecast-strip"))
+    wheel(0)
+    if not browser.wait("scrollY > 0", 10):
+        return "the wheel over the strip does not scroll the page"
+    browser.value("scrollTo(0, 0)")
+    if seen(browser, "forecast-strip") != 1000:
+        return f"a wheel that scrolls leaves {seen(browser, 'forecast-strip')} packets in sight"
+    browser.value("document.activeElement.blur()")
+    wheel(2)
+    found = seen(browser, "forecast-strip")
+    if not 0 < found < 1000:
+        return f"the wheel with Ctrl leaves {found} packets in sight"
+    wheel(8)  # with Shift, and the focus is on the strip: it moves what is seen
+    return None if browser.value("scrollY") == 0 else "the wheel scrolls the page though the strip has the focus"
+
+
+def tell_fingers(browser, page, _):
+    """A swipe up scrolls the page, two fingers zoom, and no finger makes a row."""
+    browser.size(390, 700)
+    browser.ask("Emulation.setTouchEmulationEnabled", enabled=True, maxTouchPoints=2)
+    try:
+        begin(browser, page, "forecast")
+        texts = "document.getElementById('plan').value + document.getElementById('script').value"
+        before = browser.value(texts)
+        fault = by_fingers(browser)
+        return fault or (None if browser.value(texts) == before else "fingers changed the schedule or the losses")
+    finally:
+        browser.ask("Emulation.setTouchEmulationEnabled", enabled=False)
+
+
+def by_fingers(browser):
+    """What is wrong after a swipe up, two fingers, a swipe to the side and a button, or None."""
+    show = "document.getElementById('forecast-strip').scrollIntoView({block: 'center'})"
+    browser.value(show)
+    place, top = browser.middle("forecast-strip"), browser.value("scrollY")
+    x, y = place["x"], place["y"]
+    browser.touch(((x, y), (x, y - 150)))
+    if not browser.wait(f"scrollY > {top} + 80", 10):
+        return "a swipe over the strip does not scroll the page"
+    browser.value(show)
+    browser.touch(((x - 30, y), (x - 110, y)), ((x + 30, y), (x + 110, y)))
+    found = seen(browser, "forecast-strip")
+    if not 0 < found < 700:
+        return f"two fingers leave {found} packets in sight"
+    browser.touch(((x, y), (x - 100, y)))
+    if seen(browser, "forecast-strip") != found:
+        return f"a swipe to the side leaves {seen(browser, 'forecast-strip')} packets in sight"
+    browser.value("document.querySelector('#forecast-zoom button:nth-child(2)').click()")
+    return None if seen(browser, "forecast-strip") > found else "the button − does not zoom out"
+
+
+def tell_drag(browser, page, _):
+    """A press and a short drag add no row; a longer one adds the row that was shown, and Z takes it back."""
+    browser.size(1280, 800)
+    begin(browser, page, "forecast")
+    browser.value("document.getElementById('forecast-strip').scrollIntoView({block: 'center'})")
+    place, losses = browser.middle("forecast-strip"), "document.getElementById('script').value"
+    before = browser.value(losses)
+    mouse = lambda kind, shift: browser.ask("Input.dispatchMouseEvent", type=kind, button="left", buttons=1, clickCount=1, x=place["x"] + shift, y=place["y"])
+    for shift, more in ((0, 0), (4, 0), (60, 1)):
+        mouse("mousePressed", 0)
+        mouse("mouseMoved", shift)
+        time.sleep(0.4)
+        mouse("mouseReleased", shift)
+        found = browser.value(losses).removeprefix(before).count("drop,")
+        if found != more:
+            return f"a drag by {shift} adds {found} rows"
+    if "Z takes it back" not in text(browser, "forecast-change"):
+        return f"after a drag it says {text(browser, 'forecast-change')!r}"
+    browser.press("z")
+    return None if browser.value(losses) == before else "Z does not take the row back"
+
+
+def looked_at(browser, strip, part, words, keys):
+    """Waits for what a part says, and presses keys on a strip; gives what it says in its place, or None."""
+    if not browser.wait(f"document.getElementById('{part}').textContent.includes('{words}')", 120):
+        return f"it says {text(browser, part)!r}"
+    browser.value(f"document.getElementById('{strip}').focus()")
+    for key in keys:
+        browser.press(key)
+    browser.frame()
+    time.sleep(0.3)
+    return None
+
+
+def tell_million(browser, page, files):
+    """A store of a million packets: what is told of it, and no task of the page above 50 milliseconds."""
+    browser.size(1280, 800)
+
+    def work():
+        browser.choose("store-file", files["million"])
+        return looked_at(browser, "store-strip", "store-sum", "given back", ("n", "+", "+", "+", "0", "End", "p", "PageUp"))
+
+    def take():
+        begin(browser, page, "store")
+        give(browser, "store-bits", "64")
+        return browser.longest_task(work)
+
+    fault = measured(take, 50)
+    if fault:
+        return fault if isinstance(fault, str) else f"its longest task takes {fault} milliseconds"
+    arrived, written = files["million_told"]
+    sum_of = text(browser, "store-sum")
+    return None if sum_of.startswith(f"{written:,} of 1,000,000 packets given back; {arrived:,} arrived") else f"it says {sum_of!r}"
+
+
+def tell_fields(browser, page, files):
+    """A table of 40 fields by 100,000 packets has no task above 50 milliseconds; eight curves and the values are in sight at 1280 by 800."""
+    browser.size(1280, 800)
+
+    def work():
+        browser.choose("recording-file", files["forty"], files["forty_fields"])
+        return looked_at(browser, "fields-strip", "fields-sum", "40 fields", ("+", "+", "0", "n", "End", "PageUp"))
+
+    def take():
+        begin(browser, page, "fields")
+        give(browser, "fields-bits", "320")
+        return browser.longest_task(work)
+
+    fault = measured(take, 50)
+    if fault:
+        return fault if isinstance(fault, str) else f"its longest task takes {fault} milliseconds"
+    last = browser.value("document.querySelectorAll('#curves canvas')[7]?.getBoundingClientRect().bottom")
+    if not last or last > 800:
+        return f"the eighth curve ends at {last}"
+    side = browser.value("(box => [box.left, box.top])(document.getElementById('fields-words').getBoundingClientRect())")
+    right = browser.value("document.getElementById('curves').getBoundingClientRect().right")
+    return None if side[0] >= right and side[1] < 400 else f"the values begin at {side}, and the curves end at {right}"
+
+
+def tell_typing(browser, page, files):
+    """Typing in a schedule of 10,000 rows is never late by more than 100 milliseconds."""
+    browser.size(1280, 800)
+
+    def take():
+        begin(browser, page, "forecast")
+        give(browser, "packets", "1000000")
+        browser.choose("plan-file", files["rows"])
+        if not browser.wait("document.getElementById('plan').value.length > 100000", 30):
+            return "the schedule was not opened"
+        browser.value(LATE)
+        browser.value("document.getElementById('plan').focus()")
+        for key in "\r7,9,1,r":
+            browser.press("Enter" if key == "\r" else key)
+            time.sleep(0.08)
+        browser.frame()
+        return browser.value("window.late")
+
+    fault = measured(take, 100)
+    if fault:
+        return fault if isinstance(fault, str) else f"it is late by {fault} milliseconds"
+    return None if browser.wait("document.getElementById('forecast-sum').textContent.includes('of 1,000,000')", 60) else f"it says {text(browser, 'forecast-sum')!r}"
+
+
+def tell_no_store(browser, page, files):
+    """A gigabyte of zeros or of random bytes is refused by its first header that is none, within a second."""
+    for name in ("zeros", "random"):
+        def take(name=name):
+            begin(browser, page, "store")
+            give(browser, "store-bits", "64")
+            browser.value("""window.began = 0; window.took = 0; document.getElementById('store-file').addEventListener('change', () => { window.began = performance.now(); }, {capture: true});
+                new MutationObserver(() => { window.took ||= performance.now() - window.began; }).observe(document.getElementById('store-refusal'), {childList: true})""")
+            browser.choose("store-file", files[name])
+            if not browser.wait("window.took > 0 && !document.getElementById('store-refusal').hidden", 60):
+                return f"{name}: it says {text(browser, 'store-sum')!r}"
+            said = text(browser, "store-refusal")
+            return browser.value("window.took") if "The program says: store packet at byte" in said else f"{name}: it says {said!r}"
+
+        fault = measured(take, 1000)
+        if fault:
+            return fault if isinstance(fault, str) else f"{name} are refused after {fault} milliseconds"
+    return None
+
+
+def tell_cancel(browser, page, files):
+    """What is read is told, and can be ended; the picture of before stays, and a file that is gone is said to be so."""
+    browser.size(1280, 800)
+    begin(browser, page, "store")
+    give(browser, "store-bits", "64")
+    browser.choose("store-file", files["small"])
+    if not browser.wait("document.getElementById('store-sum').textContent.includes('given back')", 60):
+        return f"it says {text(browser, 'store-sum')!r}"
+    before = text(browser, "store-sum")
+    browser.choose("store-file", files["long"])
+    told = browser.wait("/reading [0-9,]+ of 1,0[0-9]+ MB/.test(document.getElementById('store-busy').textContent) && document.getElementById('store-busy').textContent", 60)
+    dim = browser.value("document.getElementById('store-picture').classList.contains('old')")
+    browser.value("document.querySelector('#store-busy button').click()")
+    if not told or not dim or not browser.wait("document.getElementById('store-busy').textContent.startsWith('Cancelled')", 10):
+        return f"it says {told or text(browser, 'store-busy')!r}; its picture is dim: {dim}"
+    if text(browser, "store-sum") != before:
+        return f"after that it says {text(browser, 'store-sum')!r}"
+    browser.choose("store-file", files["small"])
+    browser.wait(f"{IS_STILL} && document.getElementById('store-busy').hidden", 60)
+    os.remove(files["small"])
+    give(browser, "store-bits", "72")
+    if not browser.wait("/can't be read/.test(document.getElementById('store-refusal').textContent)", 30):
+        return f"of a file that is gone it says {text(browser, 'store-refusal')!r}, {text(browser, 'store-sum')!r}"
+    return None
+
+
+def tell_start(browser, page, files):
+    """A module that can't start is said to be so."""
+    with open(page, encoding="utf-8") as file:
+        whole = file.read()
+    front, _, rest = whole.partition('id="module">')
+    with open(files["broken"], "w", encoding="utf-8") as file:
+        file.write(front + 'id="module">AAAA' + rest[rest.index("</script>"):])
+    browser.open(f"file://{files['broken']}")
+    said = browser.wait("document.getElementById('fault')?.hidden === false && document.getElementById('fault').textContent", 30)
+    return None if said and said.startswith("The program can't be run in this browser: ") else f"it says {said!r}"

@@ -1,0 +1,47 @@
+// What a forecast says of a packet, in words.
+
+import { records_of } from './records.js';
+import { GONE, OPEN, SURE } from './runs.js';
+import { grouped, range_words } from './text.js';
+
+// The packet at which an open packet's trouble begins: the first one after the latest sure packet that arrives and is not sure.
+// `sure` is that latest sure packet, or -1; `lost` are the ranges of lost packets between the two.
+export function trouble_of(runs, at) {
+  let place = runs.place_of(at);
+  while (place >= 0 && runs.kind[place] !== SURE) place -= 1;
+  const sure = place < 0 ? -1 : runs.last(place), lost = [];
+  for (place += 1; place < runs.size && runs.kind[place] === GONE; place += 1) lost.push([runs.first[place], runs.last(place)]);
+  return { sure, head: runs.first[place], lost };
+}
+
+export function first_open(runs) {
+  for (let place = 0; place < runs.size; place += 1) {
+    if (runs.kind[place] === OPEN) return runs.first[place];
+  }
+  return -1;
+}
+
+// The row of a script that drops a packet, and its number: the last row that names it decides. Null if none does.
+function dropping_row(script, at) {
+  const rows = records_of(script);
+  for (let row = rows.length - 1; row >= 0; row -= 1) {
+    const [word, first, last, step] = rows[row].text.split(',');
+    const names = at >= Number(first) && at <= Number(last) && (at - Number(first)) % Number(step) === 0;
+    if (names) return word === 'drop' ? { number: row + 1, text: rows[row].text } : null;
+  }
+  return null;
+}
+
+// A packet of a forecast in words.
+export function forecast_words(runs, script, at) {
+  const name = `packet ${grouped(at)}`, kind = runs.kind_at(at);
+  if (kind === SURE) return `${name} is sure: it is written, whatever the recording is`;
+  if (kind === GONE) {
+    const row = dropping_row(script, at);
+    return `${name} is lost: no copy of it arrives${row ? ` (row ${row.number} of the losses, ${row.text})` : ''}`;
+  }
+  const { sure, head, lost } = trouble_of(runs, at);
+  const after = sure < 0 ? 'No packet before it is sure; ' : `The latest sure packet before it is ${grouped(sure)}; after that `;
+  const loss = lost.map(([first, last]) => `${range_words(first, last)} (${last - first + 1} in a row) ${first === last ? 'is' : 'are'} lost`).join(', ');
+  return `${name} is open: it arrives, and the recording decides. ${after}${loss || `packet ${grouped(head)} builds on a mask that is not sure`}`;
+}

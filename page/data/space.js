@@ -1,0 +1,63 @@
+// The Space Packets of a store: where each begins. What is no store is told by the program alone.
+
+// The bytes of the Space Packet that begins here, with its header.
+export function packet_length(store, at) {
+  return 7 + store[at + 4] * 256 + store[at + 5];
+}
+
+export function apid_at(store, at) {
+  return ((store[at] & 7) << 8) | store[at + 1];
+}
+
+// Whether a header is of telemetry that is not segmented and has no secondary header.
+function has_shape(store, at) {
+  return (store[at] & 0x18) === 0 && (store[at + 2] & 0xc0) === 0xc0;
+}
+
+const MOST_SHAPELESS = 1000;
+
+// Walks over the headers of a store while it is read, and counts the packets of each APID. It stops at the first header that is none: of
+// another version; or if so many packets at the beginning have a shape that is never judged, which is no store of this program.
+export class Walk {
+  constructor(bytes) {
+    Object.assign(this, { bytes, at: 0, apids: new Map(), shapeless: 0, is_none: false });
+  }
+
+  // Whether so many bytes have all of the packet that is none.
+  is_told(count) {
+    return this.is_none && this.at + packet_length(this.bytes, this.at) <= count;
+  }
+
+  // So many bytes are there now.
+  read(count) {
+    const { bytes, apids } = this;
+    while (!this.is_none && this.at + 7 <= count) {
+      const { at } = this, end = at + packet_length(bytes, at), apid = apid_at(bytes, at);
+      if (this.shapeless >= 0) this.shapeless = has_shape(bytes, at) ? -1 : this.shapeless + 1;
+      this.is_none = bytes[at] >> 5 !== 0 || this.shapeless > MOST_SHAPELESS;
+      if (this.is_none || end > count) return;
+      apids.set(apid, (apids.get(apid) || 0) + 1);
+      this.at = end;
+    }
+  }
+}
+
+// Where the packets of an APID begin, in order.
+export function arrivals_of(store, apid) {
+  const places = [];
+  for (let at = 0; at + 7 <= store.length; at += packet_length(store, at)) {
+    if (apid_at(store, at) === apid && at + packet_length(store, at) <= store.length) places.push(at);
+  }
+  return Float64Array.from(places);
+}
+
+// How often the sequence counts of an APID fall back: packets came in another order than they were sent. `places` are their beginnings.
+export function falls_back(store, places) {
+  let falls = 0, before = -1;
+  for (const at of places) {
+    const count = ((store[at + 2] & 63) << 8) | store[at + 3];
+    if (before >= 0 && ((count - before + 16384) % 16384) > 8192) falls += 1;
+    before = count;
+  }
+  return falls;
+}

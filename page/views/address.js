@@ -1,0 +1,42 @@
+// The forecast's texts in the page's address, so that a link shows the same.
+
+import { Later } from './parts.js';
+import { EXAMPLE } from '../data/example.js';
+
+const MOST_LETTERS = 30000; // longer texts are in no link
+
+export function address_of(asked) {
+  return '#' + ['packets', 'robust', 'plan', 'script'].map((name) => `${name}=${encodeURIComponent(asked[name]).replace(/%2C/g, ',')}`).join('&');
+}
+
+// The forecast's texts out of an address, or null if it has none.
+export function remembered(address) {
+  const found = {};
+  for (const text of address.slice(1).split('&')) {
+    const [name, value] = [text.slice(0, text.indexOf('=')), text.slice(text.indexOf('=') + 1)];
+    try {
+      if (name in EXAMPLE) found[name] = decodeURIComponent(value);
+    } catch (_) {
+      return null;
+    }
+  }
+  return Object.keys(found).length ? { packets: '1000', robust: '2', plan: '', script: '', ...found } : null;
+}
+
+let latest = null;
+
+const remembering = new Later(() => {
+  const address = latest.plan.length + latest.script.length > MOST_LETTERS ? '#' : address_of(latest);
+  if (location.hash === address || location.hash === '#tests') return;
+  try {
+    history.replaceState(null, '', address);
+  } catch (_) {
+    history.replaceState(null, '', '#'); // too long for this browser
+  }
+}, 300);
+
+// Puts the forecast's texts into the page's address after a while.
+export function remember(asked) {
+  latest = asked;
+  remembering.start();
+}

@@ -1,0 +1,59 @@
+// Units, scales and times, on the page alone: the program's table, its report and its limits have the values as they are.
+
+import { fields_of } from '../data/records.js';
+
+const NONE = { unit: '', scale: 1, offset: 0, is_own: false };
+
+// The units of a text with rows name,unit,scale or name,unit,scale,offset; or the number of the first row that is none.
+export function read_units(text) {
+  const units = new Map();
+  let row = 0;
+  for (const cells of fields_of(text)) {
+    row += 1;
+    const [name, unit, scale = '1', offset = '0'] = cells.map((cell) => cell.trim());
+    const is_row = name && unit !== undefined && cells.length <= 4 && scale !== '' && offset !== '' && Number.isFinite(Number(scale) + Number(offset)) && Number(scale) !== 0;
+    if (!is_row) return { units, wrong: row };
+    units.set(name, { unit, scale: Number(scale), offset: Number(offset), is_own: true });
+  }
+  return { units, wrong: 0 };
+}
+
+export function unit_of(units, name) {
+  return units.get(name) ?? NONE;
+}
+
+// A number with at most six digits that count.
+export function short_number(number) {
+  return String(Number(number.toPrecision(6)));
+}
+
+// A value in its unit; `cell` is how the table has it.
+export function value_words(unit, cell) {
+  if (!unit.is_own) return cell;
+  const scaled = unit.scale === 1 && unit.offset === 0;
+  return scaled ? `${cell} ${unit.unit}` : `${short_number(Number(cell) * unit.scale + unit.offset)} ${unit.unit} (${cell})`;
+}
+
+// Where ticks stand between two values, at most so many: steps of 1, 2 or 5 times a power of ten.
+export function ticks_between(low, high, most) {
+  const least = (high - low) / most;
+  if (!(least > 0)) return [low];
+  const power = 10 ** Math.floor(Math.log10(least)), step = power * [1, 2, 5, 10].find((factor) => power * factor >= least), found = [];
+  for (let tick = Math.ceil(low / step - 1e-9) * step; tick <= high + step * 1e-9; tick += step) found.push(Number(tick.toPrecision(12)));
+  return found;
+}
+
+// A number of seconds as hours, minutes and seconds.
+function clock_words(seconds) {
+  const whole = Math.floor(Math.abs(seconds)), two = (number) => String(number).padStart(2, '0');
+  const rest = Math.abs(seconds) - whole > 1e-6 ? (Math.abs(seconds) - whole).toFixed(3).slice(1) : '';
+  return `${seconds < 0 ? '−' : ''}${Math.floor(whole / 3600)}:${two(Math.floor(whole / 60) % 60)}:${two(whole % 60)}${rest}`;
+}
+
+// What the time axis says: of each packet so many seconds after a start, or since it. `start` is a time in milliseconds or null.
+export function time_words(seconds, start) {
+  if (!Number.isFinite(seconds)) return '–';
+  if (start === null) return clock_words(seconds);
+  const time = new Date(start + 1000 * seconds);
+  return Number.isFinite(time.getTime()) ? time.toISOString().replace('T', ' ').replace(/(\.000)?Z$/, '') : '–';
+}

@@ -1,0 +1,47 @@
+// The time axis of a recording, on the page alone: a start and a step, or a field that has seconds.
+
+import { element, fill, part } from './parts.js';
+import { time_words, unit_of } from './scale.js';
+
+export class TimeAxis {
+  // `changed` is called when the axis is another one.
+  constructor(changed) {
+    Object.assign(this, { fields: [] });
+    for (const id of ['time-kind', 'time-start', 'time-step', 'time-field']) {
+      part(id).addEventListener('input', () => {
+        this.tell();
+        changed();
+      });
+    }
+    this.tell();
+  }
+
+  show(fields) {
+    const { value } = part('time-field');
+    this.fields = fields;
+    fill(part('time-field'), ...fields.map((field) => element('option', { value: field.name }, field.name)));
+    if (fields.some((field) => field.name === value)) part('time-field').value = value;
+  }
+
+  tell() {
+    const kind = part('time-kind').value, start = part('time-start').value.trim();
+    part('time-start-box').hidden = kind === 'number';
+    part('time-step-box').hidden = kind !== 'step';
+    part('time-field-box').hidden = kind !== 'field';
+    this.start = start === '' ? null : Date.parse(/[zZ]$|[+-]\d\d:\d\d$/.test(start) ? start : `${start}Z`);
+    part('time-start').setAttribute('aria-invalid', String(this.start !== null && !Number.isFinite(this.start)));
+  }
+
+  // What gives the time of a packet in words, or null if the axis has the packets' numbers. `view` has the places and the units.
+  words(view) {
+    const kind = part('time-kind').value, step = Number(part('time-step').value), start = Number.isFinite(this.start) ? this.start : null;
+    const field = this.fields.find((one) => one.name === part('time-field').value);
+    if (kind === 'step' && Number.isFinite(step)) return (number) => time_words(number * step, start);
+    if (kind !== 'field' || !field) return null;
+    const { scale, offset } = unit_of(view.units, field.name);
+    return (number) => {
+      const t = view.places.of(number);
+      return t < 0 ? '–' : time_words(field.values[t] * scale + offset, start);
+    };
+  }
+}
