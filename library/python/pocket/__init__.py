@@ -22,15 +22,22 @@ from __future__ import annotations
 import ctypes
 import ctypes.util
 import enum
+import operator
 import os
+import threading
 from dataclasses import dataclass
-from typing import Any, BinaryIO, Iterator, Mapping, Optional, Type, TypeVar
+from typing import Any, BinaryIO, Iterator, Mapping, Optional, Type, TypeVar, Union
 
 __all__ = ["Arrival", "BitsOutOfRange", "Broken", "Closed", "Counts", "CountOutOfRange", "Desk", "Kind", "NoState", "NotText",
            "OutOfMemory", "PocketError", "Receiver", "Refused", "RobustnessOutOfRange", "Sender", "Sent", "SpareBitSet", "SpacePacket",
            "StoreError", "TooLong", "TooManyPackets", "TooManyWords", "WrongLength", "packed", "run", "space_packets"]
 
+__version__ = "1.1.0"
+
 MOST_BITS = 49152
+
+#: What has bytes.
+Data = Union[bytes, bytearray, memoryview]
 
 
 class PocketError(Exception):
@@ -197,6 +204,7 @@ def _done(status: int) -> None:
 
 def _in_range(number: int, most: int, kind: type, text: str) -> int:
     """A number from 0 to the greatest that the type of a call can say."""
+    number = operator.index(number)
     if not 0 <= number <= most:
         raise kind(text)
     return number
@@ -260,15 +268,19 @@ _Own = TypeVar("_Own", bound="_Held")
 
 
 class _Held:
-    """A handle that is closed at the end of a `with`, or with its object."""
+    """A handle that is closed at the end of a `with`, or with its object. One call at a time is made with it: another thread waits."""
 
     def __init__(self) -> None:
+        if hasattr(self, "_handle"):
+            raise PocketError("it was opened already")
         self._close = _library.pocket_close
+        self._lock = threading.RLock()
         self._handle = _Handle()
 
     def close(self) -> None:
         """Gives back its memory. A second time does nothing."""
-        self._close(self._handle)
+        with self._lock:
+            self._close(self._handle)
 
     def __enter__(self: _Own) -> _Own:
         return self
@@ -293,34 +305,39 @@ class _Kept(_Held):
     def save(self) -> bytes:
         """Its state, from which `load` goes on, on any processor. Only the library made of the one C file has this."""
         size = ctypes.c_size_t()
-        _done(_states().pocket_state_size(self._handle, size))
-        state = ctypes.create_string_buffer(size.value)
-        _done(_states().pocket_save(self._handle, state, len(state), size))
+        with self._lock:
+            _done(_states().pocket_state_size(self._handle, size))
+            state = ctypes.create_string_buffer(size.value)
+            _done(_states().pocket_save(self._handle, state, len(state), size))
         return state.raw
 
     @classmethod
-    def load(cls: Type[_State], state: bytes) -> _State:
+    def load(cls: Type[_State], state: Data) -> _State:
         """A sender or a receiver that goes on from the state of one. Only the library made of the one C file has this."""
-        held = cls(int.from_bytes(state[8:12], "big") if len(state) > 32 else 1)
-        _done(_states().pocket_load(held._handle, bytes(state), len(state)))
+        own = _taken(state)
+        held = cls(int.from_bytes(own[8:12], "big") if len(own) > 32 else 1)
+        _done(_states().pocket_load(held._handle, own, len(own)))
         return held
 
 
 class Sender(_Kept):
     """Makes the packet of each input of `bits` bits, 1 to 49,152. The first mask has ceil(bits / 8) bytes, or is zeros."""
 
-    def __init__(self, bits: int, mask: bytes = b"") -> None:
+    def __init__(self, bits: int, mask: Data = b"") -> None:
         super().__init__(bits)
-        _done(_library.pocket_sender_open(self._handle, _bits(bits), bytes(mask), len(mask)))
+        own = _taken(mask)
+        _done(_library.pocket_sender_open(self._handle, _bits(bits), own, len(own)))
         self._data = ctypes.create_string_buffer((10 * bits + 50) // 8)
         self._length, self._level = ctypes.c_size_t(), ctypes.c_uint8()
 
-    def send(self, content: bytes, robustness: int = 0, *, new_mask: bool = False, send_mask: bool = False, whole: bool = False) -> Sent:
+    def send(self, content: Data, robustness: int = 0, *, new_mask: bool = False, send_mask: bool = False, whole: bool = False) -> Sent:
         """The packet of the next input, of ceil(bits / 8) bytes, with a required robustness of 0 to 7 packets."""
+        own = _taken(content)
         robustness = _in_range(robustness, 255, RobustnessOutOfRange, "the required robustness is above 7")
-        _done(_library.pocket_send(self._handle, bytes(content), len(content), new_mask, send_mask, whole, robustness, self._data,
-                                   len(self._data), self._length, self._level))
-        return Sent(ctypes.string_at(self._data, self._length.value), self._level.value)
+        with self._lock:
+            _done(_library.pocket_send(self._handle, own, len(own), bool(new_mask), bool(send_mask), bool(whole), robustness, self._data,
+                                       len(self._data), self._length, self._level))
+            return Sent(ctypes.string_at(self._data, self._length.value), self._level.value)
 
 
 class Receiver(_Kept):
@@ -332,20 +349,22 @@ class Receiver(_Kept):
         self._content = ctypes.create_string_buffer((bits + 7) // 8)
         self._finding, self._tally = _Finding(), _Tally()
 
-    def receive(self, count: int, data: bytes) -> Arrival:
+    def receive(self, count: int, data: Data) -> Arrival:
         """What is found of the next packet that arrived, by its sequence count, 0 to 16,383, and at most 65,536 bytes of data."""
-        found = self._finding
+        found, own = self._finding, _taken(data)
         count = _in_range(count, 65535, CountOutOfRange, "the sequence count is above 16383")
-        _done(_library.pocket_receive(self._handle, count, bytes(data), len(data), self._content, len(self._content), found))
-        kind = Kind(found.kind)
-        content = self._content.raw if kind == Kind.WRITTEN else None
-        lost = range(found.first_lost, found.first_lost + found.lost)
-        return Arrival(found.number, kind, found.value, lost, found.mask_alone, content)
+        with self._lock:
+            _done(_library.pocket_receive(self._handle, count, own, len(own), self._content, len(self._content), found))
+            kind = Kind(found.kind)
+            content = self._content.raw if kind == Kind.WRITTEN else None
+            lost = range(found.first_lost, found.first_lost + found.lost)
+            return Arrival(found.number, kind, found.value, lost, found.mask_alone, content)
 
     def counts(self) -> Counts:
         """The numbers of the arrivals so far."""
-        _done(_library.pocket_counts(self._handle, self._tally))
-        return Counts(self._tally.packets, self._tally.written, self._tally.repeats, self._tally.listed)
+        with self._lock:
+            _done(_library.pocket_counts(self._handle, self._tally))
+            return Counts(self._tally.packets, self._tally.written, self._tally.repeats, self._tally.listed)
 
 
 class Desk(_Held):
@@ -357,10 +376,11 @@ class Desk(_Held):
         self._text = ctypes.create_string_buffer(128)
         self._length, self._exit = ctypes.c_size_t(), ctypes.c_uint8()
 
-    def put(self, name: str, content: bytes) -> None:
+    def put(self, name: str, content: Data) -> None:
         """Keeps bytes under a name, in place of what was kept under it."""
-        coded = _utf8(name)
-        _done(_library.pocket_put(self._handle, coded, len(coded), bytes(content), len(content)))
+        coded, own = _utf8(name), _taken(content)
+        with self._lock:
+            _done(_library.pocket_put(self._handle, coded, len(coded), own, len(own)))
 
     def run(self, *words: str) -> None:
         """Runs the command of the words: the verb, and its words in any order. A command that is refused raises `Refused`. If there is no
@@ -368,34 +388,43 @@ class Desk(_Held):
         coded = [_utf8(word) for word in words]
         if len(coded) > 1000:
             raise TooManyWords("the command has too many words")
-        for word in coded:
-            status = _library.pocket_word(self._handle, word, len(word))
-            if status:
-                self.close()
-            _done(status)
-        _done(_library.pocket_run(self._handle, self._text, len(self._text), self._length, self._exit))
-        if self._exit.value:
-            raise Refused(ctypes.string_at(self._text, self._length.value).decode(), self._exit.value)
+        with self._lock:
+            for word in coded:
+                status = _library.pocket_word(self._handle, word, len(word))
+                if status:
+                    self.close()
+                _done(status)
+            _done(_library.pocket_run(self._handle, self._text, len(self._text), self._length, self._exit))
+            if self._exit.value:
+                raise Refused(ctypes.string_at(self._text, self._length.value).decode(), self._exit.value)
 
     def get(self, name: str) -> bytes:
         """What is kept under a name: no byte if it was never put or written."""
         coded, length, found = _utf8(name), self._length, self._text
-        status = _library.pocket_get(self._handle, coded, len(coded), found, len(found), length)
-        if status == 11:
-            found = ctypes.create_string_buffer(length.value)
+        with self._lock:
             status = _library.pocket_get(self._handle, coded, len(coded), found, len(found), length)
-        _done(status)
-        return ctypes.string_at(found, length.value)
+            if status == 11:
+                found = ctypes.create_string_buffer(length.value)
+                status = _library.pocket_get(self._handle, coded, len(coded), found, len(found), length)
+            _done(status)
+            return ctypes.string_at(found, length.value)
+
+
+def _taken(content: Data) -> bytes:
+    """The bytes of what has a buffer, taken once: what an object says of its length is not asked."""
+    return memoryview(content).tobytes()
 
 
 def _utf8(text: str) -> bytes:
+    if not isinstance(text, str):
+        raise TypeError(f"a name or a word is a text, and not {type(text).__name__}")
     try:
         return text.encode()
     except UnicodeEncodeError:
         raise NotText("it is not UTF-8") from None
 
 
-def run(*words: str, inputs: Optional[Mapping[str, bytes]] = None) -> dict[str, bytes]:
+def run(*words: str, inputs: Optional[Mapping[str, Data]] = None) -> dict[str, bytes]:
     """Runs one command of the program in memory, over inputs by name. Gives what it wrote, by the names of the words out= and report=."""
     with Desk() as desk:
         for name, content in (inputs or {}).items():
