@@ -46,3 +46,13 @@ left-finished a b c o i name bytes None held some named written keeps opens = cc
 left-finished a b c o i name bytes (Some kept) held some named written keeps opens =
     let after = ap (λ m. m.held) keeps ∙ (λ j. kept_after (held j) (named j) (written j)) in
     subst (λ l. IfSome (left c i) (λ rest. rest ≡ l)) (kept_here kept name bytes name (nat_list_eq_equiv.refl name)) (left-opened b c i name (map.insert kept name bytes) after opens)
+
+-- what is held stays held if one more thing is kept
+pub IsSome-insert : (kept : Kept) (name bytes sought : List ℕ) → IsSome (map.get kept sought) → IsSome (map.get (map.insert kept name bytes) sought)
+IsSome-insert kept name bytes sought some =
+    subst IsSome (sym (map.get-insert nat_list_cmp_total kept name bytes sought ∙ ap (λ b. cond b (Some bytes) (map.get kept sought)) (is_eq-slice_cmp sought name)))
+    (either (bytes_eq sought name))
+  where
+    either : (same : Bool) → IsSome (cond same (Some bytes) (map.get kept sought))
+    either true = search
+    either false = some

@@ -11,3 +11,4 @@ pub mod Cursors
 pub mod Held
 pub mod KeptInputs
 pub mod Writings
+pub mod Granting

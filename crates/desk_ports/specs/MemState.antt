@@ -111,6 +111,10 @@ no_calls = record { calls = 0; failing = [] }
 abbrev pub empty_plan : MemPlan
 empty_plan = record { open_in = no_calls; open_out = no_calls; read = no_calls; write = no_calls; finish = no_calls }
 
+-- no fault, and no allocation that was refused
+abbrev pub no_faults : MemFaults
+no_faults = record { reads = 0; writes = 0; short = 0 }
+
 -- a new desk: nothing is open or held, and nothing has failed
 abbrev pub empty_desk : MemState
 empty_desk = record {
@@ -121,7 +125,7 @@ empty_desk = record {
   held = map.empty;
   pieces = None;
   plan = empty_plan;
-  faults = record { reads = 0; writes = 0; short = 0 };
+  faults = no_faults;
 }
 
 -- the bytes still to come at an inlet
@@ -191,6 +195,14 @@ also_failing plan call nth = with_calls plan call (with_failing (calls_of plan c
 -- the next call of this kind was named as one that fails
 abbrev pub IsNamed : MemState → Call → Type 0
 IsNamed state call = IsNextFailing (calls_of state.plan call)
+
+-- no call is told to fail
+pub record NothingFails (plan : MemPlan) : Type 0 where
+  pub open_in : plan.open_in.failing ≡ []
+  pub open_out : plan.open_out.failing ≡ []
+  pub read : plan.read.failing ≡ []
+  pub write : plan.write.failing ≡ []
+  pub finish : plan.finish.failing ≡ []
 
 -- after one more fault of reading
 abbrev pub read_fault : MemFaults → MemFaults

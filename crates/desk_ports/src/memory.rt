@@ -1,10 +1,10 @@
 //! The desk in memory, whose calls can be told to fail.
 
-ghost use Rattle.std.specs.Prelude.{◌≡◌, ◌≤◌, ◌<◌, ◌↔◌, ◌⊎◌, length, min, take, Some, None, IsTrue, IsErr, IfOk, OnOk, OnErr};
+ghost use Rattle.std.specs.Prelude.{◌≡◌, ◌≤◌, ◌<◌, ◌↔◌, ◌⊎◌, length, min, take, is_some, Some, None, IsTrue, IsErr, IfOk, OnOk, OnErr};
 ghost use Rattle.std.specs.FinMap as map;
 ghost use Rattle.std.specs.Io.KnownBytes.{IsAtEnd};
 ghost use Rattle.desk_ports.specs.Meanings.{Opens, Begins, Moves, Adds, Keeps, IsReadyIn, IsReadyOut, HasReadCause, HasWriteCause, left, kept_at, next_count};
-ghost use Rattle.desk_ports.specs.MemState.{empty_desk, mem_left, mem_made, mem_meanings, mem_counts, capped, also_failing, IsNamed, IsCalled, read_fault, write_fault, refusal};
+ghost use Rattle.desk_ports.specs.MemState.{empty_desk, no_faults, mem_left, mem_made, mem_meanings, mem_counts, capped, also_failing, IsNamed, IsCalled, read_fault, write_fault, refusal};
 
 use crate::calls::{Call, Plan};
 use crate::desk::{Desk, Failed, Inlet, Outlet};
@@ -57,6 +57,16 @@ struct Faults {
 }
 
 impl Faults {
+    fn none() -> Faults
+        ensures { result ≡ record { reads = 0; writes = 0; short = 0 } }
+    {
+        Faults {
+            reads: 0,
+            writes: 0,
+            short: 0,
+        }
+    }
+
     fn read(&mut self) -> Failed
         ensures counted { self.new ≡ record self.old { reads = next_count self.old.reads } }
         ensures rises { self.old.reads ≤ self.new.reads }
@@ -131,11 +141,7 @@ impl MemDesk {
             report: Written::closed(alloc),
             pieces: None,
             plan: Plan::none(alloc),
-            faults: Faults {
-                reads: 0,
-                writes: 0,
-                short: 0,
-            },
+            faults: Faults::none(),
         }
     }
 
@@ -156,6 +162,13 @@ impl MemDesk {
             Some(at) => self.log[at].bytes(),
             None => &[],
         }
+    }
+
+    /// Whether something is kept under the name.
+    pub fn holds(&self, name: &str) -> bool
+        ensures { result ≡ is_some (map.get self.now.held name.now) }
+    {
+        newest(&self.log, name.as_bytes()).is_some()
     }
 
     /// The bytes that were written to an outlet since it was opened.
@@ -183,6 +196,13 @@ impl MemDesk {
         ensures err { OnErr result (self.new ≡ self.old) }
     {
         Ok(self.plan.fail(call, nth)?)
+    }
+
+    /// Counts faults from none on.
+    pub fn recount(&mut self)
+        ensures { self.new ≡ record self.old { faults = no_faults } }
+    {
+        self.faults = Faults::none();
     }
 
     /// How often opening an input and reading have failed.

@@ -51,6 +51,14 @@ impl Row {
         self.text.push_str(buffer.format(number));
     }
 
+    /// The text of the row.
+    pub fn as_str(&self) -> &str
+        ensures text { result.now ≡ self.now }
+        ensures fits { length result.now ≤ ROW_BYTES }
+    {
+        self.text.as_str()
+    }
+
     /// The bytes of the row.
     pub fn as_bytes(&self) -> &[u8]
         ensures { result.now ≡ self.now }
