@@ -5,7 +5,7 @@ others, with its parameters and its answer, laws aside. Run alone it prints what
 import re
 import sys
 
-from names import CRATES, ROOT, exported, laws, text
+from names import CRATES, ROOT, exported, laws
 
 PAGE = ROOT / "docs" / "CALLING.md"
 HEADING = "## All public calls\n"
