@@ -64,8 +64,9 @@ def memories(dist, folder):
     """The rows of the memory of a handle, and of a state."""
     source = os.path.join(folder, "bytes.c")
     with open(source, "w", encoding="ascii") as file:
-        file.write('#include "pocket.c"\n#include <stdio.h>\n#include <stdlib.h>\nint main(int n, char **w) { u32 b = (u32)atoi(w[n - 1]); printf("%zu %zu %u %u\\n", '
-                   "pocket_sender_bytes(b), pocket_receiver_bytes(b), heap_bytes(SENDER, b) + 36, heap_bytes(RECEIVER, b) + 36); return 0; }\n")
+        file.write('#include "pocket.c"\n#include <stdio.h>\n#include <stdlib.h>\nint main(int n, char **w) {\n    u32 b = (u32)atoi(w[n - 1]);\n'
+                   '    printf("%zu %zu %u %u\\n", pocket_sender_bytes(b), pocket_receiver_bytes(b),\n'
+                   "           heap_bytes(SENDER, b) + 36, heap_bytes(RECEIVER, b) + 36);\n    return 0;\n}\n")
     run(["gcc", "-O1", "-I", dist, "-o", f"{folder}/bytes", source])
     for bits in BITS:
         yield bits, *map(int, run([f"{folder}/bytes", str(bits)]).split())
@@ -122,7 +123,8 @@ def main():
     given = words.parse_args()
     dist, before = os.path.abspath(given.dist), measure.load()
     with tempfile.TemporaryDirectory() as folder:
-        measure.show_table("The one C file: memory", ["Bits of an input", "Bytes of a sender", "Of a receiver", "State of a sender", "State of a receiver"], memories(dist, folder))
+        heads = ["Bits of an input", "Bytes of a sender", "Of a receiver", "State of a sender", "State of a receiver"]
+        measure.show_table("The one C file: memory", heads, memories(dist, folder))
         measure.show_table("The one C file: text and constants", ["Processor", *WAYS, "data of all three"], sizes(dist, folder))
         measure.show_table("The one C file: C's own stack", ["Processor", "An opening", "A send", "A receive"], stacks(dist, folder))
         if measure.can_count():
