@@ -30,12 +30,14 @@ DRIVER = f"{TOP}/library/tests/driver.c"
 OWN = f"{TOP}/library/tests/one_file.c"
 BOARD = f"{TOP}/library/examples/cortex-m"
 QEMU_BOARD = "qemu-system-arm -M mps2-an385 -display none -serial none -monitor none -semihosting-config enable=on,target=native -kernel".split()
+SANITIZERS = ["-fsanitize=address,undefined", "-fno-sanitize-recover=all"]
+VALGRIND = ["valgrind", "-q", "--error-exitcode=9", "--leak-check=full"]
 # What the driver is compiled by, with which flags, and what runs it.
 TARGETS = {
     "x86-64, gcc": ("gcc", ["-O2"], []),
     "x86-64, clang": ("clang", ["-O2"], []),
     "x86-64, unchecked": ("gcc", ["-O2", "-DPOCKET_UNCHECKED"], []),
-    "x86-64, the sanitizers": ("gcc", ["-O1", "-g", "-fsanitize=address,undefined", "-fno-sanitize-recover=all"], []),
+    "x86-64, the sanitizers": ("gcc", ["-O1", "-g", *SANITIZERS], []),
     "i386": ("i686-linux-gnu-gcc", ["-Os", "-static"], ["qemu-i386"]),
     "armhf": ("arm-linux-gnueabihf-gcc", ["-Os", "-static"], ["qemu-arm"]),
     "powerpc": ("powerpc-linux-gnu-gcc", ["-Os", "-static"], ["qemu-ppc"]),
@@ -44,8 +46,9 @@ TARGETS = {
     "sparc, by the instructions of LEON3": ("sparc64-linux-gnu-gcc", ["-Os", "-static", "-m32", "-mcpu=leon3"], ["qemu-sparc32plus"]),
     "riscv64": ("riscv64-linux-gnu-gcc", ["-Os", "-static"], ["qemu-riscv64"]),
     "aarch64": ("aarch64-linux-gnu-gcc", ["-Os", "-static"], ["qemu-aarch64"]),
-    "Cortex-M3": ("arm-none-eabi-gcc", ["-Os", "-Wno-format", "-mcpu=cortex-m3", "-mthumb", "--specs=rdimon.specs", "-nostartfiles", "-DDRIVER_ROOM=(1<<17)",
-                                        "-DPOCKET_NO_HEAP", "-Wl,--wrap=main", "-T", f"{BOARD}/link.ld", f"{BOARD}/start.c", f"{TOP}/library/tests/board.c"], QEMU_BOARD),
+    "Cortex-M3": ("arm-none-eabi-gcc", ["-Os", "-Wno-format", "-mcpu=cortex-m3", "-mthumb", "--specs=rdimon.specs", "-nostartfiles",
+                                        "-DDRIVER_ROOM=(1<<17)", "-DPOCKET_NO_HEAP", "-Wl,--wrap=main", "-T", f"{BOARD}/link.ld",
+                                        f"{BOARD}/start.c", f"{TOP}/library/tests/board.c"], QEMU_BOARD),
 }
 WANTED = "x86-64, gcc"
 PACKAGES = """wabt binaryen qemu-user gcc-i686-linux-gnu libc6-dev-i386-cross gcc-arm-linux-gnueabihf libc6-dev-armhf-cross
@@ -54,7 +57,9 @@ PACKAGES = """wabt binaryen qemu-user gcc-i686-linux-gnu libc6-dev-i386-cross gc
     gcc-riscv64-linux-gnu libc6-dev-riscv64-cross gcc-aarch64-linux-gnu libc6-dev-arm64-cross gcc-arm-none-eabi libnewlib-arm-none-eabi
     qemu-system-arm""".split()
 # Builds in which the big end is wrong: a text of the file, and what stands in its place.
-WRONG = {"memory.copy backwards, with the big end first": ("memmove(place(to), place(from), count);", "memmove(m + last + SLACK - (to - BASE) - count, m + last + SLACK - (from - BASE) - count, count);"),
+BACKWARDS = "m + last + SLACK - ({} - BASE) - count"
+WRONG = {"memory.copy backwards, with the big end first": ("memmove(place(to), place(from), count);",
+                                                           f"memmove({BACKWARDS.format('to')}, {BACKWARDS.format('from')}, count);"),
          "words in the order of the processor": ("__builtin_bswap##bits(value)", "(value)")}
 
 
@@ -163,7 +168,8 @@ def complains(room, compiler):
         calls = {words[2] for words in told if words[1] == "T"}
         if asked - needs:
             return f"{flags} asks for {sorted(asked - needs)}"
-        if any(("send" in it if "NO_SENDER" in str(flags) else "receive" in it) for it in calls) and any("_NO_SENDER" in it or "_NO_RECEIVER" in it for it in flags):
+        left_out = {"-DPOCKET_NO_SENDER": "send", "-DPOCKET_NO_RECEIVER": "receive"}.get(flags[0] if flags else "")
+        if left_out and any(left_out in it for it in calls):
             return f"{flags} has {sorted(calls)}"
     run([compiler, "-c", f"{room.made}/pocket.c", "-o", to])
     return None
@@ -241,8 +247,8 @@ def tries(room, saved):
     for name in TARGETS:
         yield f"{name}: as the library", lambda n=name: compares(room, n, saved)
     yield "the file's own", lambda: own(room, "gcc", "all", ["-O1"], [])
-    yield "the file's own, by the sanitizers", lambda: own(room, "clang", "some", ["-O1", "-g", "-fsanitize=address,undefined", "-fno-sanitize-recover=all"], [])
-    yield "the file's own, under valgrind", lambda: own(room, "gcc", "some", ["-O1", "-g"], ["valgrind", "-q", "--error-exitcode=9", "--leak-check=full"])
+    yield "the file's own, by the sanitizers", lambda: own(room, "clang", "some", ["-O1", "-g", *SANITIZERS], [])
+    yield "the file's own, under valgrind", lambda: own(room, "gcc", "some", ["-O1", "-g"], VALGRIND)
     yield "the file's own, on powerpc", lambda: own(room, TARGETS["powerpc"][0], "some", ["-O1", "-static"], TARGETS["powerpc"][2])
     for name in WRONG:
         yield f"a wrong build fails: {name}", lambda n=name: wrong(room, n)

@@ -14,7 +14,7 @@ import sys
 import tempfile
 
 import measure
-from recordings import KINDS, record
+from recordings import KINDS, Kind, record
 
 HERE = os.path.dirname(os.path.abspath(__file__))
 TOP = os.path.dirname(HERE)
@@ -27,6 +27,8 @@ PROCESSORS = {
     "sparc64": ("sparc64-linux-gnu-gcc", [], ["qemu-sparc64"]), "s390x": ("s390x-linux-gnu-gcc", [], ["qemu-s390x"]),
     "riscv64": ("riscv64-linux-gnu-gcc", [], ["qemu-riscv64"]), "aarch64": ("aarch64-linux-gnu-gcc", [], ["qemu-aarch64"]),
 }
+# The dearest packets that were found: in each byte the bits of CC and of 66 turn, in turn, and each has a new mask, its mask and content.
+DEAREST = Kind("dearest", 1024, "dearest", 0, 100, "always")
 WAYS = {"sender alone": ["-DPOCKET_NO_RECEIVER", "-DPOCKET_NO_HEAP"], "both": ["-DPOCKET_NO_HEAP"],
         "both, unchecked": ["-DPOCKET_NO_HEAP", "-DPOCKET_UNCHECKED"]}
 
@@ -62,8 +64,9 @@ def memories(dist, folder):
     """The rows of the memory of a handle, and of a state."""
     source = os.path.join(folder, "bytes.c")
     with open(source, "w", encoding="ascii") as file:
-        file.write('#include "pocket.c"\n#include <stdio.h>\n#include <stdlib.h>\nint main(int n, char **w) { u32 b = (u32)atoi(w[n - 1]); printf("%zu %zu %u %u\\n", '
-                   "pocket_sender_bytes(b), pocket_receiver_bytes(b), heap_bytes(SENDER, b) + 36, heap_bytes(RECEIVER, b) + 36); return 0; }\n")
+        file.write('#include "pocket.c"\n#include <stdio.h>\n#include <stdlib.h>\nint main(int n, char **w) {\n    u32 b = (u32)atoi(w[n - 1]);\n'
+                   '    printf("%zu %zu %u %u\\n", pocket_sender_bytes(b), pocket_receiver_bytes(b),\n'
+                   "           heap_bytes(SENDER, b) + 36, heap_bytes(RECEIVER, b) + 36);\n    return 0;\n}\n")
     run(["gcc", "-O1", "-I", dist, "-o", f"{folder}/bytes", source])
     for bits in BITS:
         yield bits, *map(int, run([f"{folder}/bytes", str(bits)]).split())
@@ -72,7 +75,8 @@ def memories(dist, folder):
 def costs(program, kind, recording):
     """The instructions of a send and of a receive of one packet more."""
     packets = kind.counted
-    words = lambda times, what: [program, str(kind.bits), recording, str(times * packets), what, "1" if kind.schedule else "0"]
+    planned = "2" if kind == DEAREST else "1" if kind.schedule else "0"
+    words = lambda times, what: [program, str(kind.bits), recording, str(times * packets), what, planned]
     inputs, send, receive = (measure.for_one_more(words(1, what), words(2, what), packets) for what in ("inputs", "send", "receive"))
     return send - inputs, receive - send
 
@@ -83,9 +87,13 @@ def packets(dist, folder, only):
     native = built(dist, folder, "native", "gcc", ["-Wl,--gc-sections"], library)
     checked = built(dist, folder, "checked", "gcc", [], [f"{dist}/pocket.c"])
     unchecked = built(dist, folder, "unchecked", "gcc", ["-DPOCKET_UNCHECKED"], [f"{dist}/pocket.c"])
-    for kind in KINDS[:2] if only else KINDS:
+    for kind in KINDS[:2] if only else [*KINDS, DEAREST]:
         recording = os.path.join(folder, "recording")
-        record(recording, kind.bits, 2 * kind.counted, kind.moves)
+        if kind == DEAREST:
+            with open(recording, "wb") as file:
+                file.write(b"".join(bytes([(0, 0xCC, 0xAA, 0x66)[number % 4]]) * (kind.bits // 8) for number in range(2 * kind.counted)))
+        else:
+            record(recording, kind.bits, 2 * kind.counted, kind.moves)
         found = [costs(program, kind, recording) for program in (native, checked, unchecked)]
         for at, call in enumerate(("send", "receive")):
             one = [each[at] for each in found]
@@ -115,7 +123,8 @@ def main():
     given = words.parse_args()
     dist, before = os.path.abspath(given.dist), measure.load()
     with tempfile.TemporaryDirectory() as folder:
-        measure.show_table("The one C file: memory", ["Bits of an input", "Bytes of a sender", "Of a receiver", "State of a sender", "State of a receiver"], memories(dist, folder))
+        heads = ["Bits of an input", "Bytes of a sender", "Of a receiver", "State of a sender", "State of a receiver"]
+        measure.show_table("The one C file: memory", heads, memories(dist, folder))
         measure.show_table("The one C file: text and constants", ["Processor", *WAYS, "data of all three"], sizes(dist, folder))
         measure.show_table("The one C file: C's own stack", ["Processor", "An opening", "A send", "A receive"], stacks(dist, folder))
         if measure.can_count():

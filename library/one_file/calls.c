@@ -71,11 +71,6 @@ static u8 *block_of(const pocket_handle *handle) {
     return (u8 *)handle->at + HEAD_BYTES;
 }
 
-static void set_out(u8 *m, u8 *out, u32 room) {
-    memcpy(m - OUT_AT, &out, sizeof out);
-    set_head(m, ROOM_AT, room);
-}
-
 /* Whether a call of a handle can begin: POCKET_DONE, or why not. */
 static u32 begun(const pocket_handle *handle, u32 kind) {
     u8 *m;
@@ -142,6 +137,12 @@ static u32 owned(const pocket_handle *handle, void *memory, u32 status) {
 #endif
 
 #ifndef POCKET_NO_SENDER
+/* Where the data of a packet go during a send. */
+static void set_out(u8 *m, u8 *out, u32 room) {
+    memcpy(m - OUT_AT, &out, sizeof out);
+    set_head(m, ROOM_AT, room);
+}
+
 size_t pocket_sender_bytes(uint32_t bits) {
     return bits == 0 || bits > POCKET_MOST_BITS ? 0 : POCKET_SENDER_BYTES(bits);
 }

@@ -102,9 +102,18 @@ def quiet(text):
     return f"{BEGIN}\n{QUIET}\n{text}{LOUD}\n{END}\n"
 
 
+def check_stack(deepest):
+    """Ends if pocket.h tells a stack that is too small, or a quarter of a kilobyte too large."""
+    with open(f"{TOP}/library/pocket.h", encoding="utf-8") as file:
+        told = int(re.search(r"^#define POCKET_STACK_BYTES (\d+)u$", file.read(), re.M)[1])
+    if not deepest <= told < deepest + 256:
+        sys.exit(f"library/pocket.h: POCKET_STACK_BYTES has to be {-(-deepest // 64) * 64}u: the deepest stack is {deepest} bytes")
+
+
 def calls(kept, kit):
     """The text of pocket.c."""
     code, number = module_of(kept, SENDER + RECEIVER, kit)
+    check_stack(code.deepest(SENDER + RECEIVER))
     numbers = {"STACK_TOP": f"{code.top}u", "HEAP_BASE": f"{code.heap}u", "CONSTANT_BYTES": len(code.data), "DEEPEST": code.deepest(SENDER + RECEIVER),
                "STACK_BYTES": "POCKET_STACK_BYTES", "MODULE_SUM": f"0x{number:08X}u"}
     before, after = text_of("calls.c").split("/* @generated@ */\n")
@@ -128,7 +137,8 @@ def helps():
             of = [it for it in lines if re.match(r"    \S.*  ", it) and keys & set(it.strip().partition("  ")[0].split(", "))]
             texts[verb] = [line, lines[number + 1], "Keys:", *of, *source[verb.upper()].split("\n")]
     told = lambda it: '"' + it.replace("\\", "\\\\").replace('"', '\\"') + '"'
-    made = "".join(f"static const char *const help_of_{verb or 'all'}[] = {{\n" + "".join(f"    {told(it)},\n" for it in text) + "    NULL\n};\n" for verb, text in texts.items())
+    array = lambda verb, text: [f"static const char *const help_of_{verb or 'all'}[] = {{", *(f"    {told(it)}," for it in text), "    NULL", "};", ""]
+    made = "".join("\n".join(array(verb, text)) for verb, text in texts.items())
     rows = "".join(f'    {{ "{verb}", help_of_{verb or "all"} }},\n' for verb in texts)
     return f"{made}static const struct {{ const char *verb; const char *const *lines; }} helps[] = {{\n{rows}}};\n"
 
@@ -141,7 +151,8 @@ def program(kept, kit):
     named = "".join(f"#define {name} {value}\n" for name, value in numbers.items())
     text = joined([it for name, it in code.functions.items() if name in code.reached(DESK)])
     head = text_of("program_head.c").replace("@VERSION@", version())
-    return f"{head}\n{named}\n{constants(code)}{text_of('machine.c')}\n{text_of('heap.c')}\n{quiet(text)}\n{helps()}\n{text_of('files.c')}\n{text_of('program.c')}"
+    before = [head, named, constants(code) + text_of("machine.c"), text_of("heap.c")]
+    return "\n".join([*before, quiet(text), helps(), text_of("files.c"), text_of("program.c")])
 
 
 def write(path, text):

@@ -26,12 +26,15 @@ IMPORT = re.compile(rf"^\(\*Z_envZ_rattle_(\w+)\)\(instance->Z_env_instance((?:,
 DIVISION = re.compile(rf"^({VALUE}) = (DIV|REM)_U\(({VALUE}), ({VALUE})\);$")
 COUNT = re.compile(rf"^{VALUE} = I(?:32|64)_(?:CLZ|CTZ|POPCNT)\({VALUE}\);$|^{VALUE} = I(?:32|64)_ROT[LR]\({VALUE}, {VALUE}\);$")
 CAST = r"(?:\((?:u|s)(?:8|16|32|64)\))*"
-PLAIN = re.compile(
-    rf"^{VALUE} (?:=|\+=|-=|\*=|&=|\|=|\^=) {CAST}\(?{VALUE}\)?;$|^{VALUE} = \d+u(?:ll)?;$|^{VALUE} = !\({VALUE}\);$"
-    rf"|^{VALUE} (?:<<|>>)= \({VALUE} & (?:31|63)\);$|^{VALUE} = \(u(?:32|64)\)\(\(s(?:32|64)\){VALUE} (?:>>|<|>|<=|>=) \(?(?:\(s(?:32|64)\))?{VALUE}(?: & (?:31|63)\))?\);$"
-    rf"|^{VALUE} = {VALUE} (?:==|!=|<|>|<=|>=) {VALUE};$|^{VALUE} = {VALUE} \? {VALUE} : {VALUE};$"
-    r"|^if \(w2c_i\d+\) \{goto w2c_[BL](?:\d+|func);\}$|^goto w2c_[BL](?:\d+|func);$|^switch \(w2c_i\d+\) \{$|^case \d+: goto w2c_[BL](?:\d+|func);$"
-    r"|^default: goto w2c_[BL](?:\d+|func);$|^\}$|^$|^return w2c_[ij]0;$")
+GOTO = r"goto w2c_[BL](?:\d+|func);"
+SIGNED = rf"\(\(s(?:32|64)\){VALUE} (?:>>|<|>|<=|>=) \(?(?:\(s(?:32|64)\))?{VALUE}(?: & (?:31|63)\))?\)"
+# What stays as it is.
+PLAIN = re.compile("|".join((
+    rf"^{VALUE} (?:=|\+=|-=|\*=|&=|\|=|\^=) {CAST}\(?{VALUE}\)?;$", rf"^{VALUE} = \d+u(?:ll)?;$", rf"^{VALUE} = !\({VALUE}\);$",
+    rf"^{VALUE} (?:<<|>>)= \({VALUE} & (?:31|63)\);$", rf"^{VALUE} = \(u(?:32|64)\){SIGNED};$",
+    rf"^{VALUE} = {VALUE} (?:==|!=|<|>|<=|>=) {VALUE};$", rf"^{VALUE} = {VALUE} \? {VALUE} : {VALUE};$",
+    rf"^if \(w2c_i\d+\) \{{{GOTO}\}}$", rf"^{GOTO}$", r"^switch \(w2c_i\d+\) \{$", rf"^case \d+: {GOTO}$", rf"^default: {GOTO}$",
+    r"^\}$", r"^$", r"^return w2c_[ij]0;$")))
 LABEL = re.compile(r"^w2c_[BL](?:\d+|func):;?$")
 ASSIGNED = re.compile(rf"^({VALUE}) [^ ]*= (.*);$")
 ENTRY = re.compile(
@@ -206,7 +209,8 @@ def module_of(text):
     numbers = dict(re.findall(r"^  instance->w2c_(g0|__heap_base) = (\d+)ull;$", text, re.M))
     if len(numbers) != 2 or "CALL_INDIRECT(instance" in text:
         raise OtherForm("the module has other globals, or calls by a table")
-    data = [bytes(int(it, 16) for it in re.findall(r"0x([0-9a-f]{2})", one)) for one in re.findall(r"^static const u8 data_segment_data_w2c_d\d+\[\] = \{(.*?)\};", text, re.M | re.S)]
+    arrays = re.findall(r"^static const u8 data_segment_data_w2c_d\d+\[\] = \{(.*?)\};", text, re.M | re.S)
+    data = [bytes(int(it, 16) for it in re.findall(r"0x([0-9a-f]{2})", one)) for one in arrays]
     loaded = re.findall(r"^  LOAD_DATA\(instance->w2c_memory, (\d+)u, data_segment_data_w2c_d\d+, (\d+)\);$", text, re.M)
     top, heap = int(numbers["g0"]), int(numbers["__heap_base"])
     if len(data) != len(loaded) or len(data) > 1 or [int(it) for it, _ in loaded] not in ([], [top]):
