@@ -27,10 +27,10 @@ function recording_of(count) {
   return bytes;
 }
 
-// A store of an APID, with what a script loses and repeats of it.
-async function store_of(count, apid, script = '', bits = 64) {
+// A store of an APID whose packets have 64 bits, with what a script loses and repeats of it.
+async function store_of(count, apid, script = '') {
   const given = { recording: recording_of(count), plan: bytes_of('20,4294967295,20,p\n45,4294967295,45,fr\n'), script: bytes_of(script) };
-  const { store } = await ran(`compress in=recording out=store bits=${bits} apid=${apid} robust=2 plan=plan`, given);
+  const { store } = await ran(`compress in=recording out=store bits=64 apid=${apid} robust=2 plan=plan`, given);
   return (await ran(`play in=store out=played report=told script=script apid=${apid}`, { ...given, store })).played;
 }
 
