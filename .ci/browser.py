@@ -56,7 +56,7 @@ def missing():
     """The packages that are not there, after they were asked for."""
     found = lambda: [package for name, package in PACKAGES.items() if not shutil.which(name)]
     if found() and os.geteuid() == 0 and shutil.which("apt-get"):
-        for words in (["update", "-q"], ["install", "-q", "-y", "--no-install-recommends", *PACKAGES.values(), "fonts-dejavu-core"]):
+        for words in (["update", "-q"], *(["install", "-q", "-y", "--no-install-recommends", package] for package in [*found(), "fonts-dejavu-core"])):
             subprocess.run(["apt-get", *words], stdout=subprocess.DEVNULL, stderr=subprocess.DEVNULL, timeout=900)
     return found()
 
@@ -91,7 +91,7 @@ def run_own(browser, page):
     told = "(document.getElementById('tests')?.textContent ?? '')"
     text = browser.wait(f"/\\d+ passed, \\d+ failed\\s*$/.test({told}) && {told}", LIMIT)
     if not text:
-        raise RuntimeError(f"the tests did not end: {browser.value(told)[-300:]!r}, {browser.value('document.body.innerText')[:200]!r}")
+        raise RuntimeError(f"the tests did not end: {browser.value(told)[-900:]!r}, {browser.value('document.body.innerText')[:200]!r}")
     passed, failed = map(int, CLOSING.findall(text)[-1])
     lines = [line for line in text.splitlines() if line.startswith("FAILED ")]
     return passed, max(failed, len(lines)), lines

@@ -152,41 +152,34 @@ def looked_at(browser, strip, part, words, keys):
     return None
 
 
-def tell_million(browser, page, files):
-    """A store of a million packets: what is told of it, and no task of the page above 50 milliseconds."""
-    browser.size(1280, 800)
-
+def held_up(browser, page, view, chooser, bits, paths, words, keys):
+    """The fault of files that are opened in a view and keys on its strip, or that a task of the page takes more than 50 milliseconds; or None."""
     def work():
-        browser.choose("store-file", files["million"])
-        return looked_at(browser, "store-strip", "store-sum", "given back", ("n", "+", "+", "+", "0", "End", "p", "PageUp"))
+        browser.choose(chooser, *paths)
+        return looked_at(browser, f"{view}-strip", f"{view}-sum", words, keys)
 
     def take():
-        begin(browser, page, "store")
-        give(browser, "store-bits", "64")
+        begin(browser, page, view)
+        give(browser, f"{view}-bits", bits)
         return longest(browser.tasks(work))
 
-    fault = measured(take, 50, "its longest task takes {} milliseconds")
-    if fault:
-        return fault
-    arrived, written = files["million_told"]
-    sum_of = text(browser, "store-sum")
-    return None if sum_of.startswith(f"{written:,} of 1,000,000 packets given back; {arrived:,} arrived") else f"it says {sum_of!r}"
+    browser.size(1280, 800)
+    return measured(take, 50, "its longest task takes {} milliseconds")
+
+
+def tell_million(browser, page, files):
+    """A store of a million packets: what is told of it, and no task of the page above 50 milliseconds."""
+    keys = ("n", "+", "+", "+", "0", "End", "p", "PageUp")
+    fault = held_up(browser, page, "store", "store-file", "64", [files["million"]], "given back", keys)
+    (arrived, written), told = files["million_told"], text(browser, "store-sum")
+    wanted = f"{written:,} of 1,000,000 packets given back; {arrived:,} arrived"
+    return fault or (None if told.startswith(wanted) else f"it says {told!r}")
 
 
 def tell_fields(browser, page, files):
     """A table of 40 fields by 100,000 packets has no task above 50 milliseconds; eight curves and the values are in sight at 1280 by 800."""
-    browser.size(1280, 800)
-
-    def work():
-        browser.choose("recording-file", files["forty"], files["forty_fields"])
-        return looked_at(browser, "fields-strip", "fields-sum", "40 fields", ("+", "+", "0", "n", "End", "PageUp"))
-
-    def take():
-        begin(browser, page, "fields")
-        give(browser, "fields-bits", "320")
-        return longest(browser.tasks(work))
-
-    fault = measured(take, 50, "its longest task takes {} milliseconds")
+    keys = ("+", "+", "0", "n", "End", "PageUp")
+    fault = held_up(browser, page, "fields", "recording-file", "320", [files["forty"], files["forty_fields"]], "40 fields", keys)
     if fault:
         return fault
     last = browser.value("document.querySelectorAll('#curves canvas')[7]?.getBoundingClientRect().bottom")

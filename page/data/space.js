@@ -14,13 +14,19 @@ function has_shape(store, at) {
   return (store[at] & 0x18) === 0 && (store[at + 2] & 0xc0) === 0xc0;
 }
 
-const MOST_SHAPELESS = 1000;
+const HEADER = 6, MOST_ALIKE = 1000;
 
 // Walks over the headers of a store while it is read, and counts the packets of each APID. It stops at the first header that is none: of
-// another version; or if so many packets at the beginning have a shape that is never judged, which is no store of this program.
+// another version; or if so many packets at the beginning have one and the same header, with its count, of a shape that is never judged, as
+// in bytes that are all zeros.
 export class Walk {
   constructor(bytes) {
-    Object.assign(this, { bytes, at: 0, apids: new Map(), shapeless: 0, is_none: false });
+    Object.assign(this, { bytes, at: 0, apids: new Map(), alike: 0, is_none: false });
+  }
+
+  // Whether it stopped at headers that are all alike.
+  is_alike() {
+    return this.alike > MOST_ALIKE;
   }
 
   // Whether so many bytes have all of the packet that is none.
@@ -28,13 +34,21 @@ export class Walk {
     return this.is_none && this.at + packet_length(this.bytes, this.at) <= count;
   }
 
+  // Whether the header here is of a shape that is never judged, and the same as the first one.
+  has_first_header(at) {
+    for (let byte = 0; byte < HEADER; byte += 1) {
+      if (this.bytes[at + byte] !== this.bytes[byte]) return false;
+    }
+    return !has_shape(this.bytes, at);
+  }
+
   // So many bytes are there now.
   read(count) {
     const { bytes, apids } = this;
     while (!this.is_none && this.at + 7 <= count) {
       const { at } = this, end = at + packet_length(bytes, at), apid = apid_at(bytes, at);
-      if (this.shapeless >= 0) this.shapeless = has_shape(bytes, at) ? -1 : this.shapeless + 1;
-      this.is_none = bytes[at] >> 5 !== 0 || this.shapeless > MOST_SHAPELESS;
+      if (this.alike >= 0) this.alike = this.has_first_header(at) ? this.alike + 1 : -1;
+      this.is_none = bytes[at] >> 5 !== 0 || this.is_alike();
       if (this.is_none || end > count) return;
       apids.set(apid, (apids.get(apid) || 0) + 1);
       this.at = end;

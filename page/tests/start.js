@@ -27,6 +27,7 @@ async function tell_tests() {
     const fault = await fault_of(test);
     failed += fault ? 1 : 0;
     lines.push(fault ? `FAILED ${name}: ${fault}` : `ok ${name}`);
+    fill(part('tests'), lines.join('\n'));
   }
   show_view('forecast');
   await put(EXAMPLE);

@@ -27,10 +27,10 @@ function recording_of(count) {
   return bytes;
 }
 
-// A store of an APID, with what a script loses and repeats of it.
-async function store_of(count, apid, script = '', bits = 64) {
+// A store of an APID whose packets have 64 bits, with what a script loses and repeats of it.
+async function store_of(count, apid, script = '') {
   const given = { recording: recording_of(count), plan: bytes_of('20,4294967295,20,p\n45,4294967295,45,fr\n'), script: bytes_of(script) };
-  const { store } = await ran(`compress in=recording out=store bits=${bits} apid=${apid} robust=2 plan=plan`, given);
+  const { store } = await ran(`compress in=recording out=store bits=64 apid=${apid} robust=2 plan=plan`, given);
   return (await ran(`play in=store out=played report=told script=script apid=${apid}`, { ...given, store })).played;
 }
 
@@ -162,6 +162,16 @@ async function test_other_bits() {
   return faults_of(faults, differs('few rows for 400 packets', rows > 0 && rows < 100, true), differs('the last row', part('store-report').querySelector('.end').textContent.startsWith('end400 arrived'), true));
 }
 
+// A store may begin with many packets of another APID that have secondary headers; their counts tell it from bytes that are no store.
+async function test_front() {
+  const front = new Uint8Array(7 * 1500), store = await store_of(50, 100), whole = new Uint8Array(front.length + store.length);
+  for (let number = 0; number < 1500; number += 1) front.set([0x08, 5, 0xc0 | (number >> 8), number & 255, 0, 0, 0], 7 * number);
+  whole.set(front);
+  whole.set(store, front.length);
+  await open('a store behind others', whole, '64', '100');
+  return differs('what is given back', sum(), '50 of 50 packets given back; 50 arrived.');
+}
+
 // Two in a hundred packets have two hundredths of the height, and any packet some of it.
 function test_shares() {
   const counts = (written, lost) => [written, lost, 0, 0, 0, 0];
@@ -188,6 +198,7 @@ export const STORE_TESTS = [
   ['a store put in order', test_late],
   ['all APIDs of a store', test_streams],
   ['other bits than the sender\'s', test_other_bits],
+  ['a store that begins with other packets', test_front],
   ['shares of a unit', test_shares],
   ['many bytes', test_many_bytes],
 ];

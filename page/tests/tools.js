@@ -4,7 +4,7 @@ import { part } from '../views/parts.js';
 import { STRIP } from '../views/strip.js';
 import { views } from '../views/tabs.js';
 
-export const SLOW = 120; // seconds
+const SLOW = 40; // seconds
 
 // What a check found wrong, or nothing.
 export function differs(name, found, wanted) {

@@ -128,9 +128,9 @@ export class ForecastView {
 
   key(event) {
     const letter = event.key.toLowerCase();
-    if (event.ctrlKey && letter === 'z') this.undo();
+    if ((event.ctrlKey || event.metaKey) && letter === 'z') this.undo();
     else if (event.ctrlKey || event.metaKey || event.altKey) return false;
-    else if (letter === 'z' || event.key === 'Backspace') this.undo();
+    else if (letter === 'z') this.undo();
     else if (letter === 'l' || letter === 'w') this.ask_row(letter === 'w');
     else if (event.key === 'Enter' && this.pending) this.ask_row(this.pending.endsWith('true'));
     else if (letter === 'n' || letter === 'p') this.leap(letter === 'n' ? 1 : -1);

@@ -31,9 +31,9 @@ function main_apid(walk) {
 }
 
 // Looks at a store: lists it and restores it by `verb`, restore or late. `apid` may be null: then it is the one with most packets. So it is
-// of bytes in which no packet has a shape that is judged.
+// of bytes whose headers are all alike.
 export async function* store_job({ file, bits, apid: wanted, verb, window }) {
-  const { store, walk } = yield* read_store(file), apid = walk.shapeless > 0 ? main_apid(walk) : wanted ?? main_apid(walk);
+  const { store, walk } = yield* read_store(file), apid = walk.is_alike() ? main_apid(walk) : wanted ?? main_apid(walk);
   const given = ['in=store', `bits=${bits}`, `apid=${apid}`], answer = { apid, apids: told_apids(walk), bytes: file.size, verb };
   if (verb === 'restore') {
     yield { doing: 'listing its packets' };
