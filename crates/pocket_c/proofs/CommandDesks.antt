@@ -18,7 +18,7 @@ use Rattle.desk_ports.specs.MemState.{MemPlan, MemState, IsCalled, IsNamed, Noth
 use Rattle.desk_ports.proofs.Held.{IsSome-insert}
 use Rattle.pocket_cmd.specs.Words.{Words, is_split, key_in, read_keys, text_in}
 use Rattle.pocket_cmd.specs.Openings.{GrantsNames}
-use Rattle.pocket_c.specs.CommandDesk.{CommandState, IsCommandDesk, command_counts, counted_reads, give_name, gives_name, has_read_key, lack_name, told}
+use Rattle.pocket_c.specs.CommandDesk.{CommandState, IsCommandDesk, command_counts, command_meanings, counted_reads, give_name, gives_name, has_read_key, lack_name}
 
 -- ---- names
 
@@ -147,13 +147,8 @@ read-cause old new words true (Err e) same failed is =
 read-cause old new words false (Err e) same failed is = absurd cc
 
 -- the desk grants each name that the words give
-pub GrantsNames-given : (words : Words) (desk : MemState) → GrantsNames words (told (give_name words) desk)
-GrantsNames-given words desk = record {
-  reads = λ name (key, known, assigned). is (give_name-assigned words name key known assigned);
-  writes = λ name assigned. tt;
-} where
-  is : {b : Bool} → b ≡ true → IsTrue b
-  is {b = true} e = tt
-  is {b = false} e = absurd (differ e) where
-    differ : false ≡ true → ⊥
-    differ e = cc
+pub GrantsNames-given : (command : CommandState) → GrantsNames command.words (command_meanings command)
+GrantsNames-given command = record {
+  reads = λ name (key, known, assigned). give_name-assigned command.words name key known assigned;
+  writes = λ name assigned. refl;
+}
