@@ -1,20 +1,17 @@
 -- The names that the words of a command give to what is read, and what a desk for one command keeps through its calls.
-use Rattle.std.proofs.Common.{arith, ◌≡◌, ℕ, ◌+◌, ◌<◌, zero, suc, Bool, true, false, not, ◌&&◌, ◌||◌, IsTrue, List, [], ◌∷◌, ◌++◌, length, get_or, codes, Option, None, Some, is_some, nat_lt, Result, Ok, Err, refl, sym, ap, subst, ◌∙◌, inl, inr}
-use Rattle.std.specs.Prelude.{◌⊎◌, IsSome, IfSome, IfOk, OnOk, OnErr, take}
+use Rattle.std.proofs.Common.{arith, ◌≡◌, ℕ, ◌<◌, zero, suc, Bool, true, false, not, ◌&&◌, ◌||◌, IsTrue, List, [], ◌∷◌, ◌++◌, length, codes, Option, None, Some, is_some, nat_lt, Result, Ok, Err, refl, sym, ap, subst, ◌∙◌, inl, inr}
+use Rattle.std.specs.Prelude.{◌⊎◌, IsSome, IfSome, OnOk, OnErr}
 use Rattle.std.specs.List.{Contains, list_any}
 use Rattle.std.specs.FinMap as map
 use Rattle.std.specs.Str.{bytes_eq}
 use Rattle.std.proofs.lemmas.Bool.Decides.{nat_tests}
 use Rattle.std.proofs.lemmas.List.Folds.{list_any_at}
 use Rattle.std.proofs.lemmas.Slice.Eq.{bytes_eq-Decides}
-use Rattle.desk_ports.specs.declared.calls.Call.{Call}
 use Rattle.desk_ports.specs.declared.calls.Call.TheVariants as call
-use Rattle.desk_ports.specs.declared.desk.Inlet.{Inlet}
-use Rattle.desk_ports.specs.declared.desk.Inlet.TheVariants as inlet
 use Rattle.desk_ports.specs.declared.desk.Outlet.{Outlet}
 use Rattle.desk_ports.specs.declared.desk.Outlet.TheVariants as outlet
-use Rattle.desk_ports.specs.Meanings.{Meanings, Kept, Adds, Begins, HasReadCause, HasWriteCause, Keeps, Moves, Opens, next_count}
-use Rattle.desk_ports.specs.MemState.{MemPlan, MemState, IsCalled, IsNamed, NothingFails, called, mem_meanings, read_fault, refusal}
+use Rattle.desk_ports.specs.Meanings.{Kept, HasReadCause, Keeps, next_count}
+use Rattle.desk_ports.specs.MemState.{MemState, IsCalled, IsNamed, NothingFails, called, mem_meanings, read_fault}
 use Rattle.desk_ports.proofs.Held.{IsSome-insert}
 use Rattle.pocket_cmd.specs.Words.{Words, is_split, key_in, read_keys, text_in}
 use Rattle.pocket_cmd.specs.Openings.{GrantsNames}

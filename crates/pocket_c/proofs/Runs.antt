@@ -1,5 +1,5 @@
 -- What a command over its desk leaves, by the clauses of `pocket`.
-use Rattle.std.proofs.Common.{arith, ◌≡◌, ◌≢◌, ℕ, ◌+◌, ◌-◌, ◌^◌, min, Bool, true, false, List, [], drop, Option, Some, Result, Ok, Err, sym, ap, subst, ◌∙◌, inl, inr, refl}
+use Rattle.std.proofs.Common.{arith, ◌≡◌, ◌≢◌, ℕ, Bool, true, false, List, [], drop, Option, Some, Ok, Err, sym, ap, subst, ◌∙◌, inl, inr, refl}
 use Rattle.std.specs.Prelude.{◌⊎◌, ◌↔◌}
 use Rattle.mask_update.specs.Histories.{History}
 use Rattle.ground_chain.specs.Deliveries.{report_text, restored_bytes}
@@ -140,14 +140,17 @@ module _ (start after : CommandState) (none : start.desk.faults ≡ no_faults) w
   has_told (status.Refused refusal.TooMany) cause = quiet _ (λ e. cc) (λ e. cc) cause
   has_told (status.Refused refusal.NoMemory) cause = quiet _ (λ e. cc) (λ e. cc) cause
 
-  -- an answer is this one if no call failed and memory was found; so it is, or memory was wanting
-  pub or_memory : (answer wanted : Status) → Told answer → start.lacking ≡ false
-      → (answer ≢ status.Refused refusal.NoMemory → NoneRose (command_counts start) (command_counts after) → answer ≡ wanted)
-      → (answer ≡ wanted) ⊎ ((answer ≡ status.Refused refusal.NoMemory) ⊎ ((answer ≡ status.Refused refusal.WriteFault) × (after.desk.faults.short ≡ 1)))
-  or_memory answer wanted told none by = either answer told by where
+  -- no reading fails if no name is lacking
+  pub not_read : (answer : Status) → Told answer → start.lacking ≡ false → answer ≢ status.Refused refusal.ReadFault
+  not_read answer told none read = differ (told.reads read) none where
     differ : {b : Bool} → b ≡ true → b ≡ false → ⊥
     differ one other = cc
 
+  -- an answer is this one if no call failed and memory was found; so it is if no reading failed, or memory was wanting
+  pub or_memory : (answer wanted : Status) → Told answer → answer ≢ status.Refused refusal.ReadFault
+      → (answer ≢ status.Refused refusal.NoMemory → NoneRose (command_counts start) (command_counts after) → answer ≡ wanted)
+      → (answer ≡ wanted) ⊎ ((answer ≡ status.Refused refusal.NoMemory) ⊎ ((answer ≡ status.Refused refusal.WriteFault) × (after.desk.faults.short ≡ 1)))
+  or_memory answer wanted told read by = either answer told read by where
     Either : Status → Type 0
     Either answer = (answer ≡ wanted) ⊎ ((answer ≡ status.Refused refusal.NoMemory) ⊎ ((answer ≡ status.Refused refusal.WriteFault) × (after.desk.faults.short ≡ 1)))
 
@@ -157,20 +160,20 @@ module _ (start after : CommandState) (none : start.desk.faults ≡ no_faults) w
     is : (answer : Status) → Told answer → By answer → answer ≢ status.Refused refusal.NoMemory → answer ≢ status.Refused refusal.ReadFault → answer ≢ status.Refused refusal.WriteFault → Either answer
     is answer told by memory read written = inl (by memory (told.none_rose read written))
 
-    either : (answer : Status) → Told answer → By answer → Either answer
-    either (status.Refused refusal.NoMemory) told by = inr (inl refl)
-    either (status.Refused refusal.WriteFault) told by = inr (inr (refl, told.writes.0 refl))
-    either (status.Refused refusal.ReadFault) told by = absurd (differ (told.reads refl) none)
-    either status.Done told by = is _ told by (λ e. cc) (λ e. cc) (λ e. cc)
-    either (status.Refused (refusal.BadWords word)) told by = is _ told by (λ e. cc) (λ e. cc) (λ e. cc)
-    either (status.Refused refusal.SideTooLong) told by = is _ told by (λ e. cc) (λ e. cc) (λ e. cc)
-    either (status.Refused (refusal.BadSide row)) told by = is _ told by (λ e. cc) (λ e. cc) (λ e. cc)
-    either (status.Refused refusal.ScriptTooLong) told by = is _ told by (λ e. cc) (λ e. cc) (λ e. cc)
-    either (status.Refused (refusal.BadScript row)) told by = is _ told by (λ e. cc) (λ e. cc) (λ e. cc)
-    either (status.Refused (refusal.CutRecord t)) told by = is _ told by (λ e. cc) (λ e. cc) (λ e. cc)
-    either (status.Refused (refusal.SpareBit t)) told by = is _ told by (λ e. cc) (λ e. cc) (λ e. cc)
-    either (status.Refused (refusal.BadStore byte kind)) told by = is _ told by (λ e. cc) (λ e. cc) (λ e. cc)
-    either (status.Refused refusal.TooMany) told by = is _ told by (λ e. cc) (λ e. cc) (λ e. cc)
+    either : (answer : Status) → Told answer → answer ≢ status.Refused refusal.ReadFault → By answer → Either answer
+    either (status.Refused refusal.NoMemory) told read by = inr (inl refl)
+    either (status.Refused refusal.WriteFault) told read by = inr (inr (refl, told.writes.0 refl))
+    either (status.Refused refusal.ReadFault) told read by = absurd (read refl)
+    either status.Done told read by = is _ told by (λ e. cc) read (λ e. cc)
+    either (status.Refused (refusal.BadWords word)) told read by = is _ told by (λ e. cc) read (λ e. cc)
+    either (status.Refused refusal.SideTooLong) told read by = is _ told by (λ e. cc) read (λ e. cc)
+    either (status.Refused (refusal.BadSide row)) told read by = is _ told by (λ e. cc) read (λ e. cc)
+    either (status.Refused refusal.ScriptTooLong) told read by = is _ told by (λ e. cc) read (λ e. cc)
+    either (status.Refused (refusal.BadScript row)) told read by = is _ told by (λ e. cc) read (λ e. cc)
+    either (status.Refused (refusal.CutRecord t)) told read by = is _ told by (λ e. cc) read (λ e. cc)
+    either (status.Refused (refusal.SpareBit t)) told read by = is _ told by (λ e. cc) read (λ e. cc)
+    either (status.Refused (refusal.BadStore byte kind)) told read by = is _ told by (λ e. cc) read (λ e. cc)
+    either (status.Refused refusal.TooMany) told read by = is _ told by (λ e. cc) read (λ e. cc)
 
 -- ---- from the desk before to the desk after
 
@@ -193,8 +196,8 @@ has_run desk end words after answer is ran = subst (λ (end : MemState). HasRun 
   read_no_further = ran.read_no_further;
   bad_side = ran.bad_side;
   bad_script = ran.bad_script;
-  ends = λ command text input is given none. or_memory start after refl answer (answer_to command text input) told none (λ memory rose. ran.ends command text input is given memory rose);
-  complete = λ command text input is given none right whole. or_memory start after refl answer status.Done told none (λ memory rose. ran.complete command text input is given right whole memory rose);
+  ends = λ command text input is given read. or_memory start after refl answer (answer_to command text input) told read (λ memory rose. ran.ends command text input is given memory rose);
+  complete = λ command text input is given none right whole. or_memory start after refl answer status.Done told (not_read start after refl answer told none) (λ memory rose. ran.complete command text input is given right whole memory rose);
   headline = ran.headline;
   reads = told.reads;
   writes = told.writes;

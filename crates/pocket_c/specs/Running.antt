@@ -65,7 +65,7 @@ pub record HasRun (old new : BenchState) (answer : Status) : Type 0 where
       → answer ≢ status.Refused refusal.NoMemory
       → IsScriptFirst (names_of (Forecast, given)).side (at_first old) plan script bad (told granted new.desk) answer
   pub ends : (command : Command) (text input : List ℕ) → Gives old command → AreTold (names_of command) (at_first old) text input
-      → lack_name old.desk.held old.words ≡ false → (answer ≡ answer_to command text input) ⊎ LacksMemory new answer
+      → answer ≢ status.Refused refusal.ReadFault → (answer ≡ answer_to command text input) ⊎ LacksMemory new answer
   pub complete : (command : Command) (text input : List ℕ) → Gives old command → AreTold (names_of command) (at_first old) text input
       → lack_name old.desk.held old.words ≡ false → IsSideRight command text → IsInputWhole command input
       → (answer ≡ status.Done) ⊎ LacksMemory new answer

@@ -1,4 +1,4 @@
-use Rattle.std.proofs.Common.{◌≡◌, true, List, ℕ, map, IsTrue, Result, Ok, Err, refl, sym, subst}
+use Rattle.std.proofs.Common.{List, ℕ, map, IsTrue, Result, Ok, Err, refl, sym, subst}
 use Rattle.std.specs.Prelude.{IsErr, OnErr}
 use Rattle.std.specs.String.{string_bytes}
 use Rattle.desk_ports.specs.Meanings.{HasReadCause}
