@@ -205,8 +205,9 @@ static inline pocket_status pocket_checked_word(pocket_handle *handle, const cha
 
 /* Runs the command of the words, which reads what is kept under the names that it has, and keeps what it writes under others. Then
  * there is no word. *exit_number is the exit number of the program: 0 if the command was done, otherwise it was refused, and the first
- * *length bytes of text say why (1 and 5 may be for want of memory). A refused command keeps nothing under its names; but if writing
- * failed, the output of a command with a report may be the new one, and the report the one before. Takes memory.
+ * *length bytes of text say why: "reading failed" (1) only if the words name something to read under which nothing is kept, "writing
+ * failed" (1) and "out of memory" (5) for want of memory. A refused command keeps nothing under its names; but if writing failed, the
+ * output of a command with a report may be the new one, and the report the one before. Takes memory.
  * POCKET_NO_ROOM, IS_CLOSED, OTHER_KIND: the first that is so. */
 static inline pocket_status pocket_checked_run(pocket_handle *handle, char *text, size_t room, size_t *length, uint8_t *exit_number)
 {

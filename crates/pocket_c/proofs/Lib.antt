@@ -1,2 +1,4 @@
 pub mod Values
 mod Exits
+pub mod CommandDesks
+pub mod Runs

@@ -3,4 +3,5 @@ pub mod Statuses
 pub mod Kinds
 pub mod Verdicts
 pub mod Bench
+pub mod CommandDesk
 pub mod Running

@@ -6,16 +6,18 @@ ghost use Rattle.desk_ports.specs.Meanings.{kept_at};
 ghost use Rattle.desk_ports.specs.MemState.{empty_desk};
 ghost use Rattle.pocket_c.specs.Running.{HasRun};
 
+use crate::command_desk::CommandDesk;
 use bit_vectors::NoMemory;
 use desk_ports::MemDesk;
 use pocket_cmd::{Status, pocket};
 use std::alloc::Global;
 use std::marker::Model;
+use std::mem::replace;
 
 /// No command has as many words.
 const MOST_WORDS: usize = 1000;
 
-/// A desk in memory, and the words of the next command. Contracts see both.
+/// A desk in memory, of which no call is told to fail, and the words of the next command. Contracts see both.
 #[derive(Debug, Drop)]
 pub struct Bench {
     alloc: Global,
@@ -26,6 +28,7 @@ pub struct Bench {
 impl Model for Bench {
     ghost use Rattle.std.specs.Prelude.{◌≤◌, length, map};
     ghost use Rattle.std.specs.String.{string_bytes};
+    ghost use Rattle.desk_ports.specs.MemState.{NothingFails};
     ghost use Rattle.pocket_c.specs.Bench.{BenchState, bench_code};
 
     ghost Value = { BenchState };
@@ -34,7 +37,7 @@ impl Model for Bench {
 
     ghost view = { λ b. record { desk = b.desk; words = map string_bytes b.words.items } };
 
-    ghost invariant = { λ b. length b.words.items ≤ 1000 };
+    ghost invariant = { λ b. (length b.words.items ≤ 1000) × NothingFails b.desk.plan };
 }
 
 impl Bench {
@@ -89,7 +92,11 @@ impl Bench {
     pub fn run(&mut self) -> Status
         ensures { HasRun self.old self.new result }
     {
-        let status = pocket(self.alloc, &self.words, &mut self.desk);
+        let words: &[String] = &self.words;
+        let desk = replace(&mut self.desk, MemDesk::new(self.alloc));
+        let mut command = CommandDesk::over(desk, words);
+        let status = pocket(self.alloc, words, &mut command);
+        self.desk = command.into_desk();
         self.words.clear();
         status
     }

@@ -6,6 +6,7 @@ ghost use Rattle.std.specs.Str.{IsUtf8};
 ghost use Rattle.desk_ports.specs.Meanings.{kept_at};
 ghost use Rattle.desk_ports.specs.MemState.{empty_desk};
 ghost use Rattle.pocket_cmd.specs.declared.status.Status.{Status as Answer};
+ghost use Rattle.pocket_cmd.specs.Refusals.{status_text};
 ghost use Rattle.pocket_cmd.specs.Status.{exit_number};
 ghost use Rattle.pocket_c.specs.Bench.{BenchState};
 ghost use Rattle.pocket_c.specs.Kinds.{HasOtherThanBench};
@@ -15,10 +16,8 @@ ghost use Rattle.pocket_c.specs.Statuses.{IsOneOf, number_of};
 use crate::bench::Bench;
 use crate::held::{Handle, Held};
 use crate::status::Status;
-use arrayvec::ArrayString;
-use pocket_cmd::exit_code;
+use pocket_cmd::{exit_code, refusal_row};
 use std::alloc::Global;
-use std::fmt::Write;
 use std::str;
 
 /// The room for the text of a refusal, in bytes.
@@ -72,14 +71,15 @@ fn write_out(bytes: &[u8], out: &mut [u8], len: &mut usize) -> Status
 fn write_text(answer: &pocket_cmd::Status, out: &mut [u8]) -> usize
     requires { TEXT_BYTES ≤ length out.old }
     ensures most { result ≤ TEXT_BYTES }
-    ensures none { answer.now ≡ Answer.Done → result ≡ 0 }
+    ensures len { result ≡ length (status_text answer.now) }
+    ensures text { take result out.new ≡ status_text answer.now }
     ensures rest { drop result out.new ≡ drop result out.old }
 {
-    let mut text: ArrayString<TEXT_BYTES> = ArrayString::new();
-    if let pocket_cmd::Status::Refused(refusal) = answer {
-        let _ = write!(text, "{refusal}");
-    }
-    let bytes = text.as_bytes();
+    let pocket_cmd::Status::Refused(refusal) = answer else {
+        return 0;
+    };
+    let row = refusal_row(refusal);
+    let bytes = row.as_str().as_bytes();
     out[..bytes.len()].copy_from_slice(bytes);
     bytes.len()
 }
@@ -203,7 +203,7 @@ pub extern "C" fn pocket_run(
     ensures ran { (b : BenchState) → handle.old.held ≡ Some (Held.Bench b)
         → result ≡ number_of Status.Done
         → (answer : Answer) × (next : BenchState) × (exit.new ≡ exit_number answer)
-        × (answer ≡ Answer.Done → len.new ≡ 0)
+        × (take len.new text.new ≡ status_text answer)
         × (handle.new.held ≡ Some (Held.Bench next)) × HasRun b next answer }
     // The exit number tells with which answers all of this holds: with 0, that of Done, and so on.
     ensures answers { (b : BenchState) → handle.old.held ≡ Some (Held.Bench b)

@@ -3,6 +3,7 @@
 #![tactic(auto)]
 
 mod bench;
+mod command_desk;
 mod desk;
 mod handle;
 mod held;

@@ -4,7 +4,7 @@ use Rattle.pocket_c.proofs.Exits.{has_answered}
 use Rattle.pocket_c.proofs.desk.pocket_run.Goals as goal
 
 pub returns-in-Ok-clause-ran : goal.returns-in-Ok-clause-ran
-returns-in-Ok-clause-ran c = λ b is done. let ran = c.in-Ok.ensures.ran b is in (c.in-Ok.answer, ran.0, c.exit_code.ensures, c.write_text.ensures.none, ran.1, ran.2)
+returns-in-Ok-clause-ran c = λ b is done. let ran = c.in-Ok.ensures.ran b is in (c.in-Ok.answer, ran.0, c.exit_code.ensures, c.write_text.ensures.text, ran.1, ran.2)
 
 pub returns-in-Ok-clause-answers : goal.returns-in-Ok-clause-answers
 returns-in-Ok-clause-answers c = λ b is done. let ran = c.in-Ok.ensures.ran b is in
