@@ -1,7 +1,8 @@
 """The command lines over files, links, pipes, devices and closed folders: what becomes of each name and of each part. What must
 stand there is worked out by hand, from docs/FORMATS.md."""
 
-from rows import COMPRESS, FIRST, HEADER, MULTI, PLAY, PLAYED, READ, RECORDING, REPORT, RESTORE, STORE, STREAMS, TABLE, TWO_STREAMS, WRITE, case
+from rows import (COMPRESS, FIELDS, FIRST, HEADER, LATE, MULTI, PLAY, PLAYED, READ, RECORDING, REPORT, RESTORE, STORE, STREAMED, STREAMS, TABLE,
+                  TABLED, TWO_STREAMS, WRITE, case)
 
 RESTORED = bytes.fromhex("B0B1B3")
 OLD = b"yesterday, which was longer than what comes today: " + b"old " * 20
@@ -221,6 +222,34 @@ DEVICES = [
     case("help to a reader that has gone", "--help", 1, err=WRITE, stdout="unread pipe"),
 ]
 
+# The verbs with two outputs: the words, the files before them, and the output.
+TWO_OUTPUTS = [
+    ("play", PLAY, {"x": STORE, "s": b"drop,2,2,1\n"}, PLAYED),
+    ("restore", RESTORE, {"x": PLAYED}, RESTORED),
+    ("multi", MULTI, {"x": TWO_STREAMS, "s": STREAMS}, STREAMED),
+    ("late", LATE, {"x": STORE}, RECORDING),
+    ("table", TABLE, {"x": bytes.fromhex("01F00228"), "s": FIELDS}, TABLED),
+]
+
+
+def unreported(verb, words, before, output):
+    """Command lines whose report can't be written, or would replace an input: the output keeps what it had under its name."""
+    def with_report(report):
+        return words.replace("report=z", f"report={report}")
+    unwritten = dict(status=1, err=WRITE, before={**before, "y": OLD}, after={"y.part": output})
+    unopened = dict(status=1, err=WRITE, before={**before, "y": OLD, "y.part": b"earlier"})
+    return [
+        case(f"{verb} with its report to a device that is full", with_report("/dev/full"), **unwritten),
+        case(f"{verb} with its report to standard output, which is full", with_report("-"), stdout="/dev/full", **unwritten),
+        case(f"{verb} with its report to standard output, which is closed", with_report("-"), closed="stdout", **unwritten),
+        case(f"{verb} with its report to a reader that has gone", with_report("-"), stdout="unread pipe", **unwritten),
+        case(f"{verb} with its report over the input, and an earlier part", with_report("./x"), **unopened),
+        case(f"{verb} with its report in a folder that is missing, and an earlier part", with_report("f/z"), **unopened),
+    ]
+
+
+UNREPORTED = [row for given in TWO_OUTPUTS for row in unreported(*given)]
+
 # Inputs that can't be read.
 UNREAD = [
     case("no such input", COMPRESS, 1, err=READ, before={"y": OLD}),
@@ -239,4 +268,4 @@ UNREAD = [
     case("a script of a forecast that is a folder", "forecast out=y packets=6 robust=1 plan=s script=x", 1, err=READ, before={"s": b"", "x": "folder"}),
 ]
 
-FILES = PARTS + TAKEN_PARTS + STANDING + READ_OVER + NAMES + LINKS + DEVICES + UNREAD
+FILES = PARTS + TAKEN_PARTS + STANDING + READ_OVER + NAMES + LINKS + DEVICES + UNREPORTED + UNREAD

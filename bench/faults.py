@@ -4,9 +4,9 @@ openings, reads, writes, and what gives an output its name.
 
 Takes the proved program: bench/faults.py crates/pocket/out/pocket. It compiles faults.c with gcc, and runs the commands on
 the samples of crates/pocket/data, on four packets, in order or not, and a trial of three, in a temporary folder, over outputs
-that stood before. A failed run must end with the number and the text of its fault, and leave what stood, with fronts of the
-outputs of the whole run in their parts, or the first output whole and the second as it was; no part where memory was wanting
-before, and nothing at a name that is none of the command's. A short read or write must change nothing. For each output there
+that stood before. A failed run must end with the number and the text of its fault, and leave what stood under each name, with
+fronts of the outputs of the whole run in their parts; only if the second renaming fails is the first output whole. No part may
+be there where memory was wanting before, and nothing at a name that is none of the command's. A short read or write must change nothing. For each output there
 must be one renaming, one removal of its earlier part, one sync and one change of its mode. A command whose allocations are not
 seen, since they are not those of the C library, is told too.
 Then it counts the calls for one and for a thousand packets, and prints the table of docs/BENCHMARK.md. Its status is 1 where something
@@ -101,14 +101,14 @@ class Runner:
         return answer, outputs, (self.get("log") or b"").decode()
 
 
-def is_right(name, part, whole):
-    """Whether an output is as it was with a front of the whole one in its part, or whole with no part."""
-    if (name, part) == (whole, None):
-        return True
+def is_right(name, part, whole, is_named):
+    """Whether an output is as it was with a front of the whole one in its part, or whole with no part if it must have its name."""
+    if is_named:
+        return (name, part) == (whole, None)
     return name == STOOD and (part is None or part == STOOD or whole.startswith(part))
 
 
-def judge(name, kind, answer, outputs, whole):
+def judge(name, kind, nth, answer, outputs, whole):
     """What is wrong with a run in which a call failed, or None."""
     if kind in "st":
         return None if (answer, outputs) == ((0, ""), whole) else "a short call changed it"
@@ -119,7 +119,8 @@ def judge(name, kind, answer, outputs, whole):
     own = COMMANDS[name][1]
     if outputs[own:] != [(STOOD, STOOD)] * (2 - own):
         return "another name was touched"
-    if not all(is_right(stands, part, told) for (stands, part), (told, _) in zip(outputs, whole)):
+    named = [(kind, nth) == ("n", 2), False]
+    if not all(is_right(*output, told, is_named) for output, (told, _), is_named in zip(outputs, whole, named)):
         return f"outputs that are not right: {outputs}"
     return None
 
@@ -147,7 +148,7 @@ def fail_all(runner, name, made):
         for nth in range(1, of + 1):
             got, left, _ = runner.run(words, kind, nth)
             answers.setdefault(got, []).append(nth)
-            fault = judge(name, kind, got, left, whole)
+            fault = judge(name, kind, nth, got, left, whole)
             if fault:
                 wrong += 1
                 print(f"{name}: {what} {nth}: {got}: {fault}")

@@ -6,7 +6,8 @@
  * a receiver, none of a desk, and more that stand at the end of this header.
  *
  * Where the proof ends. The functions behind this header are written in Rattle and proved: what each answers, gives and leaves
- * unchanged. Not proved are this header, its checks of null, strlen, the compiler, the linker, memmove, memset, malloc and free.
+ * unchanged. That a call takes no memory, and that pocket_close gives back all of it, is tested and not proved.
+ * Not proved are this header, its checks of null, strlen, the compiler, the linker, memmove, memset, malloc and free.
  * For x86-64 the library is proved by the gate. For aarch64 it is proved and compiled for that target by the toolchain, outside the
  * gate. For riscv64 it is compiled another way: compared, not proved. So is the one file: its C is made from the library's module, and
  * compared with the library, packet for packet and verdict for verdict, under qemu. LEON itself was not at hand for that: the file was
@@ -204,7 +205,9 @@ static inline pocket_status pocket_checked_word(pocket_handle *handle, const cha
 
 /* Runs the command of the words, which reads what is kept under the names that it has, and keeps what it writes under others. Then
  * there is no word. *exit_number is the exit number of the program: 0 if the command was done, otherwise it was refused, and the first
- * *length bytes of text say why (1 and 5 may be for want of memory). Takes memory. POCKET_NO_ROOM, IS_CLOSED, OTHER_KIND: the first that is so. */
+ * *length bytes of text say why (1 and 5 may be for want of memory). A refused command keeps nothing under its names; but if writing
+ * failed, the output of a command with a report may be the new one, and the report the one before. Takes memory.
+ * POCKET_NO_ROOM, IS_CLOSED, OTHER_KIND: the first that is so. */
 static inline pocket_status pocket_checked_run(pocket_handle *handle, char *text, size_t room, size_t *length, uint8_t *exit_number)
 {
     if (handle == NULL || text == NULL || length == NULL || exit_number == NULL)

@@ -1,6 +1,6 @@
 /* Each allocation refused in turn: the opening answers it, the handle holds nothing, nothing is leaked; and no later call takes any.
  * Then each allocation of a desk, from its opening to the end of a command: the call answers it, or the command is refused with 5, or
- * with 1 if it is what it writes that can't be kept.
+ * with 1 if it is what it writes that can't be kept, and nothing is kept then. A get takes none.
  * Linked with --wrap=malloc,--wrap=realloc,--wrap=free. The numbers of bits are its words; it prints the bytes of each. */
 #include "../pocket.h"
 #include <stdio.h>
@@ -96,6 +96,7 @@ static pocket_status command(pocket_handle *desk, uint8_t *exit_number)
 static void at_desk(void)
 {
     pocket_handle desk = POCKET_NOTHING;
+    long taken;
 
     for (held = 0, fails_at = 1;; fails_at += 1) {
         uint8_t exit_number = 0, store[64];
@@ -106,10 +107,13 @@ static void at_desk(void)
         status = command(&desk, &exit_number);
         if (calls < fails_at) {
             check(status == POCKET_DONE && exit_number == 0 && fails_at > 1);
-            check(pocket_get(&desk, "s", store, sizeof store, &length) == POCKET_DONE && length == 37);
+            taken = calls;
+            check(pocket_get(&desk, "s", store, sizeof store, &length) == POCKET_DONE && length == 37 && calls == taken);
             break;
         }
         check(status == POCKET_NO_MEMORY || (status == POCKET_DONE && exit_number != 0));
+        if (status == POCKET_DONE)
+            check(pocket_get(&desk, "s", store, sizeof store, &length) == POCKET_DONE && length == 0);
         check((pocket_close(&desk) == POCKET_IS_CLOSED) == (fails_at == 1) && held == 0);
     }
     check(pocket_close(&desk) == POCKET_DONE && held == 0);
@@ -127,6 +131,7 @@ int main(int count, char **words)
         long before, of_sender;
         uint8_t level;
         pocket_finding finding;
+        pocket_tally tally;
 
         held = 0;
         sends = open_at_last(&sender, bits, true);
@@ -140,6 +145,7 @@ int main(int count, char **words)
             check(pocket_receive(&receiver, (uint16_t)t, data, length, content, sizeof content, &finding) == POCKET_DONE);
             check(finding.kind == POCKET_WRITTEN && content[0] == input[0]);
         }
+        check(pocket_counts(&receiver, &tally) == POCKET_DONE && tally.packets == 200 && tally.written == 200);
         check(calls == 0 && held == before);
         check(pocket_close(&receiver) == POCKET_DONE && held == 0);
         check(pocket_close(&sender) == POCKET_DONE && held == -of_sender);

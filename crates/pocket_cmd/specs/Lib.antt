@@ -13,3 +13,4 @@ pub mod Kept
 pub mod Status
 pub mod Delivery
 pub mod Apart
+pub mod Refusals

@@ -10,6 +10,7 @@ mod run;
 mod status;
 mod summary;
 mod text;
+mod told;
 mod top;
 mod verbs;
 mod words;
@@ -23,6 +24,7 @@ pub use laws::{
 pub use packet_store::StoreKind;
 pub use rehearsal::rehearse;
 pub use status::{Refusal, Status, exit_code};
+pub use told::refusal_row;
 pub use top::pocket;
 pub use trial_chain::{Summary, run_trial};
 pub use verbs::{Kind, Port, Row, VERB_WORDS, Verb};

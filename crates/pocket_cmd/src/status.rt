@@ -13,46 +13,33 @@ use desk_ports::Inlet;
 use flight_chain::FlightFault;
 use packet_store::{RunFault, StoreFault, StoreKind};
 use side_tables::SideFault;
-use thiserror::Error;
 
-/// Why a command gave up. Its text is what the program prints.
-#[derive(Clone, Copy, Debug, PartialEq, Eq, Error)]
+/// Why a command gave up.
+#[derive(Clone, Copy, Debug, PartialEq, Eq)]
 pub enum Refusal {
     /// The word at this index, the verb's being 0, is wrong; or a word is missing, and this is their number.
-    #[error("word {word} is wrong")]
     BadWords { word: u32 },
     /// The side input has more than 1,048,576 bytes.
-    #[error("side input is too long")]
     SideTooLong,
     /// This record of the side input, counted from 1, is the first that is no row.
-    #[error("side row {row} is wrong")]
     BadSide { row: u32 },
     /// The script of a forecast has more than 1,048,576 bytes.
-    #[error("script is too long")]
     ScriptTooLong,
     /// This record of the script of a forecast, counted from 1, is the first that is no row.
-    #[error("script row {row} is wrong")]
     BadScript { row: u32 },
     /// An input could not be opened or read.
-    #[error("reading failed")]
     ReadFault,
     /// An output could not be opened, written or finished.
-    #[error("writing failed")]
     WriteFault,
     /// The recording ends inside this packet, counted from 0.
-    #[error("recording ends inside packet {t}")]
     CutRecord { t: u32 },
     /// A bit of this packet that belongs to no place of its vector is 1.
-    #[error("packet {t} has a spare bit set")]
     SpareBit { t: u32 },
     /// The store has no good packet from this byte on, which is the packet's first.
-    #[error("store packet at byte {byte} {kind}")]
     BadStore { byte: u64, kind: StoreKind },
     /// A byte follows the 4,294,967,296th packet.
-    #[error("too many packets")]
     TooMany,
     /// There was no memory for the run.
-    #[error("out of memory")]
     NoMemory,
 }
 

@@ -5,7 +5,7 @@ use Rattle.std.specs.FinMap as map
 use Rattle.std.specs.Str.{bytes_eq}
 use Rattle.desk_ports.specs.Courses.{Course}
 use Rattle.desk_ports.specs.Meanings.{Meanings, Counts, Kept, kept_at}
-use Rattle.desk_ports.specs.MemState.{MemState, MemPlan, bytes_code, mem_meanings, state_code}
+use Rattle.desk_ports.specs.MemState.{MemState, NothingFails, bytes_code, mem_meanings, state_code}
 
 -- the desk, and the name of the run's input
 pub record RunState : Type 0 where
@@ -14,14 +14,6 @@ pub record RunState : Type 0 where
 
 abbrev pub run_code : Coded RunState
 run_code = code_by (MemState × List ℕ) (coded× state_code bytes_code) (λ r. (r.desk, r.input)) (λ p. record { desk = p.0; input = p.1 }) (λ _. refl)
-
--- no call is told to fail
-pub record NothingFails (plan : MemPlan) : Type 0 where
-  pub open_in : plan.open_in.failing ≡ []
-  pub open_out : plan.open_out.failing ≡ []
-  pub read : plan.read.failing ≡ []
-  pub write : plan.write.failing ≡ []
-  pub finish : plan.finish.failing ≡ []
 
 -- no call is told to fail, and this is held
 abbrev pub HoldsJust : MemState → Kept → Type 0

@@ -2,7 +2,8 @@
 
 ghost use Rattle.std.specs.Prelude.{◌≡◌, IfOk, OnOk};
 ghost use Rattle.desk_ports.specs.Meanings.{Begins, Keeps, IsReadyOut};
-ghost use Rattle.trial_chain.specs.RunDesk.{IsRunDesk, NothingFails, run_meanings, run_counts, run_opened};
+ghost use Rattle.desk_ports.specs.MemState.{NothingFails};
+ghost use Rattle.trial_chain.specs.RunDesk.{IsRunDesk, run_meanings, run_counts, run_opened};
 
 use bit_vectors::NoMemory;
 use desk_ports::{Desk, Failed, Inlet, MemDesk, Outlet};

@@ -4,8 +4,8 @@ use Rattle.std.specs.Str.{bytes_eq}
 use Rattle.desk_ports.specs.MemState.{mem_meanings}
 use Rattle.desk_ports.specs.Meanings.{Keeps}
 use Rattle.trial_chain.specs.RunDesk.{RunState, run_meanings}
-use Rattle.trial_chain.proofs.RunDesks.{granting}
-use Rattle.trial_chain.proofs.RunDesks.{IsRunDesk-finish, Keeps-granting}
+use Rattle.desk_ports.proofs.Granting.{granting, Keeps-granting}
+use Rattle.trial_chain.proofs.RunDesks.{IsRunDesk-finish}
 use Rattle.trial_chain.proofs.run_desk.RunDeskDesk.finish.Goals as goal
 
 pub invariant_of-self : goal.invariant_of-self

@@ -4,8 +4,7 @@ use Rattle.std.specs.Str.{bytes_eq}
 use Rattle.desk_ports.specs.MemState.{mem_meanings}
 use Rattle.desk_ports.specs.Meanings.{Begins}
 use Rattle.trial_chain.specs.RunDesk.{RunState, run_meanings}
-use Rattle.trial_chain.proofs.RunDesks.{granting}
-use Rattle.trial_chain.proofs.RunDesks.{Begins-granting}
+use Rattle.desk_ports.proofs.Granting.{granting, Begins-granting}
 use Rattle.trial_chain.proofs.run_desk.RunDeskDesk.open_out.Goals as goal
 
 pub returns-clause-opened : goal.returns-clause-opened

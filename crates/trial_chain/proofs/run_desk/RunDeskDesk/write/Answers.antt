@@ -4,8 +4,7 @@ use Rattle.std.specs.Str.{bytes_eq}
 use Rattle.desk_ports.specs.MemState.{mem_meanings}
 use Rattle.desk_ports.specs.Meanings.{Adds}
 use Rattle.trial_chain.specs.RunDesk.{RunState, run_meanings}
-use Rattle.trial_chain.proofs.RunDesks.{granting}
-use Rattle.trial_chain.proofs.RunDesks.{Adds-granting}
+use Rattle.desk_ports.proofs.Granting.{granting, Adds-granting}
 use Rattle.trial_chain.proofs.run_desk.RunDeskDesk.write.Goals as goal
 
 pub returns-clause-added : goal.returns-clause-added
