@@ -7,6 +7,7 @@ from browser_ways import begin, click, give
 VIEWS = ["forecast", "store", "streams", "fields"]
 SIZES = [(320, 640), (390, 844), (800, 900), (1280, 800), (1920, 1080)]
 LIGHTS = ["light", "dark"]
+WRONG = {"plan": "x", "store-bits": "x", "fields": "x", "units": "x"}
 EXAMPLES = {"store": "store-example", "fields": "fields-example"}
 # What is wider than the window, or nothing.
 TOO_WIDE = """(() => { const wide = document.documentElement.clientWidth;
@@ -83,6 +84,24 @@ def tell_names(browser, page, _):
     """Buttons have names of their own, labelled parts have roles, texts have contrast, and a text can be dragged within a field."""
     browser.size(1280, 800)
     with_examples(browser, page)
+    fault = unnamed_or_faint(browser)
+    if fault:
+        return fault
+    for field, wrong in WRONG.items():
+        give(browser, field, wrong)
+    if not browser.wait(f"document.querySelectorAll('.refusal:not([hidden])').length >= {len(WRONG)}", 30):
+        return "what is wrong is not refused"
+    fault = unnamed_or_faint(browser)
+    if fault:
+        return f"with refusals, {fault}"
+    if browser.value(NO_ROLE):
+        return f"{browser.value(NO_ROLE)} have a label and no role"
+    found = browser.value(DROPS)
+    return None if found == [False, True] else f"a text and a file that are dragged are taken: {found}"
+
+
+def unnamed_or_faint(browser):
+    """Which buttons have one name, or which texts are faint, in any view and light; or None."""
     for light in LIGHTS:
         browser.ask("Emulation.setEmulatedMedia", features=[{"name": "prefers-color-scheme", "value": light}])
         for view in VIEWS:
@@ -94,10 +113,7 @@ def tell_names(browser, page, _):
                 return f"{view} has buttons of one name: {twice}"
             if browser.value(FAINT):
                 return f"{view}, {light}: {browser.value(FAINT)} are faint"
-    if browser.value(NO_ROLE):
-        return f"{browser.value(NO_ROLE)} have a label and no role"
-    found = browser.value(DROPS)
-    return None if found == [False, True] else f"a text and a file that are dragged are taken: {found}"
+    return None
 
 
 def tell_saved(browser, page, files):

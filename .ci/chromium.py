@@ -78,8 +78,8 @@ class Browser:
         elif message.get("method") == "Tracing.tracingComplete":
             self.is_traced = True
 
-    def longest_task(self, work):
-        """Does some work, and gives the processor's time of the longest task of the page's thread meanwhile, in milliseconds."""
+    def tasks(self, work):
+        """Does some work, and gives the processor's time of each task of the page's thread meanwhile, in milliseconds; or the work's fault."""
         self.traced, self.is_traced = [], False
         self.ask("Tracing.start", traceConfig={"includedCategories": ["toplevel"]}, transferMode="ReportEvents")
         try:
@@ -88,8 +88,8 @@ class Browser:
             self.ask("Tracing.end")
             self.wait_until(lambda: self.is_traced)
         pages = {(it["pid"], it["tid"]) for it in self.traced if it["ph"] == "M" and it["args"].get("name") == "CrRendererMain"}
-        tasks = [it.get("tdur", 0) / 1000 for it in self.traced if it["ph"] == "X" and (it["pid"], it["tid"]) in pages]
-        return fault or max(tasks)
+        found = [it for it in self.traced if it["name"] == "ThreadControllerImpl::RunTask" and it["ph"] == "X" and (it["pid"], it["tid"]) in pages]
+        return fault or [it.get("tdur", 0) / 1000 for it in sorted(found, key=lambda it: it["ts"])]
 
     def wait_until(self, holds, limit=60):
         """Hears the browser until something holds."""

@@ -17,11 +17,12 @@ import tempfile
 sys.dont_write_bytecode = True
 import cut_off
 import documents
+import full_disk
 import live
 import terminals
 from file_rows import FILES
 from rows import DATA, HEADER, HELP, TEXTS, VERBS, WORDS, case, sample
-from runner import Runner, ended
+from runner import Runner, Skipped, ended
 from table import table
 
 # What --help says of each number: its key, the first and the last one, and a command that takes it and can't be done.
@@ -67,9 +68,11 @@ def tabulates(runner):
 
 
 def attempted(runner, attempt):
-    """What is wrong with a row, or None. What still runs of it is ended."""
+    """What is wrong with a row, or None, or what it needs that isn't there. What still runs of it is ended."""
     try:
         return attempt()
+    except Skipped as missing:
+        return missing
     except Exception as error:
         return f"it raised {error!r}"
     finally:
@@ -80,14 +83,14 @@ def tries_of(runner):
     """All that is tried: each with its name, and a function that gives what is wrong, or None."""
     rows = [(row["name"], lambda row=row: runner.run(row)) for row in VERBS + WORDS + TEXTS + DATA + FILES if runner.is_root or "as_root" not in row]
     ranges = [(f"the range of {row[0]}", lambda row=row: keeps_range(runner, *row)) for row in RANGES]
-    further = [("numbers of each width at many places, and the sample", tabulates)] + terminals.tries() + cut_off.tries() + live.tries()
+    further = [("numbers of each width at many places, and the sample", tabulates)] + terminals.tries() + cut_off.tries() + full_disk.tries() + live.tries()
     return rows + ranges + [(name, lambda attempt=attempt: attempt(runner)) for name, attempt in further] + documents.tries()
 
 
 def main():
     if len(sys.argv) != 2:
         sys.exit(__doc__)
-    passed = failed = 0
+    passed = failed = skipped = 0
     os.umask(0o022)
     # Whoever starts this may ignore a signal, as nohup does, and the program would ignore it too.
     for number in (signal.SIGHUP, signal.SIGINT, signal.SIGTERM, signal.SIGQUIT):
@@ -96,13 +99,17 @@ def main():
         runner = Runner(sys.argv[1], room)
         for name, attempt in tries_of(runner):
             fault = attempted(runner, attempt)
+            if isinstance(fault, Skipped):
+                skipped += 1
+                print(f"command line '{name}': skipped, {fault}", flush=True)
+                continue
             passed, failed = passed + (fault is None), failed + (fault is not None)
             if fault:
                 print(f"command line '{name}': {fault}", flush=True)
         for base, folders, _ in os.walk(room):
             for name in folders:
                 os.chmod(os.path.join(base, name), 0o755)
-    print(f"{passed} passed, {failed} failed")
+    print(f"{passed} passed, {failed} failed" + (f", {skipped} skipped" if skipped else ""))
     sys.exit(1 if failed else 0)
 
 

@@ -19,6 +19,7 @@ import tempfile
 
 sys.dont_write_bytecode = True
 import processors
+import one_file_program
 from one_file_lines import long_data, states
 
 TOP = processors.TOP
@@ -43,7 +44,7 @@ TARGETS = {
     "sparc, by the instructions of LEON3": ("sparc64-linux-gnu-gcc", ["-Os", "-static", "-m32", "-mcpu=leon3"], ["qemu-sparc32plus"]),
     "riscv64": ("riscv64-linux-gnu-gcc", ["-Os", "-static"], ["qemu-riscv64"]),
     "aarch64": ("aarch64-linux-gnu-gcc", ["-Os", "-static"], ["qemu-aarch64"]),
-    "Cortex-M3": ("arm-none-eabi-gcc", ["-Os", "-mcpu=cortex-m3", "-mthumb", "--specs=rdimon.specs", "-nostartfiles", "-DDRIVER_ROOM=(1<<17)",
+    "Cortex-M3": ("arm-none-eabi-gcc", ["-Os", "-Wno-format", "-mcpu=cortex-m3", "-mthumb", "--specs=rdimon.specs", "-nostartfiles", "-DDRIVER_ROOM=(1<<17)",
                                         "-DPOCKET_NO_HEAP", "-Wl,--wrap=main", "-T", f"{BOARD}/link.ld", f"{BOARD}/start.c", f"{TOP}/library/tests/board.c"], QEMU_BOARD),
 }
 WANTED = "x86-64, gcc"
@@ -212,6 +213,17 @@ def board(room):
     return None if same(f"{folder}/hk.store", f"{folder}/wanted") else "its packets are others"
 
 
+def program(room, compiler, flags, emulator):
+    """How the program of the file does a row of the program's tables in another way, or None. Under an emulator it does fewer."""
+    need(compiler, *emulator)
+    made = room.at(f"program-{compiler}")
+    run([compiler, "-std=c99", "-Wall", "-Wextra", *flags, "-o", made, f"{room.made}/pocket-program.c"])
+    if emulator:
+        with open(f"{made}.sh", "w", encoding="ascii") as file:
+            file.write(f'#!/bin/sh\nexec {shutil.which(emulator[0])} {made} "$@"\n')
+    return one_file_program.differs(f"{made}.sh" if emulator else made, room.at(f"rows-{compiler}"), bool(emulator))
+
+
 def from_python(room):
     """How the states of library/tests/states.py fail, from Python over a shared library that is made of the file, or None."""
     to = room.at("libpocket.so")
@@ -235,6 +247,8 @@ def tries(room, saved):
     for name in WRONG:
         yield f"a wrong build fails: {name}", lambda n=name: wrong(room, n)
     yield "the example for Cortex-M", lambda: board(room)
+    yield "the program, on x86-64", lambda: program(room, "gcc", ["-O1"], [])
+    yield "the program, on powerpc", lambda: program(room, TARGETS["powerpc"][0], ["-O0", "-static"], TARGETS["powerpc"][2])
     yield "states from Python", lambda: from_python(room)
 
 
@@ -250,8 +264,10 @@ def tried(attempt):
 
 def main():
     passed = failed = skipped = 0
+    os.umask(0o022)
     fetched()
     with tempfile.TemporaryDirectory(prefix="pocket-one-file-") as folder:
+        os.chmod(folder, 0o755)
         room = Room(folder)
         if all(map(shutil.which, ("wasm2c", "wasm-opt"))):
             run(["make", "-s", "dist", f"DIST={room.made}"], limit=1800)

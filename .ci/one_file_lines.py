@@ -9,16 +9,16 @@ SAVED = [1, 13, 64, 100, 720, 1024]
 def long_data(draw):
     """Arrivals of 1 to 65,537 bytes, to a receiver that knows nothing and to one that is in step; most have more than any packet."""
     lines = []
-    for bits in (1, 8, 13, 64, 1000, 5000):
-        size = (bits + 7) // 8
-        packet = (10 * bits + 50) // 8
+    for bits in (1, 8, 13, 64, 1000):
+        size, packet = (bits + 7) // 8, (10 * bits + 50) // 8
         content = processors.text(draw.getrandbits(bits) << -bits % 8, bits)
         for in_step in (False, True):
             lines.append(f"open {bits} -")
             lines += [f"send 7 1 1 {content}"] * (3 if in_step else 0)
-            for length in (1, size, packet - 1, packet, packet + 7, packet + 8, packet + 9, packet + 16, 2 * packet + 100, 65535, 65536, 65537):
-                for fill in ("00", "FF", "80", "A5", draw.randbytes(1).hex().upper()):
-                    lines.append(f"receive {draw.randrange(3, 40)} {fill * length}")
+            for length in (1, size, packet - 1, packet, packet + 7, packet + 8, packet + 9, packet + 16, 2 * packet + 100):
+                for data in (bytes(length), b"\xff" * length, b"\xa5" * length, draw.randbytes(length), draw.randbytes(length)):
+                    lines.append(f"receive {draw.randrange(16384)} {data.hex().upper()}")
+            for length in (65535, 65536, 65537) if bits in (1, 64) else ():
                 lines.append(f"receive {draw.randrange(16384)} {draw.randbytes(length).hex().upper()}")
             lines.append("close")
     return lines

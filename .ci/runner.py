@@ -13,6 +13,10 @@ NOBODY = 65534
 LIMIT = 60
 
 
+class Skipped(Exception):
+    """What a try needs is not there."""
+
+
 class Runner:
     """Runs the program in folders of its own, as nobody if it is run by root."""
 

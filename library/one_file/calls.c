@@ -23,7 +23,8 @@ static u32 data_at(u32 bits) {
     return content_at(RECEIVER, bits) + ROUNDED(POCKET_INPUT_BYTES(bits) + 1u, 8u);
 }
 
-/* No packet has as many bytes of data, so one with more is wrong at a bit before their end. */
+/* No packet has as many bytes of data. Of more the first are judged: what is found before their end is found of all, and whatever else is
+ * told, that they are a packet or end too early, can't be so. */
 static u32 data_bytes(u32 bits) {
     return ROUNDED(POCKET_PACKET_BYTES(bits) + 8u, 8u);
 }
@@ -242,7 +243,6 @@ uint32_t pocket_receive(pocket_handle *handle, uint16_t count, const uint8_t *da
     bits = head_of(m, BITS_AT);
     most = data_bytes(bits);
     told = given(m, data_at(bits), data, length, most);
-    /* (more bytes than a packet has: the first are judged, and these have to be wrong) */
     if (length > most)
         told = length > POCKET_MOST_DATA ? POCKET_MOST_DATA + 1u : most;
     content_room = room > POCKET_MOST_DATA ? POCKET_MOST_DATA : (u32)room;
@@ -256,7 +256,7 @@ uint32_t pocket_receive(pocket_handle *handle, uint16_t count, const uint8_t *da
     finding->kind = get32(place(TOLD) + 24);
     finding->value = get32(place(TOLD) + 28);
     finding->mask_alone = get8(place(TOLD) + 32) != 0;
-    if (length > most && finding->kind != POCKET_WRONG && finding->kind != POCKET_REPEAT) {
+    if (length > most && (finding->kind == POCKET_WRITTEN || finding->kind == POCKET_EARLY)) {
         set_broken(m);
         return POCKET_BROKEN;
     }

@@ -148,6 +148,19 @@ static struct answer ran(char **words, unsigned count) {
     return answer;
 }
 
+/* Whether words name a file as an output that was read. */
+static bool write_over_input(char **words, unsigned count) {
+    struct stat standing;
+    unsigned at, which;
+    for (at = 0; at < count; at++)
+        for (which = 0; which < MOST_OUTPUTS; which++) {
+            const char *const name = output_of(words[at], which);
+            if (name != NULL && !is_standard_output(name) && stat(name, &standing) == 0 && S_ISREG(standing.st_mode) && was_read(&standing))
+                return true;
+        }
+    return false;
+}
+
 /* Prints what the words ask of the program itself; gives whether they ask anything. */
 static bool asked(int count, char **words) {
     const bool is_of_verb = count == 2 && strcmp(words[1], "--help") == 0;
@@ -186,7 +199,9 @@ int main(int count, char **words) {
         for (at = 0; at < count; at++)
             if (input_of(words[at]) != NULL)
                 read_input(input_of(words[at]));
-        if (input_count > 0)
+        if (write_over_input(words, (unsigned)count))
+            refuse(&answer, FILE_FAULT, "writing failed");
+        else if (input_count > 0)
             answer = ran(words, (unsigned)count);
     }
     if (answer.exit == DONE && !hands_over(answer.outputs, answer.count))

@@ -6,6 +6,17 @@ void initialise_monitor_handles(void);
 int __real_main(void);
 int __wrap_main(void);
 void leave(int status);
+void _init(void);
+void _fini(void);
+
+/* (which newlib calls as it ends) */
+void _init(void)
+{
+}
+
+void _fini(void)
+{
+}
 
 int __wrap_main(void)
 {

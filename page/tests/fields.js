@@ -11,8 +11,8 @@ import { columns_of } from '../data/table.js';
 const desk = new Desk();
 const sum = () => part('fields-sum').textContent;
 
-async function open(name, recording, bits, report = '') {
-  await views.fields.open(name, new Blob([recording]), bits, report);
+async function open(name, recording, bits) {
+  await views.fields.open(name, new Blob([recording]), bits, null);
 }
 
 async function test_fields() {
@@ -34,7 +34,7 @@ async function test_fields() {
   faults.push(differs('a refused row', part('fields-box').querySelector('.gutter .wrong').textContent, '✗ 2'), differs('its words', part('fields-text-refusal').textContent.includes('is not a field or a limit'), true));
   faults.push(differs('the strip', says('fields-strip'), 'no picture: side row 2 is wrong'));
   views.fields.rows.text = EXAMPLE_FIELDS;
-  await views.fields.open('the example', views.fields.file, '64', 'first,last,cause,value\nend,9,9,0\n');
+  await views.fields.open('the example', views.fields.file, '64', new Blob(['first,last,cause,value\nend,9,9,0\n']));
   faults.push(differs('another report', part('fields-refusal').textContent.startsWith('The report is of another recording'), true));
   return faults_of(faults);
 }
@@ -95,6 +95,10 @@ async function test_units() {
   type('time-start', '2026-03-01T00:00:00');
   type('time-step', '60');
   faults.push(differs('a time', part('fields-words').querySelector('.state').textContent, 'Packet 52, 2026-03-01 00:52:00, at place 50 of the recording.'));
+  type('time-start', '');
+  type('time-kind', 'field');
+  type('time-field', 'mode');
+  faults.push(differs('a time of a field', part('fields-words').querySelector('.state').textContent, 'Packet 52, 0:00:01, at place 50 of the recording.'));
   type('time-kind', 'number');
   faults.push(differs('ticks', ticks_between(-14, 42, 4).join(' '), '0 20 40'), differs('a clock', time_words(3725.5, null), '1:02:05.500'));
   return faults_of(faults, differs('an offset', value_words(read_units('t,C,0.5,-10').units.get('t'), '30'), '5 C (30)'));

@@ -1,12 +1,12 @@
 // Tests of a store, after a pass.
 
 import { differs, faults_of, forecast_shown, press, says, shown, type } from './tools.js';
-import { to_hex } from '../views/bits.js';
+import { hex_words, to_hex } from '../views/bits.js';
 import { Desk } from '../views/desk.js';
 import { part } from '../views/parts.js';
 import { show_view, views } from '../views/tabs.js';
-import { heights_of } from '../views/strip.js';
-import { LOST } from '../data/runs.js';
+import { heights_of, strip_parts } from '../views/strip.js';
+import { FINDINGS, LOST, Runs, WRITTEN } from '../data/runs.js';
 import { arrivals_of, packet_length } from '../data/space.js';
 import { bytes_of } from '../data/text.js';
 
@@ -14,7 +14,7 @@ const desk = new Desk();
 const sum = () => part('store-sum').textContent;
 
 // What a run of the program gives.
-export async function ran(words, inputs) {
+async function ran(words, inputs) {
   const done = await desk.ask('run', { words: words.split(' '), inputs });
   if (done.status !== 0) throw new Error(done.text);
   return done.outputs;
@@ -166,7 +166,18 @@ async function test_other_bits() {
 function test_shares() {
   const counts = (written, lost) => [written, lost, 0, 0, 0, 0];
   const faults = [[counts(98, 2), 2], [counts(9e5, 1), 2], [counts(50, 50), 24], [counts(0, 9), 48]].map(([given, wanted]) => differs(`the height of ${given}`, heights_of(given)[LOST], wanted));
-  return faults_of(faults);
+  const runs = new Runs(FINDINGS);
+  for (let first = 0; first < 110000; first += 11) {
+    runs.add(first, first + 9, WRITTEN);
+    runs.add(first + 10, first + 10, LOST);
+  }
+  const parts = strip_parts(runs, { first: 0, width: 110000 }, 1000), most = Math.max(...parts.map((one) => one.heights[LOST]));
+  return faults_of(faults, differs('one of eleven', most <= 6 && parts.every((one) => one.heights[WRITTEN] >= 42 && one.heights[LOST] >= 2), true));
+}
+
+// Of many bytes the beginning is shown, with how many there are.
+function test_many_bytes() {
+  return differs('132 bytes', hex_words(new Uint8Array(132)).slice(-15), '00 .. (132 bytes)'.slice(-15));
 }
 
 export const STORE_TESTS = [
@@ -178,4 +189,5 @@ export const STORE_TESTS = [
   ['all APIDs of a store', test_streams],
   ['other bits than the sender\'s', test_other_bits],
   ['shares of a unit', test_shares],
+  ['many bytes', test_many_bytes],
 ];

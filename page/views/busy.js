@@ -50,6 +50,9 @@ export class Busy {
   }
 
   dim(is_old) {
-    for (const picture of this.pictures) picture.classList.toggle('old', is_old);
+    for (const picture of this.pictures) {
+      picture.classList.toggle('old', is_old);
+      picture.setAttribute('aria-busy', String(is_old));
+    }
   }
 }

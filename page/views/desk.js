@@ -5,11 +5,6 @@ import { part } from './parts.js';
 // The policy under which the worker's text, and nothing else, may be started.
 const texts = { createScriptURL: () => URL.createObjectURL(new Blob([part('worker').textContent], { type: 'text/javascript' })) };
 const policy = window.trustedTypes ? window.trustedTypes.createPolicy('worker', texts) : texts;
-const busy = new Set(); // the desks that have asked and have no answer yet
-
-export function is_any_busy() {
-  return busy.size > 0;
-}
 
 export class Desk {
   constructor() {
@@ -23,7 +18,6 @@ export class Desk {
     const number = ++this.number;
     return new Promise((answer, fail) => {
       this.asked = { number, answer, fail, told };
-      busy.add(this);
       try {
         this.worker ??= this.started();
         this.worker.postMessage({ number, name, given });
@@ -55,7 +49,6 @@ export class Desk {
   settle(tell) {
     const { asked } = this;
     this.asked = null;
-    busy.delete(this);
     if (asked) tell(asked);
   }
 
@@ -83,13 +76,14 @@ export class Latest {
     this.waits = { given };
     if (this.is_busy) return;
     this.is_busy = true;
-    busy.add(this);
-    while (this.waits) {
-      const { given: next } = this.waits;
-      this.waits = null;
-      await this.ask(next);
+    try {
+      while (this.waits) {
+        const { given: next } = this.waits;
+        this.waits = null;
+        await this.ask(next);
+      }
+    } finally {
+      this.is_busy = false;
     }
-    this.is_busy = false;
-    busy.delete(this);
   }
 }

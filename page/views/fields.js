@@ -14,13 +14,13 @@ import { LOW_STRIP, Strip, fill_legend } from './strip.js';
 import { TimeAxis } from './time_axis.js';
 import { Runs } from '../data/runs.js';
 import { ABOVE, BELOW, Places, cells_of } from '../data/table.js';
-import { counted, grouped, sentence, text_of } from '../data/text.js';
+import { counted, grouped, sentence } from '../data/text.js';
 
 const [LEAST_HEIGHT, MOST_HEIGHT, HEAD] = [46, 110, 19]; // of a curve, and what stands above each
 
 export class FieldsView {
   constructor() {
-    Object.assign(this, { span: new Span(), desk: new Desk(), file: null, report: '', name: '', curves: [], table: null, runs: null, units: new Map() });
+    Object.assign(this, { span: new Span(), desk: new Desk(), file: null, report: null, name: '', curves: [], table: null, runs: null, units: new Map() });
     this.asking = new Later(() => this.run(), 200);
     this.rows = new Rows(part('fields-box'), 'fields', () => this.asking.start());
     this.unit_rows = new Rows(part('units-box'), 'units', () => this.take_units());
@@ -40,7 +40,7 @@ export class FieldsView {
     take_choice(part('report-file'), (files) => this.take(files));
     part('fields-bits').addEventListener('input', () => this.asking.start());
     part('fields-example').addEventListener('click', () => this.example());
-    part('drop-report').addEventListener('click', () => this.open(this.name, this.file, part('fields-bits').value, ''));
+    part('drop-report').addEventListener('click', () => this.open(this.name, this.file, part('fields-bits').value, null));
     part('save-table').addEventListener('click', () => save('table.csv', this.table.bytes));
     part('save-outside').addEventListener('click', () => save('limits.csv', this.outside));
   }
@@ -51,7 +51,7 @@ export class FieldsView {
     try {
       for (const file of files) {
         const front = await text_of_file(file.slice(0, 40));
-        if (front.startsWith('first,last,cause,value')) found.report = await text_of_file(file);
+        if (front.startsWith('first,last,cause,value')) found.report = file;
         else if (/^\s*(field|limit),/.test(front)) this.rows.text = await text_of_file(file);
         else Object.assign(found, { file, name: file.name });
       }
@@ -59,13 +59,13 @@ export class FieldsView {
       tell('fields-refusal', fault.message);
       return;
     }
-    Object.assign(this, found.file ? { report: '', ...found } : found);
+    Object.assign(this, found.file ? { report: null, ...found } : found);
     await this.run();
   }
 
-  // Looks at another recording; its report may be bytes or a text, or empty.
+  // Looks at another recording; its report is a file too, or null.
   open(name, file, bits, report) {
-    Object.assign(this, { name, file, report: typeof report === 'string' ? report : text_of(report) });
+    Object.assign(this, { name, file, report });
     part('fields-bits').value = bits;
     return this.run();
   }
@@ -74,7 +74,7 @@ export class FieldsView {
     const made = await this.desk.ask('example_recording', {});
     if (!made) return;
     this.rows.text = made.fields;
-    await this.open('The example', new Blob([made.recording]), '64', made.report);
+    await this.open('The example', new Blob([made.recording]), '64', new Blob([made.report]));
   }
 
   // Has the table made; a run before that one is ended.

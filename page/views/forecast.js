@@ -21,7 +21,7 @@ const MISSING = 'These are the losses of a store. The schedule that was sent is 
 
 export class ForecastView {
   constructor() {
-    Object.assign(this, { span: new Span(), before: [], runs: null, asked: EXAMPLE, desk: new Desk(), why_desk: new Desk(), pending: null });
+    Object.assign(this, { span: new Span(), before: [], runs: null, asked: EXAMPLE, is_new: true, is_missing: false, desk: new Desk(), why_desk: new Desk(), pending: null });
     this.latest = new Latest(this.desk, (asked) => this.run(asked));
     this.asking = new Later(() => this.explain(), 160);
     this.plan = new Rows(part('plan-box'), 'schedule', () => this.typed());
@@ -69,6 +69,7 @@ export class ForecastView {
 
   // Takes the losses of a store. Its schedule is asked for, and until there is one, that it is missing stands beside the picture.
   put_losses(packets, script) {
+    this.is_new = true;
     this.change(() => this.put({ ...this.texts(), packets: String(packets), script, plan: '' }));
     const none = button('It had none', () => this.tell_missing(false)), open = element('label', { class: 'button plain', for: 'plan-file' }, 'Open the schedule');
     this.tell_missing(true, open, ' ', none);
@@ -174,7 +175,6 @@ export class ForecastView {
   }
 
   show(asked, { status, text, runs, bytes }) {
-    const is_first = !this.runs && !this.refused;
     Object.assign(this, { asked, runs: runs && Runs.of(runs), refused: text, bytes });
     this.refuse(text);
     part('save-forecast').disabled = status !== 0;
@@ -185,7 +185,8 @@ export class ForecastView {
       this.strip.clear(text);
       this.advice.clear();
     }
-    if (is_first) this.begin();
+    if (this.is_new) this.begin();
+    this.is_new = false;
     this.sum();
     this.point();
   }

@@ -84,8 +84,11 @@ export function save(name, content) {
   setTimeout(() => URL.revokeObjectURL(address), 10000);
 }
 
+const MOST_TEXT = 8e6; // bytes of a text that is typed
+
 // The text of a file that was chosen or dropped. What can't be read raises an error that says so.
 export async function text_of_file(file) {
+  if (file.size > MOST_TEXT) throw new Error(`The file ${file.name} has ${Math.ceil(file.size / 1e6)} MB, too much for a text that is typed.`);
   try {
     return await file.text();
   } catch (fault) {

@@ -25,10 +25,10 @@ function steer_by_key(span, event) {
   return true;
 }
 
-// Buttons that zoom a span, for hands that have no wheel and no keys.
-export function zoom_buttons(span) {
-  const one = (sign, name, act) => button(sign, act, { 'aria-label': name, title: name, class: 'zoom' });
-  return element('span', { role: 'group', 'aria-label': 'Zoom' }, one('+', 'Zoom in', () => span.zoom(0.5)), one('−', 'Zoom out', () => span.zoom(2)),
+// Buttons that zoom a span, for hands that have no wheel and no keys. `of` tells whose they are, if there are several on a view.
+export function zoom_buttons(span, of = '') {
+  const one = (sign, name, act) => button(sign, act, { 'aria-label': name + of, title: name + of, class: 'zoom' });
+  return element('span', { role: 'group', 'aria-label': `Zoom${of}` }, one('+', 'Zoom in', () => span.zoom(0.5)), one('−', 'Zoom out', () => span.zoom(2)),
     one('All', 'See all packets', () => span.see_all()));
 }
 

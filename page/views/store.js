@@ -18,7 +18,7 @@ const MOST_LOSSES = 20000; // stretches that a forecast is given
 
 export class StoreView {
   constructor() {
-    Object.assign(this, { span: new Span(), desk: new Desk(), file: null, name: '', verb: 'restore', shown: null });
+    Object.assign(this, { span: new Span(), desk: new Desk(), file: null, name: '', verb: 'restore', is_new: true, shown: null });
     this.asking = new Later(() => this.run(), 150);
     this.strip = new Strip(part('store-strip'), this.span, (at) => packet_words(this.shown.runs, this.shown.verb, at), { key: (event) => this.key(event) });
     this.strip.clear('no store yet');
@@ -35,7 +35,7 @@ export class StoreView {
     for (const id of ['store-bits', 'store-apid', 'store-window']) part(id).addEventListener('input', () => this.asking.start());
     const acts = {
       'store-example': () => this.example(),
-      'save-report': () => save(`${this.verb}.report.csv`, this.shown.report),
+      'save-report': () => save(`${this.shown.verb}.report.csv`, this.shown.report),
       'save-recording': () => save('restored.rec', this.shown.recording),
       'to-fields': () => this.to_fields(),
       'to-forecast': () => this.to_forecast(),
@@ -57,7 +57,7 @@ export class StoreView {
 
   // Looks at another store. Without an APID that with most packets is taken.
   open(name, file, bits, apid) {
-    Object.assign(this, { name, file, verb: 'restore' });
+    Object.assign(this, { name, file, verb: 'restore', is_new: true });
     part('store-bits').value = bits || bits_of_apid(apid);
     if (apid !== null) part('store-apid').value = apid;
     return this.run(apid);
@@ -82,13 +82,19 @@ export class StoreView {
       answer = { ...given, apid: apid ?? '', status: 5, text: fault.message, apids: [], bytes: file.size };
     }
     if (answer) this.show({ ...given, ...answer });
-    else if (!this.desk.asked) this.busy.stop();
+    else if (!this.desk.asked) this.cancelled();
+  }
+
+  // What is shown is from before, and so is the order in which it was restored.
+  cancelled() {
+    this.busy.stop();
+    this.verb = this.shown ? this.shown.verb : 'restore';
   }
 
   // Shows what was answered, or the refusal; what is refused leaves no picture.
   show(answer) {
     this.busy.end();
-    const is_well = answer.status === 0, is_new = !this.shown;
+    const is_well = answer.status === 0;
     if (part('store-apid').value !== answer.apid) part('store-apid').value = answer.apid;
     this.tell_file(answer);
     this.refuse(answer);
@@ -100,7 +106,8 @@ export class StoreView {
       this.strip.show(this.shown.runs);
       fill(part('store-report'), report_table(answer.told, (at) => this.go(at)));
       fill(part('report-title'), answer.verb === 'late' ? 'Its report, after the packets were put in order' : 'Its report');
-      if (is_new) this.begin();
+      if (this.is_new) this.begin();
+      this.is_new = false;
     } else {
       this.strip.clear(answer.bits === '' ? 'the bits of a packet are to be given' : answer.text);
     }
@@ -196,6 +203,6 @@ export class StoreView {
   to_fields() {
     const { recording, report, bits } = this.shown;
     show_view('fields');
-    views.fields.open(`the restored packets of ${this.name}`, new Blob([recording]), bits, report);
+    views.fields.open(`the restored packets of ${this.name}`, new Blob([recording]), bits, new Blob([report]));
   }
 }

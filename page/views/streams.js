@@ -5,6 +5,7 @@ import { Desk } from './desk.js';
 import { bits_of_apid, remember_bits } from './memory.js';
 import { Later, button, element, fill, part, save, take_choice, take_drops, tell, text_of_file } from './parts.js';
 import { Span } from './span.js';
+import { zoom_buttons } from './steer.js';
 import { packet_words, why_store } from './store_words.js';
 import { LOW_STRIP, Strip } from './strip.js';
 import { show_view, views } from './tabs.js';
@@ -110,7 +111,8 @@ export class StreamsView {
       show_view('store');
       views.store.open(this.name, this.file, this.inputs.get(apid).value, apid);
     });
-    const box = element('section', { class: 'stream', 'aria-label': `APID ${apid}` }, element('p', { class: 'sum' }, element('b', {}, `APID ${apid}: `), sum, ' ', open), canvas);
+    const head = element('div', { class: 'headline' }, element('p', { class: 'sum' }, element('b', {}, `APID ${apid}: `), sum, ' ', open), zoom_buttons(span, `, APID ${apid}`));
+    const box = element('section', { class: 'stream', 'aria-label': `APID ${apid}` }, head, canvas);
     const strip = new Strip(canvas, span, (at) => packet_words(runs, 'late', at), { form: LOW_STRIP });
     this.strips.push(strip);
     strip.show(runs);

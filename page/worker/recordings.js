@@ -6,9 +6,9 @@ import { run_program } from './program.js';
 import { EXAMPLE_FIELDS } from '../data/example.js';
 import { Report, read_report } from '../data/report.js';
 import { Places, mark_limits, mark_outside, read_table, stretches_of } from '../data/table.js';
-import { bytes_of, text_of } from '../data/text.js';
+import { bytes_of } from '../data/text.js';
 
-// The table of a recording by a text of fields; `report` is that of its restoring, or empty if no packet is missing.
+// The table of a recording by a text of fields; `report` is the file of its restoring's report, or null if no packet is missing.
 export async function* recording_job({ file, bits, fields, report }) {
   const recording = yield* bytes_of_file(file);
   yield { doing: 'reading its fields' };
@@ -16,7 +16,7 @@ export async function* recording_job({ file, bits, fields, report }) {
   const { status, text, outputs } = run_program(words, { recording, fields: bytes_of(fields) });
   if (status !== 0) return { status, text };
   yield { doing: 'reading its values' };
-  return { status, text, ...table_of(outputs, fields, report) };
+  return { status, text, ...table_of(outputs, fields, report && await report.text()) };
 }
 
 function table_of({ table: bytes, outside }, fields, text) {
@@ -37,5 +37,5 @@ function whole(count) {
 // The example: a recording with its report, and the text of its fields.
 export function* example_recording_job() {
   const { outputs } = run_program(['restore', 'in=store', 'out=recording', 'report=report', 'bits=64', 'apid=100'], { store: example_store() });
-  return { recording: outputs.recording, report: text_of(outputs.report), fields: EXAMPLE_FIELDS };
+  return { recording: outputs.recording, report: outputs.report, fields: EXAMPLE_FIELDS };
 }

@@ -35,23 +35,29 @@ function main_apid(walk) {
 export async function* store_job({ file, bits, apid: wanted, verb, window }) {
   const { store, walk } = yield* read_store(file), apid = walk.shapeless > 0 ? main_apid(walk) : wanted ?? main_apid(walk);
   const given = ['in=store', `bits=${bits}`, `apid=${apid}`], answer = { apid, apids: told_apids(walk), bytes: file.size, verb };
-  yield { doing: 'listing its packets' };
-  const listed = run_program(['show', ...given, 'out=listing'], { store });
-  Object.assign(answer, { status: listed.status, text: listed.text });
-  if (listed.status !== 0) return answer;
-  const places = arrivals_of(store, Number(apid));
-  answer.falls = falls_back(store, places);
-  if (verb === 'restore') Object.assign(answer, { places, listing: listed.outputs.listing, runs: read_listing(listed.outputs.listing) });
+  if (verb === 'restore') {
+    yield { doing: 'listing its packets' };
+    Object.assign(answer, listed(store, given, Number(apid)));
+    if (answer.status !== 0) return answer;
+  }
   yield { doing: verb === 'late' ? 'putting its packets in order' : 'restoring its packets' };
   const words = [verb, ...given, 'out=recording', 'report=report', ...(verb === 'late' ? [`window=${window}`] : [])];
   return Object.assign(answer, restored(run_program(words, { store }), verb));
+}
+
+// The listing of a store, its runs, and where its packets begin.
+function listed(store, given, apid) {
+  const { status, text, outputs: { listing } } = run_program(['show', ...given, 'out=listing'], { store });
+  if (status !== 0) return { status, text };
+  const places = arrivals_of(store, apid);
+  return { status, text, listing, places, runs: read_listing(listing), falls: falls_back(store, places) };
 }
 
 // What was restored: the recording, its report, and for `late`, which has no listing, the runs of the report.
 function restored({ status, text, outputs: { recording, report } }, verb) {
   if (status !== 0) return { status, text };
   const read = read_report(text_of(report));
-  return { status, recording, report, told: read.told(), ...(verb === 'late' ? { runs: read.runs } : {}) };
+  return { status, text, recording, report, told: read.told(), ...(verb === 'late' ? { runs: read.runs } : {}) };
 }
 
 // Looks at all streams of a store that `streams`, a text of rows APID,bits, has.
