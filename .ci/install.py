@@ -8,6 +8,9 @@ import subprocess
 import sys
 import tempfile
 
+sys.dont_write_bytecode = True
+import needs
+
 TOP = os.path.dirname(os.path.dirname(os.path.abspath(__file__)))
 FILES = {"bin/pocket": 0o755, "share/man/man1/pocket.1": 0o644, "share/bash-completion/completions/pocket": 0o644, "share/zsh/vendor-completions/_pocket": 0o644}
 
@@ -16,15 +19,6 @@ def run(*words, **how):
     """How a command ended, and what it said."""
     ran = subprocess.run(words, stdout=subprocess.PIPE, stderr=subprocess.STDOUT, text=True, timeout=300, check=False, **how)
     return ran.returncode, ran.stdout
-
-
-def had(command, package):
-    """Whether a command is there, or its package can be had."""
-    if not shutil.which(command) and os.geteuid() == 0 and shutil.which("apt-get"):
-        if run("apt-get", "install", "-y", "-q", "--no-install-recommends", package)[0]:
-            run("apt-get", "update", "-q")
-            run("apt-get", "install", "-y", "-q", "--no-install-recommends", package)
-    return shutil.which(command) is not None
 
 
 def installs(program, room):
@@ -70,7 +64,7 @@ def main():
     with tempfile.TemporaryDirectory(prefix="pocket-install-") as room:
         for name, attempt, command, package in [("make install-program", installs, "make", "make"), ("the Debian package", packs, "dpkg-deb", "dpkg"),
                                                 ("lintian", is_clean, "lintian", "lintian")]:
-            if not had(command, package):
+            if not needs.had(command, package):
                 skipped += 1
                 print(f"skipped: {name} ({command} can't be had)")
                 continue

@@ -13,6 +13,9 @@ import subprocess
 import sys
 import tempfile
 
+sys.dont_write_bytecode = True
+import needs
+
 ROOT = os.path.dirname(os.path.dirname(os.path.abspath(__file__)))
 DATA = os.path.join(ROOT, "crates", "pocket", "data")
 STRICT = ["-Wall", "-Wextra", "-pedantic", "-Werror"]
@@ -110,6 +113,14 @@ def python_calls(room):
     return told(room.run(sys.executable, os.path.join(ROOT, "library", "tests", "worked.py")))
 
 
+def typed(room):
+    """Whether mypy finds no fault in the module, as strict as it can be."""
+    if not needs.had("mypy"):
+        raise Skipped("mypy")
+    found = room.run("mypy", "--strict", "--no-error-summary", "--cache-dir=" + room.at("mypy"), os.path.join(ROOT, "library", "python", "pocket"))
+    return found or None
+
+
 def shows(room):
     """Whether the module shows the verdicts of a store, and refuses one that is cut."""
     words = [sys.executable, "-m", "pocket", "bits=8", "apid=100"]
@@ -183,6 +194,7 @@ def tries():
             + [("no error under valgrind", lambda room: clean(room, "tests/worked.c", "worked-debug")),
                ("no error under valgrind with memory refused", lambda room: clean(room, "tests/refused_memory.c", "refused-debug", "-Wl,--wrap=malloc,--wrap=realloc,--wrap=free")),
                ("each allocation refused", refused_memory), ("a million random bytes", random_bytes), ("calls from Python", python_calls),
+               ("misuse from Python", lambda room: tool(room, "misuse")), ("the types of the module", typed),
                ("the module shows a store", shows), ("records of stations joined", lambda room: tool(room, "merge")),
                ("packets out of frames", lambda room: tool(room, "frames")), ("the headers of 10,000 frames", frame_headers),
                ("tables with numbers and times, and back", lambda room: tool(room, "tables")),

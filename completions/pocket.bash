@@ -12,15 +12,20 @@ _pocket() {
         [table]="in= out= report= fields= bits="
         [forecast]="out= packets= robust= plan= script="
     )
-    local line=${COMP_LINE:0:COMP_POINT} word key
-    word=${line##* }
+    local line=${COMP_LINE:0:COMP_POINT} word key at
+    local -a given
+    word=${line##*[[:space:]]}
+    read -ra given <<< "${line%"$word"}"
+    # Before the command there may be others (sudo, nice, do): its own words come after its name.
+    for ((at = ${#given[@]} - 1; at >= 0; at--)); do
+        [[ ${given[at]} != "$1" ]] || break
+    done
+    given=("${given[@]:at + 1}")
     COMPREPLY=()
-    if [[ ${line% *} != *" "* ]]; then
+    if ((${#given[@]} == 0)); then
         mapfile -t COMPREPLY < <(compgen -W "${!keys[*]} --help --version" -- "$word")
         return
     fi
-    local -a given
-    read -ra given <<< "${line% *}"
     case $word in
         in=* | out=* | report=* | plan=* | script=* | streams=* | fields=*)
             mapfile -t COMPREPLY < <(compgen -f -- "${word#*=}")
@@ -28,8 +33,8 @@ _pocket() {
             ;;
         *=*) ;;
         *)
-            for key in ${keys[${given[1]}]}; do
-                [[ " ${given[*]:2}" == *" $key"* ]] || mapfile -t -O "${#COMPREPLY[@]}" COMPREPLY < <(compgen -W "$key" -- "$word")
+            for key in ${keys[${given[0]}]-}; do
+                [[ " ${given[*]:1}" == *" $key"* ]] || mapfile -t -O "${#COMPREPLY[@]}" COMPREPLY < <(compgen -W "$key" -- "$word")
             done
             compopt -o nospace
             ;;

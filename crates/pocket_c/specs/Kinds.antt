@@ -29,6 +29,13 @@ HasOtherThanBench (Some (held.Sender s)) = ⊤
 HasOtherThanBench (Some (held.Receiver r)) = ⊤
 HasOtherThanBench (Some (held.Bench b)) = ⊥
 
+-- it holds a desk
+abbrev pub HasBench : Holding → Type 0
+HasBench None = ⊥
+HasBench (Some (held.Sender s)) = ⊥
+HasBench (Some (held.Receiver r)) = ⊥
+HasBench (Some (held.Bench b)) = ⊤
+
 -- the flags of a packet, by its three values
 abbrev pub flags_by : Bool → Bool → Bool → Flags
 flags_by new_mask send_mask whole = record { p = new_mask; f = send_mask; r = whole }

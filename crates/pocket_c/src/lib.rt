@@ -12,6 +12,7 @@ mod loose;
 mod receiver;
 mod sender;
 mod status;
+mod stream;
 
 pub use bench::Bench;
 pub use desk::{pocket_desk_open, pocket_get, pocket_put, pocket_run, pocket_word};
@@ -21,3 +22,4 @@ pub use laws::handles_pass_between_threads;
 pub use receiver::{Counts, Finding, pocket_counts, pocket_receive, pocket_receiver_open};
 pub use sender::{pocket_send, pocket_sender_open};
 pub use status::Status;
+pub use stream::{pocket_bits, pocket_sent};

@@ -1,0 +1,103 @@
+"""What a call that is refused raises."""
+
+from __future__ import annotations
+
+
+class PocketError(Exception):
+    """A call that was refused. Nothing has changed."""
+
+
+class OutOfMemory(PocketError, MemoryError):
+    """There is no memory for a new sender or receiver, or for what a desk is to keep."""
+
+
+class Closed(PocketError, ValueError):
+    """The sender, the receiver or the desk is closed."""
+
+
+class BitsOutOfRange(PocketError, ValueError):
+    """The number of bits is not from 1 to 49,152."""
+
+
+class WrongLength(PocketError, ValueError):
+    """An input or a first mask has not ceil(bits / 8) bytes."""
+
+
+class SpareBitSet(PocketError, ValueError):
+    """A bit after the last one, in the last byte of an input or a first mask, is 1."""
+
+
+class RobustnessOutOfRange(PocketError, ValueError):
+    """The required robustness is not from 0 to 7."""
+
+
+class CountOutOfRange(PocketError, ValueError):
+    """The sequence count is not from 0 to 16,383."""
+
+
+class TooLong(PocketError, ValueError):
+    """A packet has more than 65,536 bytes of data."""
+
+
+class TooManyPackets(PocketError):
+    """4,294,967,296 packets were sent or received."""
+
+
+class NotText(PocketError, ValueError):
+    """A name or a word is not UTF-8."""
+
+
+class TooManyWords(PocketError, ValueError):
+    """A command has 1,000 words."""
+
+
+class Refused(PocketError):
+    """A command at a desk that was refused, with the refusal's text. The names of its outputs keep what they had, unless writing failed."""
+
+    def __init__(self, text: str, exit_number: int) -> None:
+        super().__init__(text)
+        #: The exit number of the program, 1 to 5.
+        self.exit_number = exit_number
+
+
+class NoState(PocketError, ValueError):
+    """Bytes that are no state of this kind: damaged, cut, or of another version."""
+
+
+class Broken(PocketError):
+    """The memory of a sender or a receiver was damaged. It can only be closed."""
+
+
+class StoreError(PocketError, ValueError):
+    """Bytes that are no Space Packets, or none of whole packets."""
+
+
+# What each answer of the library is here. The texts are those of the refusals of the proved crates.
+REFUSED = {
+    1: (OutOfMemory, "out of memory"),
+    2: (Closed, "it is closed"),
+    3: (PocketError, "it is open"),
+    4: (PocketError, "it is of the other kind"),
+    5: (BitsOutOfRange, "a vector has 1 to 49152 places"),
+    6: (WrongLength, "the mask has the wrong length"),
+    7: (SpareBitSet, "the mask has a spare bit set"),
+    8: (WrongLength, "the input has the wrong length"),
+    9: (SpareBitSet, "the input has a spare bit set"),
+    10: (RobustnessOutOfRange, "the required robustness is above 7"),
+    11: (PocketError, "the room is too short"),
+    12: (TooManyPackets, "too many packets"),
+    13: (CountOutOfRange, "the sequence count is above 16383"),
+    14: (TooLong, "the packet is too long"),
+    15: (NotText, "it is not UTF-8"),
+    16: (TooManyWords, "the command has too many words"),
+    252: (NoState, "it is no state"),
+    253: (NoState, "it is a state of the other kind or of other bits"),
+    254: (Broken, "its memory was damaged"),
+}
+
+
+def done(status: int) -> None:
+    """Raises what an answer stands for, unless the call was done."""
+    if status:
+        kind, text = REFUSED.get(status, (PocketError, f"status {status}"))
+        raise kind(text)

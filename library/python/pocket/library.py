@@ -1,0 +1,72 @@
+"""The calls of libpocket.so, by ctypes. The library is the one that the variable POCKET_LIBRARY names, or the one that the system finds."""
+
+from __future__ import annotations
+
+import ctypes
+import ctypes.util
+import os
+from typing import Any
+
+from .errors import PocketError
+
+
+class Handle(ctypes.Structure):
+    _fields_ = [("at", ctypes.c_void_p), ("state", ctypes.c_size_t)]
+
+
+class Finding(ctypes.Structure):
+    _fields_ = [("number", ctypes.c_uint64), ("first_lost", ctypes.c_uint64), ("lost", ctypes.c_uint64), ("kind", ctypes.c_uint32),
+                ("value", ctypes.c_uint32), ("mask_alone", ctypes.c_bool)]
+
+
+class Tally(ctypes.Structure):
+    _fields_ = [(name, ctypes.c_uint64) for name in ("packets", "written", "repeats", "listed")]
+
+
+_BYTES, _SIZE, _HANDLE = ctypes.c_char_p, ctypes.c_size_t, ctypes.POINTER(Handle)
+_CALLS = {
+    "pocket_sender_open": [_HANDLE, ctypes.c_uint32, _BYTES, _SIZE],
+    "pocket_send": [_HANDLE, _BYTES, _SIZE, ctypes.c_bool, ctypes.c_bool, ctypes.c_bool, ctypes.c_uint8, ctypes.c_void_p, _SIZE,
+                    ctypes.POINTER(_SIZE), ctypes.POINTER(ctypes.c_uint8)],
+    "pocket_receiver_open": [_HANDLE, ctypes.c_uint32],
+    "pocket_receive": [_HANDLE, ctypes.c_uint16, _BYTES, _SIZE, ctypes.c_void_p, _SIZE, ctypes.POINTER(Finding)],
+    "pocket_counts": [_HANDLE, ctypes.POINTER(Tally)],
+    "pocket_desk_open": [_HANDLE],
+    "pocket_put": [_HANDLE, _BYTES, _SIZE, _BYTES, _SIZE],
+    "pocket_word": [_HANDLE, _BYTES, _SIZE],
+    "pocket_run": [_HANDLE, ctypes.c_void_p, _SIZE, ctypes.POINTER(_SIZE), ctypes.POINTER(ctypes.c_uint8)],
+    "pocket_get": [_HANDLE, _BYTES, _SIZE, ctypes.c_void_p, _SIZE, ctypes.POINTER(_SIZE)],
+    "pocket_close": [_HANDLE],
+}
+# What the library made of the one C file has (docs/CALLING.md), which has no desk.
+_STATE_CALLS = {
+    "pocket_state_size": [_HANDLE, ctypes.POINTER(_SIZE)],
+    "pocket_save": [_HANDLE, ctypes.c_void_p, _SIZE, ctypes.POINTER(_SIZE)],
+    "pocket_load": [_HANDLE, _BYTES, _SIZE],
+}
+
+
+class Library:
+    """The calls of the library, which is loaded as one of them is looked for: the tools that need none of them do without."""
+
+    def __getattr__(self, call: str) -> Any:
+        name = os.environ.get("POCKET_LIBRARY") or ctypes.util.find_library("pocket") or "libpocket.so"
+        loaded = ctypes.CDLL(name)
+        for own, types in {**_CALLS, **_STATE_CALLS}.items():
+            if hasattr(loaded, own):
+                function = getattr(loaded, own)
+                function.argtypes, function.restype = types, ctypes.c_uint32
+                setattr(self, own, function)
+        if call not in self.__dict__:
+            raise AttributeError(call)
+        return self.__dict__[call]
+
+
+library = Library()
+
+
+def states() -> Library:
+    """The library, if it has states."""
+    if not hasattr(library, "pocket_save"):
+        raise PocketError("only the library made of the one C file has states")
+    return library

@@ -1,0 +1,52 @@
+"""Space Packets (CCSDS 133.0-B-2)."""
+
+from __future__ import annotations
+
+from dataclasses import dataclass
+from typing import BinaryIO, Iterator
+
+from .errors import StoreError
+
+
+@dataclass(frozen=True)
+class SpacePacket:
+    """A Space Packet (CCSDS 133.0-B-2) of telemetry, unsegmented and without a secondary header."""
+
+    #: 0 to 2046.
+    apid: int
+    #: The sequence count, 0 to 16,383.
+    count: int
+    data: bytes
+
+
+def packed(packet: SpacePacket) -> bytes:
+    """The bytes of a Space Packet: its header of six bytes and its data, 1 to 65,536 bytes."""
+    if not 1 <= len(packet.data) <= 65536 or not 0 <= packet.apid < 2047 or not 0 <= packet.count < 16384:
+        raise StoreError("no Space Packet has this APID, count or length")
+    return b"".join(number.to_bytes(2, "big") for number in (packet.apid, 0xC000 | packet.count, len(packet.data) - 1)) + packet.data
+
+
+def space_packets(source: BinaryIO, apid: int) -> Iterator[SpacePacket]:
+    """The Space Packets of an APID in a file or a pipe, each as soon as it is whole. Those of other APIDs are passed over."""
+    at = 0
+    while header := _read(source, 6):
+        body = _read(source, int.from_bytes(header[4:6], "big") + 1) if len(header) == 6 else b""
+        if len(header) < 6 or len(body) < int.from_bytes(header[4:6], "big") + 1:
+            raise StoreError(f"the packet at byte {at} is cut")
+        if header[0] >> 5:
+            raise StoreError(f"the packet at byte {at} is of another version")
+        first, second = int.from_bytes(header[:2], "big"), int.from_bytes(header[2:4], "big")
+        if first & 0x7FF == apid:
+            if first >> 11 or second >> 14 != 3:
+                raise StoreError(f"the packet at byte {at} has a shape that is not taken")
+            yield SpacePacket(apid, second & 0x3FFF, body)
+        at += 6 + len(body)
+
+
+def _read(source: BinaryIO, number: int) -> bytes:
+    """So many bytes, or fewer at the end."""
+    parts = []
+    while number and (part := source.read(number)):
+        parts.append(part)
+        number -= len(part)
+    return b"".join(parts)
