@@ -145,7 +145,7 @@ def named(room):
     link = "struct Link { int pocket_send(int); int pocket_close(); };\n"
     parts = {"defines": '#include <pocket.h>\n' + link + "int Link::pocket_send(int it) { return it + 1; }\nint Link::pocket_close() { return 1; }\n",
              "calls": link + "int both() { Link it; return it.pocket_send(40) + it.pocket_close(); }\n",
-             "checks": "#include <pocket.h>\nint both();\nint main() { return both() == 42 && pocket_close(nullptr) == POCKET_NULL && &pocket_send == &pocket_checked_send ? 0 : 1; }\n"}
+             "checks": "#include <pocket.h>\nint both();\nint main() { return both() == 42 && pocket_close(0) == POCKET_NULL ? 0 : 1; }\n"}
     for name, text in parts.items():
         with open(room.at(name + ".cpp"), "w") as file:
             file.write(text)

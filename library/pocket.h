@@ -251,9 +251,8 @@ pocket_status pocket_checked_load(pocket_handle *handle, const uint8_t *state, s
 
 /* ---- Names ----
  * Each call is a function of the library by its checked name, which other languages find too (dlsym, bindgen, cgo, Ada). By its plain name
- * it is the same function: a macro in C, a reference in C++ (from C++11), where members of classes keep their names; there those that the
- * one file alone has are named if POCKET_ONE_FILE is defined. The library also has a function by each plain name, the proved one, to which
- * no null may be given: for who calls those, POCKET_PROVED_NAMES declares them. */
+ * it is the same function: by a macro in C, by an inline function in C++, where members of classes keep their names. The library also has a
+ * function by each plain name, the proved one, to which no null may be given: for who calls those, POCKET_PROVED_NAMES declares them. */
 #ifdef POCKET_PROVED_NAMES
 uint32_t pocket_sender_open(pocket_handle *handle, uint32_t bits, const uint8_t *mask, size_t mask_length);
 uint32_t pocket_send(pocket_handle *handle, const uint8_t *input, size_t input_length, bool new_mask, bool send_mask, bool whole,
@@ -277,27 +276,33 @@ uint32_t pocket_save(pocket_handle *handle, uint8_t *state, size_t room, size_t 
 uint32_t pocket_load(pocket_handle *handle, const uint8_t *state, size_t length);
 #elif defined(__cplusplus)
 }
-#define POCKET_NAME(call) static constexpr auto &pocket_##call = pocket_checked_##call
-POCKET_NAME(sender_open);
-POCKET_NAME(send);
-POCKET_NAME(sent);
-POCKET_NAME(receiver_open);
-POCKET_NAME(receive);
-POCKET_NAME(counts);
-POCKET_NAME(bits);
-POCKET_NAME(desk_open);
-POCKET_NAME(put);
-POCKET_NAME(word);
-POCKET_NAME(run);
-POCKET_NAME(get);
-POCKET_NAME(close);
-#ifdef POCKET_ONE_FILE
-POCKET_NAME(sender_open_in);
-POCKET_NAME(receiver_open_in);
-POCKET_NAME(state_size);
-POCKET_NAME(save);
-POCKET_NAME(load);
-#endif
+#define POCKET_NAME(call, parameters, arguments) \
+    inline pocket_status pocket_##call parameters { return pocket_checked_##call arguments; }
+POCKET_NAME(sender_open, (pocket_handle *handle, uint32_t bits, const uint8_t *mask, size_t mask_length), (handle, bits, mask,
+            mask_length))
+POCKET_NAME(send, (pocket_handle *handle, const uint8_t *input, size_t input_length, bool new_mask, bool send_mask, bool whole, uint8_t
+            robustness, uint8_t *data, size_t room, size_t *length, uint8_t *level), (handle, input, input_length, new_mask, send_mask,
+            whole, robustness, data, room, length, level))
+POCKET_NAME(sent, (pocket_handle *handle, uint64_t *packets), (handle, packets))
+POCKET_NAME(receiver_open, (pocket_handle *handle, uint32_t bits), (handle, bits))
+POCKET_NAME(receive, (pocket_handle *handle, uint16_t count, const uint8_t *data, size_t length, uint8_t *content, size_t room,
+            pocket_finding *finding), (handle, count, data, length, content, room, finding))
+POCKET_NAME(counts, (pocket_handle *handle, pocket_tally *tally), (handle, tally))
+POCKET_NAME(bits, (pocket_handle *handle, uint32_t *bits), (handle, bits))
+POCKET_NAME(desk_open, (pocket_handle *handle), (handle))
+POCKET_NAME(put, (pocket_handle *handle, const char *name, const uint8_t *bytes, size_t length), (handle, name, bytes, length))
+POCKET_NAME(word, (pocket_handle *handle, const char *word), (handle, word))
+POCKET_NAME(run, (pocket_handle *handle, char *text, size_t room, size_t *length, uint8_t *exit_number), (handle, text, room, length,
+            exit_number))
+POCKET_NAME(get, (pocket_handle *handle, const char *name, uint8_t *bytes, size_t room, size_t *length), (handle, name, bytes, room,
+            length))
+POCKET_NAME(close, (pocket_handle *handle), (handle))
+POCKET_NAME(sender_open_in, (pocket_handle *handle, void *memory, size_t size, uint32_t bits, const uint8_t *mask, size_t mask_length),
+            (handle, memory, size, bits, mask, mask_length))
+POCKET_NAME(receiver_open_in, (pocket_handle *handle, void *memory, size_t size, uint32_t bits), (handle, memory, size, bits))
+POCKET_NAME(state_size, (pocket_handle *handle, size_t *size), (handle, size))
+POCKET_NAME(save, (pocket_handle *handle, uint8_t *state, size_t room, size_t *length), (handle, state, room, length))
+POCKET_NAME(load, (pocket_handle *handle, const uint8_t *state, size_t length), (handle, state, length))
 #undef POCKET_NAME
 extern "C" {
 #else
