@@ -1,14 +1,19 @@
 # make lib: libpocket.a, libpocket.so and pocket.pc, in the folder build. It takes the proved library crates/pocket_c/out/libpocket_c.a,
-# which the toolchain's `rt lib` makes in crates/pocket_c, and the toolchain's heap, c/liblibc_c.a in the folder KIT.
+#   which the toolchain's `rt lib` makes in crates/pocket_c, and the toolchain's heap, c/liblibc_c.a in the folder KIT.
 # make lib TARGET=aarch64-linux-gnu, or riscv64-linux-gnu: the library for another processor (library/targets.mk).
 # make install: the header, the libraries, the Python module, and the program with its manual page and completions if
-# crates/pocket/out/pocket is there; make install-program: the program alone.
-# make deb: a Debian package of the program, in the folder build.
+#   crates/pocket/out/pocket is there, below PREFIX=/usr/local; make install-program: the program alone.
+# make uninstall: removes what make install placed.
+# make deb: Debian packages, in the folder build: pocket, libpocket1, libpocket-dev, python3-pocket.
+# make unproved: the program in a minute, build/unproved/pocket, without a proof; it says so on --version.
 # make page: the operator's page, page/pocket.html, one file that a browser opens from disk. It takes the toolchain, the gate's libraries
-# (crates/*/out/rlib) and Debian's binaryen.
+#   (crates/*/out/rlib) and Debian's binaryen.
 # make dist: the files for those who have no toolchain, in the folder DIST: pocket.c and pocket.h (the calls of a sender and a receiver, for
-# any processor), pocket-program.c (the program), pocket.html (the page). It takes what `make page` takes, and Debian's wabt.
+#   any processor), pocket-program.c (the program), pocket.html (the page). It takes what `make page` takes, and Debian's wabt.
+# make check: tries the library from C, C++ and Python. make clean: removes what was built.
 PREFIX = /usr/local
+LIBDIR = $(PREFIX)/lib
+ZSHDIR = $(PREFIX)/share/zsh/site-functions
 DESTDIR =
 BUILD = build
 KIT = $(shell dirname "$$(dirname "$$(readlink -f "$$(command -v rt)")")")
@@ -16,8 +21,17 @@ PROVED = crates/pocket_c/out/libpocket_c.a
 PROGRAM = crates/pocket/out/pocket
 HEAP = $(KIT)/c/liblibc_c.a
 VERSION = $(shell sed -n 's/^const VERSION: &str = "pocket \(.*\)";/\1/p' crates/pocket/src/main.rt)
-PYTHON = $(shell python3 -c 'import sys; print("python%d.%d" % sys.version_info[:2])')
+SHARED = libpocket.so.$(VERSION)
+CHECKED = $(BUILD)/checked.o $(BUILD)/checked_desk.o
+STRICT = -std=c99 -Wall -Wextra -pedantic -O2 -fPIC -ffunction-sections -fstack-protector-strong -D_FORTIFY_SOURCE=2
+# Where the system's Python looks for modules: Debian's has folders of its own.
+PYTHON = $(firstword $(wildcard /usr/bin/python3) python3)
+MODULES = $(shell $(PYTHON) library/python/place.py $(PREFIX))
 PLACE = $(DESTDIR)$(PREFIX)
+LIBRARIES = $(DESTDIR)$(LIBDIR)
+
+help:
+	@sed -n '/^#/!q; s/^# \{0,1\}//p' Makefile
 
 ifdef TARGET
 include library/targets.mk
@@ -32,32 +46,48 @@ $(PROVED):
 $(HEAP):
 	@echo "make lib needs the toolchain's heap: $(HEAP) is not there; put rt on the path, or name its folder by KIT="; exit 1
 
-$(BUILD)/libpocket.a: $(PROVED) $(HEAP)
-	mkdir -p $(BUILD) && rm -f $@ && cp $(PROVED) $@
-	cd $(BUILD) && ar x $(HEAP) heap.pic.o && ar rs libpocket.a heap.pic.o && rm heap.pic.o
+$(BUILD)/%.o: library/%.c library/pocket.h
+	mkdir -p $(BUILD) && $(CC) $(STRICT) $(CFLAGS) -c -o $@ $<
+
+$(BUILD)/libpocket.a: $(PROVED) $(HEAP) $(CHECKED)
+	rm -f $@ && cp $(PROVED) $@
+	cd $(BUILD) && ar x $(HEAP) heap.pic.o && ar rs libpocket.a heap.pic.o $(notdir $(CHECKED)) && rm heap.pic.o
 
 $(BUILD)/libpocket.so: $(BUILD)/libpocket.a library/pocket.map
-	$(CC) -shared -Wl,-soname,libpocket.so -Wl,--version-script,library/pocket.map -o $@ -Wl,--whole-archive $< -Wl,--no-whole-archive
+	$(CC) -shared -Wl,-soname,libpocket.so.1 -Wl,--version-script,library/pocket.map -Wl,-z,relro,-z,now $(LDFLAGS) -o $(BUILD)/$(SHARED) -Wl,--whole-archive $< -Wl,--no-whole-archive
+	ln -sf $(SHARED) $(BUILD)/libpocket.so.1 && ln -sf libpocket.so.1 $@
 
-$(BUILD)/pocket.pc: library/pocket.pc.in
-	mkdir -p $(BUILD) && sed 's|@PREFIX@|$(PREFIX)|; s|@VERSION@|$(VERSION)|' $< > $@
+$(BUILD)/pocket.pc: library/pocket.pc.in Makefile
+	mkdir -p $(BUILD) && sed 's|@PREFIX@|$(PREFIX)|; s|@LIBDIR@|$(LIBDIR)|; s|@VERSION@|$(VERSION)|' $< > $@
 
 install: lib
 	install -D -m 644 library/pocket.h $(PLACE)/include/pocket.h
-	install -D -m 644 $(BUILD)/libpocket.a $(PLACE)/lib/libpocket.a
-	install -D -m 755 $(BUILD)/libpocket.so $(PLACE)/lib/libpocket.so
-	install -D -m 644 $(BUILD)/pocket.pc $(PLACE)/lib/pkgconfig/pocket.pc
-	install -D -m 644 -t $(PLACE)/lib/$(PYTHON)/site-packages/pocket library/python/pocket/*.py
+	install -D -m 644 $(BUILD)/libpocket.a $(LIBRARIES)/libpocket.a
+	install -D -m 644 $(BUILD)/$(SHARED) $(LIBRARIES)/$(SHARED)
+	ln -sf $(SHARED) $(LIBRARIES)/libpocket.so.1 && ln -sf libpocket.so.1 $(LIBRARIES)/libpocket.so
+	install -D -m 644 $(BUILD)/pocket.pc $(LIBRARIES)/pkgconfig/pocket.pc
+	install -D -m 644 -t $(DESTDIR)$(MODULES)/pocket library/python/pocket/*.py library/python/pocket/py.typed
 	if [ -f $(PROGRAM) ]; then $(MAKE) --no-print-directory install-program; fi
+	if [ -z "$(DESTDIR)" ]; then ldconfig; fi
 
 install-program:
 	install -D -m 755 $(PROGRAM) $(PLACE)/bin/pocket
 	install -D -m 644 docs/pocket.1 $(PLACE)/share/man/man1/pocket.1
 	install -D -m 644 completions/pocket.bash $(PLACE)/share/bash-completion/completions/pocket
-	install -D -m 644 completions/_pocket $(PLACE)/share/zsh/vendor-completions/_pocket
+	install -D -m 644 completions/_pocket $(DESTDIR)$(ZSHDIR)/_pocket
 
-deb:
+uninstall:
+	rm -f $(PLACE)/include/pocket.h $(LIBRARIES)/libpocket.a $(LIBRARIES)/libpocket.so $(LIBRARIES)/libpocket.so.1 $(LIBRARIES)/$(SHARED) \
+	    $(LIBRARIES)/pkgconfig/pocket.pc $(PLACE)/bin/pocket $(PLACE)/share/man/man1/pocket.1 $(PLACE)/share/bash-completion/completions/pocket \
+	    $(DESTDIR)$(ZSHDIR)/_pocket
+	rm -rf $(DESTDIR)$(MODULES)/pocket
+	if [ -z "$(DESTDIR)" ]; then ldconfig; fi
+
+deb: lib
 	packaging/deb.sh $(PROGRAM) $(BUILD)
+
+unproved:
+	python3 library/unproved.py $(BUILD)/unproved
 
 # The library's module is kept as the library is built (library/retarget.py), and turned (page/module.py).
 MODULE = crates/pocket_c/out/module.bc
@@ -77,10 +107,10 @@ dist: $(MODULE) page/pocket.html
 	python3 library/one_file/make.py $(MODULE) $(DIST)
 	cp page/pocket.html $(DIST)/pocket.html
 
-test: lib
+check test: lib
 	python3 .ci/library.py $(dir $(PROVED)) $(PROGRAM)
 
 clean:
 	rm -rf $(BUILD) page/out page/pocket.html
 
-.PHONY: lib install install-program deb page dist test clean
+.PHONY: help lib install install-program uninstall deb unproved page dist check test clean

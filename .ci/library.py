@@ -74,9 +74,51 @@ def builds(room):
     room.make("lib")
     room.make("install", "DESTDIR=" + room.at("root"), "PREFIX=/usr")
     there = [os.path.join(base, name)[len(room.at("root")):] for base, _, names in os.walk(room.at("root")) for name in names]
-    missing = [name for name in ("/usr/include/pocket.h", "/usr/lib/libpocket.a", "/usr/lib/libpocket.so", "/usr/lib/pkgconfig/pocket.pc") if name not in there]
-    module = [name for name in there if name.endswith("/site-packages/pocket/__init__.py")]
-    return f"{missing} are missing" if missing else None if module else "the Python module is missing"
+    files = "/usr/include/pocket.h /usr/lib/libpocket.a /usr/lib/libpocket.so /usr/lib/libpocket.so.1 /usr/lib/pkgconfig/pocket.pc".split()
+    missing = [name for name in files if name not in there]
+    if missing:
+        return f"{missing} are missing"
+    with open(room.at("root/usr/lib/pkgconfig/pocket.pc")) as file, open(os.path.join(ROOT, "library", "pocket.h")) as header:
+        version = re.search(r"^Version: (.+)$", file.read(), re.M)[1]
+        if f'#define POCKET_VERSION "{version}"' not in header.read():
+            return f"pocket.h is not of the version {version}"
+    room.make("uninstall", "DESTDIR=" + room.at("root"), "PREFIX=/usr")
+    left = [name for _, _, names in os.walk(room.at("root")) for name in names]
+    return f"{left} are left" if left else None
+
+
+def imports(room):
+    """Whether the system's Python finds the installed module, of this version, and that the library, if both lie where it looks."""
+    python, root = "/usr/bin/python3", room.at("local")
+    if not os.path.exists(python):
+        raise Skipped(python)
+    room.make("install", "DESTDIR=" + root, "PREFIX=/usr/local")
+    folder = room.run("make", "-s", "--eval=where: ; @echo $(MODULES)", "where").decode().strip()
+    looked = room.run(python, "-c", "import sys; print('\\n'.join(sys.path))").decode().split("\n")
+    if folder not in looked:
+        return f"the module is in {folder}, and {python} looks in {looked}"
+    code = "import pocket; print(pocket.__version__, pocket.__file__, pocket.Sender(8).send(b'\\xb0', 1).data.hex())"
+    env = {"PATH": os.environ["PATH"], "PYTHONPATH": root + folder, "LD_LIBRARY_PATH": root + "/usr/local/lib", "PYTHONDONTWRITEBYTECODE": "1"}
+    found = subprocess.run([python, "-c", code], env=env, cwd="/", capture_output=True, text=True)
+    with open(os.path.join(ROOT, "library", "pocket.h")) as header:
+        version = re.search(r'POCKET_VERSION "(.*)"', header.read())[1]
+    wanted = f"{version} {root}{folder}/pocket/__init__.py 85b8d600\n"
+    return None if found.stdout == wanted else f"{found.stdout} {found.stderr[-300:]}"
+
+
+def by_pip(room):
+    """Whether `pip install .` brings the library along: into a folder of its own, by Debian's packages, without a registry."""
+    python = "/usr/bin/python3"
+    for module in ("pip", "setuptools", "wheel"):
+        if subprocess.run([python, "-c", f"import {module}"], capture_output=True).returncode and not needs.module(module):
+            raise Skipped(f"python3-{module}")
+    copy = room.at("sources")
+    shutil.copytree(ROOT, copy, ignore=shutil.ignore_patterns(".git", "out", "crates", "page", "build", "docs"))
+    words = [python, "-m", "pip", "install", "-q", "--no-build-isolation", "--no-deps", "--no-index", "--disable-pip-version-check", "--root-user-action=ignore", "--target", room.at("pip"), "."]
+    subprocess.run(words, cwd=copy, env=dict(os.environ, POCKET_LIBRARY=os.path.realpath(room.at("libpocket.so")), PYTHONWARNINGS="ignore"), check=True, capture_output=True, timeout=300)
+    env = {"PATH": os.environ["PATH"], "PYTHONPATH": room.at("pip"), "PYTHONDONTWRITEBYTECODE": "1"}
+    found = subprocess.run([python, "-m", "pocket", "bits=8", "apid=100"], env=env, cwd="/", input=PLAYED, capture_output=True)
+    return None if found.stdout == SHOWN else f"{found.stdout} {found.stderr[-300:]}"
 
 
 def calls(room, compiler, standard):
@@ -84,12 +126,40 @@ def calls(room, compiler, standard):
 
 
 def shared(room):
-    """Whether the shared library exports the calls of the header alone."""
-    names = set(re.findall(r" T (\w+)", room.run("nm", "-D", room.at("libpocket.so")).decode()))
+    """Whether the shared library exports the calls of the header alone, in its version, by a name that tells it."""
+    names = set(re.findall(r" T (\w+@@POCKET_1)$", room.run("nm", "-D", room.at("libpocket.so")).decode(), re.M))
     with open(os.path.join(ROOT, "library", "pocket.h")) as file:
-        of_library, _, _ = file.read().partition("/* ---- What the one file pocket.c alone has")
-    wanted = set(re.findall(r"^uint32_t (pocket_\w+)\(", of_library, re.M))
-    return None if names == wanted else f"the library exports {sorted(names)}"
+        text = file.read()
+    own = text[text.index("alone has: a program"):text.index("/* ---- Names ----")]
+    of = lambda part: set(re.findall(r"^[\w ]+ \*?(pocket_\w+)\(", part, re.M))
+    plain = lambda found: {name.replace("_checked", "") for name in found}
+    wanted = {f"{name}@@POCKET_1" for name in of(text) - of(own) - plain(of(own))}
+    told = re.search(rb"SONAME +(\S+)", room.run("objdump", "-p", room.at("libpocket.so")))
+    return None if names == wanted and told and told[1] == b"libpocket.so.1" else f"the library is {told} and exports {sorted(names ^ wanted)} beside"
+
+
+def named(room):
+    """Whether a class in C++ keeps the names of its members, whichever of its files takes the header, and a call is its checked one."""
+    if not shutil.which("g++"):
+        raise Skipped("g++")
+    link = "struct Link { int pocket_send(int); int pocket_close(); };\n"
+    parts = {"defines": '#include <pocket.h>\n' + link + "int Link::pocket_send(int it) { return it + 1; }\nint Link::pocket_close() { return 1; }\n",
+             "calls": link + "int both() { Link it; return it.pocket_send(40) + it.pocket_close(); }\n",
+             "checks": "#include <pocket.h>\nint both();\nint main() { return both() == 42 && pocket_close(nullptr) == POCKET_NULL && &pocket_send == &pocket_checked_send ? 0 : 1; }\n"}
+    for name, text in parts.items():
+        with open(room.at(name + ".cpp"), "w") as file:
+            file.write(text)
+    sources = [room.at(name + ".cpp") for name in parts]
+    room.run("g++", "-std=c++11", *STRICT, "-I" + os.path.join(ROOT, "library"), *sources, room.at("libpocket.a"), "-o", room.at("named"))
+    room.run(room.at("named"))
+    return None
+
+
+def old_processor(room):
+    """Whether a processor of x86-64-v2 runs the library, as pocket.h says; one of x86-64 alone may not."""
+    if not shutil.which("qemu-x86_64"):
+        raise Skipped("qemu-x86_64")
+    return told(room.run("qemu-x86_64", "-cpu", "Nehalem", room.compiled("tests/worked.c", "worked-v2", "-static")))
 
 
 def clean(room, source, name, *flags):
@@ -111,14 +181,6 @@ def random_bytes(room):
 
 def python_calls(room):
     return told(room.run(sys.executable, os.path.join(ROOT, "library", "tests", "worked.py")))
-
-
-def typed(room):
-    """Whether mypy finds no fault in the module, as strict as it can be."""
-    if not needs.had("mypy"):
-        raise Skipped("mypy")
-    found = room.run("mypy", "--strict", "--no-error-summary", "--cache-dir=" + room.at("mypy"), os.path.join(ROOT, "library", "python", "pocket"))
-    return found or None
 
 
 def shows(room):
@@ -149,6 +211,13 @@ def frame_headers(room):
     packages = os.path.join(folder, "usr", "lib", "python3", "dist-packages")
     room.env["PYTHONPATH"] += os.pathsep + packages
     return told(room.run(sys.executable, os.path.join(ROOT, "library", "tests", "frames.py"), packages))
+
+
+def stacks(room):
+    """Whether no command takes more stack than pocket.h says."""
+    found = room.run(room.compiled("../bench/desk.c", "desk", "-O2")).split()
+    deepest = dict(zip(found[::2], map(int, found[1::2])))
+    return None if len(deepest) == 9 and max(deepest.values()) <= 110_000 else deepest
 
 
 def histories(room):
@@ -189,17 +258,19 @@ def printed(room, language):
 
 def tries():
     """All that is tried: each with its name, and a function that gives what is wrong, or None."""
-    return ([("the library is built and installed", builds), ("the shared library's exports", shared)]
+    return ([("the library is built and installed", builds), ("the shared library's exports", shared), ("names in C++", named),
+             ("a processor of x86-64-v2", old_processor), ("the installed module", imports), ("pip install", by_pip),
+             ("the sentences of the header", lambda room: told(room.run(room.compiled("tests/sentences.c", "sentences", "-O1"))))]
             + [(f"calls from {'C++' if standard[0] == '-x' else 'C'} by {compiler} {standard[-1]}", lambda room, c=compiler, s=standard: calls(room, c, s)) for compiler, standard in COMPILERS]
             + [("no error under valgrind", lambda room: clean(room, "tests/worked.c", "worked-debug")),
                ("no error under valgrind with memory refused", lambda room: clean(room, "tests/refused_memory.c", "refused-debug", "-Wl,--wrap=malloc,--wrap=realloc,--wrap=free")),
                ("each allocation refused", refused_memory), ("a million random bytes", random_bytes), ("calls from Python", python_calls),
-               ("misuse from Python", lambda room: tool(room, "misuse")), ("the types of the module", typed),
+               ("misuse from Python", lambda room: tool(room, "misuse")),
                ("the module shows a store", shows), ("records of stations joined", lambda room: tool(room, "merge")),
                ("packets out of frames", lambda room: tool(room, "frames")), ("the headers of 10,000 frames", frame_headers),
                ("tables with numbers and times, and back", lambda room: tool(room, "tables")),
                ("a schedule for an assumed loss", lambda room: tool(room, "advise")),
-               ("random histories", histories), ("the examples", examples),
+               ("the stack of commands", stacks), ("random histories", histories), ("the examples", examples),
                ("the program in C of docs/CALLING.md", lambda room: printed(room, "c")), ("the program in Python of docs/CALLING.md", lambda room: printed(room, "python"))])
 
 

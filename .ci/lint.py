@@ -9,7 +9,7 @@ import subprocess
 import sys
 
 ROOT = pathlib.Path(__file__).resolve().parent.parent
-PYTHON = [str(path.relative_to(ROOT)) for folder in (".ci", "bench", "pictures", "page", "library") for path in sorted((ROOT / folder).rglob("*.py"))]
+PYTHON = [str(path.relative_to(ROOT)) for folder in (".ci", "bench", "pictures", "page", "library") for path in sorted((ROOT / folder).rglob("*.py"))] + ["setup.py"]
 SHELL = [".ci/run", *(str(path.relative_to(ROOT)) for path in sorted((ROOT / "packaging").glob("*.sh"))), "completions/pocket.bash"]
 # A linter: its command, Debian's package, what it is run with, and in which folder.
 LINTERS = [("pyflakes3", "pyflakes3", PYTHON, "."), ("mypy", "mypy", ["--strict", "--cache-dir", os.devnull, "pocket"], "library/python"),

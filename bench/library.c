@@ -1,6 +1,6 @@
 /* library BITS KIND PACKETS WHAT: sends packets by the library, and receives them, for bench/library.py.
  *
- * KIND, how the inputs move: quiet, one bit turns in each sixteenth packet; noisy, each bit turns with the chance 1/8; turned, all bits
+ * KIND, how the inputs move: calm, one bit turns in each sixteenth packet; noisy, each bit turns with the chance 1/8; turned, all bits
  * turn, and the mask and the whole content are sent; dearest, in each byte the bits of CC and of 66 turn, in turn, and each packet makes a
  * new mask and carries it and its whole content, so that every second bit is an edge of the mask and a recent change. The required
  * robustness is 2, BITS a multiple of 8.
@@ -11,21 +11,19 @@
  */
 #define _XOPEN_SOURCE 700
 #include "../library/pocket.h"
+#include "depth.h"
 #include <stdio.h>
 #include <stdlib.h>
-#include <ucontext.h>
 
 struct place { bool found; void *at; };
 struct place __real_rattle_alloc(size_t bytes, size_t align);
 struct place __wrap_rattle_alloc(size_t bytes, size_t align);
 
-enum { STACK = 1 << 18, MARK = 0xA5 };
-static uint8_t stack[STACK], input[6144], data[1 << 16], content[6144];
+static uint8_t input[6144], data[1 << 16], content[6144];
 static uint32_t bits, status, number;
 static size_t asked, bytes, length;
-static bool quiet, turned, dearest, looks;
+static bool calm, turned, dearest, looks;
 static pocket_handle sender = POCKET_NOTHING, receiver = POCKET_NOTHING;
-static ucontext_t here, there;
 
 struct place __wrap_rattle_alloc(size_t size, size_t align)
 {
@@ -66,22 +64,6 @@ static void nothing(void)
 {
 }
 
-/* How many bytes of stack a call takes, that of starting it included. */
-static size_t depth_of(void (*call)(void))
-{
-    size_t untouched = 0;
-    memset(stack, MARK, sizeof stack);
-    getcontext(&there);
-    there.uc_stack.ss_sp = stack;
-    there.uc_stack.ss_size = sizeof stack;
-    there.uc_link = &here;
-    makecontext(&there, call, 0);
-    swapcontext(&here, &there);
-    while (untouched < sizeof stack && stack[untouched] == MARK)
-        untouched++;
-    return sizeof stack - untouched;
-}
-
 /* Makes a call, and if its depth is asked for keeps that of the deepest. */
 static void make(void (*call)(void), size_t *deepest)
 {
@@ -110,7 +92,7 @@ static uint64_t noise(void)
 /* Not put into its caller, so that it takes as many instructions whatever is done beside. */
 __attribute__((noinline)) static void move(void)
 {
-    if (quiet)
+    if (calm)
         input[0] ^= number % 16 == 1;
     else if (turned || dearest)
         for (size_t at = 0; at < bytes; at++)
@@ -127,7 +109,7 @@ int main(int words, char **word)
         return 2;
     bits = (uint32_t)strtoul(word[1], NULL, 10);
     bytes = POCKET_INPUT_BYTES(bits);
-    quiet = is(word[2], "quiet");
+    calm = is(word[2], "calm");
     turned = is(word[2], "turned");
     dearest = is(word[2], "dearest");
     looks = is(word[4], "stack");

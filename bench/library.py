@@ -27,7 +27,7 @@ FLAGS = "-std=c99 -Wall -Wextra -pedantic -Werror -O2 -static -Wl,--gc-sections 
 
 # How many packets are counted, by their bits, and the kinds of inputs, each with the flags of the program's schedule.
 COUNTED = {8: 1600, 64: 1600, 1024: 480, 8192: 160, 49_152: 32}
-KINDS = {"quiet": "", "noisy": "", "turned": "fr", "dearest": "pfr"}
+KINDS = {"calm": "", "noisy": "", "turned": "fr", "dearest": "pfr"}
 
 
 class Processor:
@@ -52,8 +52,10 @@ class Processor:
         return missing or ([] if os.path.exists(self.library) else [self.library])
 
     def build(self):
-        sources = [f"{HERE}/library.c", f"{TOP}/library/heap.c", self.library]
-        subprocess.run([self.tools + "gcc", *FLAGS, "-o", self.driver, *sources], check=True)
+        beside = [f"{TOP}/library/{name}.c" for name in ("checked", "checked_desk", "heap")] + [self.library]
+        for source, made in (("library", self.driver), ("desk", self.driver + "-desk")):
+            wrapped = FLAGS if source == "library" else [it for it in FLAGS if "wrap" not in it]
+            subprocess.run([self.tools + "gcc", *wrapped, "-o", made, f"{HERE}/{source}.c", *beside], check=True)
 
     def sections(self, path):
         """The bytes of text and constants in a file of objects, and those of its data."""
@@ -95,6 +97,11 @@ class Processor:
             sys.exit(f"{self.name}: a send or a receive asked for memory")
         return found
 
+    def commands(self):
+        """The deepest stack of pocket_run for each verb."""
+        told = subprocess.run([self.emulator, self.driver + "-desk"], check=True, capture_output=True, text=True).stdout.split()
+        return {verb: int(depth) for verb, depth in zip(told[::2], told[1::2])}
+
 
 def by_program(native, program, bits, kind):
     """The instructions that one packet more costs compress and restore, of the same inputs, as valgrind counts them."""
@@ -122,12 +129,15 @@ def sizes(processors):
     yield "its data", *(data for _, data in whole)
     for call in ("opening", "send", "receive"):
         yield f"deepest stack of {'a' if call != 'opening' else 'an'} {call}", *(max(one[call] for one in each) for each in deep)
+    runs = [it.commands() for it in processors]
+    for verb in runs[0]:
+        yield f"deepest stack of pocket_run: `{verb}`", *(one[verb] for one in runs)
 
 
 def heaps(processors):
     """The rows of the heap of an open sender and receiver; on each processor it has to be the same."""
     for bits in COUNTED:
-        told = [it.stack(bits, "quiet") for it in processors]
+        told = [it.stack(bits, "calm") for it in processors]
         if len({(it["sender"], it["receiver"]) for it in told}) != 1:
             sys.exit(f"the heaps differ: {told}")
         yield bits, told[0]["sender"], told[0]["receiver"]

@@ -7,12 +7,13 @@
  *
  * Where the proof ends. The functions behind this header are written in Rattle and proved: what each answers, gives and leaves
  * unchanged. That a call takes no memory, and that pocket_close gives back all of it, is tested and not proved.
- * Not proved are this header, its checks of null, strlen, the compiler, the linker, memmove, memset, malloc and free.
- * For x86-64 the library is proved by the gate. For aarch64 it is proved and compiled for that target by the toolchain, outside the
- * gate. For riscv64 it is compiled another way: compared, not proved. So is the one file: its C is made from the library's module, and
- * compared with the library, packet for packet and verdict for verdict, under qemu. LEON itself was not at hand for that: the file was
- * compiled for the instructions of LEON3 (SPARC V8) and run as a SPARC of 32 bits, and on three others with the big end first. Accesses of
- * the library on aarch64 and riscv64 are aligned unless it was built with unaligned=1.
+ * Not proved are this header, the checks of null before each call and what needs no handle (library/checked.c), strlen, the compiler, the
+ * linker, memmove, memset, malloc and free. For x86-64 the library is proved by the gate, and needs a processor of x86-64-v2 (of 2009 and
+ * later). For aarch64 it is proved and compiled for that target by the toolchain, outside the gate. For riscv64 it is compiled another
+ * way: compared, not proved. So is the one file: its C is made from the library's module, and compared with the library, packet for packet
+ * and verdict for verdict, under qemu. LEON itself was not at hand for that: the file was compiled for the instructions of LEON3 (SPARC V8)
+ * and run as a SPARC of 32 bits, and on three others with the big end first. Accesses of the library on aarch64 and riscv64 are aligned
+ * unless it was built with unaligned=1.
  *
  * A sender makes the packet of each input. A receiver judges each packet that arrives: it gives its content, or why there is
  * none. At a desk in memory the nine commands of the program are run, over bytes that are kept under names. Inputs and contents are
@@ -25,14 +26,31 @@
  * A handle may be passed from thread to thread, one call at a time, each call seen to end before the next one begins (by a lock, or
  * by the start or join of a thread); different handles may be used by different threads at once.
  * Opening a sender or a receiver takes memory (malloc), all that later calls need: they take none. A desk takes memory as it is used.
- * Only pocket_close gives it back. The one file also opens in memory that the caller has.
+ * Only pocket_close gives it back. The one file also opens in memory that the caller has, so that a stream can begin anew in the same
+ * memory; with the library a new stream is a close and an opening, which take memory again.
+ *
+ * Numbers and counts. The n-th packet of a sender, from 0, has the sequence count n modulo 16,384: pocket_sent tells n before it is
+ * sent, pocket_header writes the six bytes before its data. A receiver gives the first arrival the number that its count is, and lists
+ * all before it as lost. Each later one has the next greater number of its count. So
+ *  - the count of the latest packet means a repeat, and after a gap of exactly 16,384 packets a new packet looks like one;
+ *  - a receiver takes no packets out of their order: a packet that comes after a later one is given a number that is 16,384 too great,
+ *    and so are all after it. If two of a hundred change places, some 16,382 packets are told lost, and those that come next may be
+ *    unwritten. Packets that can overtake each other are kept in a store and judged by the verb late at a desk, with its window=;
+ *  - the number of the next packet in order is written + listed of pocket_counts.
+ * Data of no byte are an arrival too: they end too early (POCKET_EARLY at bit 0), and their number is not lost, but refused.
+ *
+ * After a restart on board. A new sender begins a new stream, whatever its counts. A receiver that gets its packets with the counts of
+ * the old stream going on can't know that: it refuses them, *or gives contents that were not sent*, since each may be a packet of the
+ * old stream. So either the ground closes the receiver and opens a new one, as soon as it knows of the restart; or the board leaves out
+ * 16 counts (the greatest level is 15), which tells each receiver that all it knows is gone. It then waits for mask and whole content:
+ * the first packets of a sender carry both, one more than their robustness asks; if all these are lost, the next with send_mask and
+ * whole. The example is at pocket_sender_open.
  */
 #ifndef POCKET_H
 #define POCKET_H
 
 #include <stddef.h>
 #include <stdint.h>
-#include <string.h>
 #ifndef __cplusplus
 #include <stdbool.h>
 #endif
@@ -41,10 +59,13 @@
 extern "C" {
 #endif
 
+#define POCKET_VERSION "1.1.0"          /* of this header; pocket_version tells that of the library */
 #define POCKET_MOST_BITS 49152u         /* of an input */
 #define POCKET_MOST_ROBUSTNESS 7u       /* the greatest required robustness */
 #define POCKET_MOST_LEVEL 15u           /* the greatest effective robustness level */
 #define POCKET_MOST_COUNT 16383u        /* the greatest sequence count */
+#define POCKET_MOST_APID 2046u          /* of a Space Packet that is not idle */
+#define POCKET_HEADER_BYTES 6u          /* of the header of a Space Packet */
 #define POCKET_MOST_WORDS 1000u         /* of a command */
 #define POCKET_TEXT_BYTES 128u          /* room for the text of a refusal */
 #define POCKET_MOST_DATA 65536u         /* bytes of the data of a packet that arrives */
@@ -72,10 +93,12 @@ typedef enum pocket_status {
     POCKET_TOO_LONG = 14,       /* the packet has more than 65,536 bytes of data */
     POCKET_NO_TEXT = 15,        /* a name or a word is not UTF-8 */
     POCKET_TOO_MANY_WORDS = 16, /* the command has 1,000 words */
+    POCKET_APID = 250,          /* of pocket_header: the APID is above 2046 */
+    POCKET_NO_DATA = 251,       /* of pocket_header: a Space Packet has a byte of data at least */
     POCKET_NO_STATE = 252,      /* of the one file: the bytes are no state, but damaged, cut, or of another version of the file */
     POCKET_OTHER_STATE = 253,   /* of the one file: the state is of the other kind, or of another number of bits */
     POCKET_BROKEN = 254,        /* of the one file: an access outside the memory of the handle, which can then only be closed */
-    POCKET_NULL = 255           /* a pointer is null, answered by this header; null with the length 0 is no byte */
+    POCKET_NULL = 255           /* a pointer is null; null with the length 0 is no byte */
 } pocket_status;
 
 /* A sender, a receiver or a desk, or nothing if all is zero: pocket_handle s = POCKET_NOTHING. */
@@ -109,141 +132,81 @@ typedef struct pocket_tally {
     uint64_t packets;           /* that arrived, repeats too */
     uint64_t written;
     uint64_t repeats;
-    uint64_t listed;            /* packets up to the latest arrival that are not written */
+    uint64_t listed;            /* packets up to the latest arrival that are not written: lost, unsynced, gaps, wrong, early */
 } pocket_tally;
 
-uint32_t pocket_sender_open(pocket_handle *handle, uint32_t bits, const uint8_t *mask, size_t mask_length);
-uint32_t pocket_send(pocket_handle *handle, const uint8_t *input, size_t input_length, bool new_mask, bool send_mask, bool whole,
-                     uint8_t robustness, uint8_t *data, size_t room, size_t *length, uint8_t *level);
-uint32_t pocket_receiver_open(pocket_handle *handle, uint32_t bits);
-uint32_t pocket_receive(pocket_handle *handle, uint16_t count, const uint8_t *data, size_t length, uint8_t *content, size_t room,
-                        pocket_finding *finding);
-uint32_t pocket_counts(pocket_handle *handle, pocket_tally *tally);
-uint32_t pocket_desk_open(pocket_handle *handle);
-uint32_t pocket_put(pocket_handle *handle, const uint8_t *name, size_t name_length, const uint8_t *bytes, size_t length);
-uint32_t pocket_word(pocket_handle *handle, const uint8_t *word, size_t length);
-uint32_t pocket_run(pocket_handle *handle, uint8_t *text, size_t room, size_t *length, uint8_t *exit_number);
-uint32_t pocket_get(pocket_handle *handle, const uint8_t *name, size_t name_length, uint8_t *bytes, size_t room, size_t *length);
-uint32_t pocket_close(pocket_handle *handle);
-
-#define POCKET_BYTES_ARE_NULL(at, length) ((at) == NULL && (length) != 0u)
-#define POCKET_NO_BYTES(at) ((at) == NULL ? (const uint8_t *)"" : (at))
-
-/* Opens a sender of inputs of so many bits, with a first mask, or one of zeros if mask_length is 0. Takes memory.
+/* Opens a sender of inputs of so many bits, with a first mask, or one of zeros if mask_length is 0. Takes memory. After a restart on board,
+ * with a ground that goes on, next being the number after that of the last packet before it, or of a later one:
+ *
+ *     pocket_sender_open(&sender, bits, NULL, 0);
+ *     next += 16;                                               (16 counts are left out)
+ *     pocket_send(&sender, input, .., 7, data, ..);             (the first eight carry mask and content: seven may be lost)
+ *     pocket_header(apid, next++, length, header);
+ *
  * POCKET_IS_OPEN, BITS, MASK_LENGTH, MASK_SPARE_BIT, NO_MEMORY. */
-static inline pocket_status pocket_checked_sender_open(pocket_handle *handle, uint32_t bits, const uint8_t *mask, size_t mask_length)
-{
-    if (handle == NULL || POCKET_BYTES_ARE_NULL(mask, mask_length))
-        return POCKET_NULL;
-    return (pocket_status)pocket_sender_open(handle, bits, POCKET_NO_BYTES(mask), mask_length);
-}
+pocket_status pocket_checked_sender_open(pocket_handle *handle, uint32_t bits, const uint8_t *mask, size_t mask_length);
 
-/* Makes the packet of the next input. new_mask: from here on the mask has the bits that turned after the new mask before this one.
- * send_mask: the packet carries its mask. whole: it carries its whole content, which needs nothing that was sent before; with
- * send_mask it is where a receiver may begin. robustness, 0 to 7: how many packets in a row may be
- * lost before this one, at least; the first packets up to this number carry mask and content, whatever is asked. The data are the
- * first *length bytes of data, and *level is how many packets before this one may be missing. Takes no memory.
+/* Makes the packet of the next input. new_mask (p of the standard): from here on the mask has the bits that turned after the new mask before
+ * this one. send_mask (f): the packet carries its mask. whole (r): it carries its whole content, which needs nothing that was sent before;
+ * with send_mask it is where a receiver may begin. robustness (R), 0 to 7: how many packets in a row may be lost before this one, at least;
+ * a packet whose number is at most its robustness carries mask and content, and has no new mask, whatever is asked. The data are the
+ * first *length bytes of data, and *level (V) is how many packets before this one may be missing. Takes no memory.
  * POCKET_IS_CLOSED, OTHER_KIND, INPUT_LENGTH, SPARE_BIT, ROBUSTNESS, NO_ROOM, TOO_MANY: the first that is so. */
-static inline pocket_status pocket_checked_send(pocket_handle *handle, const uint8_t *input, size_t input_length, bool new_mask,
-                                                bool send_mask, bool whole, uint8_t robustness, uint8_t *data, size_t room,
-                                                size_t *length, uint8_t *level)
-{
-    static uint8_t nothing;
-    if (handle == NULL || length == NULL || level == NULL || POCKET_BYTES_ARE_NULL(input, input_length) ||
-        POCKET_BYTES_ARE_NULL(data, room))
-        return POCKET_NULL;
-    return (pocket_status)pocket_send(handle, POCKET_NO_BYTES(input), input_length, new_mask, send_mask, whole, robustness,
-                                      data == NULL ? &nothing : data, room, length, level);
-}
+pocket_status pocket_checked_send(pocket_handle *handle, const uint8_t *input, size_t input_length, bool new_mask, bool send_mask, bool whole,
+                                  uint8_t robustness, uint8_t *data, size_t room, size_t *length, uint8_t *level);
+
+/* Tells how many packets a sender has made: the number of its next one. Takes no memory. POCKET_IS_CLOSED, OTHER_KIND. */
+pocket_status pocket_checked_sent(pocket_handle *handle, uint64_t *packets);
+
+/* Writes the six bytes that stand before the data of a packet in a Space Packet of telemetry, unsegmented and without a secondary header:
+ * its APID, 0 to 2046, its sequence count, which is the number of the packet modulo 16,384, and the number of its data bytes, 1 to 65,536.
+ * POCKET_APID, NO_DATA, TOO_LONG: the first that is so. */
+pocket_status pocket_header(uint16_t apid, uint64_t number, size_t length, uint8_t *header);
 
 /* Opens a receiver of contents of so many bits. Takes memory. POCKET_IS_OPEN, BITS, NO_MEMORY. */
-static inline pocket_status pocket_checked_receiver_open(pocket_handle *handle, uint32_t bits)
-{
-    return handle == NULL ? POCKET_NULL : (pocket_status)pocket_receiver_open(handle, bits);
-}
+pocket_status pocket_checked_receiver_open(pocket_handle *handle, uint32_t bits);
 
 /* Judges the next packet that arrived, by its sequence count and its data: *finding tells what is found, and if it is written the
  * content is in the first POCKET_INPUT_BYTES(bits) bytes of content; otherwise content is as it was. Takes no memory.
  * POCKET_IS_CLOSED, OTHER_KIND, COUNT, TOO_LONG, NO_ROOM, TOO_MANY: the first that is so. */
-static inline pocket_status pocket_checked_receive(pocket_handle *handle, uint16_t count, const uint8_t *data, size_t length,
-                                                   uint8_t *content, size_t room, pocket_finding *finding)
-{
-    static uint8_t nothing;
-    if (handle == NULL || finding == NULL || POCKET_BYTES_ARE_NULL(data, length) || POCKET_BYTES_ARE_NULL(content, room))
-        return POCKET_NULL;
-    return (pocket_status)pocket_receive(handle, count, POCKET_NO_BYTES(data), length, content == NULL ? &nothing : content, room,
-                                         finding);
-}
+pocket_status pocket_checked_receive(pocket_handle *handle, uint16_t count, const uint8_t *data, size_t length, uint8_t *content, size_t room,
+                                     pocket_finding *finding);
 
 /* Tells the numbers of a receiver's arrivals so far. Takes no memory. POCKET_IS_CLOSED, OTHER_KIND. */
-static inline pocket_status pocket_checked_counts(pocket_handle *handle, pocket_tally *tally)
-{
-    return handle == NULL || tally == NULL ? POCKET_NULL : (pocket_status)pocket_counts(handle, tally);
-}
+pocket_status pocket_checked_counts(pocket_handle *handle, pocket_tally *tally);
+
+/* Tells the number of bits of a sender or a receiver. Takes no memory. POCKET_IS_CLOSED, OTHER_KIND. */
+pocket_status pocket_checked_bits(pocket_handle *handle, uint32_t *bits);
 
 /* Opens a desk at which nothing is kept, and there is no word. Takes memory. POCKET_IS_OPEN, NO_MEMORY. */
-static inline pocket_status pocket_checked_desk_open(pocket_handle *handle)
-{
-    return handle == NULL ? POCKET_NULL : (pocket_status)pocket_desk_open(handle);
-}
+pocket_status pocket_checked_desk_open(pocket_handle *handle);
 
 /* Keeps bytes at a desk under a name, in place of what was kept under it. Takes memory.
  * POCKET_NO_TEXT, IS_CLOSED, OTHER_KIND, NO_MEMORY: the first that is so. */
-static inline pocket_status pocket_checked_put(pocket_handle *handle, const char *name, const uint8_t *bytes, size_t length)
-{
-    if (handle == NULL || name == NULL || POCKET_BYTES_ARE_NULL(bytes, length))
-        return POCKET_NULL;
-    return (pocket_status)pocket_put(handle, (const uint8_t *)name, strlen(name), POCKET_NO_BYTES(bytes), length);
-}
+pocket_status pocket_checked_put(pocket_handle *handle, const char *name, const uint8_t *bytes, size_t length);
 
 /* Adds a word to those of the next command: first the verb, then its words in any order, as in compress in=A out=B bits=64 apid=100
  * robust=2. Takes memory. POCKET_NO_TEXT, IS_CLOSED, OTHER_KIND, TOO_MANY_WORDS, NO_MEMORY: the first that is so. */
-static inline pocket_status pocket_checked_word(pocket_handle *handle, const char *word)
-{
-    return handle == NULL || word == NULL ? POCKET_NULL : (pocket_status)pocket_word(handle, (const uint8_t *)word, strlen(word));
-}
+pocket_status pocket_checked_word(pocket_handle *handle, const char *word);
 
 /* Runs the command of the words, which reads what is kept under the names that it has, and keeps what it writes under others. Then
  * there is no word. *exit_number is the exit number of the program: 0 if the command was done, otherwise it was refused, and the first
  * *length bytes of text say why: "reading failed" (1) only if the words name something to read under which nothing is kept, "writing
  * failed" (1) and "out of memory" (5) for want of memory. A refused command keeps nothing under its names; but if writing failed, the
- * output of a command with a report may be the new one, and the report the one before. Takes memory.
+ * output of a command with a report may be the new one, and the report the one before. Takes memory, and a stack of at most 110,000 bytes.
  * POCKET_NO_ROOM, IS_CLOSED, OTHER_KIND: the first that is so. */
-static inline pocket_status pocket_checked_run(pocket_handle *handle, char *text, size_t room, size_t *length, uint8_t *exit_number)
-{
-    if (handle == NULL || text == NULL || length == NULL || exit_number == NULL)
-        return POCKET_NULL;
-    return (pocket_status)pocket_run(handle, (uint8_t *)text, room, length, exit_number);
-}
+pocket_status pocket_checked_run(pocket_handle *handle, char *text, size_t room, size_t *length, uint8_t *exit_number);
 
 /* Gives what is kept under a name, nothing if it was never put or written, in the first *length bytes of bytes. If there is no room for
  * it, *length tells how much is needed. Takes no memory. POCKET_NO_TEXT, IS_CLOSED, OTHER_KIND, NO_ROOM: the first that is so. */
-static inline pocket_status pocket_checked_get(pocket_handle *handle, const char *name, uint8_t *bytes, size_t room, size_t *length)
-{
-    static uint8_t nothing;
-    if (handle == NULL || name == NULL || length == NULL || POCKET_BYTES_ARE_NULL(bytes, room))
-        return POCKET_NULL;
-    return (pocket_status)pocket_get(handle, (const uint8_t *)name, strlen(name), bytes == NULL ? &nothing : bytes, room, length);
-}
+pocket_status pocket_checked_get(pocket_handle *handle, const char *name, uint8_t *bytes, size_t room, size_t *length);
 
 /* Gives back all memory of what the handle holds. It then holds nothing, and may be opened again. POCKET_IS_CLOSED. */
-static inline pocket_status pocket_checked_close(pocket_handle *handle)
-{
-    return handle == NULL ? POCKET_NULL : (pocket_status)pocket_close(handle);
-}
+pocket_status pocket_checked_close(pocket_handle *handle);
 
-/* A call by its plain name is the checked one. */
-#define pocket_sender_open pocket_checked_sender_open
-#define pocket_send pocket_checked_send
-#define pocket_receiver_open pocket_checked_receiver_open
-#define pocket_receive pocket_checked_receive
-#define pocket_counts pocket_checked_counts
-#define pocket_desk_open pocket_checked_desk_open
-#define pocket_put pocket_checked_put
-#define pocket_word pocket_checked_word
-#define pocket_run pocket_checked_run
-#define pocket_get pocket_checked_get
-#define pocket_close pocket_checked_close
+/* The version of the library, as POCKET_VERSION is that of this header; and what an answer means, in one line. */
+const char *pocket_version(void);
+const char *pocket_status_text(uint32_t status);
 
 /* ---- What the one file pocket.c alone has: a program that is linked with the library doesn't find it ---- */
 
@@ -264,59 +227,99 @@ static inline pocket_status pocket_checked_close(pocket_handle *handle)
 /* The bytes of memory, or 0 if the number of bits is not from 1 to 49,152. */
 size_t pocket_sender_bytes(uint32_t bits);
 size_t pocket_receiver_bytes(uint32_t bits);
+
+/* Opens a sender as pocket_sender_open does, in memory of the caller, aligned or not, which is the handle's own until it is closed. With
+ * POCKET_NO_HEAP there is no other way. POCKET_IS_OPEN, BITS, MASK_LENGTH, MASK_SPARE_BIT, NO_MEMORY if size is below
+ * pocket_sender_bytes(bits). */
+pocket_status pocket_checked_sender_open_in(pocket_handle *handle, void *memory, size_t size, uint32_t bits, const uint8_t *mask,
+                                            size_t mask_length);
+
+/* Opens a receiver in memory of the caller. POCKET_IS_OPEN, BITS, NO_MEMORY if size is below pocket_receiver_bytes(bits). */
+pocket_status pocket_checked_receiver_open_in(pocket_handle *handle, void *memory, size_t size, uint32_t bits);
+
+/* Tells how many bytes the state of an open sender or receiver has, the same for all of its kind and bits. POCKET_IS_CLOSED, BROKEN. */
+pocket_status pocket_checked_state_size(pocket_handle *handle, size_t *size);
+
+/* Gives what a sender or a receiver holds, as the first *length bytes of state: the same bytes on all processors, with a magic, a version,
+ * the kind, the bits, and zlib's crc32. POCKET_IS_CLOSED, BROKEN, NO_ROOM. */
+pocket_status pocket_checked_save(pocket_handle *handle, uint8_t *state, size_t room, size_t *length);
+
+/* Puts a state in place of what an open handle of its kind and bits holds, which then goes on as the saved one would have. The sum finds
+ * damage, not a forged state: that is read as far as the memory of the handle, and no further.
+ * POCKET_IS_CLOSED, BROKEN, NO_STATE, OTHER_STATE: the first that is so. */
+pocket_status pocket_checked_load(pocket_handle *handle, const uint8_t *state, size_t length);
+
+/* ---- Names ----
+ * Each call is a function of the library by its checked name, which other languages find too (dlsym, bindgen, cgo, Ada). By its plain name
+ * it is the same function: a macro in C, a reference in C++ (from C++11), where members of classes keep their names; there those that the
+ * one file alone has are named if POCKET_ONE_FILE is defined. The library also has a function by each plain name, the proved one, to which
+ * no null may be given: for who calls those, POCKET_PROVED_NAMES declares them. */
+#ifdef POCKET_PROVED_NAMES
+uint32_t pocket_sender_open(pocket_handle *handle, uint32_t bits, const uint8_t *mask, size_t mask_length);
+uint32_t pocket_send(pocket_handle *handle, const uint8_t *input, size_t input_length, bool new_mask, bool send_mask, bool whole,
+                     uint8_t robustness, uint8_t *data, size_t room, size_t *length, uint8_t *level);
+uint32_t pocket_sent(pocket_handle *handle, uint64_t *packets);
+uint32_t pocket_receiver_open(pocket_handle *handle, uint32_t bits);
+uint32_t pocket_receive(pocket_handle *handle, uint16_t count, const uint8_t *data, size_t length, uint8_t *content, size_t room,
+                        pocket_finding *finding);
+uint32_t pocket_counts(pocket_handle *handle, pocket_tally *tally);
+uint32_t pocket_desk_open(pocket_handle *handle);
+uint32_t pocket_put(pocket_handle *handle, const uint8_t *name, size_t name_length, const uint8_t *bytes, size_t length);
+uint32_t pocket_word(pocket_handle *handle, const uint8_t *word, size_t length);
+uint32_t pocket_run(pocket_handle *handle, uint8_t *text, size_t room, size_t *length, uint8_t *exit_number);
+uint32_t pocket_get(pocket_handle *handle, const uint8_t *name, size_t name_length, uint8_t *bytes, size_t room, size_t *length);
+uint32_t pocket_bits(pocket_handle *handle, uint32_t *bits);
+uint32_t pocket_close(pocket_handle *handle);
 uint32_t pocket_sender_open_in(pocket_handle *handle, void *memory, size_t size, uint32_t bits, const uint8_t *mask, size_t mask_length);
 uint32_t pocket_receiver_open_in(pocket_handle *handle, void *memory, size_t size, uint32_t bits);
 uint32_t pocket_state_size(pocket_handle *handle, size_t *size);
 uint32_t pocket_save(pocket_handle *handle, uint8_t *state, size_t room, size_t *length);
 uint32_t pocket_load(pocket_handle *handle, const uint8_t *state, size_t length);
-
-/* Opens a sender as pocket_sender_open does, in memory of the caller, aligned or not, which is the handle's own until it is closed. With
- * POCKET_NO_HEAP there is no other way. POCKET_IS_OPEN, BITS, MASK_LENGTH, MASK_SPARE_BIT, NO_MEMORY if size is below
- * pocket_sender_bytes(bits). */
-static inline pocket_status pocket_checked_sender_open_in(pocket_handle *handle, void *memory, size_t size, uint32_t bits,
-                                                          const uint8_t *mask, size_t mask_length)
-{
-    if (handle == NULL || memory == NULL || POCKET_BYTES_ARE_NULL(mask, mask_length))
-        return POCKET_NULL;
-    return (pocket_status)pocket_sender_open_in(handle, memory, size, bits, POCKET_NO_BYTES(mask), mask_length);
+#elif defined(__cplusplus)
 }
-
-/* Opens a receiver in memory of the caller. POCKET_IS_OPEN, BITS, NO_MEMORY if size is below pocket_receiver_bytes(bits). */
-static inline pocket_status pocket_checked_receiver_open_in(pocket_handle *handle, void *memory, size_t size, uint32_t bits)
-{
-    return handle == NULL || memory == NULL ? POCKET_NULL : (pocket_status)pocket_receiver_open_in(handle, memory, size, bits);
-}
-
-/* Tells how many bytes the state of an open sender or receiver has, the same for all of its kind and bits. POCKET_IS_CLOSED, BROKEN. */
-static inline pocket_status pocket_checked_state_size(pocket_handle *handle, size_t *size)
-{
-    return handle == NULL || size == NULL ? POCKET_NULL : (pocket_status)pocket_state_size(handle, size);
-}
-
-/* Gives what a sender or a receiver holds, as the first *length bytes of state: the same bytes on all processors, with a magic, a version,
- * the kind, the bits, and zlib's crc32. POCKET_IS_CLOSED, BROKEN, NO_ROOM. */
-static inline pocket_status pocket_checked_save(pocket_handle *handle, uint8_t *state, size_t room, size_t *length)
-{
-    if (handle == NULL || length == NULL || POCKET_BYTES_ARE_NULL(state, room))
-        return POCKET_NULL;
-    return (pocket_status)pocket_save(handle, state, room, length);
-}
-
-/* Puts a state in place of what an open handle of its kind and bits holds, which then goes on as the saved one would have. The sum finds
- * damage, not a forged state: that is read as far as the memory of the handle, and no further.
- * POCKET_IS_CLOSED, BROKEN, NO_STATE, OTHER_STATE: the first that is so. */
-static inline pocket_status pocket_checked_load(pocket_handle *handle, const uint8_t *state, size_t length)
-{
-    if (handle == NULL || POCKET_BYTES_ARE_NULL(state, length))
-        return POCKET_NULL;
-    return (pocket_status)pocket_load(handle, POCKET_NO_BYTES(state), length);
-}
-
+#define POCKET_NAME(call) static constexpr auto &pocket_##call = pocket_checked_##call
+POCKET_NAME(sender_open);
+POCKET_NAME(send);
+POCKET_NAME(sent);
+POCKET_NAME(receiver_open);
+POCKET_NAME(receive);
+POCKET_NAME(counts);
+POCKET_NAME(bits);
+POCKET_NAME(desk_open);
+POCKET_NAME(put);
+POCKET_NAME(word);
+POCKET_NAME(run);
+POCKET_NAME(get);
+POCKET_NAME(close);
+#ifdef POCKET_ONE_FILE
+POCKET_NAME(sender_open_in);
+POCKET_NAME(receiver_open_in);
+POCKET_NAME(state_size);
+POCKET_NAME(save);
+POCKET_NAME(load);
+#endif
+#undef POCKET_NAME
+extern "C" {
+#else
+#define pocket_sender_open pocket_checked_sender_open
+#define pocket_send pocket_checked_send
+#define pocket_sent pocket_checked_sent
+#define pocket_receiver_open pocket_checked_receiver_open
+#define pocket_receive pocket_checked_receive
+#define pocket_counts pocket_checked_counts
+#define pocket_bits pocket_checked_bits
+#define pocket_desk_open pocket_checked_desk_open
+#define pocket_put pocket_checked_put
+#define pocket_word pocket_checked_word
+#define pocket_run pocket_checked_run
+#define pocket_get pocket_checked_get
+#define pocket_close pocket_checked_close
 #define pocket_sender_open_in pocket_checked_sender_open_in
 #define pocket_receiver_open_in pocket_checked_receiver_open_in
 #define pocket_state_size pocket_checked_state_size
 #define pocket_save pocket_checked_save
 #define pocket_load pocket_checked_load
+#endif
 
 #ifdef __cplusplus
 }

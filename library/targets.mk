@@ -10,6 +10,7 @@
 TARGET ?= riscv64-linux-gnu
 CROSS_OUT := library/out/$(TARGET)$(if $(unaligned),-unaligned)
 CROSS_CFLAGS ?= -std=c99 -Wall -Wextra -pedantic -Werror -O2 -ffunction-sections
+CROSS_OBJECTS := $(CROSS_OUT)/heap.o $(CROSS_OUT)/checked.o $(CROSS_OUT)/checked_desk.o
 CROSS_SOURCES := $(shell find crates/pocket_c/src crates/pocket_c/specs crates/pocket_c/proofs -type f) crates.txt
 # Aligned accesses alone in what the cross compiler makes, too.
 CROSS_STRICT := $(if $(unaligned),-mno-strict-align,-mstrict-align)
@@ -26,12 +27,12 @@ $(ARM_OUT)/libpocket_c.a: library/retarget.py $(CROSS_SOURCES)
 library/out/riscv64-linux-gnu$(if $(unaligned),-unaligned)/libpocket_c.a: library/retarget.py $(ARM_OUT)/libpocket_c.a
 	POCKET_UNALIGNED=$(unaligned) python3 library/retarget.py riscv64-linux-gnu $(@D) $(ARM_OUT)/module.bc
 
-$(CROSS_OUT)/heap.o: library/heap.c
+$(CROSS_OUT)/%.o: library/%.c library/pocket.h
 	mkdir -p $(CROSS_OUT)
 	$(TARGET)-gcc $(CROSS_CFLAGS) $(CROSS_STRICT) -c -o $@ $<
 
 # The object of the crate is in an archive; an archive that is made anew has no object of an earlier run.
-$(CROSS_OUT)/libpocket.a: $(CROSS_OUT)/libpocket_c.a $(CROSS_OUT)/heap.o
+$(CROSS_OUT)/libpocket.a: $(CROSS_OUT)/libpocket_c.a $(CROSS_OBJECTS)
 	rm -f $@
 	cp $(CROSS_OUT)/libpocket_c.a $@
-	$(TARGET)-ar rs $@ $(CROSS_OUT)/heap.o
+	$(TARGET)-ar rs $@ $(CROSS_OBJECTS)

@@ -199,6 +199,18 @@ uint32_t pocket_send(pocket_handle *handle, const uint8_t *input, size_t input_l
     }
     return status;
 }
+
+uint32_t pocket_sent(pocket_handle *handle, uint64_t *packets) {
+    u32 status = begun(handle, SENDER);
+    u8 *m;
+    if (status != POCKET_DONE)
+        return status;
+    m = block_of(handle);
+    status = ended(m, code_pocket_sent(m, head_of(m, LAST_AT), HANDLE, TOLD));
+    if (status == POCKET_DONE)
+        *packets = get64(place(TOLD));
+    return status;
+}
 #endif
 
 #ifndef POCKET_NO_RECEIVER

@@ -16,21 +16,12 @@
  *
  * Made by `make dist` from the sources of the project: no change is made here.
  */
+#define POCKET_PROVED_NAMES
 #include "pocket.h"
+#include <string.h>
 #ifndef POCKET_NO_HEAP
 #include <stdlib.h>
 #endif
 #if defined(POCKET_NO_SENDER) && defined(POCKET_NO_RECEIVER)
 #error "POCKET_NO_SENDER and POCKET_NO_RECEIVER leave nothing"
 #endif
-#undef pocket_sender_open
-#undef pocket_sender_open_in
-#undef pocket_send
-#undef pocket_receiver_open
-#undef pocket_receiver_open_in
-#undef pocket_receive
-#undef pocket_counts
-#undef pocket_state_size
-#undef pocket_save
-#undef pocket_load
-#undef pocket_close

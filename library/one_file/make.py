@@ -4,7 +4,7 @@ receiver, FOLDER/pocket.h, and FOLDER/pocket-program.c, the program.
 
 MODULE is the module that library/retarget.py kept as the library was proved and built for x86-64 (crates/pocket_c/out/module.bc).
 page/module.py turns it to WebAssembly, Debian's wasm2c (the package wabt) turns that to C, and translate.py that to the generated part,
-which is joined with what is written by hand: machine.c, calls.c and state.c for the calls; machine.c, heap.c, files.c and program.c for the program.
+which is joined with what is written by hand: machine.c, calls.c, state.c, checked.c and the library's checked.c for the calls; machine.c, heap.c, files.c and program.c for the program.
 So the files are compiled another way: compared (.ci/one_file.py), not proved. Two runs give the same bytes.
 """
 
@@ -23,7 +23,7 @@ sys.path[:0] = [HERE, f"{TOP}/page"]
 import module
 import translate
 
-SENDER = ["pocket_sender_open", "pocket_send"]
+SENDER = ["pocket_sender_open", "pocket_send", "pocket_sent"]
 RECEIVER = ["pocket_receiver_open", "pocket_receive", "pocket_counts"]
 DESK = ["pocket_desk_open", "pocket_put", "pocket_word", "pocket_run", "pocket_get"]
 PROGRAM_STACK = 1 << 20
@@ -54,6 +54,13 @@ LOUD = """#if defined(__clang__)
 def text_of(name):
     with open(os.path.join(HERE, name), encoding="utf-8") as file:
         return file.read()
+
+
+def checked():
+    """The checks of null of the library, and those of the calls that the file alone has."""
+    with open(f"{TOP}/library/checked.c", encoding="utf-8") as file:
+        text = file.read().replace('#define POCKET_PROVED_NAMES\n#include "pocket.h"\n', "")
+    return f"{text}\n{text_of('checked.c')}"
 
 
 def version():
@@ -119,7 +126,7 @@ def calls(kept, kit):
     before, after = text_of("calls.c").split("/* @generated@ */\n")
     named = "".join(f"#define {name} {value}\n" for name, value in numbers.items())
     head = text_of("head.c").replace("@VERSION@", version())
-    return f"{head}\n{named}\n{constants(code)}{text_of('machine.c')}\n{before}\n{quiet(generated(code))}\n{after}\n{text_of('state.c')}"
+    return f"{head}\n{named}\n{constants(code)}{text_of('machine.c')}\n{before}\n{quiet(generated(code))}\n{after}\n{text_of('state.c')}\n{checked()}"
 
 
 def helps():

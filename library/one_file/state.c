@@ -49,6 +49,13 @@ static u32 begun_of_any(const pocket_handle *handle) {
     return begun(handle, handle->at == NULL ? (u32)SENDER : head_of(block_of(handle), KIND_AT));
 }
 
+uint32_t pocket_bits(pocket_handle *handle, uint32_t *bits) {
+    const u32 status = begun_of_any(handle);
+    if (status == POCKET_DONE)
+        *bits = head_of(block_of(handle), BITS_AT);
+    return status;
+}
+
 static size_t state_bytes(const u8 *m) {
     return STATE_HEAD + STATE_HANDLE + heap_bytes(head_of(m, KIND_AT), head_of(m, BITS_AT)) + STATE_SUM;
 }

@@ -1,9 +1,12 @@
 #!/usr/bin/env python3
 """Worked packets and each wrong argument, with nothing changed after it, from Python."""
 
+import ctypes
+import os
 import sys
 
 import pocket
+from pocket.errors import REFUSED
 
 INPUTS = bytes.fromhex("B0B1B1B3")
 PACKETS = [("85B8D600", 1), ("424B8D62", 1), ("44C0", 2), ("C085C0", 1)]
@@ -48,6 +51,7 @@ refuses(pocket.SpareBitSet, "the mask has a spare bit set", lambda: pocket.Sende
 with pocket.Sender(8) as sender, pocket.Receiver(8) as receiver:
     for number, (data, level) in enumerate(PACKETS):
         wrong_calls(sender, receiver)
+        equal((sender.sent, sender.bits, receiver.bits), (number, 8, 8))
         sent = sender.send(INPUTS[number:number + 1], 1)
         equal((sent.data.hex().upper(), sent.level), (data, level))
         if number != 2:
@@ -60,6 +64,8 @@ with pocket.Sender(8) as sender, pocket.Receiver(8) as receiver:
 refuses(pocket.Closed, "it is closed", lambda: sender.send(b"\xb0"))
 refuses(pocket.Closed, "it is closed", lambda: receiver.receive(0, b"\x00"))
 refuses(pocket.Closed, "it is closed", receiver.counts)
+refuses(pocket.Closed, "it is closed", lambda: sender.sent)
+refuses(pocket.Closed, "it is closed", lambda: receiver.bits)
 sender.close()
 
 # A first mask, and inputs of 13 bits.
@@ -96,6 +102,15 @@ with pocket.Desk() as desk:
 refuses(pocket.Closed, "it is closed", lambda: desk.put("x", b""))
 refuses(pocket.Closed, "it is closed", lambda: desk.run(*COMPRESS))
 refuses(pocket.Closed, "it is closed", lambda: desk.get("x"))
+
+# The functions with the checks are found by their names, and the texts of the module are those of the library.
+if "POCKET_LIBRARY" in os.environ:
+    library = ctypes.CDLL(os.environ["POCKET_LIBRARY"])
+    library.pocket_version.restype = library.pocket_status_text.restype = ctypes.c_char_p
+    equal(library.pocket_version().decode(), pocket.__version__)
+    equal({status: library.pocket_status_text(status).decode() for status in REFUSED}, {status: text for status, (_, text) in REFUSED.items()})
+    for call in "sender_open send sent receiver_open receive counts bits desk_open put word run get close".split():
+        equal(getattr(library, "pocket_checked_" + call)(*[None] * 11), 255)
 
 print(f"{sum(results)} passed, {len(results) - sum(results)} failed")
 sys.exit(not all(results))

@@ -14,7 +14,7 @@ A `Desk` runs the commands of the program over bytes by name:
     '0064c000000385b8d600'
 
 The functions of libpocket.so are proved; this module and ctypes are not. The library is the one that the variable POCKET_LIBRARY names,
-or the one that the system finds. It takes the standard library alone.
+or the one that was installed with the module, or that the system finds. It takes the standard library alone.
 """
 
 from .calls import Arrival, Counts, Desk, Kind, Receiver, Sender, Sent, run

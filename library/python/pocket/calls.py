@@ -132,6 +132,14 @@ class _Kept(_Held):
     def __init__(self, bits: int) -> None:
         super().__init__()
 
+    @property
+    def bits(self) -> int:
+        """The number of bits of its inputs or contents."""
+        bits = ctypes.c_uint32()
+        with self._lock:
+            done(library.pocket_bits(self._handle, bits))
+        return bits.value
+
     def save(self) -> bytes:
         """Its state, from which `load` goes on, on any processor. Only the library made of the one C file has this."""
         size = ctypes.c_size_t()
@@ -168,6 +176,14 @@ class Sender(_Kept):
             done(library.pocket_send(self._handle, own, len(own), bool(new_mask), bool(send_mask), bool(whole), robustness, self._data,
                                        len(self._data), self._length, self._level))
             return Sent(ctypes.string_at(self._data, self._length.value), self._level.value)
+
+    @property
+    def sent(self) -> int:
+        """How many packets it made: the number of its next one, whose sequence count is this number modulo 16,384."""
+        sent = ctypes.c_uint64()
+        with self._lock:
+            done(library.pocket_sent(self._handle, sent))
+        return sent.value
 
 
 class Receiver(_Kept):

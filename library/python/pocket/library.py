@@ -1,4 +1,5 @@
-"""The calls of libpocket.so, by ctypes. The library is the one that the variable POCKET_LIBRARY names, or the one that the system finds."""
+"""The calls of libpocket.so, by ctypes. The library is the one that the variable POCKET_LIBRARY names, or the one
+that stands beside this file, or that the system finds."""
 
 from __future__ import annotations
 
@@ -28,9 +29,11 @@ _CALLS = {
     "pocket_sender_open": [_HANDLE, ctypes.c_uint32, _BYTES, _SIZE],
     "pocket_send": [_HANDLE, _BYTES, _SIZE, ctypes.c_bool, ctypes.c_bool, ctypes.c_bool, ctypes.c_uint8, ctypes.c_void_p, _SIZE,
                     ctypes.POINTER(_SIZE), ctypes.POINTER(ctypes.c_uint8)],
+    "pocket_sent": [_HANDLE, ctypes.POINTER(ctypes.c_uint64)],
     "pocket_receiver_open": [_HANDLE, ctypes.c_uint32],
     "pocket_receive": [_HANDLE, ctypes.c_uint16, _BYTES, _SIZE, ctypes.c_void_p, _SIZE, ctypes.POINTER(Finding)],
     "pocket_counts": [_HANDLE, ctypes.POINTER(Tally)],
+    "pocket_bits": [_HANDLE, ctypes.POINTER(ctypes.c_uint32)],
     "pocket_desk_open": [_HANDLE],
     "pocket_put": [_HANDLE, _BYTES, _SIZE, _BYTES, _SIZE],
     "pocket_word": [_HANDLE, _BYTES, _SIZE],
@@ -46,12 +49,17 @@ _STATE_CALLS = {
 }
 
 
+def _installed() -> str:
+    """The library that stands beside this file (`pip install`), or the one that the system finds."""
+    beside = os.path.join(os.path.dirname(os.path.abspath(__file__)), "libpocket.so")
+    return beside if os.path.exists(beside) else ctypes.util.find_library("pocket") or "libpocket.so.1"
+
+
 class Library:
     """The calls of the library, which is loaded as one of them is looked for: the tools that need none of them do without."""
 
     def __getattr__(self, call: str) -> Any:
-        name = os.environ.get("POCKET_LIBRARY") or ctypes.util.find_library("pocket") or "libpocket.so"
-        loaded = ctypes.CDLL(name)
+        loaded = ctypes.CDLL(os.environ.get("POCKET_LIBRARY") or _installed())
         for own, types in {**_CALLS, **_STATE_CALLS}.items():
             if hasattr(loaded, own):
                 function = getattr(loaded, own)
