@@ -68,7 +68,7 @@ install: lib
 	install -D -m 644 $(BUILD)/pocket.pc $(LIBRARIES)/pkgconfig/pocket.pc
 	install -D -m 644 -t $(DESTDIR)$(MODULES)/pocket library/python/pocket/*.py library/python/pocket/py.typed
 	if [ -f $(PROGRAM) ]; then $(MAKE) --no-print-directory install-program; fi
-	if [ -z "$(DESTDIR)" ]; then ldconfig; fi
+	if [ -z "$(DESTDIR)" ] && [ "$$(id -u)" = 0 ]; then ldconfig; fi
 
 install-program:
 	install -D -m 755 $(PROGRAM) $(PLACE)/bin/pocket
@@ -81,9 +81,9 @@ uninstall:
 	    $(LIBRARIES)/pkgconfig/pocket.pc $(PLACE)/bin/pocket $(PLACE)/share/man/man1/pocket.1 $(PLACE)/share/bash-completion/completions/pocket \
 	    $(DESTDIR)$(ZSHDIR)/_pocket
 	rm -rf $(DESTDIR)$(MODULES)/pocket
-	if [ -z "$(DESTDIR)" ]; then ldconfig; fi
+	if [ -z "$(DESTDIR)" ] && [ "$$(id -u)" = 0 ]; then ldconfig; fi
 
-deb: lib
+deb:
 	packaging/deb.sh $(PROGRAM) $(BUILD)
 
 unproved:

@@ -1,5 +1,6 @@
 #!/usr/bin/env python3
-"""Installs the program by the Makefile, and all as Debian packages into a root of their own; runs what is there, and removes it.
+"""Installs the program by the Makefile, and all as Debian packages into a root of their own; runs what is there, and removes it. Builds the
+program without a proof.
 
 .ci/install.py PROGRAM [LIBRARY], after the gate's proofs: LIBRARY is crates/pocket_c/out/libpocket_c.a if it isn't named. Its last line is
 'N passed, M failed, K skipped': what needs a package that can't be had is skipped, by name."""
@@ -24,7 +25,7 @@ PYTHON = "import pocket; print(pocket.Sender(8).send(b'\\xb0', 1).data.hex(' '),
 
 def run(*words, **how):
     """How a command ended, and what it said."""
-    ran = subprocess.run(words, stdout=subprocess.PIPE, stderr=subprocess.STDOUT, text=True, timeout=300, check=False, **how)
+    ran = subprocess.run(words, stdout=subprocess.PIPE, stderr=subprocess.STDOUT, text=True, timeout=1200, check=False, **how)
     return ran.returncode, ran.stdout
 
 
@@ -120,6 +121,20 @@ def python_module(root, libraries):
     return [] if found == (0, "85 b8 d6 00 {'y': b'end 0 0 0\\n'}\n") else [f"Python: {found}"]
 
 
+def unproved(room):
+    """Whether `make unproved` builds the program, which says that it is unproved, and compresses as the proved one."""
+    made = run("make", "-s", "-C", TOP, "unproved", f"BUILD={room.folder}/build")
+    program = f"{room.folder}/build/unproved/pocket"
+    if made[0] or not os.path.exists(program):
+        return f"make unproved ended with {made}"
+    told, wanted = (run(one, "--version") for one in (program, room.program))
+    words = ["compress", f"in={TOP}/crates/pocket/data/hk.rec", "out=-", "bits=64", "apid=100", "robust=2"]
+    stores = [subprocess.run([one, *words], capture_output=True, check=False).stdout for one in (program, room.program)]
+    if told[1].strip() != wanted[1].strip().removesuffix(" (unproved)") + " (unproved)":
+        return f"it says {told}"
+    return None if stores[0] == stores[1] and stores[0] else "it makes another store"
+
+
 def is_clean(room):
     """Whether lintian has nothing to say of the packages."""
     packages = glob.glob(f"{room.folder}/one/*.deb")
@@ -136,7 +151,8 @@ def main():
     with tempfile.TemporaryDirectory(prefix="pocket-install-") as folder:
         room = Room(folder, sys.argv[1], library)
         for name, attempt, command, package in [("make install-program", installs, "make", "make"), ("the Debian packages", packs, "dpkg-deb", "dpkg"),
-                                                ("the packages in a root", places, "dpkg", "dpkg"), ("lintian", is_clean, "lintian", "lintian")]:
+                                                ("the packages in a root", places, "dpkg", "dpkg"), ("lintian", is_clean, "lintian", "lintian"),
+                                                ("make unproved", unproved, "make", "make")]:
             if not needs.had(command, package):
                 skipped += 1
                 print(f"skipped: {name} ({command} can't be had)")

@@ -42,7 +42,7 @@ def worked():
     for number, (given, data, level) in enumerate(WORKED):
         lines.append(f"send 0 1 1 {given}")
         found += [f"sent 0 level {level} data {data}", f"received 0 number {number} lost 0 from 0 kind 0 0 mask 0 content {given}"]
-    return lines + ["close"], found + ["counts 0 packets 4 written 4 repeats 0 listed 0 closed 0 0 again 2 2"]
+    return lines + ["close"], found + ["counts 0 packets 4 written 4 repeats 0 listed 0 sent 0 4 4 bits 0 8 0 8 closed 0 0 again 2 2"]
 
 
 def random_case(draw, number):

@@ -9,6 +9,7 @@
 #include "pocket.h"
 #include <stdio.h>
 #include <stdlib.h>
+#include <string.h>
 
 enum { BELOW = 1 << 16, MARK = 0xA5 };
 static uint8_t input[6144], data[1 << 16], content[6144];

@@ -83,7 +83,7 @@ def costs(program, kind, recording):
 
 def packets(dist, folder, only):
     """The rows of instructions beside the library's."""
-    library = [f"{TOP}/crates/pocket_c/out/libpocket_c.a", f"{TOP}/library/heap.c"]
+    library = [f"{TOP}/library/checked.c", f"{TOP}/crates/pocket_c/out/libpocket_c.a", f"{TOP}/library/heap.c"]
     native = built(dist, folder, "native", "gcc", ["-Wl,--gc-sections"], library)
     checked = built(dist, folder, "checked", "gcc", [], [f"{dist}/pocket.c"])
     unchecked = built(dist, folder, "unchecked", "gcc", ["-DPOCKET_UNCHECKED"], [f"{dist}/pocket.c"])

@@ -12,20 +12,9 @@
 
 enum { BITS = 64, APID = 100, ROBUSTNESS = 2, NEW_MASK_SECONDS = 20, PASS_BEGINS = 30 };
 
-/* Writes the header of a Space Packet (CCSDS 133.0-B-2): telemetry, unsegmented, no secondary header. */
-static void put_header(uint8_t *header, uint32_t count, size_t length)
-{
-    header[0] = APID >> 8;
-    header[1] = APID & 0xFF;
-    header[2] = (uint8_t)(0xC0 | (count >> 8 & 0x3F));
-    header[3] = (uint8_t)count;
-    header[4] = (uint8_t)((length - 1) >> 8);
-    header[5] = (uint8_t)(length - 1);
-}
-
 int main(void)
 {
-    static uint8_t packet[6 + POCKET_PACKET_BYTES(BITS)];
+    static uint8_t packet[POCKET_HEADER_BYTES + POCKET_PACKET_BYTES(BITS)];
     uint8_t housekeeping[POCKET_INPUT_BYTES(BITS)], level;
     pocket_handle sender = POCKET_NOTHING;
     pocket_status status = pocket_sender_open(&sender, BITS, NULL, 0);
@@ -36,11 +25,11 @@ int main(void)
         bool begins = second == PASS_BEGINS;
         size_t length;
 
-        status = pocket_send(&sender, housekeeping, sizeof housekeeping, new_mask, begins, begins, ROBUSTNESS, packet + 6,
-                             sizeof packet - 6, &length, &level);
+        status = pocket_send(&sender, housekeeping, sizeof housekeeping, new_mask, begins, begins, ROBUSTNESS, packet + POCKET_HEADER_BYTES,
+                             sizeof packet - POCKET_HEADER_BYTES, &length, &level);
         if (status == POCKET_DONE) {
-            put_header(packet, second, length);
-            if (fwrite(packet, 6 + length, 1, stdout) != 1 || fflush(stdout) != 0)
+            status = pocket_header(APID, second, length, packet);
+            if (fwrite(packet, POCKET_HEADER_BYTES + length, 1, stdout) != 1 || fflush(stdout) != 0)
                 return 2;
             second += 1;
         }

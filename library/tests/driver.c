@@ -6,7 +6,7 @@
  *   send FLAGS ROBUST ON INPUT   sends an input, flags 1 new mask, 2 send mask, 4 whole content; then, by ON, the packet is lost (0), is
  *                                received (1), is received twice (2), or is received with one bit turned (3)
  *   receive COUNT DATA           hands an arrival to the receiver
- *   close                        tells the counts, and closes both
+ *   close                        tells the counts, the packets sent and the bits, and closes both
  *   desk, end                    opens a desk, and closes it
  *   put NAME BYTES, word WORD, run, get NAME
  *   save                         prints the states of the sender and the receiver
@@ -28,6 +28,8 @@ uint32_t pocket_send(struct handle *, const uint8_t *input, size_t input_len, bo
 uint32_t pocket_receiver_open(struct handle *, uint32_t bits);
 uint32_t pocket_receive(struct handle *, uint16_t count, const uint8_t *bytes, size_t len, uint8_t *out, size_t room, struct finding *);
 uint32_t pocket_counts(struct handle *, struct counts *);
+uint32_t pocket_sent(struct handle *, uint64_t *packets);
+uint32_t pocket_bits(struct handle *, uint32_t *bits);
 uint32_t pocket_close(struct handle *);
 #ifdef POCKET_DESK
 uint32_t pocket_desk_open(struct handle *);
@@ -165,9 +167,17 @@ static void send_one(unsigned flags, unsigned robust, unsigned on, const char *i
 
 static void close_both(void) {
     struct counts c = { 0 };
+    uint64_t packets = 0;
+    uint32_t one = 0, other = 0, status;
     printf("counts %u", pocket_counts(&receiver, &c));
     printf(" packets %llu written %llu repeats %llu listed %llu", (unsigned long long)c.packets, (unsigned long long)c.written,
            (unsigned long long)c.repeats, (unsigned long long)c.listed);
+    status = pocket_sent(&sender, &packets);
+    printf(" sent %u %llu %u", status, (unsigned long long)packets, pocket_sent(&receiver, &packets));
+    status = pocket_bits(&sender, &one);
+    printf(" bits %u %u", status, one);
+    status = pocket_bits(&receiver, &other);
+    printf(" %u %u", status, other);
     printf(" closed %u", pocket_close(&sender));
     printf(" %u", pocket_close(&receiver));
     printf(" again %u %u\n", pocket_close(&sender), pocket_close(&receiver));

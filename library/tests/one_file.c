@@ -204,6 +204,8 @@ static void breaks(u32 address)
     pocket_handle sender = POCKET_NOTHING;
     size_t length = 0;
     uint8_t level = MARK;
+    uint64_t sent = 5;
+    uint32_t bits = 5;
     pocket_tally tally;
     const size_t bytes = pocket_sender_bytes(BITS);
     sender_memory[bytes] = MARK;
@@ -217,6 +219,8 @@ static void breaks(u32 address)
           "a broken sender sends", address);
     check(pocket_save(&sender, states[0], sizeof states[0], &length) == POCKET_BROKEN, "a broken sender is saved", address);
     check(pocket_checked_counts(&sender, &tally) == POCKET_BROKEN, "a broken sender has counts", address);
+    check(pocket_checked_sent(&sender, &sent) == POCKET_BROKEN && pocket_checked_bits(&sender, &bits) == POCKET_BROKEN && sent == 5 && bits == 5,
+          "a broken sender tells its number or bits", address);
     check(pocket_close(&sender) == POCKET_DONE && pocket_close(&sender) == POCKET_IS_CLOSED, "a broken sender is not closed", address);
 }
 
