@@ -7,6 +7,9 @@
 #define POCKET_BYTES_ARE_NULL(at, length) ((at) == NULL && (length) != 0u)
 #define POCKET_NO_BYTES(at) ((at) == NULL ? (const uint8_t *)"" : (at))
 
+/* What stands for null if there is no room: nothing is written to it. A call in which nothing is null is handed on as it came. */
+static uint8_t no_room;
+
 #ifndef POCKET_NO_SENDER
 #ifndef POCKET_NO_HEAP
 pocket_status pocket_checked_sender_open(pocket_handle *handle, uint32_t bits, const uint8_t *mask, size_t mask_length)
@@ -20,12 +23,13 @@ pocket_status pocket_checked_sender_open(pocket_handle *handle, uint32_t bits, c
 pocket_status pocket_checked_send(pocket_handle *handle, const uint8_t *input, size_t input_length, bool new_mask, bool send_mask,
                                   bool whole, uint8_t robustness, uint8_t *data, size_t room, size_t *length, uint8_t *level)
 {
-    uint8_t nothing;
+    if (handle != NULL && input != NULL && data != NULL && length != NULL && level != NULL)
+        return (pocket_status)pocket_send(handle, input, input_length, new_mask, send_mask, whole, robustness, data, room, length, level);
     if (handle == NULL || length == NULL || level == NULL || POCKET_BYTES_ARE_NULL(input, input_length) ||
         POCKET_BYTES_ARE_NULL(data, room))
         return POCKET_NULL;
     return (pocket_status)pocket_send(handle, POCKET_NO_BYTES(input), input_length, new_mask, send_mask, whole, robustness,
-                                      data == NULL ? &nothing : data, room, length, level);
+                                      data == NULL ? &no_room : data, room, length, level);
 }
 
 pocket_status pocket_checked_sent(pocket_handle *handle, uint64_t *packets)
@@ -45,10 +49,11 @@ pocket_status pocket_checked_receiver_open(pocket_handle *handle, uint32_t bits)
 pocket_status pocket_checked_receive(pocket_handle *handle, uint16_t count, const uint8_t *data, size_t length, uint8_t *content,
                                      size_t room, pocket_finding *finding)
 {
-    uint8_t nothing;
+    if (handle != NULL && data != NULL && content != NULL && finding != NULL)
+        return (pocket_status)pocket_receive(handle, count, data, length, content, room, finding);
     if (handle == NULL || finding == NULL || POCKET_BYTES_ARE_NULL(data, length) || POCKET_BYTES_ARE_NULL(content, room))
         return POCKET_NULL;
-    return (pocket_status)pocket_receive(handle, count, POCKET_NO_BYTES(data), length, content == NULL ? &nothing : content, room,
+    return (pocket_status)pocket_receive(handle, count, POCKET_NO_BYTES(data), length, content == NULL ? &no_room : content, room,
                                          finding);
 }
 

@@ -30,8 +30,8 @@ pocket_status pocket_checked_run(pocket_handle *handle, char *text, size_t room,
 
 pocket_status pocket_checked_get(pocket_handle *handle, const char *name, uint8_t *bytes, size_t room, size_t *length)
 {
-    uint8_t nothing;
+    static uint8_t no_room;
     if (handle == NULL || name == NULL || length == NULL || (bytes == NULL && room != 0u))
         return POCKET_NULL;
-    return (pocket_status)pocket_get(handle, (const uint8_t *)name, strlen(name), bytes == NULL ? &nothing : bytes, room, length);
+    return (pocket_status)pocket_get(handle, (const uint8_t *)name, strlen(name), bytes == NULL ? &no_room : bytes, room, length);
 }
