@@ -35,8 +35,8 @@ VALGRIND = ["valgrind", "-q", "--error-exitcode=9", "--leak-check=full"]
 # What the driver is compiled by, with which flags, and what runs it.
 TARGETS = {
     "x86-64, gcc": ("gcc", ["-O2"], []),
-    "x86-64, clang": ("clang", ["-O2"], []),
-    "x86-64, unchecked": ("gcc", ["-O2", "-DPOCKET_UNCHECKED"], []),
+    "x86-64, clang": ("clang", ["-O1"], []),
+    "x86-64, unchecked": ("gcc", ["-O1", "-DPOCKET_UNCHECKED"], []),
     "x86-64, the sanitizers": ("gcc", ["-O1", "-g", *SANITIZERS], []),
     "i386": ("i686-linux-gnu-gcc", ["-Os", "-static"], ["qemu-i386"]),
     "armhf": ("arm-linux-gnueabihf-gcc", ["-Os", "-static"], ["qemu-arm"]),
@@ -162,7 +162,7 @@ def complains(room, compiler):
     for flags, needs in (([], bare | {"malloc", "free"}), (["-DPOCKET_NO_HEAP"], bare), (["-DPOCKET_NO_RECEIVER", "-DPOCKET_NO_HEAP"], bare),
                          (["-DPOCKET_NO_SENDER", "-DPOCKET_NO_HEAP"], bare), (["-DPOCKET_UNCHECKED"], bare | {"malloc", "free"})):
         to = room.at(f"{compiler}.o")
-        run([compiler, *STRICT, "-O0" if flags else "-O2", *flags, "-c", f"{room.made}/pocket.c", "-o", to])
+        run([compiler, *STRICT, "-O0" if flags else "-O1", *flags, "-c", f"{room.made}/pocket.c", "-o", to])
         told = [line.split() for line in run(["nm", to]).decode().splitlines()]
         asked = {words[1] for words in told if words[0] == "U"} - {"_GLOBAL_OFFSET_TABLE_"}
         calls = {words[2] for words in told if words[1] == "T"}
@@ -253,7 +253,7 @@ def tries(room, saved):
     for name in WRONG:
         yield f"a wrong build fails: {name}", lambda n=name: wrong(room, n)
     yield "the example for Cortex-M", lambda: board(room)
-    yield "the program, on x86-64", lambda: program(room, "gcc", ["-O1"], [])
+    yield "the program, on x86-64", lambda: program(room, "gcc", ["-O0"], [])
     yield "the program, on powerpc", lambda: program(room, TARGETS["powerpc"][0], ["-O0", "-static"], TARGETS["powerpc"][2])
     yield "states from Python", lambda: from_python(room)
 

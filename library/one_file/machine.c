@@ -3,7 +3,8 @@
  * which eight bytes still lie in it. In front of the block lies its head, by numbers in the order of the processor.
  *
  * Each access is checked against the ends of the block. One outside it ends the function, and all that called it, by the mark BROKEN in
- * the head; it is never made. With POCKET_UNCHECKED what the generated part reads and writes is not checked. */
+ * the head; it is never made. With POCKET_UNCHECKED what the generated part reads and writes is not checked, nor is it asked after each of
+ * its calls whether that was ended. */
 #if defined(__GNUC__)
 #define POCKET_MAYBE_UNUSED __attribute__((unused))
 #define POCKET_SELDOM(is_so) __builtin_expect(!!(is_so), 0)
@@ -149,7 +150,11 @@ static POCKET_MAYBE_UNUSED void put64(u8 *at, u64 value) {
     } while (0)
 #define enter(local, bytes) do { enter_leaf(local, bytes); set_stack(local); } while (0)
 #define set_stack(address) set_head(m, STACK_AT, (u32)(address))
+#ifdef POCKET_UNCHECKED
+#define call(made) made
+#else
 #define call(made) do { made; if (POCKET_SELDOM(head_of(m, BROKEN_AT))) goto trap; } while (0)
+#endif
 #define div_u(to, x, y) do { if ((y) == 0) goto trap; to = (x) / (y); } while (0)
 #define rem_u(to, x, y) do { if ((y) == 0) goto trap; to = (x) % (y); } while (0)
 

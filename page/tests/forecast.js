@@ -142,6 +142,7 @@ async function test_refused_number() {
   type('packets', '01');
   await forecast_shown();
   const faults = [differs('packets', part('packets-refusal').textContent, 'A number from 1 to 1,000,000, digits alone.')];
+  faults.push(differs('the sum', part('forecast-sum').textContent, 'No forecast: a number is refused.'));
   type('packets', '1000');
   type('robust', '8');
   await forecast_shown();

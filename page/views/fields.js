@@ -100,7 +100,7 @@ export class FieldsView {
     const { status, text, wrong_report } = answer, fault = wrong_report || this.refuse(answer, bits);
     this.forget();
     tell('fields-refusal', status === 2 || status === 3 ? '' : fault);
-    if (fault) this.strip.clear(status === 0 ? fault : text);
+    if (fault) this.strip.clear(status === 0 ? fault : status === 2 ? 'a number is refused' : text);
     else this.build(answer);
     tell('recording-name', `${this.name}: ${counted(this.file.size, 'byte', 'bytes')}${this.report ? ', with its report' : ''}.`);
     part('drop-report').hidden = !this.report;

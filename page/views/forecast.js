@@ -175,14 +175,14 @@ export class ForecastView {
   }
 
   show(asked, { status, text, runs, bytes }) {
-    Object.assign(this, { asked, runs: runs && Runs.of(runs), refused: text, bytes });
+    Object.assign(this, { asked, runs: runs && Runs.of(runs), refused: status === 2 ? 'a number is refused' : text, bytes });
     this.refuse(text);
     part('save-forecast').disabled = status !== 0;
     if (status === 0) {
       this.strip.show(this.runs);
       this.advice.start(asked, this.runs.total);
     } else {
-      this.strip.clear(text);
+      this.strip.clear(this.refused);
       this.advice.clear();
     }
     if (this.is_new) this.begin();

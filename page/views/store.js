@@ -109,7 +109,7 @@ export class StoreView {
       if (this.is_new) this.begin();
       this.is_new = false;
     } else {
-      this.strip.clear(answer.bits === '' ? 'the bits of a packet are to be given' : answer.text);
+      this.strip.clear(answer.bits === '' ? 'the bits of a packet are to be given' : answer.status === 2 ? 'a number is refused' : answer.text);
     }
     this.sum();
     this.point();

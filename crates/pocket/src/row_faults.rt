@@ -29,9 +29,8 @@ fn parts(row: &str) -> usize {
     row.split(',').count()
 }
 
-/// The number of a part in plain digits, from `low` to `high`.
-fn number(row: &str, place: usize, low: i128, high: i128) -> Option<i128> {
-    let text = part(row, place);
+/// The number that a text spells in plain digits, from `low` to `high`.
+fn number(text: &str, low: i128, high: i128) -> Option<i128> {
     let digits = text.strip_prefix('-').unwrap_or(text);
     let is_plain = !digits.is_empty() && digits.chars().all(|c| c.is_ascii_digit());
     if !is_plain || (digits.starts_with('0') && text != "0") {
@@ -41,57 +40,56 @@ fn number(row: &str, place: usize, low: i128, high: i128) -> Option<i128> {
     (low <= found && found <= high).then_some(found)
 }
 
-/// What is wrong with the packets that a row names, of which the first part has this number.
-fn span_fault(row: &str, place: usize) -> Option<&'static str> {
+/// What is wrong with the packets that a row names.
+fn span_fault(first: &str, last: &str, step: &str) -> Option<&'static str> {
     let most = i128::from(u32::MAX);
-    let Some(first) = number(row, place, 0, most) else {
+    let Some(first) = number(first, 0, most) else {
         return Some("the first packet is no number from 0 to 4294967295 in plain digits");
     };
-    let Some(last) = number(row, place + 1, 0, most) else {
+    let Some(last) = number(last, 0, most) else {
         return Some("the last packet is no number from 0 to 4294967295 in plain digits");
     };
     if last < first {
         return Some("the last packet is below the first");
     }
-    match number(row, place + 2, 1, most) {
+    match number(step, 1, most) {
         None => Some("the step is no number from 1 to 4294967295 in plain digits"),
         Some(_) => None,
     }
 }
 
 fn schedule_fault(row: &str) -> &'static str {
-    let is_robust = part(row, 0) == "robust";
-    if parts(row) != if is_robust { 5 } else { 4 } {
-        return "a row of a schedule is first,last,step,flags or robust,first,last,step,value";
-    }
-    if let Some(fault) = span_fault(row, usize::from(is_robust)) {
-        return fault;
-    }
-    if is_robust {
-        "the value is no number from 0 to 7"
-    } else {
-        "the flags are one to three of p, f and r, none twice"
-    }
+    let (span, other) = match (part(row, 0), parts(row)) {
+        ("robust", 5) => (
+            span_fault(part(row, 1), part(row, 2), part(row, 3)),
+            "the value is no number from 0 to 7",
+        ),
+        (first, 4) if first != "robust" => (
+            span_fault(first, part(row, 1), part(row, 2)),
+            "the flags are one to three of p, f and r, none twice",
+        ),
+        _ => return "a row of a schedule is first,last,step,flags or robust,first,last,step,value",
+    };
+    span.unwrap_or(other)
 }
 
 fn script_fault(row: &str) -> &'static str {
-    let wanted = match part(row, 0) {
-        "drop" => 4,
-        "repeat" => 5,
-        _ => return "a row of a script begins with drop or repeat",
-    };
-    if parts(row) != wanted {
-        return "a row of a script is drop,first,last,step or repeat,first,last,step,extra";
+    let span = span_fault(part(row, 1), part(row, 2), part(row, 3));
+    match (part(row, 0), parts(row)) {
+        ("drop", 4) | ("repeat", 5) => span.unwrap_or("the extra copies are no number from 1 to 8"),
+        ("drop" | "repeat", _) => {
+            "a row of a script is drop,first,last,step or repeat,first,last,step,extra"
+        }
+        _ => "a row of a script begins with drop or repeat",
     }
-    span_fault(row, 1).unwrap_or("the extra copies are no number from 1 to 8")
 }
 
 fn stream_fault(row: &str) -> &'static str {
     if parts(row) != 2 {
         "a row of streams is apid,bits"
-    } else if number(row, 0, 0, 2046).is_none() {
+    } else if number(part(row, 0), 0, 2046).is_none() {
         "the APID is no number from 0 to 2046 in plain digits"
-    } else if number(row, 1, 1, 49_152).is_none() {
+    } else if number(part(row, 1), 1, 49_152).is_none() {
         "the bits are no number from 1 to 49152 in plain digits"
     } else {
         "an earlier row has this APID, or there are 64 rows before it"
@@ -107,13 +105,14 @@ fn field_fault(row: &str, bits: u32) -> &'static str {
 }
 
 fn own_field_fault(row: &str, bits: i128) -> &'static str {
-    let Some(place) = number(row, 1, 0, bits - 1) else {
-        return "the place is no number below bits in plain digits";
+    let place = match number(part(row, 1), 0, bits) {
+        Some(place) if place < bits => place,
+        _ => return "the place is no number below bits in plain digits",
     };
-    let Some(width) = number(row, 2, 1, 64) else {
+    let Some(width) = number(part(row, 2), 1, 64) else {
         return "the width is no number from 1 to 64 in plain digits";
     };
-    if bits < place + width {
+    if place.checked_add(width).is_none_or(|end| bits < end) {
         return "the field reaches past the last bit of a packet";
     }
     if !matches!(part(row, 3), "u" | "s") {
@@ -129,7 +128,10 @@ fn own_field_fault(row: &str, bits: i128) -> &'static str {
 
 fn limit_fault(row: &str) -> &'static str {
     let (least, most) = (i128::from(i64::MIN), i128::from(u64::MAX));
-    let (low, high) = (number(row, 2, least, most), number(row, 3, least, most));
+    let (low, high) = (
+        number(part(row, 2), least, most),
+        number(part(row, 3), least, most),
+    );
     match (low, high) {
         (None, _) => "the low limit is no number from -9223372036854775808 to 18446744073709551615",
         (_, None) =>
