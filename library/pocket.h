@@ -212,7 +212,7 @@ const char *pocket_status_text(uint32_t status);
 
 /* The bytes of memory that an open sender or receiver of so many bits takes, for a static array: those that pocket_sender_bytes and
  * pocket_receiver_bytes give. The stack of the calls lies in it, and is as deep as the deepest of them. */
-#define POCKET_STACK_BYTES 512u
+#define POCKET_STACK_BYTES 1152u
 #define POCKET_FIXED_BYTES (POCKET_STACK_BYTES + 15u + 48u + 64u + 8u)
 #define POCKET_UP_TO_EIGHT(bytes) (((size_t)(bytes) + 7u) / 8u * 8u)
 #define POCKET_VECTOR_BYTES(bits) (((size_t)(bits) + 63u) / 64u * 8u)

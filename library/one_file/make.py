@@ -129,20 +129,32 @@ def calls(kept, kit):
     return f"{head}\n{named}\n{constants(code)}{text_of('machine.c')}\n{before}\n{quiet(generated(code))}\n{after}\n{text_of('state.c')}\n{checked()}"
 
 
+def keys_of_verbs():
+    """For each verb its keys in order, each with the numbers that it takes, or nothing (crates/pocket_cmd/src/verbs.rt)."""
+    with open(f"{TOP}/crates/pocket_cmd/src/verbs.rt", encoding="utf-8") as file:
+        rows = dict(re.findall(r"Verb::(\w+) => &\[(.*?)\],", file.read(), re.S))
+    bounds = lambda kind: tuple(it.replace("_", "").replace("u32::MAX", str(2**32 - 1)) for it in re.findall(r"[\w:]+", kind)[1:]) if kind.startswith("Number") else ()
+    return {verb.lower(): [(key, bounds(kind)) for key, kind in re.findall(r'(?:Needed|Optional)\("(\w+)", (.*)\),', text)] for verb, text in rows.items()}
+
+
+def told_keys(keys, lines):
+    """What the help of a verb says of its keys: the words of the whole help, and the numbers that this verb takes."""
+    meanings = {name: meaning for names, meaning in re.findall(r"^    (\w+(?:, \w+)*)  +(.*)$", "\n".join(lines), re.M) for name in names.split(", ")}
+    return [f"    {key:<7}  " + (f"{meanings[key].split(', ')[0]}, {numbers[0]} to {numbers[1]}" if numbers else meanings[key]) for key, numbers in keys]
+
+
 def helps():
     """What the program's help prints, as arrays of lines: all of it, and that of each verb (crates/pocket/src/verb_help.rt)."""
     source = {}
     for name in ("main", "verb_help"):
         with open(f"{TOP}/crates/pocket/src/{name}.rt", encoding="utf-8") as file:
             source.update(re.findall(r'^const ([A-Z]+): &str = "\\\n(.*?)";$', file.read(), re.M | re.S))
-    lines = source["HELP"].split("\n")
+    lines, keys = source["HELP"].split("\n"), keys_of_verbs()
     texts = {"": lines}
     for number, line in enumerate(lines):
-        verb, *words = line.removeprefix("pocket ").split(" ")
+        verb = line.removeprefix("pocket ").split(" ")[0]
         if line.startswith("pocket ") and verb.upper() in source:
-            keys = {re.match(r"\[?(\w+)=", word)[1] for word in words}
-            of = [it for it in lines if re.match(r"    \S.*  ", it) and keys & set(it.strip().partition("  ")[0].split(", "))]
-            texts[verb] = [line, lines[number + 1], "Keys:", *of, *source[verb.upper()].split("\n")]
+            texts[verb] = [line, lines[number + 1], "Keys:", *told_keys(keys[verb], lines), *source[verb.upper()].split("\n")]
     told = lambda it: '"' + it.replace("\\", "\\\\").replace('"', '\\"') + '"'
     array = lambda verb, text: [f"static const char *const help_of_{verb or 'all'}[] = {{", *(f"    {told(it)}," for it in text), "    NULL", "};", ""]
     made = "".join("\n".join(array(verb, text)) for verb, text in texts.items())

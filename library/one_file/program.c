@@ -161,16 +161,21 @@ static bool write_over_input(char **words, unsigned count) {
     return false;
 }
 
+/* Whether a word is one of two. */
+static bool is_either(const char *word, const char *one, const char *other) {
+    return strcmp(word, one) == 0 || strcmp(word, other) == 0;
+}
+
 /* Prints what the words ask of the program itself; gives whether they ask anything. */
 static bool asked(int count, char **words) {
-    const bool is_of_verb = count == 2 && strcmp(words[1], "--help") == 0;
+    const bool is_of_verb = count == 2 && is_either(words[1], "--help", "-h");
     const char *const *line;
     size_t at;
-    if (count == 1 && strcmp(words[0], "--version") == 0) {
+    if (count == 1 && is_either(words[0], "--version", "-V")) {
         printf("pocket %s, compiled from C, compared; files are read whole, there is no live pass\n", VERSION);
         return true;
     }
-    if (!is_of_verb && (count != 1 || strcmp(words[0], "--help") != 0))
+    if (!is_of_verb && (count != 1 || !(is_either(words[0], "--help", "-h") || strcmp(words[0], "help") == 0)))
         return false;
     for (at = 0; at < sizeof helps / sizeof *helps; at++)
         if (is_of_verb ? strcmp(words[0], helps[at].verb) == 0 : *helps[at].verb == 0) {

@@ -39,6 +39,12 @@ LABEL = re.compile(r"^w2c_[BL](?:\d+|func):;?$")
 ASSIGNED = re.compile(rf"^({VALUE}) [^ ]*= (.*);$")
 ENTRY = re.compile(
     r"^  w2c_j0 = instance->w2c_g0;\n  w2c_j1 = (\d+)ull;\n  w2c_j0 -= w2c_j1;\n  (w2c_[lp]\d+) = w2c_j0;\n(  instance->w2c_g0 = w2c_j0;\n)?", re.M)
+# A frame's address that nothing uses: the next value takes its place.
+UNUSED = re.compile(r"^  w2c_j0 = instance->w2c_g0;\n  w2c_j1 = \d+ull;\n  w2c_j0 -= w2c_j1;\n(?=  w2c_j0 = (?!w2c_j))", re.M)
+# The same of a function that calls no other one, if other values are read before the frame's address is reckoned.
+LATE = re.compile(
+    r"^  w2c_j0 = instance->w2c_g0;\n  (w2c_l\d+) = w2c_j0;\n((?:  .*\n)*?)  w2c_j0 = \1;\n  w2c_j1 = (\d+)ull;\n  w2c_j0 -= w2c_j1;\n  \1 = w2c_j0;\n",
+    re.M)
 
 
 class OtherForm(Exception):
@@ -157,8 +163,19 @@ class Body:
         return text
 
 
+def entry_first(text):
+    """The text of a function in which the frame's address is reckoned before all else, if nothing between uses it or leads elsewhere."""
+    text = UNUSED.sub("", text)
+    late = LATE.search(text)
+    if not late or re.search(rf"\b{late[1]}\b|goto |:;$|instance->w2c_g0", late[2], re.M):
+        return text
+    entry = f"  w2c_j0 = instance->w2c_g0;\n  w2c_j1 = {late[3]}ull;\n  w2c_j0 -= w2c_j1;\n  {late[1]} = w2c_j0;\n"
+    return f"{text[:late.start()]}{entry}{late[2]}  w2c_j0 = {late[1]};\n{text[late.end():]}"
+
+
 def frame_of(function, text):
     """Gives the text of a function with its entry in one line, if it has a frame, and the local that is the frame's address all along."""
+    text = entry_first(text)
     entry = ENTRY.search(text)
     if not entry:
         return text, None
