@@ -18,7 +18,7 @@ def rows(program, folder, tables):
     """The rows of these tables that the program can run here, and how many are left out."""
     runner = Runner(program, folder)
     there = [row for row in tables if runner.is_root or "as_root" not in row]
-    same = [row for row in there if not leaves_more(row) and row["words"] != ["--version"]]
+    same = [row for row in there if not leaves_more(row) and row["words"] not in (["--version"], ["-V"])]
     return runner, same, len(there) - len(same)
 
 
