@@ -156,13 +156,16 @@ static bool takes_name(const struct sink *sink) {
     return lstat(sink->part, &standing) == 0 && are_one(&standing, &sink->of) && rename(sink->part, sink->target) == 0;
 }
 
-/* Writes outputs, and then gives their parts their names. */
+/* Writes outputs, and then gives their parts their names. If the second can't be opened, no part of the first is left. */
 static bool hands_over(const struct file *outputs, unsigned count) {
     struct sink sinks[MOST_OUTPUTS];
     unsigned at;
     for (at = 0; at < count; at++)
-        if (!opens(outputs[at].name, at ? &sinks[0] : NULL, &sinks[at]))
+        if (!opens(outputs[at].name, at ? &sinks[0] : NULL, &sinks[at])) {
+            if (at && sinks[0].part != NULL)
+                unlink(sinks[0].part);
             return false;
+        }
     for (at = 0; at < count; at++)
         if (!write_whole(sinks[at].to, outputs[at].bytes, outputs[at].length) || (sinks[at].part != NULL && fsync(sinks[at].to) != 0))
             return false;
