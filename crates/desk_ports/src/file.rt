@@ -42,9 +42,20 @@ pub struct FileDesk<'a> {
 }
 
 impl<'a> FileDesk<'a> {
-    /// A desk on which nothing was opened. It grants every name. If it has a report, no earlier part is replaced before both
-    /// outlets were opened, and until then the first one takes no bytes.
-    pub fn new(rt: &'a HostRuntime, has_report: bool) -> FileDesk<'a>
+    /// A desk on which nothing was opened. It grants every name.
+    pub fn new(rt: &'a HostRuntime) -> FileDesk<'a>
+        ensures untold { ⟦<FileDesk<'a> as Desk>⟧.meaning result ≡ nothing_told }
+        ensures no_faults { ⟦<FileDesk<'a> as Desk>⟧.counts result
+            ≡ record { reads = 0; writes = 0 } }
+        ensures settled { IsFalse (is_pending result) }
+        ensures finished { (outlet : Outlet) → IsFalse (unfinished_at result outlet) }
+    {
+        FileDesk::for_command(rt, false)
+    }
+
+    /// The same for a command of which it is known whether it has a report. If it has one, no earlier part is replaced before
+    /// both outlets were opened, and until then the first one takes no bytes.
+    pub fn for_command(rt: &'a HostRuntime, has_report: bool) -> FileDesk<'a>
         ensures untold { ⟦<FileDesk<'a> as Desk>⟧.meaning result ≡ nothing_told }
         ensures no_faults { ⟦<FileDesk<'a> as Desk>⟧.counts result
             ≡ record { reads = 0; writes = 0 } }

@@ -188,7 +188,7 @@ fn answer(rt: &HostRuntime, words: &[String]) -> ExitCode
     match Asked::by(words) {
         Some(asked) => printed(rt, asked.print(rt, words)),
         None => {
-            let mut desk = FileDesk::new(rt, names_report(words));
+            let mut desk = FileDesk::for_command(rt, names_report(words));
             let status = run(rt, first_words(words), &mut desk);
             ended(rt, words, status)
         }

@@ -59,7 +59,7 @@ fn left_unfinished(desk: &mut FileDesk<'_>) -> Result<(), Failed> {
 #[test]
 fn a_copy_of_a_file(rt: HostRuntime) -> Result<(), Fail> {
     fs::write(&rt, "row", ROW.as_slice())?;
-    let mut desk = FileDesk::new(&rt, false);
+    let mut desk = FileDesk::new(&rt);
     assert_eq!(rt; copied(&mut desk, ".", "copy"), Err(Failed));
     assert_eq!(rt; copied(&mut desk, "row", "copy"), Ok(5));
     assert_eq!(rt; copied(&mut desk, "no such file", "copy"), Err(Failed));
