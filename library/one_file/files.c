@@ -79,9 +79,12 @@ static bool write_whole(int to, const u8 *bytes, size_t length) {
     return true;
 }
 
-/* An output that was opened: what it is written to, and the part beside its name that takes the name, if it has one. */
+/* An output that was opened: what it is written to, and the part beside its name that takes the name, if it has one. While an earlier
+   part stands that is still to be replaced, nothing is open. */
 struct sink {
     int to;
+    bool has_mode;
+    mode_t mode;
     char *part, *target;
     struct stat of;
 };
@@ -99,37 +102,48 @@ static bool is_taken(const struct sink *other, const struct stat *of) {
     return other != NULL && (other->part != NULL || other->to == 1) && are_one(&other->of, of);
 }
 
-/* Removes an earlier part, unless it is anything else. */
-static bool removes(const char *part, const struct sink *other) {
-    struct stat standing, standard;
-    if (lstat(part, &standing) != 0)
-        return errno == ENOENT;
-    if (!S_ISREG(standing.st_mode) || was_read(&standing) || is_taken(other, &standing) || concerns(other, &standing))
+/* Whether a file under the name of a part is an earlier part, which may be replaced. */
+static bool is_earlier(const struct stat *standing, const struct sink *other) {
+    struct stat standard;
+    if (!S_ISREG(standing->st_mode) || was_read(standing) || is_taken(other, standing) || concerns(other, standing))
         return false;
-    if (fstat(1, &standard) == 0 && are_one(&standard, &standing))
-        return false;
-    return unlink(part) == 0;
+    return fstat(1, &standard) != 0 || !are_one(&standard, standing);
 }
 
-/* Opens the part beside the name of an output, with the mode of what stands there. */
+/* Makes the part, with the mode of what stands under the name of the output. */
+static bool makes_part(struct sink *sink) {
+    sink->to = open(sink->part, O_WRONLY | O_CREAT | O_EXCL, 0666);
+    if (sink->to < 0 || fstat(sink->to, &sink->of) != 0)
+        return false;
+    return !sink->has_mode || fchmod(sink->to, sink->mode) == 0;
+}
+
+/* Opens the part beside the name of an output. An earlier part stays until all outputs are opened. */
 static bool opens_part(const char *name, const struct stat *stands, const struct sink *other, struct sink *sink) {
     struct stat standing;
+    sink->to = -1;
+    sink->has_mode = stands != NULL;
+    sink->mode = stands == NULL ? 0 : stands->st_mode & 07777;
     sink->target = lstat(name, &standing) == 0 && S_ISLNK(standing.st_mode) ? realpath(name, NULL) : strdup(name);
     sink->part = sink->target == NULL ? NULL : malloc(strlen(sink->target) + sizeof ".part");
     if (sink->part == NULL)
         return false;
     strcpy(sink->part, sink->target);
     strcat(sink->part, ".part");
-    if (!removes(sink->part, other))
-        return false;
-    sink->to = open(sink->part, O_WRONLY | O_CREAT | O_EXCL, 0666);
-    if (sink->to < 0 || fstat(sink->to, &sink->of) != 0)
+    if (lstat(sink->part, &sink->of) == 0)
+        return is_earlier(&sink->of, other);
+    if (errno != ENOENT || !makes_part(sink))
         return false;
     if (concerns(other, &sink->of)) {
         unlink(sink->part);
         return false;
     }
-    return stands == NULL || fchmod(sink->to, stands->st_mode & 07777) == 0;
+    return true;
+}
+
+/* Replaces an earlier part that still stands. */
+static bool begins(struct sink *sink) {
+    return sink->to >= 0 || (unlink(sink->part) == 0 && makes_part(sink));
 }
 
 /* Opens what an output is written to: standard output, a pipe or a device, or a part beside its name. */
@@ -156,16 +170,19 @@ static bool takes_name(const struct sink *sink) {
     return lstat(sink->part, &standing) == 0 && are_one(&standing, &sink->of) && rename(sink->part, sink->target) == 0;
 }
 
-/* Writes outputs, and then gives their parts their names. If the second can't be opened, no part of the first is left. */
+/* Writes outputs, and then gives their parts their names. If the second can't be opened, no new part of the first is left. */
 static bool hands_over(const struct file *outputs, unsigned count) {
     struct sink sinks[MOST_OUTPUTS];
     unsigned at;
     for (at = 0; at < count; at++)
         if (!opens(outputs[at].name, at ? &sinks[0] : NULL, &sinks[at])) {
-            if (at && sinks[0].part != NULL)
+            if (at && sinks[0].part != NULL && sinks[0].to >= 0)
                 unlink(sinks[0].part);
             return false;
         }
+    for (at = 0; at < count; at++)
+        if (!begins(&sinks[at]))
+            return false;
     for (at = 0; at < count; at++)
         if (!write_whole(sinks[at].to, outputs[at].bytes, outputs[at].length) || (sinks[at].part != NULL && fsync(sinks[at].to) != 0))
             return false;
