@@ -1,6 +1,6 @@
 #!/usr/bin/env python3
-"""Linters over the scripts: pyflakes over all Python, mypy over the module of the library, shellcheck over what bash runs. One whose package
-can't be had is skipped, by name. Its last line is 'N passed, M failed' (', K skipped')."""
+"""Linters: pyflakes over all Python, mypy over the module of the library, shellcheck over what bash runs, and `.ci/imports.py` over the crates.
+One whose package can't be had is skipped, by name. Its last line is 'N passed, M failed' (', K skipped')."""
 
 import os
 import pathlib
@@ -13,7 +13,7 @@ PYTHON = [str(path.relative_to(ROOT)) for folder in (".ci", "bench", "pictures",
 SHELL = [".ci/run", *(str(path.relative_to(ROOT)) for path in sorted((ROOT / "packaging").glob("*.sh"))), "completions/pocket.bash"]
 # A linter: its command, Debian's package, what it is run with, and in which folder.
 LINTERS = [("pyflakes3", "pyflakes3", PYTHON, "."), ("mypy", "mypy", ["--strict", "--cache-dir", os.devnull, "pocket"], "library/python"),
-           ("shellcheck", "shellcheck", ["--shell=bash", *SHELL], ".")]
+           ("shellcheck", "shellcheck", ["--shell=bash", *SHELL], "."), ("python3", "python3", [".ci/imports.py"], ".")]
 
 
 def is_there(command, package):
@@ -36,7 +36,7 @@ def main():
         ran = subprocess.run([command, *words], cwd=ROOT / folder, capture_output=True, text=True)
         passed, failed = passed + (not ran.returncode), failed + bool(ran.returncode)
         if ran.returncode:
-            print(f"linter {command}: {(ran.stdout + ran.stderr)[-2000:]}", flush=True)
+            print(f"linter {command} {words[0]}: {(ran.stdout + ran.stderr)[-2000:]}", flush=True)
     print(f"{passed} passed, {failed} failed" + (f", {skipped} skipped" if skipped else ""))
     sys.exit(1 if failed else 0)
 

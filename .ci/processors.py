@@ -31,17 +31,20 @@ FLAGS = "-std=c99 -Wall -Wextra -pedantic -Werror -O2 -static".split()
 WORKED = [("B0", "85B8D600", 1), ("B1", "424B8D62", 1), ("B1", "44C0", 2), ("B3", "C085C0", 1)]
 # Wrong arguments one by one, each a line and the status that it is answered by.
 WRONG = [("open 0 -", "open 5 5"), ("open 49153 -", "open 5 5"), ("open 13 00", "open 6 0"), ("close", None), ("open 13 0001", "open 7 0"),
-         ("close", None), ("open 13 FFF8", "open 0 0"), ("open 13 -", "open 3 3"), ("send 0 1 1 12", "sent 8"), ("send 0 1 1 1201", "sent 9"),
+         ("close", None), ("open 13 FFF8", "open 0 0"), ("open 13 -", "open 3 3"), ("reset 00", "reset 6 0"), ("reset 0001", "reset 7 0"), ("send 0 1 1 12", "sent 8"), ("send 0 1 1 1201", "sent 9"),
          ("send 0 8 1 1238", "sent 10"), ("send 7 1 0 1238", None), ("receive 16384 00", "received 13"), ("close", None),
-         ("send 0 1 1 1238", "sent 2"), ("receive 0 00", "received 2")]
+         ("send 0 1 1 1238", "sent 2"), ("receive 0 00", "received 2"), ("reset -", "reset 2 2")]
 
 
 def worked():
-    """The lines of the worked inputs, and what they give."""
-    lines, found = ["open 8 -"], ["open 0 0"]
-    for number, (given, data, level) in enumerate(WORKED):
-        lines.append(f"send 0 1 1 {given}")
-        found += [f"sent 0 level {level} data {data}", f"received 0 number {number} lost 0 from 0 kind 0 0 mask 0 content {given}"]
+    """The lines of the worked inputs, once more after a reset, and what they give."""
+    lines, found = [], []
+    for first in ("open", "reset"):
+        lines.append("open 8 -" if first == "open" else "reset -")
+        found.append(f"{first} 0 0")
+        for number, (given, data, level) in enumerate(WORKED):
+            lines.append(f"send 0 1 1 {given}")
+            found += [f"sent 0 level {level} data {data}", f"received 0 number {number} lost 0 from 0 kind 0 0 mask 0 content {given}"]
     return lines + ["close"], found + ["counts 0 packets 4 written 4 repeats 0 listed 0 sent 0 4 4 bits 0 8 0 8 closed 0 0 again 2 2"]
 
 

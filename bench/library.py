@@ -129,9 +129,6 @@ def sizes(processors):
     yield "its data", *(data for _, data in whole)
     for call in ("opening", "send", "receive"):
         yield f"deepest stack of {'a' if call != 'opening' else 'an'} {call}", *(max(one[call] for one in each) for each in deep)
-    runs = [it.commands() for it in processors]
-    for verb in runs[0]:
-        yield f"deepest stack of pocket_run: `{verb}`", *(one[verb] for one in runs)
 
 
 def heaps(processors):
@@ -169,6 +166,9 @@ def show(given, folder):
         sys.exit("there is no library to measure")
     names = [it.name for it in there]
     measure.show_table("The library: sizes and stacks", ["Bytes", *names], sizes(there))
+    if there[0].name == NATIVE:
+        runs = ((f"`{verb}`", depth) for verb, depth in there[0].commands().items())
+        measure.show_table("The library: stack of a command at a desk", ["Command", f"Deepest stack of `pocket_run`, {NATIVE}, bytes"], runs)
     measure.show_table("The library: heap", ["Bits of an input", "Bytes of an open sender", "Of an open receiver"], heaps(there))
     aligned = [it for it in there if "unaligned" not in it.name]
     program = os.path.abspath(given.program) if os.path.exists(given.program) and measure.can_count() else None

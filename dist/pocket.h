@@ -25,9 +25,9 @@
  * one else; a copy of an open handle is not used. Nothing else: each other argument that can be wrong is answered.
  * A handle may be passed from thread to thread, one call at a time, each call seen to end before the next one begins (by a lock, or
  * by the start or join of a thread); different handles may be used by different threads at once.
- * Opening a sender or a receiver takes memory (malloc), all that later calls need: they take none. A desk takes memory as it is used.
- * Only pocket_close gives it back. The one file also opens in memory that the caller has, so that a stream can begin anew in the same
- * memory; with the library a new stream is a close and an opening, which take memory again.
+ * Opening a sender or a receiver takes memory (malloc), all that later calls need: they take none, and a reset begins a new stream in
+ * it. A desk takes memory as it is used. Only pocket_close gives it back, and pocket_remove that of one name. The one file also opens in
+ * memory that the caller has.
  *
  * Numbers and counts. The n-th packet of a sender, from 0, has the sequence count n modulo 16,384: pocket_sent tells n before it is
  * sent, pocket_header writes the six bytes before its data. A receiver gives the first arrival the number that its count is, and lists
@@ -41,7 +41,7 @@
  *
  * After a restart on board. A new sender begins a new stream, whatever its counts. A receiver that gets its packets with the counts of
  * the old stream going on can't know that: it refuses them, *or gives contents that were not sent*, since each may be a packet of the
- * old stream. So either the ground closes the receiver and opens a new one, as soon as it knows of the restart; or the board leaves out
+ * old stream. So either the ground resets the receiver, as soon as it knows of the restart; or the board leaves out
  * 16 counts (the greatest level is 15), which tells each receiver that all it knows is gone. It then waits for mask and whole content:
  * the first packets of a sender carry both, one more than their robustness asks; if all these are lost, the next with send_mask and
  * whole. The example is at pocket_sender_open.
@@ -73,7 +73,7 @@ extern "C" {
 #define POCKET_PACKET_BYTES(bits) ((10u * (size_t)(bits) + 43u + 7u) / 8u)    /* room for each packet's data, at most 61,446 */
 
 /* What a call answers. After each answer but POCKET_DONE nothing has changed: not the handle, nor what a call writes, but for the
- * length that pocket_get tells with POCKET_NO_ROOM, and after POCKET_BROKEN. */
+ * length that pocket_get and pocket_name_from tell with POCKET_NO_ROOM, and after POCKET_BROKEN. */
 typedef enum pocket_status {
     POCKET_DONE = 0,
     POCKET_NO_MEMORY = 1,       /* malloc gave no memory */
@@ -87,12 +87,13 @@ typedef enum pocket_status {
     POCKET_SPARE_BIT = 9,       /* a bit after the last one of the input is 1 */
     POCKET_ROBUSTNESS = 10,     /* the required robustness is above 7 */
     POCKET_NO_ROOM = 11,        /* fewer than POCKET_PACKET_BYTES(bits) bytes for a packet, POCKET_INPUT_BYTES(bits) for a content,
-                                   POCKET_TEXT_BYTES for a text, or as many as are kept under a name */
+                                   POCKET_TEXT_BYTES for a text, or as many as are kept under a name, or as a name has */
     POCKET_TOO_MANY = 12,       /* 4,294,967,296 packets were sent or received */
     POCKET_COUNT = 13,          /* the sequence count is above 16,383 */
     POCKET_TOO_LONG = 14,       /* the packet has more than 65,536 bytes of data */
     POCKET_NO_TEXT = 15,        /* a name or a word is not UTF-8 */
     POCKET_TOO_MANY_WORDS = 16, /* the command has 1,000 words */
+    POCKET_NOT_KEPT = 17,       /* nothing is kept under the name, or under any that is looked for */
     POCKET_APID = 250,          /* of pocket_header: the APID is above 2046 */
     POCKET_NO_DATA = 251,       /* of pocket_header: a Space Packet has a byte of data at least */
     POCKET_NO_STATE = 252,      /* of the one file: the bytes are no state, but damaged, cut, or of another version of the file */
@@ -146,6 +147,10 @@ typedef struct pocket_tally {
  * POCKET_IS_OPEN, BITS, MASK_LENGTH, MASK_SPARE_BIT, NO_MEMORY. */
 pocket_status pocket_checked_sender_open(pocket_handle *handle, uint32_t bits, const uint8_t *mask, size_t mask_length);
 
+/* Begins a new stream: the sender is then as pocket_sender_open makes it for as many bits and this first mask, or one of zeros if
+ * mask_length is 0, and its next packet is packet 0. Takes no memory. POCKET_IS_CLOSED, OTHER_KIND, MASK_LENGTH, MASK_SPARE_BIT. */
+pocket_status pocket_checked_sender_reset(pocket_handle *handle, const uint8_t *mask, size_t mask_length);
+
 /* Makes the packet of the next input. new_mask (p of the standard): from here on the mask has the bits that turned after the new mask before
  * this one. send_mask (f): the packet carries its mask. whole (r): it carries its whole content, which needs nothing that was sent before;
  * with send_mask it is where a receiver may begin. robustness (R), 0 to 7: how many packets in a row may be lost before this one, at least;
@@ -165,6 +170,10 @@ pocket_status pocket_header(uint16_t apid, uint64_t number, size_t length, uint8
 
 /* Opens a receiver of contents of so many bits. Takes memory. POCKET_IS_OPEN, BITS, NO_MEMORY. */
 pocket_status pocket_checked_receiver_open(pocket_handle *handle, uint32_t bits);
+
+/* Begins a new stream: the receiver is then as pocket_receiver_open makes it for as many bits, and its counts are 0. Takes no memory.
+ * POCKET_IS_CLOSED, OTHER_KIND. */
+pocket_status pocket_checked_receiver_reset(pocket_handle *handle);
 
 /* Judges the next packet that arrived, by its sequence count and its data: *finding tells what is found, and if it is written the
  * content is in the first POCKET_INPUT_BYTES(bits) bytes of content; otherwise content is as it was. Takes no memory.
@@ -200,6 +209,16 @@ pocket_status pocket_checked_run(pocket_handle *handle, char *text, size_t room,
 /* Gives what is kept under a name, nothing if it was never put or written, in the first *length bytes of bytes. If there is no room for
  * it, *length tells how much is needed. Takes no memory. POCKET_NO_TEXT, IS_CLOSED, OTHER_KIND, NO_ROOM: the first that is so. */
 pocket_status pocket_checked_get(pocket_handle *handle, const char *name, uint8_t *bytes, size_t room, size_t *length);
+
+/* Removes what is kept at a desk under a name, and gives back the memory of both. Takes no memory.
+ * POCKET_NO_TEXT, IS_CLOSED, OTHER_KIND, NOT_KEPT: the first that is so. */
+pocket_status pocket_checked_remove(pocket_handle *handle, const char *name);
+
+/* Gives the first name, in the order of their bytes, under which something is kept at a desk and that is not below the from_length bytes
+ * of from, as the first *length bytes of name, with no zero after them. If there is no room for it, *length tells how much is needed. To
+ * go over all names, begin from no byte, and go on from each name with a zero byte after it. Takes no memory.
+ * POCKET_IS_CLOSED, OTHER_KIND, NOT_KEPT if there is no such name, NO_ROOM: the first that is so. */
+pocket_status pocket_checked_name_from(pocket_handle *handle, const char *from, size_t from_length, char *name, size_t room, size_t *length);
 
 /* Gives back all memory of what the handle holds. It then holds nothing, and may be opened again. POCKET_IS_CLOSED. */
 pocket_status pocket_checked_close(pocket_handle *handle);
@@ -255,10 +274,12 @@ pocket_status pocket_checked_load(pocket_handle *handle, const uint8_t *state, s
  * function by each plain name, the proved one, to which no null may be given: for who calls those, POCKET_PROVED_NAMES declares them. */
 #ifdef POCKET_PROVED_NAMES
 uint32_t pocket_sender_open(pocket_handle *handle, uint32_t bits, const uint8_t *mask, size_t mask_length);
+uint32_t pocket_sender_reset(pocket_handle *handle, const uint8_t *mask, size_t mask_length);
 uint32_t pocket_send(pocket_handle *handle, const uint8_t *input, size_t input_length, bool new_mask, bool send_mask, bool whole,
                      uint8_t robustness, uint8_t *data, size_t room, size_t *length, uint8_t *level);
 uint32_t pocket_sent(pocket_handle *handle, uint64_t *packets);
 uint32_t pocket_receiver_open(pocket_handle *handle, uint32_t bits);
+uint32_t pocket_receiver_reset(pocket_handle *handle);
 uint32_t pocket_receive(pocket_handle *handle, uint16_t count, const uint8_t *data, size_t length, uint8_t *content, size_t room,
                         pocket_finding *finding);
 uint32_t pocket_counts(pocket_handle *handle, pocket_tally *tally);
@@ -267,6 +288,8 @@ uint32_t pocket_put(pocket_handle *handle, const uint8_t *name, size_t name_leng
 uint32_t pocket_word(pocket_handle *handle, const uint8_t *word, size_t length);
 uint32_t pocket_run(pocket_handle *handle, uint8_t *text, size_t room, size_t *length, uint8_t *exit_number);
 uint32_t pocket_get(pocket_handle *handle, const uint8_t *name, size_t name_length, uint8_t *bytes, size_t room, size_t *length);
+uint32_t pocket_remove(pocket_handle *handle, const uint8_t *name, size_t name_length);
+uint32_t pocket_name_from(pocket_handle *handle, const uint8_t *from, size_t from_length, uint8_t *name, size_t room, size_t *length);
 uint32_t pocket_bits(pocket_handle *handle, uint32_t *bits);
 uint32_t pocket_close(pocket_handle *handle);
 uint32_t pocket_sender_open_in(pocket_handle *handle, void *memory, size_t size, uint32_t bits, const uint8_t *mask, size_t mask_length);
@@ -280,11 +303,13 @@ uint32_t pocket_load(pocket_handle *handle, const uint8_t *state, size_t length)
     inline pocket_status pocket_##call parameters { return pocket_checked_##call arguments; }
 POCKET_NAME(sender_open, (pocket_handle *handle, uint32_t bits, const uint8_t *mask, size_t mask_length), (handle, bits, mask,
             mask_length))
+POCKET_NAME(sender_reset, (pocket_handle *handle, const uint8_t *mask, size_t mask_length), (handle, mask, mask_length))
 POCKET_NAME(send, (pocket_handle *handle, const uint8_t *input, size_t input_length, bool new_mask, bool send_mask, bool whole, uint8_t
             robustness, uint8_t *data, size_t room, size_t *length, uint8_t *level), (handle, input, input_length, new_mask, send_mask,
             whole, robustness, data, room, length, level))
 POCKET_NAME(sent, (pocket_handle *handle, uint64_t *packets), (handle, packets))
 POCKET_NAME(receiver_open, (pocket_handle *handle, uint32_t bits), (handle, bits))
+POCKET_NAME(receiver_reset, (pocket_handle *handle), (handle))
 POCKET_NAME(receive, (pocket_handle *handle, uint16_t count, const uint8_t *data, size_t length, uint8_t *content, size_t room,
             pocket_finding *finding), (handle, count, data, length, content, room, finding))
 POCKET_NAME(counts, (pocket_handle *handle, pocket_tally *tally), (handle, tally))
@@ -296,6 +321,9 @@ POCKET_NAME(run, (pocket_handle *handle, char *text, size_t room, size_t *length
             exit_number))
 POCKET_NAME(get, (pocket_handle *handle, const char *name, uint8_t *bytes, size_t room, size_t *length), (handle, name, bytes, room,
             length))
+POCKET_NAME(remove, (pocket_handle *handle, const char *name), (handle, name))
+POCKET_NAME(name_from, (pocket_handle *handle, const char *from, size_t from_length, char *name, size_t room, size_t *length), (handle,
+            from, from_length, name, room, length))
 POCKET_NAME(close, (pocket_handle *handle), (handle))
 POCKET_NAME(sender_open_in, (pocket_handle *handle, void *memory, size_t size, uint32_t bits, const uint8_t *mask, size_t mask_length),
             (handle, memory, size, bits, mask, mask_length))
@@ -307,9 +335,11 @@ POCKET_NAME(load, (pocket_handle *handle, const uint8_t *state, size_t length), 
 extern "C" {
 #else
 #define pocket_sender_open pocket_checked_sender_open
+#define pocket_sender_reset pocket_checked_sender_reset
 #define pocket_send pocket_checked_send
 #define pocket_sent pocket_checked_sent
 #define pocket_receiver_open pocket_checked_receiver_open
+#define pocket_receiver_reset pocket_checked_receiver_reset
 #define pocket_receive pocket_checked_receive
 #define pocket_counts pocket_checked_counts
 #define pocket_bits pocket_checked_bits
@@ -318,6 +348,8 @@ extern "C" {
 #define pocket_word pocket_checked_word
 #define pocket_run pocket_checked_run
 #define pocket_get pocket_checked_get
+#define pocket_remove pocket_checked_remove
+#define pocket_name_from pocket_checked_name_from
 #define pocket_close pocket_checked_close
 #define pocket_sender_open_in pocket_checked_sender_open_in
 #define pocket_receiver_open_in pocket_checked_receiver_open_in

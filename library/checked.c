@@ -20,6 +20,13 @@ pocket_status pocket_checked_sender_open(pocket_handle *handle, uint32_t bits, c
 }
 #endif
 
+pocket_status pocket_checked_sender_reset(pocket_handle *handle, const uint8_t *mask, size_t mask_length)
+{
+    if (handle == NULL || POCKET_BYTES_ARE_NULL(mask, mask_length))
+        return POCKET_NULL;
+    return (pocket_status)pocket_sender_reset(handle, POCKET_NO_BYTES(mask), mask_length);
+}
+
 pocket_status pocket_checked_send(pocket_handle *handle, const uint8_t *input, size_t input_length, bool new_mask, bool send_mask,
                                   bool whole, uint8_t robustness, uint8_t *data, size_t room, size_t *length, uint8_t *level)
 {
@@ -45,6 +52,11 @@ pocket_status pocket_checked_receiver_open(pocket_handle *handle, uint32_t bits)
     return handle == NULL ? POCKET_NULL : (pocket_status)pocket_receiver_open(handle, bits);
 }
 #endif
+
+pocket_status pocket_checked_receiver_reset(pocket_handle *handle)
+{
+    return handle == NULL ? POCKET_NULL : (pocket_status)pocket_receiver_reset(handle);
+}
 
 pocket_status pocket_checked_receive(pocket_handle *handle, uint16_t count, const uint8_t *data, size_t length, uint8_t *content,
                                      size_t room, pocket_finding *finding)
@@ -85,7 +97,7 @@ const char *pocket_status_text(uint32_t status)
     case POCKET_NO_MEMORY: return "out of memory";
     case POCKET_IS_CLOSED: return "it is closed";
     case POCKET_IS_OPEN: return "it is open";
-    case POCKET_OTHER_KIND: return "it is of the other kind";
+    case POCKET_OTHER_KIND: return "it holds something of another kind";
     case POCKET_BITS: return "a vector has 1 to 49152 places";
     case POCKET_MASK_LENGTH: return "the mask has the wrong length";
     case POCKET_MASK_SPARE_BIT: return "the mask has a spare bit set";
@@ -98,6 +110,7 @@ const char *pocket_status_text(uint32_t status)
     case POCKET_TOO_LONG: return "the packet is too long";
     case POCKET_NO_TEXT: return "it is not UTF-8";
     case POCKET_TOO_MANY_WORDS: return "the command has too many words";
+    case POCKET_NOT_KEPT: return "no such name is kept";
     case POCKET_APID: return "the APID is above 2046";
     case POCKET_NO_DATA: return "a Space Packet has a byte of data at least";
     case POCKET_NO_STATE: return "it is no state";

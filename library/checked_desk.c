@@ -35,3 +35,17 @@ pocket_status pocket_checked_get(pocket_handle *handle, const char *name, uint8_
         return POCKET_NULL;
     return (pocket_status)pocket_get(handle, (const uint8_t *)name, strlen(name), bytes == NULL ? &no_room : bytes, room, length);
 }
+
+pocket_status pocket_checked_remove(pocket_handle *handle, const char *name)
+{
+    return handle == NULL || name == NULL ? POCKET_NULL : (pocket_status)pocket_remove(handle, (const uint8_t *)name, strlen(name));
+}
+
+pocket_status pocket_checked_name_from(pocket_handle *handle, const char *from, size_t from_length, char *name, size_t room, size_t *length)
+{
+    static uint8_t no_room;
+    if (handle == NULL || length == NULL || (from == NULL && from_length != 0u) || (name == NULL && room != 0u))
+        return POCKET_NULL;
+    return (pocket_status)pocket_name_from(handle, (const uint8_t *)(from == NULL ? "" : from), from_length,
+                                           name == NULL ? &no_room : (uint8_t *)name, room, length);
+}

@@ -2,7 +2,7 @@
  *
  * The toolchain has this for its own targets alone. What it owes: a place for n bytes that nothing else uses, of an alignment of at most
  * 16, or an answer that there is none; and that a place that grows or shrinks keeps what was in it. On board, put another heap here: it is
- * asked by the calls that open something and by those of a desk, never by pocket_send or pocket_receive.
+ * asked by the calls that open something and by those of a desk, never by a send, a receive or a reset.
  */
 #include <stdbool.h>
 #include <stddef.h>

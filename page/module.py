@@ -29,6 +29,8 @@ FLAGS = [
     "-mllvm", "-sink-common-insts=false", "-mllvm", "-expand-div-rem-bits=64", "-mllvm", "-expand-fp-convert-bits=64",
     "--no-default-config", "-Werror",
 ]
+# For C more words are taken in a turn of a loop: of a check of each access there are then fewer.
+FOR_C = ["-mllvm", "-unroll-partial-threshold=60"]
 EXPORTS = ["pocket_desk_open", "pocket_put", "pocket_word", "pocket_run", "pocket_get", "pocket_close"]
 IMPORTS = ["rattle_alloc", "rattle_realloc", "rattle_dealloc"]
 HELP = "the package binaryen, which has wasm-opt, is not there"
@@ -58,8 +60,20 @@ def turned(text, exports):
     return text
 
 
-def make(module, to, kit, exports):
-    """Writes the WebAssembly module of a module that was kept, with these calls."""
+def with_turns(text):
+    """The text of a module in which words are turned by calls that are imported: WebAssembly has no instruction for it, and what LLVM
+    puts in its place is mixed with what stands beside it, so that no later compiler knows it again."""
+    for bits in (32, 64):
+        name = f"rattle_turn{bits}"
+        if f"@llvm.bswap.i{bits}(" in text:
+            text = text.replace(f"@llvm.bswap.i{bits}(", f"@{name}(")
+            text = with_attributes(text, "declare", name, f'"wasm-import-module"="env" "wasm-import-name"="{name}" ')
+    return text
+
+
+def make(module, to, kit, exports, for_c=False):
+    """Writes the WebAssembly module of a module that was kept, with these calls. For C it imports rattle_turn32 and rattle_turn64, which put
+    the bytes of a word in the other order."""
     lower = shutil.which("wasm-opt")
     if not lower:
         sys.exit(f"page/module.py: {HELP}")
@@ -70,7 +84,14 @@ def make(module, to, kit, exports):
             file.write(turned(retarget.text_of(module, f"{tools}/clang", "x86_64-unknown-linux-gnu"), exports))
         run = lambda *words: subprocess.run(words, check=True, stderr=subprocess.PIPE)
         try:
-            run(f"{tools}/clang", *FLAGS, "-c", "-x", "ir", at("turned.ll"), "-o", at("turned.o"))
+            if for_c:
+                run(f"{tools}/clang", *FLAGS, *FOR_C, "-S", "-emit-llvm", "-x", "ir", at("turned.ll"), "-o", at("made.ll"))
+                with open(at("made.ll"), encoding="utf-8", errors="surrogateescape") as file:
+                    text = with_turns(file.read())
+                with open(at("turned.ll"), "w", encoding="utf-8", errors="surrogateescape") as file:
+                    file.write(text)
+            made = ["-Xclang", "-disable-llvm-passes"] if for_c else []
+            run(f"{tools}/clang", *FLAGS, *made, "-c", "-x", "ir", at("turned.ll"), "-o", at("turned.o"))
             run(f"{tools}/llvm-ar", "rcsD", at("turned.a"), at("turned.o"))
             run(f"{kit}/bin/rattle-link", "--target", TARGET, "--toolchain", f"{kit}/toolchain", "-o", at("wide.wasm"), at("turned.a"))
             run(lower, "--enable-memory64", "--enable-bulk-memory", "--memory64-lowering", at("wide.wasm"), "-o", at("narrow.wasm"))

@@ -19,8 +19,8 @@ static u32 content_at(u32 kind, u32 bits) {
 }
 
 #ifndef POCKET_NO_RECEIVER
-static u32 data_at(u32 bits) {
-    return content_at(RECEIVER, bits) + ROUNDED(POCKET_INPUT_BYTES(bits) + 1u, 8u);
+static u32 data_at(u32 content, u32 bits) {
+    return content + ROUNDED(POCKET_INPUT_BYTES(bits) + 1u, 8u);
 }
 
 /* No packet has as many bytes of data. Of more the first are judged: what is found before their end is found of all, and whatever else is
@@ -33,7 +33,7 @@ static u32 data_bytes(u32 bits) {
 /* Memory of the heap: the next bytes that are free, since nothing is given back before the handle is closed. */
 static void heap_alloc(u8 *m, u32 last, u64 told, u64 bytes, u64 align) {
     const u32 free_at = ROUNDED(head_of(m, FREE_AT), 8u);
-    const u32 end = content_at(head_of(m, KIND_AT), head_of(m, BITS_AT));
+    const u32 end = head_of(m, CONTENT_AT);
     const bool found = align <= 8u && free_at <= end && bytes <= end - free_at;
     if (!lie_in(last, (u32)told, 16u)) {
         set_broken(m);
@@ -112,6 +112,7 @@ static u8 *made_block(void *memory, u32 kind, u32 bits, size_t bytes) {
     set_head(m, LAST_AT, last);
     set_head(m, BITS_AT, bits);
     set_head(m, KIND_AT, kind);
+    set_head(m, CONTENT_AT, content_at(kind, bits));
     return m;
 }
 
@@ -178,6 +179,18 @@ uint32_t pocket_sender_open(pocket_handle *handle, uint32_t bits, const uint8_t 
 }
 #endif
 
+uint32_t pocket_sender_reset(pocket_handle *handle, const uint8_t *mask, size_t mask_length) {
+    u32 status = begun(handle, SENDER), bits, at, length;
+    u8 *m;
+    if (status != POCKET_DONE)
+        return status;
+    m = block_of(handle);
+    bits = head_of(m, BITS_AT);
+    at = content_at(SENDER, bits);
+    length = given(m, at, mask, mask_length, (u32)POCKET_INPUT_BYTES(bits));
+    return ended(m, code_pocket_sender_reset(m, head_of(m, LAST_AT), HANDLE, at, length));
+}
+
 uint32_t pocket_send(pocket_handle *handle, const uint8_t *input, size_t input_length, bool new_mask, bool send_mask, bool whole,
                      uint8_t robustness, uint8_t *data, size_t room, size_t *length, uint8_t *level) {
     u32 status = begun(handle, SENDER), bits, at, count, data_room;
@@ -186,7 +199,7 @@ uint32_t pocket_send(pocket_handle *handle, const uint8_t *input, size_t input_l
         return status;
     m = block_of(handle);
     bits = head_of(m, BITS_AT);
-    at = content_at(SENDER, bits);
+    at = head_of(m, CONTENT_AT);
     count = given(m, at, input, input_length, (u32)POCKET_INPUT_BYTES(bits));
     data_room = room > POCKET_MOST_DATA ? POCKET_MOST_DATA : (u32)room;
     set_out(m, data, data_room);
@@ -246,21 +259,31 @@ uint32_t pocket_receiver_open(pocket_handle *handle, uint32_t bits) {
 }
 #endif
 
+uint32_t pocket_receiver_reset(pocket_handle *handle) {
+    u32 status = begun(handle, RECEIVER);
+    u8 *m;
+    if (status != POCKET_DONE)
+        return status;
+    m = block_of(handle);
+    return ended(m, code_pocket_receiver_reset(m, head_of(m, LAST_AT), HANDLE));
+}
+
 uint32_t pocket_receive(pocket_handle *handle, uint16_t count, const uint8_t *data, size_t length, uint8_t *content, size_t room,
                         pocket_finding *finding) {
-    u32 status = begun(handle, RECEIVER), bits, told, most, content_room;
+    u32 status = begun(handle, RECEIVER), bits, at, from, told, most, content_room;
     u8 *m;
     if (status != POCKET_DONE)
         return status;
     m = block_of(handle);
     bits = head_of(m, BITS_AT);
+    at = head_of(m, CONTENT_AT);
+    from = data_at(at, bits);
     most = data_bytes(bits);
-    told = given(m, data_at(bits), data, length, most);
+    told = given(m, from, data, length, most);
     if (length > most)
         told = length > POCKET_MOST_DATA ? POCKET_MOST_DATA + 1u : most;
     content_room = room > POCKET_MOST_DATA ? POCKET_MOST_DATA : (u32)room;
-    status = ended(m, code_pocket_receive(m, head_of(m, LAST_AT), HANDLE, count, data_at(bits), told, content_at(RECEIVER, bits),
-                                          content_room, TOLD));
+    status = ended(m, code_pocket_receive(m, head_of(m, LAST_AT), HANDLE, count, from, told, at, content_room, TOLD));
     if (status != POCKET_DONE)
         return status;
     finding->number = get64(place(TOLD));
@@ -274,7 +297,7 @@ uint32_t pocket_receive(pocket_handle *handle, uint16_t count, const uint8_t *da
         return POCKET_BROKEN;
     }
     if (finding->kind == POCKET_WRITTEN)
-        memcpy(content, place(content_at(RECEIVER, bits)), POCKET_INPUT_BYTES(bits));
+        memcpy(content, place(at), POCKET_INPUT_BYTES(bits));
     return POCKET_DONE;
 }
 

@@ -27,7 +27,7 @@ enum { BASE = STACK_TOP - STACK_BYTES, SLACK = 8 };
 
 /* The head of a block: numbers of 32 bits, each so many bytes in front of it, and two pointers: to the caller's room for a packet during a
  * send, and to what malloc gave, if it did. */
-enum { STACK_AT = 4, FREE_AT = 8, LAST_AT = 12, BITS_AT = 16, KIND_AT = 20, BROKEN_AT = 24, ROOM_AT = 28, OUT_AT = 40, OWNED_AT = 48,
+enum { STACK_AT = 4, FREE_AT = 8, LAST_AT = 12, BITS_AT = 16, KIND_AT = 20, BROKEN_AT = 24, ROOM_AT = 28, CONTENT_AT = 32, OUT_AT = 40, OWNED_AT = 48,
        HEAD_BYTES = 48 };
 
 static u32 head_of(const u8 *m, u32 at) {
@@ -93,15 +93,16 @@ static POCKET_MAYBE_UNUSED void put64(u8 *at, u64 value) {
 #define get8(at) (*(at))
 #define put8(at, value) (*(at) = (u8)(value))
 
-/* An access of the generated part: what is by further than an address that it reckoned, or than its frame. */
+/* An access of the generated part: what is by further than an address that it reckoned; or than a pointer, in front of which it was
+ * checked that so many bytes more than a word lie there (joined.py), or which is that of its frame. */
 #ifdef POCKET_UNCHECKED
-#define CHECKED(offset)
+#define CHECKED(offset, most)
 #else
-#define CHECKED(offset) if (POCKET_SELDOM((offset) > last)) goto trap;
+#define CHECKED(offset, most) if (POCKET_SELDOM((offset) > (most))) goto trap;
 #endif
 #define AT(address, by) ((address) + (u32)((u32)(by) - (u32)BASE))
-#define LOAD(bits, cast, to, address, by) do { const u32 offset = AT(address, by); CHECKED(offset) to = cast get##bits(m + offset); } while (0)
-#define STORE(bits, value, address, by) do { const u32 offset = AT(address, by); CHECKED(offset) put##bits(m + offset, (u##bits)(value)); } while (0)
+#define LOAD(bits, cast, to, address, by) do { const u32 offset = AT(address, by); CHECKED(offset, last) to = cast get##bits(m + offset); } while (0)
+#define STORE(bits, value, address, by) do { const u32 offset = AT(address, by); CHECKED(offset, last) put##bits(m + offset, (u##bits)(value)); } while (0)
 #define i32_load(to, address, by) LOAD(32, (u32), to, address, by)
 #define i32_load8_u(to, address, by) LOAD(8, (u32), to, address, by)
 #define i32_load8_s(to, address, by) LOAD(8, (u32)(s32)(s8), to, address, by)
@@ -121,25 +122,33 @@ static POCKET_MAYBE_UNUSED void put64(u8 *at, u64 value) {
 #define i64_store8(value, address, by) STORE(8, value, address, by)
 #define i64_store16(value, address, by) STORE(16, value, address, by)
 #define i64_store32(value, address, by) STORE(32, value, address, by)
-#define i32_load_in(to, by) to = get32(frame + by)
-#define i32_load8_u_in(to, by) to = get8(frame + by)
-#define i32_load8_s_in(to, by) to = (u32)(s32)(s8)get8(frame + by)
-#define i32_load16_u_in(to, by) to = get16(frame + by)
-#define i32_load16_s_in(to, by) to = (u32)(s32)(s16)get16(frame + by)
-#define i64_load_in(to, by) to = get64(frame + by)
-#define i64_load8_u_in(to, by) to = get8(frame + by)
-#define i64_load8_s_in(to, by) to = (u64)(s64)(s8)get8(frame + by)
-#define i64_load16_u_in(to, by) to = get16(frame + by)
-#define i64_load16_s_in(to, by) to = (u64)(s64)(s16)get16(frame + by)
-#define i64_load32_u_in(to, by) to = get32(frame + by)
-#define i64_load32_s_in(to, by) to = (u64)(s64)(s32)get32(frame + by)
-#define i32_store_in(value, by) put32(frame + by, value)
-#define i32_store8_in(value, by) put8(frame + by, value)
-#define i32_store16_in(value, by) put16(frame + by, (u16)(value))
-#define i64_store_in(value, by) put64(frame + by, value)
-#define i64_store8_in(value, by) put8(frame + by, value)
-#define i64_store16_in(value, by) put16(frame + by, (u16)(value))
-#define i64_store32_in(value, by) put32(frame + by, (u32)(value))
+#define reach(to, address, by, more) do { \
+        const u32 offset = AT(address, by); \
+        CHECKED(offset, last - (u32)(more)) \
+        to = m + offset; \
+    } while (0)
+#define i32_load_at(to, at, by) to = get32((at) + (by))
+#define i32_load8_u_at(to, at, by) to = get8((at) + (by))
+#define i32_load8_s_at(to, at, by) to = (u32)(s32)(s8)get8((at) + (by))
+#define i32_load16_u_at(to, at, by) to = get16((at) + (by))
+#define i32_load16_s_at(to, at, by) to = (u32)(s32)(s16)get16((at) + (by))
+#define i64_load_at(to, at, by) to = get64((at) + (by))
+#define i64_load8_u_at(to, at, by) to = get8((at) + (by))
+#define i64_load8_s_at(to, at, by) to = (u64)(s64)(s8)get8((at) + (by))
+#define i64_load16_u_at(to, at, by) to = get16((at) + (by))
+#define i64_load16_s_at(to, at, by) to = (u64)(s64)(s16)get16((at) + (by))
+#define i64_load32_u_at(to, at, by) to = get32((at) + (by))
+#define i64_load32_s_at(to, at, by) to = (u64)(s64)(s32)get32((at) + (by))
+#define i32_store_at(value, at, by) put32((at) + (by), value)
+#define i32_store8_at(value, at, by) put8((at) + (by), value)
+#define i32_store16_at(value, at, by) put16((at) + (by), (u16)(value))
+#define i64_store_at(value, at, by) put64((at) + (by), value)
+#define i64_store8_at(value, at, by) put8((at) + (by), value)
+#define i64_store16_at(value, at, by) put16((at) + (by), (u16)(value))
+#define i64_store32_at(value, at, by) put32((at) + (by), (u32)(value))
+
+/* The accesses by one pointer lie within 256 bytes, and a block has more. */
+typedef char joined_accesses_fit[STACK_BYTES > 256 ? 1 : -1];
 
 /* A frame of the stack: whether it fits is asked in every build. */
 #define place(address) (m + AT((u32)(address), 0))
@@ -177,7 +186,7 @@ static bool copied(u8 *m, u32 last, u32 to, u32 from, u32 count);
 #define memory_fill(to, value, count) do { if (!filled(m, last, to, value, count)) goto trap; } while (0)
 #define memory_copy(to, from, count) do { if (!copied(m, last, to, from, count)) goto trap; } while (0)
 
-/* The bits of a word: how many are ones, and how many zeros come before the first one from either end. */
+/* The bits of a word: how many are ones, how many zeros come before the first one from either end, and its bytes in the other order. */
 static POCKET_MAYBE_UNUSED u64 ones_of(u64 x) {
     x -= x >> 1 & 0x5555555555555555u;
     x = (x & 0x3333333333333333u) + (x >> 2 & 0x3333333333333333u);
@@ -198,6 +207,17 @@ static u64 spread(u64 x) {
 #define I64_CLZ(x) (64u - ones_of(spread(x)))
 #define I32_CTZ(x) ((u32)ones_of((u32)(~(x) & ((x) - 1u))))
 #define I32_CLZ(x) (32u - (u32)ones_of(spread(x)))
+#endif
+#if defined(__GNUC__)
+#define turn32(x) __builtin_bswap32(x)
+#define turn64(x) __builtin_bswap64(x)
+#else
+static u32 turn32(u32 x) {
+    return x << 24 | (x & 0xFF00u) << 8 | (x >> 8 & 0xFF00u) | x >> 24;
+}
+static u64 turn64(u64 x) {
+    return (u64)turn32((u32)x) << 32 | turn32((u32)(x >> 32));
+}
 #endif
 #define I64_POPCNT(x) ones_of(x)
 #define I32_POPCNT(x) ((u32)ones_of(x))

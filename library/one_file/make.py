@@ -3,7 +3,7 @@
 receiver, FOLDER/pocket.h, and FOLDER/pocket-program.c, the program.
 
 MODULE is the module that library/retarget.py kept as the library was proved and built for x86-64 (crates/pocket_c/out/module.bc).
-page/module.py turns it to WebAssembly, Debian's wasm2c (the package wabt) turns that to C, and translate.py that to the generated part,
+page/module.py turns it to WebAssembly, Debian's wasm2c (the package wabt) turns that to C, and translate.py and joined.py that to the generated part,
 which is joined with what is written by hand: machine.c, calls.c, state.c, checked.c and the library's checked.c for the calls; machine.c, heap.c, files.c and program.c for the program.
 So the files are compiled another way: compared (.ci/one_file.py), not proved. Two runs give the same bytes.
 """
@@ -23,8 +23,8 @@ sys.path[:0] = [HERE, f"{TOP}/page"]
 import module
 import translate
 
-SENDER = ["pocket_sender_open", "pocket_send", "pocket_sent"]
-RECEIVER = ["pocket_receiver_open", "pocket_receive", "pocket_counts"]
+SENDER = ["pocket_sender_open", "pocket_sender_reset", "pocket_send", "pocket_sent"]
+RECEIVER = ["pocket_receiver_open", "pocket_receiver_reset", "pocket_receive", "pocket_counts"]
 DESK = ["pocket_desk_open", "pocket_put", "pocket_word", "pocket_run", "pocket_get"]
 PROGRAM_STACK = 1 << 20
 BEGIN = "/* ==== The generated part begins here: made from the proved library's module by wasm2c and library/one_file. ==== */"
@@ -75,7 +75,7 @@ def module_of(kept, exports, kit):
         sys.exit("library/one_file/make.py: the package wabt, which has wasm2c, is not there")
     with tempfile.TemporaryDirectory(prefix="pocket-one-file-") as folder:
         wasm, made = os.path.join(folder, "pocket.wasm"), os.path.join(folder, "pocket.c")
-        module.make(kept, wasm, kit, exports)
+        module.make(kept, wasm, kit, exports, for_c=True)
         subprocess.run([tool, wasm, "-n", "pocket", "-o", made], check=True)
         with open(wasm, "rb") as binary, open(made, encoding="utf-8") as text:
             return translate.module_of(text.read()), zlib.crc32(binary.read())

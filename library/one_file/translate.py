@@ -4,7 +4,8 @@ wasm2c (Debian's package wabt) writes one statement a line. Its statements stay 
 
 - an access to the memory, a filling, a copy, a division, and what cannot be reached end the function by `goto trap` if they are wrong;
 - a call that was ended so ends its caller;
-- a function that takes a frame of the stack is asked once whether it fits; what lies in its frame by a constant is not asked again.
+- a function that takes a frame of the stack is asked once whether it fits;
+- accesses that are made together are checked together (joined.py).
 
 A line of any other form is an error, so another wabt is not taken by chance. No function calls itself, so the deepest stack is known: the
 largest sum of frames on a way of calls.
@@ -12,6 +13,8 @@ largest sum of frames on a way of calls.
 
 import re
 from dataclasses import dataclass, field
+
+import joined
 
 MEMORY = r"&instance->w2c_memory"
 VALUE = r"w2c_[ijlp]\d+"
@@ -23,7 +26,9 @@ STORE = re.compile(rf"^(i(?:32|64)_store(?:8|16|32)?)\({MEMORY}, \(u64\)\((w2c_i
 BULK = re.compile(rf"^memory_(fill|copy)\((?:{MEMORY}, )+({VALUE}), ({VALUE}), ({VALUE})\);$")
 CALL = re.compile(rf"^(?:({VALUE}) = )?w2c_(\w+)\(instance((?:, {VALUE})*)\);$")
 IMPORT = re.compile(rf"^\(\*Z_envZ_rattle_(\w+)\)\(instance->Z_env_instance((?:, {VALUE})*)\);$")
+TURN = re.compile(rf"^({VALUE}) = \(\*Z_envZ_rattle_(turn(?:32|64))\)\(instance->Z_env_instance, ({VALUE})\);$")
 DIVISION = re.compile(rf"^({VALUE}) = (DIV|REM)_U\(({VALUE}), ({VALUE})\);$")
+STACK = re.compile(rf"^instance->w2c_g0 = ({VALUE});$")
 COUNT = re.compile(rf"^{VALUE} = I(?:32|64)_(?:CLZ|CTZ|POPCNT)\({VALUE}\);$|^{VALUE} = I(?:32|64)_ROT[LR]\({VALUE}, {VALUE}\);$")
 CAST = r"(?:\((?:u|s)(?:8|16|32|64)\))*"
 GOTO = r"goto w2c_[BL](?:\d+|func);"
@@ -36,7 +41,6 @@ PLAIN = re.compile("|".join((
     rf"^if \(w2c_i\d+\) \{{{GOTO}\}}$", rf"^{GOTO}$", r"^switch \(w2c_i\d+\) \{$", rf"^case \d+: {GOTO}$", rf"^default: {GOTO}$",
     r"^\}$", r"^$", r"^return w2c_[ij]0;$")))
 LABEL = re.compile(r"^w2c_[BL](?:\d+|func):;?$")
-ASSIGNED = re.compile(rf"^({VALUE}) [^ ]*= (.*);$")
 ENTRY = re.compile(
     r"^  w2c_j0 = instance->w2c_g0;\n  w2c_j1 = (\d+)ull;\n  w2c_j0 -= w2c_j1;\n  (w2c_[lp]\d+) = w2c_j0;\n(  instance->w2c_g0 = w2c_j0;\n)?", re.M)
 # A frame's address that nothing uses: the next value takes its place.
@@ -103,64 +107,30 @@ def short(text):
     return re.sub(r"\bw2c_([ijlpBL](?:\d+|func))\b", r"\1", text)
 
 
-class Body:
-    """The lines of a function, one by one."""
-
-    def __init__(self, function, frame_at):
-        self.function, self.frame_at = function, frame_at
-        self.framed, self.traps, self.out = set(), False, []
-
-    def access(self, name, base, by, operands):
-        """An access: by the frame if its place there is known, and otherwise by its address."""
-        bits = re.match(r"i(\d+)_(?:load|store)(\d*)", name)
-        width = int(bits[2] or bits[1]) // 8
-        if base in self.framed and by + width <= self.function.frame:
-            return f"{name}_in({operands}, {by});"
-        self.traps = True
-        return f"{name}({operands}, {base}, {by});"
-
-    def note(self, line):
-        """Keeps which values are the address of the frame."""
-        found = ASSIGNED.match(line)
-        if found:
-            self.framed.discard(found[1])
-            source = re.sub(r"^\(u32\)\((\w+)\)$", r"\1", found[2])
-            if " = " in line and source in self.framed | {self.frame_at} and found[1] != self.frame_at:
-                self.framed.add(found[1])
-
-    def made(self, line):
-        """A statement of the generated part."""
-        if LABEL.match(line):
-            self.framed.clear()
-            return line
-        if found := LOAD.match(line):
-            text = self.access(found[2], found[3], int(found[4] or 0), found[1])
-        elif found := STORE.match(line):
-            return self.access(found[1], found[2], int(found[3] or 0), found[4])
-        elif found := BULK.match(line):
-            self.traps = True
-            return f"memory_{found[1]}({found[2]}, {found[3]}, {found[4]});"
-        elif found := IMPORT.match(line):
-            self.traps = True
-            return f"call(heap_{found[1]}(m, last{found[2]}));"
-        elif found := CALL.match(line):
-            self.traps = True
-            self.function.calls.add(found[2])
-            text = f"call({found[1] + ' = ' if found[1] else ''}code_{found[2]}(m, last{found[3]}));"
-        elif found := DIVISION.match(line):
-            self.traps = True
-            text = f"{found[2].lower()}_u({found[1]}, {found[3]}, {found[4]});"
-        elif line == "UNREACHABLE;":
-            self.traps = True
-            return "goto trap;"
-        elif found := re.match(rf"^instance->w2c_g0 = ({VALUE});$", line):
-            return f"set_stack({found[1]});"
-        elif COUNT.match(line) or PLAIN.match(line):
-            text = line
-        else:
-            raise OtherForm(f"{self.function.name}: {line!r}")
-        self.note(line)
-        return text
+def made(function, line):
+    """A statement of the generated part."""
+    if LABEL.match(line) or COUNT.match(line) or PLAIN.match(line):
+        return line
+    if found := LOAD.match(line):
+        return f"{found[2]}({found[1]}, {found[3]}, {found[4] or 0});"
+    if found := STORE.match(line):
+        return f"{found[1]}({found[4]}, {found[2]}, {found[3] or 0});"
+    if found := BULK.match(line):
+        return f"memory_{found[1]}({found[2]}, {found[3]}, {found[4]});"
+    if found := IMPORT.match(line):
+        return f"call(heap_{found[1]}(m, last{found[2]}));"
+    if found := CALL.match(line):
+        function.calls.add(found[2])
+        return f"call({found[1] + ' = ' if found[1] else ''}code_{found[2]}(m, last{found[3]}));"
+    if found := TURN.match(line):
+        return f"{found[1]} = {found[2]}({found[3]});"
+    if found := DIVISION.match(line):
+        return f"{found[2].lower()}_u({found[1]}, {found[3]}, {found[4]});"
+    if found := STACK.match(line):
+        return f"set_stack({found[1]});"
+    if line == "UNREACHABLE;":
+        return "goto trap;"
+    raise OtherForm(f"{function.name}: {line!r}")
 
 
 def entry_first(text):
@@ -174,40 +144,32 @@ def entry_first(text):
 
 
 def frame_of(function, text):
-    """Gives the text of a function with its entry in one line, if it has a frame, and the local that is the frame's address all along."""
+    """Gives the text of a function with its entry in one line, if it has a frame."""
     text = entry_first(text)
     entry = ENTRY.search(text)
     if not entry:
-        return text, None
+        return text
     function.frame = int(entry[1])
     if text.count("= instance->w2c_g0;") != 1:
         raise OtherForm(f"{function.name} has another frame")
-    is_kept = len(re.findall(rf"^\s*{entry[2]} [^ ]*= ", text, re.M)) == 1
     word = "enter" if entry[3] else "enter_leaf"
-    return ENTRY.sub(f"  @{word}({entry[2]}, {entry[1]});\n  w2c_j0 = {entry[2]};\n", text), entry[2] if is_kept else None
+    return ENTRY.sub(f"  @{word}({entry[2]}, {entry[1]});\n  w2c_j0 = {entry[2]};\n", text)
 
 
 def filled(function, text):
     """Makes the text of a function from what wasm2c wrote between its braces."""
-    text, frame_at = frame_of(function, text)
-    body, lines = Body(function, frame_at), text.split("\n")
-    for line in lines:
+    locals_, lines = [], []
+    for line in frame_of(function, text).split("\n"):
         if LOCALS.match(line):
-            body.out.append(line)
-        elif line.strip() in ("FUNC_PROLOGUE;", "FUNC_EPILOGUE;"):
-            continue
-        elif line.startswith("  @"):
-            body.traps = True
-            body.out.append("  " + line[3:])
-        else:
-            body.out.append(re.match(r" *", line)[0] + body.made(line.strip()))
-    out = "\n".join(it for it in body.out if it.strip())
-    if "_in(" in out:
-        out = "  uint8_t *frame;\n" + re.sub(rf"^(  enter\w*\({frame_at}, \d+\);)$", rf"\1\n  frame = place({frame_at});", out, count=1, flags=re.M)
-    if body.traps:
-        is_void = function.result == "void"
-        out += ("\n  return;" if is_void else "") + "\n  trap:\n  set_broken(m);\n  return" + (";" if is_void else " 0;")
-    function.text = short(f"{function.head()} {{\n{out}\n}}\n")
+            locals_.append(short(line))
+        elif line.strip() not in ("FUNC_PROLOGUE;", "FUNC_EPILOGUE;", ""):
+            depth = re.match(r" *", line)[0]
+            text = line.strip()
+            lines.append(depth + short(text[1:] if text.startswith("@") else made(function, text)))
+    last = "  return;" if function.result == "void" else "  return 0;"
+    end = ["  return;"] if function.result == "void" else []
+    text = "\n".join([*locals_, *joined.of(lines), *end, "  trap:", "  set_broken(m);", last])
+    function.text = f"{function.head()} {{\n{text}\n}}\n"
 
 
 def functions_of(text):

@@ -6,6 +6,7 @@
  *   send FLAGS ROBUST ON INPUT   sends an input, flags 1 new mask, 2 send mask, 4 whole content; then, by ON, the packet is lost (0), is
  *                                received (1), is received twice (2), or is received with one bit turned (3)
  *   receive COUNT DATA           hands an arrival to the receiver
+ *   reset MASK                   begins a new stream at both, with this first mask
  *   close                        tells the counts, the packets sent and the bits, and closes both
  *   desk, end                    opens a desk, and closes it
  *   put NAME BYTES, word WORD, run, get NAME
@@ -23,9 +24,11 @@ struct finding { uint64_t number, first_lost, lost; uint32_t kind, value; bool m
 struct counts { uint64_t packets, written, repeats, listed; };
 
 uint32_t pocket_sender_open(struct handle *, uint32_t bits, const uint8_t *mask, size_t mask_len);
+uint32_t pocket_sender_reset(struct handle *, const uint8_t *mask, size_t mask_len);
 uint32_t pocket_send(struct handle *, const uint8_t *input, size_t input_len, bool new_mask, bool send_mask, bool whole, uint8_t robust,
                      uint8_t *out, size_t room, size_t *len, uint8_t *level);
 uint32_t pocket_receiver_open(struct handle *, uint32_t bits);
+uint32_t pocket_receiver_reset(struct handle *);
 uint32_t pocket_receive(struct handle *, uint16_t count, const uint8_t *bytes, size_t len, uint8_t *out, size_t room, struct finding *);
 uint32_t pocket_counts(struct handle *, struct counts *);
 uint32_t pocket_sent(struct handle *, uint64_t *packets);
@@ -128,6 +131,13 @@ static void open_both(const char *mask) {
     sent = 0;
     printf("open %u", open_sender(len));
     printf(" %u\n", open_receiver());
+}
+
+static void reset_both(const char *mask) {
+    size_t len = bytes_of(mask);
+    sent = 0;
+    printf("reset %u", pocket_sender_reset(&sender, in, len));
+    printf(" %u\n", pocket_receiver_reset(&receiver));
 }
 
 static void receive(unsigned count, const uint8_t *bytes, size_t len) {
@@ -253,7 +263,9 @@ int main(void) {
             unsigned count = (unsigned)strtoul(next_word(&from), NULL, 10);
             size_t len = bytes_of(next_word(&from));
             receive(count, in, len);
-        } else if (!strcmp(verb, "close"))
+        } else if (!strcmp(verb, "reset"))
+            reset_both(next_word(&from));
+        else if (!strcmp(verb, "close"))
             close_both();
         else if (!strcmp(verb, "save"))
             save();

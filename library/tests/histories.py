@@ -1,7 +1,7 @@
 #!/usr/bin/env python3
 """histories.py POCKET NUMBER: random histories with losses, through the module and through the program. The packets of a Sender are the
-store that `compress` writes, and what a Receiver finds, contents too, is what `show` lists. At a desk in memory the two commands write the
-same. Each history is that of its seed."""
+store that `compress` writes, and what a Receiver finds, contents too, is what `show` lists; every other history is sent and received after another one and a reset. At a desk in memory the two
+commands write the same. Each history is that of its seed."""
 
 import os
 import random
@@ -84,7 +84,11 @@ def differs(seed, program, folder):
     words = ("compress", "in=rec", "out=store", f"bits={bits}", f"apid={APID}", "robust=0", "plan=plan", *first)
     if run(*words, inputs={"rec": b"".join(inputs), "plan": plan(flags, robust).encode()}) != {"store": store}:
         return "the store at a desk"
-    with Sender(bits, mask) as sender:
+    with Sender(bits, mask if seed % 2 else b"") as sender:
+        if seed % 2 == 0:
+            for one in inputs[::-1]:
+                sender.send(one, seed % 8, whole=draw.random() < 0.1)
+            sender.reset(mask)
         sent = [sender.send(one, value, new_mask=p, send_mask=f, whole=r).data for one, value, (p, f, r) in zip(inputs, robust, flags)]
     if store != b"".join(packed(SpacePacket(APID, t, data)) for t, data in enumerate(sent)):
         return "the store"
@@ -96,6 +100,10 @@ def differs(seed, program, folder):
     if run("show", "in=played", "out=listing", f"bits={bits}", f"apid={APID}", inputs={"played": played}) != {"listing": listing.encode()}:
         return "the listing at a desk"
     with Receiver(bits) as receiver:
+        if seed % 2 == 0:
+            for t, data in arrived[::-1]:
+                receiver.receive(t, data)
+            receiver.reset()
         found = [receiver.receive(t, data) for t, data in arrived]
         counts = receiver.counts()
     end = f"end {counts.packets} {counts.written} {counts.repeats}"

@@ -88,7 +88,7 @@ static void texts(void)
         for (other = 0; other < one; other++)
             check(pocket_status_text(one) == none || strcmp(pocket_status_text(one), pocket_status_text(other)) != 0, "each answer has a text of its own");
     }
-    check(known == 23, "each answer has a text");
+    check(known == 24, "each answer has a text");
 }
 
 static void headers(void)
@@ -221,7 +221,7 @@ static fates restarted(uint32_t number, uint8_t robustness, unsigned left_out, u
     begin(number + 1000);
     check(pocket_close(&sender) == POCKET_DONE && pocket_sender_open(&sender, BITS, NULL, 0) == POCKET_DONE, "a restart");
     if (anew)
-        check(pocket_close(&receiver) == POCKET_DONE && pocket_receiver_open(&receiver, BITS) == POCKET_DONE, "a new receiver");
+        check(pocket_receiver_reset(&receiver) == POCKET_DONE, "a receiver is reset");
     next += left_out;
     for (t = 0; t < 50; t++, next++) {
         packet one = made(&sender, robustness);
@@ -250,7 +250,7 @@ static void restarts(void)
             check(restarted(number, (uint8_t)robustness, 16, robustness, false).right == 50 - robustness, "as many of the first may be lost as the robustness says");
             told = restarted(number, (uint8_t)robustness, 16, robustness + 1, false);
             check(told.wrong == 0, "one more is lost, and no content is wrong");
-            check(restarted(number, (uint8_t)robustness, 0, 0, true).right == 50, "a new receiver writes all packets");
+            check(restarted(number, (uint8_t)robustness, 0, 0, true).right == 50, "a receiver that was reset writes all packets");
         }
     check(unwritten > 0, "with the counts going on packets are refused");
     check(wrong > 0, "with the counts going on contents are given that were not sent");

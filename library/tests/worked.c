@@ -79,6 +79,11 @@ static void wrong_sends(pocket_handle *sender, pocket_handle *receiver)
     refused(pocket_receiver_open(sender, 8), POCKET_IS_OPEN, "a second opening as a receiver");
     refused(pocket_receiver_open(sender, 0), POCKET_IS_OPEN, "a second opening of no bits");
     refused(pocket_counts(sender, &out.tally), POCKET_OTHER_KIND, "counts of a sender");
+    refused(pocket_sender_reset(sender, two, 2), POCKET_MASK_LENGTH, "a reset with a mask of two bytes");
+    refused(pocket_sender_reset(sender, NULL, 1), POCKET_NULL, "a reset with a null mask");
+    refused(pocket_sender_reset(receiver, two, 1), POCKET_OTHER_KIND, "a receiver that is reset as a sender");
+    refused(pocket_sender_reset(&none, two, 1), POCKET_IS_CLOSED, "a reset of a closed sender");
+    refused(pocket_sender_reset(NULL, two, 1), POCKET_NULL, "a reset of no sender");
 }
 
 static void wrong_receives(pocket_handle *sender, pocket_handle *receiver)
@@ -102,6 +107,9 @@ static void wrong_receives(pocket_handle *sender, pocket_handle *receiver)
     refused(pocket_counts(NULL, &out.tally), POCKET_NULL, "counts of no receiver");
     refused(pocket_counts(receiver, NULL), POCKET_NULL, "counts to null");
     refused(pocket_receiver_open(receiver, 8), POCKET_IS_OPEN, "a second opening of a receiver");
+    refused(pocket_receiver_reset(sender), POCKET_OTHER_KIND, "a sender that is reset as a receiver");
+    refused(pocket_receiver_reset(&none), POCKET_IS_CLOSED, "a reset of a closed receiver");
+    refused(pocket_receiver_reset(NULL), POCKET_NULL, "a reset of no receiver");
 }
 
 static void wrong_openings(void)
@@ -130,32 +138,50 @@ static void wrong_openings(void)
 }
 
 /* The four packets of a worked stream; before each, everything wrong is tried. */
-static void worked(void)
+static void stream(pocket_handle *sender, pocket_handle *receiver)
 {
-    pocket_handle sender = POCKET_NOTHING, receiver = POCKET_NOTHING;
     pocket_tally tally;
     unsigned t;
 
-    check(pocket_sender_open(&sender, 8, NULL, 0) == POCKET_DONE, "a sender");
-    check(pocket_receiver_open(&receiver, 8) == POCKET_DONE, "a receiver");
     for (t = 0; t < 4; t++) {
-        wrong_sends(&sender, &receiver);
-        wrong_receives(&sender, &receiver);
-        check(send_next(&sender, inputs + t, 1, 1, ROOM) == POCKET_DONE, "a packet");
+        wrong_sends(sender, receiver);
+        wrong_receives(sender, receiver);
+        check(send_next(sender, inputs + t, 1, 1, ROOM) == POCKET_DONE, "a packet");
         check(out.length == packets[t].length && memcmp(out.data, packets[t].data, out.length) == 0, "its data");
         check(memcmp(out.data + out.length, before.data, ROOM - out.length) == 0, "the room after its data");
         check(out.level == packets[t].level, "its level");
         if (t == 2)
             continue;
-        check(receive_next(&receiver, t, out.data, out.length, 2) == POCKET_DONE, "an arrival");
+        check(receive_next(receiver, t, out.data, out.length, 2) == POCKET_DONE, "an arrival");
         check(out.finding.kind == POCKET_WRITTEN && out.finding.number == t && out.finding.value == 0, "what is found of it");
         check(out.content[0] == inputs[t] && out.content[1] == 0x5A, "its content");
         check(out.finding.lost == (t == 3) && out.finding.first_lost == (t == 3 ? 2u : 0u), "what was lost before it");
     }
-    check(receive_next(&receiver, 3, out.data, out.length, 2) == POCKET_DONE && out.finding.kind == POCKET_REPEAT, "a repeat");
-    check(receive_next(&receiver, 4, packets[0].data, 1, 2) == POCKET_DONE && out.finding.kind == POCKET_EARLY, "an early end");
-    check(pocket_counts(&receiver, &tally) == POCKET_DONE, "the counts");
+    check(receive_next(receiver, 3, out.data, out.length, 2) == POCKET_DONE && out.finding.kind == POCKET_REPEAT, "a repeat");
+    check(receive_next(receiver, 4, packets[0].data, 1, 2) == POCKET_DONE && out.finding.kind == POCKET_EARLY, "an early end");
+    check(pocket_counts(receiver, &tally) == POCKET_DONE, "the counts");
     check(tally.packets == 5 && tally.written == 3 && tally.repeats == 1 && tally.listed == 2, "the numbers of the counts");
+}
+
+/* The same stream three times: of new ends, after a reset, and after one that follows another stream with a first mask. */
+static void worked(void)
+{
+    pocket_handle sender = POCKET_NOTHING, receiver = POCKET_NOTHING;
+    static const uint8_t mask = 0x0F, first[5] = {0x81, 0x61, 0x5C, 0x6A, 0x50}, one = 0xA5;
+    uint64_t packets_sent = 5;
+    pocket_tally tally;
+
+    check(pocket_sender_open(&sender, 8, NULL, 0) == POCKET_DONE, "a sender");
+    check(pocket_receiver_open(&receiver, 8) == POCKET_DONE, "a receiver");
+    stream(&sender, &receiver);
+    check(pocket_sender_reset(&sender, NULL, 0) == POCKET_DONE && pocket_receiver_reset(&receiver) == POCKET_DONE, "two resets");
+    check(pocket_sent(&sender, &packets_sent) == POCKET_DONE && packets_sent == 0, "a sender that was reset has sent nothing");
+    check(pocket_counts(&receiver, &tally) == POCKET_DONE && tally.packets + tally.written + tally.repeats + tally.listed == 0, "counts after a reset");
+    stream(&sender, &receiver);
+    check(pocket_sender_reset(&sender, &mask, 1) == POCKET_DONE && pocket_receiver_reset(&receiver) == POCKET_DONE, "a reset with a mask");
+    check(send_next(&sender, &one, 1, 0, ROOM) == POCKET_DONE && out.length == 5 && memcmp(out.data, first, 5) == 0, "the first packet with that mask");
+    check(pocket_sender_reset(&sender, NULL, 0) == POCKET_DONE && pocket_receiver_reset(&receiver) == POCKET_DONE, "two more resets");
+    stream(&sender, &receiver);
     check(pocket_close(&sender) == POCKET_DONE && pocket_close(&receiver) == POCKET_DONE, "the ends");
 }
 
@@ -171,6 +197,7 @@ static void spare(void)
     check(pocket_send(&sender, wrong, 2, false, false, false, 0, room, sizeof room, &length, &level) == POCKET_SPARE_BIT, "a spare bit");
     check(pocket_send(&sender, right, 2, false, false, false, 0, room, sizeof room, &length, &level) == POCKET_DONE, "13 bits");
     check(length == 4 && memcmp(room, data, 4) == 0, "the data of 13 bits");
+    check(pocket_sender_reset(&sender, wrong, 2) == POCKET_MASK_SPARE_BIT, "a reset with a spare bit of a mask");
     check(pocket_close(&sender) == POCKET_DONE, "the end of 13 bits");
 }
 
@@ -221,6 +248,25 @@ static void keeps(pocket_handle *desk, const char *name, const void *bytes, size
     check(memcmp(found, bytes, length) == 0 && found[length] == 0x5A, name);
 }
 
+/* The names under which something is kept are these, and no others. */
+static void named(pocket_handle *desk, const char *const *names)
+{
+    char from[8] = "", found[8];
+    size_t known = 0, length, given;
+
+    for (; *names != NULL; names++, known = length + 1) {
+        length = strlen(*names);
+        memset(found, 0x5A, sizeof found);
+        if (length > 0)
+            check(pocket_name_from(desk, from, known, found, length - 1, &given) == POCKET_NO_ROOM && given == length && found[0] == 0x5A, *names);
+        check(pocket_name_from(desk, from, known, found, length, &given) == POCKET_DONE && given == length, *names);
+        check(memcmp(found, *names, length) == 0 && found[length] == 0x5A, *names);
+        memcpy(from, *names, length + 1);
+    }
+    given = 0x5A;
+    check(pocket_name_from(desk, from, known, NULL, 0, &given) == POCKET_NOT_KEPT && given == 0x5A, "no further name");
+}
+
 static void runs(pocket_handle *desk, unsigned wanted, const char *refusal)
 {
     char text[POCKET_TEXT_BYTES];
@@ -242,6 +288,17 @@ static void wrong_at_desk(pocket_handle *desk, pocket_handle *other, pocket_stat
     refused(pocket_word(other, "show"), status, "a word at no desk");
     refused(pocket_run(other, text, sizeof text, &out.length, &out.level), status, "a run at no desk");
     refused(pocket_get(other, "in", out.data, ROOM, &out.length), status, "a get at no desk");
+    refused(pocket_remove(other, "in"), status, "a removal at no desk");
+    refused(pocket_name_from(other, "", 0, (char *)out.data, ROOM, &out.length), status, "a name at no desk");
+    refused(pocket_remove(desk, "in"), POCKET_NOT_KEPT, "a removal of a name that is not kept");
+    refused(pocket_name_from(desk, "", 0, (char *)out.data, ROOM, &out.length), POCKET_NOT_KEPT, "a name where none is kept");
+    refused(pocket_remove(desk, "\xFF"), POCKET_NO_TEXT, "a removal of a name that is not UTF-8");
+    refused(pocket_remove(NULL, "in"), POCKET_NULL, "a removal at null");
+    refused(pocket_remove(desk, NULL), POCKET_NULL, "a removal of a null name");
+    refused(pocket_name_from(NULL, "", 0, (char *)out.data, ROOM, &out.length), POCKET_NULL, "a name at null");
+    refused(pocket_name_from(desk, NULL, 1, (char *)out.data, ROOM, &out.length), POCKET_NULL, "a name from null");
+    refused(pocket_name_from(desk, "", 0, NULL, ROOM, &out.length), POCKET_NULL, "a name to null");
+    refused(pocket_name_from(desk, "", 0, (char *)out.data, ROOM, NULL), POCKET_NULL, "a name with a null length");
     refused(pocket_put(desk, "\x80", inputs, 4), POCKET_NO_TEXT, "a name that is not UTF-8");
     refused(pocket_word(desk, "\xC0\x80"), POCKET_NO_TEXT, "a word that is not UTF-8");
     refused(pocket_get(desk, "\xFF", out.data, ROOM, &out.length), POCKET_NO_TEXT, "a get of a name that is not UTF-8");
@@ -272,6 +329,7 @@ static void desk(void)
     static const char *const cut[] = {"show", "in=cut", "out=l", "bits=8", "apid=100", NULL};
     static const char report[] = "first,last,cause,value\n2,2,lost,0\nend,3,3,0\n";
     static const uint8_t back[3] = {0xB0, 0xB1, 0xB3};
+    static const char *const names[] = {"b", "cut", "p", "r", "s", "x", NULL}, *const left[] = {"", "b", "p", "r", "s", NULL};
     pocket_handle held = POCKET_NOTHING, none = POCKET_NOTHING, sender = POCKET_NOTHING;
     uint8_t played[29];
     unsigned word;
@@ -299,6 +357,15 @@ static void desk(void)
     runs(&held, 4, "store packet at byte 0 is cut");
     check(pocket_put(&held, "x", NULL, 0) == POCKET_DONE, "no byte");
     keeps(&held, "x", "", 0);
+    named(&held, names);
+    check(pocket_remove(&held, "x") == POCKET_DONE && pocket_remove(&held, "x") == POCKET_NOT_KEPT, "a removal, once");
+    check(pocket_remove(&held, "cut") == POCKET_DONE && pocket_put(&held, "", played, 1) == POCKET_DONE, "the empty name");
+    named(&held, left);
+    keeps(&held, "x", "", 0);
+    keeps(&held, "s", store, sizeof store);
+    check(command(&held, compress) == POCKET_DONE, "the words of compress");
+    runs(&held, 1, "reading failed");
+    keeps(&held, "s", store, sizeof store);
     for (word = 0; word < POCKET_MOST_WORDS; word++)
         check(pocket_word(&held, "") == POCKET_DONE, "a word");
     check(pocket_word(&held, "") == POCKET_TOO_MANY_WORDS, "a word too many");

@@ -49,22 +49,32 @@ refuses(pocket.WrongLength, "the mask has the wrong length", lambda: pocket.Send
 refuses(pocket.SpareBitSet, "the mask has a spare bit set", lambda: pocket.Sender(9, b"\x0f\xff"))
 
 with pocket.Sender(8) as sender, pocket.Receiver(8) as receiver:
-    for number, (data, level) in enumerate(PACKETS):
-        wrong_calls(sender, receiver)
-        equal((sender.sent, sender.bits, receiver.bits), (number, 8, 8))
-        sent = sender.send(INPUTS[number:number + 1], 1)
-        equal((sent.data.hex().upper(), sent.level), (data, level))
-        if number != 2:
-            lost = range(2, 3) if number == 3 else range(0)
-            found = receiver.receive(number, sent.data)
-            equal((found.number, found.kind, list(found.lost), found.content), (number, pocket.Kind.WRITTEN, list(lost), INPUTS[number:number + 1]))
-    equal(receiver.receive(3, b"").kind, pocket.Kind.REPEAT)
-    equal(receiver.receive(4, b"\x43\x00"), pocket.Arrival(4, pocket.Kind.WRONG, 8, range(0), False, None))
-    equal(receiver.counts(), pocket.Counts(5, 3, 1, 2))
+    for stream in range(2):
+        for number, (data, level) in enumerate(PACKETS):
+            wrong_calls(sender, receiver)
+            equal((sender.sent, sender.bits, receiver.bits), (number, 8, 8))
+            sent = sender.send(INPUTS[number:number + 1], 1)
+            equal((sent.data.hex().upper(), sent.level), (data, level))
+            if number != 2:
+                lost = range(2, 3) if number == 3 else range(0)
+                found = receiver.receive(number, sent.data)
+                equal((found.number, found.kind, list(found.lost), found.content), (number, pocket.Kind.WRITTEN, list(lost), INPUTS[number:number + 1]))
+        equal(receiver.receive(3, b"").kind, pocket.Kind.REPEAT)
+        equal(receiver.receive(4, b"\x43\x00"), pocket.Arrival(4, pocket.Kind.WRONG, 8, range(0), False, None))
+        equal(receiver.counts(), pocket.Counts(5, 3, 1, 2))
+        refuses(pocket.WrongLength, "the mask has the wrong length", lambda: sender.reset(b"\x0f\xff"))
+        equal((sender.sent, receiver.counts().packets), (4, 5))
+        sender.reset()
+        receiver.reset()
+        equal((sender.sent, receiver.counts()), (0, pocket.Counts(0, 0, 0, 0)))
+    sender.reset(b"\x0f")
+    equal([sender.send(one).data.hex() for one in (b"\xa5", b"\xa6")], ["81615c6a50", "86c0"])
 refuses(pocket.Closed, "it is closed", lambda: sender.send(b"\xb0"))
 refuses(pocket.Closed, "it is closed", lambda: receiver.receive(0, b"\x00"))
 refuses(pocket.Closed, "it is closed", receiver.counts)
 refuses(pocket.Closed, "it is closed", lambda: sender.sent)
+refuses(pocket.Closed, "it is closed", sender.reset)
+refuses(pocket.Closed, "it is closed", receiver.reset)
 refuses(pocket.Closed, "it is closed", lambda: receiver.bits)
 sender.close()
 
@@ -73,6 +83,7 @@ with pocket.Sender(8, b"\x0f") as sender:
     equal([sender.send(one).data.hex() for one in (b"\xa5", b"\xa6")], ["81615c6a50", "86c0"])
 with pocket.Sender(13) as sender:
     refuses(pocket.SpareBitSet, "the input has a spare bit set", lambda: sender.send(b"\x12\x34"))
+    refuses(pocket.SpareBitSet, "the mask has a spare bit set", lambda: sender.reset(b"\x12\x34"))
     equal(sender.send(b"\x12\x38").data.hex(), "81b96247")
 
 # The commands at a desk: the store of the inputs, what is restored if packet 2 is lost, and refusals.
@@ -92,6 +103,17 @@ with pocket.Desk() as desk:
     refuses(pocket.NotText, "it is not UTF-8", lambda: desk.put("\udc80", b""))
     refuses(pocket.NotText, "it is not UTF-8", lambda: desk.run(*COMPRESS, "\udc80"))
     equal(desk.get("s"), STORE[:10])
+    for name in ("x" * 200 + "\u00fc", "x\0", ""):
+        desk.put(name, b"")
+    equal(desk.names(), ["", "s", "x", "x\0", "x" * 200 + "\u00fc"])
+    for name in ("x" * 200 + "\u00fc", "x\0", ""):
+        desk.remove(name)
+    refuses(pocket.NotKept, "no such name is kept", lambda: desk.remove("none"))
+    refuses(pocket.NotText, "it is not UTF-8", lambda: desk.remove("\udc80"))
+    desk.put("x", INPUTS)
+    desk.remove("x")
+    equal((desk.names(), desk.get("x"), desk.get("s")), (["s"], b"", STORE[:10]))
+    refuses(pocket.Refused, "reading failed", lambda: desk.run(*COMPRESS))
     desk.put("x", INPUTS)
     desk.put("s", STORE[:19])
     try:
@@ -102,6 +124,8 @@ with pocket.Desk() as desk:
 refuses(pocket.Closed, "it is closed", lambda: desk.put("x", b""))
 refuses(pocket.Closed, "it is closed", lambda: desk.run(*COMPRESS))
 refuses(pocket.Closed, "it is closed", lambda: desk.get("x"))
+refuses(pocket.Closed, "it is closed", lambda: desk.remove("x"))
+refuses(pocket.Closed, "it is closed", desk.names)
 
 # The functions with the checks are found by their names, and the texts of the module are those of the library.
 if "POCKET_LIBRARY" in os.environ:
@@ -109,7 +133,7 @@ if "POCKET_LIBRARY" in os.environ:
     library.pocket_version.restype = library.pocket_status_text.restype = ctypes.c_char_p
     equal(library.pocket_version().decode(), pocket.__version__)
     equal({status: library.pocket_status_text(status).decode() for status in REFUSED}, {status: text for status, (_, text) in REFUSED.items()})
-    for call in "sender_open send sent receiver_open receive counts bits desk_open put word run get close".split():
+    for call in "sender_open sender_reset send sent receiver_open receiver_reset receive counts bits desk_open put word run get remove name_from close".split():
         equal(getattr(library, "pocket_checked_" + call)(*[None] * 11), 255)
 
 print(f"{sum(results)} passed, {len(results) - sum(results)} failed")

@@ -1,6 +1,6 @@
 //! Vectors of bits.
 
-ghost use Rattle.std.specs.Prelude.{◌≡◌, ◌≢◌, ℕ, ◌+◌, ◌*◌, ◌/◌, ◌<◌, ◌≤◌, ◌↔◌, Bool, true, false, List, length, take, drop, replicate, slice_index_or, slice_set, Contains, IsTrue, IsNone, IfSome, IsErr, IfOk, OnOk, OnErr, count_by};
+ghost use Rattle.std.specs.Prelude.{◌≡◌, ◌≢◌, ℕ, ◌+◌, ◌/◌, ◌<◌, ◌≤◌, ◌↔◌, Bool, true, false, List, length, take, drop, replicate, slice_index_or, slice_set, Contains, IsTrue, IsNone, IfSome, IsErr, IfOk, OnOk, OnErr, count_by};
 ghost use Rattle.std.specs.Bool.{OnFalse};
 ghost use Rattle.std.specs.Vec.{vec_capacity};
 ghost use Rattle.bit_vectors.specs.Vectors.{IsPlaces, IsVector, xor_bits, or_bits, without_bits, IsOne, NoneIsOne, bits_of, byte_count, vector_bytes};

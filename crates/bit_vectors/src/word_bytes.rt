@@ -1,7 +1,7 @@
 //! Words of 64 bits and the bytes that hold the same bits: the bit of the greatest weight comes first.
 
-ghost use Rattle.std.specs.Prelude.{◌≡◌, ℕ, ◌+◌, ◌-◌, ◌*◌, ◌^◌, ◌<◌, ◌≤◌, ◌↔◌, ◌==◌, true, false, length, take, drop, slice_index, slice_index_or, Contains, IsTrue};
-ghost use Rattle.std.specs.Int.{bit_at, to_be_bytes, w64};
+ghost use Rattle.std.specs.Prelude.{◌≡◌, ℕ, ◌+◌, ◌-◌, ◌*◌, ◌^◌, ◌<◌, ◌≤◌, ◌↔◌, true, false, length, take, drop, slice_index, slice_index_or, Contains, IsTrue};
+ghost use Rattle.std.specs.Int.{to_be_bytes, w64};
 ghost use Rattle.bit_vectors.specs.Vectors.{bits_of, byte_count};
 ghost use Rattle.bit_vectors.specs.Words.{bit_of};
 

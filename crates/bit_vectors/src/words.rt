@@ -1,6 +1,6 @@
 //! Words of 64 bits that keep the bits of a vector. Place 0 is the bit of the greatest weight of word 0.
 
-ghost use Rattle.std.specs.Prelude.{bit_and, ◌≡◌, ◌≢◌, ℕ, ◌+◌, ◌*◌, ◌^◌, ◌<◌, ◌≤◌, ◌↔◌, ◌&&◌, ◌||◌, Bool, true, not, if◌then◌else◌, length, replicate, slice_index, EachIndex, IsTrue, IfSome, IfNone, IfOk, count_by};
+ghost use Rattle.std.specs.Prelude.{bit_and, ◌≡◌, ◌≢◌, ℕ, ◌+◌, ◌*◌, ◌^◌, ◌<◌, ◌≤◌, ◌↔◌, ◌&&◌, ◌||◌, true, not, if◌then◌else◌, length, replicate, slice_index, EachIndex, IsTrue, IfSome, IfNone, IfOk, count_by};
 ghost use Rattle.std.specs.Int.{bit_not, w64};
 ghost use Rattle.std.specs.Vec.{vec_capacity};
 ghost use Rattle.bit_vectors.specs.Words.{bit_of, word_bits, NoBitIsOne};

@@ -13,6 +13,7 @@ mod played;
 mod reading;
 mod recordings;
 mod rehearsals;
+mod rows;
 mod samples;
 mod short_chains;
 mod sides;

@@ -12,3 +12,4 @@ pub mod Held
 pub mod KeptInputs
 pub mod Writings
 pub mod Granting
+pub mod Names

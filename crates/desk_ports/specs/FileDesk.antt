@@ -69,8 +69,8 @@ unfinished_at desk outlet.Main = is_unfinished desk.output
 unfinished_at desk outlet.Report = is_unfinished desk.report
 
 -- nothing is gathered for either output, and each that was opened is finished
-abbrev pub IsWhole : FileDesk → Type 0
-IsWhole desk = GathersNothing desk × IsFalse (unfinished_at desk outlet.Main) × IsFalse (unfinished_at desk outlet.Report)
+abbrev pub IsAllFinished : FileDesk → Type 0
+IsAllFinished desk = GathersNothing desk × IsFalse (unfinished_at desk outlet.Main) × IsFalse (unfinished_at desk outlet.Report)
 
 -- the source is standard input
 abbrev pub is_standard_input : Source → Bool
@@ -128,19 +128,19 @@ abbrev pub SameOutlets : FileDesk → FileDesk → Type 0
 SameOutlets old new = (new.output ≡ old.output) × (new.report ≡ old.report)
 
 -- a sink stays standard output, or a file, its part waits for its name as before, and it is finished if it was
-pub record IsKept (old new : Sink) : Type 0 where
+pub record KeepsSink (old new : Sink) : Type 0 where
   pub standard : is_standard_output new ≡ is_standard_output old
   pub waits : waits new ≡ waits old
   pub unfinished : is_unfinished new ≡ is_unfinished old
 
 -- and what it gathered is as before
 pub record IsSteady (old new : Sink) : Type 0 where
-  pub kept : IsKept old new
+  pub kept : KeepsSink old new
   pub gathered : gathered new ≡ gathered old
 
 -- both outlets are kept
 abbrev pub KeepsOutlets : FileDesk → FileDesk → Type 0
-KeepsOutlets old new = IsKept old.output new.output × IsKept old.report new.report
+KeepsOutlets old new = KeepsSink old.output new.output × KeepsSink old.report new.report
 
 -- a writing failed while something else was done, and no call has answered for it
 abbrev pub is_pending : FileDesk → Bool

@@ -13,3 +13,4 @@ pub mod MemState
 pub mod MemDesk
 pub mod QuietState
 pub mod QuietDesk
+pub mod Names

@@ -1,7 +1,7 @@
 -- How the fields of a quiet desk are seen.
 use Rattle.std.specs.Prelude.{Bool, true, false, Option, Some, None}
 use Rattle.desk_ports.specs.declared.quiet.Inputs.{Inputs}
-use Rattle.desk_ports.specs.declared.quiet.Source.{Source}
+use Rattle.desk_ports.specs.declared.quiet.QuietInput.{QuietInput}
 use Rattle.desk_ports.specs.declared.quiet.QuietDesk.TheInside.{Inside}
 use Rattle.desk_ports.specs.Meanings.{Kept}
 use Rattle.desk_ports.specs.MemState.{MemIncoming}
@@ -10,7 +10,7 @@ use Rattle.desk_ports.specs.QuietState.{QuietState, both_kept}
 abbrev pub kept_inputs : Inputs → Kept
 kept_inputs inputs = both_kept inputs.side_name.now inputs.side.now inputs.main_name.now inputs.main.now
 
-abbrev pub incoming_of : Source → MemIncoming
+abbrev pub incoming_of : QuietInput → MemIncoming
 incoming_of unread = record { left = unread.left.now; ready = unread.ready }
 
 abbrev pub held_until : Bool → Kept → Option Kept

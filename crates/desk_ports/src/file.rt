@@ -5,7 +5,7 @@ ghost use Rattle.std.specs.Bool.{OnFalse, OnTrue};
 ghost use Rattle.std.specs.Io.KnownBytes.{IsAtEnd};
 ghost use Rattle.desk_ports.specs.Meanings.{nothing_told, Adds, Begins, HasReadCause, HasWriteCause, IsReadyIn, IsReadyOut, Keeps, Moves, Opens, left};
 ghost use Rattle.desk_ports.specs.Parts.{other_than};
-ghost use Rattle.desk_ports.specs.FileDesk.{file_counts, file_meanings, gathered, gathered_at, is_live, is_opened_sink, is_pending, is_standard_input, is_standard_output, is_unfinished, names_standard_input, names_standard_output, other_sink, other_source, sink_at, source_at, unfinished_at, waits_at, GathersNothing, IsHandedOn, IsSteady, IsWhole, KeepsOutlets, SameInlets, SameOutlets};
+ghost use Rattle.desk_ports.specs.FileDesk.{file_counts, file_meanings, gathered, gathered_at, is_live, is_opened_sink, is_pending, is_standard_input, is_standard_output, is_unfinished, names_standard_input, names_standard_output, other_sink, other_source, sink_at, source_at, unfinished_at, waits_at, GathersNothing, IsHandedOn, IsSteady, IsAllFinished, KeepsOutlets, SameInlets, SameOutlets};
 
 use crate::desk::{Desk, Failed, Inlet, Outlet};
 use crate::progress::Progress;
@@ -223,7 +223,7 @@ impl<'a> FileDesk<'a> {
         ensures named { OnOk result (IsFalse (unfinished_at self.old (other_than outlet))
             → (outlet : Outlet) → IsFalse (waits_at self.new outlet)) }
         ensures whole { (outlet : Outlet) → IsTrue (waits_at self.old outlet)
-            → IsFalse (waits_at self.new outlet) → IsWhole self.new }
+            → IsFalse (waits_at self.new outlet) → IsAllFinished self.new }
         ensures order { IsTrue (waits_at self.new Outlet.Main)
             → waits_at self.new Outlet.Report ≡ waits_at self.old Outlet.Report }
         ensures waits { (outlet : Outlet) → IsFalse (waits_at self.old outlet)
@@ -400,7 +400,7 @@ impl<'a> Desk for FileDesk<'a> {
         ensures named { OnOk result (IsFalse (unfinished_at self.old (other_than outlet))
             → (outlet : Outlet) → IsFalse (waits_at self.new outlet)) }
         ensures whole { (outlet : Outlet) → IsTrue (waits_at self.old outlet)
-            → IsFalse (waits_at self.new outlet) → IsWhole self.new }
+            → IsFalse (waits_at self.new outlet) → IsAllFinished self.new }
         ensures order { IsTrue (waits_at self.new Outlet.Main)
             → waits_at self.new Outlet.Report ≡ waits_at self.old Outlet.Report }
         ensures waits { (outlet : Outlet) → IsFalse (waits_at self.old outlet)

@@ -6,6 +6,8 @@ ghost use Rattle.std.specs.Io.KnownBytes.{IsAtEnd};
 ghost use Rattle.desk_ports.specs.Meanings.{Opens, Begins, Moves, Adds, Keeps, IsReadyIn, IsReadyOut, HasReadCause, HasWriteCause, left, kept_at, next_count};
 ghost use Rattle.desk_ports.specs.MemState.{empty_desk, no_faults, mem_left, mem_made, mem_meanings, mem_counts, capped, also_failing, IsNamed, IsCalled, read_fault, write_fault, refusal};
 
+mod names;
+
 use crate::calls::{Call, Plan};
 use crate::desk::{Desk, Failed, Inlet, Outlet};
 use crate::log::{LogEntry, keep, newest};

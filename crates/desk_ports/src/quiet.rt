@@ -34,12 +34,12 @@ impl<'a> Inputs<'a> {
 
 // An inlet: the bytes still to come, and whether it was opened.
 #[derive(Clone, Copy, Debug)]
-struct Source<'a> {
+struct QuietInput<'a> {
     left: &'a [u8],
     ready: bool,
 }
 
-impl<'a> Source<'a> {
+impl<'a> QuietInput<'a> {
     // Moves as many bytes as are left and fit to the front of `buf`.
     fn read(&mut self, buf: &mut [u8]) -> usize
         ensures count { result ≡ min (length buf.old) (length self.old.left.now) }
@@ -56,12 +56,12 @@ impl<'a> Source<'a> {
 
 // An outlet: how many bytes it took since it was opened, and whether it was opened.
 #[derive(Clone, Copy, Debug)]
-struct Taken {
+struct QuietOutput {
     count: u64,
     ready: bool,
 }
 
-impl Taken {
+impl QuietOutput {
     // Takes all the bytes, and tells how many.
     fn write(&mut self, bytes: &[u8]) -> usize
         ensures all { result ≡ length bytes.now }
@@ -80,10 +80,10 @@ impl Taken {
 #[derive(Debug, Drop)]
 pub struct QuietDesk<'a> {
     inputs: Inputs<'a>,
-    side: Source<'a>,
-    input: Source<'a>,
-    output: Taken,
-    report: Taken,
+    side: QuietInput<'a>,
+    input: QuietInput<'a>,
+    output: QuietOutput,
+    report: QuietOutput,
     finished: bool,
 }
 
@@ -117,11 +117,11 @@ impl<'a> QuietDesk<'a> {
             → quiet_held result name ≡ Some [] }
         ensures no_faults { quiet_counts result ≡ record { reads = 0; writes = 0 } }
     {
-        let unread = Source {
+        let unread = QuietInput {
             left: &[],
             ready: false,
         };
-        let taken = Taken {
+        let taken = QuietOutput {
             count: 0,
             ready: false,
         };
@@ -156,7 +156,7 @@ impl<'a> Desk for QuietDesk<'a> {
     ghost counts = { quiet_counts };
 
     fn open_in(&mut self, inlet: Inlet, name: &str) -> Result<(), Failed> {
-        let unread = Source {
+        let unread = QuietInput {
             left: self.kept(name),
             ready: true,
         };
@@ -168,7 +168,7 @@ impl<'a> Desk for QuietDesk<'a> {
     }
 
     fn open_out(&mut self, outlet: Outlet, _name: &str) -> Result<(), Failed> {
-        let taken = Taken {
+        let taken = QuietOutput {
             count: 0,
             ready: true,
         };

@@ -1,7 +1,7 @@
 //! Where the bytes of an outlet of real files go.
 
 ghost use Rattle.std.specs.Prelude.{◌≡◌, ◌≤◌, false, true, [], length, IsFalse, IsTrue, IfOk, IfSome, OnOk, OnErr};
-ghost use Rattle.desk_ports.specs.FileDesk.{gathered, is_opened_sink, is_standard_output, is_unfinished, names_standard_output, waits, IsKept, IsSteady};
+ghost use Rattle.desk_ports.specs.FileDesk.{gathered, is_opened_sink, is_standard_output, is_unfinished, names_standard_output, waits, KeepsSink, IsSteady};
 
 use crate::part::{Node, Part, refused};
 use std::fs::File;
@@ -148,7 +148,7 @@ impl Sink {
     pub fn flush(&mut self) -> io::Result<()>
         ensures opened { is_opened_sink self.new ≡ is_opened_sink self.old }
         ensures handed { OnOk result (gathered self.new ≡ []) }
-        ensures kept { IsKept self.old self.new }
+        ensures kept { KeepsSink self.old self.new }
     {
         match self {
             Sink::Nothing => Ok(()),

@@ -13,7 +13,7 @@ use Rattle.packet_store.specs.SpacePackets.{period, space_packet}
 use Rattle.flight_chain.specs.declared.compressing.Compressing.{Compressing}
 use Rattle.flight_chain.specs.declared.fault.RecordFault.{RecordFault}
 use Rattle.flight_chain.specs.declared.reading.Unread.{Unread}
-use Rattle.flight_chain.specs.Reading.{Takes, AfterUnread, fault_by}
+use Rattle.flight_chain.specs.Reading.{TakesInput, AfterUnread, fault_by}
 use Rattle.flight_chain.specs.Recordings.{walk_over}
 use Rattle.flight_chain.specs.Stores.{data_at}
 use Rattle.flight_chain.specs.Compressing.{Compression, history_by, HasTaken, left_to_compress, next_packet, required_robustness, rest_work, stop_by, with_packet}
@@ -93,11 +93,11 @@ abbrev pub IsNext : (k : Compression) (inputs : List (List Bool)) (t : ℕ) (bef
 IsNext k inputs t before after a b input = (length inputs ≡ t) × TakesItem (walk_over k.places (length inputs) before) (walk_over k.places (length inputs + 1) after) a b input
 
 pub IsNext-read : (k : Compression) (inputs : List (List Bool)) (s : Compressing) (f t' t : ℕ) (before after : List ℕ) (a b : Meanings) (input : List Bool) → HasTaken k inputs s → length s.encoder.masks.mask ≡ f → t' ≡ s.encoder.masks.taken → t ≡ t'
-    → Takes f t' before after a b input → IsNext k inputs t before after a b input
+    → TakesInput f t' before after a b input → IsNext k inputs t before after a b input
 IsNext-read k inputs s f t' t before after a b input taken places kept number takes =
     let f_is = sym places ∙ taken.places in
     let t_is = kept ∙ HasTaken-number k inputs s taken in
-    (sym (number ∙ t_is), TakesItem-recording (subst (λ (n : ℕ). Takes k.places n before after a b input) t_is (subst (λ (n : ℕ). Takes n t' before after a b input) f_is takes)))
+    (sym (number ∙ t_is), TakesItem-recording (subst (λ (n : ℕ). TakesInput k.places n before after a b input) t_is (subst (λ (n : ℕ). TakesInput n t' before after a b input) f_is takes)))
 
 -- after it the rest of the recording is left to do
 pub rest_work-next : (k : Compression) (inputs : List (List Bool)) (input : List Bool) (after ahead : List ℕ) → ahead ≡ after → work_on (left_to_compress k (inputs ++ input ∷ [])) (walk_over k.places (length inputs + 1) after) ≡ rest_work k (inputs ++ input ∷ []) ahead

@@ -14,7 +14,7 @@ use Rattle.desk_ports.proofs.Courses.{rest_of, IfSome-rest_of, IfSome-IsAtEnd}
 use Rattle.flight_chain.specs.declared.fault.RecordFault.{RecordFault}
 use Rattle.flight_chain.specs.declared.fault.RecordFault.TheVariants.{CutRecord, SpareBit, TooMany}
 use Rattle.flight_chain.specs.Recordings.{first_packet, fault_at, RecordingWalk, recording_walk_from, input_first, stopped_at}
-use Rattle.flight_chain.specs.Reading.{Takes, Stops, Waits}
+use Rattle.flight_chain.specs.Reading.{TakesInput, Stops, Waits}
 use Rattle.flight_chain.proofs.RecordingWalks.{recording_walk_from-none, recording_walk_from-fault, recording_walk_from-packet, fault_at-too_many, fault_at-cut, fault_at-spare, fault_at-none}
 
 pub any_one : (bits : List Bool) → Contains bits true → list_any (λ (bit : Bool). bit) bits ≡ true
@@ -52,9 +52,9 @@ recording_walk_from-whole f t packet rest some few whole none =
 same_input : (before held : List ℕ) (a b : Meanings) (read : ReadsOn before held a b) (rest : List ℕ) → before ++ (read.bytes ++ rest) ≡ held ++ rest
 same_input before held a b read rest = sym (append_assoc before read.bytes rest) ∙ ap (λ l. l ++ rest) (sym read.joined)
 
-pub Takes-whole : (f t n : ℕ) (before held : List ℕ) (a b : Meanings) (input : List Bool) → 1 ≤ f → t < 2 ^ 32 → n ≡ byte_count f → n ≤ length held → (Contains (drop f (bits_of (take n held))) true → ⊥)
-    → input ≡ take f (bits_of (take n held)) → length input ≡ f → ReadsOn before held a b → Takes f t before (drop n held) a b input
-Takes-whole f t n before held a b input some few size long none is places read =
+pub TakesInput-whole : (f t n : ℕ) (before held : List ℕ) (a b : Meanings) (input : List Bool) → 1 ≤ f → t < 2 ^ 32 → n ≡ byte_count f → n ≤ length held → (Contains (drop f (bits_of (take n held))) true → ⊥)
+    → input ≡ take f (bits_of (take n held)) → length input ≡ f → ReadsOn before held a b → TakesInput f t before (drop n held) a b input
+TakesInput-whole f t n before held a b input some few size long none is places read =
     let packet = take n held in
     let whole : length packet ≡ byte_count f = omega (arith, size, length-take-le n held long) in
     record {

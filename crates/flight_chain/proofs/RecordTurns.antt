@@ -9,7 +9,7 @@ use Rattle.flight_chain.specs.declared.reading.Unread.{Unread}
 use Rattle.flight_chain.specs.declared.reading.Unread.TheVariants as unread
 use Rattle.flight_chain.specs.Recordings.{RecordingWalk, recording_walk_from, walk_over}
 use Rattle.flight_chain.specs.Compressing.{stop_by}
-use Rattle.flight_chain.specs.Reading.{Takes, AfterUnread, fault_by, stop_of}
+use Rattle.flight_chain.specs.Reading.{TakesInput, AfterUnread, fault_by, stop_of}
 use Rattle.flight_chain.proofs.RecordingWalks.{recording_walk_from-none}
 
 -- a packet that was not read ends the walk
@@ -29,7 +29,7 @@ pub AfterWalk-recording : (f t : ℕ) (before : List ℕ) (a b : Meanings) (u : 
 AfterWalk-recording f t before a b u after = subst (AfterWalk (walk_over f t before) a b) (sym (stop_by-fault_by u)) (AfterWalk-unread f t before a b u after)
 
 -- the input of a packet is the next one of the walk
-pub TakesItem-recording : {f t : ℕ} {before after : List ℕ} {a b : Meanings} {input : List Bool} → Takes f t before after a b input → TakesItem (walk_over f t before) (walk_over f (t + 1) after) a b input
+pub TakesItem-recording : {f t : ℕ} {before after : List ℕ} {a b : Meanings} {input : List Bool} → TakesInput f t before after a b input → TakesItem (walk_over f t before) (walk_over f (t + 1) after) a b input
 TakesItem-recording takes = record { taken = takes.taken; moved = takes.moved; items = λ rest. ap (λ (w : RecordingWalk). w.inputs) (takes.goes_on rest); ending = λ rest. ap (λ (w : RecordingWalk). w.ending) (takes.goes_on rest) }
 
 -- nothing is left of the recording

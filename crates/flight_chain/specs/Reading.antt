@@ -15,7 +15,7 @@ use Rattle.flight_chain.specs.Recordings.{recording_walk_from, input_first, stop
 
 -- Some bytes were read after those that were ahead, and nothing else happened. The packet t with this input was taken,
 -- and the walk goes on after it.
-pub record Takes (f t : ℕ) (before after : List ℕ) (old new : Meanings) (input : List Bool) : Type 0 where
+pub record TakesInput (f t : ℕ) (before after : List ℕ) (old new : Meanings) (input : List Bool) : Type 0 where
   pub taken : List ℕ
   pub moved : Moves old new inlet.Main taken
   pub places : length input ≡ f

@@ -5,7 +5,7 @@ ghost use Rattle.std.specs.Io.KnownBytes.{IsAtEnd};
 ghost use Rattle.bit_vectors.specs.Vectors.{IsVector, byte_count};
 ghost use Rattle.desk_ports.specs.Meanings.{Moves, IsReadyIn, left};
 ghost use Rattle.packet_store.specs.Answers.{IfGiven, OnEnd};
-ghost use Rattle.flight_chain.specs.Reading.{Takes, AfterUnread, HasUnreadCause, fault_by};
+ghost use Rattle.flight_chain.specs.Reading.{TakesInput, AfterUnread, HasUnreadCause, fault_by};
 ghost use Rattle.flight_chain.specs.declared.reading.Unread.TheVariants as unread;
 
 use crate::fault::{FlightFault, RecordFault};
@@ -54,7 +54,7 @@ pub fn read_input<D: Desk>(
     requires number { t ≤ 2 ^ 32 }
     requires vector { IsVector input.old }
     ensures number { IfGiven result (λ n. n ≡ t) }
-    ensures taken { IfGiven result (λ _. Takes (length input.old) t ahead.old ahead.new
+    ensures taken { IfGiven result (λ _. TakesInput (length input.old) t ahead.old ahead.new
         (D.meaning desk.old) (D.meaning desk.new) input.new) }
     ensures ahead { OnEnd result (ahead.old ≡ []) }
     ensures none { OnEnd result (Moves (D.meaning desk.old) (D.meaning desk.new) Inlet.Main []) }

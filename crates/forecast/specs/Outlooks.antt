@@ -8,7 +8,7 @@ use Rattle.loss_player.specs.declared.played.Tally.{Tally}
 use Rattle.loss_player.specs.Tallies.{IsTally, tally_of}
 use Rattle.forecast.specs.declared.fate.Fate.{Fate}
 use Rattle.forecast.specs.declared.foreseen.Foreseen.{Foreseen}
-use Rattle.forecast.specs.declared.latest.Latest.{Latest}
+use Rattle.forecast.specs.declared.latest.LatestSure.{LatestSure}
 use Rattle.forecast.specs.declared.stretch.Stretch.{Stretch}
 use Rattle.forecast.specs.Prospects.{Prospect, fate_of, latest_mask_sure, latest_sure, prospect_of}
 use Rattle.forecast.specs.Stretches.{changes_after, ended, stretch_to}
@@ -33,7 +33,7 @@ pub record IsForeseenAs (p : Prospect) (t : ℕ) (foreseen : Foreseen) : Type 0 
   pub copies : foreseen.copies ≡ p.copies t
 
 -- the latest of the first t packets whose mask is sure, and the latest sure one
-abbrev pub latest_at : Prospect → ℕ → Latest
+abbrev pub latest_at : Prospect → ℕ → LatestSure
 latest_at p t = record { mask = latest_mask_sure p t; packet = latest_sure p t }
 
 -- the stretch of the latest of the first t packets, as far as it goes
@@ -56,7 +56,7 @@ abbrev pub row_of : Option Stretch → List ℕ
 row_of s = option_map_or stretch_row s []
 
 -- what is kept of the first t packets
-pub record AreKept (p : Prospect) (t : ℕ) (latest : Latest) (stretch : Option Stretch) (tally : Tally) (sure : ℕ) : Type 0 where
+pub record HasForeseen (p : Prospect) (t : ℕ) (latest : LatestSure) (stretch : Option Stretch) (tally : Tally) (sure : ℕ) : Type 0 where
   pub latest_is : latest ≡ latest_at p t
   pub stretch_is : stretch ≡ stretch_at (fate_of p) t
   pub tally_is : tally ≡ tally_of p.copies t
@@ -70,6 +70,6 @@ pub record ForecastState : Type 0 where
   pub outlook : OutlookState
 
 -- how many packets there can be
-pub record IsCount (packets : ℕ) : Type 0 where
+pub record IsPacketCount (packets : ℕ) : Type 0 where
   pub some : 1 ≤ packets
   pub most : packets ≤ 1000000

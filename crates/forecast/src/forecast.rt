@@ -4,7 +4,7 @@ ghost use Rattle.std.specs.Prelude.{◌≡◌, ◌≤◌, ◌++◌, length, IfOk
 ghost use Rattle.desk_ports.specs.Meanings.{IsReadyOut};
 ghost use Rattle.desk_ports.specs.Courses.{to_output};
 ghost use Rattle.desk_ports.specs.Writings.{Writes};
-ghost use Rattle.forecast.specs.Outlooks.{IsCount, foresees, row_of};
+ghost use Rattle.forecast.specs.Outlooks.{IsPacketCount, foresees, row_of};
 ghost use Rattle.forecast.specs.Texts.{closing_rows, end_row, forecast_text, gaps_row, sure_count};
 
 use crate::foreseen::Foresight;
@@ -29,13 +29,13 @@ pub struct Forecast {
 
 impl Model for Forecast {
     ghost use Rattle.std.specs.Prelude.{◌≡◌};
-    ghost use Rattle.forecast.specs.Outlooks.{ForecastState, IsCount};
+    ghost use Rattle.forecast.specs.Outlooks.{ForecastState, IsPacketCount};
 
     ghost Value = { ForecastState };
 
     ghost view = { λ f. record { packets = f.packets; outlook = f.foresight } };
 
-    ghost invariant = { λ f. IsCount f.packets };
+    ghost invariant = { λ f. IsPacketCount f.packets };
 }
 
 impl Forecast {
@@ -48,7 +48,7 @@ impl Forecast {
         plan: Schedule,
         script: Script,
     ) -> Result<Forecast, NoMemory>
-        requires count { IsCount packets }
+        requires count { IsPacketCount packets }
         requires robust { robust ≤ 7 }
         ensures opened { IfOk result (λ forecast. forecast ≡ record {
           packets = packets;

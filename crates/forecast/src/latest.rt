@@ -1,6 +1,6 @@
 //! The latest packets that are sure.
 
-ghost use Rattle.std.specs.Prelude.{◌≡◌, ℕ, ◌+◌, cond, Some};
+ghost use Rattle.std.specs.Prelude.{◌≡◌, ◌+◌, cond, Some};
 ghost use Rattle.packet_encode.specs.Deliveries.{reaches};
 ghost use Rattle.forecast.specs.Prospects.{Prospect, fate_by, fate_of, is_mask_sure, is_sure};
 ghost use Rattle.forecast.specs.Outlooks.{IsForeseenAs, latest_at};
@@ -10,7 +10,7 @@ use crate::foreseen::Foreseen;
 
 /// The number of the latest packet whose mask is sure to be known, and of the latest one that is sure to be written.
 #[derive(Clone, Copy, Debug, PartialEq, Eq)]
-pub struct Latest {
+pub struct LatestSure {
     pub mask: Option<u32>,
     pub packet: Option<u32>,
 }
@@ -22,12 +22,12 @@ struct Surety {
     packet: bool,
 }
 
-impl Latest {
+impl LatestSure {
     /// There was no packet yet.
-    pub fn none() -> Latest
+    pub fn none() -> LatestSure
         ensures { (p : Prospect) → result ≡ latest_at p 0 }
     {
-        Latest {
+        LatestSure {
             mask: None,
             packet: None,
         }

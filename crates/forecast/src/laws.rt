@@ -1,10 +1,10 @@
 //! What the definitions of a forecast mean.
 
-ghost use Rattle.std.specs.Prelude.{◌≡◌, ℕ, ◌↔◌, ◌+◌, ◌<◌, true, List, Bool, length, codes, Contains, Some, None};
+ghost use Rattle.std.specs.Prelude.{◌≡◌, ℕ, ◌↔◌, ◌+◌, ◌<◌, true, List, Bool, length, codes, Contains, Some};
 ghost use Rattle.mask_update.specs.Histories.{History, history_of, robust_at};
 ghost use Rattle.robust_window.specs.Histories.{level_at};
 ghost use Rattle.side_tables.specs.declared.rows.CopyRow.{CopyRow};
-ghost use Rattle.side_tables.specs.Rows.{ScheduleRows, copies_of, flags_of};
+ghost use Rattle.side_tables.specs.Rows.{ScheduleRows, flags_of};
 ghost use Rattle.packet_encode.specs.Deliveries.{IsLatest, MaskKnownAt, WrittenAt, count_to_last};
 ghost use Rattle.forecast.specs.Prospects.{IsForeseen, IsMaskSure, IsSure, Prospect, is_mask_sure, is_sure, latest_mask_sure, latest_sure, prospect_of, robust_by};
 ghost use Rattle.forecast.specs.Stretches.{IsLongest, stretches};

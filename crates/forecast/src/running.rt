@@ -8,7 +8,7 @@ ghost use Rattle.forecast.specs.Texts.{sure_count};
 
 use crate::fate::Fate;
 use crate::foreseen::Foresight;
-use crate::latest::Latest;
+use crate::latest::LatestSure;
 use crate::stretch::Stretch;
 use loss_player::{Played, Tally};
 use std::marker::Model;
@@ -18,20 +18,20 @@ use std::marker::Model;
 #[derive(Debug, Drop)]
 pub struct Running {
     foresight: Foresight,
-    latest: Latest,
+    latest: LatestSure,
     stretch: Option<Stretch>,
     tally: Tally,
     sure: u64,
 }
 
 impl Model for Running {
-    ghost use Rattle.forecast.specs.Outlooks.{AreKept, ForecastState, foresees};
+    ghost use Rattle.forecast.specs.Outlooks.{HasForeseen, ForecastState, foresees};
 
     ghost Value = { ForecastState };
 
     ghost view = { λ r. record { packets = r.tally.played.packets; outlook = r.foresight } };
 
-    ghost invariant = { λ r. AreKept (foresees r.foresight) r.tally.played.packets r.latest r.stretch r.tally r.sure };
+    ghost invariant = { λ r. HasForeseen (foresees r.foresight) r.tally.played.packets r.latest r.stretch r.tally r.sure };
 }
 
 impl Running {
@@ -41,7 +41,7 @@ impl Running {
     {
         Running {
             foresight,
-            latest: Latest::none(),
+            latest: LatestSure::none(),
             stretch: None,
             tally: Tally::none(),
             sure: 0,

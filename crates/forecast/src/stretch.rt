@@ -1,6 +1,6 @@
 //! Stretches of packets that have one fate, and their lines.
 
-ghost use Rattle.std.specs.Prelude.{◌≡◌, ◌≤◌, length};
+ghost use Rattle.std.specs.Prelude.{◌≡◌};
 ghost use Rattle.forecast.specs.Texts.{stretch_row};
 
 use crate::fate::Fate;

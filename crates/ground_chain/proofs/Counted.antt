@@ -9,7 +9,7 @@ use Rattle.packet_decode.specs.PacketReading.{answer_of}
 use Rattle.bit_vectors.specs.Vectors.{bits_of}
 use Rattle.ground_chain.specs.declared.restored.Restored.{Restored}
 use Rattle.ground_chain.specs.Numbers.{number_after, expected}
-use Rattle.ground_chain.specs.Run.{Arrival, Known, Judged, kind_of, judged_by, judge, run_from, known_from}
+use Rattle.ground_chain.specs.Run.{Arrival, Known, Judged, answer_kind, judged_by, judge, run_from, known_from}
 use Rattle.ground_chain.specs.Report.{is_written_kind, is_repeat, is_unwritten, lost_count, listed_by, restored_of, restored_by, added}
 use Rattle.ground_chain.specs.Told.{AreArrivals}
 use Rattle.ground_chain.proofs.Told.{IsLater, number_later, first_arrival, later_arrivals}
@@ -62,7 +62,7 @@ lost_count_is first t le true is = let less : first < t = grind (arith, common_s
 lost_count_is first t le false is = grind (arith, common_steps)
 
 -- an answer is a written packet or one that is not written
-answer_counts : (answer : Result Reading BitFault) → (if is_written_kind (kind_of answer) then 1 else 0) + (if is_unwritten (kind_of answer) then 1 else 0) ≡ 1
+answer_counts : (answer : Result Reading BitFault) → (if is_written_kind (answer_kind answer) then 1 else 0) + (if is_unwritten (answer_kind answer) then 1 else 0) ≡ 1
 answer_counts (Ok Written) = refl
 answer_counts (Ok (Unsynced mask)) = refl
 answer_counts (Ok (Gap level mask)) = refl

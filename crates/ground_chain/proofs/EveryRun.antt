@@ -20,8 +20,8 @@ use Rattle.ground_chain.specs.declared.verdict.Lost.{Lost}
 use Rattle.ground_chain.specs.declared.verdict.Kind.{Kind}
 use Rattle.ground_chain.specs.declared.verdict.Kind.TheVariants.{Written}
 use Rattle.ground_chain.specs.Numbers.{number_after, expected}
-use Rattle.ground_chain.specs.Run.{Arrival, Known, Judged, kind_of, state_read, judged_by, judge, run_from}
-use Rattle.ground_chain.specs.Report.{HasContent, HasRowNumbers, content_bytes, is_written_kind, known_bytes, value_of, written_bytes}
+use Rattle.ground_chain.specs.Run.{Arrival, Known, Judged, answer_kind, state_read, judged_by, judge, run_from}
+use Rattle.ground_chain.specs.Report.{HasContent, HasRowNumbers, content_bytes, is_written_kind, known_bytes, kind_value, written_bytes}
 use Rattle.ground_chain.specs.Told.{AreArrivals}
 use Rattle.ground_chain.proofs.Distances.{number_after-above}
 use Rattle.ground_chain.proofs.Sound.{IsState-judged}
@@ -34,7 +34,7 @@ places_of f None known has is = absurd cc
 places_of f (Some other) known has is = ap Some has
 
 module _ (f : ℕ) (known : Known) (has : IsState f known.state) where
-  content_by : (t : ℕ) (body : List ℕ) (a : Result Reading BitFault) → IsExactAnswer f known.state t (bits_of body) a → kind_of a ≡ Written → HasContent f (judged_by f known body (Some t)).after.state
+  content_by : (t : ℕ) (body : List ℕ) (a : Result Reading BitFault) → IsExactAnswer f known.state t (bits_of body) a → answer_kind a ≡ Written → HasContent f (judged_by f known body (Some t)).after.state
   content_by t body (Ok answer.Written) (form, mask, content, spells) is =
       let read = spells_read f known.state t has (bits_of body) form mask (Some content) spells in
       let part = ap (λ (s : State). s.content) (ap (state_read known.state t) read) in
@@ -66,7 +66,7 @@ content_size f j is has = ap (λ (k : Kind). length (if is_written_kind k then c
 -- ---- numbers
 
 -- the value of an answer is a level, or a place of the bits
-value_by : (f : ℕ) (state : State) (t : ℕ) (bits : List Bool) (a : Result Reading BitFault) → length bits ≤ 524288 → IsExactAnswer f state t bits a → value_of (kind_of a) < 2 ^ 64
+value_by : (f : ℕ) (state : State) (t : ℕ) (bits : List Bool) (a : Result Reading BitFault) → length bits ≤ 524288 → IsExactAnswer f state t bits a → kind_value (answer_kind a) < 2 ^ 64
 value_by f state t bits (Ok answer.Written) few exact = omega arith
 value_by f state t bits (Ok (answer.Unsynced mask)) few exact = omega arith
 value_by f state t bits (Ok (answer.Gap level true)) few ((form, mask, spells, is), some) = omega (arith, spells.is_form.level, is)
@@ -75,7 +75,7 @@ value_by f state t bits (Err (Wrong bit)) few exact = omega (arith, few, exact.0
 value_by f state t bits (Err (EndsEarly bit)) few exact = omega (arith, few, exact.0.all)
 
 -- and so is that of an arrival, whose data are 65,536 bytes at most
-pub value_judged : (f : ℕ) (known : Known) → IsState f known.state → (body : List ℕ) (number : Option ℕ) → length body ≤ 65536 → value_of (judged_by f known body number).verdict.kind < 2 ^ 64
+pub value_judged : (f : ℕ) (known : Known) → IsState f known.state → (body : List ℕ) (number : Option ℕ) → length body ≤ 65536 → kind_value (judged_by f known body number).verdict.kind < 2 ^ 64
 value_judged f known has body None size = omega arith
 value_judged f known has body (Some t) size =
     value_by f known.state t (bits_of body) (answer_of f known.state t (bits_of body)) (omega (arith, size, length-bits_of body)) (answer_of-exact f known.state t has (bits_of body))

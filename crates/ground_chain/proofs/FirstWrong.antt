@@ -19,9 +19,9 @@ use Rattle.packet_decode.proofs.ViableData.{viable_data, data_viable}
 use Rattle.ground_chain.specs.declared.verdict.Kind.{Kind}
 use Rattle.ground_chain.specs.declared.verdict.Kind.TheVariants.{Written, Repeat, Unsynced, Gap, Refused}
 use Rattle.ground_chain.specs.Numbers.{number_after}
-use Rattle.ground_chain.specs.Run.{Arrival, Known, Judged, nothing_known, kind_of, judged_by, judge, known_from, known_after}
-use Rattle.ground_chain.specs.Report.{number_row, own_row, value_of}
-use Rattle.ground_chain.specs.Listing.{kind_text, kind_vectors, level_of, mask_line, packet_vectors}
+use Rattle.ground_chain.specs.Run.{Arrival, Known, Judged, nothing_known, answer_kind, judged_by, judge, known_from, known_after}
+use Rattle.ground_chain.specs.Report.{number_row, own_row, kind_value}
+use Rattle.ground_chain.specs.Listing.{kind_text, kind_vectors, change_level, mask_line, packet_vectors}
 use Rattle.ground_chain.specs.Refusals.{is_taken_or_listed, BeginData, SaysLine, SaysRow}
 use Rattle.ground_chain.proofs.EveryRun.{value_judged}
 use Rattle.ground_chain.proofs.Sound.{IsState-judged}
@@ -64,7 +64,7 @@ causes_apart t cause other value bit a b mine others apart same =
 numbers_same : (a b : ℕ) → a < 2 ^ 64 → b < 2 ^ 64 → decimal a ++ codes "\n" ≡ decimal b ++ codes "\n" → a ≡ b
 numbers_same a b few most same = decimal_injective a b few most (append_cancel_right (decimal a) (decimal b) (codes "\n") same)
 
-wrong_kind : (t bit : ℕ) (kind : Kind) → bit < 2 ^ 64 → value_of kind < 2 ^ 64 → own_row t kind ≡ number_row t (codes "wrong") bit → kind ≡ Refused (Wrong bit)
+wrong_kind : (t bit : ℕ) (kind : Kind) → bit < 2 ^ 64 → kind_value kind < 2 ^ 64 → own_row t kind ≡ number_row t (codes "wrong") bit → kind ≡ Refused (Wrong bit)
 wrong_kind t bit Written few small same = absurd (empty_row t (codes "wrong") bit same)
 wrong_kind t bit Repeat few small same = absurd (empty_row t (codes "wrong") bit same)
 wrong_kind t bit (Unsynced mask) few small same = absurd (causes_apart t (codes "unsynced") (codes "wrong") 0 bit 117 119 refl refl (λ e. omega (arith, e)) same)
@@ -74,7 +74,7 @@ wrong_kind t bit (Refused (Wrong at)) few small same =
     ap (λ (n : ℕ). Refused (Wrong n)) (numbers_same at bit small few (append_cancel_left (codes "wrong,") (decimal at ++ codes "\n") (decimal bit ++ codes "\n") tails))
 wrong_kind t bit (Refused (EndsEarly at)) few small same = absurd (causes_apart t (codes "early") (codes "wrong") at bit 101 119 refl refl (λ e. omega (arith, e)) same)
 
-early_kind : (t bit : ℕ) (kind : Kind) → bit < 2 ^ 64 → value_of kind < 2 ^ 64 → own_row t kind ≡ number_row t (codes "early") bit → kind ≡ Refused (EndsEarly bit)
+early_kind : (t bit : ℕ) (kind : Kind) → bit < 2 ^ 64 → kind_value kind < 2 ^ 64 → own_row t kind ≡ number_row t (codes "early") bit → kind ≡ Refused (EndsEarly bit)
 early_kind t bit Written few small same = absurd (empty_row t (codes "early") bit same)
 early_kind t bit Repeat few small same = absurd (empty_row t (codes "early") bit same)
 early_kind t bit (Unsynced mask) few small same = absurd (causes_apart t (codes "unsynced") (codes "early") 0 bit 117 101 refl refl (λ e. omega (arith, e)) same)
@@ -98,7 +98,7 @@ fault_text cause bit = cause ++ (decimal bit ++ codes "\n")
 abbrev line_text : Kind → ℕ → List ℕ → List ℕ → List ℕ
 line_text kind level packet mask = kind_text kind level ++ kind_vectors kind packet mask
 
-wrong_line_kind : (bit : ℕ) (kind : Kind) (level : ℕ) (packet mask : List ℕ) → bit < 2 ^ 64 → value_of kind < 2 ^ 64 → line_text kind level packet mask ≡ fault_text (codes " wrong ") bit → kind ≡ Refused (Wrong bit)
+wrong_line_kind : (bit : ℕ) (kind : Kind) (level : ℕ) (packet mask : List ℕ) → bit < 2 ^ 64 → kind_value kind < 2 ^ 64 → line_text kind level packet mask ≡ fault_text (codes " wrong ") bit → kind ≡ Refused (Wrong bit)
 wrong_line_kind bit Written level packet mask few small same = absurd (texts_apart 3 (line_text Written level packet mask) (fault_text (codes " wrong ") bit) 105 111 refl refl (λ e. omega (arith, e)) same)
 wrong_line_kind bit Repeat level packet mask few small same = absurd (texts_apart 1 (line_text Repeat level packet mask) (fault_text (codes " wrong ") bit) 114 119 refl refl (λ e. omega (arith, e)) same)
 wrong_line_kind bit (Unsynced false) level packet mask few small same = absurd (texts_apart 1 (line_text (Unsynced false) level packet mask) (fault_text (codes " wrong ") bit) 117 119 refl refl (λ e. omega (arith, e)) same)
@@ -110,7 +110,7 @@ wrong_line_kind bit (Refused (Wrong at)) level packet mask few small same =
     ap (λ (n : ℕ). Refused (Wrong n)) (numbers_same at bit small few tails)
 wrong_line_kind bit (Refused (EndsEarly at)) level packet mask few small same = absurd (texts_apart 1 (line_text (Refused (EndsEarly at)) level packet mask) (fault_text (codes " wrong ") bit) 101 119 refl refl (λ e. omega (arith, e)) same)
 
-early_line_kind : (bit : ℕ) (kind : Kind) (level : ℕ) (packet mask : List ℕ) → bit < 2 ^ 64 → value_of kind < 2 ^ 64 → line_text kind level packet mask ≡ fault_text (codes " early ") bit → kind ≡ Refused (EndsEarly bit)
+early_line_kind : (bit : ℕ) (kind : Kind) (level : ℕ) (packet mask : List ℕ) → bit < 2 ^ 64 → kind_value kind < 2 ^ 64 → line_text kind level packet mask ≡ fault_text (codes " early ") bit → kind ≡ Refused (EndsEarly bit)
 early_line_kind bit Written level packet mask few small same = absurd (texts_apart 1 (line_text Written level packet mask) (fault_text (codes " early ") bit) 119 101 refl refl (λ e. omega (arith, e)) same)
 early_line_kind bit Repeat level packet mask few small same = absurd (texts_apart 1 (line_text Repeat level packet mask) (fault_text (codes " early ") bit) 114 101 refl refl (λ e. omega (arith, e)) same)
 early_line_kind bit (Unsynced false) level packet mask few small same = absurd (texts_apart 1 (line_text (Unsynced false) level packet mask) (fault_text (codes " early ") bit) 117 101 refl refl (λ e. omega (arith, e)) same)
@@ -136,13 +136,13 @@ record IsRead (f : ℕ) (known : Known) (body : List ℕ) (number : Option ℕ) 
   number_is : number ≡ Some t
   exact : IsExactAnswer f known.state t (bits_of body) (Err fault)
 
-fault_of : (answer : Result Reading BitFault) (fault : BitFault) → kind_of answer ≡ Refused fault → answer ≡ Err fault
+fault_of : (answer : Result Reading BitFault) (fault : BitFault) → answer_kind answer ≡ Refused fault → answer ≡ Err fault
 fault_of (Ok answer.Written) fault is = absurd cc
 fault_of (Ok (answer.Unsynced mask)) fault is = absurd cc
 fault_of (Ok (answer.Gap level mask)) fault is = absurd cc
 fault_of (Err other) fault is = let same : other ≡ fault = cc in ap Err same
 
-taken_by : (reading : Reading) → is_taken_or_listed (kind_of (Ok reading)) ≡ true
+taken_by : (reading : Reading) → is_taken_or_listed (answer_kind (Ok reading)) ≡ true
 taken_by answer.Written = refl
 taken_by (answer.Unsynced mask) = refl
 taken_by (answer.Gap level mask) = refl
@@ -160,10 +160,10 @@ module _ (f : ℕ) (known : Known) (has : IsState f known.state) where
   taken_at : (body : List ℕ) (number : Option ℕ) (t : ℕ) (front : List Bool) (d : BeginReadable f known.state t front) → number ≡ Some t → is_taken_or_listed (judged_by f known d.body number).verdict.kind ≡ true
   taken_at body number t front d is =
       ap (λ (n : Option ℕ). is_taken_or_listed (judged_by f known d.body n).verdict.kind) is
-      ∙ ap (λ (a : Result Reading BitFault). is_taken_or_listed (kind_of a)) (says_answer f known.state t has (bits_of d.body) d.reading d.says)
+      ∙ ap (λ (a : Result Reading BitFault). is_taken_or_listed (answer_kind a)) (says_answer f known.state t has (bits_of d.body) d.reading d.says)
       ∙ taken_by d.reading
 
-  read_back : (t : ℕ) (bits : List Bool) (a : Result Reading BitFault) → IsExactAnswer f known.state t bits a → is_taken_or_listed (kind_of a) ≡ true → (reading : Reading) × Says f known.state t bits reading
+  read_back : (t : ℕ) (bits : List Bool) (a : Result Reading BitFault) → IsExactAnswer f known.state t bits a → is_taken_or_listed (answer_kind a) ≡ true → (reading : Reading) × Says f known.state t bits reading
   read_back t bits (Ok reading) exact is = (reading, exact)
   read_back t bits (Err fault) exact is = absurd cc
 
@@ -208,7 +208,7 @@ module _ (f : ℕ) (some : 1 ≤ f) (most : f ≤ 49152) (before : List Arrival)
   number : Option ℕ
   number = number_after (known_after f before).latest arrival.count
 
-  small : value_of (judge f (known_after f before) arrival).verdict.kind < 2 ^ 64
+  small : kind_value (judge f (known_after f before) arrival).verdict.kind < 2 ^ 64
   small = value_judged f (known_after f before) known_has arrival.body (number_after (known_after f before).latest arrival.count) size
 
   -- the packet's own texts of its line
@@ -246,10 +246,10 @@ module _ (f : ℕ) (some : 1 ≤ f) (most : f ≤ 49152) (before : List Arrival)
   pub wrong_listed : (bit : ℕ) → bit < 2 ^ 64 → SaysLine (judge f (known_after f before) arrival) (codes "wrong") bit
       → BeginData f before arrival.count (take bit (bits_of arrival.body)) × (BeginData f before arrival.count (take (bit + 1) (bits_of arrival.body)) → ⊥)
   wrong_listed bit few line =
-      let text = append_cancel_left (decimal judged.verdict.t) (line_text judged.verdict.kind (level_of judged.change) own_packet own_mask) (fault_text (codes " wrong ") bit) line in
-      wrong_at bit (wrong_line_kind bit judged.verdict.kind (level_of judged.change) own_packet own_mask few small text)
+      let text = append_cancel_left (decimal judged.verdict.t) (line_text judged.verdict.kind (change_level judged.change) own_packet own_mask) (fault_text (codes " wrong ") bit) line in
+      wrong_at bit (wrong_line_kind bit judged.verdict.kind (change_level judged.change) own_packet own_mask few small text)
 
   pub early_listed : (bit : ℕ) → bit < 2 ^ 64 → SaysLine (judge f (known_after f before) arrival) (codes "early") bit → (bit ≡ length (bits_of arrival.body)) × BeginData f before arrival.count (bits_of arrival.body)
   early_listed bit few line =
-      let text = append_cancel_left (decimal judged.verdict.t) (line_text judged.verdict.kind (level_of judged.change) own_packet own_mask) (fault_text (codes " early ") bit) line in
-      early_at bit (early_line_kind bit judged.verdict.kind (level_of judged.change) own_packet own_mask few small text)
+      let text = append_cancel_left (decimal judged.verdict.t) (line_text judged.verdict.kind (change_level judged.change) own_packet own_mask) (fault_text (codes " early ") bit) line in
+      early_at bit (early_line_kind bit judged.verdict.kind (change_level judged.change) own_packet own_mask few small text)

@@ -20,7 +20,7 @@ use Rattle.packet_decode.proofs.OfHistories.{answer-mask_alone, answer-neither, 
 use Rattle.flight_chain.specs.Stores.{data_at}
 use Rattle.ground_chain.specs.declared.verdict.Kind.{Kind}
 use Rattle.ground_chain.specs.declared.verdict.Kind.TheVariants.{Written, Unsynced, Gap}
-use Rattle.ground_chain.specs.Run.{kind_of, state_read, state_after}
+use Rattle.ground_chain.specs.Run.{answer_kind, state_read, state_after}
 
 -- a packet that arrives and is not written, by the latest one with which the part that is missing became known, and whether
 -- its mask became known
@@ -39,13 +39,13 @@ kind_by mask content level masked written = if written then Written else missed_
 
 -- the verdict's kind, and the state after it, by what it tells
 record IsReadOf (h : History) (mask content : Option ℕ) (t : ℕ) (bits : List Bool) (masked written : Bool) : Type 0 where
-  kind : kind_of (answer_of h.places (true_state h mask content) t bits) ≡ kind_by mask content (level_at h t) masked written
+  kind : answer_kind (answer_of h.places (true_state h mask content) t bits) ≡ kind_by mask content (level_at h t) masked written
   state : state_after h.places (true_state h mask content) t bits ≡ true_state h (if masked then Some t else mask) (if written then Some t else content)
 
 abbrev part_at : (ℕ → List Bool) → Option ℕ → Option KnownVector
 part_at vectors latest = option_map (λ s. record { number = s; vector = vectors s }) latest
 
-missed-kind : (vectors : ℕ → List Bool) (latest : Option ℕ) (level : ℕ) (mask : Bool) → kind_of (Ok (missed (part_at vectors latest) level mask)) ≡ missed_kind latest level mask
+missed-kind : (vectors : ℕ → List Bool) (latest : Option ℕ) (level : ℕ) (mask : Bool) → answer_kind (Ok (missed (part_at vectors latest) level mask)) ≡ missed_kind latest level mask
 missed-kind vectors None level mask = refl
 missed-kind vectors (Some s) level mask = refl
 
@@ -88,18 +88,18 @@ module _ (h : History) (t : ℕ) (valid : IsValid h) (lt : t < length h.steps) w
 
     read_by : (masked written : Bool) → is_mask_told h mask t ≡ masked → is_content_told h mask content t ≡ written → IsReadOf h mask content t (packet_at h t) masked written
     read_by masked true m w = record {
-      kind = ap kind_of (answer-written h t valid lt mask content masks contents w);
+      kind = ap answer_kind (answer-written h t valid lt mask content masks contents w);
       state = spelled_state (told_either (flags_at h t).r (is_mask_told h mask t) (reaches content t (level_at h t)) w) ∙ λ i. true_state h (if m i then Some t else mask) (if w i then Some t else content);
     }
     read_by true false m w = record {
-      kind = ap kind_of (answer-mask_alone h t valid lt mask content masks contents w m) ∙ missed-kind (input_at h) content (level_at h t) true;
+      kind = ap answer_kind (answer-mask_alone h t valid lt mask content masks contents w m) ∙ missed-kind (input_at h) content (level_at h t) true;
       state = spelled_state (ap (λ (b : Bool). b || (flags_at h t).r) m) ∙ λ i. true_state h (if m i then Some t else mask) (if w i then Some t else content);
     }
     read_by false false m w =
         let none = told_neither (flags_at h t).r (is_mask_told h mask t) (reaches content t (level_at h t)) w m in
         let read = opaque_read h.places (true_state h mask content) t known (packet_at h t) (level_at h t) (untold-opaque h t valid lt mask content none) in
         record {
-          kind = ap kind_of (answer-neither h t valid lt mask content masks contents w m) ∙ missed-kind (mask_at h) mask (level_at h t) false;
+          kind = ap answer_kind (answer-neither h t valid lt mask content masks contents w m) ∙ missed-kind (mask_at h) mask (level_at h t) false;
           state = ap (state_read (true_state h mask content) t) read.3;
         }
 
@@ -165,7 +165,7 @@ module _ (h : History) (copies : ℕ → ℕ) where
     read_arrived = read_data h t valid lt (latest_mask_known h copies t) (latest_written h copies t) (latest-before (is_mask_known_from h copies) t) (latest-before (is_written_from h copies) t)
 
     -- the verdict's kind is that of the packet
-    pub kind_read : kind_of (answer_of h.places (true_state h (latest_mask_known h copies t) (latest_written h copies t)) t (bits_of (data_at h t))) ≡ kind_at h copies t
+    pub kind_read : answer_kind (answer_of h.places (true_state h (latest_mask_known h copies t) (latest_written h copies t)) t (bits_of (data_at h t))) ≡ kind_at h copies t
     kind_read =
         let masked = sym (is_mask_known-arrived t c arrived) in
         let written = sym (is_written-arrived t c arrived) in

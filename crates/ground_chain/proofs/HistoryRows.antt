@@ -15,7 +15,7 @@ use Rattle.ground_chain.specs.declared.verdict.Kind.TheVariants as kind
 use Rattle.ground_chain.specs.Numbers.{expected}
 use Rattle.ground_chain.specs.Run.{Judged, Known, lost_from, repeat_judged, run}
 use Rattle.ground_chain.specs.Report.{lost_row, own_row, verdict_rows, run_rows}
-use Rattle.ground_chain.specs.Deliveries.{ListedRow, history_arrivals, is_lost, before_rows, rows_of, listed_rows, row_text}
+use Rattle.ground_chain.specs.Deliveries.{ListedRow, history_arrivals, is_lost, before_rows, rows_of_numbers, listed_rows, row_text}
 use Rattle.ground_chain.proofs.Told.{range_then}
 use Rattle.ground_chain.proofs.LastArrivals.{last_before, last-dropped, last-arrived, last_before-is, expected-below}
 use Rattle.ground_chain.proofs.HistoryPackets.{missed_kind, kind_at, is_written-dropped}
@@ -108,10 +108,10 @@ module _ (h : History) (copies : ℕ → ℕ) where
   is_unwritten_at t = not (is_written h copies t)
 
   abbrev rows_from : List ℕ → List ListedRow
-  rows_from numbers = rows_of h copies numbers
+  rows_from numbers = rows_of_numbers h copies numbers
 
   abbrev text_of : List ℕ → List ℕ
-  text_of numbers = flat_map row_text (rows_of h copies numbers)
+  text_of numbers = flat_map row_text (rows_of_numbers h copies numbers)
 
   -- the listed numbers from one up to the one before another
   abbrev listed_between : ℕ → ℕ → List ℕ
@@ -218,7 +218,7 @@ module _ (h : History) (copies : ℕ → ℕ) where
         ap (λ (l : List ℕ). filter is_unwritten_at l) (range-split first t last le (is_heard t c lt is))
         ∙ (filter-append is_unwritten_at (range_with_len first (t - first)) (t ∷ range_with_len (t + 1) (last - (t + 1))) ∙ ap (λ (l : List ℕ). l ++ own) before) in
         let apart = λ (s : ℕ) (e : s + 1 ≡ t). own-apart s t c is more (is_written h copies t) (later-rows (last - (t + 1)) s (t + 1) (omega (arith, e))) in
-        ap (λ (l : List ℕ). flat_map row_text (rows_of h copies l)) numbers
+        ap (λ (l : List ℕ). flat_map row_text (rows_of_numbers h copies l)) numbers
         ∙ (lost-then (t - first) first t refl le dropped own apart
         ∙ (ap (λ (l : List ℕ). lost_row (lost_from first t) ++ l) (own-text t c is more (is_written h copies t)) ∙ sym (append_assoc (lost_row (lost_from first t)) (own_row t (kind_at h copies t)) (text_after (Some t)))))
 

@@ -4,12 +4,12 @@ use Rattle.std.specs.Fmt.{decimal}
 use Rattle.std.specs.Option.{option_eq}
 use Rattle.bit_vectors.specs.declared.fault.BitFault.TheVariants.{Wrong, EndsEarly}
 use Rattle.packet_decode.specs.State.{KnownVector, State}
-use Rattle.packet_decode.specs.Decoding.{Decoding, latest_content, number_of, vector_of}
+use Rattle.packet_decode.specs.Decoding.{Decoding, latest_content, known_number, known_vector}
 use Rattle.ground_chain.specs.declared.verdict.Kind.{Kind}
 use Rattle.ground_chain.specs.declared.verdict.Kind.TheVariants.{Written, Repeat, Unsynced, Gap, Refused}
 use Rattle.ground_chain.specs.Run.{Judged}
 use Rattle.ground_chain.specs.Reception.{AgreesWith}
-use Rattle.ground_chain.specs.Listing.{front_line, judged_lines, kind_text, kind_vectors, known_with, latest_vectors, level_of, lost_line, shown_vectors, mask_line, mask_text, own_vectors, packet_vectors, vector_digits, vectors_text}
+use Rattle.ground_chain.specs.Listing.{front_line, judged_lines, kind_text, kind_vectors, known_with, latest_vectors, change_level, lost_line, shown_vectors, mask_line, mask_text, own_vectors, packet_vectors, vector_digits, vectors_text}
 
 -- ---- pieces
 
@@ -23,7 +23,7 @@ vectors_text-pieces recent mask content =
     sym (append_assoc (x ++ m ++ codes " ") i (codes "\n") ∙ (ap (λ (l : List ℕ). l ++ (i ++ codes "\n")) (append_assoc x m (codes " ")) ∙ append_assoc x (m ++ codes " ") (i ++ codes "\n")))
 
 -- another packet is the latest whose mask became known, or none
-pub not_known : (t : ℕ) (part : Option KnownVector) → option_eq eqb (number_of part) (Some t) ≡ false → known_with t part ≡ None
+pub not_known : (t : ℕ) (part : Option KnownVector) → option_eq eqb (known_number part) (Some t) ≡ false → known_with t part ≡ None
 not_known t None other = refl
 not_known t (Some known) other = ap (λ (same : Bool). if same then Some known.vector else None) other
 
@@ -40,15 +40,15 @@ kind_text-level (Refused (Wrong bit)) a b same = refl
 kind_text-level (Refused (EndsEarly bit)) a b same = refl
 
 -- the level of a written packet is the decoder's
-shown_level : (judged : Judged) (decoder : Decoding) → AgreesWith decoder judged → judged.verdict.kind ≡ Written → decoder.level ≡ level_of judged.change
-shown_level judged decoder shows written = let packet = shows.written written in packet.level ∙ ap level_of (sym packet.first)
+shown_level : (judged : Judged) (decoder : Decoding) → AgreesWith decoder judged → judged.verdict.kind ≡ Written → decoder.level ≡ change_level judged.change
+shown_level judged decoder shows written = let packet = shows.written written in packet.level ∙ ap change_level (sym packet.first)
 
 -- the vectors come after the front
 pub lines-are : (judged : Judged) (decoder : Decoding) → AgreesWith decoder judged → front_line judged.verdict decoder.level ++ own_vectors judged ≡ judged_lines judged
 lines-are judged decoder shows =
     let lost = lost_line judged.verdict.lost in
     let number = decimal judged.verdict.t in
-    let level = kind_text-level judged.verdict.kind decoder.level (level_of judged.change) (shown_level judged decoder shows) in
+    let level = kind_text-level judged.verdict.kind decoder.level (change_level judged.change) (shown_level judged decoder shows) in
     append_assoc lost (number ++ kind_text judged.verdict.kind decoder.level) (own_vectors judged)
     ∙ ap (λ (l : List ℕ). lost ++ l) (append_assoc number (kind_text judged.verdict.kind decoder.level) (own_vectors judged))
     ∙ ap (λ (l : List ℕ). lost ++ (number ++ (l ++ own_vectors judged))) level
@@ -59,7 +59,7 @@ vectors-written judged decoder written shows =
     let packet = shows.written written in
     let t = judged.verdict.t in
     ap (λ (s : State). vectors_text decoder.recent (known_with t s.mask) (latest_content decoder.places s)) shows.state
-    ∙ ap (λ (k : Option KnownVector). vectors_text decoder.recent (known_with t judged.after.state.mask) (vector_of decoder.places k)) packet.content
+    ∙ ap (λ (k : Option KnownVector). vectors_text decoder.recent (known_with t judged.after.state.mask) (known_vector decoder.places k)) packet.content
     ∙ ap (λ (x : List Bool). vectors_text x (known_with t judged.after.state.mask) packet.known.vector) packet.recent
     ∙ sym (λ i. packet_vectors (packet.first i) t judged.after.state (packet.content i))
 

@@ -6,7 +6,7 @@ use Rattle.std.proofs.lemmas.Bool.{and_from, and_parts, both_ways, cases_eq, eq-
 use Rattle.std.proofs.lemmas.List.Elements.{All-from_recursion}
 use Rattle.mask_update.specs.Histories.{History}
 use Rattle.packet_encode.specs.Deliveries.{Cause, Lost, Unsynced, Gap, cause_at}
-use Rattle.ground_chain.specs.Deliveries.{ListedRow, TellsOf, is_lost, before_rows, row_numbers, rows_of}
+use Rattle.ground_chain.specs.Deliveries.{ListedRow, TellsOf, is_lost, before_rows, row_numbers, rows_of_numbers}
 
 lost-true : (cause : Cause) → is_lost cause ≡ true → cause ≡ Lost
 lost-true Lost is = refl
@@ -102,16 +102,16 @@ module _ (h : History) (copies : ℕ → ℕ) where
       numbers_are = ap (λ (l : List ℕ). l ++ flat_map row_numbers (next ∷ rows)) (own-numbers t) ∙ ap (λ (l : List ℕ). t ∷ l) are.numbers_are;
     }
 
-  rows-are : (numbers : List ℕ) → AreRowsOf (rows_of h copies numbers) numbers
+  rows-are : (numbers : List ℕ) → AreRowsOf (rows_of_numbers h copies numbers) numbers
   rows-are [] = record { tells = tt; apart = tt; numbers_are = refl }
-  rows-are (t ∷ numbers) = rows-before t (rows_of h copies numbers) numbers (rows-are numbers)
+  rows-are (t ∷ numbers) = rows-before t (rows_of_numbers h copies numbers) numbers (rows-are numbers)
 
-  pub rows-numbers : (numbers : List ℕ) → flat_map row_numbers (rows_of h copies numbers) ≡ numbers
+  pub rows-numbers : (numbers : List ℕ) → flat_map row_numbers (rows_of_numbers h copies numbers) ≡ numbers
   rows-numbers numbers = (rows-are numbers).numbers_are
 
-  pub rows-tell : (numbers : List ℕ) → All (TellsOf h copies) (rows_of h copies numbers)
-  rows-tell numbers = All-from_recursion (TellsOf h copies) (rows_of h copies numbers) (rows-are numbers).tells
+  pub rows-tell : (numbers : List ℕ) → All (TellsOf h copies) (rows_of_numbers h copies numbers)
+  rows-tell numbers = All-from_recursion (TellsOf h copies) (rows_of_numbers h copies numbers) (rows-are numbers).tells
 
-  pub rows-apart : (numbers : List ℕ) (before after : List ListedRow) (row next : ListedRow) → before ++ row ∷ next ∷ after ≡ rows_of h copies numbers → row.cause ≡ Lost → next.cause ≡ Lost → next.first ≡ row.last + 1 → ⊥
+  pub rows-apart : (numbers : List ℕ) (before after : List ListedRow) (row next : ListedRow) → before ++ row ∷ next ∷ after ≡ rows_of_numbers h copies numbers → row.cause ≡ Lost → next.cause ≡ Lost → next.first ≡ row.last + 1 → ⊥
   rows-apart numbers before after row next is earlier later neighbours =
-      both_ways (follow row next) (apart-at before after (rows_of h copies numbers) row next is (rows-are numbers).apart) (follow-from row next earlier later neighbours)
+      both_ways (follow row next) (apart-at before after (rows_of_numbers h copies numbers) row next is (rows-are numbers).apart) (follow-from row next earlier later neighbours)

@@ -10,13 +10,13 @@ use Rattle.packet_decode.specs.Spelling.{Spells}
 use Rattle.packet_decode.specs.Answers.{IsExactAnswer}
 use Rattle.packet_decode.specs.State.{KnownVector, State, IsState, change_of, next_part, next_state}
 use Rattle.packet_decode.specs.PacketReading.{answer_of}
-use Rattle.packet_decode.specs.Decoding.{Decoding, latest_mask_number, latest_number, number_of, tells_nothing}
+use Rattle.packet_decode.specs.Decoding.{Decoding, latest_mask_number, latest_number, known_number, tells_nothing}
 use Rattle.packet_decode.proofs.ExactAnswers.{answer_of-exact}
 use Rattle.packet_decode.proofs.OneAnswer.{one_answer, spells_read}
 use Rattle.ground_chain.specs.declared.verdict.Kind.TheVariants as kind
 use Rattle.ground_chain.specs.declared.verdict.Verdict.{Verdict}
 use Rattle.ground_chain.specs.Numbers.{number_after, expected}
-use Rattle.ground_chain.specs.Run.{Arrival, Known, Judged, nothing_known, change_after, change_read, state_read, lost_from, kind_of, judge_as, judged_by, judge, repeat_judged, known_after}
+use Rattle.ground_chain.specs.Run.{Arrival, Known, Judged, nothing_known, change_after, change_read, state_read, lost_from, answer_kind, judge_as, judged_by, judge, repeat_judged, known_after}
 use Rattle.ground_chain.specs.Sound.{IsChangeAfter, IsSpelled, IsStateAfter, IsJudgedBy}
 use Rattle.ground_chain.specs.Reception.{ShowsPacket, Reception, IsReception, AgreesWith, StandsFor, known_of, next_judged}
 use Rattle.ground_chain.proofs.Runs.{known_from-append}
@@ -56,7 +56,7 @@ follows_read old new t bits (Err fault) exact reads = ap (λ (d : Decoding). d.s
 -- ---- what is kept after it
 
 -- a number that became known with the packet t or before it
-number_next : (part : Option KnownVector) (t : ℕ) (vector : Option (List Bool)) → IfSome (number_of part) (λ n. n < t) → IfSome (number_of (next_part part t vector)) (λ n. n < t + 1)
+number_next : (part : Option KnownVector) (t : ℕ) (vector : Option (List Bool)) → IfSome (known_number part) (λ n. n < t) → IfSome (known_number (next_part part t vector)) (λ n. n < t + 1)
 number_next None t None before = tt
 number_next (Some known) t None before = omega (arith, before)
 number_next part t (Some vector) before = omega arith
@@ -65,7 +65,7 @@ record HasNumbers (state : State) (t : ℕ) : Type 0 where
   content : IfSome (latest_number state) (λ n. n < t)
   mask : IfSome (latest_mask_number state) (λ n. n < t)
 
-later : (part : Option KnownVector) (t : ℕ) → IfSome (number_of part) (λ n. n < t) → IfSome (number_of part) (λ n. n < t + 1)
+later : (part : Option KnownVector) (t : ℕ) → IfSome (known_number part) (λ n. n < t) → IfSome (known_number part) (λ n. n < t + 1)
 later None t before = tt
 later (Some known) t before = omega (arith, before)
 
@@ -84,7 +84,7 @@ numbers_after f state next t bits (Ok (Gap level true)) has s = spelled_later f 
 numbers_after f state next t bits (Ok (Gap level false)) has same = stays_later state next t has same
 numbers_after f state next t bits (Err fault) has same = stays_later state next t has same
 
-below : (part : Option KnownVector) (bound t : ℕ) → bound ≤ t → IfSome (number_of part) (λ n. n < bound) → IfSome (number_of part) (λ n. n < t)
+below : (part : Option KnownVector) (bound t : ℕ) → bound ≤ t → IfSome (known_number part) (λ n. n < bound) → IfSome (known_number part) (λ n. n < t)
 below None bound t le before = tt
 below (Some known) bound t le before = omega (arith, le, before)
 
@@ -102,7 +102,7 @@ kept_read latest next old new t bits answer kept le next_is places exact reads =
 
 -- an arrival that is read
 pub judged_read : (r : Reception) (new : Decoding) (count t : ℕ) (body : List ℕ) (verdict : Verdict) (answer : Result Reading BitFault) → IsReception r.latest r.decoder → number_after r.latest count ≡ Some t
-    → verdict ≡ record { lost = lost_from (expected r.latest) t; t = t; kind = kind_of answer }
+    → verdict ≡ record { lost = lost_from (expected r.latest) t; t = t; kind = answer_kind answer }
     → IsExactAnswer r.decoder.places r.decoder.state t (bits_of body) answer → Reads r.decoder new t (bits_of body) answer
     → record { verdict = verdict; change = change_after r.decoder.places r.decoder.state t (bits_of body); after = record { latest = Some t; state = new.state } } ≡ next_judged r count body
 judged_read r new count t body verdict answer kept number is exact reads =
@@ -128,7 +128,7 @@ judged_repeat r count body number = ap (judged_by r.decoder.places (known_of r) 
 -- ---- what the decoder shows
 
 module _ (r : Reception) (new : Decoding) (t : ℕ) (body : List ℕ) (has : IsState r.decoder.places r.decoder.state) (decodes : Decodes r.decoder new t (bits_of body)) where
-  shows_by : (answer : Result Reading BitFault) → IsExactAnswer r.decoder.places r.decoder.state t (bits_of body) answer → kind_of answer ≡ kind.Written → ShowsPacket new (judge_as r.decoder.places (known_of r) body t)
+  shows_by : (answer : Result Reading BitFault) → IsExactAnswer r.decoder.places r.decoder.state t (bits_of body) answer → answer_kind answer ≡ kind.Written → ShowsPacket new (judge_as r.decoder.places (known_of r) body t)
   shows_by (Ok Written) (form, mask, content, spells) written =
       let read = spells_read r.decoder.places r.decoder.state t has (bits_of body) form mask (Some content) spells in
       let is = decodes form mask content spells in

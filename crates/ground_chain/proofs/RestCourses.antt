@@ -13,7 +13,7 @@ use Rattle.desk_ports.proofs.WalkTurns.{GoesOn, IsDone, PartsGoOn}
 use Rattle.packet_store.specs.declared.reader.Taken.{Taken}
 use Rattle.packet_store.specs.declared.fault.WalkFault.{WalkFault}
 use Rattle.packet_store.specs.SpacePackets.{Packet, is_chosen}
-use Rattle.packet_store.specs.StoreReader.{ReaderState, Takes, walk_over}
+use Rattle.packet_store.specs.StoreReader.{ReaderState, TakesPacket, walk_over}
 use Rattle.packet_store.specs.Walks.{walk}
 use Rattle.packet_store.proofs.StoreTurns.{packet_of}
 use Rattle.ground_chain.specs.declared.restored.Restored.{Restored}
@@ -35,18 +35,18 @@ use Rattle.ground_chain.proofs.Reckonings.{added-judged, all_parts-judged, arriv
 abbrev filtered : Option ℕ → Packet → List Packet → Bool → List Arrival
 filtered chosen p packets own = map arrival_of (if own then p ∷ filter (λ q. is_chosen chosen q.header) packets else filter (λ q. is_chosen chosen q.header) packets)
 
-same_chosen : (old new : ReaderState) (a b : Meanings) (given : Taken) → Takes old new a b given → old.chosen ≡ new.chosen
+same_chosen : (old new : ReaderState) (a b : Meanings) (given : Taken) → TakesPacket old new a b given → old.chosen ≡ new.chosen
 same_chosen old new a b given takes = sym (ap (λ (s : ReaderState). s.chosen) takes.others)
 
 -- a packet of another APID changes nothing
-run-passed : {A : Type 0} (s : Receiving A) (reader : ReaderState) (a b : Meanings) (given : Taken) (takes : Takes s.reader reader a b given) → given.chosen ≡ false
+run-passed : {A : Type 0} (s : Receiving A) (reader : ReaderState) (a b : Meanings) (given : Taken) (takes : TakesPacket s.reader reader a b given) → given.chosen ≡ false
     → (packets : List Packet) → rest_run s (packet_of takes.header reader ∷ packets) ≡ rest_run (record s { reader = reader }) packets
 run-passed s reader a b given takes other packets =
     ap (λ own. next_run s.judging (filtered s.reader.chosen (packet_of takes.header reader) packets own)) (sym takes.is_chosen ∙ other)
     ∙ ap (λ chosen. next_run s.judging (arrivals_of chosen packets)) (same_chosen s.reader reader a b given takes)
 
 -- so what is owed is what the packets after it owe
-pub GoesOn-passed : {A : Type 0} (texts : Texts) (s : Receiving A) (reader : ReaderState) (a b : Meanings) (given : Taken) (takes : Takes s.reader reader a b given) → given.chosen ≡ false
+pub GoesOn-passed : {A : Type 0} (texts : Texts) (s : Receiving A) (reader : ReaderState) (a b : Meanings) (given : Taken) (takes : TakesPacket s.reader reader a b given) → given.chosen ≡ false
     → GoesOn (left_to_receive texts s) (left_to_receive texts (record s { reader = reader })) (packet_of takes.header reader) no_outputs
 GoesOn-passed texts s reader a b given takes other =
     let run = run-passed s reader a b given takes other in
@@ -56,7 +56,7 @@ GoesOn-passed texts s reader a b given takes other =
       after = λ packets. ap (λ (l : List Judged). texts.last (added s.judging.restored (restored_of l))) (run packets);
     }
 
-pub PartsGoOn-passed : {A : Type 0} (texts : Texts) (s : Receiving A) (reader : ReaderState) (a b : Meanings) (given : Taken) (takes : Takes s.reader reader a b given) → given.chosen ≡ false
+pub PartsGoOn-passed : {A : Type 0} (texts : Texts) (s : Receiving A) (reader : ReaderState) (a b : Meanings) (given : Taken) (takes : TakesPacket s.reader reader a b given) → given.chosen ≡ false
     → PartsGoOn (parts_left texts s) (parts_left texts (record s { reader = reader })) (packet_of takes.header reader) []
 PartsGoOn-passed texts s reader a b given takes other =
     let run = run-passed s reader a b given takes other in
@@ -66,19 +66,19 @@ PartsGoOn-passed texts s reader a b given takes other =
     }
 
 -- a packet of the chosen APID is an arrival
-arrivals-read : {A : Type 0} (s t : Receiving A) (a b : Meanings) (given : Taken) (takes : Takes s.reader t.reader a b given) → given.chosen ≡ true
+arrivals-read : {A : Type 0} (s t : Receiving A) (a b : Meanings) (given : Taken) (takes : TakesPacket s.reader t.reader a b given) → given.chosen ≡ true
     → (packets : List Packet) → arrivals_of s.reader.chosen (packet_of takes.header t.reader ∷ packets) ≡ arrival_with given.count t.reader.body ∷ arrivals_of t.reader.chosen packets
 arrivals-read s t a b given takes own packets =
     ap (filtered s.reader.chosen (packet_of takes.header t.reader) packets) (sym takes.is_chosen ∙ own)
     ∙ (let count = sym takes.count in let chosen = same_chosen s.reader t.reader a b given takes in λ i. arrival_with (count i) t.reader.body ∷ arrivals_of (chosen i) packets)
 
-numbers-read : {A : Type 0} (s t : Receiving A) (a b : Meanings) (given : Taken) (takes : Takes s.reader t.reader a b given) → given.chosen ≡ true → Judges s.judging t.judging given.count t.reader.body
+numbers-read : {A : Type 0} (s t : Receiving A) (a b : Meanings) (given : Taken) (takes : TakesPacket s.reader t.reader a b given) → given.chosen ≡ true → Judges s.judging t.judging given.count t.reader.body
     → (packets : List Packet) → all_numbers s (packet_of takes.header t.reader ∷ packets) ≡ all_numbers t packets
 numbers-read s t a b given takes own is packets =
     ap (λ (l : List Arrival). added s.judging.restored (restored_of (next_run s.judging l))) (arrivals-read s t a b given takes own packets) ∙ added-judged is (arrivals_of t.reader.chosen packets)
 
 -- what is written of it is owed, and after it what the packets after it owe
-pub GoesOn-judged : {A : Type 0} (texts : Texts) (s t : Receiving A) (a b : Meanings) (given : Taken) (takes : Takes s.reader t.reader a b given) → given.chosen ≡ true → Judges s.judging t.judging given.count t.reader.body
+pub GoesOn-judged : {A : Type 0} (texts : Texts) (s t : Receiving A) (a b : Meanings) (given : Taken) (takes : TakesPacket s.reader t.reader a b given) → given.chosen ≡ true → Judges s.judging t.judging given.count t.reader.body
     → GoesOn (left_to_receive texts s) (left_to_receive texts t) (packet_of takes.header t.reader) (texts.parts (next_judged s.judging.reception given.count t.reader.body))
 GoesOn-judged texts s t a b given takes own is =
     let arrivals = arrivals-read s t a b given takes own in
@@ -89,7 +89,7 @@ GoesOn-judged texts s t a b given takes own is =
       after = λ packets. ap texts.last (numbers packets);
     }
 
-pub PartsGoOn-judged : {A : Type 0} (texts : Texts) (s t : Receiving A) (a b : Meanings) (given : Taken) (takes : Takes s.reader t.reader a b given) → given.chosen ≡ true → Judges s.judging t.judging given.count t.reader.body
+pub PartsGoOn-judged : {A : Type 0} (texts : Texts) (s t : Receiving A) (a b : Meanings) (given : Taken) (takes : TakesPacket s.reader t.reader a b given) → given.chosen ≡ true → Judges s.judging t.judging given.count t.reader.body
     → PartsGoOn (parts_left texts s) (parts_left texts t) (packet_of takes.header t.reader) (texts.parts (next_judged s.judging.reception given.count t.reader.body) ∷ [])
 PartsGoOn-judged texts s t a b given takes own is = record {
   before = λ packets. ap (λ (l : List Arrival). map texts.parts (next_run s.judging l)) (arrivals-read s t a b given takes own packets) ∙ ap (λ (l : List Judged). map texts.parts l) (next_run-judged is (arrivals_of t.reader.chosen packets));
@@ -106,7 +106,7 @@ EndsWithin-received {first = first} {stand = stand} texts s front =
     subst (λ (r : Restored). EndsWithin first stand (texts.last r ∷ [])) (sym (added-none s.judging.restored)) (EndsWithin-first [] front)
 
 -- after a packet the rest of the store is still to be received
-pub Owes-next : {A : Type 0} (texts : Texts) (s t : Receiving A) (a b : Meanings) (given : Taken) (work : Work Restored WalkFault) → Owes texts s work → Takes s.reader t.reader a b given → t.judging.restored.packets ≤ s.judging.restored.packets + 1 → Owes texts t (rest_work texts t)
+pub Owes-next : {A : Type 0} (texts : Texts) (s t : Receiving A) (a b : Meanings) (given : Taken) (work : Work Restored WalkFault) → Owes texts s work → TakesPacket s.reader t.reader a b given → t.judging.restored.packets ≤ s.judging.restored.packets + 1 → Owes texts t (rest_work texts t)
 Owes-next texts s t a b given work owes takes more = record {
   work_is = refl;
   live = ap (λ (r : ReaderState). r.live) takes.others ∙ owes.live;

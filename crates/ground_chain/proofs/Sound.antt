@@ -13,7 +13,7 @@ use Rattle.packet_decode.specs.PacketReading.{Outcome, Spelled, Opaque, Found, m
 use Rattle.packet_decode.proofs.ExactAnswers.{answer_of-exact}
 use Rattle.packet_decode.proofs.OneAnswer.{next_state-is, spells_read, says_answer, one_answer, sound_reading}
 use Rattle.ground_chain.specs.Numbers.{number_after}
-use Rattle.ground_chain.specs.Run.{Arrival, Known, Judged, kind_of, verdict_of, change_read, change_after, state_read, state_with, state_after, judge_as, judged_by, judge, run_from, run}
+use Rattle.ground_chain.specs.Run.{Arrival, Known, Judged, answer_kind, verdict_of, change_read, change_after, state_read, state_with, state_after, judge_as, judged_by, judge, run_from, run}
 use Rattle.ground_chain.specs.Sound.{IsFirstPart, IsChangeAfter, IsSpelled, IsStateAfter, IsJudgedBy, AreJudged, without_fault, but_for_faults}
 
 module _ (f : ℕ) (state : State) (t : ℕ) (has : IsState f state) where
@@ -126,7 +126,7 @@ module _ (f : ℕ) (state : State) (t : ℕ) (has : IsState f state) where
 
   -- a sound answer and the exact one differ only in a fault, and the states and first parts after them are the same
   record Alike (bits : List Bool) (next : State) (kept : Option Change) (answer exact : Result Reading BitFault) (after : State) (first : Option Change) : Type 0 where
-    kind : without_fault (kind_of answer) ≡ without_fault (kind_of exact)
+    kind : without_fault (answer_kind answer) ≡ without_fault (answer_kind exact)
     same : next ≡ after
     first_same : kept ≡ first
 
@@ -138,7 +138,7 @@ module _ (f : ℕ) (state : State) (t : ℕ) (has : IsState f state) where
   alike bits next after kept first (Ok reading) exact is right sound a b k e =
       let same : exact ≡ Ok reading = sym is ∙ says_answer f state t has bits reading sound in
       record {
-        kind = ap (λ (x : Result Reading BitFault). without_fault (kind_of x)) (sym same);
+        kind = ap (λ (x : Result Reading BitFault). without_fault (answer_kind x)) (sym same);
         same = one_state bits next after (Ok reading) a (subst (IsStateAfter f state t bits after) same b);
         first_same = one_change bits kept first (Ok reading) k (subst (IsChangeAfter f state t bits first) same e);
       }

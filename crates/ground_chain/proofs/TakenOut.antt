@@ -13,7 +13,7 @@ use Rattle.packet_store.specs.SpacePackets.{period}
 use Rattle.ground_chain.specs.declared.verdict.Kind.{Kind}
 use Rattle.ground_chain.specs.declared.verdict.Kind.TheVariants.{Written, Repeat, Unsynced, Gap, Refused}
 use Rattle.ground_chain.specs.Numbers.{HasCount, number_after}
-use Rattle.ground_chain.specs.Run.{Arrival, Known, Judged, nothing_known, kind_of, state_with, state_read, judge_as, judged_by, judge, run_from, run, known_from, known_after}
+use Rattle.ground_chain.specs.Run.{Arrival, Known, Judged, nothing_known, answer_kind, state_with, state_read, judge_as, judged_by, judge, run_from, run, known_from, known_after}
 use Rattle.ground_chain.specs.Report.{is_written_kind}
 use Rattle.ground_chain.specs.Told.{AreArrivals}
 use Rattle.ground_chain.specs.Refusals.{is_untold, IsWithinPeriod, IsNearNext, CanBeTakenOut}
@@ -30,16 +30,16 @@ not_written (Unsynced mask) is = refl
 not_written (Gap level mask) is = refl
 not_written (Refused fault) is = refl
 
-told_alone : (part : Option KnownVector) (level : ℕ) → is_untold (kind_of (Ok (missed part level true))) ≡ true → ⊥
+told_alone : (part : Option KnownVector) (level : ℕ) → is_untold (answer_kind (Ok (missed part level true))) ≡ true → ⊥
 told_alone None level is = cc
 told_alone (Some known) level is = cc
 
-left_with : (s : State) (t level : ℕ) (o : Outcome) → is_untold (kind_of (Ok (outcome_answer s level o))) ≡ true → state_with s t o ≡ s
+left_with : (s : State) (t level : ℕ) (o : Outcome) → is_untold (answer_kind (Ok (outcome_answer s level o))) ≡ true → state_with s t o ≡ s
 left_with s t level (Spelled mask (Some content)) is = absurd cc
 left_with s t level (Spelled mask None) is = absurd (told_alone s.content level is)
 left_with s t level Opaque is = refl
 
-left_by : (s : State) (t : ℕ) (bits : List Bool) (r : Parsed Found) → is_untold (kind_of (parsed_answer s bits r)) ≡ true → state_read s t r ≡ s
+left_by : (s : State) (t : ℕ) (bits : List Bool) (r : Parsed Found) → is_untold (answer_kind (parsed_answer s bits r)) ≡ true → state_read s t r ≡ s
 left_by s t bits (Read found rest) is = left_with s t found.change.level found.outcome is
 left_by s t bits (WrongBit rest) is = refl
 left_by s t bits TooShort is = refl

@@ -9,7 +9,7 @@ use Rattle.packet_store.specs.SpacePackets.{period}
 use Rattle.packet_decode.specs.declared.decoder.Reading.{Reading}
 use Rattle.packet_decode.specs.declared.decoder.Reading.TheVariants.{Written, Unsynced, Gap}
 use Rattle.ground_chain.specs.Numbers.{number_after, expected}
-use Rattle.ground_chain.specs.Run.{Arrival, Known, Judged, lost_from, kind_of, verdict_of, judged_by, judge, run_from, known_from}
+use Rattle.ground_chain.specs.Run.{Arrival, Known, Judged, lost_from, answer_kind, verdict_of, judged_by, judge, run_from, known_from}
 use Rattle.ground_chain.specs.Report.{is_repeat}
 use Rattle.ground_chain.specs.Told.{AreArrivals, lost_numbers, numbers_of, run_numbers}
 use Rattle.ground_chain.proofs.Distances.{number_after-above}
@@ -49,7 +49,7 @@ ranges a b le =
 
 -- ---- one verdict
 
-never_repeat : (answer : Result Reading BitFault) → is_repeat (kind_of answer) ≡ false
+never_repeat : (answer : Result Reading BitFault) → is_repeat (answer_kind answer) ≡ false
 never_repeat (Ok Written) = refl
 never_repeat (Ok (Unsynced mask)) = refl
 never_repeat (Ok (Gap level mask)) = refl

@@ -2,7 +2,7 @@
 use Rattle.std.proofs.Common.{◌≡◌, Bool, true, false, if◌then◌else◌, [], Option, refl, sym, ap, ◌∙◌}
 use Rattle.bit_vectors.specs.Vectors.{vector_bytes}
 use Rattle.packet_decode.specs.State.{KnownVector, State}
-use Rattle.packet_decode.specs.Decoding.{Decoding, latest_content, vector_of}
+use Rattle.packet_decode.specs.Decoding.{Decoding, latest_content, known_vector}
 use Rattle.ground_chain.specs.declared.verdict.Kind.{Kind}
 use Rattle.ground_chain.specs.declared.verdict.Kind.TheVariants.{Written, Repeat, Unsynced, Gap, Refused}
 use Rattle.ground_chain.specs.Run.{Judged}
@@ -21,7 +21,7 @@ pub content_written : (j : Judged) (decoder : Decoding) → is_written_kind j.ve
 content_written j decoder written shows =
     let packet = shows.written (kind_written j.verdict.kind written) in
     ap (λ (s : State). vector_bytes (latest_content decoder.places s)) shows.state
-    ∙ (ap (λ (k : Option KnownVector). vector_bytes (vector_of decoder.places k)) packet.content
+    ∙ (ap (λ (k : Option KnownVector). vector_bytes (known_vector decoder.places k)) packet.content
     ∙ (ap known_bytes (sym packet.content) ∙ ap (λ (b : Bool). if b then content_bytes j.after.state else []) (sym written)))
 
 pub no_content : (j : Judged) → is_written_kind j.verdict.kind ≡ false → [] ≡ written_bytes j

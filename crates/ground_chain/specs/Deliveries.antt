@@ -53,12 +53,12 @@ before_rows row (next ∷ rows) =
     else row ∷ next ∷ rows
 
 -- a row for each listed packet, in rising order, and neighbouring lost numbers stand as one
-abbrev pub rows_of : History → (ℕ → ℕ) → List ℕ → List ListedRow
-rows_of h copies [] = []
-rows_of h copies (t ∷ numbers) = before_rows (record { first = t; last = t; cause = cause_at h copies t }) (rows_of h copies numbers)
+abbrev pub rows_of_numbers : History → (ℕ → ℕ) → List ℕ → List ListedRow
+rows_of_numbers h copies [] = []
+rows_of_numbers h copies (t ∷ numbers) = before_rows (record { first = t; last = t; cause = cause_at h copies t }) (rows_of_numbers h copies numbers)
 
 abbrev pub listed_rows : History → (ℕ → ℕ) → List ListedRow
-listed_rows h copies = rows_of h copies (listed_numbers h copies)
+listed_rows h copies = rows_of_numbers h copies (listed_numbers h copies)
 
 -- the cause and what belongs to it
 abbrev pub cause_text : Cause → List ℕ

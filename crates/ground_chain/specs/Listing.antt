@@ -57,9 +57,9 @@ packet_vectors None t state content = []
 abbrev pub mask_line : ℕ → Option KnownVector → List ℕ
 mask_line t part = mask_text (known_with t part) ++ codes "\n"
 
-abbrev pub level_of : Option Change → ℕ
-level_of None = 0
-level_of (Some change) = change.level
+abbrev pub change_level : Option Change → ℕ
+change_level None = 0
+change_level (Some change) = change.level
 
 -- what is said after the number of an arrival, up to its vectors; of a written packet with its level
 abbrev pub kind_text : Kind → ℕ → List ℕ
@@ -91,7 +91,7 @@ shown_vectors verdict decoder = kind_vectors verdict.kind (latest_vectors verdic
 
 -- the line of an arrival
 abbrev pub own_line : Judged → List ℕ
-own_line judged = decimal judged.verdict.t ++ (kind_text judged.verdict.kind (level_of judged.change) ++ own_vectors judged)
+own_line judged = decimal judged.verdict.t ++ (kind_text judged.verdict.kind (change_level judged.change) ++ own_vectors judged)
 
 -- the line of the numbers that did not arrive
 abbrev pub lost_line : Option Lost → List ℕ

@@ -3,7 +3,7 @@ use Rattle.std.specs.Prelude.{◌≡◌, ℕ, ◌*◌, ◌^◌, ◌<◌, ◌≤�
 use Rattle.ground_chain.specs.declared.restored.Restored.{Restored}
 use Rattle.ground_chain.specs.Numbers.{expected}
 use Rattle.ground_chain.specs.Run.{Arrival, IsArrival, Judged, run, run_from}
-use Rattle.ground_chain.specs.Report.{IsTally, restored_of, restored_by, added}
+use Rattle.ground_chain.specs.Report.{IsRestored, restored_of, restored_by, added}
 use Rattle.ground_chain.specs.Reception.{Reception, StandsFor, known_of, next_judged, nothing_arrived}
 
 pub record Reckoning : Type 0 where
@@ -37,4 +37,4 @@ pub record Judges (old new : Reckoning) (count : ℕ) (body : List ℕ) : Type 0
 -- the numbers are within their limits, which the arrivals set
 pub record IsWithinLimits (latest : Option ℕ) (restored : Restored) : Type 0 where
   pub near : expected latest ≤ 2 ^ 14 * restored.packets
-  pub tally : IsTally restored
+  pub tally : IsRestored restored

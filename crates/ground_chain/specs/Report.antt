@@ -103,19 +103,19 @@ abbrev pub run_rows : List Judged → List ℕ
 run_rows judged = flat_map (λ j. verdict_rows j.verdict) judged
 
 -- what belongs to the cause of an arrival that is not written
-abbrev pub value_of : Kind → ℕ
-value_of Written = 0
-value_of Repeat = 0
-value_of (Unsynced mask) = 0
-value_of (Gap level mask) = level
-value_of (Refused (Wrong bit)) = bit
-value_of (Refused (EndsEarly bit)) = bit
+abbrev pub kind_value : Kind → ℕ
+kind_value Written = 0
+kind_value Repeat = 0
+kind_value (Unsynced mask) = 0
+kind_value (Gap level mask) = level
+kind_value (Refused (Wrong bit)) = bit
+kind_value (Refused (EndsEarly bit)) = bit
 
 -- the numbers in the rows of a verdict are numbers of 64 bits
 pub record HasRowNumbers (verdict : Verdict) : Type 0 where
   pub lost : IfSome verdict.lost (λ lost. (lost.first < 2 ^ 64) × (lost.last < 2 ^ 64))
   pub number : verdict.t < 2 ^ 64
-  pub value : value_of verdict.kind < 2 ^ 64
+  pub value : kind_value verdict.kind < 2 ^ 64
 
 -- ---- numbers
 
@@ -138,8 +138,8 @@ restored_of judged = record {
 }
 
 -- the numbers are within their limits, which the number of arrivals sets
-abbrev pub IsTally : Restored → Type 0
-IsTally r = (r.written ≤ r.packets) × (r.repeats ≤ r.packets) × (r.listed ≤ 2 ^ 14 * r.packets)
+abbrev pub IsRestored : Restored → Type 0
+IsRestored r = (r.written ≤ r.packets) × (r.repeats ≤ r.packets) × (r.listed ≤ 2 ^ 14 * r.packets)
 
 -- the numbers of one part of a run and of another
 abbrev pub added : Restored → Restored → Restored

@@ -44,15 +44,15 @@ pub record Judged : Type 0 where
 abbrev pub lost_from : ℕ → ℕ → Option Lost
 lost_from first t = if nat_lt first t then Some (record { first = first; last = t - 1 }) else None
 
-abbrev pub kind_of : Result Reading BitFault → Kind
-kind_of (Ok answer.Written) = Written
-kind_of (Ok (answer.Unsynced mask)) = Unsynced mask
-kind_of (Ok (answer.Gap level mask)) = Gap level mask
-kind_of (Err fault) = Refused fault
+abbrev pub answer_kind : Result Reading BitFault → Kind
+answer_kind (Ok answer.Written) = Written
+answer_kind (Ok (answer.Unsynced mask)) = Unsynced mask
+answer_kind (Ok (answer.Gap level mask)) = Gap level mask
+answer_kind (Err fault) = Refused fault
 
 -- the verdict of an arrival that is no repeat: what was lost before it, its number, and the answer to its data
 abbrev pub verdict_of : Option ℕ → ℕ → Result Reading BitFault → Verdict
-verdict_of latest t answer = record { lost = lost_from (expected latest) t; t = t; kind = kind_of answer }
+verdict_of latest t answer = record { lost = lost_from (expected latest) t; t = t; kind = answer_kind answer }
 
 -- a repeat has the latest number, its data are not read, and nothing changes
 abbrev pub repeat_judged : Known → Judged

@@ -12,8 +12,8 @@ abbrev pub arrival : ℕ → List ℕ → Arrival
 arrival count body = record { count = count; body = body }
 
 -- the first packet of 8 places, with the mask 00 and the content B0
-abbrev pub first_packet : List Arrival
-first_packet = arrival 0 (0x85 ∷ 0xB8 ∷ 0xD6 ∷ 0x00 ∷ []) ∷ []
+abbrev pub worked_arrival : List Arrival
+worked_arrival = arrival 0 (0x85 ∷ 0xB8 ∷ 0xD6 ∷ 0x00 ∷ []) ∷ []
 
 -- the packet with the number t, with this content, and with a mask that is known with it, of no place
 abbrev pub unmasked : ℕ → ℕ → State

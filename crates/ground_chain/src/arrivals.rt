@@ -2,7 +2,7 @@
 
 ghost use Rattle.std.specs.Prelude.{◌≡◌, ◌+◌, ◌^◌, ◌<◌, ◌≤◌, ◌↔◌, ◌∷◌, ◌++◌, [], List, true, false, None, IfSome, IfOk};
 ghost use Rattle.ground_chain.specs.Numbers.{expected, number_after};
-ghost use Rattle.ground_chain.specs.Run.{Arrival, IsArrival, kind_of, lost_from};
+ghost use Rattle.ground_chain.specs.Run.{Arrival, IsArrival, answer_kind, lost_from};
 ghost use Rattle.ground_chain.specs.Refusals.{IsExactVerdict};
 ghost use Rattle.ground_chain.specs.Report.{is_told, tells_mask_alone};
 ghost use Rattle.ground_chain.specs.Reception.{AreLost, HasDecoded, HasMasked, AgreesWith, StandsFor, known_of, next_judged, nothing_arrived};
@@ -48,6 +48,15 @@ impl Ground {
         })
     }
 
+    /// Starts anew in the memory that it has: nothing has arrived. The vectors have as many places as before.
+    pub fn reset(&mut self)
+        ensures anew { self.new ≡ nothing_arrived self.old.decoder.places }
+        ensures stands { StandsFor [] self.new }
+    {
+        self.numbers = Unwrap::new();
+        self.decoder.reset();
+    }
+
     /// Takes the next arrival, with this sequence count and these data bytes, at most 65,536. A repeat changes
     /// nothing, and its data are not read. It takes no memory.
     #[inline(always)]
@@ -86,7 +95,7 @@ impl Ground {
             };
         };
         let lost = lost_from(expected, t);
-        let kind = kind_of(self.decoder.read(t, bytes));
+        let kind = answer_kind(self.decoder.read(t, bytes));
         Verdict { lost, t, kind }
     }
 
@@ -115,8 +124,8 @@ fn lost_from(expected: u64, t: u64) -> Option<Lost>
 }
 
 /// What an answer to the data says of the arrival.
-fn kind_of(answer: Result<Reading, BitFault>) -> Kind
-    ensures { result ≡ kind_of answer }
+fn answer_kind(answer: Result<Reading, BitFault>) -> Kind
+    ensures { result ≡ answer_kind answer }
 {
     match answer {
         Ok(Reading::Written) => Kind::Written,

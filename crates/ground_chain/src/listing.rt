@@ -1,6 +1,6 @@
 //! What `show` writes of the arrivals: a line for each, with one before it for lost numbers.
 
-ghost use Rattle.std.specs.Prelude.{◌≡◌, ◌≤◌, ◌++◌, length, IfOk};
+ghost use Rattle.std.specs.Prelude.{◌≡◌, ◌++◌, length, IfOk};
 ghost use Rattle.desk_ports.specs.Meanings.{IsReadyOut};
 ghost use Rattle.desk_ports.specs.Courses.{to_output};
 ghost use Rattle.desk_ports.specs.Writings.{Writes};

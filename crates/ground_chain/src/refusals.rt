@@ -13,7 +13,7 @@ ghost use Rattle.ground_chain.specs.Restoring.{arrivals_of, restore_course, stor
 ghost use Rattle.ground_chain.specs.Run.{Arrival, Judged, Known, judge, known_after, run};
 ghost use Rattle.ground_chain.specs.Sound.{IsExactRun, IsJudged};
 ghost use Rattle.ground_chain.specs.Told.{AreArrivals};
-ghost use Rattle.ground_chain.specs.Worked.{arrival, first_packet, unmasked};
+ghost use Rattle.ground_chain.specs.Worked.{arrival, worked_arrival, unmasked};
 
 /// `Ground::arrive`, `restore` and `show` are those of the exact run, whose answers are exact by the definition over
 /// completions. One arrival has exactly one exact verdict, and that is the next one of the run. Over the packets of a store
@@ -88,17 +88,17 @@ pub fn refused_means_lost()
 pub fn worked_refusals()
     // The report says `1,1,wrong,8`, and the listing `1 wrong 8`. The first 8 bits begin the data `43 A0`, which would be written.
     ensures row { SaysRow
-        (judge 8 (known_after 8 first_packet) (arrival 1 (0x43 ∷ 0x00 ∷ []))) (codes "wrong") 8 }
+        (judge 8 (known_after 8 worked_arrival) (arrival 1 (0x43 ∷ 0x00 ∷ []))) (codes "wrong") 8 }
     ensures line { SaysLine
-        (judge 8 (known_after 8 first_packet) (arrival 1 (0x43 ∷ 0x00 ∷ []))) (codes "wrong") 8 }
-    ensures begins { BeginData 8 first_packet 1 (take 8 (bits_of (0x43 ∷ 0x00 ∷ []))) }
+        (judge 8 (known_after 8 worked_arrival) (arrival 1 (0x43 ∷ 0x00 ∷ []))) (codes "wrong") 8 }
+    ensures begins { BeginData 8 worked_arrival 1 (take 8 (bits_of (0x43 ∷ 0x00 ∷ []))) }
     // It can be taken out with its repeat: packet 2 is still told by its count.
-    ensures taken_out { CanBeTakenOut 8 first_packet (arrival 1 (0x43 ∷ 0x00 ∷ []))
+    ensures taken_out { CanBeTakenOut 8 worked_arrival (arrival 1 (0x43 ∷ 0x00 ∷ []))
         (arrival 1 (0x8A ∷ []) ∷ []) (arrival 2 (0x8A ∷ []) ∷ []) }
     // With it and without it the packets 0 and 2 are written.
-    ensures with_it { run_written (run 8 (first_packet ++ arrival 1 (0x43 ∷ 0x00 ∷ [])
+    ensures with_it { run_written (run 8 (worked_arrival ++ arrival 1 (0x43 ∷ 0x00 ∷ [])
         ∷ arrival 1 (0x8A ∷ []) ∷ arrival 2 (0x8A ∷ []) ∷ []))
         ≡ unmasked 0 0xB0 ∷ unmasked 2 0xB0 ∷ [] }
-    ensures without_it { run_written (run 8 (first_packet ++ arrival 2 (0x8A ∷ []) ∷ []))
+    ensures without_it { run_written (run 8 (worked_arrival ++ arrival 2 (0x8A ∷ []) ∷ []))
         ≡ unmasked 0 0xB0 ∷ unmasked 2 0xB0 ∷ [] }
 {}

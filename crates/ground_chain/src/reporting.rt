@@ -1,6 +1,6 @@
 //! What `restore` writes of the arrivals: the content of each restored packet, and the rows of the report.
 
-ghost use Rattle.std.specs.Prelude.{◌≡◌, ◌≤◌, true, length, IfOk};
+ghost use Rattle.std.specs.Prelude.{◌≡◌, true, length, IfOk};
 ghost use Rattle.bit_vectors.specs.Vectors.{IsPlaces, byte_count, vector_bytes};
 ghost use Rattle.desk_ports.specs.Meanings.{IsReadyOut};
 ghost use Rattle.desk_ports.specs.Courses.{to_output, to_report};

@@ -1,7 +1,7 @@
 //! How many packets were restored.
 
 ghost use Rattle.std.specs.Prelude.{◌≡◌, ◌^◌, ◌<◌, [], IfSome};
-ghost use Rattle.ground_chain.specs.Report.{IsTally, added, restored_by, restored_of};
+ghost use Rattle.ground_chain.specs.Report.{IsRestored, added, restored_by, restored_of};
 ghost use Rattle.ground_chain.specs.Reception.{AreLost};
 
 use crate::verdict::{Kind, Verdict};
@@ -36,10 +36,10 @@ impl Restored {
     /// Counts one more arrival.
     pub(crate) fn count(&mut self, verdict: &Verdict)
         requires few { self.old.packets < 2 ^ 32 }
-        requires tally { IsTally self.old }
+        requires tally { IsRestored self.old }
         requires lost { IfSome verdict.now.lost AreLost }
         ensures counted { self.new ≡ added self.old (restored_by verdict.now) }
-        ensures tally { IsTally self.new }
+        ensures tally { IsRestored self.new }
     {
         self.packets += 1;
         if let Some(lost) = verdict.lost {

@@ -45,6 +45,15 @@ impl Tallied {
         })
     }
 
+    /// Starts anew in the memory that it has: nothing has arrived. The vectors have as many places as before.
+    pub fn reset(&mut self)
+        ensures anew { self.new ≡ nothing_judged self.old.reception.decoder.places }
+        ensures stands { HasJudged self.old.reception.decoder.places [] self.new }
+    {
+        self.arrivals.reset();
+        self.restored = Restored::none();
+    }
+
     /// Judges and counts the next arrival, with this sequence count and these data bytes. It takes no memory.
     #[inline(always)]
     pub fn judge(&mut self, count: u16, bytes: &[u8]) -> Verdict

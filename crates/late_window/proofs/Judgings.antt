@@ -2,7 +2,7 @@
 use Rattle.std.proofs.Common.{◌≡◌, ℕ, ◌+◌, List, ◌++◌, length, map, sym, ap, ◌∙◌}
 use Rattle.std.proofs.lemmas.List.{length-map, map-append}
 use Rattle.std.proofs.lemmas.List.Concat.{flat_map-append}
-use Rattle.desk_ports.specs.Courses.{Outputs, put}
+use Rattle.desk_ports.specs.Courses.{put}
 use Rattle.ground_chain.specs.declared.restored.Restored.{Restored}
 use Rattle.ground_chain.specs.Run.{Judged, known_from, run_from}
 use Rattle.ground_chain.specs.Report.{added, restored_of}
@@ -14,7 +14,7 @@ use Rattle.ground_chain.proofs.Runs.{known_from-append, run_from-append}
 use Rattle.ground_chain.proofs.Counted.{added-assoc, restored_of-append, run_packets}
 use Rattle.late_window.specs.Numbers.{Numbered}
 use Rattle.late_window.specs.Order.{arrival_of}
-use Rattle.late_window.specs.Late.{AreJudged, held_each, held_parts, run_of}
+use Rattle.late_window.specs.Late.{AreJudged, held_parts, held_bytes, run_of}
 
 -- what is written of one part and of another
 pub all_parts-append : (texts : Texts) (xs ys : List Judged) → all_parts texts (xs ++ ys) ≡ put (all_parts texts xs) (all_parts texts ys)
@@ -33,11 +33,11 @@ module _ {a b : Reckoning} {xs : List Numbered} (first : AreJudged a b xs) where
       ∙ (run_from-append a.reception.decoder.places (known_of a.reception) (map arrival_of xs) (map arrival_of ys)
       ∙ λ i. run_of a xs ++ run_from (places i) (known i) (map arrival_of ys))
 
-  pub held_parts-then : (ys : List Numbered) → held_parts a (xs ++ ys) ≡ put (held_parts a xs) (held_parts b ys)
-  held_parts-then ys = ap (all_parts restored_texts) (run_of-then ys) ∙ all_parts-append restored_texts (run_of a xs) (run_of b ys)
+  pub held_bytes-then : (ys : List Numbered) → held_bytes a (xs ++ ys) ≡ put (held_bytes a xs) (held_bytes b ys)
+  held_bytes-then ys = ap (all_parts restored_texts) (run_of-then ys) ∙ all_parts-append restored_texts (run_of a xs) (run_of b ys)
 
-  pub held_each-then : (ys : List Numbered) → held_each a (xs ++ ys) ≡ held_each a xs ++ held_each b ys
-  held_each-then ys = ap (λ (l : List Judged). map restored_texts.parts l) (run_of-then ys) ∙ map-append restored_texts.parts (run_of a xs) (run_of b ys)
+  pub held_parts-then : (ys : List Numbered) → held_parts a (xs ++ ys) ≡ held_parts a xs ++ held_parts b ys
+  held_parts-then ys = ap (λ (l : List Judged). map restored_texts.parts l) (run_of-then ys) ∙ map-append restored_texts.parts (run_of a xs) (run_of b ys)
 
   -- and so do its numbers
   pub added-then : (ys : List Numbered) → added a.restored (restored_of (run_of a (xs ++ ys))) ≡ added b.restored (restored_of (run_of b ys))

@@ -15,31 +15,31 @@ use Rattle.late_window.specs.declared.late.LateArrivals.{LateArrivals}
 use Rattle.late_window.specs.Numbers.{Numbered, highest_with, near_number, numbered_from}
 use Rattle.late_window.specs.Order.{arrival_of}
 use Rattle.late_window.specs.Lines.{Line, given_from, holding, is_below, late_from, line_after, next_line, settled, surplus, without_first}
-use Rattle.late_window.specs.Late.{IsWithinLimits, Sorts, arrival_each, arrival_parts, done_of, each_left, given_at, given_left, held_each, held_left, held_parts, last_each, last_parts, last_rows, row_parts, numbered_at, parts_left, run_left, run_of}
-use Rattle.late_window.proofs.Judgings.{added-then, held_each-then, held_parts-then, packets-judged, run_of-then}
+use Rattle.late_window.specs.Late.{IsWithinLimits, Sorts, arrival_parts, arrival_bytes, done_of, parts_left, given_up_for, given_left, held_parts, held_left, held_bytes, last_parts, last_bytes, last_rows, row_parts, numbered_at, bytes_left, run_left, run_of}
+use Rattle.late_window.proofs.Judgings.{added-then, held_parts-then, held_bytes-then, packets-judged, run_of-then}
 use Rattle.late_window.proofs.Placing.{length-placed}
 
 pub length-run_of : (r : Reckoning) (given : List Numbered) → length (run_of r given) ≡ length given
 length-run_of r given = run_packets r.reception.decoder.places (known_of r.reception) (map arrival_of given) ∙ length-map given arrival_of
 
 module _ {old new : LateArrivals} {a : Arrival} (is : Sorts old new a) (later : List Arrival) where
-  given-next : given_left old (a ∷ later) ≡ given_at old a ++ given_left new later
-  given-next = let line = sym is.line in let numbers = sym is.numbers in λ i. given_at old a ++ given_from (line i) (numbered_from (numbers i) later)
+  given-next : given_left old (a ∷ later) ≡ given_up_for old a ++ given_left new later
+  given-next = let line = sym is.line in let numbers = sym is.numbers in λ i. given_up_for old a ++ given_from (line i) (numbered_from (numbers i) later)
 
   held-next : held_left old (a ∷ later) ≡ held_left new later
   held-next = let line = sym is.line in let numbers = sym is.numbers in λ i. (line_after (line i) (numbered_from (numbers i) later)).held
 
-  order-next : given_left old (a ∷ later) ++ held_left old (a ∷ later) ≡ given_at old a ++ (given_left new later ++ held_left new later)
-  order-next = (λ i. given-next i ++ held-next i) ∙ append_assoc (given_at old a) (given_left new later) (held_left new later)
+  order-next : given_left old (a ∷ later) ++ held_left old (a ∷ later) ≡ given_up_for old a ++ (given_left new later ++ held_left new later)
+  order-next = (λ i. given-next i ++ held-next i) ∙ append_assoc (given_up_for old a) (given_left new later) (held_left new later)
 
-  run-next : run_left old (a ∷ later) ≡ run_of old.judging (given_at old a) ++ run_left new later
+  run-next : run_left old (a ∷ later) ≡ run_of old.judging (given_up_for old a) ++ run_left new later
   run-next = ap (run_of old.judging) order-next ∙ run_of-then is.judged (given_left new later ++ held_left new later)
 
-  pub parts-next : parts_left old (a ∷ later) ≡ put (arrival_parts old a) (parts_left new later)
-  parts-next = ap (held_parts old.judging) given-next ∙ held_parts-then is.judged (given_left new later)
+  pub bytes-next : bytes_left old (a ∷ later) ≡ put (arrival_bytes old a) (bytes_left new later)
+  bytes-next = ap (held_bytes old.judging) given-next ∙ held_bytes-then is.judged (given_left new later)
 
-  pub each-next : each_left old (a ∷ later) ≡ arrival_each old a ++ each_left new later
-  each-next = ap (held_each old.judging) given-next ∙ held_each-then is.judged (given_left new later)
+  pub parts-next : parts_left old (a ∷ later) ≡ arrival_parts old a ++ parts_left new later
+  parts-next = ap (held_parts old.judging) given-next ∙ held_parts-then is.judged (given_left new later)
 
   late-next : old.late + late_from old.sorter.line (numbered_from old.numbers (a ∷ later)) ≡ new.late + late_from new.sorter.line (numbered_from new.numbers later)
   late-next =
@@ -56,16 +56,16 @@ module _ {old new : LateArrivals} {a : Arrival} (is : Sorts old new a) (later : 
 
   rest-next : drop (length (given_left old (a ∷ later))) (run_left old (a ∷ later)) ≡ drop (length (given_left new later)) (run_left new later)
   rest-next =
-      let first = run_of old.judging (given_at old a) in
+      let first = run_of old.judging (given_up_for old a) in
       let size : length (given_left old (a ∷ later)) ≡ length first + length (given_left new later) =
-      ap length given-next ∙ (length-append (given_at old a) (given_left new later) ∙ ap (λ (n : ℕ). n + length (given_left new later)) (sym (length-run_of old.judging (given_at old a)))) in
+      ap length given-next ∙ (length-append (given_up_for old a) (given_left new later) ∙ ap (λ (n : ℕ). n + length (given_left new later)) (sym (length-run_of old.judging (given_up_for old a)))) in
       (λ i. drop (size i) (run-next i)) ∙ drop-append-add first (run_left new later) (length (given_left new later))
 
-  pub last-next : last_parts old (a ∷ later) ≡ last_parts new later
+  pub last-next : last_bytes old (a ∷ later) ≡ last_bytes new later
   last-next = λ i. put (all_parts restored_texts (rest-next i)) (to_report (last_rows (done-next i)))
 
-  pub last_each-next : last_each old (a ∷ later) ≡ last_each new later
-  last_each-next = λ i. map restored_texts.parts (rest-next i) ++ row_parts (done-next i)
+  pub last_parts-next : last_parts old (a ∷ later) ≡ last_parts new later
+  last_parts-next = λ i. map restored_texts.parts (rest-next i) ++ row_parts (done-next i)
 
 -- ---- its numbers stay within their limits
 

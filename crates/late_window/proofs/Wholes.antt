@@ -21,7 +21,7 @@ use Rattle.late_window.specs.declared.run.LateRun.{LateRun}
 use Rattle.late_window.specs.Numbers.{Numbered, numbered}
 use Rattle.late_window.specs.Order.{arrival_of, in_order, late_count, ordered}
 use Rattle.late_window.specs.Rows.{late_row}
-use Rattle.late_window.specs.Late.{done_of, each_left, given_left, held_left, last_each, last_parts, last_rows, nothing_late, parts_left, row_parts, run_left, run_of}
+use Rattle.late_window.specs.Late.{done_of, parts_left, given_left, held_left, last_parts, last_bytes, last_rows, nothing_late, bytes_left, row_parts, run_left, run_of}
 use Rattle.late_window.specs.Restoring.{IsUnread, Owes, judged_before, late_course, late_done, late_parts, late_state, late_work, parts_to_sort, nothing_read, ordered_run, rest_work, store_arrivals}
 use Rattle.late_window.proofs.Lefts.{length-run_of}
 use Rattle.late_window.proofs.Orders.{given-count, late-is-count, order-is}
@@ -48,7 +48,7 @@ module _ (f window : ℕ) (arrivals : List Arrival) where
   before-count = ap (λ (n : ℕ). n - window) (length-run_of (nothing_judged f) (in_order window (numbered arrivals))) ∙ given-count window (numbered arrivals)
 
   -- what is written before the end
-  pub parts-all : all_parts restored_texts (take (judged_before window (run f (ordered window arrivals))) (run f (ordered window arrivals))) ≡ parts_left (nothing_late f window) arrivals
+  pub parts-all : all_parts restored_texts (take (judged_before window (run f (ordered window arrivals))) (run f (ordered window arrivals))) ≡ bytes_left (nothing_late f window) arrivals
   parts-all =
       let s = nothing_late f window in
       ap (all_parts restored_texts) ((λ i. take (before-count i) (run-all i)) ∙ take-run s.judging (given_left s arrivals) (held_left s arrivals))
@@ -63,17 +63,17 @@ module _ (f window : ℕ) (arrivals : List Arrival) where
       λ i. record { restored = restored i; late = late i }
 
   -- and what is written at the end
-  pub last-all : put (all_parts restored_texts (drop (judged_before window (run f (ordered window arrivals))) (run f (ordered window arrivals)))) (to_report (last_rows (done_of (nothing_late f window) arrivals))) ≡ last_parts (nothing_late f window) arrivals
+  pub last-all : put (all_parts restored_texts (drop (judged_before window (run f (ordered window arrivals))) (run f (ordered window arrivals)))) (to_report (last_rows (done_of (nothing_late f window) arrivals))) ≡ last_bytes (nothing_late f window) arrivals
   last-all = λ i. put (all_parts restored_texts (drop (before-count i) (run-all i))) (to_report (last_rows (done_of (nothing_late f window) arrivals)))
 
   -- the same part by part
-  each-all : map restored_texts.parts (take (judged_before window (run f (ordered window arrivals))) (run f (ordered window arrivals))) ≡ each_left (nothing_late f window) arrivals
+  each-all : map restored_texts.parts (take (judged_before window (run f (ordered window arrivals))) (run f (ordered window arrivals))) ≡ parts_left (nothing_late f window) arrivals
   each-all =
       let s = nothing_late f window in
       ap (λ (l : List Judged). map restored_texts.parts l) ((λ i. take (before-count i) (run-all i)) ∙ take-run s.judging (given_left s arrivals) (held_left s arrivals))
 
-  last_each-all : map restored_texts.parts (drop (judged_before window (run f (ordered window arrivals))) (run f (ordered window arrivals))) ++ row_parts done-by ≡ last_each (nothing_late f window) arrivals
-  last_each-all = λ i. map restored_texts.parts (drop (before-count i) (run-all i)) ++ row_parts (done-all i)
+  last_parts-all : map restored_texts.parts (drop (judged_before window (run f (ordered window arrivals))) (run f (ordered window arrivals))) ++ row_parts done-by ≡ last_parts (nothing_late f window) arrivals
+  last_parts-all = λ i. map restored_texts.parts (drop (before-count i) (run-all i)) ++ row_parts (done-all i)
 
 -- ---- a store
 
@@ -100,7 +100,7 @@ parts-none : (f apid window : ℕ) (store : List ℕ) → late_parts f apid wind
 parts-none f apid window store =
     let arrivals = store_arrivals apid store in
     let before = each-all f window arrivals in
-    let after = last_each-all f window arrivals in
+    let after = last_parts-all f window arrivals in
     λ i. to_report header_row ∷ before i ++ if_whole (walk (Some apid) store).ending (after i)
 
 -- and part by part

@@ -34,12 +34,12 @@ abbrev pub run_of : Reckoning → List Numbered → List Judged
 run_of r given = next_run r (map arrival_of given)
 
 -- what is written of it
-abbrev pub held_parts : Reckoning → List Numbered → Outputs
-held_parts r given = all_parts restored_texts (run_of r given)
+abbrev pub held_bytes : Reckoning → List Numbered → Outputs
+held_bytes r given = all_parts restored_texts (run_of r given)
 
 -- the same part by part
-abbrev pub held_each : Reckoning → List Numbered → List Outputs
-held_each r given = map restored_texts.parts (run_of r given)
+abbrev pub held_parts : Reckoning → List Numbered → List Outputs
+held_parts r given = map restored_texts.parts (run_of r given)
 
 -- these arrivals were judged: it keeps what the run knows after them, and counts them
 pub record AreJudged (old new : Reckoning) (given : List Numbered) : Type 0 where
@@ -53,21 +53,21 @@ abbrev pub numbered_at : LateArrivals → Arrival → Numbered
 numbered_at s a = record { number = near_number s.numbers a.count; body = a.body }
 
 -- what is given up when it comes, and what is written of that
-abbrev pub given_at : LateArrivals → Arrival → List Numbered
-given_at s a = gives s.sorter.line (numbered_at s a)
+abbrev pub given_up_for : LateArrivals → Arrival → List Numbered
+given_up_for s a = gives s.sorter.line (numbered_at s a)
 
-abbrev pub arrival_parts : LateArrivals → Arrival → Outputs
-arrival_parts s a = held_parts s.judging (given_at s a)
+abbrev pub arrival_bytes : LateArrivals → Arrival → Outputs
+arrival_bytes s a = held_bytes s.judging (given_up_for s a)
 
-abbrev pub arrival_each : LateArrivals → Arrival → List Outputs
-arrival_each s a = held_each s.judging (given_at s a)
+abbrev pub arrival_parts : LateArrivals → Arrival → List Outputs
+arrival_parts s a = held_parts s.judging (given_up_for s a)
 
 -- it was held, or counted as too late, and what was given up for it was judged
 pub record Sorts (old new : LateArrivals) (a : Arrival) : Type 0 where
   pub numbers : new.numbers ≡ highest_with old.numbers (near_number old.numbers a.count)
   pub near : expected new.numbers ≤ expected old.numbers + period
   pub line : new.sorter.line ≡ next_line old.sorter.line (numbered_at old a)
-  pub judged : AreJudged old.judging new.judging (given_at old a)
+  pub judged : AreJudged old.judging new.judging (given_up_for old a)
   pub late : new.late ≡ old.late + passed_over old.sorter.line (numbered_at old a)
 
 -- ---- all later arrivals
@@ -91,21 +91,21 @@ done_of s arrivals = record {
 }
 
 -- what is written before the end, and at the end: what is held then, and the last two rows
-abbrev pub parts_left : LateArrivals → List Arrival → Outputs
-parts_left s arrivals = held_parts s.judging (given_left s arrivals)
+abbrev pub bytes_left : LateArrivals → List Arrival → Outputs
+bytes_left s arrivals = held_bytes s.judging (given_left s arrivals)
 
 abbrev pub last_rows : LateDone → List ℕ
 last_rows done = end_row done.restored ++ late_row done.late
 
-abbrev pub last_parts : LateArrivals → List Arrival → Outputs
-last_parts s arrivals = put (all_parts restored_texts (drop (length (given_left s arrivals)) (run_left s arrivals))) (to_report (last_rows (done_of s arrivals)))
+abbrev pub last_bytes : LateArrivals → List Arrival → Outputs
+last_bytes s arrivals = put (all_parts restored_texts (drop (length (given_left s arrivals)) (run_left s arrivals))) (to_report (last_rows (done_of s arrivals)))
 
 -- the same part by part: an arrival each time, and then each of the two rows
 abbrev pub row_parts : LateDone → List Outputs
 row_parts done = to_report (end_row done.restored) ∷ to_report (late_row done.late) ∷ []
 
-abbrev pub each_left : LateArrivals → List Arrival → List Outputs
-each_left s arrivals = held_each s.judging (given_left s arrivals)
+abbrev pub parts_left : LateArrivals → List Arrival → List Outputs
+parts_left s arrivals = held_parts s.judging (given_left s arrivals)
 
-abbrev pub last_each : LateArrivals → List Arrival → List Outputs
-last_each s arrivals = map restored_texts.parts (drop (length (given_left s arrivals)) (run_left s arrivals)) ++ row_parts (done_of s arrivals)
+abbrev pub last_parts : LateArrivals → List Arrival → List Outputs
+last_parts s arrivals = map restored_texts.parts (drop (length (given_left s arrivals)) (run_left s arrivals)) ++ row_parts (done_of s arrivals)

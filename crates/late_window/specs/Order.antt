@@ -34,8 +34,8 @@ abbrev pub late_count : ℕ → List Numbered → ℕ
 late_count window arrivals = length arrivals - length (kept window arrivals)
 
 -- no arrival comes later than the window allows: at most so many before it have a greater number
-abbrev pub IsWithin : ℕ → List Numbered → Type 0
-IsWithin window arrivals = (front rest : List Numbered) (a : Numbered) → arrivals ≡ front ++ a ∷ rest → count_above a.number front ≤ window
+abbrev pub AreWithinWindow : ℕ → List Numbered → Type 0
+AreWithinWindow window arrivals = (front rest : List Numbered) (a : Numbered) → arrivals ≡ front ++ a ∷ rest → count_above a.number front ≤ window
 
 -- ---- in order
 

@@ -15,7 +15,7 @@ use Rattle.late_window.specs.declared.done.LateDone.{LateDone}
 use Rattle.late_window.specs.declared.run.LateRun.{LateRun}
 use Rattle.late_window.specs.Numbers.{numbered}
 use Rattle.late_window.specs.Order.{late_count, ordered}
-use Rattle.late_window.specs.Late.{IsWithinLimits, done_of, each_left, last_each, last_parts, last_rows, nothing_late, parts_left, row_parts}
+use Rattle.late_window.specs.Late.{IsWithinLimits, done_of, parts_left, last_parts, last_bytes, last_rows, nothing_late, bytes_left, row_parts}
 
 -- the packets of the APID in a store, as they arrive
 abbrev pub store_arrivals : ℕ → List ℕ → List Arrival
@@ -81,9 +81,9 @@ IsUnread r = r ≡ nothing_read (late_state r).places (late_state r).apid (late_
 -- what is owed for packets that are read next
 abbrev pub left_to_sort : LateRun → WalkWork Packet LateDone
 left_to_sort r = record {
-  before = λ packets. parts_left r.arrivals (arrivals_of r.reader.chosen packets);
+  before = λ packets. bytes_left r.arrivals (arrivals_of r.reader.chosen packets);
   answer = λ packets. done_of r.arrivals (arrivals_of r.reader.chosen packets);
-  after = λ packets. last_parts r.arrivals (arrivals_of r.reader.chosen packets);
+  after = λ packets. last_bytes r.arrivals (arrivals_of r.reader.chosen packets);
 }
 
 abbrev pub rest_work : LateRun → Work LateDone WalkFault
@@ -92,8 +92,8 @@ rest_work r = work_on (left_to_sort r) (walk_over r.reader)
 -- the same part by part
 abbrev pub parts_to_sort : LateRun → WalkParts Packet
 parts_to_sort r = record {
-  before = λ packets. each_left r.arrivals (arrivals_of r.reader.chosen packets);
-  after = λ packets. last_each r.arrivals (arrivals_of r.reader.chosen packets);
+  before = λ packets. parts_left r.arrivals (arrivals_of r.reader.chosen packets);
+  after = λ packets. last_parts r.arrivals (arrivals_of r.reader.chosen packets);
 }
 
 -- these parts are owed: those of the rest of the store

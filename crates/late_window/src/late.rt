@@ -4,7 +4,7 @@ ghost use Rattle.std.specs.Prelude.{◌≡◌, ◌+◌, ◌-◌, ◌^◌, ◌<�
 ghost use Rattle.desk_ports.specs.Turns.{AreReady};
 ghost use Rattle.desk_ports.specs.Writings.{WritesWithin};
 ghost use Rattle.ground_chain.specs.Run.{IsArrival};
-ghost use Rattle.late_window.specs.Late.{AreJudged, IsWithinLimits, Sorts, arrival_each, arrival_parts, held_each, held_parts, last_each, last_parts, done_of, nothing_late};
+ghost use Rattle.late_window.specs.Late.{AreJudged, IsWithinLimits, Sorts, arrival_parts, arrival_bytes, held_parts, held_bytes, last_parts, last_bytes, done_of, nothing_late};
 ghost use Rattle.late_window.specs.Lines.{given_up};
 ghost use Rattle.bit_vectors.specs.Vectors.{IsPlaces};
 
@@ -56,8 +56,8 @@ impl LateArrivals {
         requires ready { AreReady (λ _. true) (D.meaning desk.old) }
         ensures sorts { Sorts self.old self.new (record { count = count; body = bytes.now }) }
         ensures written { WritesWithin Outlet.Report D.meaning D.counts desk.old desk.new
-            (arrival_parts self.old (record { count = count; body = bytes.now }))
-            (arrival_each self.old (record { count = count; body = bytes.now })) result }
+            (arrival_bytes self.old (record { count = count; body = bytes.now }))
+            (arrival_parts self.old (record { count = count; body = bytes.now })) result }
     {
         let t = self.numbers.next(count);
         if !self.sorter.push(t, bytes) {
@@ -80,8 +80,8 @@ impl LateArrivals {
             (take 1 self.old.sorter.line.held) }
         ensures others { self.new ≡ record self.old { sorter = self.new.sorter; judging = self.new.judging } }
         ensures written { WritesWithin Outlet.Report D.meaning D.counts desk.old desk.new
-            (held_parts self.old.judging (take 1 self.old.sorter.line.held))
-            (held_each self.old.judging (take 1 self.old.sorter.line.held)) result }
+            (held_bytes self.old.judging (take 1 self.old.sorter.line.held))
+            (held_parts self.old.judging (take 1 self.old.sorter.line.held)) result }
     {
         self.sorter.release();
         let count = (self.sorter.out_number() % PERIOD) as u16;
@@ -96,8 +96,8 @@ impl LateArrivals {
             self.old.sorter.line.held) }
         ensures late { self.new.late ≡ self.old.late }
         ensures written { WritesWithin Outlet.Report D.meaning D.counts desk.old desk.new
-            (held_parts self.old.judging self.old.sorter.line.held)
-            (held_each self.old.judging self.old.sorter.line.held) result }
+            (held_bytes self.old.judging self.old.sorter.line.held)
+            (held_parts self.old.judging self.old.sorter.line.held) result }
     {
         while self.sorter.held() > 0 {
             self.judge_least(desk)?;
@@ -111,7 +111,7 @@ impl LateArrivals {
         requires ready { AreReady (λ _. true) (D.meaning desk.old) }
         ensures done { IfOk result (λ done. done ≡ done_of self.old []) }
         ensures written { WritesWithin Outlet.Report D.meaning D.counts desk.old desk.new
-            (last_parts self.old []) (last_each self.old []) result }
+            (last_bytes self.old []) (last_parts self.old []) result }
     {
         self.judge_held(desk)?;
         self.judging.end(desk)?;

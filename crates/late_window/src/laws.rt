@@ -12,7 +12,7 @@ ghost use Rattle.ground_chain.specs.Worked.{four_packets, lost_between};
 ghost use Rattle.late_window.specs.Deliveries.{IsLateDelivery};
 ghost use Rattle.ground_chain.specs.Report.{header_row, run_bytes, run_report};
 ghost use Rattle.late_window.specs.Numbers.{IsNear, Numbered, near_number, numbered};
-ghost use Rattle.late_window.specs.Order.{IsSorting, IsWithin, arrival_of, in_order, kept, late_count, ordered, sorted};
+ghost use Rattle.late_window.specs.Order.{IsSorting, AreWithinWindow, arrival_of, in_order, kept, late_count, ordered, sorted};
 ghost use Rattle.late_window.specs.Lines.{empty_line, given_from, late_from, line_after};
 ghost use Rattle.late_window.specs.Restoring.{late_course, late_done, late_parts, ordered_run, store_arrivals};
 ghost use Rattle.desk_ports.specs.Parts.{put_all};
@@ -50,11 +50,11 @@ pub fn sorters_put_in_order()
 
 /// If no arrival comes later than the window allows, then none is too late, and all are judged in order.
 pub fn within_the_window_all_are_kept()
-    ensures kept { (window : ℕ) (arrivals : List Numbered) → IsWithin window arrivals
+    ensures kept { (window : ℕ) (arrivals : List Numbered) → AreWithinWindow window arrivals
         → kept window arrivals ≡ arrivals }
-    ensures none { (window : ℕ) (arrivals : List Numbered) → IsWithin window arrivals
+    ensures none { (window : ℕ) (arrivals : List Numbered) → AreWithinWindow window arrivals
         → late_count window arrivals ≡ 0 }
-    ensures ordered { (window : ℕ) (arrivals : List Arrival) → IsWithin window (numbered arrivals)
+    ensures ordered { (window : ℕ) (arrivals : List Arrival) → AreWithinWindow window (numbered arrivals)
         → ordered window arrivals ≡ map arrival_of (sorted (numbered arrivals)) }
 {}
 

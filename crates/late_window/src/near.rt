@@ -1,7 +1,7 @@
 //! The numbers of arrivals that may come late, from their sequence counts.
 
 ghost use Rattle.std.specs.Prelude.{◌≡◌, ◌+◌, ◌<◌, ◌≤◌, ◌^◌, None, IfSome};
-ghost use Rattle.ground_chain.specs.Numbers.{distance, expected};
+ghost use Rattle.ground_chain.specs.Numbers.{expected};
 ghost use Rattle.late_window.specs.Numbers.{highest_with, near_number, number_around};
 
 use packet_store::PERIOD;

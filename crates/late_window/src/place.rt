@@ -9,7 +9,7 @@ use std::alloc::Global;
 use std::marker::Model;
 
 /// The most data bytes that a packet has.
-pub const MOST_BYTES: usize = 65_536;
+pub const MOST_DATA_BYTES: usize = 65_536;
 
 /// A place for one arrival: its number and its data bytes. Its room has memory for any packet, and is as long as the longest
 /// packet so far, so that no zeros are written for bytes that never come.
@@ -41,7 +41,7 @@ impl Place {
         Ok(Place {
             number: 0,
             size: 0,
-            room: Vec::with_capacity(alloc, MOST_BYTES)?,
+            room: Vec::with_capacity(alloc, MOST_DATA_BYTES)?,
         })
     }
 

@@ -11,7 +11,7 @@ use Rattle.packet_store.specs.declared.reader.Taken.{Taken}
 use Rattle.packet_store.specs.declared.fault.WalkFault.{WalkFault}
 use Rattle.packet_store.specs.SpacePackets.{Packet, packet_bytes, is_chosen}
 use Rattle.packet_store.specs.Walks.{walk, packets_bytes}
-use Rattle.packet_store.specs.StoreReader.{ReaderState, Takes, walk_over}
+use Rattle.packet_store.specs.StoreReader.{ReaderState, TakesPacket, walk_over}
 use Rattle.packet_store.proofs.StoreTurns.{packet_of}
 use Rattle.loss_player.specs.declared.played.Played.{Played}
 use Rattle.loss_player.specs.declared.played.Tally.{Tally}
@@ -40,7 +40,7 @@ times_at s own = times_of own (copies_of s.script) s.tally.played.packets
 abbrev rest_packets : Playing → List Packet → List Packet
 rest_packets s packets = played_from s.reader.chosen (copies_of s.script) s.tally.played.packets packets
 
-module _ (s t : Playing) (reader : ReaderState) (a b : Meanings) (given : Taken) (takes : Takes s.reader reader a b given) (is : HasCounted (record s { reader = reader }) t given.chosen) (packets : List Packet) where
+module _ (s t : Playing) (reader : ReaderState) (a b : Meanings) (given : Taken) (takes : TakesPacket s.reader reader a b given) (is : HasCounted (record s { reader = reader }) t given.chosen) (packets : List Packet) where
   same_chosen : s.reader.chosen ≡ t.reader.chosen
   same_chosen = sym (ap (λ (r : ReaderState). r.chosen) is.reader_is ∙ ap (λ (r : ReaderState). r.chosen) takes.others)
 
@@ -67,7 +67,7 @@ module _ (s t : Playing) (reader : ReaderState) (a b : Meanings) (given : Taken)
   taken_numbers = let rows = sym is.script_is in let count = taken_count in λ i. played_of (copies_of (rows i)) (count i)
 
 -- a packet that is played: its copies are owed, and after them what the packets after it owe
-pub GoesOn-played : (s t : Playing) (reader : ReaderState) (a b : Meanings) (given : Taken) (takes : Takes s.reader reader a b given) → HasCounted (record s { reader = reader }) t given.chosen
+pub GoesOn-played : (s t : Playing) (reader : ReaderState) (a b : Meanings) (given : Taken) (takes : TakesPacket s.reader reader a b given) → HasCounted (record s { reader = reader }) t given.chosen
     → GoesOn (left_to_play s) (left_to_play t) (packet_of takes.header reader) (to_output (next_copies s given.chosen reader.packet))
 GoesOn-played s t reader a b given takes is = record {
   before = λ packets. ap to_output (taken_bytes s t reader a b given takes is packets);
@@ -80,7 +80,7 @@ place_after-most true t = omega arith
 place_after-most false t = omega arith
 
 -- after it the rest of the store is still to be played
-pub Owes-played : (s t : Playing) (reader : ReaderState) (a b : Meanings) (given : Taken) (work : Work Played WalkFault) → Owes s work → Takes s.reader reader a b given → HasCounted (record s { reader = reader }) t given.chosen → IsCounted t → Owes t (work_on (left_to_play t) (walk_over reader))
+pub Owes-played : (s t : Playing) (reader : ReaderState) (a b : Meanings) (given : Taken) (work : Work Played WalkFault) → Owes s work → TakesPacket s.reader reader a b given → HasCounted (record s { reader = reader }) t given.chosen → IsCounted t → Owes t (work_on (left_to_play t) (walk_over reader))
 Owes-played s t reader a b given work owes takes is counted =
     let reader_is = is.reader_is ∙ takes.others in
     record {

@@ -7,11 +7,11 @@ use Rattle.std.proofs.lemmas.List.Folds.{Any-from_list_any, list_any_at}
 use Rattle.bit_vectors.specs.Vectors.{IsOne}
 use Rattle.bit_vectors.proofs.Places.{get_or-zip2}
 use Rattle.mask_update.specs.Histories.{History, latest_step}
-use Rattle.mask_update.specs.Masks.{Moved, MovedBetween, NoNewMask, build_at, change_at, has_moved, has_moved_between, input_bit, latest_new_mask, mask_at, second_latest_new_mask, steps_between, vector_of}
+use Rattle.mask_update.specs.Masks.{Moved, MovedBetween, NoNewMask, build_at, change_at, has_moved, has_moved_between, input_bit, latest_new_mask, mask_at, second_latest_new_mask, steps_between, vector_by}
 use Rattle.mask_update.proofs.NewMasks.{NoNewMask-from, latest_new_mask-none}
 use Rattle.mask_update.proofs.StepByStep.{length-mask_at}
 
-pub place_of : (f : ℕ) (p : ℕ → Bool) (k : ℕ) → k < f → get_or (vector_of f p) k false ≡ p k
+pub place_of : (f : ℕ) (p : ℕ → Bool) (k : ℕ) → k < f → get_or (vector_by f p) k false ≡ p k
 place_of f p k lt = get_or-map-range_with_len p 0 f k k false lt (omega arith)
 
 differ_true : (a b : Bool) → (if a then not b else b) ≡ true → b ≢ a

@@ -8,19 +8,19 @@ use Rattle.std.proofs.lemmas.Simd.{zip2-map, length-zip2}
 use Rattle.bit_vectors.specs.Vectors.{xor_bits}
 use Rattle.bit_vectors.proofs.Places.{get_or-zip2}
 use Rattle.mask_update.specs.Histories.{History, input_at}
-use Rattle.mask_update.specs.Masks.{build_at, change_at, mask_at, has_moved, has_moved_between, latest_new_mask, new_mask_at, next_build, next_mask, second_latest_new_mask, vector_of}
+use Rattle.mask_update.specs.Masks.{build_at, change_at, mask_at, has_moved, has_moved_between, latest_new_mask, new_mask_at, next_build, next_mask, second_latest_new_mask, vector_by}
 use Rattle.mask_update.proofs.NewMasks.{has_moved_between-none, has_moved_between-suc, latest_new_mask-le, latest_new_mask-suc, latest_new_mask-zero, second_latest_new_mask-at_new, second_latest_new_mask-at_other, second_latest_new_mask-le}
 
 map_same : (p q : ℕ → Bool) → ((k : ℕ) → p k ≡ q k) → (ks : List ℕ) → map p ks ≡ map q ks
 map_same p q same [] = refl
 map_same p q same (k ∷ ks) = ap (λ b. b ∷ map p ks) (same k) ∙ ap (λ bs. q k ∷ bs) (map_same p q same ks)
 
-pub vector_of_same : (f : ℕ) (p q : ℕ → Bool) → ((k : ℕ) → p k ≡ q k) → vector_of f p ≡ vector_of f q
+pub vector_of_same : (f : ℕ) (p q : ℕ → Bool) → ((k : ℕ) → p k ≡ q k) → vector_by f p ≡ vector_by f q
 vector_of_same f p q same = map_same p q same (range_with_len 0 f)
 
-vector_of-false : (a f : ℕ) → map (λ k. false) (range_with_len a f) ≡ replicate f false
-vector_of-false a zero = refl
-vector_of-false a (suc f) = ap (λ bs. false ∷ bs) (vector_of-false (a + 1) f)
+vector_by-false : (a f : ℕ) → map (λ k. false) (range_with_len a f) ≡ replicate f false
+vector_by-false a zero = refl
+vector_by-false a (suc f) = ap (λ bs. false ∷ bs) (vector_by-false (a + 1) f)
 
 pub length-mask_at : (h : History) (t : ℕ) → length (mask_at h t) ≡ h.places
 unfolding mask_at
@@ -37,7 +37,7 @@ length-change_at h (suc t) = length-zip2 _ (mask_at h t) (mask_at h (suc t)) (le
 
 -- the places that moved at a step
 abbrev pub moved_at : History → ℕ → List Bool
-moved_at h t = vector_of h.places (has_moved h t)
+moved_at h t = vector_by h.places (has_moved h t)
 
 pub moved_is : (h : History) (t : ℕ) → length (input_at h t) ≡ h.places → length (input_at h (suc t)) ≡ h.places → xor_bits (input_at h t) (input_at h (suc t)) ≡ moved_at h (suc t)
 moved_is h t len next_len =
@@ -47,17 +47,17 @@ moved_is h t len next_len =
 
 pub build_at-zero : (h : History) → build_at h 0 ≡ replicate h.places false
 unfolding build_at
-build_at-zero h = ap (λ s. vector_of h.places (has_moved_between h s 0)) (latest_new_mask-zero h) ∙ vector_of-false 0 h.places
+build_at-zero h = ap (λ s. vector_by h.places (has_moved_between h s 0)) (latest_new_mask-zero h) ∙ vector_by-false 0 h.places
 
 pub build_at-suc : (h : History) (t : ℕ) → build_at h (suc t) ≡ next_build (new_mask_at h (suc t)) (moved_at h (suc t)) (build_at h t)
 unfolding build_at
 build_at-suc h t =
-    ap (λ s. vector_of h.places (has_moved_between h s (suc t))) (latest_new_mask-suc h t) ∙ build_in (new_mask_at h (suc t))
+    ap (λ s. vector_by h.places (has_moved_between h s (suc t))) (latest_new_mask-suc h t) ∙ build_in (new_mask_at h (suc t))
   where
-    build_in : (b : Bool) → vector_of h.places (has_moved_between h (cond b (suc t) (latest_new_mask h t)) (suc t)) ≡ next_build b (moved_at h (suc t)) (build_at h t)
+    build_in : (b : Bool) → vector_by h.places (has_moved_between h (cond b (suc t) (latest_new_mask h t)) (suc t)) ≡ next_build b (moved_at h (suc t)) (build_at h t)
     build_in true =
         vector_of_same h.places _ (λ k. false) (λ k. has_moved_between-none h (suc t) k)
-        ∙ vector_of-false 0 h.places ∙ ap (λ n. replicate n false) (sym (length-build_at h t))
+        ∙ vector_by-false 0 h.places ∙ ap (λ n. replicate n false) (sym (length-build_at h t))
     build_in false =
         vector_of_same h.places _ _ (λ k. has_moved_between-suc h (latest_new_mask h t) t k (latest_new_mask-le h t))
         ∙ sym (zip2-map (λ a b. a || b) (has_moved_between h (latest_new_mask h t) t) (has_moved h (suc t)) (range_with_len 0 h.places))
@@ -95,7 +95,7 @@ mask_bit-other h latest t place =
     ∙ last_to_end (has_moved_between h (second_latest_new_mask h t) t place) (has_moved h (suc t) place) known
 
 mask_of : History → ℕ → ℕ → ℕ → List Bool
-mask_of h from latest t = vector_of h.places (mask_bit h from latest t)
+mask_of h from latest t = vector_by h.places (mask_bit h from latest t)
 
 pub mask_at-suc : (h : History) (t : ℕ) → mask_at h (suc t) ≡ next_mask (new_mask_at h (suc t)) (moved_at h (suc t)) (build_at h t) (mask_at h t)
 unfolding build_at mask_at mask_bit mask_of

@@ -47,19 +47,19 @@ abbrev pub has_moved_between : History → ℕ → ℕ → ℕ → Bool
 has_moved_between h from to place = list_any (λ step. has_moved h step place) (steps_between from to)
 
 -- a vector, place by place
-abbrev pub vector_of : ℕ → (ℕ → Bool) → List Bool
-vector_of f bit = map bit (range_with_len 0 f)
+abbrev pub vector_by : ℕ → (ℕ → Bool) → List Bool
+vector_by f bit = map bit (range_with_len 0 f)
 
 -- The mask: 1 if the place moved since the second latest new mask, and, as long as there was no new mask,
 -- also if the first mask is 1.
 unfoldable pub mask_at : History → ℕ → List Bool
 mask_at h t =
-    vector_of h.places (λ place. has_moved_between h (second_latest_new_mask h t) t place
+    vector_by h.places (λ place. has_moved_between h (second_latest_new_mask h t) t place
     || ((latest_new_mask h t == 0) && slice_index_or h.first_mask place false))
 
 -- The build vector: 1 if the place moved since the latest new mask.
 unfoldable pub build_at : History → ℕ → List Bool
-build_at h t = vector_of h.places (has_moved_between h (latest_new_mask h t) t)
+build_at h t = vector_by h.places (has_moved_between h (latest_new_mask h t) t)
 
 -- The change of the mask at the step: 1 if the mask differs from that of the step before.
 unfoldable pub change_at : History → ℕ → List Bool

@@ -1,10 +1,10 @@
 //! The running vectors.
 
-ghost use Rattle.std.specs.Prelude.{◌≡◌, ◌+◌, ◌-◌, ◌*◌, ◌/◌, ◌%◌, ◌<◌, ◌≤◌, ◌==◌, ◌&&◌, ◌↔◌, nat_le, nat_lt, true, false, length, replicate, slice_index_or, Contains, IsTrue, IfOk};
+ghost use Rattle.std.specs.Prelude.{◌≡◌, ◌+◌, ◌-◌, ◌*◌, ◌/◌, ◌%◌, ◌<◌, ◌≤◌, ◌==◌, ◌&&◌, ◌↔◌, true, false, length, replicate, Contains, IsTrue, IfOk};
 ghost use Rattle.std.specs.Bool.{OnFalse, OnTrue};
 ghost use Rattle.std.specs.Int.{bit_at};
 ghost use Rattle.mask_update.specs.Histories.{History, Step, latest_step, no_steps, with_step};
-ghost use Rattle.bit_vectors.specs.Vectors.{IsVector, NoneIsOne, or_bits, xor_bits};
+ghost use Rattle.bit_vectors.specs.Vectors.{IsVector, NoneIsOne, xor_bits};
 ghost use Rattle.bit_vectors.specs.Words.{word_count, HasNoSpareBit};
 ghost use Rattle.mask_update.specs.Masks.{Advances, ComesAgain, HaveMoved, StandsFor, Walked, build_at, change_at, mask_at};
 
@@ -65,6 +65,22 @@ impl Masks {
             again: false,
             taken: 0,
         })
+    }
+
+    /// Starts anew in the memory that it has, with this mask, which has as many places as the one before, and no input taken.
+    pub fn reset(&mut self, mask: &Bits)
+        requires places { length mask.now ≡ length self.old.mask }
+        ensures stands { StandsFor (no_steps mask.now) self.new }
+        ensures mask { self.new.mask ≡ mask.now }
+        ensures build { self.new.build ≡ replicate (length mask.now) false }
+        ensures change { self.new.change ≡ replicate (length mask.now) false }
+        ensures taken { self.new.taken ≡ 0 }
+    {
+        self.build.clear();
+        self.mask.copy_from(mask);
+        self.clear_change();
+        self.again = false;
+        self.taken = 0;
     }
 
     /// Takes the next input, which has as many places as the mask. With `new_mask` the mask becomes the build

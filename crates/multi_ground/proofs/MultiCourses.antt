@@ -12,7 +12,7 @@ use Rattle.packet_store.specs.declared.reader.Taken.{Taken}
 use Rattle.packet_store.specs.declared.fault.WalkFault.{WalkFault}
 use Rattle.packet_store.specs.SpacePackets.{Packet}
 use Rattle.packet_store.specs.Walks.{IsGood}
-use Rattle.packet_store.specs.StoreReader.{ReaderState, Takes, walk_over}
+use Rattle.packet_store.specs.StoreReader.{ReaderState, TakesPacket, walk_over}
 use Rattle.packet_store.proofs.StoreTurns.{packet_of}
 use Rattle.side_tables.specs.declared.rows.StreamRow.{StreamRow}
 use Rattle.multi_ground.specs.declared.receiving.MultiReceiving.{MultiReceiving}
@@ -62,11 +62,11 @@ pub received-read : (s : MultiReceiving) (reader : ReaderState) (packets : List 
 received-read s reader packets has = record { streams = has.streams; reckoned = has.reckoned; written = has.written; shapes = has.shapes; room = has.room; taken = has.taken }
 
 -- the packet that was read
-pub HasRead-taken : (s : MultiReceiving) (reader : ReaderState) (a b : Meanings) (given : Taken) (takes : Takes s.reader reader a b given) → s.reader.chosen ≡ None → HasRead (record s { reader = reader }) (packet_of takes.header reader)
+pub HasRead-taken : (s : MultiReceiving) (reader : ReaderState) (a b : Meanings) (given : Taken) (takes : TakesPacket s.reader reader a b given) → s.reader.chosen ≡ None → HasRead (record s { reader = reader }) (packet_of takes.header reader)
 HasRead-taken s reader a b given takes none = record { good = subst (λ (chosen : Option ℕ). IsGood chosen (packet_of takes.header reader)) none takes.good; packet = takes.packet; body = refl }
 
 -- after a packet the rest of the store is still owed
-pub Owes-next : (s t : MultiReceiving) (reader : ReaderState) (a b : Meanings) (given : Taken) (work : Work ℕ WalkFault) (owes : Owes s work) (takes : Takes s.reader reader a b given) → t.reader ≡ reader → t.streams ≡ s.streams
+pub Owes-next : (s t : MultiReceiving) (reader : ReaderState) (a b : Meanings) (given : Taken) (work : Work ℕ WalkFault) (owes : Owes s work) (takes : TakesPacket s.reader reader a b given) → t.reader ≡ reader → t.streams ≡ s.streams
     → HasReceived t (owes.packets ++ packet_of takes.header reader ∷ []) → Owes t (work_on (left_after s.streams (owes.packets ++ packet_of takes.header reader ∷ [])) (walk_over reader))
 Owes-next s t reader a b given work owes takes same streams has =
     let p = packet_of takes.header reader in
@@ -79,7 +79,7 @@ Owes-next s t reader a b given work owes takes same streams has =
       work_is = λ i. work_on (left_after (sym streams i) (owes.packets ++ p ∷ [])) (walk_over (sym same i));
     }
 
-pub OwesParts-next : (s t : MultiReceiving) (reader : ReaderState) (a b : Meanings) (given : Taken) (parts_of : List ℕ → List Outputs) (owes : OwesParts s parts_of) (takes : Takes s.reader reader a b given) → t.reader ≡ reader → t.streams ≡ s.streams
+pub OwesParts-next : (s t : MultiReceiving) (reader : ReaderState) (a b : Meanings) (given : Taken) (parts_of : List ℕ → List Outputs) (owes : OwesParts s parts_of) (takes : TakesPacket s.reader reader a b given) → t.reader ≡ reader → t.streams ≡ s.streams
     → HasReceived t (owes.packets ++ packet_of takes.header reader ∷ []) → OwesParts t (parts_on (parts_left s.streams (owes.packets ++ packet_of takes.header reader ∷ [])) (walk_over reader))
 OwesParts-next s t reader a b given parts_of owes takes same streams has =
     let p = packet_of takes.header reader in

@@ -17,7 +17,7 @@ use Rattle.ground_chain.specs.declared.verdict.Kind.{Kind}
 use Rattle.ground_chain.specs.declared.verdict.Kind.TheVariants.{Written, Repeat, Unsynced, Gap, Refused}
 use Rattle.ground_chain.specs.declared.restored.Restored.{Restored}
 use Rattle.ground_chain.specs.Run.{Judged, nothing_known, run}
-use Rattle.ground_chain.specs.Report.{end_row, header_row, is_repeat, is_written_kind, lost_row, number_row, own_row, restored_of, run_rows, value_of, verdict_rows}
+use Rattle.ground_chain.specs.Report.{end_row, header_row, is_repeat, is_written_kind, lost_row, number_row, own_row, restored_of, run_rows, kind_value, verdict_rows}
 use Rattle.ground_chain.proofs.Counted.{run_packets}
 use Rattle.multi_ground.specs.MultiRun.{StreamJudged, multi_run, shape_count, stream_arrivals}
 use Rattle.multi_ground.specs.MultiOutputs.{end_rows, multi_header, shape_row, tagged, tagged_rows}
@@ -84,7 +84,7 @@ module _ (apid : ℕ) (small : apid < 2 ^ 64) where
   piece-lost other None rest few numbers = none_either (other == apid) (rows_on apid rest)
   piece-lost other (Some lost) rest few numbers = piece other (lost_row (Some lost)) rest few (line-lost lost numbers.0 numbers.1) (other == apid) refl
 
-  piece-own : (other t : ℕ) (kind : Kind) (rest : List ℕ) → other < 2 ^ 64 → t < 2 ^ 64 → value_of kind < 2 ^ 64 → rows_on apid (tagged other (own_row t kind) ++ rest) ≡ cond (other == apid) (own_row t kind) [] ++ rows_on apid rest
+  piece-own : (other t : ℕ) (kind : Kind) (rest : List ℕ) → other < 2 ^ 64 → t < 2 ^ 64 → kind_value kind < 2 ^ 64 → rows_on apid (tagged other (own_row t kind) ++ rest) ≡ cond (other == apid) (own_row t kind) [] ++ rows_on apid rest
   piece-own other t Written rest few number value = none_either (other == apid) (rows_on apid rest)
   piece-own other t Repeat rest few number value = none_either (other == apid) (rows_on apid rest)
   piece-own other t (Unsynced mask) rest few number value = piece other (number_row t (codes "unsynced") 0) rest few (line-number t (codes "unsynced") 0 number (omega arith) refl) (other == apid) refl

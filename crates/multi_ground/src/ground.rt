@@ -9,7 +9,6 @@ ghost use Rattle.multi_ground.specs.Grounds.{reckoning_at};
 
 use bit_vectors::NoMemory;
 use ground_chain::{Tallied, Verdict};
-use packet_decode::Decoder;
 use side_tables::Streams;
 use std::alloc::Global;
 use std::marker::Model;

@@ -1,2 +1,3 @@
 pub mod Received
 pub mod Delivered
+pub mod Refused

@@ -22,7 +22,7 @@ use Rattle.ground_chain.specs.Numbers.{number_after}
 use Rattle.ground_chain.specs.Reception.{next_judged}
 use Rattle.ground_chain.specs.Reckoning.{Reckoning}
 use Rattle.ground_chain.specs.Report.{content_bytes, is_written_kind, written_bytes}
-use Rattle.ground_chain.specs.Run.{Judged, judge_as, judged_by, kind_of, state_after, state_read}
+use Rattle.ground_chain.specs.Run.{Judged, judge_as, judged_by, answer_kind, state_after, state_read}
 
 told_either : (whole masked near : Bool) → (whole || masked && near) ≡ true → (masked || whole) ≡ true
 told_either true true near is = refl
@@ -46,10 +46,10 @@ module _ (h : History) (t : ℕ) (valid : IsValid h) (lt : t < length h.steps) w
   within (Some s) before = omega (arith, before, lt)
 
   module _ (mask content : Option ℕ) (masks : IfSome mask (λ s. s < t)) (contents : IfSome content (λ s. s < t)) (told : is_content_told h mask content t ≡ true) where
-    kind-data : kind_of (answer_of h.places (true_state h mask content) t (bits_of (data_at h t))) ≡ Written
+    kind-data : answer_kind (answer_of h.places (true_state h mask content) t (bits_of (data_at h t))) ≡ Written
     kind-data =
-        ap (λ bits. kind_of (answer_of h.places (true_state h mask content) t bits)) (bits_of-vector_bytes (form_bits (form_at h t)))
-        ∙ ap kind_of (answer-written h t valid lt mask content masks contents told)
+        ap (λ bits. answer_kind (answer_of h.places (true_state h mask content) t bits)) (bits_of-vector_bytes (form_bits (form_at h t)))
+        ∙ ap answer_kind (answer-written h t valid lt mask content masks contents told)
 
     some : (is_mask_told h mask t || (flags_at h t).r) ≡ true
     some = told_either (flags_at h t).r (is_mask_told h mask t) (reaches content t (level_at h t)) told

@@ -3,7 +3,7 @@
 use bit_vectors::NoMemory;
 use thiserror::Error;
 
-/// Why a sender or a receiver was not opened.
+/// Why a sender or a receiver was not opened, or why a sender did not start anew.
 #[derive(Clone, Copy, Debug, PartialEq, Eq, Error)]
 pub enum OpenFault {
     /// The number of places is not from 1 to 49,152.

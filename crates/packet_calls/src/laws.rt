@@ -1,6 +1,6 @@
 //! What the calls mean for the two ends of a link: the packets are those of a store, and the verdicts those of its restoring.
 
-ghost use Rattle.std.specs.Prelude.{◌≡◌, ◌<◌, ◌≤◌, ◌%◌, ◌++◌, ◌∷◌, [], ℕ, Bool, true, List, Option, Some, None, length, map, Contains, IfSome};
+ghost use Rattle.std.specs.Prelude.{◌≡◌, ◌<◌, ◌%◌, ◌++◌, ◌∷◌, [], ℕ, Bool, true, List, Option, Some, None, length, map, IfSome};
 ghost use Rattle.bit_vectors.specs.declared.flags.Flags.{Flags as Given};
 ghost use Rattle.bit_vectors.specs.Vectors.{AreBytes, vector_bytes};
 ghost use Rattle.mask_update.specs.Histories.{History, IsValid, history_of, input_at, no_steps};
@@ -19,7 +19,7 @@ ghost use Rattle.ground_chain.specs.Reckoning.{HasJudged, Reckoning};
 ghost use Rattle.ground_chain.specs.Report.{restored_of, run_bytes, run_report, run_rows, verdict_rows, written_bytes};
 ghost use Rattle.ground_chain.specs.Restoring.{arrivals_of, restore_course};
 ghost use Rattle.ground_chain.specs.Run.{Arrival, run};
-ghost use Rattle.packet_calls.specs.Sending.{Fits, HasSpareBit, vector_in};
+ghost use Rattle.packet_calls.specs.Sending.{HasByteCount, HasSpareBit, vector_in};
 
 use ground_chain::Kind;
 
@@ -91,6 +91,6 @@ pub fn deliveries_are_received()
 
 /// The bytes of a vector that fit, with no spare bit, are those that were given.
 pub fn vectors_are_their_bytes()
-    ensures { (f : ℕ) (bytes : List ℕ) → AreBytes bytes → Fits f bytes
+    ensures { (f : ℕ) (bytes : List ℕ) → AreBytes bytes → HasByteCount f bytes
         → (HasSpareBit f bytes → ⊥) → vector_bytes (vector_in f bytes) ≡ bytes }
 {}

@@ -1,12 +1,12 @@
 //! The receiving end.
 
-ghost use Rattle.std.specs.Prelude.{◌≡◌, ◌≢◌, ℕ, ◌*◌, ◌^◌, ◌<◌, ◌≤◌, ◌↔◌, ◌⊎◌, ◌++◌, ◌∷◌, [], List, Err, length, drop, IfOk, IsOk, OnOk, OnErr};
+ghost use Rattle.std.specs.Prelude.{◌≡◌, ℕ, ◌<◌, ◌≤◌, ◌++◌, ◌∷◌, [], List, Err, length, drop, IfOk, OnOk, OnErr};
 ghost use Rattle.bit_vectors.specs.Vectors.{byte_count};
-ghost use Rattle.packet_store.specs.SpacePackets.{period};
 ghost use Rattle.ground_chain.specs.Reception.{next_judged};
 ghost use Rattle.ground_chain.specs.Reckoning.{HasJudged, Judges, nothing_judged};
 ghost use Rattle.ground_chain.specs.Report.{written_bytes};
 ghost use Rattle.ground_chain.specs.Run.{Arrival};
+ghost use Rattle.packet_calls.specs.Refusals.{fault_in, opening_fault, receiving_fault};
 
 use crate::fault::{OpenFault, ReceiveFault};
 use bit_vectors::byte_len;
@@ -42,16 +42,22 @@ impl Receiver {
     pub fn open(alloc: Global, places: u32) -> Result<Receiver, OpenFault>
         ensures opened { IfOk result (λ receiver. receiver ≡ nothing_judged places) }
         ensures stands { IfOk result (HasJudged places []) }
-        ensures places { (result ≡ Err OpenFault.Places) ↔ ((places ≡ 0) ⊎ (49152 < places)) }
-        // There is no other answer but that for lack of memory.
-        ensures faults { (fault : OpenFault) → result ≡ Err fault
-            → (fault ≡ OpenFault.Places) ⊎ (fault ≡ OpenFault.NoMemory) }
+        ensures fault { (result ≡ Err OpenFault.NoMemory → ⊥) → fault_in result ≡ opening_fault places None }
+        ensures no_memory { result ≡ Err OpenFault.NoMemory → opening_fault places None ≡ None }
     {
         if places == 0 || places > 49152 {
             return Err(OpenFault::Places);
         }
         let arrivals = Tallied::open(alloc, places)?;
         Ok(Receiver { arrivals })
+    }
+
+    /// Starts anew in the memory that it has: nothing has arrived. The vectors have as many places as before.
+    pub fn reset(&mut self)
+        ensures anew { self.new ≡ nothing_judged self.old.reception.decoder.places }
+        ensures stands { HasJudged self.old.reception.decoder.places [] self.new }
+    {
+        self.arrivals.reset();
     }
 
     /// Judges and counts the next arrival, with this sequence count and these data bytes. If it is written, its content is in
@@ -62,20 +68,7 @@ impl Receiver {
         bytes: &[u8],
         out: &mut [u8],
     ) -> Result<Verdict, ReceiveFault>
-        ensures taken { IsOk result
-            ↔ ((count < period) × (length bytes.now ≤ 65536)
-            × (byte_count self.old.reception.decoder.places ≤ length out.old)
-            × (self.old.restored.packets < 2 ^ 32)) }
-        ensures count { (result ≡ Err ReceiveFault.Count) ↔ (period ≤ count) }
-        ensures too_long { (result ≡ Err ReceiveFault.TooLong)
-            ↔ ((count < period) × (65536 < length bytes.now)) }
-        ensures no_room { (result ≡ Err ReceiveFault.NoRoom)
-            ↔ ((count < period) × (length bytes.now ≤ 65536)
-            × (length out.old < byte_count self.old.reception.decoder.places)) }
-        ensures too_many { (result ≡ Err ReceiveFault.TooMany)
-            ↔ ((count < period) × (length bytes.now ≤ 65536)
-            × (byte_count self.old.reception.decoder.places ≤ length out.old)
-            × (2 ^ 32 ≤ self.old.restored.packets)) }
+        ensures fault { fault_in result ≡ receiving_fault self.old count bytes.now (length out.old) }
         ensures unchanged { OnErr result (self.new ≡ self.old) }
         ensures untouched { OnErr result (out.new ≡ out.old) }
         // The verdict is the run's next one. For every list of arrivals that was judged, now that list and this one is.

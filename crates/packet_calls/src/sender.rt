@@ -1,13 +1,14 @@
 //! The sending end.
 
-ghost use Rattle.std.specs.Prelude.{◌≡◌, ℕ, ◌+◌, ◌^◌, ◌<◌, ◌≤◌, ◌↔◌, ◌⊎◌, Err, length, drop, take, IfOk, IsOk, IsTrue, OnOk, OnErr};
+ghost use Rattle.std.specs.Prelude.{◌≡◌, ◌+◌, ◌<◌, ◌≤◌, ◌⊎◌, Err, length, drop, take, IfOk, OnOk, OnErr};
 ghost use Rattle.bit_vectors.specs.Vectors.{IsPlaces, byte_count};
 ghost use Rattle.mask_update.specs.Histories.{History, no_steps};
 ghost use Rattle.packet_encode.specs.Encoder.{StandsFor};
 ghost use Rattle.packet_encode.specs.Packets.{with_next_input};
 ghost use Rattle.robust_window.specs.Histories.{level_at};
 ghost use Rattle.flight_chain.specs.Stores.{data_at};
-ghost use Rattle.packet_calls.specs.Sending.{Fits, HasSpareBit, MaskFits, MaskHasSpareBit, first_mask, given, room_bits, room_bytes, vector_in};
+ghost use Rattle.packet_calls.specs.Sending.{first_mask, given_mask, mask_fits, room_bits, room_bytes, vector_in};
+ghost use Rattle.packet_calls.specs.Refusals.{fault_in, opening_fault, sending_fault};
 
 use crate::fault::{OpenFault, SendFault};
 use bit_vectors::{BitPen, Bits, Flags, byte_len};
@@ -54,19 +55,16 @@ impl Sender {
     /// calls need.
     pub fn open(alloc: Global, places: u32, mask: Option<&[u8]>) -> Result<Sender, OpenFault>
         ensures stands { IfOk result
-            (λ sender. StandsFor (no_steps (first_mask places (given mask.entry))) sender.encoder) }
+            (λ sender. StandsFor (no_steps (first_mask places (given_mask mask.entry))) sender.encoder) }
         ensures places { IfOk result (λ sender. length sender.encoder.masks.mask ≡ places) }
         ensures taken { IfOk result (λ sender. sender.encoder.masks.taken ≡ 0) }
         ensures room { IfOk result (λ sender. sender.room ≡ room_bits places) }
-        ensures bad_places { (result ≡ Err OpenFault.Places) ↔ ((places ≡ 0) ⊎ (49152 < places)) }
-        ensures misfit { (result ≡ Err OpenFault.MaskLength)
-            ↔ ((1 ≤ places) × (places ≤ 49152) × (MaskFits places (given mask.entry) → ⊥)) }
+        ensures fault { (result ≡ Err OpenFault.NoMemory → ⊥)
+            → fault_in result ≡ opening_fault places (given_mask mask.entry) }
         // A spare bit is looked at after the memory for the mask was found.
-        ensures spared { result ≡ Err OpenFault.MaskSpareBit
-            → (1 ≤ places) × (places ≤ 49152) × MaskFits places (given mask.entry)
-            × MaskHasSpareBit places (given mask.entry) }
-        ensures right { IsOk result → MaskFits places (given mask.entry)
-            × (MaskHasSpareBit places (given mask.entry) → ⊥) }
+        ensures no_memory { result ≡ Err OpenFault.NoMemory
+            → (opening_fault places (given_mask mask.entry) ≡ None)
+            ⊎ (opening_fault places (given_mask mask.entry) ≡ Some OpenFault.MaskSpareBit) }
     {
         if places == 0 || places > 49152 {
             return Err(OpenFault::Places);
@@ -98,24 +96,7 @@ impl Sender {
         robust: u8,
         out: &mut [u8],
     ) -> Result<Sent, SendFault>
-        ensures taken { let f = length self.old.encoder.masks.mask in
-            IsOk result ↔ (Fits f input.now × (HasSpareBit f input.now → ⊥) × (robust ≤ 7)
-            × (room_bytes f ≤ length out.old) × (self.old.encoder.masks.taken < 2 ^ 32)) }
-        ensures misfit { (result ≡ Err SendFault.InputLength)
-            ↔ (Fits (length self.old.encoder.masks.mask) input.now → ⊥) }
-        ensures spare { let f = length self.old.encoder.masks.mask in
-            (result ≡ Err SendFault.SpareBit) ↔ (Fits f input.now × HasSpareBit f input.now) }
-        ensures robust { let f = length self.old.encoder.masks.mask in
-            (result ≡ Err SendFault.Robust)
-            ↔ (Fits f input.now × (HasSpareBit f input.now → ⊥) × (7 < robust)) }
-        ensures no_room { let f = length self.old.encoder.masks.mask in
-            (result ≡ Err SendFault.NoRoom)
-            ↔ (Fits f input.now × (HasSpareBit f input.now → ⊥) × (robust ≤ 7)
-            × (length out.old < room_bytes f)) }
-        ensures too_many { let f = length self.old.encoder.masks.mask in
-            (result ≡ Err SendFault.TooMany)
-            ↔ (Fits f input.now × (HasSpareBit f input.now → ⊥) × (robust ≤ 7)
-            × (room_bytes f ≤ length out.old) × (2 ^ 32 ≤ self.old.encoder.masks.taken)) }
+        ensures fault { fault_in result ≡ sending_fault self.old input.now robust (length out.old) }
         ensures unchanged { OnErr result (self.new ≡ self.old) }
         ensures untouched { OnErr result (out.new ≡ out.old) }
         // If it stood for some history, it now stands for that history with this input, these flags, after forcing, and
@@ -166,6 +147,34 @@ impl Sender {
         })
     }
 
+    /// Starts anew in the memory that it has, with no input sent, and with the mask that these bytes spell, or one of zeros, for
+    /// as many places as before.
+    pub fn reset(&mut self, mask: Option<&[u8]>) -> Result<(), OpenFault>
+        ensures stands { let f = length self.old.encoder.masks.mask in
+            OnOk result (StandsFor (no_steps (first_mask f (given_mask mask.entry))) self.new.encoder) }
+        ensures taken { OnOk result (self.new.encoder.masks.taken ≡ 0) }
+        ensures fault { fault_in result
+            ≡ opening_fault (length self.old.encoder.masks.mask) (given_mask mask.entry) }
+        ensures unchanged { OnErr result (self.new ≡ self.old) }
+        ensures places { length self.new.encoder.masks.mask ≡ length self.old.encoder.masks.mask }
+        // No memory is taken: the room stays.
+        ensures room { self.new.room ≡ self.old.room }
+    {
+        if !mask_fits(self.places(), mask) {
+            return Err(OpenFault::MaskLength);
+        }
+        match mask {
+            Some(mask) => {
+                if self.input.load(mask).is_err() {
+                    return Err(OpenFault::MaskSpareBit);
+                }
+            }
+            None => self.input.clear(),
+        }
+        self.encoder.reset(&self.input);
+        Ok(())
+    }
+
     /// The number of places of the vectors.
     pub fn places(&self) -> u32
         ensures places { result ≡ length self.now.encoder.masks.mask }
@@ -203,7 +212,7 @@ impl Sender {
 /// Whether no mask is given, or one that has as many bytes as its places need.
 fn mask_fits(places: u32, mask: Option<&[u8]>) -> bool
     requires valid { IsPlaces places }
-    ensures { IsTrue result ↔ MaskFits places (given mask.entry) }
+    ensures { result ≡ mask_fits places (given_mask mask.entry) }
 {
     match mask {
         Some(bytes) => bytes.len() == byte_len(places) as usize,

@@ -19,7 +19,7 @@ use Rattle.packet_decode.specs.State.{KnownVector, State, HasVector, IsState, Ch
 use Rattle.packet_decode.specs.Spelling.{Spells}
 use Rattle.packet_decode.specs.Answers.{Says, IsExactAnswer}
 use Rattle.packet_decode.specs.PacketReading.{Spelled, Opaque, Found, Tells, missed, parse_whole_packet, outcome_answer, answer_of}
-use Rattle.packet_decode.specs.Parts.{IsDeduced, HasPlaces, kept_state, outcome_of, part_by, tells_content, tells_mask}
+use Rattle.packet_decode.specs.Parts.{IsDeduced, LatestHasPlaces, kept_state, outcome_of, part_by, tells_content, tells_mask}
 use Rattle.packet_decode.specs.Decoding.{Decoding, tells_nothing}
 use Rattle.packet_decode.proofs.ExactAnswers.{answer_of-exact, spelled_says}
 use Rattle.packet_decode.proofs.OneAnswer.{spells_read, says_answer}
@@ -67,7 +67,7 @@ pub record IsFound (next : Change) (read_mask read_content : Option (List Bool))
   pub content_is : read_content ≡ content
 
 -- a decoder of these parts, and an eye at the first of these bytes
-module _ (d : Decoding) (latest : Latest) (shown : Change) (view : decoding_of latest shown ≡ d) (vectors : HasPlaces (length latest.content) latest) where
+module _ (d : Decoding) (latest : Latest) (shown : Change) (view : decoding_of latest shown ≡ d) (vectors : LatestHasPlaces (length latest.content) latest) where
   pub has_state : IsState d.places d.state
   has_state = subst (λ (x : Decoding). IsState x.places x.state) view (record { mask = part_has (length latest.content) latest.mask_number latest.mask vectors.mask; content = part_has (length latest.content) latest.content_number latest.content refl })
 

@@ -23,7 +23,7 @@ use Rattle.packet_decode.specs.Spelling.{IsFilled}
 use Rattle.packet_decode.specs.PacketReading.{Outcome, Spelled, Opaque, parse_kept, from_edges, parse_mask, parse_whole, parse_whole_with, parse_whole_alone, parse_part_with, parse_content, parse_unsent, parse_maskless, parse_masked, parse_sent, parse_data}
 use Rattle.packet_decode.specs.PartWords.{AllPlaces, places_of, IsMaskWord, IsContentWord, IsWhole, IsWholeAlone, IsPart, IsContent, IsUnsent, IsMaskless, IsMasked, IsSent, IsData}
 use Rattle.packet_decode.proofs.EdgeMasks.{edges-from_edges, length-from_edges, length_edges, from_edges-edges}
-use Rattle.packet_decode.proofs.Readers.{HasWord, IsImage, IsExact-map, IsExact-bit, IsExact-one, IsAfter, IsExact-after}
+use Rattle.packet_decode.proofs.Readers.{HasWord, IsImage, IsExact-map, IsExact-bit, IsExact-one, FollowsFront, IsExact-after}
 use Rattle.packet_decode.proofs.KeptContent.{IsKept, IsExact-kept_at}
 
 -- ---- the mask
@@ -50,7 +50,7 @@ IsExact-mask_at f (Some deduced) =
 IsExact-whole_none : (f : ℕ) (places : List Bool) → IsExact (IsContentWord f places None) (parse_whole f places None)
 unfolding parse_whole
 IsExact-whole_none f places =
-    IsExact-same (IsAfter (count_bits f) (IsFront f)) (IsContentWord f places None) (parse_whole f places None)
+    IsExact-same (FollowsFront (count_bits f) (IsFront f)) (IsContentWord f places None) (parse_whole f places None)
     (λ content word (back, is, parts). ((is.0, tt), parts ∙ ap (λ (x : List Bool). count_bits f ++ x) is.1))
     (λ content word (is, parts). (content, (is.0, refl), parts))
     (IsExact-after (count_bits f) (IsFront f) (parse_front f) (IsExact-front_at f) (replicate f false, replicate f false, (length-replicate f false, refl)))
@@ -59,7 +59,7 @@ IsExact-whole_at : (f : ℕ) (places : List Bool) (known : Option (List Bool)) �
 unfolding parse_whole
 IsExact-whole_at f places None len all = IsExact-whole_none f places
 IsExact-whole_at f places (Some known) len all =
-    IsExact-same (IsAfter (count_bits f) (IsKept places known)) (IsContentWord f places (Some known)) (parse_whole f places (Some known))
+    IsExact-same (FollowsFront (count_bits f) (IsKept places known)) (IsContentWord f places (Some known)) (parse_whole f places (Some known))
     (λ content word (back, is, parts). ((is.0 ∙ all, is.1), parts ∙ ap (λ (x : List Bool). count_bits f ++ x) is.2))
     (λ content word (is, parts). (content, (is.0 ∙ sym all, is.1, refl), parts))
     (IsExact-after (count_bits f) (IsKept places known) (parse_kept places known) (IsExact-kept_at places known (len ∙ sym all)) (known, known, (refl, λ place bound. refl, refl)))

@@ -16,7 +16,7 @@ use Rattle.packet_encode.specs.Forms.{Part, Whole, data_bits}
 use Rattle.packet_decode.specs.State.{Change}
 use Rattle.packet_decode.specs.Spelling.{IsFilled}
 use Rattle.packet_decode.specs.PacketReading.{Spelled, parse_change}
-use Rattle.packet_decode.specs.PartWords.{AgreesWith, IsData, IsFirstWord, places_of}
+use Rattle.packet_decode.specs.PartWords.{KeepsOutside, IsData, IsFirstWord, places_of}
 use Rattle.packet_decode.proofs.ExactData.{filled_by}
 use Rattle.packet_decode.proofs.ExactChange.{IsChangeWord, IsExact-change_at, change_bits_are}
 use Rattle.packet_decode.proofs.SpelledWords.{is_change, is_form}
@@ -38,7 +38,7 @@ IsExact-first f = IsExact-same (IsChangeWord f) (IsFirstWord f) (parse_change f)
 
 -- ---- what is sent, as a word of the parts after the first
 
-pub deduced_whole : (f : ℕ) (change : Change) (mask content : List Bool) (known sent : Option (List Bool)) → IfSome sent (λ m. m ≡ mask) → AgreesWith f (places_of change mask) known content
+pub deduced_whole : (f : ℕ) (change : Change) (mask content : List Bool) (known sent : Option (List Bool)) → IfSome sent (λ m. m ≡ mask) → KeepsOutside f (places_of change mask) known content
     → IsData f change (Some mask) known (Spelled (Some mask) (Some content)) (data_bits sent (Whole content))
 deduced_whole f change mask content known None same agrees = (content, (agrees, rw agrees.0 refl), refl)
 deduced_whole f change mask content known (Some m) same agrees =
@@ -54,7 +54,7 @@ pub deduced_mask_alone : (f : ℕ) (change : Change) (mask bits : List Bool) (se
 deduced_mask_alone f change mask bits None same fits = (refl, fits)
 deduced_mask_alone f change mask bits (Some m) same fits = (mask, run_bits (edges mask), false ∷ bits, (refl, refl), (refl, fits), rw same refl)
 
-pub sent_whole : (f : ℕ) (change : Change) (mask content : List Bool) (known : Option (List Bool)) → length mask ≡ f → AgreesWith f (places_of change mask) known content
+pub sent_whole : (f : ℕ) (change : Change) (mask content : List Bool) (known : Option (List Bool)) → length mask ≡ f → KeepsOutside f (places_of change mask) known content
     → IsData f change None known (Spelled (Some mask) (Some content)) (data_bits (Some mask) (Whole content))
 sent_whole f change mask content known len agrees = (mask, run_bits (edges mask), true ∷ (count_bits (length content) ++ content), (len, refl), (content, (agrees, rw agrees.0 refl), refl), refl)
 

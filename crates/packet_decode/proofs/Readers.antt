@@ -81,12 +81,12 @@ IsExact-one U f exact some =
 
 -- ---- a fixed word, and then others
 
-abbrev pub IsAfter : {A : Type 0} → List Bool → (A → List Bool → Type 0) → A → List Bool → Type 0
-IsAfter front U u word = (back : List Bool) × U u back × (word ≡ front ++ back)
+abbrev pub FollowsFront : {A : Type 0} → List Bool → (A → List Bool → Type 0) → A → List Bool → Type 0
+FollowsFront front U u word = (back : List Bool) × U u back × (word ≡ front ++ back)
 
-pub IsExact-after : {A : Type 0} (front : List Bool) (U : A → List Bool → Type 0) (f : List Bool → Parsed A) → IsExact U f → HasWord U → IsExact (IsAfter front U) (λ bits. parse_word front bits >>= λ u rest. f rest)
+pub IsExact-after : {A : Type 0} (front : List Bool) (U : A → List Bool → Type 0) (f : List Bool → Parsed A) → IsExact U f → HasWord U → IsExact (FollowsFront front U) (λ bits. parse_word front bits >>= λ u rest. f rest)
 IsExact-after front U f exact some =
-    IsExact-same (IsWordThen (λ (u : Unit {0}) (word : List Bool). word ≡ front) (λ u. U)) (IsAfter front U) (λ bits. parse_word front bits >>= λ u rest. f rest)
+    IsExact-same (IsWordThen (λ (u : Unit {0}) (word : List Bool). word ≡ front) (λ u. U)) (FollowsFront front U) (λ bits. parse_word front bits >>= λ u rest. f rest)
     (λ u word w. (w.2, w.4, w.5 ∙ ap (λ (x : List Bool). x ++ w.2) w.3))
     (λ u word w. (tt, front, w.0, refl, w.1, w.2))
     (IsExact-then (λ (u : Unit {0}) (word : List Bool). word ≡ front) (λ u. U) (parse_word front) (λ u rest. f rest)

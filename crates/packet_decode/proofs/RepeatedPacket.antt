@@ -15,7 +15,7 @@ use Rattle.packet_decode.specs.Answers.{SpellsContent}
 use Rattle.packet_decode.specs.PacketReading.{Spelled, parse_whole_packet, answer_of}
 use Rattle.packet_decode.specs.Decoding.{Decoding}
 use Rattle.packet_decode.specs.declared.decoder.Reading.TheVariants.{Written}
-use Rattle.packet_decode.specs.Parts.{HasPlaces, IsAtLevel, SpellLatest, kept_state, part_by}
+use Rattle.packet_decode.specs.Parts.{LatestHasPlaces, IsAtLevel, SpellLatest, kept_state, part_by}
 use Rattle.packet_decode.proofs.DecoderAnswers.{IsFound, decoding_of, found_is, has_state, reading_is, written_is}
 use Rattle.packet_decode.proofs.OneAnswer.{spelled_places, spells_read}
 use Rattle.packet_decode.proofs.OtherLevel.{form_at_level, level_bits, no_directions}
@@ -65,7 +65,7 @@ reach_alike (Some last) v other t level some = by_reach (nat_le (t - 1 - last) l
     by_reach true some = refl
     by_reach false some = absurd cc
 
-module _ (latest : Latest) (shown : Change) (bytes : List ℕ) (has : HasPlaces (length latest.content) latest) (r : SpellLatest latest shown bytes) (t level : ℕ) (near : IsSome (in_reach (part_by latest.content_number latest.content) t level)) where
+module _ (latest : Latest) (shown : Change) (bytes : List ℕ) (has : LatestHasPlaces (length latest.content) latest) (r : SpellLatest latest shown bytes) (t level : ℕ) (near : IsSome (in_reach (part_by latest.content_number latest.content) t level)) where
   -- the first part, without directions
   abbrev now : Change
   now = record { recent = shown.recent; level = level; directions = None }
@@ -98,7 +98,7 @@ module _ (latest : Latest) (shown : Change) (bytes : List ℕ) (has : HasPlaces 
       ∙ ap (λ (x : Change). Read (record { change = x; outcome = Spelled (Some latest.mask) (Some latest.content) }) []) change_again
 
 -- data that are read as what is known
-module _ (d : Decoding) (latest : Latest) (shown : Change) (view : decoding_of latest shown ≡ d) (vectors : HasPlaces (length latest.content) latest) (t : ℕ) (now : Change) (bytes : List ℕ)
+module _ (d : Decoding) (latest : Latest) (shown : Change) (view : decoding_of latest shown ≡ d) (vectors : LatestHasPlaces (length latest.content) latest) (t : ℕ) (now : Change) (bytes : List ℕ)
     (read : parse_whole_packet (length latest.content) (kept_state latest) t (bits_of bytes) ≡ Read (record { change = now; outcome = Spelled (Some latest.mask) (Some latest.content) }) []) where
   pub answer_again : answer_of d.places d.state t (bits_of bytes) ≡ Ok Written
   answer_again =

@@ -14,20 +14,20 @@ pub record Decoding : Type 0 where
   pub level : ℕ
 
 -- the number of the packet with which it became known
-abbrev pub number_of : Option KnownVector → Option ℕ
-number_of part = option_map (λ known. known.number) part
+abbrev pub known_number : Option KnownVector → Option ℕ
+known_number part = option_map (λ known. known.number) part
 
 -- the vector that became known, and zeros before the first
-abbrev pub vector_of : ℕ → Option KnownVector → List Bool
-vector_of f part = unwrap_or (option_map (λ known. known.vector) part) (replicate f false)
+abbrev pub known_vector : ℕ → Option KnownVector → List Bool
+known_vector f part = unwrap_or (option_map (λ known. known.vector) part) (replicate f false)
 
 -- the number of the latest written packet
 abbrev pub latest_number : State → Option ℕ
-latest_number state = number_of state.content
+latest_number state = known_number state.content
 
 -- the number of the latest packet whose mask became known
 abbrev pub latest_mask_number : State → Option ℕ
-latest_mask_number state = number_of state.mask
+latest_mask_number state = known_number state.mask
 
 -- this number is greater than those of the packets with which the mask and the content became known
 pub record IsAfter (t : ℕ) (state : State) : Type 0 where
@@ -36,11 +36,11 @@ pub record IsAfter (t : ℕ) (state : State) : Type 0 where
 
 -- the latest mask that became known, and zeros before the first
 abbrev pub latest_mask : ℕ → State → List Bool
-latest_mask f state = vector_of f state.mask
+latest_mask f state = known_vector f state.mask
 
 -- the content of the latest written packet, and zeros before the first
 abbrev pub latest_content : ℕ → State → List Bool
-latest_content f state = vector_of f state.content
+latest_content f state = known_vector f state.content
 
 -- the data say nothing that becomes known
 abbrev pub tells_nothing : Result Reading BitFault → Bool

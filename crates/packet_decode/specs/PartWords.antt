@@ -25,8 +25,8 @@ abbrev pub places_of : Change → List Bool → List Bool
 places_of change mask = wide_by change.directions change.recent mask
 
 -- a vector of f places that is the known one outside these, if one is known
-abbrev pub AgreesWith : ℕ → List Bool → Option (List Bool) → List Bool → Type 0
-AgreesWith f places known content = (length content ≡ f) × IfSome known (λ was. SameOutside places was content)
+abbrev pub KeepsOutside : ℕ → List Bool → Option (List Bool) → List Bool → Type 0
+KeepsOutside f places known content = (length content ≡ f) × IfSome known (λ was. SameOutside places was content)
 
 -- ---- words
 
@@ -50,7 +50,7 @@ IsMaskWord f (Some deduced) mask word = (mask ≡ deduced) × (word ≡ run_bits
 
 -- a content that agrees, after its number of places
 abbrev pub IsContentWord : ℕ → List Bool → Option (List Bool) → List Bool → List Bool → Type 0
-IsContentWord f places known content word = AgreesWith f places known content × (word ≡ count_bits f ++ content)
+IsContentWord f places known content word = KeepsOutside f places known content × (word ≡ count_bits f ++ content)
 
 -- with a mask: the whole content
 abbrev pub IsWhole : ℕ → Change → List Bool → Option (List Bool) → Outcome → List Bool → Type 0

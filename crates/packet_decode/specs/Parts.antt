@@ -48,7 +48,7 @@ tells_content MasklessKind = true
 tells_content OpaqueKind = false
 
 -- the eye moved on, and what the call answered, seen by view, is what reading the bits that were left gives
-pub record Takes {A B : Type 0} (view : A → B) (result : Result A BitFault) (old new : EyeState) (parse : List Bool → Parsed B) : Type 0 where
+pub record TakesPart {A B : Type 0} (view : A → B) (result : Result A BitFault) (old new : EyeState) (parse : List Bool → Parsed B) : Type 0 where
   pub moves : MovesOn old new
   pub reading : Tells view result new (parse (bits_left old))
 
@@ -61,7 +61,7 @@ abbrev pub kept_state : Latest → State
 kept_state latest = record { mask = part_by latest.mask_number latest.mask; content = part_by latest.content_number latest.content }
 
 -- the latest vectors have so many places
-pub record HasPlaces (f : ℕ) (latest : Latest) : Type 0 where
+pub record LatestHasPlaces (f : ℕ) (latest : Latest) : Type 0 where
   pub mask : length latest.mask ≡ f
   pub content : length latest.content ≡ f
 
@@ -69,7 +69,7 @@ pub record HasPlaces (f : ℕ) (latest : Latest) : Type 0 where
 pub record IsBefore (t f : ℕ) (latest : Latest) : Type 0 where
   pub later : IfSome latest.content_number (λ last. last < t)
   pub later_mask : IfSome latest.mask_number (λ last. last < t)
-  pub vectors : HasPlaces f latest
+  pub vectors : LatestHasPlaces f latest
 
 -- the first part has a change
 abbrev pub IsChanged : Change → Type 0
@@ -91,7 +91,7 @@ pub record IsReady (first : Change) (mask content : Option (List Bool)) (vectors
   pub known : IfSome content (λ v. length v ≡ length vectors.content)
 
 -- What holds when a mask can be sent besides: the vector for it has the draft's places too.
-pub record AreReady (first : Change) (mask content : Option (List Bool)) (sent : List Bool) (vectors : Draft) : Type 0 where
+pub record IsReadyForMask (first : Change) (mask content : Option (List Bool)) (sent : List Bool) (vectors : Draft) : Type 0 where
   pub ready : IsReady first mask content vectors
   pub for_sent : length sent ≡ length vectors.content
 
@@ -125,7 +125,7 @@ IsRemembered latest shown bytes = bytes ≢ [] → SpellLatest latest shown byte
 -- the next packet is read, and the data that are remembered.
 pub record IsDecoder (latest : Latest) (shown : Change) (room : Room) (kept : List ℕ) : Type 0 where
   pub vector : IsVector latest.content
-  pub latest_vectors : HasPlaces (length latest.content) latest
+  pub latest_vectors : LatestHasPlaces (length latest.content) latest
   pub shown_places : length shown.recent ≡ length latest.content
   pub room_places : length room.draft.content ≡ length latest.content
   pub first_mask : IfNone latest.mask_number (latest.mask ≡ replicate (length latest.content) false)

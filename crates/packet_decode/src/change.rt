@@ -66,6 +66,20 @@ impl FirstPart {
         })
     }
 
+    /// Becomes no change of as many places, and level 0.
+    pub fn reset(&mut self)
+        ensures { self.new ≡ record {
+          recent = replicate (length self.old.recent) false;
+          level = 0;
+          directions = None;
+        } }
+    {
+        self.recent.clear();
+        self.quiet = true;
+        self.level = 0;
+        self.twice = None;
+    }
+
     /// Takes the first part of a packet of the same number of places. After a fault it may be any.
     #[tactic(auto, unfolding(crate::specs::PacketReading::parse_change))]
     pub fn take(&mut self, eye: &mut BitEye) -> Result<(), BitFault>

@@ -7,7 +7,7 @@ ghost use Rattle.run_code.specs.Extraction.{parse_filled};
 ghost use Rattle.run_code.specs.Places.{places_down};
 ghost use Rattle.packet_encode.specs.Forms.{wide_by};
 ghost use Rattle.packet_decode.specs.PacketReading.{parse_kept, parse_whole_with, parse_whole_alone, parse_part_with, parse_content, Spelled};
-ghost use Rattle.packet_decode.specs.Parts.{IsReady, Takes, lent, content_outcome};
+ghost use Rattle.packet_decode.specs.Parts.{IsReady, TakesPart, lent, content_outcome};
 
 use crate::change::FirstPart;
 use crate::draft::Draft;
@@ -28,7 +28,7 @@ pub fn take_content(
 ) -> Result<bool, BitFault>
     requires { IsReady change.now (Some mask.now) (lent known) draft.old }
     ensures places { length draft.new.content ≡ length draft.old.content }
-    ensures taken { Takes
+    ensures taken { TakesPart
         (λ known. content_outcome known mask.now draft.new.content) result eye.old eye.new
         (parse_content (length draft.old.content) change.now mask.now (lent known.entry)) }
 {
@@ -52,7 +52,7 @@ pub fn take_part(
 ) -> Result<bool, BitFault>
     requires { IsReady change.now (Some mask.now) (lent known) draft.old }
     ensures places { length draft.new.content ≡ length draft.old.content }
-    ensures taken { Takes
+    ensures taken { TakesPart
         (λ known. content_outcome known mask.now draft.new.content) result eye.old eye.new
         (parse_part_with change.now mask.now (lent known.entry)) }
 {
@@ -75,7 +75,7 @@ fn take_untold(
 ) -> Result<(), BitFault>
     requires { IsReady change.now (Some mask.now) None draft.old }
     ensures places { length draft.new.content ≡ length draft.old.content }
-    ensures taken { Takes
+    ensures taken { TakesPart
         (λ _. Spelled (Some mask.now) None) result eye.old eye.new
         (parse_part_with change.now mask.now None) }
 {
@@ -118,7 +118,7 @@ pub fn take_whole(
 ) -> Result<(), BitFault>
     requires { IsReady change.now (Some mask.now) (lent known) draft.old }
     ensures places { length draft.new.content ≡ length draft.old.content }
-    ensures taken { Takes
+    ensures taken { TakesPart
         (λ _. content_outcome true mask.now draft.new.content) result eye.old eye.new
         (parse_whole_with (length draft.old.content) change.now mask.now (lent known.entry)) }
 {
@@ -135,7 +135,7 @@ pub fn take_whole(
 #[tactic(auto, unfolding(crate::specs::PacketReading::parse_whole_alone, crate::specs::PacketReading::parse_whole))]
 pub fn take_whole_alone(eye: &mut BitEye, draft: &mut Draft) -> Result<(), BitFault>
     ensures places { length draft.new.content ≡ length draft.old.content }
-    ensures taken { Takes
+    ensures taken { TakesPart
         (λ _. Spelled None (Some draft.new.content)) result eye.old eye.new
         (parse_whole_alone (length draft.old.content)) }
 {
@@ -148,7 +148,7 @@ pub fn take_whole_alone(eye: &mut BitEye, draft: &mut Draft) -> Result<(), BitFa
 fn take_kept(eye: &mut BitEye, known: &Bits, draft: &mut Draft) -> Result<(), BitFault>
     requires { length known.now ≡ length draft.old.content }
     ensures places { length draft.new.content ≡ length draft.old.content }
-    ensures taken { Takes (λ _. draft.new.content) result eye.old eye.new
+    ensures taken { TakesPart (λ _. draft.new.content) result eye.old eye.new
         (parse_kept draft.old.places known.now) }
 {
     let start = eye.at();

@@ -5,7 +5,7 @@ ghost use Rattle.std.specs.Prelude.{◌≡◌, Bool, List, length, IfOk, IsSome}
 ghost use Rattle.bit_vectors.specs.Eye.{bits_left};
 ghost use Rattle.bit_vectors.specs.Reading.{MovesOn};
 ghost use Rattle.packet_decode.specs.PacketReading.{Tells, parse_unsent, parse_maskless, parse_masked, parse_data};
-ghost use Rattle.packet_decode.specs.Parts.{AreReady, IsDeduced, IsReady, Takes, lent, outcome_of};
+ghost use Rattle.packet_decode.specs.Parts.{IsReadyForMask, IsDeduced, IsReady, TakesPart, lent, outcome_of};
 
 use crate::change::FirstPart;
 use crate::content::{take_content, take_part, take_whole, take_whole_alone};
@@ -26,11 +26,11 @@ pub fn take_data(
     sent: &mut Bits,
     draft: &mut Draft,
 ) -> Result<DataKind, BitFault>
-    requires { AreReady change.now (lent deduced) (lent known) sent.old draft.old }
+    requires { IsReadyForMask change.now (lent deduced) (lent known) sent.old draft.old }
     ensures deduced { IfOk result (λ kind. IsDeduced kind → IsSome (lent deduced.entry)) }
     ensures places { length draft.new.content ≡ length draft.old.content }
     ensures sent { length sent.new ≡ length sent.old }
-    ensures taken { Takes
+    ensures taken { TakesPart
         (λ kind. outcome_of kind (lent deduced.entry) sent.new draft.new.content) result eye.old eye.new
         (parse_data (length draft.old.content) change.now (lent deduced.entry) (lent known.entry)) }
 {
@@ -106,11 +106,11 @@ fn take_masked(
     sent: &mut Bits,
     draft: &mut Draft,
 ) -> Result<DataKind, BitFault>
-    requires { AreReady change.now (lent deduced) (lent known) sent.old draft.old }
+    requires { IsReadyForMask change.now (lent deduced) (lent known) sent.old draft.old }
     ensures deduced { IfOk result (λ kind. IsDeduced kind → IsSome (lent deduced.entry)) }
     ensures places { length draft.new.content ≡ length draft.old.content }
     ensures sent { length sent.new ≡ length sent.old }
-    ensures taken { Takes
+    ensures taken { TakesPart
         (λ kind. outcome_of kind (lent deduced.entry) sent.new draft.new.content) result eye.old eye.new
         (parse_masked (length draft.old.content) change.now (lent deduced.entry)
         (lent known.entry)) }

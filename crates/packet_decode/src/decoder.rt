@@ -75,6 +75,20 @@ impl Decoder {
         })
     }
 
+    /// Knows nothing again, in the memory that it has, with as many places as before.
+    pub fn reset(&mut self)
+        ensures { self.new ≡ record {
+          places = self.old.places;
+          state = no_vectors;
+          recent = replicate self.old.places false;
+          level = 0;
+        } }
+    {
+        self.latest.reset();
+        self.shown.reset();
+        self.remembered = Remembered::nothing();
+    }
+
     /// Reads the data of the packet with the number `t`, at most 65,536 bytes. If they spell a packet, its mask is then
     /// the latest known one, if it became known, and so is its content; else nothing changes. A fault names the first bit
     /// after which the data can neither spell a packet nor be those of one that can't be understood (CCSDS 124.0-B-1).

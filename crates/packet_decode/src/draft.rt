@@ -1,6 +1,6 @@
 //! The room for what reading the next packet fills.
 
-ghost use Rattle.std.specs.Prelude.{◌≡◌, ◌≤◌, length, IfOk};
+ghost use Rattle.std.specs.Prelude.{◌≡◌, length, IfOk};
 ghost use Rattle.std.specs.Vec.{vec_capacity};
 ghost use Rattle.bit_vectors.specs.Vectors.{IsPlaces};
 ghost use Rattle.bit_vectors.specs.Words.{word_count};

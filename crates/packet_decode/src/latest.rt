@@ -1,6 +1,6 @@
 //! The latest known vectors, and what the parts of a packet are.
 
-ghost use Rattle.std.specs.Prelude.{◌≡◌, ◌≤◌, ◌↔◌, ◌&&◌, false, replicate, None, IfOk, IsTrue};
+ghost use Rattle.std.specs.Prelude.{◌≡◌, ◌↔◌, ◌&&◌, false, length, replicate, None, IfOk, IsTrue};
 ghost use Rattle.packet_decode.specs.Parts.{tells_content, tells_mask};
 ghost use Rattle.bit_vectors.specs.Vectors.{IsPlaces};
 
@@ -48,6 +48,19 @@ impl Latest {
             content_number: None,
             content,
         })
+    }
+
+    /// Nothing is known any more; the vectors have as many places as before.
+    pub fn reset(&mut self)
+        ensures mask_number { self.new.mask_number ≡ None }
+        ensures content_number { self.new.content_number ≡ None }
+        ensures mask { self.new.mask ≡ replicate (length self.old.mask) false }
+        ensures content { self.new.content ≡ replicate (length self.old.content) false }
+    {
+        self.mask_number = None;
+        self.mask.clear();
+        self.content_number = None;
+        self.content.clear();
     }
 }
 

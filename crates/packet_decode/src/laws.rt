@@ -12,7 +12,7 @@ ghost use Rattle.packet_encode.specs.Packets.{form_at, packet_at};
 ghost use Rattle.packet_decode.specs.State.{Change, State, IsState, both_known, deduced_mask, known_if, next_state, no_vectors};
 ghost use Rattle.packet_decode.specs.Histories.{is_content_told, is_mask_told, true_state};
 ghost use Rattle.packet_decode.specs.Spelling.{IsFilled, Spells, HasOpaqueFront};
-ghost use Rattle.packet_decode.specs.PartWords.{AgreesWith, AllPlaces, IsContent, IsData, IsFirstWord, IsMaskWord, places_of};
+ghost use Rattle.packet_decode.specs.PartWords.{KeepsOutside, AllPlaces, IsContent, IsData, IsFirstWord, IsMaskWord, places_of};
 ghost use Rattle.packet_decode.specs.Answers.{SpellsPacket, Viable, Says, IsSoundAnswer, IsExactAnswer, BeginReadable};
 ghost use Rattle.packet_decode.specs.PacketReading.{Opaque, Spelled, answer_of, missed, parse_change, parse_content, parse_data, parse_mask};
 
@@ -64,7 +64,7 @@ pub fn parts_are_completed()
     // With a deduced mask, sent or not: each whole content that agrees with the known one, if one is known.
     ensures deduced_whole { (f : ℕ) (change : Change) (mask content : List Bool)
         (known sent : Option (List Bool)) →
-        IfSome sent (λ m. m ≡ mask) → AgreesWith f (places_of change mask) known content →
+        IfSome sent (λ m. m ≡ mask) → KeepsOutside f (places_of change mask) known content →
         IsData f change (Some mask) known (Spelled (Some mask) (Some content))
         (data_bits sent (Whole content)) }
     // The extracted bits, with which the known content is filled; if none is known, any, as many as are extracted.
@@ -80,7 +80,7 @@ pub fn parts_are_completed()
     // Without a deduced one: the same under any mask that is sent.
     ensures sent_whole { (f : ℕ) (change : Change) (mask content : List Bool)
         (known : Option (List Bool)) →
-        length mask ≡ f → AgreesWith f (places_of change mask) known content →
+        length mask ≡ f → KeepsOutside f (places_of change mask) known content →
         IsData f change None known (Spelled (Some mask) (Some content))
         (data_bits (Some mask) (Whole content)) }
     ensures sent_part { (f : ℕ) (change : Change) (mask known bits content : List Bool) →

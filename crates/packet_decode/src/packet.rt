@@ -2,7 +2,7 @@
 
 ghost use Rattle.std.specs.Prelude.{◌≡◌, ◌<◌, length, IfOk, IfSome, IsSome, OnOk};
 ghost use Rattle.packet_decode.specs.PacketReading.{parse_parts, parse_whole_packet};
-ghost use Rattle.packet_decode.specs.Parts.{IsBefore, IsChanged, IsDeduced, Takes, found_in, kept_state, lent, part_by};
+ghost use Rattle.packet_decode.specs.Parts.{IsBefore, IsChanged, IsDeduced, TakesPart, found_in, kept_state, lent, part_by};
 ghost use Rattle.packet_decode.specs.State.{deduced_by, in_reach};
 
 use crate::data::take_data;
@@ -26,7 +26,7 @@ pub fn take_whole_packet(
         → IsSome (deduced_by (kept_state latest.now) t room.new.next)) }
     ensures changed { OnOk result (IsChanged room.new.next
         → IfSome (deduced_by (kept_state latest.now) t room.new.next) (λ mask. room.new.deduced ≡ mask)) }
-    ensures taken { Takes
+    ensures taken { TakesPart
         (found_in room.new (kept_state latest.now) t) result eye.old eye.new
         (parse_whole_packet (length room.old.draft.content) (kept_state latest.now) t) }
 {
@@ -51,7 +51,7 @@ fn take_parts(
         → IsSome (deduced_by (kept_state latest.now) t room.new.next)) }
     ensures changed { OnOk result (IsChanged room.new.next
         → IfSome (deduced_by (kept_state latest.now) t room.new.next) (λ mask. room.new.deduced ≡ mask)) }
-    ensures taken { Takes
+    ensures taken { TakesPart
         (found_in room.new (kept_state latest.now) t) result eye.old eye.new
         (parse_parts (length room.old.draft.content) (kept_state latest.now) t) }
 {

@@ -6,13 +6,13 @@ ghost use Rattle.packet_decode.specs.Parts.{IsAtLevel};
 use std::marker::Model;
 
 /// The most bytes that are remembered.
-const MOST_BYTES: usize = 64;
+const MOST_KEPT_BYTES: usize = 64;
 
 /// At most 64 bytes of data that are remembered. Contracts see these bytes; no bytes stand for nothing remembered.
 #[derive(Debug, Drop)]
 pub struct Remembered {
     size: usize,
-    bytes: [u8; MOST_BYTES],
+    bytes: [u8; MOST_KEPT_BYTES],
 }
 
 impl Model for Remembered {
@@ -32,7 +32,7 @@ impl Remembered {
     {
         Remembered {
             size: 0,
-            bytes: [0; MOST_BYTES],
+            bytes: [0; MOST_KEPT_BYTES],
         }
     }
 
@@ -41,7 +41,7 @@ impl Remembered {
         ensures { self.new ≡ (if can_repeat && nat_le (length bytes.now) 64 then bytes.now else []) }
     {
         self.size = 0;
-        if can_repeat && bytes.len() <= MOST_BYTES {
+        if can_repeat && bytes.len() <= MOST_KEPT_BYTES {
             self.bytes[..bytes.len()].copy_from_slice(bytes);
             self.size = bytes.len();
         }

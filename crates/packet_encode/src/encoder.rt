@@ -73,6 +73,18 @@ impl Encoder {
         })
     }
 
+    /// Starts anew in the memory that it has, with this mask, which has as many places as the one before, and no input taken.
+    pub fn reset(&mut self, mask: &Bits)
+        requires places { length mask.now ≡ length self.old.masks.mask }
+        ensures stands { StandsFor (no_steps mask.now) self.new }
+        ensures places { length self.new.masks.mask ≡ length self.old.masks.mask }
+        ensures taken { self.new.masks.taken ≡ 0 }
+    {
+        self.masks.reset(mask);
+        self.window.reset();
+        self.is_kept = false;
+    }
+
     /// Takes the next input, its flags and its required robustness, at most 7, and leaves the packet's bits in `pen`,
     /// which is empty and has room for them. A packet whose number is at most its required robustness is forced to carry
     /// mask and whole content and to take no new mask.

@@ -17,7 +17,7 @@ use Rattle.packet_store.specs.declared.fault.StoreFault.TheVariants.{Cut, Versio
 use Rattle.packet_store.specs.declared.reader.Taken.{Taken}
 use Rattle.packet_store.specs.SpacePackets.{IsHeader, header_of, packet_bytes, is_chosen, is_misshapen}
 use Rattle.packet_store.specs.Walks.{IsGood, Front, End, Good, Bad, front_after, front, Walk, packet_first, stopped_at, walk_from}
-use Rattle.packet_store.specs.StoreReader.{ReaderState, state_of, Takes, Stops, IsOnlyCut, Waits, AfterFault}
+use Rattle.packet_store.specs.StoreReader.{ReaderState, reader_state, TakesPacket, Stops, IsOnlyCut, Waits, AfterFault}
 use Rattle.packet_store.specs.Reading.{front_packet, BeginsWithPacket, IsEarly, AfterUnread}
 use Rattle.packet_store.proofs.Packets.{header_at-header_of, by_checks-Good, from_long}
 use Rattle.packet_store.proofs.Walks.{walk_from-none, walk_from-good, walk_from-bad, walk_from-too_many, walk_from-early}
@@ -153,17 +153,17 @@ packet_bytes-front h bytes spelled =
     let held = take (h.length + 7) bytes in
     sym (take-append-drop 6 held) ∙ ap (λ l. l ++ drop 6 held) (take-take 6 (h.length + 7) bytes (omega arith) ∙ spelled)
 
-pub Takes-read : (s : ReaderState) (h : Header) (held : ℕ) (input : List ℕ) (given : Taken) (a b : Meanings) → s.live ≡ true → s.taken < 2 ^ 32 → h.length + 7 ≡ held
+pub TakesPacket-read : (s : ReaderState) (h : Header) (held : ℕ) (input : List ℕ) (given : Taken) (a b : Meanings) → s.live ≡ true → s.taken < 2 ^ 32 → h.length + 7 ≡ held
     → IsGood s.chosen (front_packet h input) → take 6 input ≡ header_of h → ReadsOn s.ahead input a b
-    → given.chosen ≡ is_chosen s.chosen h → given.count ≡ h.count → Takes s (state_of s.chosen (s.taken + 1) (s.offset + held) true held input) a b given
-Takes-read s h held input given a b live few size good header read chosen count =
+    → given.chosen ≡ is_chosen s.chosen h → given.count ≡ h.count → TakesPacket s (reader_state s.chosen (s.taken + 1) (s.offset + held) true held input) a b given
+TakesPacket-read s h held input given a b live few size good header read chosen count =
     let n = h.length + 7 in
     let p = front_packet h input in
     let spelled = packet_bytes-front h input header in
     let long : n ≡ length (packet_bytes p) = omega (arith, good.whole, length-append (header_of h) p.body) in
     let place : s.offset + length (packet_bytes p) ≡ s.offset + n = ap (λ k. s.offset + k) (sym long) in
     let split = sym (take-append-drop n input) in
-    let all : Takes s (state_of s.chosen (s.taken + 1) (s.offset + n) true n input) a b given = record {
+    let all : TakesPacket s (reader_state s.chosen (s.taken + 1) (s.offset + n) true n input) a b given = record {
       header = h;
       good = good;
       packet = spelled;
@@ -178,4 +178,4 @@ Takes-read s h held input given a b live few size good header read chosen count 
           ap (walk_from s.chosen s.taken s.offset) (same_input s input a b read rest ∙ (ap (λ l. l ++ rest) split ∙ (append_assoc (take n input) (drop n input) rest ∙ ap (λ l. l ++ (drop n input ++ rest)) spelled)))
           ∙ (walk_from-good s.chosen s.taken s.offset p (drop n input ++ rest) good few ∙ ap (λ k. packet_first p (walk_from s.chosen (s.taken + 1) k (drop n input ++ rest))) place);
     } in
-    subst (λ k. Takes s (state_of s.chosen (s.taken + 1) (s.offset + k) true k input) a b given) size all
+    subst (λ k. TakesPacket s (reader_state s.chosen (s.taken + 1) (s.offset + k) true k input) a b given) size all

@@ -12,7 +12,7 @@ use Rattle.packet_store.specs.declared.fault.StoreFault.TheVariants.{Cut, Versio
 use Rattle.packet_store.specs.SpacePackets.{Packet}
 use Rattle.packet_store.specs.Walks.{Walk, walk_from}
 use Rattle.packet_store.specs.Faults.{stop_of}
-use Rattle.packet_store.specs.StoreReader.{ReaderState, walk_over, Takes, Stops, AfterFault}
+use Rattle.packet_store.specs.StoreReader.{ReaderState, walk_over, TakesPacket, Stops, AfterFault}
 use Rattle.packet_store.proofs.Walks.{walk_from-none}
 
 StopsAt-store : {s : ReaderState} {ahead : List ℕ} {a b : Meanings} {reason : WalkFault} → Stops s ahead a b reason → StopsAt (walk_over s) a b reason
@@ -31,7 +31,7 @@ abbrev pub packet_of : Header → ReaderState → Packet
 packet_of header reader = record { header = header; body = reader.body }
 
 -- is the next one of the walk
-pub TakesItem-store : {s t : ReaderState} {a b : Meanings} {given : Taken} (takes : Takes s t a b given) → TakesItem (walk_over s) (walk_over t) a b (packet_of takes.header t)
+pub TakesItem-store : {s t : ReaderState} {a b : Meanings} {given : Taken} (takes : TakesPacket s t a b given) → TakesItem (walk_over s) (walk_over t) a b (packet_of takes.header t)
 TakesItem-store takes = record { taken = takes.taken; moved = takes.moved; items = λ rest. ap (λ (w : Walk). w.packets) (takes.goes_on rest); ending = λ rest. ap (λ (w : Walk). w.ending) (takes.goes_on rest) }
 
 -- nothing is left of the store

@@ -42,7 +42,7 @@ walk_over s = record { items = λ bytes. (walk_on s bytes).packets; ending = λ 
 
 -- Some bytes were read after those that were ahead, and nothing else happened to the desk. One packet of the walk was
 -- taken, which the reader keeps, and the walk goes on after it.
-pub record Takes (old new : ReaderState) (before after : Meanings) (given : Taken) : Type 0 where
+pub record TakesPacket (old new : ReaderState) (before after : Meanings) (given : Taken) : Type 0 where
   pub header : Header
   pub good : IsGood old.chosen (record { header = header; body = new.body })
   pub packet : new.packet ≡ packet_bytes (record { header = header; body = new.body })
@@ -91,8 +91,8 @@ AfterFault old ahead before after TooMany = Stops old ahead before after fault.T
 AfterFault old ahead before after ReadFault = Waits old ahead before after
 
 -- what a reader keeps: the latest packet, of the given length, comes before what is ahead
-abbrev pub state_of : Option ℕ → ℕ → ℕ → Bool → ℕ → List ℕ → ReaderState
-state_of chosen taken offset live held input = record {
+abbrev pub reader_state : Option ℕ → ℕ → ℕ → Bool → ℕ → List ℕ → ReaderState
+reader_state chosen taken offset live held input = record {
   chosen = chosen;
   taken = taken;
   offset = offset;

@@ -6,7 +6,7 @@ ghost use Rattle.desk_ports.specs.Meanings.{Moves, IsReadyIn, left};
 ghost use Rattle.packet_store.specs.Answers.{IfGiven, OnEnd, OnStop};
 ghost use Rattle.packet_store.specs.Faults.{HasStoreCause};
 ghost use Rattle.packet_store.specs.Reading.{BeginsWithPacket};
-ghost use Rattle.packet_store.specs.StoreReader.{Takes, AfterFault, opened, stopped};
+ghost use Rattle.packet_store.specs.StoreReader.{TakesPacket, AfterFault, opened, stopped};
 
 use crate::fault::StoreFault;
 use crate::header::HEADER_BYTES;
@@ -50,11 +50,11 @@ pub struct StoreReader {
 
 impl Model for StoreReader {
     ghost use Rattle.std.specs.Prelude.{length};
-    ghost use Rattle.packet_store.specs.StoreReader.{ReaderState, state_of, IsReader};
+    ghost use Rattle.packet_store.specs.StoreReader.{ReaderState, reader_state, IsReader};
 
     ghost Value = { ReaderState };
 
-    ghost view = { λ r. state_of r.chosen r.taken r.offset r.live r.held r.input };
+    ghost view = { λ r. reader_state r.chosen r.taken r.offset r.live r.held r.input };
 
     ghost invariant = { λ r. IsReader r.taken r.offset r.held (length r.input) };
 }
@@ -102,7 +102,7 @@ impl StoreReader {
 
         // `Some`: the next packet of the walk was taken.
         ensures some { IfGiven result
-            (Takes self.old self.new (D.meaning desk.old) (D.meaning desk.new)) }
+            (TakesPacket self.old self.new (D.meaning desk.old) (D.meaning desk.new)) }
 
         // `None`: nothing was left, neither ahead nor at the desk.
         ensures ahead { OnEnd result (self.old.ahead ≡ []) }

@@ -12,7 +12,7 @@ use Rattle.param_table.specs.declared.rows.LimitRow.{LimitRow}
 use Rattle.param_table.specs.declared.rows.TextRow.{TextRow}
 use Rattle.param_table.specs.declared.rows.TextRow.TheVariants as row
 use Rattle.param_table.specs.declared.rows.Column.{Column}
-use Rattle.param_table.specs.Rows.{columns_of, is_field, name_of, names_field, names_limit}
+use Rattle.param_table.specs.Rows.{columns_of, is_field, name_in, names_field, names_limit}
 
 -- `s` for signed numbers and `u` for others
 abbrev pub is_signed_kind : List ℕ → Option Bool
@@ -25,7 +25,7 @@ field_row_of f before fields =
       place ← field_at fields 1 >>= number_of 0 (f - 1)
       width ← field_at fields 2 >>= number_of 1 (min 64 (f - place))
       signed ← field_at fields 3 >>= is_signed_kind
-      name ← field_at fields 4 >>= name_of
+      name ← field_at fields 4 >>= name_in
       if list_any (names_field name) before then None
           else Some (record { place = place; width = width; signed = signed; name = name }))
     else None
@@ -34,7 +34,7 @@ field_row_of f before fields =
 abbrev pub limit_row_of : List TextRow → List (List ℕ) → Option LimitRow
 limit_row_of before fields =
     if length fields == 4 then (do
-      name ← field_at fields 1 >>= name_of
+      name ← field_at fields 1 >>= name_in
       low ← field_at fields 2 >>= signed_number_of
       high ← field_at fields 3 >>= signed_number_of
       if list_any (names_field name) before && (not (list_any (names_limit name) before) && not (int_lt high low))

@@ -22,8 +22,8 @@ is_name [] = false
 is_name (first ∷ rest) = is_ascii_alphabetic first && (nat_le (length (first ∷ rest)) 32 && list_all is_name_byte (first ∷ rest))
 
 -- the name that a text is, if it is one
-abbrev pub name_of : List ℕ → Option (List ℕ)
-name_of text = if is_name text then Some text else None
+abbrev pub name_in : List ℕ → Option (List ℕ)
+name_in text = if is_name text then Some text else None
 
 abbrev pub same_name : List ℕ → List ℕ → Bool
 same_name = bytes_eq

@@ -29,8 +29,8 @@ abbrev pub packets_texts : List Column → ℕ → List (List Bool) → List Out
 packets_texts columns t packets = map (packet_texts columns) (numbered_from t packets)
 
 -- the last row for these packets
-abbrev pub last_row : List Column → List (List Bool) → List ℕ
-last_row columns packets = end_row (length packets) (length (violations columns 0 packets))
+abbrev pub last_report_row : List Column → List (List Bool) → List ℕ
+last_report_row columns packets = end_row (length packets) (length (violations columns 0 packets))
 
 -- What tabulating a recording owes: the lines and rows of its packets, the last row if the recording is whole, and otherwise
 -- the fault that ends its walk.
@@ -40,7 +40,7 @@ table_course k recording = record {
     output = table_text k.columns (recording_walk k.places recording).inputs;
     report = header_row ++ violation_rows (violations k.columns 0 (recording_walk k.places recording).inputs);
   };
-  after = to_report (last_row k.columns (recording_walk k.places recording).inputs);
+  after = to_report (last_report_row k.columns (recording_walk k.places recording).inputs);
   ending = (recording_walk k.places recording).ending;
 }
 
@@ -49,7 +49,7 @@ abbrev pub table_parts : Tabulation → List ℕ → List Outputs
 table_parts k recording =
     headers k.columns
     ∷ packets_texts k.columns 0 (recording_walk k.places recording).inputs
-    ++ if_whole (recording_walk k.places recording).ending (to_report (last_row k.columns (recording_walk k.places recording).inputs) ∷ [])
+    ++ if_whole (recording_walk k.places recording).ending (to_report (last_report_row k.columns (recording_walk k.places recording).inputs) ∷ [])
 
 -- the work of tabulating a recording, whose answer is the number of its packets
 abbrev pub table_work : Tabulation → Work ℕ RecordFault

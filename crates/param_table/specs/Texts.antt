@@ -11,8 +11,8 @@ abbrev pub numbered_from : ℕ → List (List Bool) → List (ℕ × List Bool)
 numbered_from t packets = zip (range_with_len t (length packets)) packets
 
 -- the value of a column in a packet
-abbrev pub value_of : List Bool → Column → ℤ
-value_of packet column = cell_in packet column.field.place column.field.width column.field.signed
+abbrev pub column_value : List Bool → Column → ℤ
+column_value packet column = cell_in packet column.field.place column.field.width column.field.signed
 
 -- ---- the table
 
@@ -20,7 +20,7 @@ abbrev pub comma_name : Column → List ℕ
 comma_name column = codes "," ++ column.field.name
 
 abbrev pub comma_value : List Bool → Column → List ℕ
-comma_value packet column = codes "," ++ signed_decimal (value_of packet column)
+comma_value packet column = codes "," ++ signed_decimal (column_value packet column)
 
 -- `t` and the names of the fields
 abbrev pub names_line : List Column → List ℕ
@@ -56,7 +56,7 @@ violation_by (Some limit) t name value =
     if is_outside limit value then Some (record { packet = t; name = name; value = value; limit = limit }) else None
 
 abbrev pub violation_of : ℕ × List Bool → Column → Option Violation
-violation_of packet column = violation_by column.limit packet.0 column.field.name (value_of packet.1 column)
+violation_of packet column = violation_by column.limit packet.0 column.field.name (column_value packet.1 column)
 
 -- those of one packet, field by field
 abbrev pub packet_violations : List Column → ℕ × List Bool → List Violation

@@ -1,6 +1,6 @@
 //! Which records are rows.
 
-ghost use Rattle.std.specs.Prelude.{◌≡◌, ◌≤◌, count_by, IfSome};
+ghost use Rattle.std.specs.Prelude.{◌≡◌, count_by, IfSome};
 ghost use Rattle.std.specs.List.{list_any};
 ghost use Rattle.csv.specs.Records.{fields_of};
 ghost use Rattle.param_table.specs.Rows.{IsFieldRow, IsLimitRow, IsTextRow, is_field, names_field, names_limit};

@@ -1,8 +1,8 @@
 //! Names of fields.
 
-ghost use Rattle.std.specs.Prelude.{◌≡◌, ◌≤◌, length, IfSome};
+ghost use Rattle.std.specs.Prelude.{◌≡◌, ◌≤◌, length};
 ghost use Rattle.std.specs.List.{list_all};
-ghost use Rattle.param_table.specs.Rows.{is_name, is_name_byte, name_of, same_name};
+ghost use Rattle.param_table.specs.Rows.{is_name, is_name_byte, name_in, same_name};
 
 use arrayvec::ArrayVec;
 use std::marker::Model;
@@ -27,7 +27,7 @@ impl Model for Name {
 impl Name {
     /// The name that a text is, if it is one.
     pub(crate) fn of(text: &[u8]) -> Option<Name>
-        ensures { result ≡ name_of text.now }
+        ensures { result ≡ name_in text.now }
     {
         if !is_name(text) {
             return None;

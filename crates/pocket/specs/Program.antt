@@ -1,5 +1,5 @@
 -- What the program itself answers, and what it leaves at its desk of files.
-use Rattle.std.specs.Prelude.{◌≡◌, ℕ, ◌≤◌, ◌⊎◌, List, [], ◌∷◌, codes, ◌&&◌, ◌||◌, Option, Some, None, is_some, Result, Err, if◌then◌else◌, take, map}
+use Rattle.std.specs.Prelude.{ℕ, ◌≤◌, ◌⊎◌, List, [], ◌∷◌, codes, ◌&&◌, ◌||◌, Option, Some, None, is_some, Result, Err, if◌then◌else◌, take, map}
 use Rattle.std.specs.Str.{bytes_eq}
 use Rattle.std.specs.String.{string_bytes}
 use Rattle.std.specs.declared.string.String.{String}

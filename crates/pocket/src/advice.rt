@@ -4,14 +4,11 @@
 use crate::causes::{reading_cause, told_writing};
 use crate::keys::{Takes, row_of, value_of};
 use crate::row_faults::{RowKind, fault_of};
-use pocket_cmd::{Kind, Refusal, VERB_WORDS, Verb};
+use pocket_cmd::{MOST_TEXT_BYTES, Refusal, VERB_WORDS, ValueKind, Verb};
 use std::fmt::{Display, Formatter};
 use std::io::IsTerminal;
 use std::{env, fmt, fs};
 use strsim::levenshtein;
-
-/// The longest text of which a row is told, in bytes. No text that is longer is read as rows.
-const LONGEST: u64 = 1_048_576;
 
 /// How many characters of a word, a name or a row are shown.
 const MOST: usize = 200;
@@ -116,12 +113,12 @@ fn tell_value(rt: &HostRuntime, name: &str, verb: Verb, before: &[String], word:
         return tell_key(rt, name, verb, key);
     };
     let takes = Takes(row);
-    let is_number = matches!(row.value(), Kind::Number(..));
+    let is_number = matches!(row.value(), ValueKind::Number(..));
     let _ = if value_of(before, key).is_some() {
         eprintln!(rt; "pocket: {shown}: an earlier word has this key")
     } else if is_number {
         eprintln!(rt; "pocket: {shown}: {takes}; digits alone, without a zero in front")
-    } else if matches!(row.value(), Kind::Name(_)) && !value.is_empty() {
+    } else if matches!(row.value(), ValueKind::Name(_)) && !value.is_empty() {
         eprintln!(rt; "pocket: {shown}: another key has this name")
     } else {
         eprintln!(rt; "pocket: {shown}: {takes}")
@@ -173,7 +170,8 @@ fn tell_row(rt: &HostRuntime, words: &[String], key: &str, kind: RowKind, row: u
     let Some(name) = value_of(words, key) else {
         return;
     };
-    let is_short = fs::metadata(rt, name).is_ok_and(|it| it.is_file() && it.len() <= LONGEST);
+    let is_short = fs::metadata(rt, name).is_ok_and(|it| it.is_file()
+        && it.len() <= MOST_TEXT_BYTES as u64);
     if name == "-" || !is_short {
         return;
     }

@@ -1,18 +1,18 @@
 //! What the keys of a verb take: by the rows of the command, and in the words of the help.
 
 use crate::HELP;
-use pocket_cmd::{Kind, Row, Verb};
+use pocket_cmd::{KeyRow, ValueKind, Verb};
 use std::fmt;
 use std::fmt::{Display, Formatter};
 
 /// What a key takes, in words: what the help says of it, and the numbers that this verb takes.
 #[derive(Clone, Copy)]
-pub struct Takes(pub Row);
+pub struct Takes(pub KeyRow);
 
 impl Display for Takes {
     fn fmt<W: fmt::Write>(&self, f: &mut Formatter<W>) -> fmt::Result {
         let meaning = meaning_of(self.0.key());
-        let Kind::Number(low, high) = self.0.value() else {
+        let ValueKind::Number(low, high) = self.0.value() else {
             return f.write_str(meaning);
         };
         let meaning = match meaning.split_once(", ") {
@@ -24,7 +24,7 @@ impl Display for Takes {
 }
 
 /// The row of a key that a verb has.
-pub fn row_of(verb: Verb, key: &str) -> Option<Row> {
+pub fn row_of(verb: Verb, key: &str) -> Option<KeyRow> {
     for row in verb.rows() {
         if row.key() == key {
             return Some(*row);

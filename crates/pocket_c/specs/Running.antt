@@ -26,8 +26,8 @@ use Rattle.pocket_c.specs.Bench.{BenchState}
 use Rattle.pocket_c.specs.CommandDesk.{give_name, lack_name, told}
 
 -- the words give this command
-abbrev pub Gives : BenchState → Command → Type 0
-Gives bench command = command_of bench.words ≡ Ok command
+abbrev pub GivesCommand : BenchState → Command → Type 0
+GivesCommand bench command = command_of bench.words ≡ Ok command
 
 -- what the desk tells the command before it runs
 abbrev pub at_first : BenchState → Meanings
@@ -45,31 +45,31 @@ pub record HasRun (old new : BenchState) (answer : Status) : Type 0 where
   pub bad_words : (word : ℕ) → (answer ≡ status.Refused (refusal.BadWords word)) ↔ (command_of old.words ≡ Err word)
   pub not_called : (word : ℕ) → answer ≡ status.Refused (refusal.BadWords word) → mem_meanings new.desk ≡ mem_meanings old.desk
   pub stands : (ending : Option DataFault) → answer ≡ status_of ending
-      → (command : Command) × Gives old command × Stands command (at_first old) (told granted new.desk) ending
-  pub refused : (why : Refusal) (command : Command) → answer ≡ status.Refused why → Gives old command
+      → (command : Command) × GivesCommand old command × Stands command (at_first old) (told granted new.desk) ending
+  pub refused : (why : Refusal) (command : Command) → answer ≡ status.Refused why → GivesCommand old command
       → AfterRefusal command (at_first old) (told granted new.desk) why
-  pub leaves : (why : Refusal) (command : Command) → answer ≡ status.Refused why → Gives old command
+  pub leaves : (why : Refusal) (command : Command) → answer ≡ status.Refused why → GivesCommand old command
       → Leaves command (at_first old) (told granted new.desk) why
-  pub kept : (command : Command) → answer ≡ status.Done → Gives old command → AreKeptAsMade (names_of command) (told granted new.desk)
-  pub side_text : (command : Command) (text : List ℕ) → Gives old command
+  pub kept : (command : Command) → answer ≡ status.Done → GivesCommand old command → AreKeptAsMade (names_of command) (told granted new.desk)
+  pub side_text : (command : Command) (text : List ℕ) → GivesCommand old command
       → side_given (at_first old) (names_of command).side ≡ Some text → answer ≢ status.Refused refusal.NoMemory
       → answer ≢ status.Refused refusal.ReadFault → IsSideJudged command text answer
-  pub read_no_further : (command : Command) (text : List ℕ) → Gives old command
+  pub read_no_further : (command : Command) (text : List ℕ) → GivesCommand old command
       → side_given (at_first old) (names_of command).side ≡ Some text → answer ≡ status.Refused refusal.SideTooLong
       → left (told granted new.desk) inlet.Side ≡ Some (drop 1048577 text)
-  pub bad_side : (command : Command) (text : List ℕ) (bad : BadText) → Gives old command
+  pub bad_side : (command : Command) (text : List ℕ) (bad : BadText) → GivesCommand old command
       → side_given (at_first old) (names_of command).side ≡ Some text → IsTextBad (bad_row_of command) text bad
       → answer ≢ status.Refused refusal.NoMemory → IsTextFirst inlet.Side (at_first old) text bad (told granted new.desk) answer
-  pub bad_script : (given : Words) (plan script : List ℕ) (bad : BadText) → Gives old (Forecast, given)
+  pub bad_script : (given : Words) (plan script : List ℕ) (bad : BadText) → GivesCommand old (Forecast, given)
       → AreTold (names_of (Forecast, given)) (at_first old) plan script → IsSideRight (Forecast, given) plan → IsTextBad bad_copy_row script bad
       → answer ≢ status.Refused refusal.NoMemory
       → IsScriptFirst (names_of (Forecast, given)).side (at_first old) plan script bad (told granted new.desk) answer
-  pub ends : (command : Command) (text input : List ℕ) → Gives old command → AreTold (names_of command) (at_first old) text input
+  pub ends : (command : Command) (text input : List ℕ) → GivesCommand old command → AreTold (names_of command) (at_first old) text input
       → answer ≢ status.Refused refusal.ReadFault → (answer ≡ answer_to command text input) ⊎ LacksMemory new answer
-  pub complete : (command : Command) (text input : List ℕ) → Gives old command → AreTold (names_of command) (at_first old) text input
+  pub complete : (command : Command) (text input : List ℕ) → GivesCommand old command → AreTold (names_of command) (at_first old) text input
       → lack_name old.desk.held old.words ≡ false → IsSideRight command text → IsInputWhole command input
       → (answer ≡ status.Done) ⊎ LacksMemory new answer
-  pub headline : (given : Words) (h : History) (copies : ℕ → ℕ) → Gives old (Restore, given) → IsPlayedStore given h copies (at_first old)
+  pub headline : (given : Words) (h : History) (copies : ℕ → ℕ) → GivesCommand old (Restore, given) → IsPlayedStore given h copies (at_first old)
       → answer ≡ status.Done
       → HasWritten (names_of (Restore, given)) (record { output = restored_bytes h copies; report = report_text h copies }) (told granted new.desk)
   pub reads : answer ≡ status.Refused refusal.ReadFault → lack_name old.desk.held old.words ≡ true

@@ -1,11 +1,11 @@
 -- What C sees of a verdict.
-use Rattle.std.specs.Prelude.{ℕ, ◌+◌, ◌-◌, ◌^◌, min, Bool, Option, None, Some}
+use Rattle.std.specs.Prelude.{ℕ, ◌+◌, ◌-◌, ◌^◌, min, Option, None, Some}
 use Rattle.ground_chain.specs.declared.restored.Restored.{Restored}
 use Rattle.ground_chain.specs.declared.verdict.Lost.{Lost}
 use Rattle.ground_chain.specs.declared.verdict.Kind.{Kind}
 use Rattle.ground_chain.specs.declared.verdict.Kind.TheVariants.{Written, Repeat, Unsynced, Gap, Refused}
 use Rattle.ground_chain.specs.declared.verdict.Verdict.{Verdict}
-use Rattle.ground_chain.specs.Report.{tells_mask_alone, value_of as value_in}
+use Rattle.ground_chain.specs.Report.{tells_mask_alone, kind_value}
 use Rattle.bit_vectors.specs.declared.fault.BitFault.TheVariants.{Wrong, EndsEarly}
 use Rattle.pocket_c.specs.declared.receiver.Counts.{Counts}
 use Rattle.pocket_c.specs.declared.receiver.Finding.{Finding}
@@ -17,13 +17,6 @@ kind_number (Unsynced mask) = 2
 kind_number (Gap level mask) = 3
 kind_number (Refused (Wrong bit)) = 4
 kind_number (Refused (EndsEarly bit)) = 5
-
--- what belongs to a kind, as in the report
-abbrev pub value_of : Kind → ℕ
-value_of kind = value_in kind
-
-abbrev pub mask_known : Kind → Bool
-mask_known kind = tells_mask_alone kind
 
 -- the first lost number, and 0 if none is
 abbrev pub first_lost : Option Lost → ℕ
@@ -41,9 +34,9 @@ finding_of verdict = record {
   first_lost = first_lost verdict.lost;
   lost = lost_number verdict.lost;
   kind = kind_number verdict.kind;
-  value = value_of verdict.kind;
-  mask_alone = mask_known verdict.kind;
+  value = kind_value verdict.kind;
+  mask_alone = tells_mask_alone verdict.kind;
 }
 
-abbrev pub counts_of : Restored → Counts
-counts_of r = record { packets = r.packets; written = r.written; repeats = r.repeats; listed = r.listed }
+abbrev pub counts_told : Restored → Counts
+counts_told r = record { packets = r.packets; written = r.written; repeats = r.repeats; listed = r.listed }

@@ -1,9 +1,11 @@
 //! A desk in memory at which commands are run.
 
-ghost use Rattle.std.specs.Prelude.{◌≡◌, ◌<◌, ◌↔◌, ◌++◌, ◌∷◌, [], IsTrue, OnOk, OnErr, length};
+ghost use Rattle.std.specs.Prelude.{◌≡◌, ◌<◌, ◌↔◌, ◌++◌, ◌∷◌, [], true, false, find, is_some, IsTrue, OnOk, OnErr, length};
 ghost use Rattle.std.specs.FinMap as map;
+ghost use Rattle.std.specs.Option.{option_copied};
 ghost use Rattle.desk_ports.specs.Meanings.{kept_at};
 ghost use Rattle.desk_ports.specs.MemState.{empty_desk};
+ghost use Rattle.desk_ports.specs.Names.{is_from, without_name};
 ghost use Rattle.pocket_c.specs.Running.{HasRun};
 
 use crate::command_desk::CommandDesk;
@@ -67,6 +69,23 @@ impl Bench {
         ensures { result.now ≡ kept_at self.now.desk.held name.now }
     {
         self.desk.get(name)
+    }
+
+    /// Removes what is kept under the name, or tells that nothing is kept under it.
+    pub fn remove(&mut self, name: &str) -> bool
+        ensures told { result ≡ is_some (map.get self.old.desk.held name.now) }
+        ensures removed { result ≡ true
+            → self.new ≡ record self.old { desk = without_name self.old.desk name.now } }
+        ensures unchanged { result ≡ false → self.new ≡ self.old }
+    {
+        self.desk.remove(name)
+    }
+
+    /// The first name, in the order of their bytes, under which something is kept and that is not below these bytes.
+    pub fn name_from(&self, from: &[u8]) -> Option<&[u8]>
+        ensures { option_copied result ≡ find (is_from from.now) (map.keys self.now.desk.held) }
+    {
+        self.desk.name_from(from)
     }
 
     /// Whether there is room for another word.

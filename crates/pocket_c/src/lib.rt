@@ -15,11 +15,16 @@ mod status;
 mod stream;
 
 pub use bench::Bench;
-pub use desk::{pocket_desk_open, pocket_get, pocket_put, pocket_run, pocket_word};
+pub use desk::{
+    pocket_desk_open, pocket_get, pocket_name_from, pocket_put, pocket_remove, pocket_run,
+    pocket_word,
+};
 pub use handle::pocket_close;
 pub use held::{Handle, Held};
 pub use laws::handles_pass_between_threads;
-pub use receiver::{Counts, Finding, pocket_counts, pocket_receive, pocket_receiver_open};
-pub use sender::{pocket_send, pocket_sender_open};
-pub use status::Status;
+pub use receiver::{
+    Counts, Finding, pocket_counts, pocket_receive, pocket_receiver_open, pocket_receiver_reset,
+};
+pub use sender::{pocket_send, pocket_sender_open, pocket_sender_reset};
+pub use status::CallStatus;
 pub use stream::{pocket_bits, pocket_sent};

@@ -1,18 +1,19 @@
 //! The calls of a receiver.
 
-ghost use Rattle.std.specs.Prelude.{◌≡◌, ℕ, ◌^◌, ◌<◌, ◌≤◌, ◌↔◌, ◌⊎◌, ◌++◌, ◌∷◌, [], List, Err, None, Some, length, drop};
-ghost use Rattle.bit_vectors.specs.Vectors.{byte_count};
-ghost use Rattle.packet_store.specs.SpacePackets.{period};
+ghost use Rattle.std.specs.Prelude.{◌≡◌, ℕ, ◌<◌, ◌↔◌, ◌++◌, ◌∷◌, [], List, Err, None, Some, length, drop};
 ghost use Rattle.ground_chain.specs.Reception.{next_judged};
 ghost use Rattle.ground_chain.specs.Reckoning.{HasJudged, Judges, Reckoning, nothing_judged};
 ghost use Rattle.ground_chain.specs.Report.{written_bytes};
 ghost use Rattle.ground_chain.specs.Run.{Arrival};
+ghost use Rattle.packet_calls.specs.Refusals.{opening_fault};
+ghost use Rattle.pocket_c.specs.Answers.{opening_status, receiving_status};
 ghost use Rattle.pocket_c.specs.Kinds.{HasOtherThanReceiver};
-ghost use Rattle.pocket_c.specs.Statuses.{IsOneOf, number_of};
-ghost use Rattle.pocket_c.specs.Verdicts.{counts_of, finding_of, first_lost, kind_number, lost_number, mask_known, value_of};
+ghost use Rattle.pocket_c.specs.Statuses.{IsOneOf, status_number};
+ghost use Rattle.ground_chain.specs.Report.{kind_value, tells_mask_alone};
+ghost use Rattle.pocket_c.specs.Verdicts.{counts_told, finding_of, first_lost, kind_number, lost_number};
 
 use crate::held::{Handle, Held};
-use crate::status::Status;
+use crate::status::CallStatus;
 use bit_vectors::BitFault;
 use ground_chain::{Kind, Lost, Restored, Verdict};
 use packet_calls::Receiver;
@@ -83,7 +84,7 @@ fn lost_before(lost: Option<Lost>) -> (u64, u64)
 /// The number of a kind, and what belongs to it.
 fn numbers_of(kind: Kind) -> (u32, u32)
     ensures kind { result.0 ≡ kind_number kind }
-    ensures value { result.1 ≡ value_of kind }
+    ensures value { result.1 ≡ kind_value kind }
 {
     match kind {
         Kind::Written => (0, 0),
@@ -101,7 +102,7 @@ fn numbers_of(kind: Kind) -> (u32, u32)
 
 /// Whether the mask of an arrival became known, and its content did not.
 fn is_mask_alone(kind: Kind) -> bool
-    ensures { result ≡ mask_known kind }
+    ensures { result ≡ tells_mask_alone kind }
 {
     match kind {
         Kind::Unsynced { mask } => mask,
@@ -112,7 +113,7 @@ fn is_mask_alone(kind: Kind) -> bool
 
 /// The numbers of the arrivals so far, as C sees them.
 fn counts_by(restored: &Restored) -> Counts
-    ensures { result ≡ counts_of restored.now }
+    ensures { result ≡ counts_told restored.now }
 {
     Counts {
         packets: restored.packets,
@@ -126,32 +127,62 @@ fn counts_by(restored: &Restored) -> Counts
 /// need.
 #[unsafe(no_mangle)]
 pub extern "C" fn pocket_receiver_open(alloc: Global, handle: &mut Handle, places: u32) -> u32
-    ensures only { IsOneOf result (Status.Done ∷ Status.NoMemory ∷ Status.Open ∷ Status.Places ∷ []) }
-    ensures open { (result ≡ number_of Status.Open) ↔ (handle.old.held ≡ None → ⊥) }
-    ensures places { (result ≡ number_of Status.Places)
-        ↔ ((handle.old.held ≡ None) × ((places ≡ 0) ⊎ (49152 < places))) }
-    ensures right { (result ≡ number_of Status.NoMemory → ⊥) → (result ≡ number_of Status.Done)
-        ↔ ((handle.old.held ≡ None) × (1 ≤ places) × (places ≤ 49152)) }
-    ensures opened { result ≡ number_of Status.Done
+    ensures answer { (result ≡ status_number CallStatus.NoMemory → ⊥)
+        → result ≡ status_number (opening_status handle.old.held places None) }
+    ensures no_memory { result ≡ status_number CallStatus.NoMemory
+        → (handle.old.held ≡ None) × (opening_fault places None ≡ None) }
+    ensures opened { result ≡ status_number CallStatus.Done
         → (r : Reckoning) × (handle.new.held ≡ Some (Held.Receiver r))
         × (r ≡ nothing_judged places) × HasJudged places [] r }
-    ensures unchanged { (result ≡ number_of Status.Done → ⊥)
+    ensures unchanged { (result ≡ status_number CallStatus.Done → ⊥)
         → handle.new.held ≡ handle.old.held }
 {
     if let Some(held) = handle.take(alloc) {
         handle.put(alloc, held);
-        return Status::Open.number();
+        return CallStatus::Open.number();
     }
     match Receiver::open(alloc, places) {
         Ok(receiver) => match Box::new(alloc, Held::Receiver(receiver)) {
             Ok(held) => {
                 handle.put(alloc, held);
-                Status::Done.number()
+                CallStatus::Done.number()
             }
-            Err(_) => Status::NoMemory.number(),
+            Err(_) => CallStatus::NoMemory.number(),
         },
-        Err(fault) => Status::from(fault).number(),
+        Err(fault) => CallStatus::from(fault).number(),
     }
+}
+
+/// Begins a new stream by the receiver that a handle holds, in the memory that it has: nothing has arrived. Its contents have as many
+/// bits as before. It takes no memory.
+#[unsafe(no_mangle)]
+pub extern "C" fn pocket_receiver_reset(alloc: Global, handle: &mut Handle) -> u32
+    ensures only { IsOneOf result (CallStatus.Done ∷ CallStatus.Closed ∷ CallStatus.OtherKind ∷ []) }
+    ensures closed { (result ≡ status_number CallStatus.Closed) ↔ (handle.old.held ≡ None) }
+    ensures other { (result ≡ status_number CallStatus.OtherKind)
+        ↔ HasOtherThanReceiver handle.old.held }
+    ensures unchanged { (result ≡ status_number CallStatus.Done → ⊥)
+        → handle.new.held ≡ handle.old.held }
+    ensures right { (r : Reckoning) → handle.old.held ≡ Some (Held.Receiver r)
+        → result ≡ status_number CallStatus.Done }
+    // It is what `pocket_receiver_open` gives for as many bits.
+    ensures anew { (r : Reckoning) → handle.old.held ≡ Some (Held.Receiver r)
+        → let f = r.reception.decoder.places in
+        (next : Reckoning) × (handle.new.held ≡ Some (Held.Receiver next))
+        × (next ≡ nothing_judged f) × HasJudged f [] next }
+{
+    let Some(mut held) = handle.take(alloc) else {
+        return CallStatus::Closed.number();
+    };
+    let status = match &mut *held {
+        Held::Receiver(receiver) => {
+            receiver.reset();
+            CallStatus::Done
+        }
+        Held::Sender(_) | Held::Bench(_) => CallStatus::OtherKind,
+    };
+    handle.put(alloc, held);
+    status.number()
 }
 
 /// Judges the next arrival by the receiver that a handle holds: `finding` tells what is found of it, and if it is written its
@@ -165,62 +196,40 @@ pub extern "C" fn pocket_receive(
     out: &mut [u8],
     found: &mut Finding,
 ) -> u32
-    ensures only { IsOneOf result
-        (Status.Done ∷ Status.Closed ∷ Status.OtherKind ∷ Status.Count ∷ Status.TooLong ∷ Status.NoRoom
-        ∷ Status.TooMany ∷ []) }
-    ensures closed { (result ≡ number_of Status.Closed) ↔ (handle.old.held ≡ None) }
-    ensures other { (result ≡ number_of Status.OtherKind)
-        ↔ HasOtherThanReceiver handle.old.held }
-    ensures taken { (r : Reckoning) → handle.old.held ≡ Some (Held.Receiver r)
-        → (result ≡ number_of Status.Done) ↔ ((count < period) × (length bytes.now ≤ 65536)
-        × (byte_count r.reception.decoder.places ≤ length out.old)
-        × (r.restored.packets < 2 ^ 32)) }
-    ensures count { (r : Reckoning) → handle.old.held ≡ Some (Held.Receiver r)
-        → (result ≡ number_of Status.Count) ↔ (period ≤ count) }
-    ensures too_long { (r : Reckoning) → handle.old.held ≡ Some (Held.Receiver r)
-        → (result ≡ number_of Status.TooLong)
-        ↔ ((count < period) × (65536 < length bytes.now)) }
-    ensures no_room { (r : Reckoning) → handle.old.held ≡ Some (Held.Receiver r)
-        → (result ≡ number_of Status.NoRoom)
-        ↔ ((count < period) × (length bytes.now ≤ 65536)
-        × (length out.old < byte_count r.reception.decoder.places)) }
-    ensures too_many { (r : Reckoning) → handle.old.held ≡ Some (Held.Receiver r)
-        → (result ≡ number_of Status.TooMany)
-        ↔ ((count < period) × (length bytes.now ≤ 65536)
-        × (byte_count r.reception.decoder.places ≤ length out.old)
-        × (2 ^ 32 ≤ r.restored.packets)) }
-    ensures unchanged { (result ≡ number_of Status.Done → ⊥)
+    ensures answer { result
+        ≡ status_number (receiving_status handle.old.held count bytes.now (length out.old)) }
+    ensures unchanged { (result ≡ status_number CallStatus.Done → ⊥)
         → (handle.new.held ≡ handle.old.held) × (out.new ≡ out.old) × (found.new ≡ found.old) }
     ensures found { (r : Reckoning) → handle.old.held ≡ Some (Held.Receiver r)
-        → result ≡ number_of Status.Done
+        → result ≡ status_number CallStatus.Done
         → found.new ≡ finding_of (next_judged r.reception count bytes.now).verdict }
     ensures stands { (r : Reckoning) → handle.old.held ≡ Some (Held.Receiver r)
-        → result ≡ number_of Status.Done
+        → result ≡ status_number CallStatus.Done
         → (next : Reckoning) × (handle.new.held ≡ Some (Held.Receiver next))
         × (next.reception.decoder.places ≡ r.reception.decoder.places)
         × Judges r next count bytes.now
         × ((f : ℕ) (arrivals : List Arrival) → HasJudged f arrivals r
         → HasJudged f (arrivals ++ record { count = count; body = bytes.now } ∷ []) next) }
     ensures content { (r : Reckoning) → handle.old.held ≡ Some (Held.Receiver r)
-        → result ≡ number_of Status.Done
+        → result ≡ status_number CallStatus.Done
         → let content = written_bytes (next_judged r.reception count bytes.now) in
         out.new ≡ content ++ drop (length content) out.old }
 {
     let Some(mut held) = handle.take(alloc) else {
-        return Status::Closed.number();
+        return CallStatus::Closed.number();
     };
     let verdict = match &mut *held {
         Held::Receiver(receiver) => match receiver.receive(count, bytes, out) {
             Ok(verdict) => Ok(verdict),
-            Err(fault) => Err(Status::from(fault)),
+            Err(fault) => Err(CallStatus::from(fault)),
         },
-        Held::Sender(_) | Held::Bench(_) => Err(Status::OtherKind),
+        Held::Sender(_) | Held::Bench(_) => Err(CallStatus::OtherKind),
     };
     handle.put(alloc, held);
     match verdict {
         Ok(verdict) => {
             *found = found_by(&verdict);
-            Status::Done.number()
+            CallStatus::Done.number()
         }
         Err(status) => status.number(),
     }
@@ -229,24 +238,24 @@ pub extern "C" fn pocket_receive(
 /// The numbers of the arrivals so far of the receiver that a handle holds.
 #[unsafe(no_mangle)]
 pub extern "C" fn pocket_counts(alloc: Global, handle: &mut Handle, told: &mut Counts) -> u32
-    ensures only { IsOneOf result (Status.Done ∷ Status.Closed ∷ Status.OtherKind ∷ []) }
-    ensures closed { (result ≡ number_of Status.Closed) ↔ (handle.old.held ≡ None) }
-    ensures other { (result ≡ number_of Status.OtherKind)
+    ensures only { IsOneOf result (CallStatus.Done ∷ CallStatus.Closed ∷ CallStatus.OtherKind ∷ []) }
+    ensures closed { (result ≡ status_number CallStatus.Closed) ↔ (handle.old.held ≡ None) }
+    ensures other { (result ≡ status_number CallStatus.OtherKind)
         ↔ HasOtherThanReceiver handle.old.held }
     ensures told { (r : Reckoning) → handle.old.held ≡ Some (Held.Receiver r)
-        → (result ≡ number_of Status.Done) × (told.new ≡ counts_of r.restored) }
+        → (result ≡ status_number CallStatus.Done) × (told.new ≡ counts_told r.restored) }
     ensures unchanged { handle.new.held ≡ handle.old.held }
-    ensures untold { (result ≡ number_of Status.Done → ⊥) → told.new ≡ told.old }
+    ensures untold { (result ≡ status_number CallStatus.Done → ⊥) → told.new ≡ told.old }
 {
     let Some(held) = handle.take(alloc) else {
-        return Status::Closed.number();
+        return CallStatus::Closed.number();
     };
     let status = match &*held {
         Held::Receiver(receiver) => {
             *told = counts_by(receiver.restored());
-            Status::Done
+            CallStatus::Done
         }
-        Held::Sender(_) | Held::Bench(_) => Status::OtherKind,
+        Held::Sender(_) | Held::Bench(_) => CallStatus::OtherKind,
     };
     handle.put(alloc, held);
     status.number()

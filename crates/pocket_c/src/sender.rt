@@ -1,17 +1,20 @@
 //! The calls of a sender.
 
-ghost use Rattle.std.specs.Prelude.{◌≡◌, ◌+◌, ◌^◌, ◌<◌, ◌≤◌, ◌↔◌, ◌⊎◌, ◌∷◌, [], Err, None, Some, length, drop, take};
+ghost use Rattle.std.specs.Prelude.{◌≡◌, ◌+◌, ◌<◌, ◌≤◌, ◌⊎◌, Err, None, Some, length, drop, take};
 ghost use Rattle.mask_update.specs.Histories.{History, no_steps};
 ghost use Rattle.packet_encode.specs.Encoder.{StandsFor};
 ghost use Rattle.packet_encode.specs.Packets.{with_next_input};
 ghost use Rattle.robust_window.specs.Histories.{level_at};
 ghost use Rattle.flight_chain.specs.Stores.{data_at};
-ghost use Rattle.packet_calls.specs.Sending.{Fits, HasSpareBit, MaskFits, MaskHasSpareBit, SenderState, first_mask, given, room_bits, room_bytes, vector_in};
-ghost use Rattle.pocket_c.specs.Kinds.{HasOtherThanSender, flags_by, mask_in};
-ghost use Rattle.pocket_c.specs.Statuses.{IsOneOf, number_of};
+ghost use Rattle.packet_calls.specs.Sending.{SenderState, first_mask, given_mask, room_bits, room_bytes, vector_in};
+ghost use Rattle.packet_calls.specs.declared.fault.OpenFault.TheVariants as open_fault;
+ghost use Rattle.packet_calls.specs.Refusals.{opening_fault};
+ghost use Rattle.pocket_c.specs.Answers.{opening_status, resetting_status, sending_status};
+ghost use Rattle.pocket_c.specs.Kinds.{flags_by, mask_in};
+ghost use Rattle.pocket_c.specs.Statuses.{status_number};
 
 use crate::held::{Handle, Held};
-use crate::status::Status;
+use crate::status::CallStatus;
 use bit_vectors::Flags;
 use packet_calls::Sender;
 use std::alloc::Global;
@@ -25,49 +28,68 @@ pub extern "C" fn pocket_sender_open(
     places: u32,
     mask: &[u8],
 ) -> u32
-    ensures only { IsOneOf result
-        (Status.Done ∷ Status.NoMemory ∷ Status.Open ∷ Status.Places ∷ Status.MaskLength
-        ∷ Status.MaskSpareBit ∷ []) }
-    ensures open { (result ≡ number_of Status.Open) ↔ (handle.old.held ≡ None → ⊥) }
-    ensures places { (result ≡ number_of Status.Places)
-        ↔ ((handle.old.held ≡ None) × ((places ≡ 0) ⊎ (49152 < places))) }
-    ensures misfit { (result ≡ number_of Status.MaskLength)
-        ↔ ((handle.old.held ≡ None) × (1 ≤ places) × (places ≤ 49152)
-        × (MaskFits places (mask_in mask.now) → ⊥)) }
+    ensures answer { (result ≡ status_number CallStatus.NoMemory → ⊥)
+        → result ≡ status_number (opening_status handle.old.held places (mask_in mask.now)) }
     // A spare bit is looked at after the memory for the mask was found.
-    ensures spared { (result ≡ number_of Status.NoMemory → ⊥) → (result ≡ number_of Status.MaskSpareBit)
-        ↔ ((handle.old.held ≡ None) × (1 ≤ places) × (places ≤ 49152)
-        × MaskFits places (mask_in mask.now) × MaskHasSpareBit places (mask_in mask.now)) }
-    ensures opened { result ≡ number_of Status.Done
+    ensures no_memory { result ≡ status_number CallStatus.NoMemory → (handle.old.held ≡ None)
+        × ((opening_fault places (mask_in mask.now) ≡ None)
+        ⊎ (opening_fault places (mask_in mask.now) ≡ Some open_fault.MaskSpareBit)) }
+    ensures opened { result ≡ status_number CallStatus.Done
         → (s : SenderState) × (handle.new.held ≡ Some (Held.Sender s))
         × StandsFor (no_steps (first_mask places (mask_in mask.now))) s.encoder
         × (length s.encoder.masks.mask ≡ places) × (s.encoder.masks.taken ≡ 0)
         × (s.room ≡ room_bits places) }
-    ensures right { (result ≡ number_of Status.NoMemory → ⊥) → (result ≡ number_of Status.Done)
-        ↔ ((handle.old.held ≡ None) × (1 ≤ places) × (places ≤ 49152)
-        × MaskFits places (mask_in mask.now) × (MaskHasSpareBit places (mask_in mask.now) → ⊥)) }
-    ensures unchanged { (result ≡ number_of Status.Done → ⊥)
+    ensures unchanged { (result ≡ status_number CallStatus.Done → ⊥)
         → handle.new.held ≡ handle.old.held }
 {
     if let Some(held) = handle.take(alloc) {
         handle.put(alloc, held);
-        return Status::Open.number();
+        return CallStatus::Open.number();
     }
     match Sender::open(alloc, places, mask_in(mask)) {
         Ok(sender) => match Box::new(alloc, Held::Sender(sender)) {
             Ok(held) => {
                 handle.put(alloc, held);
-                Status::Done.number()
+                CallStatus::Done.number()
             }
-            Err(_) => Status::NoMemory.number(),
+            Err(_) => CallStatus::NoMemory.number(),
         },
-        Err(fault) => Status::from(fault).number(),
+        Err(fault) => CallStatus::from(fault).number(),
     }
+}
+
+/// Begins a new stream by the sender that a handle holds, in the memory that it has, with no input sent, for inputs of as many
+/// bits as before. The first mask is the one that these bytes spell, or of zeros if there is no byte. It takes no memory.
+#[unsafe(no_mangle)]
+pub extern "C" fn pocket_sender_reset(alloc: Global, handle: &mut Handle, mask: &[u8]) -> u32
+    ensures answer { result ≡ status_number (resetting_status handle.old.held (mask_in mask.now)) }
+    ensures unchanged { (result ≡ status_number CallStatus.Done → ⊥)
+        → handle.new.held ≡ handle.old.held }
+    // It is what `pocket_sender_open` gives for as many bits and this mask, in the room that it has.
+    ensures anew { (s : SenderState) → handle.old.held ≡ Some (Held.Sender s)
+        → result ≡ status_number CallStatus.Done → let f = length s.encoder.masks.mask in
+        (next : SenderState) × (handle.new.held ≡ Some (Held.Sender next))
+        × StandsFor (no_steps (first_mask f (mask_in mask.now))) next.encoder
+        × (length next.encoder.masks.mask ≡ f) × (next.encoder.masks.taken ≡ 0)
+        × (next.room ≡ s.room) }
+{
+    let Some(mut held) = handle.take(alloc) else {
+        return CallStatus::Closed.number();
+    };
+    let status = match &mut *held {
+        Held::Sender(sender) => match sender.reset(mask_in(mask)) {
+            Ok(()) => CallStatus::Done,
+            Err(fault) => CallStatus::from(fault),
+        },
+        Held::Receiver(_) | Held::Bench(_) => CallStatus::OtherKind,
+    };
+    handle.put(alloc, held);
+    status.number()
 }
 
 /// No mask if there is no byte.
 fn mask_in(mask: &[u8]) -> Option<&[u8]>
-    ensures { given result ≡ mask_in mask.now }
+    ensures { given_mask result ≡ mask_in mask.now }
 {
     if mask.is_empty() { None } else { Some(mask) }
 }
@@ -87,38 +109,13 @@ pub extern "C" fn pocket_send(
     len: &mut usize,
     level: &mut u8,
 ) -> u32
-    ensures only { IsOneOf result
-        (Status.Done ∷ Status.Closed ∷ Status.OtherKind ∷ Status.InputLength ∷ Status.SpareBit
-        ∷ Status.Robust ∷ Status.NoRoom ∷ Status.TooMany ∷ []) }
-    ensures closed { (result ≡ number_of Status.Closed) ↔ (handle.old.held ≡ None) }
-    ensures other { (result ≡ number_of Status.OtherKind) ↔ HasOtherThanSender handle.old.held }
-    ensures taken { (s : SenderState) → handle.old.held ≡ Some (Held.Sender s)
-        → let f = length s.encoder.masks.mask in
-        (result ≡ number_of Status.Done)
-        ↔ (Fits f input.now × (HasSpareBit f input.now → ⊥) × (robust ≤ 7)
-        × (room_bytes f ≤ length out.old) × (s.encoder.masks.taken < 2 ^ 32)) }
-    ensures misfit { (s : SenderState) → handle.old.held ≡ Some (Held.Sender s)
-        → (result ≡ number_of Status.InputLength)
-        ↔ (Fits (length s.encoder.masks.mask) input.now → ⊥) }
-    ensures spare { (s : SenderState) → handle.old.held ≡ Some (Held.Sender s)
-        → let f = length s.encoder.masks.mask in (result ≡ number_of Status.SpareBit)
-        ↔ (Fits f input.now × HasSpareBit f input.now) }
-    ensures robust { (s : SenderState) → handle.old.held ≡ Some (Held.Sender s)
-        → let f = length s.encoder.masks.mask in (result ≡ number_of Status.Robust)
-        ↔ (Fits f input.now × (HasSpareBit f input.now → ⊥) × (7 < robust)) }
-    ensures no_room { (s : SenderState) → handle.old.held ≡ Some (Held.Sender s)
-        → let f = length s.encoder.masks.mask in (result ≡ number_of Status.NoRoom)
-        ↔ (Fits f input.now × (HasSpareBit f input.now → ⊥) × (robust ≤ 7)
-        × (length out.old < room_bytes f)) }
-    ensures too_many { (s : SenderState) → handle.old.held ≡ Some (Held.Sender s)
-        → let f = length s.encoder.masks.mask in (result ≡ number_of Status.TooMany)
-        ↔ (Fits f input.now × (HasSpareBit f input.now → ⊥) × (robust ≤ 7)
-        × (room_bytes f ≤ length out.old) × (2 ^ 32 ≤ s.encoder.masks.taken)) }
-    ensures unchanged { (result ≡ number_of Status.Done → ⊥)
+    ensures answer { result
+        ≡ status_number (sending_status handle.old.held input.now robust (length out.old)) }
+    ensures unchanged { (result ≡ status_number CallStatus.Done → ⊥)
         → (handle.new.held ≡ handle.old.held) × (out.new ≡ out.old)
         × (len.new ≡ len.old) × (level.new ≡ level.old) }
     ensures stands { (s : SenderState) → handle.old.held ≡ Some (Held.Sender s)
-        → result ≡ number_of Status.Done
+        → result ≡ status_number CallStatus.Done
         → (next : SenderState) × (handle.new.held ≡ Some (Held.Sender next))
         × ((h : History) → StandsFor h s.encoder → StandsFor (with_next_input h robust
         (vector_in (length s.encoder.masks.mask) input.now)
@@ -126,17 +123,17 @@ pub extern "C" fn pocket_send(
         × (length next.encoder.masks.mask ≡ length s.encoder.masks.mask)
         × (next.encoder.masks.taken ≡ s.encoder.masks.taken + 1) × (next.room ≡ s.room) }
     ensures packet { (s : SenderState) (h : History) → handle.old.held ≡ Some (Held.Sender s)
-        → StandsFor h s.encoder → result ≡ number_of Status.Done → take len.new out.new ≡ data_at
+        → StandsFor h s.encoder → result ≡ status_number CallStatus.Done → take len.new out.new ≡ data_at
         (with_next_input h robust (vector_in (length s.encoder.masks.mask) input.now)
         (flags_by new_mask send_mask whole)) (length h.steps) }
     ensures level { (s : SenderState) (h : History) → handle.old.held ≡ Some (Held.Sender s)
-        → StandsFor h s.encoder → result ≡ number_of Status.Done → level.new ≡ level_at
+        → StandsFor h s.encoder → result ≡ status_number CallStatus.Done → level.new ≡ level_at
         (with_next_input h robust (vector_in (length s.encoder.masks.mask) input.now)
         (flags_by new_mask send_mask whole)) (length h.steps) }
     ensures length { (s : SenderState) → handle.old.held ≡ Some (Held.Sender s)
-        → result ≡ number_of Status.Done
+        → result ≡ status_number CallStatus.Done
         → (1 ≤ len.new) × (len.new ≤ room_bytes (length s.encoder.masks.mask)) }
-    ensures rest { result ≡ number_of Status.Done → drop len.new out.new ≡ drop len.new out.old }
+    ensures rest { result ≡ status_number CallStatus.Done → drop len.new out.new ≡ drop len.new out.old }
 {
     let flags = Flags {
         p: new_mask,
@@ -144,21 +141,21 @@ pub extern "C" fn pocket_send(
         r: whole,
     };
     let Some(mut held) = handle.take(alloc) else {
-        return Status::Closed.number();
+        return CallStatus::Closed.number();
     };
     let sent = match &mut *held {
         Held::Sender(sender) => match sender.send(input, flags, robust, out) {
             Ok(sent) => Ok(sent),
-            Err(fault) => Err(Status::from(fault)),
+            Err(fault) => Err(CallStatus::from(fault)),
         },
-        Held::Receiver(_) | Held::Bench(_) => Err(Status::OtherKind),
+        Held::Receiver(_) | Held::Bench(_) => Err(CallStatus::OtherKind),
     };
     handle.put(alloc, held);
     match sent {
         Ok(sent) => {
             *len = sent.len;
             *level = sent.level;
-            Status::Done.number()
+            CallStatus::Done.number()
         }
         Err(status) => status.number(),
     }

@@ -1,13 +1,13 @@
 //! What a call answers.
 
 ghost use Rattle.std.specs.Prelude.{◌≡◌};
-ghost use Rattle.pocket_c.specs.Statuses.{number_of, of_open, of_receive, of_send};
+ghost use Rattle.pocket_c.specs.Statuses.{status_number, of_open, of_receive, of_send};
 
 use packet_calls::{OpenFault, ReceiveFault, SendFault};
 
 /// What a call answers. C sees its number.
 #[derive(Clone, Copy, Debug, PartialEq, Eq)]
-pub enum Status {
+pub enum CallStatus {
     /// It was done.
     Done,
     /// There was no memory.
@@ -42,71 +42,74 @@ pub enum Status {
     NoText,
     /// There are 1,000 words already.
     TooManyWords,
+    /// Nothing is kept under the name, or under any that is looked for.
+    NotKept,
 }
 
-impl Status {
+impl CallStatus {
     /// Its number, as C sees it.
     pub fn number(self) -> u32
-        ensures { result ≡ number_of self }
+        ensures { result ≡ status_number self }
     {
         match self {
-            Status::Done => 0,
-            Status::NoMemory => 1,
-            Status::Closed => 2,
-            Status::Open => 3,
-            Status::OtherKind => 4,
-            Status::Places => 5,
-            Status::MaskLength => 6,
-            Status::MaskSpareBit => 7,
-            Status::InputLength => 8,
-            Status::SpareBit => 9,
-            Status::Robust => 10,
-            Status::NoRoom => 11,
-            Status::TooMany => 12,
-            Status::Count => 13,
-            Status::TooLong => 14,
-            Status::NoText => 15,
-            Status::TooManyWords => 16,
+            CallStatus::Done => 0,
+            CallStatus::NoMemory => 1,
+            CallStatus::Closed => 2,
+            CallStatus::Open => 3,
+            CallStatus::OtherKind => 4,
+            CallStatus::Places => 5,
+            CallStatus::MaskLength => 6,
+            CallStatus::MaskSpareBit => 7,
+            CallStatus::InputLength => 8,
+            CallStatus::SpareBit => 9,
+            CallStatus::Robust => 10,
+            CallStatus::NoRoom => 11,
+            CallStatus::TooMany => 12,
+            CallStatus::Count => 13,
+            CallStatus::TooLong => 14,
+            CallStatus::NoText => 15,
+            CallStatus::TooManyWords => 16,
+            CallStatus::NotKept => 17,
         }
     }
 }
 
-impl From<OpenFault> for Status {
+impl From<OpenFault> for CallStatus {
     ghost from_gives = { λ f e. e ≡ of_open f };
 
-    fn from(fault: OpenFault) -> Status {
+    fn from(fault: OpenFault) -> CallStatus {
         match fault {
-            OpenFault::Places => Status::Places,
-            OpenFault::MaskLength => Status::MaskLength,
-            OpenFault::MaskSpareBit => Status::MaskSpareBit,
-            OpenFault::NoMemory => Status::NoMemory,
+            OpenFault::Places => CallStatus::Places,
+            OpenFault::MaskLength => CallStatus::MaskLength,
+            OpenFault::MaskSpareBit => CallStatus::MaskSpareBit,
+            OpenFault::NoMemory => CallStatus::NoMemory,
         }
     }
 }
 
-impl From<SendFault> for Status {
+impl From<SendFault> for CallStatus {
     ghost from_gives = { λ f e. e ≡ of_send f };
 
-    fn from(fault: SendFault) -> Status {
+    fn from(fault: SendFault) -> CallStatus {
         match fault {
-            SendFault::InputLength => Status::InputLength,
-            SendFault::SpareBit => Status::SpareBit,
-            SendFault::Robust => Status::Robust,
-            SendFault::NoRoom => Status::NoRoom,
-            SendFault::TooMany => Status::TooMany,
+            SendFault::InputLength => CallStatus::InputLength,
+            SendFault::SpareBit => CallStatus::SpareBit,
+            SendFault::Robust => CallStatus::Robust,
+            SendFault::NoRoom => CallStatus::NoRoom,
+            SendFault::TooMany => CallStatus::TooMany,
         }
     }
 }
 
-impl From<ReceiveFault> for Status {
+impl From<ReceiveFault> for CallStatus {
     ghost from_gives = { λ f e. e ≡ of_receive f };
 
-    fn from(fault: ReceiveFault) -> Status {
+    fn from(fault: ReceiveFault) -> CallStatus {
         match fault {
-            ReceiveFault::Count => Status::Count,
-            ReceiveFault::TooLong => Status::TooLong,
-            ReceiveFault::NoRoom => Status::NoRoom,
-            ReceiveFault::TooMany => Status::TooMany,
+            ReceiveFault::Count => CallStatus::Count,
+            ReceiveFault::TooLong => CallStatus::TooLong,
+            ReceiveFault::NoRoom => CallStatus::NoRoom,
+            ReceiveFault::TooMany => CallStatus::TooMany,
         }
     }
 }

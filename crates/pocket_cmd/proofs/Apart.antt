@@ -14,9 +14,9 @@ use Rattle.std.proofs.lemmas.Option.{same_Some}
 use Rattle.std.proofs.lemmas.Slice.Eq.{bytes_eq-Decides}
 use Rattle.pocket_cmd.specs.declared.verbs.Port.{Port}
 use Rattle.pocket_cmd.specs.declared.verbs.Port.TheVariants as port
-use Rattle.pocket_cmd.specs.declared.verbs.Kind.{Kind}
-use Rattle.pocket_cmd.specs.declared.verbs.Kind.TheVariants.{Name}
-use Rattle.pocket_cmd.specs.Verbs.{Row, kind_of, rows_of}
+use Rattle.pocket_cmd.specs.declared.verbs.ValueKind.{ValueKind}
+use Rattle.pocket_cmd.specs.declared.verbs.ValueKind.TheVariants.{Name}
+use Rattle.pocket_cmd.specs.Verbs.{KeyRow, kind_of, verb_rows}
 use Rattle.pocket_cmd.specs.Apart.{AreApart, AreKeptAsMade, IsNameToRead, IsNameToWrite}
 use Rattle.pocket_cmd.specs.Command.{Command, Names, command_of, name_at, names_of}
 use Rattle.pocket_cmd.specs.Courses.{bad_script_row_of, course_of}
@@ -25,7 +25,7 @@ use Rattle.pocket_cmd.specs.Openings.{all_finished, all_opened, with_input, with
 use Rattle.pocket_cmd.specs.Outcome.{OnceAllRead, RunStands, Stands, left_to_open}
 use Rattle.pocket_cmd.specs.Unfed.{EndsBy}
 use Rattle.pocket_cmd.proofs.Given.{AreSound, IsCommand-command_of, IsKeyAt, both, key_at, key_for, keys_of, name_of-key_at, text_at}
-use Rattle.pocket_cmd.specs.Words.{Words, fits, fits_key, has_key, is_read, is_right, is_split, is_text, is_written, key_in, name_of, text_in, text_of, wrong_word}
+use Rattle.pocket_cmd.specs.Words.{Words, fits, fits_key, has_key, is_name_read, is_right, is_split, is_text, is_name_written, key_in, name_of, text_in, text_of, wrong_word}
 
 -- ---- tests
 
@@ -73,16 +73,16 @@ is_reading port.Output = false
 is_reading port.Report = false
 
 -- a key of these rows has the name of what is opened there
-pub record IsKeyOf (rows : List Row) (at : Port) (key : List ℕ) : Type 0 where
+pub record IsKeyOf (rows : List KeyRow) (at : Port) (key : List ℕ) : Type 0 where
   pub kind : kind_of rows key ≡ Some (Name at)
   pub named : (words : Words) → name_of rows words at ≡ text_of words key
 
 -- words give this name to what is read, or to what is written
-abbrev is_taken : List Row → Words → List ℕ → Bool → Bool
-is_taken rows words text true = is_read rows words text
-is_taken rows words text false = is_written rows words text
+abbrev is_taken : List KeyRow → Words → List ℕ → Bool → Bool
+is_taken rows words text true = is_name_read rows words text
+is_taken rows words text false = is_name_written rows words text
 
-is_taken-named : (rows : List Row) (words : Words) (key text : List ℕ) (at : Port) → IsKeyOf rows at key → text_of words key ≡ Some text → is_taken rows words text (is_reading at) ≡ true
+is_taken-named : (rows : List KeyRow) (words : Words) (key text : List ℕ) (at : Port) → IsKeyOf rows at key → text_of words key ≡ Some text → is_taken rows words text (is_reading at) ≡ true
 is_taken-named rows words key text at of told = by_port at (by_name (name_of rows words at) (of.named words ∙ told)) where
   by_name : (o : Option (List ℕ)) → o ≡ Some text → is_text o text ≡ true
   by_name None e = absurd cc
@@ -112,7 +112,7 @@ turned at other text apart = record { ways = by_ways (is_reading at) (is_reading
   by_ways one false is = ap not (sym is)
 
 -- a name that fits after these words is opposite to that of a port of theirs
-fitting : (rows : List Row) (words : Words) (key text : List ℕ) (other : Port) → IsKeyOf rows other key → text_of words key ≡ Some text → (at : Port) → fits rows words (Name at) text ≡ true → AreOpposite at other text
+fitting : (rows : List KeyRow) (words : Words) (key text : List ℕ) (other : Port) → IsKeyOf rows other key → text_of words key ≡ Some text → (at : Port) → fits rows words (Name at) text ≡ true → AreOpposite at other text
 fitting rows words key text other of told at fit =
     let new = new_name (length text == 0) (is_taken rows words text (is_reading at)) (bytes_eq text (codes "-")) (is_taken rows words text (not (is_reading at))) (by_port at fit) in
     let apart = by_ways (is_reading at) (is_reading other) new.0 new.1 (is_taken-named rows words key text other of told) in
@@ -142,7 +142,7 @@ fitting rows words key text other of told at fit =
 
 -- ---- the names of two keys
 
-module _ (rows : List Row) (first second : List ℕ) (a b : Port) (of_first : IsKeyOf rows a first) (of_second : IsKeyOf rows b second) (differ : bytes_eq first second ≡ false) where
+module _ (rows : List KeyRow) (first second : List ℕ) (a b : Port) (of_first : IsKeyOf rows a first) (of_second : IsKeyOf rows b second) (differ : bytes_eq first second ≡ false) where
   -- if both have one name among these words, they are opposite
   abbrev pub Apart : List (List ℕ) → Type 0
   Apart words = (text : List ℕ) → text_of words first ≡ Some text → text_of words second ≡ Some text → AreOpposite a b text
@@ -183,7 +183,7 @@ module _ (rows : List Row) (first second : List ℕ) (a b : Port) (of_first : Is
 -- ---- the names of a command
 
 -- a name is what words give to the key of its port
-named : (rows : List Row) (words : Words) (at : Port) (text : List ℕ) → IfSome (key_at rows at) (IsKeyAt rows at) → name_of rows words at ≡ Some text → (key : List ℕ) × IsKeyOf rows at key × (text_of words key ≡ Some text)
+named : (rows : List KeyRow) (words : Words) (at : Port) (text : List ℕ) → IfSome (key_at rows at) (IsKeyAt rows at) → name_of rows words at ≡ Some text → (key : List ℕ) × IsKeyOf rows at key × (text_of words key ≡ Some text)
 named rows words at text key e = by_key (key_at rows at) refl key where
   by_key : (o : Option (List ℕ)) → key_at rows at ≡ o → IfSome o (IsKeyAt rows at) → (key : List ℕ) × IsKeyOf rows at key × (text_of words key ≡ Some text)
   by_key None is key = absurd (none (sym (name_of-key_at rows words at ∙ ap (text_at words) is) ∙ e)) where
@@ -193,17 +193,17 @@ named rows words at text key e = by_key (key_at rows at) refl key where
       let at_key : (words : Words) → name_of rows words at ≡ text_of words key = λ words. name_of-key_at rows words at ∙ ap (text_at words) is in
       (key, record { kind = key_is.kind; named = at_key }, sym (at_key words) ∙ e)
 
-module _ (command : Command) (sound : AreSound (rows_of command.0) command.1) where
-  opposite : (a b : Port) → (◌≡◌ {A = Option Kind} (Some (Name a)) (Some (Name b)) → ⊥) → (text : List ℕ) → name_at command a ≡ Some text → name_at command b ≡ Some text → AreOpposite a b text
+module _ (command : Command) (sound : AreSound (verb_rows command.0) command.1) where
+  opposite : (a b : Port) → (◌≡◌ {A = Option ValueKind} (Some (Name a)) (Some (Name b)) → ⊥) → (text : List ℕ) → name_at command a ≡ Some text → name_at command b ≡ Some text → AreOpposite a b text
   opposite a b other text first second = by_keys (key a first) (key b second) where
-    key : (at : Port) → name_at command at ≡ Some text → (key : List ℕ) × IsKeyOf (rows_of command.0) at key × (text_of command.1 key ≡ Some text)
-    key at = named (rows_of command.0) command.1 at text (key_for (rows_of command.0) command.1 sound (keys_of command.0) at)
+    key : (at : Port) → name_at command at ≡ Some text → (key : List ℕ) × IsKeyOf (verb_rows command.0) at key × (text_of command.1 key ≡ Some text)
+    key at = named (verb_rows command.0) command.1 at text (key_for (verb_rows command.0) command.1 sound (keys_of command.0) at)
 
-    by_keys : (key : List ℕ) × IsKeyOf (rows_of command.0) a key × (text_of command.1 key ≡ Some text) → (key : List ℕ) × IsKeyOf (rows_of command.0) b key × (text_of command.1 key ≡ Some text) → AreOpposite a b text
+    by_keys : (key : List ℕ) × IsKeyOf (verb_rows command.0) a key × (text_of command.1 key ≡ Some text) → (key : List ℕ) × IsKeyOf (verb_rows command.0) b key × (text_of command.1 key ≡ Some text) → AreOpposite a b text
     by_keys (one, is, told) (two, was, also) = by_test (bytes_eq one two) refl where
       by_test : (equal : Bool) → bytes_eq one two ≡ equal → AreOpposite a b text
-      by_test true same = absurd (other (sym is.kind ∙ (ap (kind_of (rows_of command.0)) ((bytes_eq-Decides one two).0 same) ∙ was.kind)))
-      by_test false differ = apart (rows_of command.0) one two a b is was differ command.1 sound.right text told also
+      by_test true same = absurd (other (sym is.kind ∙ (ap (kind_of (verb_rows command.0)) ((bytes_eq-Decides one two).0 same) ∙ was.kind)))
+      by_test false differ = apart (verb_rows command.0) one two a b is was differ command.1 sound.right text told also
 
   AreApart-sound : IsSome (name_at command port.Output) → AreApart (names_of command)
   AreApart-sound some = record {

@@ -3,7 +3,7 @@ use Rattle.std.proofs.Common.{◌≡◌, ℕ, ◌≤◌, ◌&&◌, Bool, true, f
 use Rattle.std.proofs.lemmas.Bool.Decides.{nat_tests}
 use Rattle.std.specs.Str.Parse.{digits_value}
 use Rattle.side_tables.specs.Numbers.{is_plain_decimal, number_of}
-use Rattle.pocket_cmd.specs.Words.{number_in}
+use Rattle.pocket_cmd.specs.Words.{number_told}
 
 all_three : (a b c : Bool) (x : ℕ) → is_some (cond (a && b && c) (Some x) None) ≡ true → (a ≡ true) × (b ≡ true) × (c ≡ true)
 all_three true true true x e = (refl, refl, refl)
@@ -23,11 +23,11 @@ above m n h = grind (arith, nat_tests)
 test : (m n : ℕ) → m ≤ n → nat_le m n ≡ true
 test m n h = grind (arith, nat_tests)
 
-pub number_in-bounds : (low high : ℕ) (text : List ℕ) → high ≤ 4294967295 → is_some (number_of low high text) ≡ true → (low ≤ number_in (Some text)) × (number_in (Some text) ≤ high)
-number_in-bounds low high text most is =
+pub number_told-bounds : (low high : ℕ) (text : List ℕ) → high ≤ 4294967295 → is_some (number_of low high text) ≡ true → (low ≤ number_told (Some text)) × (number_told (Some text) ≤ high)
+number_told-bounds low high text most is =
     let value : ℕ = digits_value 10 text in
     let tests = all_three (is_plain_decimal text) (nat_le low value) (nat_le value high) value is in
     let least : low ≤ value = above low value tests.1 in
     let greatest : value ≤ high = above value high tests.2 in
-    let same : number_in (Some text) ≡ value = found (is_plain_decimal text) (nat_le 0 value) (nat_le value 4294967295) value tests.0 (test 0 value (omega arith)) (test value 4294967295 (omega arith)) in
+    let same : number_told (Some text) ≡ value = found (is_plain_decimal text) (nat_le 0 value) (nat_le value 4294967295) value tests.0 (test 0 value (omega arith)) (test value 4294967295 (omega arith)) in
     (subst (λ n. low ≤ n) (sym same) least, subst (λ n. n ≤ high) (sym same) greatest)

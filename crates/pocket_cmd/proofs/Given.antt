@@ -11,13 +11,13 @@ use Rattle.pocket_cmd.specs.declared.verbs.Verb.{Verb}
 use Rattle.pocket_cmd.specs.declared.verbs.Verb.TheVariants as verb
 use Rattle.pocket_cmd.specs.declared.verbs.Port.{Port}
 use Rattle.pocket_cmd.specs.declared.verbs.Port.TheVariants as port
-use Rattle.pocket_cmd.specs.declared.verbs.Kind.{Kind}
-use Rattle.pocket_cmd.specs.declared.verbs.Kind.TheVariants.{Name, Number, Mask}
-use Rattle.pocket_cmd.specs.Verbs.{Row, is_name_at, kind_of, rows_of, verb_of}
-use Rattle.pocket_cmd.specs.Words.{Words, Assigns, AssignsToOne, bits, fault_of, fits_key, has_key, is_equals_sign, is_missing, is_right, is_split, key_in, keys_at, name_of, number_at, number_in, or_missing, or_word, text_in, text_of, wrong_mask, wrong_word}
+use Rattle.pocket_cmd.specs.declared.verbs.ValueKind.{ValueKind}
+use Rattle.pocket_cmd.specs.declared.verbs.ValueKind.TheVariants.{Name, Number, Mask}
+use Rattle.pocket_cmd.specs.Verbs.{KeyRow, is_name_at, kind_of, verb_rows, verb_of}
+use Rattle.pocket_cmd.specs.Words.{Words, Assigns, AssignsToOne, bits, fault_of, fits_key, has_key, is_equals_sign, is_missing, is_right, is_split, key_in, keys_at, name_of, number_at, number_told, or_missing, or_word, text_in, text_of, wrong_mask, wrong_word}
 use Rattle.bit_vectors.specs.Vectors.{IsPlaces}
-use Rattle.pocket_cmd.specs.Command.{AreGiven, AreWithin, Command, IsRight, IsWithin, command_after, command_of, unless_fault}
-use Rattle.pocket_cmd.proofs.Bounds.{number_in-bounds}
+use Rattle.pocket_cmd.specs.Command.{AreGiven, AreInBounds, Command, IsRight, IsInBounds, command_after, command_of, unless_fault}
+use Rattle.pocket_cmd.proofs.Bounds.{number_told-bounds}
 
 -- ---- a word and its parts
 
@@ -62,7 +62,7 @@ Assigns-text_of (word ∷ words) key text e =
     (λ e. later word words _ (Assigns-text_of words key text e))
 
 -- the text of a right word is a value of its key's kind
-fits-right : (rows : List Row) (before : List (List ℕ)) (word : List ℕ) → is_right rows before word ≡ true → fits_key rows before (kind_of rows (key_in word)) (text_in word) ≡ true
+fits-right : (rows : List KeyRow) (before : List (List ℕ)) (word : List ℕ) → is_right rows before word ≡ true → fits_key rows before (kind_of rows (key_in word)) (text_in word) ≡ true
 fits-right rows before word e = last (is_split word) (not (is_some (text_of before (key_in word)))) (fits_key rows before (kind_of rows (key_in word)) (text_in word)) e where
   last : (a b c : Bool) → (a && b && c) ≡ true → c ≡ true
   last true true c e = e
@@ -70,7 +70,7 @@ fits-right rows before word e = last (is_split word) (not (is_some (text_of befo
   last false b c e = absurd cc
 
 -- so a text that words give to a key is one, if no word is wrong
-fits-text_of : (rows : List Row) (before words : List (List ℕ)) (key text : List ℕ) → wrong_word rows before words ≡ None → text_of words key ≡ Some text → (so_far : List (List ℕ)) × (fits_key rows so_far (kind_of rows key) text ≡ true)
+fits-text_of : (rows : List KeyRow) (before words : List (List ℕ)) (key text : List ℕ) → wrong_word rows before words ≡ None → text_of words key ≡ Some text → (so_far : List (List ℕ)) × (fits_key rows so_far (kind_of rows key) text ≡ true)
 fits-text_of rows before [] key text right e = absurd cc
 fits-text_of rows before (word ∷ words) key text right e = by_right (is_right rows before word) refl right (fits-text_of rows (before ++ word ∷ []) words key text) where
   by_right : (b : Bool) → is_right rows before word ≡ b → cond b (wrong_word rows (before ++ word ∷ []) words) (Some (length before + 1)) ≡ None
@@ -85,10 +85,10 @@ fits-text_of rows before (word ∷ words) key text right e = by_right (is_right 
 -- ---- a key that is needed
 
 -- a row needs this key
-abbrev pub needs : List Row → List ℕ → Bool
-needs rows key = list_any (λ (row : Row). row.is_needed && bytes_eq row.key key) rows
+abbrev pub needs : List KeyRow → List ℕ → Bool
+needs rows key = list_any (λ (row : KeyRow). row.is_needed && bytes_eq row.key key) rows
 
-pub text_of-needed : (rows : List Row) (words : Words) (key : List ℕ) → is_missing rows words ≡ false → needs rows key ≡ true → (text : List ℕ) × (text_of words key ≡ Some text)
+pub text_of-needed : (rows : List KeyRow) (words : Words) (key : List ℕ) → is_missing rows words ≡ false → needs rows key ≡ true → (text : List ℕ) × (text_of words key ≡ Some text)
 text_of-needed [] words key whole need = absurd cc
 text_of-needed (row ∷ rows) words key whole need = by_row row.is_needed (bytes_eq row.key key) refl whole need (text_of-needed rows words key) where
   others : (a b : Bool) → (a || b) ≡ false → b ≡ false
@@ -107,11 +107,11 @@ text_of-needed (row ∷ rows) words key whole need = by_row row.is_needed (bytes
 
 -- ---- words without a fault
 
-pub record AreSound (rows : List Row) (words : List (List ℕ)) : Type 0 where
+pub record AreSound (rows : List KeyRow) (words : List (List ℕ)) : Type 0 where
   pub right : wrong_word rows [] words ≡ None
   pub whole : is_missing rows words ≡ false
 
-pub AreSound-by : (rows : List Row) (words : List (List ℕ)) → fault_of rows words ≡ None → AreSound rows words
+pub AreSound-by : (rows : List KeyRow) (words : List (List ℕ)) → fault_of rows words ≡ None → AreSound rows words
 AreSound-by rows words h = by_word (wrong_word rows [] words) refl h where
   by_missing : wrong_word rows [] words ≡ None → (b : Bool) → is_missing rows words ≡ b → or_missing b (length words + 1) (wrong_mask words) ≡ None → AreSound rows words
   by_missing right true is e = absurd cc
@@ -122,18 +122,18 @@ AreSound-by rows words h = by_word (wrong_word rows [] words) refl h where
   by_word (Some place) is e = absurd cc
 
 -- a number is within the bounds of its row
-number_at-within : (rows : List Row) (words : Words) (key : List ℕ) (low high : ℕ) → AreSound rows words → kind_of rows key ≡ Some (Number low high) → needs rows key ≡ true → high ≤ 4294967295
+number_at-within : (rows : List KeyRow) (words : Words) (key : List ℕ) (low high : ℕ) → AreSound rows words → kind_of rows key ≡ Some (Number low high) → needs rows key ≡ true → high ≤ 4294967295
     → (low ≤ number_at words key) × (number_at words key ≤ high)
 number_at-within rows words key low high sound kind need most =
     let (text, at) = text_of-needed rows words key sound.whole need in
     let (so_far, fit) = fits-text_of rows [] words key text sound.right at in
-    subst (λ o. (low ≤ number_in o) × (number_in o ≤ high)) (sym at)
-    (number_in-bounds low high text most (subst (λ kind. fits_key rows so_far kind text ≡ true) kind fit))
+    subst (λ o. (low ≤ number_told o) × (number_told o ≤ high)) (sym at)
+    (number_told-bounds low high text most (subst (λ kind. fits_key rows so_far kind text ≡ true) kind fit))
 
 -- ---- the keys of a verb
 
 -- the key of the first row for what is opened there
-abbrev pub key_at : List Row → Port → Option (List ℕ)
+abbrev pub key_at : List KeyRow → Port → Option (List ℕ)
 key_at [] at = None
 key_at (row ∷ rows) at = if is_name_at at row.kind then Some row.key else key_at rows at
 
@@ -141,7 +141,7 @@ abbrev pub text_at : Words → Option (List ℕ) → Option (List ℕ)
 text_at words None = None
 text_at words (Some key) = text_of words key
 
-pub name_of-key_at : (rows : List Row) (words : Words) (at : Port) → name_of rows words at ≡ text_at words (key_at rows at)
+pub name_of-key_at : (rows : List KeyRow) (words : Words) (at : Port) → name_of rows words at ≡ text_at words (key_at rows at)
 name_of-key_at [] words at = refl
 name_of-key_at (row ∷ rows) words at = by_test (is_name_at at row.kind) (name_of-key_at rows words at) where
   by_test : (b : Bool) → name_of rows words at ≡ text_at words (key_at rows at) → cond b (text_of words row.key) (name_of rows words at) ≡ text_at words (cond b (Some row.key) (key_at rows at))
@@ -153,26 +153,26 @@ is_side port.Side = true
 is_side _ = false
 
 -- a key for the name of what is opened there is one of these, and is needed unless that is a side input
-pub record IsKeyAt (rows : List Row) (at : Port) (key : List ℕ) : Type 0 where
+pub record IsKeyAt (rows : List KeyRow) (at : Port) (key : List ℕ) : Type 0 where
   pub kind : kind_of rows key ≡ Some (Name at)
   pub known : list_any (bytes_eq key) (keys_at at) ≡ true
   pub needed : (is_side at || needs rows key) ≡ true
 
 -- a key that has a number is needed, and no other row has it
-abbrev IsNumbered : List Row → List ℕ → Kind → Type 0
+abbrev IsNumbered : List KeyRow → List ℕ → ValueKind → Type 0
 IsNumbered rows key (Number low high) = (kind_of rows key ≡ Some (Number low high)) × ((needs rows key && nat_le high 4294967295) ≡ true)
 IsNumbered rows key (Name at) = Unit
 IsNumbered rows key Mask = Unit
 
-abbrev AreNumbered : List Row → List Row → Type 0
+abbrev AreNumbered : List KeyRow → List KeyRow → Type 0
 AreNumbered all [] = Unit
 AreNumbered all (row ∷ rows) = IsNumbered all row.key row.kind × AreNumbered all rows
 
 -- a mask has as many places as a packet has bits
-abbrev HasPlaces : List Row → Option Kind → Type 0
+abbrev HasPlaces : List KeyRow → Option ValueKind → Type 0
 HasPlaces rows mask = IfSome mask (λ _. (kind_of rows (codes "bits") ≡ Some (Number 1 49152)) × (needs rows (codes "bits") ≡ true))
 
-pub record AreKeys (rows : List Row) : Type 0 where
+pub record AreKeys (rows : List KeyRow) : Type 0 where
   pub side : IfSome (key_at rows port.Side) (IsKeyAt rows port.Side)
   pub input : IfSome (key_at rows port.Input) (IsKeyAt rows port.Input)
   pub output : IfSome (key_at rows port.Output) (IsKeyAt rows port.Output)
@@ -181,7 +181,7 @@ pub record AreKeys (rows : List Row) : Type 0 where
   pub numbers : AreNumbered rows rows
   pub mask : HasPlaces rows (kind_of rows (codes "mask"))
 
-pub keys_of : (v : Verb) → AreKeys (rows_of v)
+pub keys_of : (v : Verb) → AreKeys (verb_rows v)
 keys_of verb.Compress = search
 keys_of verb.Play = search
 keys_of verb.Restore = search
@@ -194,7 +194,7 @@ keys_of verb.Forecast = search
 
 -- ---- what words without a fault give to them
 
-module _ (rows : List Row) (words : Words) (sound : AreSound rows words) (keys : AreKeys rows) where
+module _ (rows : List KeyRow) (words : Words) (sound : AreSound rows words) (keys : AreKeys rows) where
   pub key_for : (at : Port) → IfSome (key_at rows at) (IsKeyAt rows at)
   key_for port.Side = keys.side
   key_for port.Input = keys.input
@@ -213,10 +213,10 @@ module _ (rows : List Row) (words : Words) (sound : AreSound rows words) (keys :
     by_key (Some key) is = ap is_some (text_of-needed rows words key sound.whole (second (is_side at) (needs rows key) other is.needed)).1
 
   -- the numbers are within their bounds
-  AreWithin-sound : (more : List Row) → AreNumbered rows more → AreWithin more words
-  AreWithin-sound [] numbers = tt
-  AreWithin-sound (row ∷ more) numbers = (by_kind row.kind numbers.0, AreWithin-sound more numbers.1) where
-    by_kind : (kind : Kind) → IsNumbered rows row.key kind → IsWithin kind (number_at words row.key)
+  AreInBounds-sound : (more : List KeyRow) → AreNumbered rows more → AreInBounds more words
+  AreInBounds-sound [] numbers = tt
+  AreInBounds-sound (row ∷ more) numbers = (by_kind row.kind numbers.0, AreInBounds-sound more numbers.1) where
+    by_kind : (kind : ValueKind) → IsNumbered rows row.key kind → IsInBounds kind (number_at words row.key)
     by_kind (Name at) h = tt
     by_kind Mask h = tt
     by_kind (Number low high) h =
@@ -238,27 +238,27 @@ module _ (rows : List Row) (words : Words) (sound : AreSound rows words) (keys :
     by_key (Some key) key_is = by_text key key_is (text_of words key) refl
 
 -- the numbers of a command are within their bounds, and its names are those that words give
-pub IsRight-sound : (v : Verb) (words : Words) → fault_of (rows_of v) words ≡ None → IsRight (v, words)
-IsRight-sound v words h = AreWithin-sound (rows_of v) words (AreSound-by (rows_of v) words h) (keys_of v) (rows_of v) (keys_of v).numbers
+pub IsRight-sound : (v : Verb) (words : Words) → fault_of (verb_rows v) words ≡ None → IsRight (v, words)
+IsRight-sound v words h = AreInBounds-sound (verb_rows v) words (AreSound-by (verb_rows v) words h) (keys_of v) (verb_rows v) (keys_of v).numbers
 
 pub record IsCommand (words : Words) (command : Command) : Type 0 where
   pub right : IsRight command
   pub given : AreGiven words command
-  pub sound : AreSound (rows_of command.0) command.1
+  pub sound : AreSound (verb_rows command.0) command.1
 
-IsCommand-sound : (word : List ℕ) (v : Verb) (words : Words) → fault_of (rows_of v) words ≡ None → IsCommand (word ∷ words) (v, words)
+IsCommand-sound : (word : List ℕ) (v : Verb) (words : Words) → fault_of (verb_rows v) words ≡ None → IsCommand (word ∷ words) (v, words)
 IsCommand-sound word v words h =
-    let sound = AreSound-by (rows_of v) words h in
+    let sound = AreSound-by (verb_rows v) words h in
     record {
       right = IsRight-sound v words h;
-      given = record { names = given (rows_of v) words sound (keys_of v) word; output = is_some-name_of (rows_of v) words sound (keys_of v) port.Output refl ∙ (keys_of v).has_output };
+      given = record { names = given (verb_rows v) words sound (keys_of v) word; output = is_some-name_of (verb_rows v) words sound (keys_of v) port.Output refl ∙ (keys_of v).has_output };
       sound = sound;
     }
 
 pub IsCommand-command_of : (words : Words) (command : Command) → command_of words ≡ Ok command → IsCommand words command
 IsCommand-command_of [] command e = absurd cc
 IsCommand-command_of (word ∷ words) command e = by_verb (verb_of word) e where
-  by_fault : (v : Verb) (o : Option ℕ) → fault_of (rows_of v) words ≡ o → unless_fault o (v, words) ≡ Ok command → IsCommand (word ∷ words) command
+  by_fault : (v : Verb) (o : Option ℕ) → fault_of (verb_rows v) words ≡ o → unless_fault o (v, words) ≡ Ok command → IsCommand (word ∷ words) command
   by_fault v (Some place) is e = absurd cc
   by_fault v None is e = subst (IsCommand (word ∷ words)) (same e) (IsCommand-sound word v words is) where
     same : {x y : Command} → ◌≡◌ {A = Result Command ℕ} (Ok x) (Ok y) → x ≡ y
@@ -266,21 +266,21 @@ IsCommand-command_of (word ∷ words) command e = by_verb (verb_of word) e where
 
   by_verb : (o : Option Verb) → command_after o words ≡ Ok command → IsCommand (word ∷ words) command
   by_verb None e = absurd cc
-  by_verb (Some v) e = by_fault v (fault_of (rows_of v) words) refl e
+  by_verb (Some v) e = by_fault v (fault_of (verb_rows v) words) refl e
 
 -- ---- the mask
 
 -- a verb whose words give a mask has the bits of a packet
-pub IsPlaces-with_mask : (v : Verb) (words : Words) → wrong_word (rows_of v) [] words ≡ None → is_missing (rows_of v) words ≡ false → IsSome (text_of words (codes "mask")) → IsPlaces (bits words)
-IsPlaces-with_mask v words right whole given = by_kind (kind_of (rows_of v) (codes "mask")) refl (keys_of v).mask where
-  none : (o : Option (List ℕ)) → text_of words (codes "mask") ≡ o → IsSome o → kind_of (rows_of v) (codes "mask") ≡ None → ⊥
+pub IsPlaces-with_mask : (v : Verb) (words : Words) → wrong_word (verb_rows v) [] words ≡ None → is_missing (verb_rows v) words ≡ false → IsSome (text_of words (codes "mask")) → IsPlaces (bits words)
+IsPlaces-with_mask v words right whole given = by_kind (kind_of (verb_rows v) (codes "mask")) refl (keys_of v).mask where
+  none : (o : Option (List ℕ)) → text_of words (codes "mask") ≡ o → IsSome o → kind_of (verb_rows v) (codes "mask") ≡ None → ⊥
   none None is h kind = cc
   none (Some text) is h kind =
-      let (so_far, fit) = fits-text_of (rows_of v) [] words (codes "mask") text right is in
-      no (subst (λ kind. fits_key (rows_of v) so_far kind text ≡ true) kind fit) where
+      let (so_far, fit) = fits-text_of (verb_rows v) [] words (codes "mask") text right is in
+      no (subst (λ kind. fits_key (verb_rows v) so_far kind text ≡ true) kind fit) where
         no : ◌≡◌ {A = Bool} false true → ⊥
         no e = cc
 
-  by_kind : (o : Option Kind) → kind_of (rows_of v) (codes "mask") ≡ o → HasPlaces (rows_of v) o → IsPlaces (bits words)
+  by_kind : (o : Option ValueKind) → kind_of (verb_rows v) (codes "mask") ≡ o → HasPlaces (verb_rows v) o → IsPlaces (bits words)
   by_kind None is places = absurd (none (text_of words (codes "mask")) refl given is)
-  by_kind (Some kind) is (places, need) = number_at-within (rows_of v) words (codes "bits") 1 49152 (record { right = right; whole = whole }) places need (omega arith)
+  by_kind (Some kind) is (places, need) = number_at-within (verb_rows v) words (codes "bits") 1 49152 (record { right = right; whole = whole }) places need (omega arith)

@@ -16,7 +16,7 @@ use Rattle.pocket_cmd.specs.declared.status.Status.{Status}
 use Rattle.pocket_cmd.specs.declared.status.Status.TheVariants.{Done, Refused}
 use Rattle.pocket_cmd.specs.declared.status.Refusal.{Refusal}
 use Rattle.pocket_cmd.specs.Command.{Names, Command}
-use Rattle.pocket_cmd.specs.Openings.{AreKept, all_opened, told_bytes, input_given, with_report, with_output, with_input}
+use Rattle.pocket_cmd.specs.Openings.{AreKeptUnder, all_opened, told_bytes, input_given, with_report, with_output, with_input}
 use Rattle.pocket_cmd.specs.Unfed.{EndsBy}
 use Rattle.pocket_cmd.specs.Status.{HasStatusCause, IsEnded, refusal_of, refused_by, status_of, status_by}
 use Rattle.pocket_cmd.specs.Outcome.{RunStands, AfterClass, AfterNames, AfterText, AfterTextClass, IsBegun, Stands, AfterCommand, AfterRefusal}
@@ -40,7 +40,7 @@ pub record AddsOwed (course : List ℕ → Course DataFault) (start end : Meanin
   pub report : made end outlet.Report ≡ append_known (made start outlet.Report) (owed (course input)).report
   pub ends : (course input).ending ≡ ending
 
-AddsOwed-by : (name : Option (List ℕ)) (names : Names) (course : List ℕ → Course DataFault) (old end : Meanings) (ending : Option DataFault) (opened input : List ℕ) → AreKept old name opened
+AddsOwed-by : (name : Option (List ℕ)) (names : Names) (course : List ℕ → Course DataFault) (old end : Meanings) (ending : Option DataFault) (opened input : List ℕ) → AreKeptUnder old name opened
     → EndsBy (is_some name) course (with_report (with_output (with_input old name opened) names.output) names.report) end ending → input_given old name ≡ Some input
     → AddsOwed course (with_report (with_output (with_input old name opened) names.output) names.report) end ending input
 AddsOwed-by None names course old end ending opened input kept ran told =

@@ -2,10 +2,10 @@
 use Rattle.std.specs.Prelude.{ℕ, ◌≤◌, ◌≡◌, List, [], ◌∷◌, map, Option, Some, None, Result, Ok, Err, IfSome, IsSome, unwrap_or}
 use Rattle.std.specs.String.{string_bytes}
 use Rattle.std.specs.declared.string.String.{String}
-use Rattle.pocket_cmd.specs.Verbs.{Row, rows_of, verb_of}
+use Rattle.pocket_cmd.specs.Verbs.{KeyRow, verb_rows, verb_of}
 use Rattle.pocket_cmd.specs.Words.{Words, AssignsToOne, fault_of, keys_at, name_of, number_at}
-use Rattle.pocket_cmd.specs.declared.verbs.Kind.{Kind}
-use Rattle.pocket_cmd.specs.declared.verbs.Kind.TheVariants.{Name, Number, Mask}
+use Rattle.pocket_cmd.specs.declared.verbs.ValueKind.{ValueKind}
+use Rattle.pocket_cmd.specs.declared.verbs.ValueKind.TheVariants.{Name, Number, Mask}
 use Rattle.pocket_cmd.specs.declared.verbs.Port.{Port}
 use Rattle.pocket_cmd.specs.declared.verbs.Port.TheVariants.{Side, Input, Output, Report}
 use Rattle.pocket_cmd.specs.declared.verbs.Verb.{Verb}
@@ -25,7 +25,7 @@ pub record Names : Type 0 where
 
 -- the name that a command has for what is opened there
 abbrev pub name_at : Command → Port → Option (List ℕ)
-name_at command port = name_of (rows_of command.0) command.1 port
+name_at command port = name_of (verb_rows command.0) command.1 port
 
 abbrev pub names_of : Command → Names
 names_of command = record { side = name_at command Side; input = name_at command Input; output = unwrap_or (name_at command Output) []; report = name_at command Report }
@@ -38,7 +38,7 @@ unless_fault (Some place) command = Err place
 
 abbrev pub command_after : Option Verb → Words → Result Command ℕ
 command_after None words = Err 0
-command_after (Some verb) words = unless_fault (fault_of (rows_of verb) words) (verb, words)
+command_after (Some verb) words = unless_fault (fault_of (verb_rows verb) words) (verb, words)
 
 -- the verb and the words after it; or the place of the first faulty word; or the number of words, if one is missing; or the
 -- place of the word with the mask, if its text denotes none
@@ -56,19 +56,19 @@ HasCommand words Holds = (command : Command) × IsCommandOf words command × Hol
 -- ---- what is right
 
 -- a number is within the bounds of its key
-abbrev pub IsWithin : Kind → ℕ → Type 0
-IsWithin (Number low high) n = (low ≤ n) × (n ≤ high)
-IsWithin (Name port) n = Unit
-IsWithin Mask n = Unit
+abbrev pub IsInBounds : ValueKind → ℕ → Type 0
+IsInBounds (Number low high) n = (low ≤ n) × (n ≤ high)
+IsInBounds (Name port) n = Unit
+IsInBounds Mask n = Unit
 
 -- what words give to each key of these rows that has a number is within its bounds
-abbrev pub AreWithin : List Row → Words → Type 0
-AreWithin [] words = Unit
-AreWithin (row ∷ rows) words = IsWithin row.kind (number_at words row.key) × AreWithin rows words
+abbrev pub AreInBounds : List KeyRow → Words → Type 0
+AreInBounds [] words = Unit
+AreInBounds (row ∷ rows) words = IsInBounds row.kind (number_at words row.key) × AreInBounds rows words
 
 -- the numbers of a command are within the bounds of its verb
 abbrev pub IsRight : Command → Type 0
-IsRight command = AreWithin (rows_of command.0) command.1
+IsRight command = AreInBounds (verb_rows command.0) command.1
 
 -- each name is one that a word gives to a key of it, and the output has one
 pub record AreGiven (words : Words) (command : Command) : Type 0 where

@@ -134,9 +134,9 @@ all_opened names old bytes = with_report (with_output (with_input old names.inpu
 
 -- the bytes are those that are kept under the input's name, if the desk tells what it keeps, and none if there is no
 -- input
-abbrev pub AreKept : Meanings → Option (List ℕ) → List ℕ → Type 0
-AreKept m None bytes = bytes ≡ []
-AreKept m (Some name) bytes = IfSome m.held (λ kept. bytes ≡ kept_at kept name)
+abbrev pub AreKeptUnder : Meanings → Option (List ℕ) → List ℕ → Type 0
+AreKeptUnder m None bytes = bytes ≡ []
+AreKeptUnder m (Some name) bytes = IfSome m.held (λ kept. bytes ≡ kept_at kept name)
 
 -- what was opened before the report, if there is one, stands
 abbrev pub LacksReport : Names → Option (List ℕ) → Meanings → Meanings → List ℕ → Type 0
@@ -150,9 +150,9 @@ IsHalfOpened names old new bytes = LacksReport names names.report old new bytes
 
 -- after the opening of all names
 abbrev pub AfterOpening : Names → Meanings → Meanings → Result (Unit {0}) Unopened → Type 0
-AfterOpening names old new (Ok done) = (bytes : List ℕ) × AreKept old names.input bytes × (new ≡ all_opened names old bytes)
+AfterOpening names old new (Ok done) = (bytes : List ℕ) × AreKeptUnder old names.input bytes × (new ≡ all_opened names old bytes)
 AfterOpening names old new (Err unopened.Input) = IsSome names.input × (new ≡ old)
-AfterOpening names old new (Err unopened.Output) = (bytes : List ℕ) × AreKept old names.input bytes × IsHalfOpened names old new bytes
+AfterOpening names old new (Err unopened.Output) = (bytes : List ℕ) × AreKeptUnder old names.input bytes × IsHalfOpened names old new bytes
 
 -- why a name was not opened: reading or writing failed, and otherwise both counts are as before
 abbrev pub HasOpeningCause : Counts → Counts → Result (Unit {0}) Unopened → Type 0

@@ -16,7 +16,7 @@ use Rattle.pocket_cmd.specs.Courses.{course_of, bad_row_of, bad_script_row_of}
 use Rattle.pocket_cmd.specs.Unfed.{EndsBy, IsCutOffBy, IsCutShortBy}
 use Rattle.pocket_cmd.specs.Status.{BadText, Class, class_of, refusal_for, status_of, status_by}
 use Rattle.pocket_cmd.specs.Status as class
-use Rattle.pocket_cmd.specs.Openings.{AreKept, IsText, IsTextLong, IsTextReadTo, IsTextCutOff, IsTextUnread, KeepsAllBut, with_text, all_opened, all_finished, IsHalfOpened, IsHalfKept, input_given, side_given}
+use Rattle.pocket_cmd.specs.Openings.{AreKeptUnder, IsText, IsTextLong, IsTextReadTo, IsTextCutOff, IsTextUnread, KeepsAllBut, with_text, all_opened, all_finished, IsHalfOpened, IsHalfKept, input_given, side_given}
 
 -- ---- after all texts
 
@@ -24,13 +24,13 @@ use Rattle.pocket_cmd.specs.Openings.{AreKept, IsText, IsTextLong, IsTextReadTo,
 -- and this holds of the desk at which all names are opened
 pub record OnceOpened (names : Names) (old : Meanings) (After : Meanings → Type 0) : Type 0 where
   pub input : List ℕ
-  pub kept : AreKept old names.input input
+  pub kept : AreKeptUnder old names.input input
   pub after : After (all_opened names old input)
 
 -- all names are opened
 pub record AreOpened (names : Names) (old start : Meanings) : Type 0 where
   pub input : List ℕ
-  pub kept : AreKept old names.input input
+  pub kept : AreKeptUnder old names.input input
   pub is : start ≡ all_opened names old input
 
 -- if the run has no fault, the outputs are finished
@@ -53,7 +53,7 @@ pub record IsUnfinished (names : Names) (course : List ℕ → Course DataFault)
 -- an output was not opened
 pub record IsUnopened (names : Names) (old new : Meanings) : Type 0 where
   pub input : List ℕ
-  pub kept : AreKept old names.input input
+  pub kept : AreKeptUnder old names.input input
   pub is : IsHalfOpened names old new input
 
 -- the course of the input ends so, and all that it owes stands

@@ -7,10 +7,10 @@ use Rattle.pocket_cmd.specs.declared.status.Status.TheVariants.{Done, Refused}
 use Rattle.pocket_cmd.specs.declared.status.Refusal.{Refusal}
 use Rattle.pocket_cmd.specs.declared.status.Refusal.TheVariants.{BadWords, SideTooLong, BadSide, ScriptTooLong, BadScript, ReadFault, WriteFault, CutRecord, SpareBit, BadStore, TooMany, NoMemory}
 
-abbrev pub kind_text : StoreKind → List ℕ
-kind_text store.Cut = codes "is cut"
-kind_text store.Version = codes "has another version"
-kind_text store.Shape = codes "has another shape"
+abbrev pub store_kind_text : StoreKind → List ℕ
+store_kind_text store.Cut = codes "is cut"
+store_kind_text store.Version = codes "has another version"
+store_kind_text store.Shape = codes "has another shape"
 
 abbrev pub refusal_text : Refusal → List ℕ
 refusal_text (BadWords word) = codes "word " ++ decimal word ++ codes " is wrong"
@@ -22,7 +22,7 @@ refusal_text ReadFault = codes "reading failed"
 refusal_text WriteFault = codes "writing failed"
 refusal_text (CutRecord t) = codes "recording ends inside packet " ++ decimal t
 refusal_text (SpareBit t) = codes "packet " ++ decimal t ++ codes " has a spare bit set"
-refusal_text (BadStore byte kind) = codes "store packet at byte " ++ decimal byte ++ codes " " ++ kind_text kind
+refusal_text (BadStore byte kind) = codes "store packet at byte " ++ decimal byte ++ codes " " ++ store_kind_text kind
 refusal_text TooMany = codes "too many packets"
 refusal_text NoMemory = codes "out of memory"
 

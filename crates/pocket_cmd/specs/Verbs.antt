@@ -5,10 +5,10 @@ use Rattle.pocket_cmd.specs.declared.verbs.Verb.{Verb}
 use Rattle.pocket_cmd.specs.declared.verbs.Verb.TheVariants.{Compress, Play, Restore, Show, Trial, Multi, Late, Table, Forecast}
 use Rattle.pocket_cmd.specs.declared.verbs.Port.{Port}
 use Rattle.pocket_cmd.specs.declared.verbs.Port.TheVariants.{Side, Input, Output, Report}
-use Rattle.pocket_cmd.specs.declared.verbs.Kind.{Kind}
-use Rattle.pocket_cmd.specs.declared.verbs.Kind.TheVariants.{Name, Number, Mask}
-use Rattle.pocket_cmd.specs.declared.verbs.Row.{Row as Held}
-use Rattle.pocket_cmd.specs.declared.verbs.Row.TheVariants as held
+use Rattle.pocket_cmd.specs.declared.verbs.ValueKind.{ValueKind}
+use Rattle.pocket_cmd.specs.declared.verbs.ValueKind.TheVariants.{Name, Number, Mask}
+use Rattle.pocket_cmd.specs.declared.verbs.KeyRow.{KeyRow as Held}
+use Rattle.pocket_cmd.specs.declared.verbs.KeyRow.TheVariants as held
 
 -- the verb that a word names
 abbrev pub verb_of : List ℕ → Option Verb
@@ -25,59 +25,59 @@ verb_of word =
     else None))))))))
 
 -- a key, the kind of its value, and whether it is needed
-pub record Row : Type 0 where
+pub record KeyRow : Type 0 where
   pub key : List ℕ
-  pub kind : Kind
+  pub kind : ValueKind
   pub is_needed : Bool
 
-abbrev pub needed : List ℕ → Kind → Row
+abbrev pub needed : List ℕ → ValueKind → KeyRow
 needed key kind = record { key = key; kind = kind; is_needed = true }
 
-abbrev pub optional : List ℕ → Kind → Row
+abbrev pub optional : List ℕ → ValueKind → KeyRow
 optional key kind = record { key = key; kind = kind; is_needed = false }
 
 -- the keys of a verb
-abbrev pub rows_of : Verb → List Row
-rows_of Compress =
+abbrev pub verb_rows : Verb → List KeyRow
+verb_rows Compress =
     needed (codes "in") (Name Input) ∷ needed (codes "out") (Name Output) ∷ needed (codes "bits") (Number 1 49152)
     ∷ needed (codes "apid") (Number 0 2046) ∷ needed (codes "robust") (Number 0 7) ∷ optional (codes "plan") (Name Side)
     ∷ optional (codes "mask") Mask ∷ []
-rows_of Play =
+verb_rows Play =
     needed (codes "in") (Name Input) ∷ needed (codes "out") (Name Output) ∷ needed (codes "report") (Name Report)
     ∷ needed (codes "script") (Name Side) ∷ needed (codes "apid") (Number 0 2046) ∷ []
-rows_of Restore =
+verb_rows Restore =
     needed (codes "in") (Name Input) ∷ needed (codes "out") (Name Output) ∷ needed (codes "report") (Name Report)
     ∷ needed (codes "bits") (Number 1 49152) ∷ needed (codes "apid") (Number 0 2046) ∷ []
-rows_of Show =
+verb_rows Show =
     needed (codes "in") (Name Input) ∷ needed (codes "out") (Name Output) ∷ needed (codes "bits") (Number 1 49152)
     ∷ needed (codes "apid") (Number 0 2046) ∷ []
-rows_of Trial =
+verb_rows Trial =
     needed (codes "out") (Name Output) ∷ needed (codes "seed") (Number 0 4294967295) ∷ needed (codes "packets") (Number 1 10000)
     ∷ needed (codes "bits") (Number 1 4096) ∷ needed (codes "robust") (Number 0 7) ∷ []
-rows_of Multi =
+verb_rows Multi =
     needed (codes "in") (Name Input) ∷ needed (codes "out") (Name Output) ∷ needed (codes "report") (Name Report)
     ∷ needed (codes "streams") (Name Side) ∷ []
-rows_of Late =
+verb_rows Late =
     needed (codes "in") (Name Input) ∷ needed (codes "out") (Name Output) ∷ needed (codes "report") (Name Report)
     ∷ needed (codes "bits") (Number 1 49152) ∷ needed (codes "apid") (Number 0 2046) ∷ needed (codes "window") (Number 0 64) ∷ []
-rows_of Table =
+verb_rows Table =
     needed (codes "in") (Name Input) ∷ needed (codes "out") (Name Output) ∷ needed (codes "report") (Name Report)
     ∷ needed (codes "fields") (Name Side) ∷ needed (codes "bits") (Number 1 49152) ∷ []
-rows_of Forecast =
+verb_rows Forecast =
     needed (codes "out") (Name Output) ∷ needed (codes "packets") (Number 1 1000000) ∷ needed (codes "robust") (Number 0 7)
     ∷ needed (codes "plan") (Name Side) ∷ needed (codes "script") (Name Input) ∷ []
 
-abbrev pub view_row : Held → Row
+abbrev pub view_row : Held → KeyRow
 view_row (held.Needed key kind) = needed key.now kind
 view_row (held.Optional key kind) = optional key.now kind
 
 -- the kind of the value of a key, if one of the rows has it
-abbrev pub kind_of : List Row → List ℕ → Option Kind
+abbrev pub kind_of : List KeyRow → List ℕ → Option ValueKind
 kind_of [] key = None
 kind_of (row ∷ rows) key = if bytes_eq row.key key then Some row.kind else kind_of rows key
 
 -- a value is the name of what is opened there
-abbrev pub is_name_at : Port → Kind → Bool
+abbrev pub is_name_at : Port → ValueKind → Bool
 is_name_at Side (Name Side) = true
 is_name_at Input (Name Input) = true
 is_name_at Output (Name Output) = true

@@ -4,11 +4,11 @@ use Rattle.std.specs.List.{list_any, before_first, after_first, position_or_len}
 use Rattle.std.specs.Str.{bytes_eq}
 use Rattle.side_tables.specs.Numbers.{number_of}
 use Rattle.pocket_cmd.specs.declared.verbs.Port.TheVariants.{Side, Input, Output, Report}
-use Rattle.pocket_cmd.specs.declared.verbs.Kind.{Kind}
-use Rattle.pocket_cmd.specs.declared.verbs.Kind.TheVariants.{Name, Number, Mask}
+use Rattle.pocket_cmd.specs.declared.verbs.ValueKind.{ValueKind}
+use Rattle.pocket_cmd.specs.declared.verbs.ValueKind.TheVariants.{Name, Number, Mask}
 use Rattle.pocket_cmd.specs.Masks.{first_mask, is_mask}
 use Rattle.pocket_cmd.specs.declared.verbs.Port.{Port}
-use Rattle.pocket_cmd.specs.Verbs.{Row, kind_of, is_name_at}
+use Rattle.pocket_cmd.specs.Verbs.{KeyRow, kind_of, is_name_at}
 
 -- words, each as its bytes
 abbrev pub Words : Type 0
@@ -39,17 +39,17 @@ text_of [] key = None
 text_of (word ∷ words) key = if has_key key word then Some (text_in word) else text_of words key
 
 -- the name of what is opened there, if a key of these rows has it and words give it
-abbrev pub name_of : List Row → List (List ℕ) → Port → Option (List ℕ)
+abbrev pub name_of : List KeyRow → List (List ℕ) → Port → Option (List ℕ)
 name_of [] words port = None
 name_of (row ∷ rows) words port = if is_name_at port row.kind then text_of words row.key else name_of rows words port
 
 -- the number that this text says
-abbrev pub number_in : Option (List ℕ) → ℕ
-number_in None = 0
-number_in (Some text) = unwrap_or (number_of 0 4294967295 text) 0
+abbrev pub number_told : Option (List ℕ) → ℕ
+number_told None = 0
+number_told (Some text) = unwrap_or (number_of 0 4294967295 text) 0
 
 abbrev pub number_at : List (List ℕ) → List ℕ → ℕ
-number_at words key = number_in (text_of words key)
+number_at words key = number_told (text_of words key)
 
 -- what words give to the keys of numbers, and to that of the first mask
 abbrev pub bits : Words → ℕ
@@ -80,21 +80,21 @@ is_text None name = false
 is_text (Some text) name = bytes_eq text name
 
 -- words give this name to what is read, or to what is written
-abbrev pub is_read : List Row → List (List ℕ) → List ℕ → Bool
-is_read rows words name = is_text (name_of rows words Side) name || is_text (name_of rows words Input) name
+abbrev pub is_name_read : List KeyRow → List (List ℕ) → List ℕ → Bool
+is_name_read rows words name = is_text (name_of rows words Side) name || is_text (name_of rows words Input) name
 
-abbrev pub is_written : List Row → List (List ℕ) → List ℕ → Bool
-is_written rows words name = is_text (name_of rows words Output) name || is_text (name_of rows words Report) name
+abbrev pub is_name_written : List KeyRow → List (List ℕ) → List ℕ → Bool
+is_name_written rows words name = is_text (name_of rows words Output) name || is_text (name_of rows words Report) name
 
 -- a name has at least one byte and is none of the names of these words; but `-` may stand once to read and once to write
-abbrev pub is_new_to_read : List Row → List (List ℕ) → List ℕ → Bool
-is_new_to_read rows words name = not (length name == 0) && not (is_read rows words name) && (bytes_eq name (codes "-") || not (is_written rows words name))
+abbrev pub is_new_to_read : List KeyRow → List (List ℕ) → List ℕ → Bool
+is_new_to_read rows words name = not (length name == 0) && not (is_name_read rows words name) && (bytes_eq name (codes "-") || not (is_name_written rows words name))
 
-abbrev pub is_new_to_write : List Row → List (List ℕ) → List ℕ → Bool
-is_new_to_write rows words name = not (length name == 0) && not (is_written rows words name) && (bytes_eq name (codes "-") || not (is_read rows words name))
+abbrev pub is_new_to_write : List KeyRow → List (List ℕ) → List ℕ → Bool
+is_new_to_write rows words name = not (length name == 0) && not (is_name_written rows words name) && (bytes_eq name (codes "-") || not (is_name_read rows words name))
 
 -- a text is a value of this kind, after these words; any is one of a mask
-abbrev pub fits : List Row → List (List ℕ) → Kind → List ℕ → Bool
+abbrev pub fits : List KeyRow → List (List ℕ) → ValueKind → List ℕ → Bool
 fits rows words (Name Side) text = is_new_to_read rows words text
 fits rows words (Name Input) text = is_new_to_read rows words text
 fits rows words (Name Output) text = is_new_to_write rows words text
@@ -102,22 +102,22 @@ fits rows words (Name Report) text = is_new_to_write rows words text
 fits rows words (Number low high) text = is_some (number_of low high text)
 fits rows words Mask text = true
 
-abbrev pub fits_key : List Row → List (List ℕ) → Option Kind → List ℕ → Bool
+abbrev pub fits_key : List KeyRow → List (List ℕ) → Option ValueKind → List ℕ → Bool
 fits_key rows words None text = false
 fits_key rows words (Some kind) text = fits rows words kind text
 
 -- a word is right after these: it has a key of a row, which none of them has, and a value of the key's kind
-abbrev pub is_right : List Row → List (List ℕ) → List ℕ → Bool
+abbrev pub is_right : List KeyRow → List (List ℕ) → List ℕ → Bool
 is_right rows words word = is_split word && not (is_some (text_of words (key_in word))) && fits_key rows words (kind_of rows (key_in word)) (text_in word)
 
 -- the place of the first word that is not right after all before it, the verb's being 0
-abbrev pub wrong_word : List Row → List (List ℕ) → List (List ℕ) → Option ℕ
+abbrev pub wrong_word : List KeyRow → List (List ℕ) → List (List ℕ) → Option ℕ
 wrong_word rows before [] = None
 wrong_word rows before (word ∷ words) = if is_right rows before word then wrong_word rows (before ++ word ∷ []) words else Some (length before + 1)
 
 -- a key is needed that no word has
-abbrev pub is_missing : List Row → List (List ℕ) → Bool
-is_missing rows words = list_any (λ (row : Row). row.is_needed && not (is_some (text_of words row.key))) rows
+abbrev pub is_missing : List KeyRow → List (List ℕ) → Bool
+is_missing rows words = list_any (λ (row : KeyRow). row.is_needed && not (is_some (text_of words row.key))) rows
 
 -- the place of the word with the mask, if its text denotes none of as many places as a packet has bits
 abbrev pub place_of : List (List ℕ) → List ℕ → ℕ
@@ -140,7 +140,7 @@ abbrev pub or_word : Option ℕ → Option ℕ → Option ℕ
 or_word (Some place) later = Some place
 or_word None later = later
 
-abbrev pub fault_of : List Row → List (List ℕ) → Option ℕ
+abbrev pub fault_of : List KeyRow → List (List ℕ) → Option ℕ
 fault_of rows words = or_word (wrong_word rows [] words) (or_missing (is_missing rows words) (length words + 1) (wrong_mask words))
 
 -- ---- what words name

@@ -23,8 +23,9 @@ pub use laws::{
 };
 pub use packet_store::StoreKind;
 pub use rehearsal::rehearse;
+pub use side_tables::MOST_TEXT_BYTES;
 pub use status::{Refusal, Status, exit_code};
 pub use told::refusal_row;
 pub use top::pocket;
 pub use trial_chain::{Summary, run_trial};
-pub use verbs::{Kind, Port, Row, VERB_WORDS, Verb};
+pub use verbs::{KeyRow, Port, VERB_WORDS, ValueKind, Verb};

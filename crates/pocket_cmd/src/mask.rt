@@ -9,7 +9,7 @@ use bit_vectors::{BitEye, Bits, NoMemory, byte_len};
 use std::alloc::Global;
 
 /// The bytes of a vector of the most places.
-const MOST_BYTES: usize = 6144;
+const MOST_MASK_BYTES: usize = 6144;
 
 /// Whether a text denotes a vector of so many places: two digits of either case for each of its bytes, whose spare
 /// bits are 0.
@@ -38,13 +38,13 @@ pub fn first_mask(alloc: Global, bits: u32, text: Option<&str>) -> Result<Bits, 
 }
 
 /// The bytes of the vector of so many places that a text denotes, and zeros after them.
-fn mask_bytes(bits: u32, text: &str) -> Option<[u8; MOST_BYTES]>
+fn mask_bytes(bits: u32, text: &str) -> Option<[u8; MOST_MASK_BYTES]>
     requires { IsPlaces bits }
     ensures bytes { option_map (take (byte_count bits)) result ≡ mask_bytes bits text.now }
     ensures spare { IfSome result
         (λ bytes. has_spare_bit bits (take (byte_count bits) bytes) ≡ false) }
 {
-    let mut bytes = [0; MOST_BYTES];
+    let mut bytes = [0; MOST_MASK_BYTES];
     let front = &mut bytes[..byte_len(bits) as usize];
     hex::decode_to_slice(text, front).ok()?;
     if has_spare_bit(bits, front) {

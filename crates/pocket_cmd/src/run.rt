@@ -3,7 +3,7 @@ ghost use Rattle.std.specs.Prelude.{◌≡◌, ℕ, List, false, is_some, IsTrue
 ghost use Rattle.std.specs.Option.{option_map};
 ghost use Rattle.desk_ports.specs.Meanings.{Meanings, IsReadyIn, IsReadyOut, HasReadCause, HasWriteCause};
 ghost use Rattle.pocket_cmd.specs.Jobs.{AreNamesOf, job_course, reads_input, writes_report};
-ghost use Rattle.pocket_cmd.specs.Openings.{view_names, AfterOpening, AreGranted, HasOpeningCause, IsReadyFor, AfterFinishing, AreKept, with_input, with_report};
+ghost use Rattle.pocket_cmd.specs.Openings.{view_names, AfterOpening, AreGranted, HasOpeningCause, IsReadyFor, AfterFinishing, AreKeptUnder, with_input, with_report};
 ghost use Rattle.pocket_cmd.specs.Outcome.{AfterNames, AreOpened};
 ghost use Rattle.pocket_cmd.specs.Status.{HasStatusCause, IsEnded, status_by};
 ghost use Rattle.pocket_cmd.specs.declared.run.Unopened.TheVariants as unopened;
@@ -93,7 +93,7 @@ fn open_all<D: Desk>(desk: &mut D, names: &Names<'_>) -> Result<(), Unopened>
 fn open_input<D: Desk>(desk: &mut D, name: Option<&str>) -> Result<(), Unopened>
     requires { IfSome name (λ name. IsTrue ((D.meaning desk.old).grants_in name.now)) }
     ensures opened { let input = option_map (λ name. name.now) name.entry in
-        OnOk result ((bytes : List ℕ) × AreKept (D.meaning desk.old) input bytes
+        OnOk result ((bytes : List ℕ) × AreKeptUnder (D.meaning desk.old) input bytes
         × (D.meaning desk.new ≡ with_input (D.meaning desk.old) input bytes)) }
     ensures only { IfErr result (λ fault. fault ≡ unopened.Input) }
     ensures ready { OnOk result

@@ -7,10 +7,8 @@ ghost use Rattle.pocket_cmd.specs.declared.text.TextFault.TheVariants as unread;
 ghost use Rattle.pocket_cmd.specs.Openings.{HasTextBytes, IsRoom, IsText, IsTextLong, IsTextReadTo, IsTextUnread, KeepsAllBut, HasTextCause, with_text};
 
 use desk_ports::{Desk, Failed, Inlet};
+use side_tables::MOST_TEXT_BYTES;
 use std::alloc::{AllocError, Global};
-
-/// The most bytes of a text.
-const MOST_BYTES: usize = 1_048_576;
 
 /// The bytes of the first room for a text, which is doubled as often as it is full.
 const FIRST_BYTES: usize = 4096;
@@ -77,12 +75,12 @@ pub fn text_at<D: Desk>(
         None => Ok(Text {
             bytes: Vec::new(alloc),
         }),
-        Some(name) => text_of(alloc, desk, inlet, name),
+        Some(name) => named_text(alloc, desk, inlet, name),
     }
 }
 
 /// The text of this name.
-fn text_of<D: Desk>(
+fn named_text<D: Desk>(
     alloc: Global,
     desk: &mut D,
     inlet: Inlet,
@@ -104,7 +102,7 @@ fn text_of<D: Desk>(
 {
     let mut room = vec![in alloc; 0; FIRST_BYTES]?;
     let moved = read_text(desk, inlet, name, &mut room)?;
-    if moved > MOST_BYTES {
+    if moved > MOST_TEXT_BYTES {
         return Err(TextFault::TooLong);
     }
     room.truncate(moved);
@@ -155,7 +153,7 @@ fn fill_text<D: Desk>(desk: &mut D, inlet: Inlet, room: &mut Vec<u8>) -> Result<
     ensures cause { HasTextCause (D.counts desk.old) (D.counts desk.new) result }
 {
     let mut filled = 0;
-    while filled <= MOST_BYTES {
+    while filled <= MOST_TEXT_BYTES {
         widen(room, filled)?;
         let moved = desk.read(inlet, &mut room[filled..])?;
         if moved == 0 {
@@ -177,5 +175,5 @@ fn widen(room: &mut Vec<u8>, filled: usize) -> Result<(), AllocError>
     if filled < room.len() {
         return Ok(());
     }
-    room.resize((2 * filled).max(FIRST_BYTES).min(MOST_BYTES + 1), 0)
+    room.resize((2 * filled).max(FIRST_BYTES).min(MOST_TEXT_BYTES + 1), 0)
 }

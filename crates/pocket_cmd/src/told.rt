@@ -1,7 +1,7 @@
 //! The text of each refusal.
 
 ghost use Rattle.std.specs.Prelude.{◌≡◌, ◌≤◌, ◌++◌, codes, decimal, length};
-ghost use Rattle.pocket_cmd.specs.Refusals.{kind_text, refusal_text};
+ghost use Rattle.pocket_cmd.specs.Refusals.{store_kind_text, refusal_text};
 
 use crate::status::Refusal;
 use desk_ports::Row;
@@ -55,19 +55,19 @@ fn numbered(before: &str, number: u64, after: &str) -> Row
 /// What is wrong with a store, and at which byte.
 fn store_row(byte: u64, kind: StoreKind) -> Row
     ensures { result
-        ≡ codes "store packet at byte " ++ decimal byte ++ codes " " ++ kind_text kind }
+        ≡ codes "store packet at byte " ++ decimal byte ++ codes " " ++ store_kind_text kind }
 {
     let mut row = Row::new();
     row.put_text("store packet at byte ");
     row.put_number(byte);
     row.put_text(" ");
-    row.put_text(kind_text(kind));
+    row.put_text(store_kind_text(kind));
     row
 }
 
 /// What is wrong with a packet of a store.
-fn kind_text(kind: StoreKind) -> &'static str
-    ensures text { result.now ≡ kind_text kind }
+fn store_kind_text(kind: StoreKind) -> &'static str
+    ensures text { result.now ≡ store_kind_text kind }
     ensures short { length result.now ≤ 40 }
 {
     match kind {

@@ -26,8 +26,8 @@ use std::alloc::Global;
 
 /// Does what the words say over a desk, and tells how it ended.
 ///
-/// The words are those after the program's name: a verb, and then `key=value` in any order. All verbs take the key `out`, and
-/// all that read packets `in` and `apid` (0 to 2046) too.
+/// The words are those after the program's name: a verb, and then `key=value` in any order. All verbs take the key `out`, all
+/// but `trial` and `forecast` `in`, and `compress`, `play`, `restore`, `show` and `late` `apid` (0 to 2046).
 ///
 /// - `compress` makes the store of a recording. It takes `bits` (the bits of a packet, 1 to 49,152) and `robust` (the
 ///   required robustness, 0 to 7) too, and may take `plan` (a schedule) and `mask` (the first mask in hexadecimal digits,
@@ -35,12 +35,12 @@ use std::alloc::Global;
 /// - `play` makes a store of the packets that arrive. It takes `script` and `report` too.
 /// - `restore` gives back the packets of a store. It takes `report` and `bits` too.
 /// - `show` lists what is found for each packet of a store. It takes `bits` too.
-/// - `trial` runs the other three over a history that it generates from a seed, in memory, and writes a summary. It takes `seed`
-///   (any number of 32 bits), `packets` (1 to 10,000), `bits` (1 to 4,096) and `robust`.
-/// - `multi` gives back the packets of several streams of one store. It takes `report` and `streams`, and no `apid`.
+/// - `trial` runs `compress`, `play` and `restore` over a history that it generates from a seed, in memory, and writes a
+///   summary. It takes `seed` (any number of 32 bits), `packets` (1 to 10,000), `bits` (1 to 4,096) and `robust`.
+/// - `multi` gives back the packets of several streams of one store. It takes `report` and `streams`.
 /// - `late` gives back the packets of a store in which they may come late. It takes `report`, `bits` and `window` (0 to 64) too.
 /// - `table` writes the fields of the packets of a recording as a table, and those out of their limits. It takes `report`,
-///   `fields` and `bits`, and no `apid`.
+///   `fields` and `bits`.
 /// - `forecast` tells which packets will be written, whatever the recording is. It takes `packets` (1 to 1,000,000), `robust`,
 ///   `plan` and `script`.
 ///

@@ -1,9 +1,9 @@
 //! The verbs, and the keys that each of them has.
 ghost use Rattle.std.specs.Prelude.{◌≡◌, map};
-ghost use Rattle.pocket_cmd.specs.Verbs.{verb_of, rows_of, view_row, kind_of, is_name_at};
+ghost use Rattle.pocket_cmd.specs.Verbs.{verb_of, verb_rows, view_row, kind_of, is_name_at};
 
-use Kind::{Mask, Name, Number};
-use Row::{Needed, Optional};
+use KeyRow::{Needed, Optional};
+use ValueKind::{Mask, Name, Number};
 
 /// What the command is to do.
 #[derive(Clone, Copy, Debug, PartialEq, Eq)]
@@ -45,7 +45,7 @@ pub enum Port {
 
 /// The kind of the value of a key.
 #[derive(Clone, Copy, Debug)]
-pub enum Kind {
+pub enum ValueKind {
     /// The name of what is opened there.
     Name(Port),
     /// A plain decimal from the first number to the second.
@@ -56,9 +56,9 @@ pub enum Kind {
 
 /// A key of a verb, and the kind of its value.
 #[derive(Clone, Copy, Debug)]
-pub enum Row {
-    Needed(&'static str, Kind),
-    Optional(&'static str, Kind),
+pub enum KeyRow {
+    Needed(&'static str, ValueKind),
+    Optional(&'static str, ValueKind),
 }
 
 impl Verb {
@@ -81,8 +81,8 @@ impl Verb {
     }
 
     /// Its keys.
-    pub fn rows(self) -> &'static [Row]
-        ensures { map view_row result.now ≡ rows_of self }
+    pub fn rows(self) -> &'static [KeyRow]
+        ensures { map view_row result.now ≡ verb_rows self }
     {
         match self {
             Verb::Compress => &[
@@ -153,7 +153,7 @@ impl Verb {
     }
 }
 
-impl Row {
+impl KeyRow {
     /// Its key.
     pub fn key(&self) -> &'static str
         ensures { result.now ≡ (view_row self.now).key }
@@ -164,7 +164,7 @@ impl Row {
     }
 
     /// The kind of its value.
-    pub fn value(&self) -> Kind
+    pub fn value(&self) -> ValueKind
         ensures { result ≡ (view_row self.now).kind }
     {
         match self {
@@ -180,7 +180,7 @@ impl Row {
     }
 }
 
-impl Kind {
+impl ValueKind {
     /// Whether a value is the name of what is opened there.
     pub fn is_name_at(self, port: Port) -> bool
         ensures { result ≡ is_name_at port self }
@@ -196,7 +196,7 @@ impl Kind {
 }
 
 /// The kind of the value of a key, if one of the rows has it.
-pub fn kind_of(rows: &[Row], key: &str) -> Option<Kind>
+pub fn kind_of(rows: &[KeyRow], key: &str) -> Option<ValueKind>
     ensures { result ≡ kind_of (map view_row rows.now) key.now }
 {
     for row in rows {

@@ -3,11 +3,11 @@ ghost use Rattle.std.specs.Prelude.{◌≡◌, ◌+◌, ◌<◌, ◌≤◌, ◌^
 ghost use Rattle.std.specs.Option.{option_map};
 ghost use Rattle.std.specs.String.{string_bytes};
 ghost use Rattle.bit_vectors.specs.Vectors.{IsPlaces};
-ghost use Rattle.pocket_cmd.specs.Verbs.{view_row, rows_of};
-ghost use Rattle.pocket_cmd.specs.Words.{is_split, key_in, text_in, has_key, text_of, number_at, name_of, is_read, is_written, is_new_to_read, is_new_to_write, fits, is_right, wrong_word, is_missing, place_of, wrong_mask, fault_of};
+ghost use Rattle.pocket_cmd.specs.Verbs.{view_row, verb_rows};
+ghost use Rattle.pocket_cmd.specs.Words.{is_split, key_in, text_in, has_key, text_of, number_at, name_of, is_name_read, is_name_written, is_new_to_read, is_new_to_write, fits, is_right, wrong_word, is_missing, place_of, wrong_mask, fault_of};
 
 use crate::mask::is_mask;
-use crate::verbs::{Kind, Port, Row, Verb, kind_of};
+use crate::verbs::{KeyRow, Port, ValueKind, Verb, kind_of};
 use side_tables::number;
 
 /// What is to be done: a verb, and the words after it, which are right.
@@ -15,7 +15,7 @@ use side_tables::number;
 pub struct Command<'a> {
     pub verb: Verb,
     pub words: &'a [String],
-    ghost right: { fault_of (rows_of verb) (map string_bytes words.now) ≡ None },
+    ghost right: { fault_of (verb_rows verb) (map string_bytes words.now) ≡ None },
 }
 
 /// The key and the value of a word, which is split at its first `=`.
@@ -43,7 +43,7 @@ pub fn text_of<'a>(words: &'a [String], key: &str) -> Option<&'a str>
 }
 
 /// The name of what is opened there, if a key has it and words give it.
-pub fn name_of<'a>(rows: &[Row], words: &'a [String], port: Port) -> Option<&'a str>
+pub fn name_of<'a>(rows: &[KeyRow], words: &'a [String], port: Port) -> Option<&'a str>
     ensures { option_map (λ name. name.now) result
         ≡ name_of (map view_row rows.now) (map string_bytes words.now) port }
 {
@@ -69,7 +69,7 @@ pub fn number_at(words: &[String], key: &str) -> u32
 /// words, if one is missing; or the place of the word with the mask, if its text denotes none.
 pub fn fault_of(verb: Verb, words: &[String]) -> Option<u32>
     requires few { length words.now + 1 < 2 ^ 32 }
-    ensures { result ≡ fault_of (rows_of verb) (map string_bytes words.now) }
+    ensures { result ≡ fault_of (verb_rows verb) (map string_bytes words.now) }
 {
     let rows = verb.rows();
     if let Some(place) = wrong_word(rows, words) {
@@ -82,7 +82,7 @@ pub fn fault_of(verb: Verb, words: &[String]) -> Option<u32>
 }
 
 /// The place of the first word that is not right after all before it.
-fn wrong_word(rows: &[Row], words: &[String]) -> Option<usize>
+fn wrong_word(rows: &[KeyRow], words: &[String]) -> Option<usize>
     ensures place { result ≡ wrong_word (map view_row rows.now) [] (map string_bytes words.now) }
     ensures within { IfSome result (λ place. place ≤ length words.now) }
 {
@@ -97,7 +97,7 @@ fn wrong_word(rows: &[Row], words: &[String]) -> Option<usize>
 }
 
 /// Whether a word has a key of a row, which none of these words has, and a value of the key's kind.
-fn is_right(rows: &[Row], words: &[String], word: &str) -> bool
+fn is_right(rows: &[KeyRow], words: &[String], word: &str) -> bool
     ensures { result ≡ is_right (map view_row rows.now) (map string_bytes words.now) word.now }
 {
     let Some((key, text)) = split(word) else {
@@ -110,58 +110,58 @@ fn is_right(rows: &[Row], words: &[String], word: &str) -> bool
 }
 
 /// Whether a text is a value of this kind, after these words.
-fn fits(rows: &[Row], words: &[String], kind: Kind, text: &str) -> bool
+fn fits(rows: &[KeyRow], words: &[String], kind: ValueKind, text: &str) -> bool
     ensures { result
         ≡ fits (map view_row rows.now) (map string_bytes words.now) kind text.now }
 {
     match kind {
-        Kind::Name(Port::Side | Port::Input) => is_new_to_read(rows, words, text),
-        Kind::Name(Port::Output | Port::Report) => is_new_to_write(rows, words, text),
-        Kind::Number(low, high) => number(text.as_bytes(), low, high).is_some(),
-        Kind::Mask => true,
+        ValueKind::Name(Port::Side | Port::Input) => is_new_to_read(rows, words, text),
+        ValueKind::Name(Port::Output | Port::Report) => is_new_to_write(rows, words, text),
+        ValueKind::Number(low, high) => number(text.as_bytes(), low, high).is_some(),
+        ValueKind::Mask => true,
     }
 }
 
 /// A name to read, which has at least one byte and is none of the names of these words; `-` may also be a name to write.
-fn is_new_to_read(rows: &[Row], words: &[String], name: &str) -> bool
+fn is_new_to_read(rows: &[KeyRow], words: &[String], name: &str) -> bool
     ensures { result
         ≡ is_new_to_read (map view_row rows.now) (map string_bytes words.now) name.now }
 {
     !name.is_empty()
-        && !is_read(rows, words, name)
-        && (name == "-" || !is_written(rows, words, name))
+        && !is_name_read(rows, words, name)
+        && (name == "-" || !is_name_written(rows, words, name))
 }
 
 /// A name to write, under the same conditions.
-fn is_new_to_write(rows: &[Row], words: &[String], name: &str) -> bool
+fn is_new_to_write(rows: &[KeyRow], words: &[String], name: &str) -> bool
     ensures { result
         ≡ is_new_to_write (map view_row rows.now) (map string_bytes words.now) name.now }
 {
     !name.is_empty()
-        && !is_written(rows, words, name)
-        && (name == "-" || !is_read(rows, words, name))
+        && !is_name_written(rows, words, name)
+        && (name == "-" || !is_name_read(rows, words, name))
 }
 
 /// Whether words give this name to what is read.
-fn is_read(rows: &[Row], words: &[String], name: &str) -> bool
+fn is_name_read(rows: &[KeyRow], words: &[String], name: &str) -> bool
     ensures { result
-        ≡ is_read (map view_row rows.now) (map string_bytes words.now) name.now }
+        ≡ is_name_read (map view_row rows.now) (map string_bytes words.now) name.now }
 {
     name_of(rows, words, Port::Side) == Some(name)
         || name_of(rows, words, Port::Input) == Some(name)
 }
 
 /// Whether words give this name to what is written.
-fn is_written(rows: &[Row], words: &[String], name: &str) -> bool
+fn is_name_written(rows: &[KeyRow], words: &[String], name: &str) -> bool
     ensures { result
-        ≡ is_written (map view_row rows.now) (map string_bytes words.now) name.now }
+        ≡ is_name_written (map view_row rows.now) (map string_bytes words.now) name.now }
 {
     name_of(rows, words, Port::Output) == Some(name)
         || name_of(rows, words, Port::Report) == Some(name)
 }
 
 /// Whether a key is needed that no word has.
-fn is_missing(rows: &[Row], words: &[String]) -> bool
+fn is_missing(rows: &[KeyRow], words: &[String]) -> bool
     ensures { result ≡ is_missing (map view_row rows.now) (map string_bytes words.now) }
 {
     for row in rows {

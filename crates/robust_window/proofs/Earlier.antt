@@ -6,7 +6,7 @@ use Rattle.std.proofs.lemmas.Bool.{cases_order, false≢true}
 use Rattle.std.proofs.lemmas.List.{length_push}
 use Rattle.std.proofs.lemmas.List.FromFn.{length-map-range_with_len, map-range_with_len_more}
 use Rattle.mask_update.specs.Histories.{History, Step, latest_step, with_step}
-use Rattle.mask_update.specs.Masks.{vector_of}
+use Rattle.mask_update.specs.Masks.{vector_by}
 use Rattle.mask_update.proofs.Standing.{change_at-before, step_at-before}
 use Rattle.mask_update.proofs.StepByStep.{vector_of_same}
 use Rattle.robust_window.specs.Changes.{MaskStep, changes_place, is_quiet, is_quiet_back, latest_change, level_of, mask_step, recent_of, steps_from, takes_new_mask, twice_of}
@@ -22,7 +22,7 @@ SameSteps steps others t = (s : ℕ) → s ≤ t → mask_step steps s ≡ mask_
 recent_of-same : (steps others : List MaskStep) (t : ℕ) → SameSteps steps others t → recent_of steps t ≡ recent_of others t
 unfolding recent_of
 recent_of-same steps others t agree =
-    ap (λ (m : MaskStep). vector_of (length m.change) (λ place. list_any (changes_place steps place) (steps_from (max 1 (t - m.robust)) (t + 1)))) (agree t (omega arith))
+    ap (λ (m : MaskStep). vector_by (length m.change) (λ place. list_any (changes_place steps place) (steps_from (max 1 (t - m.robust)) (t + 1)))) (agree t (omega arith))
     ∙ vector_of_same (length (mask_step others t).change) _ _ (λ place.
     any_same (changes_place steps place) (changes_place others place) (max 1 (t - (mask_step others t).robust)) (t + 1)
     (λ s lt. ap (λ (m : MaskStep). get_or m.change place false) (agree s (omega arith))))

@@ -167,7 +167,7 @@ module _ {A : Type 0} where
   where_marked-none [] nothing = refl
   where_marked-none (s ∷ slots) nothing = ap (λ (l : List A). nothing ∷ l) (where_marked-none slots nothing)
 
-marks-none : marks_of 0 ≡ replicate 16 false
+pub marks-none : marks_of 0 ≡ replicate 16 false
 unfolding number_bits
 marks-none = refl
 

@@ -8,7 +8,7 @@ use Rattle.std.proofs.lemmas.Bool.{false≢true}
 use Rattle.std.proofs.lemmas.List.FromFn.{fill_by_all, length-map-range_with_len}
 use Rattle.std.proofs.lemmas.Simd.{zip2-map}
 use Rattle.bit_vectors.specs.Vectors.{or_bits}
-use Rattle.mask_update.specs.Masks.{vector_of}
+use Rattle.mask_update.specs.Masks.{vector_by}
 use Rattle.mask_update.proofs.NewMasks.{range_push}
 use Rattle.mask_update.proofs.StepByStep.{vector_of_same}
 use Rattle.robust_window.specs.Window.{change_back}
@@ -18,17 +18,17 @@ use Rattle.robust_window.proofs.Levels.{some_one}
 
 -- 1 at each place that one of the given number of changes has
 abbrev pub gathered : ℕ → List (List Bool) → ℕ → List Bool
-gathered f changes count = vector_of f (λ place. list_any (λ back. get_or (change_back changes back) place false) (range_with_len 0 count))
+gathered f changes count = vector_by f (λ place. list_any (λ back. get_or (change_back changes back) place false) (range_with_len 0 count))
 
 pub length-gathered : (f : ℕ) (changes : List (List Bool)) (count : ℕ) → length (gathered f changes count) ≡ f
 length-gathered f changes count = length-map-range_with_len _ 0 f
 
-vector_of-false : (a f : ℕ) → map (λ place. false) (range_with_len a f) ≡ replicate f false
-vector_of-false a zero = refl
-vector_of-false a (suc f) = ap (λ bs. false ∷ bs) (vector_of-false (a + 1) f)
+vector_by-false : (a f : ℕ) → map (λ place. false) (range_with_len a f) ≡ replicate f false
+vector_by-false a zero = refl
+vector_by-false a (suc f) = ap (λ bs. false ∷ bs) (vector_by-false (a + 1) f)
 
 pub gathered-none : (f : ℕ) (changes : List (List Bool)) → replicate f false ≡ gathered f changes 0
-gathered-none f changes = sym (vector_of-false 0 f)
+gathered-none f changes = sym (vector_by-false 0 f)
 
 or_false : (b : Bool) → (b || false) ≡ b
 or_false true = refl
@@ -37,7 +37,7 @@ or_false false = refl
 pub gathered-more : (f : ℕ) (changes : List (List Bool)) (count : ℕ) → length (change_back changes count) ≡ f → or_bits (gathered f changes count) (change_back changes count) ≡ gathered f changes (count + 1)
 gathered-more f changes count len =
     let has : ℕ → ℕ → Bool = λ place back. get_or (change_back changes back) place false in
-    let change : change_back changes count ≡ vector_of f (λ place. has place count) = fill_by_all (λ place. has place count) (change_back changes count) f false len (λ k lt. refl) in
+    let change : change_back changes count ≡ vector_by f (λ place. has place count) = fill_by_all (λ place. has place count) (change_back changes count) f false len (λ k lt. refl) in
     ap (or_bits (gathered f changes count)) change
     ∙ zip2-map (λ a b. a || b) (λ place. list_any (has place) (range_with_len 0 count)) (λ place. has place count) (range_with_len 0 f)
     ∙ vector_of_same f _ _ (λ place.

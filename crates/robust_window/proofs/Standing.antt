@@ -6,7 +6,7 @@ use Rattle.std.proofs.lemmas.Bool.{cases_lt, cases_eq}
 use Rattle.std.proofs.lemmas.List.{get_or-drop, get_or-replicate, get_or_append_left, get_or_at, get_or_past, length-drop, length-replicate, length_push}
 use Rattle.std.proofs.lemmas.List.Elements.{All-append, All-cons, All-drop, All-nil}
 use Rattle.circular_buffer.specs.Buffer.{Buffer, buffer, keep_last}
-use Rattle.mask_update.specs.Masks.{vector_of}
+use Rattle.mask_update.specs.Masks.{vector_by}
 use Rattle.mask_update.proofs.StepByStep.{vector_of_same}
 use Rattle.robust_window.specs.Changes.{IsQuiet, MaskStep, changes_place, latest_change, level_of, mask_step, most_level, no_mask_step, recent_of, steps_from, takes_new_mask, twice_of}
 use Rattle.robust_window.specs.Window.{Advances, HoldsLatest, WindowState, StandsFor, change_back, new_mask_back}
@@ -79,15 +79,35 @@ zero_place n place =
       | inr le ↦ get_or_past (replicate n false) place false (omega (arith, length-replicate {A = Bool} n false))
     ]
 
-recent_of-is : (steps : List MaskStep) (t f robust : ℕ) → (mask_step steps t).robust ≡ robust → length (mask_step steps t).change ≡ f → vector_of f (λ place. list_any (changes_place steps place) (steps_from (max 1 (t - robust)) (t + 1))) ≡ recent_of steps t
+recent_of-is : (steps : List MaskStep) (t f robust : ℕ) → (mask_step steps t).robust ≡ robust → length (mask_step steps t).change ≡ f → vector_by f (λ place. list_any (changes_place steps place) (steps_from (max 1 (t - robust)) (t + 1))) ≡ recent_of steps t
 unfolding recent_of
 recent_of-is steps t f robust robust_is len =
-    ap (λ n. vector_of n (λ place. list_any (changes_place steps place) (steps_from (max 1 (t - robust)) (t + 1)))) (sym len)
-    ∙ ap (λ r. vector_of (length (mask_step steps t).change) (λ place. list_any (changes_place steps place) (steps_from (max 1 (t - r)) (t + 1)))) (sym robust_is)
+    ap (λ n. vector_by n (λ place. list_any (changes_place steps place) (steps_from (max 1 (t - robust)) (t + 1)))) (sym len)
+    ∙ ap (λ r. vector_by (length (mask_step steps t).change) (λ place. list_any (changes_place steps place) (steps_from (max 1 (t - r)) (t + 1)))) (sym robust_is)
 
 twice_of-is : (steps : List MaskStep) (t level : ℕ) → level_of steps t ≡ level → nat_le 2 (count_by (takes_new_mask steps) (steps_from (t - level) (t + 1))) ≡ twice_of steps t
 unfolding twice_of
 twice_of-is steps t level level_is = ap (λ v. nat_le 2 (count_by (takes_new_mask steps) (steps_from (t - v) (t + 1)))) (sym level_is)
+
+-- before the first step
+pub StandsFor-none : (value : WindowState) → value.changes ≡ replicate 16 (replicate (length value.recent) false) → value.new_masks ≡ replicate 16 false → value.taken ≡ 0 → StandsFor [] value
+StandsFor-none value changes new_masks taken =
+    record {
+      changes = record {
+        same = λ back lt within. absurd (omega arith);
+        past = λ back lt past.
+            ap (λ (l : List (List Bool)). get_or l (15 - back) []) changes ∙ get_or-replicate 16 (15 - back) (replicate (length value.recent) false) [] (omega arith);
+      };
+      new_masks = record {
+        same = λ back lt within. absurd (omega arith);
+        past = λ back lt past. ap (λ (l : List Bool). get_or l (15 - back) false) new_masks ∙ get_or-replicate 16 (15 - back) false false (omega arith);
+      };
+      first = λ place. refl;
+      recent = λ some. absurd (omega arith);
+      level = λ some. absurd (omega arith);
+      twice = λ some. absurd (omega arith);
+      taken = taken;
+    }
 
 -- a step whose change is taken first
 pub StandsFor-next : (steps : List MaskStep) (step : MaskStep) (old new : WindowState) → StandsFor steps old → length old.changes ≡ 16 → step.robust ≤ 7 → length step.change ≡ length old.recent → (old.taken ≡ 0 → step.change ≡ replicate (length step.change) false)

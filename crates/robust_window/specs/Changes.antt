@@ -2,7 +2,7 @@
 -- changes of a mask.
 use Rattle.std.specs.Prelude.{◌≡◌, ℕ, ◌+◌, ◌-◌, nat_le, Bool, false, not, List, [], length, max, min, reverse, find, unwrap_or, count_by, slice_index_or}
 use Rattle.std.specs.List.{range_with_len, list_all, list_any}
-use Rattle.mask_update.specs.Masks.{vector_of}
+use Rattle.mask_update.specs.Masks.{vector_by}
 
 -- What a step does to the mask: its change, and whether it takes a new one. The required robustness of the packet is kept
 -- with it.
@@ -44,7 +44,7 @@ steps_from from to = range_with_len from (to - from)
 unfoldable pub recent_of : List MaskStep → ℕ → List Bool
 recent_of steps t =
     let robust = (mask_step steps t).robust in
-    vector_of (length (mask_step steps t).change) (λ place. list_any (changes_place steps place) (steps_from (max 1 (t - robust)) (t + 1)))
+    vector_by (length (mask_step steps t).change) (λ place. list_any (changes_place steps place) (steps_from (max 1 (t - robust)) (t + 1)))
 
 -- The greatest that the effective robustness level of a step can be: 15, and at the start the number of the step; but in
 -- any case at least the required robustness.

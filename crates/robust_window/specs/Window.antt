@@ -5,7 +5,7 @@ use Rattle.std.specs.Bool.{OnFalse, OnTrue}
 use Rattle.std.specs.Int.{bit_at}
 use Rattle.circular_buffer.specs.Buffer.{Buffer}
 use Rattle.bit_vectors.specs.Vectors.{IsVector, number_bits}
-use Rattle.mask_update.specs.Masks.{vector_of}
+use Rattle.mask_update.specs.Masks.{vector_by}
 use Rattle.robust_window.specs.Changes.{MaskStep, IsQuiet, latest_change, mask_step, takes_new_mask, recent_of, level_of, twice_of}
 
 -- The latest sixteen changes and new-mask flags, the oldest first; the values at the latest step; and how many steps were
@@ -32,13 +32,13 @@ marks_of marks = number_bits 16 marks
 abbrev pub mark_back : ℕ → ℕ → Bool
 mark_back marks back = bit_at marks back == 1
 
--- two or more of the latest marks are set
-abbrev pub has_two_marks : ℕ → ℕ → Bool
-has_two_marks marks count = nat_le 2 (count_by (new_mask_back (marks_of marks)) (range_with_len 0 count))
+-- two or more of so many of the latest flags are set
+abbrev pub are_two_set : List Bool → ℕ → Bool
+are_two_set new_masks count = nat_le 2 (count_by (new_mask_back new_masks) (range_with_len 0 count))
 
 -- so many of the latest steps are kept: from 1 to 16
-abbrev pub AreKept : ℕ → Type 0
-AreKept count = (1 ≤ count) × (count ≤ 16)
+abbrev pub IsKeptCount : ℕ → Type 0
+IsKeptCount count = (1 ≤ count) × (count ≤ 16)
 
 -- none of the latest marks is set
 abbrev pub AreClear : ℕ → ℕ → Type 0
@@ -88,13 +88,13 @@ pub record Advances (old new : WindowState) (new_mask : Bool) (robust : ℕ) : T
   pub changes : new.changes ≡ old.changes
   pub flags_full : length old.new_masks ≡ 16
   pub new_masks : new.new_masks ≡ drop 1 old.new_masks ++ new_mask ∷ []
-  pub recent : new.recent ≡ vector_of (length old.recent) (λ place. list_any (λ back. slice_index_or (change_back old.changes back) place false) (range_with_len 0 (robust + 1)))
+  pub recent : new.recent ≡ vector_by (length old.recent) (λ place. list_any (λ back. slice_index_or (change_back old.changes back) place false) (range_with_len 0 (robust + 1)))
   pub recent_len : length new.recent ≡ length old.recent
   pub level_least : robust ≤ new.level
   pub level_most : new.level ≤ max robust (min old.taken 15)
   pub quiet : (back : ℕ) → robust < back → back ≤ new.level → change_back old.changes back ≡ replicate (length old.recent) false
   pub stops : new.level < max robust (min old.taken 15) → Contains (change_back old.changes (new.level + 1)) true
-  pub twice : new.twice ≡ nat_le 2 (count_by (new_mask_back new.new_masks) (range_with_len 0 (new.level + 1)))
+  pub twice : new.twice ≡ are_two_set new.new_masks (new.level + 1)
   pub taken : new.taken ≡ old.taken + 1
 
 -- what is marked is a change with a 1

@@ -3,8 +3,8 @@
 ghost use Rattle.std.specs.Prelude.{◌≡◌, ℕ, ◌+◌, ◌<◌, ◌≤◌, Contains, false, true, [], ◌∷◌, ◌++◌, length, drop, max, replicate, slice_index_or, IfOk};
 ghost use Rattle.std.specs.Bool.{OnFalse, OnTrue};
 ghost use Rattle.std.specs.List.{list_any, range_with_len};
-ghost use Rattle.mask_update.specs.Masks.{vector_of};
-ghost use Rattle.robust_window.specs.Window.{AreKept, change_back};
+ghost use Rattle.mask_update.specs.Masks.{vector_by};
+ghost use Rattle.robust_window.specs.Window.{IsKeptCount, change_back};
 ghost use Rattle.bit_vectors.specs.Vectors.{IsPlaces};
 
 use crate::marks;
@@ -67,6 +67,13 @@ impl Changes {
             marks: 0,
             zeros: Bits::zeros(alloc, f)?,
         })
+    }
+
+    /// Starts anew with changes of zeros, by their marks alone.
+    pub(crate) fn reset(&mut self)
+        ensures { self.new ≡ record self.old { latest = replicate 16 (replicate self.old.places false) } }
+    {
+        self.marks = 0;
     }
 
     /// Puts the latest change, which has a 1, in place of the oldest one.
@@ -133,9 +140,9 @@ impl Changes {
     /// is zero then. `quiet` tells that it is zero before: if it is, and no such change is marked, it stays as it is.
     pub(crate) fn gather(&self, count: u8, recent: &mut Bits, quiet: bool) -> bool
         requires places { length recent.old ≡ self.now.places }
-        requires kept { AreKept count }
+        requires kept { IsKeptCount count }
         requires quiet { OnTrue quiet (recent.old ≡ replicate (length recent.old) false) }
-        ensures recent { recent.new ≡ vector_of (length recent.old) (λ place.
+        ensures recent { recent.new ≡ vector_by (length recent.old) (λ place.
             list_any (λ back. slice_index_or (change_back self.now.latest back) place false)
             (range_with_len 0 count)) }
         ensures zero { OnTrue result (recent.new ≡ replicate (length recent.old) false) }

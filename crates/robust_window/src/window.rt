@@ -30,7 +30,7 @@ pub struct Window {
 
 impl Model for Window {
     ghost use Rattle.std.specs.Prelude.{◌+◌};
-    ghost use Rattle.robust_window.specs.Window.{WindowState, IsWindow, has_two_marks, marks_of};
+    ghost use Rattle.robust_window.specs.Window.{WindowState, IsWindow, are_two_set, marks_of};
 
     ghost Value = { WindowState };
 
@@ -39,7 +39,7 @@ impl Model for Window {
       new_masks = marks_of w.new_masks;
       recent = w.recent;
       level = w.level;
-      twice = has_two_marks w.new_masks (w.level + 1);
+      twice = are_two_set (marks_of w.new_masks) (w.level + 1);
       taken = w.taken;
     } };
 
@@ -62,6 +62,20 @@ impl Window {
             level: 0,
             taken: 0,
         })
+    }
+
+    /// Starts anew in the memory that it has, with no step taken, for vectors of as many places as before.
+    pub fn reset(&mut self)
+        ensures stands { StandsFor [] self.new }
+        ensures recent { self.new.recent ≡ replicate (length self.old.recent) false }
+        ensures taken { self.new.taken ≡ 0 }
+    {
+        self.changes.reset();
+        self.new_masks = 0;
+        self.recent.clear();
+        self.quiet = true;
+        self.level = 0;
+        self.taken = 0;
     }
 
     /// Takes the change of the mask at the next step, whether the step takes a new mask, and the required robustness of its

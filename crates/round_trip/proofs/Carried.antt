@@ -20,11 +20,11 @@ use Rattle.packet_decode.specs.Histories.{is_content_told, is_mask_told, true_st
 use Rattle.packet_decode.specs.Spelling.{Spells}
 use Rattle.packet_decode.specs.State.{known_if, no_vectors}
 use Rattle.packet_decode.proofs.OfHistories.{told-spelled}
-use Rattle.round_trip.specs.Carrying.{AreInStep, with_input}
+use Rattle.round_trip.specs.Carrying.{AreInStep, with_forced_input}
 
 module _ (h : History) (input : List Bool) (mask content : Option ℕ) where
   abbrev after : History
-  after = with_input h input
+  after = with_forced_input h input
 
   abbrev t : ℕ
   t = length h.steps
@@ -61,14 +61,14 @@ module _ (h : History) (input : List Bool) (mask content : Option ℕ) where
       (subst (λ v. Spells h.places (true_state after mask content) t (packet_at after t) (form_at after t) (known_if (is_mask_told after mask t) (mask_at after t)) v) content_known
       (told-spelled after t valid within mask content masks contents (ap (λ (told : Bool). told || (flags_at after t).r) mask_told)))
 
-pub places_are : (h : History) (input : List Bool) → IsValid (with_input h input) → length input ≡ h.places
+pub places_are : (h : History) (input : List Bool) → IsValid (with_forced_input h input) → length input ≡ h.places
 places_are h input valid =
     let step : Step = step_of (λ _. forced_flags) (λ _. 0) (length h.steps, input) in
     sym (ap (λ (s : Step). length s.input) (step_at-last h step)) ∙ valid.inputs (length h.steps) (omega (arith, length-append h.steps (step ∷ [])))
 
 -- ---- the first packet
 
-pub first-valid : (mask input : List Bool) → 1 ≤ length mask → length mask ≤ 49152 → length input ≡ length mask → IsValid (with_input (no_steps mask) input)
+pub first-valid : (mask input : List Bool) → 1 ≤ length mask → length mask ≤ 49152 → length input ≡ length mask → IsValid (with_forced_input (no_steps mask) input)
 first-valid mask input some most len =
     IsValid-history_of (input ∷ []) (λ _. forced_flags) (λ _. 0) (length mask) mask (some, most) refl (omega arith) all (λ t. omega arith)
   where
@@ -76,8 +76,8 @@ first-valid mask input some most len =
     all zero d lt = len
     all (suc i) d lt = absurd (omega arith)
 
-pub first_mask : (mask input : List Bool) → mask_at (with_input (no_steps mask) input) 0 ≡ mask
-first_mask mask input = mask_at-zero (with_input (no_steps mask) input) refl
+pub first_mask : (mask input : List Bool) → mask_at (with_forced_input (no_steps mask) input) 0 ≡ mask
+first_mask mask input = mask_at-zero (with_forced_input (no_steps mask) input) refl
 
 pub first-in_step : (mask input : List Bool) (encoder : EncoderState) (decoder : Decoding) → 1 ≤ length mask → length mask ≤ 49152 → length input ≡ length mask → StandsFor (no_steps mask) encoder → decoder.state ≡ no_vectors
     → AreInStep (no_steps mask) None None input encoder decoder
@@ -89,11 +89,11 @@ first-in_step mask input encoder decoder some most len stands known = record {
   known = known;
 }
 
-pub first_level : (mask input : List Bool) → level_at (with_input (no_steps mask) input) 0 ≡ 0
+pub first_level : (mask input : List Bool) → level_at (with_forced_input (no_steps mask) input) 0 ≡ 0
 first_level mask input =
-    let is : IsLevel (with_input (no_steps mask) input) 0 (level_at (with_input (no_steps mask) input) 0) = IsLevel-level_at (with_input (no_steps mask) input) 0 (omega arith) in
+    let is : IsLevel (with_forced_input (no_steps mask) input) 0 (level_at (with_forced_input (no_steps mask) input) 0) = IsLevel-level_at (with_forced_input (no_steps mask) input) 0 (omega arith) in
     omega (arith, is.most)
 
-pub first_recent : (mask input : List Bool) → recent_at (with_input (no_steps mask) input) 0 ≡ replicate (length mask) false
+pub first_recent : (mask input : List Bool) → recent_at (with_forced_input (no_steps mask) input) 0 ≡ replicate (length mask) false
 unfolding recent_of change_at
 first_recent mask input = sym (gathered-none (length (replicate (length mask) false)) []) ∙ ap (λ (n : ℕ). replicate n false) (length-replicate (length mask) false)

@@ -7,14 +7,14 @@ use Rattle.packet_decode.specs.Decoding.{Decoding}
 use Rattle.packet_decode.specs.Histories.{true_state}
 
 -- the history and this input, which is sent with its mask and whole content
-abbrev pub with_input : History → List Bool → History
-with_input h input = with_next_input h 0 input forced_flags
+abbrev pub with_forced_input : History → List Bool → History
+with_forced_input h input = with_next_input h 0 input forced_flags
 
 -- The encoder stands for the history, which is valid with this input too. The decoder knows the mask of one of its packets and
 -- the content of another, or none.
 pub record AreInStep (h : History) (mask content : Option ℕ) (input : List Bool) (encoder : EncoderState) (decoder : Decoding) : Type 0 where
-  pub valid : IsValid (with_input h input)
+  pub valid : IsValid (with_forced_input h input)
   pub stands : StandsFor h encoder
   pub masks : IfSome mask (λ s. s < length h.steps)
   pub contents : IfSome content (λ s. s < length h.steps)
-  pub known : decoder.state ≡ true_state (with_input h input) mask content
+  pub known : decoder.state ≡ true_state (with_forced_input h input) mask content

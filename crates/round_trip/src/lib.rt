@@ -11,7 +11,7 @@ ghost use Rattle.packet_decode.specs.State.{both_known};
 ghost use Rattle.packet_encode.specs.Encoder.{StandsFor};
 ghost use Rattle.packet_encode.specs.Packets.{packet_at};
 ghost use Rattle.robust_window.specs.Histories.{level_at, recent_at};
-ghost use Rattle.round_trip.specs.Carrying.{AreInStep, with_input};
+ghost use Rattle.round_trip.specs.Carrying.{AreInStep, with_forced_input};
 
 use bit_vectors::{BitFault, BitPen, Bits, Flags, NoMemory};
 use packet_decode::{Decoder, Reading};
@@ -41,7 +41,7 @@ pub fn carry(
     // Whatever the decoder knows, the answer is the exact one to this packet.
     ensures exact { (h : History) → StandsFor h encoder.old → let t = length h.steps in
         IsExactAnswer decoder.old.places decoder.old.state t
-        (packet_at (with_input h input.now) t) result }
+        (packet_at (with_forced_input h input.now) t) result }
     // Whatever was sent before, and whatever arrived of it, the packet is written.
     ensures written { (h : History) (mask content : Option ℕ)
         → AreInStep h mask content input.now encoder.old decoder.old → result ≡ Ok Reading.Written }
@@ -49,24 +49,24 @@ pub fn carry(
     ensures known { (h : History) (mask content : Option ℕ)
         → AreInStep h mask content input.now encoder.old decoder.old → decoder.new.state
         ≡ both_known (length h.steps)
-        (mask_at (with_input h input.now) (length h.steps)) input.now }
+        (mask_at (with_forced_input h input.now) (length h.steps)) input.now }
     // And the recent changes and the effective robustness level of the sender.
     ensures recent { (h : History) (mask content : Option ℕ)
         → AreInStep h mask content input.now encoder.old decoder.old
-        → decoder.new.recent ≡ recent_at (with_input h input.now) (length h.steps) }
+        → decoder.new.recent ≡ recent_at (with_forced_input h input.now) (length h.steps) }
     ensures level { (h : History) (mask content : Option ℕ)
         → AreInStep h mask content input.now encoder.old decoder.old
-        → decoder.new.level ≡ level_at (with_input h input.now) (length h.steps) }
+        → decoder.new.level ≡ level_at (with_forced_input h input.now) (length h.steps) }
     ensures unchanged { tells_nothing result ≡ true → decoder.new ≡ decoder.old }
     ensures places { decoder.new.places ≡ decoder.old.places }
     // Whatever history the encoder stood for, it now stands for that history with this input.
     ensures stands { (h : History) → StandsFor h encoder.old
-        → StandsFor (with_input h input.now) encoder.new }
+        → StandsFor (with_forced_input h input.now) encoder.new }
     ensures encoder_places { length encoder.new.masks.mask ≡ length encoder.old.masks.mask }
     ensures taken { encoder.new.masks.taken ≡ encoder.old.masks.taken + 1 }
     // The pen has the packet, in whole bytes.
     ensures packet { (h : History) → StandsFor h encoder.old
-        → padded pen.new.bits ≡ packet_at (with_input h input.now) (length h.steps) }
+        → padded pen.new.bits ≡ packet_at (with_forced_input h input.now) (length h.steps) }
     ensures room { pen.new.room ≡ pen.old.room }
 {
     let number = encoder.taken();

@@ -10,8 +10,8 @@ use Rattle.side_tables.specs.declared.span.Span.{Span}
 use Rattle.side_tables.specs.Spans.{names}
 use Rattle.side_tables.specs.declared.claims.Claim.{Claim}
 use Rattle.side_tables.specs.declared.ranks.Cell.{Cell}
-use Rattle.side_tables.specs.declared.ranks.Run.{Run}
-use Rattle.side_tables.specs.Ranks.{HasTaken, IsClaimed, IsRank, RunHolds, Serves, Takes, cell_at, claim_at, no_claim}
+use Rattle.side_tables.specs.declared.ranks.RankRun.{RankRun}
+use Rattle.side_tables.specs.Ranks.{HasRankAtLeast, IsClaimed, IsRank, RunHolds, Serves, TakesRank, cell_at, claim_at, no_claim}
 
 -- ---- steps
 
@@ -77,8 +77,8 @@ own-then named a b d rank one (inr two) = inr two
 own-then named a b d rank (inl one) (inl two) = inl (two ∙ one)
 own-then named a b d rank (inr one) (inl two) = inr (one.0, two ∙ one.1)
 
-pub Takes-then : (named : ℕ → Bool) (rank : ℕ) (a b d : List Cell) → Takes named rank a b → Takes named rank b d → Takes named rank a d
-Takes-then named rank a b d one two = record {
+pub TakesRank-then : (named : ℕ → Bool) (rank : ℕ) (a b d : List Cell) → TakesRank named rank a b → TakesRank named rank b d → TakesRank named rank a d
+TakesRank-then named rank a b d one two = record {
   len = two.len ∙ one.len;
   grown = λ n. let less = one.grown n in let more = two.grown n in omega (arith, less, more);
   own = λ n. own-then (named n ≡ true) (cell_at a n).rank (cell_at b n).rank (cell_at d n).rank rank (one.own n) (two.own n);
@@ -89,7 +89,7 @@ abbrev pub steps_from : ℕ → ℕ → Span
 steps_from t step = record { first = t; last = 4294967295; step = step }
 
 -- a run, and the one from the next number in its steps
-pub RunHolds-joined : (claim : Claim) (cells : List Cell) (t next : ℕ) (run further : Run) → length cells ≤ 16384
+pub RunHolds-joined : (claim : Claim) (cells : List Cell) (t next : ℕ) (run further : RankRun) → length cells ≤ 16384
     → RunHolds cells t run → RunHolds cells next further → Serves claim t run → Serves claim next further
     → names (steps_from t run.step) next ≡ true → ((n : ℕ) → run.until ≤ n → n < next → names (steps_from t run.step) n ≡ false)
     → RunHolds cells t (record { step = run.step; until = further.until; rank = claim.rank })
@@ -127,10 +127,10 @@ own_more claims claim n old new among (inl none) (inl same) = inl (same ∙ none
 own_more claims claim n old new among (inr is) (inl same) = inr (subst (IsClaimed claims n) (sym same) is)
 
 -- one of the claims is taken
-pub AreClaimed-more : (claims : List Claim) (claim : Claim) (base : ℕ) (old new : List Cell) → Contains claims claim → AreClaimed claims base old → Takes (λ n. names claim.span (base + n)) claim.rank old new → AreClaimed claims base new
+pub AreClaimed-more : (claims : List Claim) (claim : Claim) (base : ℕ) (old new : List Cell) → Contains claims claim → AreClaimed claims base old → TakesRank (λ n. names claim.span (base + n)) claim.rank old new → AreClaimed claims base new
 AreClaimed-more claims claim base old new among are takes = λ n. own_more claims claim (base + n) (cell_at old n).rank (cell_at new n).rank among (are n) (takes.own n)
 
-pub HaveRanks-more : (claims : List Claim) (claim : Claim) (base : ℕ) (old new : List Cell) → HaveRanks claims base old → Takes (λ n. names claim.span (base + n)) claim.rank old new → HasTaken (λ n. names claim.span (base + n)) claim.rank new
+pub HaveRanks-more : (claims : List Claim) (claim : Claim) (base : ℕ) (old new : List Cell) → HaveRanks claims base old → TakesRank (λ n. names claim.span (base + n)) claim.rank old new → HasRankAtLeast (λ n. names claim.span (base + n)) claim.rank new
     → HaveRanks (claims ++ claim ∷ []) base new
 HaveRanks-more claims claim base old new have takes taken = λ n inside.
     All-push (λ (c : Claim). names c.span (base + n) ≡ true → c.rank ≤ (cell_at new n).rank) claims claim
@@ -153,7 +153,7 @@ abbrev pub HasReached : Claim → List Cell → ℕ → Type 0
 HasReached claim cells reached = (n : ℕ) → n < reached → n < length cells → names claim.span n ≡ true → claim.rank ≤ (cell_at cells n).rank
 
 -- the next number that the claim names, and the run from there on
-pub HasReached-more : (claim : Claim) (old new : List Cell) (reached t until : ℕ) → HasReached claim old reached → Takes (names claim.span) claim.rank old new → names claim.span t ≡ true
+pub HasReached-more : (claim : Claim) (old new : List Cell) (reached t until : ℕ) → HasReached claim old reached → TakesRank (names claim.span) claim.rank old new → names claim.span t ≡ true
     → ((n : ℕ) → reached ≤ n → n < t → names claim.span n ≡ false) → RunHolds new t (record { step = claim.span.step; until = until; rank = claim.rank }) → HasReached claim new until
 HasReached-more claim old new reached t until before takes is none holds n below inside named = elim (cases_lt n reached) [
   | inl early ↦ let had = before n early (let len = takes.len in omega arith) named in let grown = takes.grown n in omega (arith, had, grown)

@@ -21,15 +21,15 @@ None >>= f = None
 (Some x) >>= f = f x
 
 -- the number that a field says: a plain decimal of 32 bits that is not below a least one
-abbrev pub number_at : List (List ℕ) → ℕ → ℕ → Option ℕ
-number_at fields place least = field_at fields place >>= number_of least 4294967295
+abbrev pub number_in_field : List (List ℕ) → ℕ → ℕ → Option ℕ
+number_in_field fields place least = field_at fields place >>= number_of least 4294967295
 
 -- the span that three fields from a place on say: the first number, the last and the step
 abbrev pub span_from : List (List ℕ) → ℕ → Option Span
 span_from fields place = do
-  first ← number_at fields place 0
-  last ← number_at fields (place + 1) first
-  step ← number_at fields (place + 2) 1
+  first ← number_in_field fields place 0
+  last ← number_in_field fields (place + 1) first
+  step ← number_in_field fields (place + 2) 1
   Some (record { first = first; last = last; step = step })
 
 -- how often a letter occurs in a text

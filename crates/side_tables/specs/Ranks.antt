@@ -5,7 +5,7 @@ use Rattle.side_tables.specs.declared.claims.Claim.{Claim}
 use Rattle.side_tables.specs.declared.claims.Flag.{Flag}
 use Rattle.side_tables.specs.declared.claims.Flag.TheVariants.{NewMask, SendMask, WholeContent}
 use Rattle.side_tables.specs.declared.ranks.Cell.{Cell}
-use Rattle.side_tables.specs.declared.ranks.Run.{Run}
+use Rattle.side_tables.specs.declared.ranks.RankRun.{RankRun}
 use Rattle.side_tables.specs.declared.rows.FlagRow.{FlagRow}
 use Rattle.side_tables.specs.declared.span.Span.{Span}
 use Rattle.side_tables.specs.Rows.{flag_span}
@@ -79,7 +79,7 @@ pub record IsRanked (claims : List Claim) (base : ℕ) (cells : List Cell) : Typ
   pub ranks : AreRanks claims base (length cells) cells
 
 -- all numbers of a run, in its steps from the number t, have at least its rank
-abbrev pub RunHolds : List Cell → ℕ → Run → Type 0
+abbrev pub RunHolds : List Cell → ℕ → RankRun → Type 0
 RunHolds cells t run = (n : ℕ) → t ≤ n → n < run.until → n < length cells → (n - t) % run.step ≡ 0 → run.rank ≤ (cell_at cells n).rank
 
 -- each number's run holds
@@ -97,22 +97,22 @@ pub record IsDue (claim : Claim) (t : ℕ) (cells : List Cell) : Type 0 where
   pub named : names claim.span t ≡ true
 
 -- a run from the number t, in a claim's steps, whose numbers have the claim's rank
-pub record Serves (claim : Claim) (t : ℕ) (run : Run) : Type 0 where
+pub record Serves (claim : Claim) (t : ℕ) (run : RankRun) : Type 0 where
   pub steps : run.step ≡ claim.span.step
   pub enough : claim.rank ≤ run.rank
   pub after : t < run.until
 
 -- a run that holds and serves the claim
-pub record IsRunOf (claim : Claim) (t : ℕ) (cells : List Cell) (run : Run) : Type 0 where
+pub record IsRunOf (claim : Claim) (t : ℕ) (cells : List Cell) (run : RankRun) : Type 0 where
   pub serves : Serves claim t run
   pub holds : RunHolds cells t run
 
 -- the numbers of a claim have this rank now, or that which they had, and no rank is less
-pub record Takes (named : ℕ → Bool) (rank : ℕ) (old new : List Cell) : Type 0 where
+pub record TakesRank (named : ℕ → Bool) (rank : ℕ) (old new : List Cell) : Type 0 where
   pub len : length new ≡ length old
   pub grown : (n : ℕ) → (cell_at old n).rank ≤ (cell_at new n).rank
   pub own : (n : ℕ) → ((cell_at new n).rank ≡ (cell_at old n).rank) ⊎ (named n ≡ true) × ((cell_at new n).rank ≡ rank)
 
 -- the numbers of a claim have at least this rank
-abbrev pub HasTaken : (ℕ → Bool) → ℕ → List Cell → Type 0
-HasTaken named rank cells = (n : ℕ) → n < length cells → named n ≡ true → rank ≤ (cell_at cells n).rank
+abbrev pub HasRankAtLeast : (ℕ → Bool) → ℕ → List Cell → Type 0
+HasRankAtLeast named rank cells = (n : ℕ) → n < length cells → named n ≡ true → rank ≤ (cell_at cells n).rank

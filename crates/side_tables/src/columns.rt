@@ -1,6 +1,6 @@
 //! What the rows of a schedule and of a script give packets, if there are many rows.
 
-ghost use Rattle.std.specs.Prelude.{◌≡◌, ◌≤◌, IfOk, IfSome, length, nat_lt};
+ghost use Rattle.std.specs.Prelude.{◌≡◌, ◌≤◌, IfOk, IfSome, length};
 ghost use Rattle.std.specs.Option.{option_map, option_map_or};
 ghost use Rattle.side_tables.specs.Ranks.{IsBlock};
 ghost use Rattle.side_tables.specs.Rows.{flags_of, robust_of};

@@ -6,7 +6,7 @@ ghost use Rattle.csv.specs.Records.{fields_of};
 ghost use Rattle.side_tables.specs.Rows.{IsFlagRow, IsRobustRow, IsScheduleRow, IsCopyRow, flag_span, robust_span, copy_span};
 ghost use Rattle.side_tables.specs.Spans.{IsSpan};
 ghost use Rattle.side_tables.specs.Texts.{alone};
-ghost use Rattle.side_tables.specs.Grammar.{number_at, span_from, flags_named, are_letters, is_letter, count_of, flag_row_of, robust_row_of, schedule_row_of, drop_row_of, repeat_row_of, copy_row_of};
+ghost use Rattle.side_tables.specs.Grammar.{number_in_field, span_from, flags_named, are_letters, is_letter, count_of, flag_row_of, robust_row_of, schedule_row_of, drop_row_of, repeat_row_of, copy_row_of};
 ghost use Rattle.side_tables.specs.Streams.{IsStreamRow, has_apid, stream_row_after, stream_row_of};
 
 use crate::decimal::number;
@@ -220,15 +220,15 @@ fn span_from(fields: &ByteRecord, place: usize) -> Option<Span>
     ensures span { result ≡ span_from (fields_of fields.now) place }
     ensures right { IfSome result IsSpan }
 {
-    let first = number_at(fields, place, 0)?;
-    let last = number_at(fields, place + 1, first)?;
-    let step = number_at(fields, place + 2, 1)?;
+    let first = number_in_field(fields, place, 0)?;
+    let last = number_in_field(fields, place + 1, first)?;
+    let step = number_in_field(fields, place + 2, 1)?;
     Some(Span { first, last, step })
 }
 
 /// The number that a field says, if it is not below a least one.
-fn number_at(fields: &ByteRecord, place: usize, least: u32) -> Option<u32>
-    ensures number { result ≡ number_at (fields_of fields.now) place least }
+fn number_in_field(fields: &ByteRecord, place: usize, least: u32) -> Option<u32>
+    ensures number { result ≡ number_in_field (fields_of fields.now) place least }
     ensures least { IfSome result (λ number. least ≤ number) }
 {
     number(fields.get(place)?, least, u32::MAX)

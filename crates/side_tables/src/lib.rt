@@ -27,4 +27,4 @@ pub use script::Script;
 pub use span::Span;
 pub use streams::Streams;
 pub use table::Table;
-pub use text::{MOST_BYTES, read_rows};
+pub use text::{MOST_TEXT_BYTES, read_rows};

@@ -2,7 +2,7 @@
 
 ghost use Rattle.std.specs.Prelude.{◌≡◌, ℕ, ◌+◌, ◌<◌, ◌≤◌, true, All, IfOk, length};
 ghost use Rattle.side_tables.specs.Spans.{IsSpan, names};
-ghost use Rattle.side_tables.specs.Ranks.{AreCells, AreRanks, HasTaken, IsBlock, IsDue, IsRank, IsRunOf, RunHolds, Serves, Takes};
+ghost use Rattle.side_tables.specs.Ranks.{AreCells, AreRanks, HasRankAtLeast, IsBlock, IsDue, IsRank, IsRunOf, RunHolds, Serves, TakesRank};
 
 use crate::claims::Claim;
 use crate::span::Span;
@@ -12,7 +12,7 @@ use std::marker::Model;
 
 /// Numbers that have at least a rank: in steps from the cell that has the run, up to one that has not.
 #[derive(Clone, Copy, Debug)]
-pub struct Run {
+pub struct RankRun {
     pub step: u32,
     pub until: u32,
     pub rank: usize,
@@ -22,13 +22,13 @@ pub struct Run {
 #[derive(Clone, Copy, Debug)]
 pub struct Cell {
     pub rank: usize,
-    pub run: Run,
+    pub run: RankRun,
 }
 
 /// The cell of a number of which nothing was claimed.
 const NONE: Cell = Cell {
     rank: 0,
-    run: Run {
+    run: RankRun {
         step: 0,
         until: 0,
         rank: 0,
@@ -114,9 +114,9 @@ fn find(cells: &mut [Cell], claims: &[Claim], base: u32)
 fn take(cells: &mut [Cell], claim: &Claim, base: u32)
     requires cells { AreCells cells.old }
     requires right { IsSpan claim.now.span }
-    ensures takes { Takes (λ n. names claim.now.span (base + n)) claim.now.rank cells.old cells.new }
+    ensures takes { TakesRank (λ n. names claim.now.span (base + n)) claim.now.rank cells.old cells.new }
     ensures cells { AreCells cells.new }
-    ensures all { HasTaken (λ n. names claim.now.span (base + n)) claim.now.rank cells.new }
+    ensures all { HasRankAtLeast (λ n. names claim.now.span (base + n)) claim.now.rank cells.new }
 {
     if claim.rank == 0 {
         return;
@@ -130,9 +130,9 @@ fn take(cells: &mut [Cell], claim: &Claim, base: u32)
 fn take_all(cells: &mut [Cell], claim: &Claim)
     requires cells { AreCells cells.old }
     requires right { IsSpan claim.now.span }
-    ensures takes { Takes (names claim.now.span) claim.now.rank cells.old cells.new }
+    ensures takes { TakesRank (names claim.now.span) claim.now.rank cells.old cells.new }
     ensures cells { AreCells cells.new }
-    ensures all { HasTaken (names claim.now.span) claim.now.rank cells.new }
+    ensures all { HasRankAtLeast (names claim.now.span) claim.now.rank cells.new }
 {
     let numbers = cells.len() as u32;
     let mut reached = 0;
@@ -152,7 +152,7 @@ fn visit(cells: &mut [Cell], t: u32, claim: &Claim) -> u32
     requires cells { AreCells cells.old }
     requires right { IsSpan claim.now.span }
     requires due { IsDue claim.now t cells.old }
-    ensures takes { Takes (names claim.now.span) claim.now.rank cells.old cells.new }
+    ensures takes { TakesRank (names claim.now.span) claim.now.rank cells.old cells.new }
     ensures cells { AreCells cells.new }
     ensures after { t < result }
     ensures holds { RunHolds cells.new t
@@ -162,7 +162,7 @@ fn visit(cells: &mut [Cell], t: u32, claim: &Claim) -> u32
     let run = if serves(cell.run, t, claim) {
         longer(cells, t, cell.run, claim)
     } else {
-        Run {
+        RankRun {
             step: claim.span.step,
             until: t + 1,
             rank: claim.rank,
@@ -176,14 +176,14 @@ fn visit(cells: &mut [Cell], t: u32, claim: &Claim) -> u32
 }
 
 /// Whether a run from this number is in a claim's steps, and its numbers have the claim's rank.
-fn serves(run: Run, t: u32, claim: &Claim) -> bool
+fn serves(run: RankRun, t: u32, claim: &Claim) -> bool
     ensures { result ≡ true → Serves claim.now t run }
 {
     run.step == claim.span.step && claim.rank <= run.rank && t < run.until
 }
 
 /// A run that serves a claim, joined with that from the next number in its steps, if that serves the claim too.
-fn longer(cells: &[Cell], t: u32, run: Run, claim: &Claim) -> Run
+fn longer(cells: &[Cell], t: u32, run: RankRun, claim: &Claim) -> RankRun
     requires cells { AreCells cells.now }
     requires right { IsSpan claim.now.span }
     requires run { IsRunOf claim.now t cells.now run }
@@ -204,7 +204,7 @@ fn longer(cells: &[Cell], t: u32, run: Run, claim: &Claim) -> Run
     if !serves(further, next, claim) {
         return run;
     }
-    Run {
+    RankRun {
         until: further.until,
         step: run.step,
         rank: claim.rank,

@@ -10,7 +10,7 @@ use csv::ReaderBuilder;
 use std::alloc::Global;
 
 /// The most bytes of a text.
-pub const MOST_BYTES: usize = 1_048_576;
+pub const MOST_TEXT_BYTES: usize = 1_048_576;
 
 /// The rows of a text by a grammar, or why the text is not made of rows.
 pub fn read_rows<G: RowGrammar>(
@@ -23,7 +23,7 @@ pub fn read_rows<G: RowGrammar>(
     ensures right { IfOk result (λ rows. All (G.is_right grammar.now) rows.items) }
     ensures fault { IfErr result (IsFaultOf (G.row_after grammar.now) text.now) }
 {
-    if text.len() > MOST_BYTES {
+    if text.len() > MOST_TEXT_BYTES {
         return Err(SideFault::TooLong);
     }
     let records = ReaderBuilder::new()

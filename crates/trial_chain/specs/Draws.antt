@@ -10,13 +10,13 @@ abbrev pub drawn : ℕ → ℕ
 drawn s = s / 65536
 
 -- the number after the draws of the packet t: two for each packet after the first
-unfoldable pub number_at : ℕ → ℕ → ℕ
-number_at seed zero = seed
-number_at seed (suc t) = next_number (next_number (number_at seed t))
+unfoldable pub generator_at : ℕ → ℕ → ℕ
+generator_at seed zero = seed
+generator_at seed (suc t) = next_number (next_number (generator_at seed t))
 
 -- the two draws of the packet after the packet t: what they decide is its input, and how often it arrives
 abbrev pub input_draw : ℕ → ℕ → ℕ
-input_draw seed t = drawn (next_number (number_at seed t))
+input_draw seed t = drawn (next_number (generator_at seed t))
 
 abbrev pub copies_draw : ℕ → ℕ → ℕ
-copies_draw seed t = drawn (next_number (next_number (number_at seed t)))
+copies_draw seed t = drawn (next_number (next_number (generator_at seed t)))

@@ -168,6 +168,12 @@ class Sender(_Kept):
         self._data = ctypes.create_string_buffer((10 * bits + 50) // 8)
         self._length, self._level = ctypes.c_size_t(), ctypes.c_uint8()
 
+    def reset(self, mask: Data = b"") -> None:
+        """Begins a new stream, as a new sender of as many bits with this first mask does, in the memory that it has."""
+        own = _taken(mask)
+        with self._lock:
+            done(library.pocket_sender_reset(self._handle, own, len(own)))
+
     def send(self, content: Data, robustness: int = 0, *, new_mask: bool = False, send_mask: bool = False, whole: bool = False) -> Sent:
         """The packet of the next input, of ceil(bits / 8) bytes, with a required robustness of 0 to 7 packets."""
         own = _taken(content)
@@ -194,6 +200,11 @@ class Receiver(_Kept):
         done(library.pocket_receiver_open(self._handle, _bits(bits)))
         self._content = ctypes.create_string_buffer((bits + 7) // 8)
         self._finding, self._tally = Finding(), Tally()
+
+    def reset(self) -> None:
+        """Begins a new stream, as a new receiver of as many bits does, in the memory that it has."""
+        with self._lock:
+            done(library.pocket_receiver_reset(self._handle))
 
     def receive(self, count: int, data: Data) -> Arrival:
         """What is found of the next packet that arrived, by its sequence count, 0 to 16,383, and at most 65,536 bytes of data."""
@@ -254,6 +265,33 @@ class Desk(_Held):
                 status = library.pocket_get(self._handle, coded, len(coded), found, len(found), length)
             done(status)
             return ctypes.string_at(found, length.value)
+
+    def remove(self, name: str) -> None:
+        """Removes what is kept under a name, and gives its memory back. Raises `NotKept` if nothing is kept under it."""
+        coded = _utf8(name)
+        with self._lock:
+            done(library.pocket_remove(self._handle, coded, len(coded)))
+
+    def names(self) -> list[str]:
+        """The names under which something is kept, in the order of their bytes."""
+        names: list[str] = []
+        with self._lock:
+            name = self._name_from(b"")
+            while name is not None:
+                names.append(name.decode())
+                name = self._name_from(name + b"\0")
+        return names
+
+    def _name_from(self, start: bytes) -> Optional[bytes]:
+        length, found = self._length, self._text
+        status = library.pocket_name_from(self._handle, start, len(start), found, len(found), length)
+        if status == 11:
+            found = ctypes.create_string_buffer(length.value)
+            status = library.pocket_name_from(self._handle, start, len(start), found, len(found), length)
+        if status == 17:
+            return None
+        done(status)
+        return ctypes.string_at(found, length.value)
 
 
 def run(*words: str, inputs: Optional[Mapping[str, Data]] = None) -> dict[str, bytes]:

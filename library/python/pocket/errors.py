@@ -51,6 +51,10 @@ class TooManyWords(PocketError, ValueError):
     """A command has 1,000 words."""
 
 
+class NotKept(PocketError, LookupError):
+    """Nothing is kept at a desk under the name."""
+
+
 class Refused(PocketError):
     """A command at a desk that was refused, with the refusal's text. The names of its outputs keep what they had, unless writing failed."""
 
@@ -72,12 +76,12 @@ class StoreError(PocketError, ValueError):
     """Bytes that are no Space Packets, or none of whole packets."""
 
 
-# What each answer of the library is here. The texts are those of the refusals of the proved crates.
+# What each answer of the library is here, with the text that `pocket_status_text` gives of it.
 REFUSED = {
     1: (OutOfMemory, "out of memory"),
     2: (Closed, "it is closed"),
     3: (PocketError, "it is open"),
-    4: (PocketError, "it is of the other kind"),
+    4: (PocketError, "it holds something of another kind"),
     5: (BitsOutOfRange, "a vector has 1 to 49152 places"),
     6: (WrongLength, "the mask has the wrong length"),
     7: (SpareBitSet, "the mask has a spare bit set"),
@@ -90,6 +94,7 @@ REFUSED = {
     14: (TooLong, "the packet is too long"),
     15: (NotText, "it is not UTF-8"),
     16: (TooManyWords, "the command has too many words"),
+    17: (NotKept, "no such name is kept"),
     252: (NoState, "it is no state"),
     253: (NoState, "it is a state of the other kind or of other bits"),
     254: (Broken, "its memory was damaged"),

@@ -27,10 +27,12 @@ class Tally(ctypes.Structure):
 _BYTES, _SIZE, _HANDLE = ctypes.c_char_p, ctypes.c_size_t, ctypes.POINTER(Handle)
 _CALLS = {
     "pocket_sender_open": [_HANDLE, ctypes.c_uint32, _BYTES, _SIZE],
+    "pocket_sender_reset": [_HANDLE, _BYTES, _SIZE],
     "pocket_send": [_HANDLE, _BYTES, _SIZE, ctypes.c_bool, ctypes.c_bool, ctypes.c_bool, ctypes.c_uint8, ctypes.c_void_p, _SIZE,
                     ctypes.POINTER(_SIZE), ctypes.POINTER(ctypes.c_uint8)],
     "pocket_sent": [_HANDLE, ctypes.POINTER(ctypes.c_uint64)],
     "pocket_receiver_open": [_HANDLE, ctypes.c_uint32],
+    "pocket_receiver_reset": [_HANDLE],
     "pocket_receive": [_HANDLE, ctypes.c_uint16, _BYTES, _SIZE, ctypes.c_void_p, _SIZE, ctypes.POINTER(Finding)],
     "pocket_counts": [_HANDLE, ctypes.POINTER(Tally)],
     "pocket_bits": [_HANDLE, ctypes.POINTER(ctypes.c_uint32)],
@@ -39,6 +41,8 @@ _CALLS = {
     "pocket_word": [_HANDLE, _BYTES, _SIZE],
     "pocket_run": [_HANDLE, ctypes.c_void_p, _SIZE, ctypes.POINTER(_SIZE), ctypes.POINTER(ctypes.c_uint8)],
     "pocket_get": [_HANDLE, _BYTES, _SIZE, ctypes.c_void_p, _SIZE, ctypes.POINTER(_SIZE)],
+    "pocket_remove": [_HANDLE, _BYTES, _SIZE],
+    "pocket_name_from": [_HANDLE, _BYTES, _SIZE, ctypes.c_void_p, _SIZE, ctypes.POINTER(_SIZE)],
     "pocket_close": [_HANDLE],
 }
 # What the library made of the one C file has (docs/CALLING.md), which has no desk.

@@ -12,11 +12,28 @@ use std::test::Fail;
 
 const ROW: [u8; 5] = [1, 2, 3, 4, 5];
 
+// A desk that holds nothing. The callers know nothing of it, so that their proofs are short.
+pub fn new_desk(alloc: Global) -> MemDesk {
+    MemDesk::new(alloc)
+}
+
+pub fn hold(desk: &mut MemDesk, name: &str, bytes: &[u8]) -> Result<(), NoMemory> {
+    desk.put(name, bytes)
+}
+
+pub fn in_pieces(desk: &mut MemDesk, size: u32) {
+    desk.pieces(size.max(1));
+}
+
+fn let_fourth_write_fail(desk: &mut MemDesk) -> Result<(), NoMemory> {
+    desk.fail(Call::Write, 4)
+}
+
 fn desk_with(alloc: Global, name: &str, bytes: &[u8]) -> Result<MemDesk, NoMemory> {
-    let mut desk = MemDesk::new(alloc);
-    desk.put(name, bytes)?;
-    desk.pieces(2);
-    desk.fail(Call::Write, 4)?;
+    let mut desk = new_desk(alloc);
+    hold(&mut desk, name, bytes)?;
+    in_pieces(&mut desk, 2);
+    let_fourth_write_fail(&mut desk)?;
     Ok(desk)
 }
 
@@ -87,7 +104,7 @@ impl Run for Countdown {
 
     type Data = u8;
 
-    ghost use Rattle.std.specs.Prelude.{◌≡◌, ℕ, List, Bool, false, Some};
+    ghost use Rattle.std.specs.Prelude.{◌≡◌, ℕ, List, false, Some};
     ghost use Rattle.desk_ports.specs.declared.desk.Outlet.TheVariants as outlet;
     ghost use Rattle.desk_ports.specs.Courses.{no_outputs};
     ghost use Rattle.desk_ports.specs.Stop as stop;

@@ -1,6 +1,5 @@
 //! What no clause says: that a flight opens with ample memory.
 
-ghost use Rattle.std.specs.Prelude.{◌≤◌};
 ghost use Rattle.bit_vectors.specs.Vectors.{IsPlaces};
 
 use bit_vectors::{Bits, NoMemory};

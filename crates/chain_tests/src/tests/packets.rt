@@ -1,8 +1,9 @@
 //! What no clause says: that the calls succeed with ample memory.
 
-ghost use Rattle.std.specs.Prelude.{◌≤◌, codes, IsTrue};
+ghost use Rattle.std.specs.Prelude.{codes, IsTrue};
 ghost use Rattle.desk_ports.specs.Meanings.{IsReadyIn};
 
+use super::desks::{hold, in_pieces, new_desk};
 use bit_vectors::NoMemory;
 use desk_ports::{Desk, Failed, Inlet, MemDesk, Outlet};
 use packet_store::{PERIOD, StoreFault, StoreReader, StoreWriter, header_bytes, read_header};
@@ -12,21 +13,21 @@ use std::test::Fail;
 const APID: u16 = 100;
 
 // A packet, and then a segmented telecommand packet of another APID with a secondary header.
-static TWO_PACKETS: [u8; 17] = [
+const TWO_PACKETS: [u8; 17] = [
     0x00, 0x64, 0xC0, 0x00, 0x00, 0x03, 0x85, 0xB8, 0xC0, 0x00, 0x18, 0x65, 0x40, 0x05, 0x00, 0x00,
     0xFF,
 ];
 
 // A packet, and then a header that is cut.
-static CUT: [u8; 13] = [
+const CUT: [u8; 13] = [
     0x00, 0x64, 0xC0, 0x00, 0x00, 0x03, 0x85, 0xB8, 0xC0, 0x00, 0x00, 0x64, 0xC0,
 ];
 
 // A packet of version 1.
-static OTHER_VERSION: [u8; 7] = [0x20, 0x64, 0xC0, 0x00, 0x00, 0x00, 0x00];
+const OTHER_VERSION: [u8; 7] = [0x20, 0x64, 0xC0, 0x00, 0x00, 0x00, 0x00];
 
 // A segment.
-static OTHER_SHAPE: [u8; 7] = [0x00, 0x64, 0x00, 0x00, 0x00, 0x00, 0x82];
+const OTHER_SHAPE: [u8; 7] = [0x00, 0x64, 0x00, 0x00, 0x00, 0x00, 0x82];
 
 // The packets of a store of at most nine, and its fault.
 fn walked<D: Desk>(desk: &mut D, reader: &mut StoreReader) -> (u64, Option<StoreFault>)
@@ -54,18 +55,14 @@ fn walk_at<D: Desk>(
     Ok(walked(desk, reader))
 }
 
-fn desk_with(alloc: Global, store: &[u8], size: u32) -> Result<MemDesk, NoMemory>
-    requires { 1 ≤ size }
-{
-    let mut desk = MemDesk::new(alloc);
-    desk.put("store", store)?;
-    desk.pieces(size);
+fn desk_with(alloc: Global, store: &[u8], size: u32) -> Result<MemDesk, NoMemory> {
+    let mut desk = new_desk(alloc);
+    hold(&mut desk, "store", store)?;
+    in_pieces(&mut desk, size);
     Ok(desk)
 }
 
-fn walk_of(alloc: Global, store: &[u8], size: u32) -> Result<(u64, Option<StoreFault>), Fail>
-    requires { 1 ≤ size }
-{
+fn walk_of(alloc: Global, store: &[u8], size: u32) -> Result<(u64, Option<StoreFault>), Fail> {
     let mut desk = desk_with(alloc, store, size)?;
     let mut reader = StoreReader::open(alloc, APID)?;
     Ok(walk_at(&mut desk, &mut reader)?)
@@ -77,20 +74,21 @@ fn whole_walk_of(alloc: Global, store: &[u8]) -> Result<(u64, Option<StoreFault>
     Ok(walk_at(&mut desk, &mut reader)?)
 }
 
+// Stores, how many packets are walked, and the fault.
+static STORES: [(&[u8], u64, Option<StoreFault>); 5] = [
+    (&[], 0, None),
+    (&TWO_PACKETS, 2, None),
+    (&CUT, 1, Some(StoreFault::Cut { byte: 10 })),
+    (&OTHER_VERSION, 0, Some(StoreFault::Version { byte: 0 })),
+    (&OTHER_SHAPE, 0, Some(StoreFault::Shape { byte: 0 })),
+];
+
 #[test]
 fn stores_and_their_ends(rt: HostRuntime) -> Result<(), Fail> {
     for size in [1, 100] {
-        assert_eq!(rt; walk_of(rt.alloc(), &[], size)?, (0, None));
-        assert_eq!(rt; walk_of(rt.alloc(), &TWO_PACKETS, size)?, (2, None));
-        let cut = StoreFault::Cut { byte: 10 };
-        assert_eq!(rt; walk_of(rt.alloc(), &CUT, size)?, (1, Some(cut)));
-        let version = StoreFault::Version { byte: 0 };
-        assert_eq!(rt;
-            walk_of(rt.alloc(), &OTHER_VERSION, size)?,
-            (0, Some(version))
-        );
-        let shape = StoreFault::Shape { byte: 0 };
-        assert_eq!(rt; walk_of(rt.alloc(), &OTHER_SHAPE, size)?, (0, Some(shape)));
+        for &(store, packets, fault) in &STORES {
+            assert_eq!(rt; walk_of(rt.alloc(), store, size)?, (packets, fault));
+        }
     }
     assert_eq!(rt; whole_walk_of(rt.alloc(), &OTHER_SHAPE)?, (1, None));
     Ok(())
@@ -106,7 +104,7 @@ fn put_packets<D: Desk>(writer: &mut StoreWriter, desk: &mut D) -> Result<(), Fa
 
 fn desk_after(alloc: Global) -> Result<MemDesk, Fail> {
     let mut writer = StoreWriter::open(alloc, APID)?;
-    let mut desk = MemDesk::new(alloc);
+    let mut desk = new_desk(alloc);
     put_packets(&mut writer, &mut desk)?;
     Ok(desk)
 }

@@ -32,25 +32,27 @@ fn times(alloc: Global, text: &[u8], t: u32) -> Result<u8, SideFault> {
     Ok(Script::read(alloc, text)?.times(t))
 }
 
+/// Texts of schedules, a packet, and its flags.
+static SCHEDULES: [(&str, u32, Result<&str, SideFault>); 14] = [
+    ("", 0, Ok("")),
+    ("3,5,2,p", 3, Ok("p")),
+    ("3,5,2,p", 4, Ok("")),
+    ("3,5,2,p", 5, Ok("p")),
+    ("3,5,2,p", 7, Ok("")),
+    ("0,9,1,f\r\n5,5,1,rp\n", 5, Ok("pfr")),
+    ("\"0\",9,1,\"p\"", 9, Ok("p")),
+    ("\u{feff}7,4294967295,4294967288,r", 4_294_967_295, Ok("r")),
+    ("1,5,0,p", 0, Err(SideFault::Row { row: 1 })),
+    ("\n\n1,5,0,p", 0, Err(SideFault::Row { row: 1 })),
+    ("0,9,1,f\n5,9,1,pp", 0, Err(SideFault::Row { row: 2 })),
+    ("5,4,1,p", 0, Err(SideFault::Row { row: 1 })),
+    ("00,4,1,p", 0, Err(SideFault::Row { row: 1 })),
+    ("0,4294967296,1,p", 0, Err(SideFault::Row { row: 1 })),
+];
+
 #[test]
 fn schedules(rt: HostRuntime) -> Result<(), Fail> {
-    let rows: [(&str, u32, Result<&str, SideFault>); 14] = [
-        ("", 0, Ok("")),
-        ("3,5,2,p", 3, Ok("p")),
-        ("3,5,2,p", 4, Ok("")),
-        ("3,5,2,p", 5, Ok("p")),
-        ("3,5,2,p", 7, Ok("")),
-        ("0,9,1,f\r\n5,5,1,rp\n", 5, Ok("pfr")),
-        ("\"0\",9,1,\"p\"", 9, Ok("p")),
-        ("\u{feff}7,4294967295,4294967288,r", 4_294_967_295, Ok("r")),
-        ("1,5,0,p", 0, Err(SideFault::Row { row: 1 })),
-        ("\n\n1,5,0,p", 0, Err(SideFault::Row { row: 1 })),
-        ("0,9,1,f\n5,9,1,pp", 0, Err(SideFault::Row { row: 2 })),
-        ("5,4,1,p", 0, Err(SideFault::Row { row: 1 })),
-        ("00,4,1,p", 0, Err(SideFault::Row { row: 1 })),
-        ("0,4294967296,1,p", 0, Err(SideFault::Row { row: 1 })),
-    ];
-    for (text, t, wanted) in rows {
+    for &(text, t, wanted) in &SCHEDULES {
         assert_eq!(rt; flags(rt.alloc(), text.as_bytes(), t), wanted);
     }
     let flags = Flags {
@@ -129,31 +131,33 @@ fn lookups_of_copies(rt: HostRuntime) -> Result<(), Fail> {
     Ok(())
 }
 
+/// Texts of schedules, a packet, and its required robustness.
+static ROBUST: [(&str, u32, Result<Option<u8>, SideFault>); 12] = [
+    ("robust,2,3,1,2", 1, Ok(None)),
+    ("robust,2,3,1,2", 2, Ok(Some(2))),
+    ("robust,0,9,3,7\nrobust,6,6,1,0", 3, Ok(Some(7))),
+    ("robust,0,9,3,7\nrobust,6,6,1,0", 6, Ok(Some(0))),
+    ("robust,6,6,1,0\nrobust,0,9,3,7", 6, Ok(Some(7))),
+    ("robust,0,9,1,3\n0,9,1,p", 4, Ok(Some(3))),
+    ("0,9,1,p", 4, Ok(None)),
+    ("robust,0,9,1,8", 0, Err(SideFault::Row { row: 1 })),
+    ("0,9,1,p\nrobust,0,9,1", 0, Err(SideFault::Row { row: 2 })),
+    (
+        "robust,0,9,1,1\nRobust,0,9,1,1",
+        0,
+        Err(SideFault::Row { row: 2 }),
+    ),
+    (
+        "robust,0,9,1,1\n0,9,1,p,1",
+        0,
+        Err(SideFault::Row { row: 2 }),
+    ),
+    ("robust,9,8,1,1", 0, Err(SideFault::Row { row: 1 })),
+];
+
 #[test]
 fn schedules_of_robustness(rt: HostRuntime) -> Result<(), Fail> {
-    let rows: [(&str, u32, Result<Option<u8>, SideFault>); 12] = [
-        ("robust,2,3,1,2", 1, Ok(None)),
-        ("robust,2,3,1,2", 2, Ok(Some(2))),
-        ("robust,0,9,3,7\nrobust,6,6,1,0", 3, Ok(Some(7))),
-        ("robust,0,9,3,7\nrobust,6,6,1,0", 6, Ok(Some(0))),
-        ("robust,6,6,1,0\nrobust,0,9,3,7", 6, Ok(Some(7))),
-        ("robust,0,9,1,3\n0,9,1,p", 4, Ok(Some(3))),
-        ("0,9,1,p", 4, Ok(None)),
-        ("robust,0,9,1,8", 0, Err(SideFault::Row { row: 1 })),
-        ("0,9,1,p\nrobust,0,9,1", 0, Err(SideFault::Row { row: 2 })),
-        (
-            "robust,0,9,1,1\nRobust,0,9,1,1",
-            0,
-            Err(SideFault::Row { row: 2 }),
-        ),
-        (
-            "robust,0,9,1,1\n0,9,1,p,1",
-            0,
-            Err(SideFault::Row { row: 2 }),
-        ),
-        ("robust,9,8,1,1", 0, Err(SideFault::Row { row: 1 })),
-    ];
-    for (text, t, wanted) in rows {
+    for &(text, t, wanted) in &ROBUST {
         assert_eq!(rt; robust(rt.alloc(), text.as_bytes(), t), wanted);
     }
     let overlapping = "0,9,1,f\nrobust,5,9,1,6\n5,5,1,rp";
@@ -162,21 +166,23 @@ fn schedules_of_robustness(rt: HostRuntime) -> Result<(), Fail> {
     Ok(())
 }
 
+/// Texts of scripts, a packet, and its copies.
+static SCRIPTS: [(&str, u32, Result<u8, SideFault>); 10] = [
+    ("", 0, Ok(1)),
+    ("drop,2,2,1", 2, Ok(0)),
+    ("drop,2,2,1", 3, Ok(1)),
+    ("repeat,0,3,1,8", 0, Ok(9)),
+    ("drop,0,9,1\nrepeat,5,5,1,1", 5, Ok(2)),
+    ("repeat,5,5,1,1\ndrop,0,9,1", 5, Ok(0)),
+    ("repeat,0,3,1,9", 0, Err(SideFault::Row { row: 1 })),
+    ("repeat,0,3,1,0", 0, Err(SideFault::Row { row: 1 })),
+    ("drop,0,3", 0, Err(SideFault::Row { row: 1 })),
+    ("drop,0,3,1\nDrop,0,3,1", 0, Err(SideFault::Row { row: 2 })),
+];
+
 #[test]
 fn scripts(rt: HostRuntime) -> Result<(), Fail> {
-    let rows: [(&str, u32, Result<u8, SideFault>); 10] = [
-        ("", 0, Ok(1)),
-        ("drop,2,2,1", 2, Ok(0)),
-        ("drop,2,2,1", 3, Ok(1)),
-        ("repeat,0,3,1,8", 0, Ok(9)),
-        ("drop,0,9,1\nrepeat,5,5,1,1", 5, Ok(2)),
-        ("repeat,5,5,1,1\ndrop,0,9,1", 5, Ok(0)),
-        ("repeat,0,3,1,9", 0, Err(SideFault::Row { row: 1 })),
-        ("repeat,0,3,1,0", 0, Err(SideFault::Row { row: 1 })),
-        ("drop,0,3", 0, Err(SideFault::Row { row: 1 })),
-        ("drop,0,3,1\nDrop,0,3,1", 0, Err(SideFault::Row { row: 2 })),
-    ];
-    for (text, t, wanted) in rows {
+    for &(text, t, wanted) in &SCRIPTS {
         assert_eq!(rt; times(rt.alloc(), text.as_bytes(), t), wanted);
     }
     let row = CopyRow {
@@ -199,26 +205,28 @@ fn bits_of(alloc: Global, text: &[u8], apid: u16) -> Result<Option<u32>, SideFau
     })
 }
 
+/// Texts of streams, an APID, and its bits.
+static STREAMS: [(&str, u16, Result<Option<u32>, SideFault>); 15] = [
+    ("", 0, Ok(None)),
+    ("100,8\n101,16", 100, Ok(Some(8))),
+    ("100,8\n101,16", 101, Ok(Some(16))),
+    ("100,8\n101,16", 102, Ok(None)),
+    ("0,1\r\n2046,49152\n", 0, Ok(Some(1))),
+    ("0,1\r\n2046,49152\n", 2046, Ok(Some(49_152))),
+    ("0,1\r\n2046,49152\n", 2047, Ok(None)),
+    ("0,1\r\n2046,49152\n", u16::MAX, Ok(None)),
+    ("100,8\n100,16", 0, Err(SideFault::Row { row: 2 })),
+    ("2047,8", 0, Err(SideFault::Row { row: 1 })),
+    ("100,0", 0, Err(SideFault::Row { row: 1 })),
+    ("100,8\n101,49153", 0, Err(SideFault::Row { row: 2 })),
+    ("100,8\n101", 0, Err(SideFault::Row { row: 2 })),
+    ("100,8,", 0, Err(SideFault::Row { row: 1 })),
+    ("0100,8", 0, Err(SideFault::Row { row: 1 })),
+];
+
 #[test]
 fn streams(rt: HostRuntime) -> Result<(), Fail> {
-    let rows: [(&str, u16, Result<Option<u32>, SideFault>); 15] = [
-        ("", 0, Ok(None)),
-        ("100,8\n101,16", 100, Ok(Some(8))),
-        ("100,8\n101,16", 101, Ok(Some(16))),
-        ("100,8\n101,16", 102, Ok(None)),
-        ("0,1\r\n2046,49152\n", 0, Ok(Some(1))),
-        ("0,1\r\n2046,49152\n", 2046, Ok(Some(49_152))),
-        ("0,1\r\n2046,49152\n", 2047, Ok(None)),
-        ("0,1\r\n2046,49152\n", u16::MAX, Ok(None)),
-        ("100,8\n100,16", 0, Err(SideFault::Row { row: 2 })),
-        ("2047,8", 0, Err(SideFault::Row { row: 1 })),
-        ("100,0", 0, Err(SideFault::Row { row: 1 })),
-        ("100,8\n101,49153", 0, Err(SideFault::Row { row: 2 })),
-        ("100,8\n101", 0, Err(SideFault::Row { row: 2 })),
-        ("100,8,", 0, Err(SideFault::Row { row: 1 })),
-        ("0100,8", 0, Err(SideFault::Row { row: 1 })),
-    ];
-    for (text, apid, wanted) in rows {
+    for &(text, apid, wanted) in &STREAMS {
         assert_eq!(rt; bits_of(rt.alloc(), text.as_bytes(), apid), wanted);
     }
     let streams = Streams::read(rt.alloc(), b"7,8\n5,9")?;
@@ -257,21 +265,23 @@ fn long_texts(rt: HostRuntime) -> Result<(), Fail> {
     Ok(())
 }
 
+/// Texts of numbers, and what they mean.
+static SIGNED: [(&str, Option<i128>); 10] = [
+    ("0", Some(0)),
+    ("-1", Some(-1)),
+    ("18446744073709551615", Some(18_446_744_073_709_551_615)),
+    ("18446744073709551616", None),
+    ("-9223372036854775808", Some(-9_223_372_036_854_775_808)),
+    ("-9223372036854775809", None),
+    ("-0", None),
+    ("+1", None),
+    ("-", None),
+    ("", None),
+];
+
 #[test]
 fn signed_numbers(rt: HostRuntime) -> Result<(), Fail> {
-    let rows: [(&str, Option<i128>); 10] = [
-        ("0", Some(0)),
-        ("-1", Some(-1)),
-        ("18446744073709551615", Some(18_446_744_073_709_551_615)),
-        ("18446744073709551616", None),
-        ("-9223372036854775808", Some(-9_223_372_036_854_775_808)),
-        ("-9223372036854775809", None),
-        ("-0", None),
-        ("+1", None),
-        ("-", None),
-        ("", None),
-    ];
-    for (text, wanted) in rows {
+    for &(text, wanted) in &SIGNED {
         assert_eq!(rt; signed_number(text.as_bytes()), wanted);
     }
     Ok(())

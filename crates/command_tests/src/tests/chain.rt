@@ -1,9 +1,8 @@
 //! The commands one after the other at one desk.
 
-use super::desk::{HEADER, answer, hold, joined};
+use super::desk::{HEADER, assert_done, by_single_bytes, hold, joined, new_desk};
 use super::samples::PLAY_HEADER;
 use desk_ports::MemDesk;
-use pocket_cmd::Status;
 use std::alloc::Global;
 use std::process::Abort;
 use std::test::Fail;
@@ -39,17 +38,15 @@ pub struct Chain<'a> {
     pub report: &'a str,
 }
 
-/// Does what the words say, which must end well.
-fn assert_done(
+/// Does what the words in two parts say, which must end well.
+fn assert_joined(
     rt: &(impl Abort + AllocGlobal),
     front: &str,
     back: &str,
     desk: &mut MemDesk,
 ) -> Result<(), Fail> {
     let line = joined(rt.alloc(), front, back)?;
-    let status = answer(rt.alloc(), &line, desk)?;
-    assert_eq!(rt; status, Status::Done, "{line}");
-    Ok(())
+    assert_done(rt, &line, desk)
 }
 
 /// What is kept under a name must be these bytes.
@@ -63,12 +60,12 @@ fn assert_kept(rt: &impl Abort, chain: &Chain<'_>, desk: &MemDesk, name: &str, w
 }
 
 fn desk_of(alloc: Global, chain: &Chain<'_>, one_byte: bool) -> Result<MemDesk, Fail> {
-    let mut desk = MemDesk::new(alloc);
+    let mut desk = new_desk(alloc);
     hold(&mut desk, "recording", chain.recording)?;
     hold(&mut desk, "plan", chain.plan.as_bytes())?;
     hold(&mut desk, "script", chain.script.as_bytes())?;
     if one_byte {
-        desk.pieces(1);
+        by_single_bytes(&mut desk);
     }
     Ok(desk)
 }
@@ -80,9 +77,9 @@ pub fn assert_chain(
     one_byte: bool,
 ) -> Result<MemDesk, Fail> {
     let mut desk = desk_of(rt.alloc(), chain, one_byte)?;
-    assert_done(rt, COMPRESS, chain.flight, &mut desk)?;
-    assert_done(rt, PLAY, "", &mut desk)?;
-    assert_done(rt, RESTORE, chain.ground, &mut desk)?;
+    assert_joined(rt, COMPRESS, chain.flight, &mut desk)?;
+    assert_done(rt, PLAY, &mut desk)?;
+    assert_joined(rt, RESTORE, chain.ground, &mut desk)?;
     let play_report = joined(rt.alloc(), PLAY_HEADER, chain.played)?;
     let report = joined(rt.alloc(), HEADER, chain.report)?;
     assert_kept(rt, chain, &desk, "play_report", play_report.as_bytes());
@@ -97,7 +94,7 @@ pub fn assert_given_back(
     chain: &Chain<'_>,
     desk: &mut MemDesk,
 ) -> Result<(), Fail> {
-    assert_done(rt, GIVE_BACK, chain.ground, desk)?;
+    assert_joined(rt, GIVE_BACK, chain.ground, desk)?;
     assert_kept(rt, chain, desk, "given_back", chain.recording);
     Ok(())
 }
@@ -109,7 +106,7 @@ pub fn assert_listed(
     desk: &mut MemDesk,
     listing: &[u8],
 ) -> Result<(), Fail> {
-    assert_done(rt, SHOW, chain.ground, desk)?;
+    assert_joined(rt, SHOW, chain.ground, desk)?;
     assert_kept(rt, chain, desk, "listing", listing);
     Ok(())
 }

@@ -144,7 +144,7 @@ fn assert_by_seven(
     wanted: &Ending<'_>,
 ) -> Result<(), Fail> {
     let mut desk = desk_for(rt.alloc(), case)?;
-    desk.pieces(7);
+    by_seven_bytes(&mut desk);
     assert_ending_at(rt, case, &mut desk, wanted)
 }
 
@@ -194,6 +194,17 @@ pub fn answer(alloc: Global, line: &str, desk: &mut MemDesk) -> Result<Status, A
     Ok(answer_to(alloc, &words, desk))
 }
 
+/// Does what the words in a line say, which must end well.
+pub fn assert_done(
+    rt: &(impl Abort + AllocGlobal),
+    line: &str,
+    desk: &mut MemDesk,
+) -> Result<(), Fail> {
+    let status = answer(rt.alloc(), line, desk)?;
+    assert_eq!(rt; status, Status::Done, "{line}");
+    Ok(())
+}
+
 fn answer_to(alloc: Global, words: &[String], desk: &mut MemDesk) -> Status {
     let few = words.len().min(1000);
     pocket(alloc, &words[..few], desk)
@@ -205,6 +216,24 @@ pub fn words_of(alloc: Global, line: &str) -> Result<Vec<String>, AllocError> {
         words.push(String::from_str(alloc, word)?)?;
     }
     Ok(words)
+}
+
+/// A desk that holds nothing. The callers know nothing of it, so that their proofs are short.
+pub fn new_desk(alloc: Global) -> MemDesk {
+    MemDesk::new(alloc)
+}
+
+/// From here on a call moves one byte at most.
+pub fn by_single_bytes(desk: &mut MemDesk) {
+    desk.pieces(1);
+}
+
+fn by_seven_bytes(desk: &mut MemDesk) {
+    desk.pieces(7);
+}
+
+fn let_fail(desk: &mut MemDesk, call: Call, nth: u32) -> Result<(), NoMemory> {
+    desk.fail(call, nth)
 }
 
 /// Holds bytes under a name.
@@ -221,14 +250,14 @@ fn hold_some(desk: &mut MemDesk, name: &str, input: Option<&[u8]>) -> Result<(),
 }
 
 fn desk_for(alloc: Global, case: &Case<'_>) -> Result<MemDesk, NoMemory> {
-    let mut desk = MemDesk::new(alloc);
+    let mut desk = new_desk(alloc);
     hold_some(&mut desk, "a", case.input)?;
     hold_some(&mut desk, "s", case.side)?;
     if case.one_byte {
-        desk.pieces(1);
+        by_single_bytes(&mut desk);
     }
     for (call, nth) in case.fails {
-        desk.fail(*call, *nth)?;
+        let_fail(&mut desk, *call, *nth)?;
     }
     Ok(desk)
 }

@@ -1,8 +1,8 @@
 //! Worked forecasts: of a thousand packets and of few, scripts and schedules that are refused, and a desk that fails.
 
-use super::desk::{
-    Case, Ending, assert_both, assert_ending, done, front, refused, with_both, words_alone,
-};
+use super::desk::{Case, Ending, assert_ending, done, front, refused, with_both, words_alone};
+use super::rows::Bytes::Text;
+use super::rows::{Row, Wrong, assert_rows, assert_wrong_words};
 use desk_ports::Call;
 use pocket_cmd::Refusal;
 use std::process::Abort;
@@ -11,87 +11,102 @@ use std::test::Fail;
 /// The script is held as `a`, the schedule as `s`.
 const FOUR: &str = "forecast out=b packets=4 robust=1 plan=s script=a";
 
-/// A schedule and a script, the words, and the text that is written.
-struct Row {
-    words: &'static str,
-    plan: &'static str,
-    script: &'static str,
-    text: &'static str,
-}
-
+/// Schedules and scripts, and the texts that are written.
 static FORECASTS: [Row; 9] = [
     Row {
         words: "forecast out=b packets=1000 robust=2 plan=s script=a",
-        plan: "20,999,20,p\n50,999,50,f\n100,999,100,r\n",
-        script: "drop,10,10,1\ndrop,50,51,1\ndrop,190,194,1\ndrop,205,207,1\nrepeat,300,309,1,2\n\
+        side: Some("20,999,20,p\n50,999,50,f\n100,999,100,r\n"),
+        input: Text(
+            "drop,10,10,1\ndrop,50,51,1\ndrop,190,194,1\ndrop,205,207,1\nrepeat,300,309,1,2\n\
             drop,530,533,1\ndrop,999,999,1\n",
-        text: "first,last,state\n0,9,sure\n10,10,lost\n11,49,sure\n50,51,lost\n52,189,sure\n\
+        ),
+        output: Text(
+            "first,last,state\n0,9,sure\n10,10,lost\n11,49,sure\n50,51,lost\n52,189,sure\n\
             190,194,lost\n195,199,open\n200,204,sure\n205,207,lost\n208,299,open\n300,529,sure\n\
             530,533,lost\n534,599,open\n600,998,sure\n999,999,lost\ngaps,0,6\nend,1000,821\n",
+        ),
+        report: "",
+        refusal: None,
     },
     Row {
         words: FOUR,
-        plan: "",
-        script: "",
-        text: "first,last,state\n0,3,sure\ngaps,0,1\nend,4,4\n",
+        side: Some(""),
+        input: Text(""),
+        output: Text("first,last,state\n0,3,sure\ngaps,0,1\nend,4,4\n"),
+        report: "",
+        refusal: None,
     },
     // Nothing is delivered.
     Row {
         words: FOUR,
-        plan: "0,9,1,fr",
-        script: "drop,0,9,1",
-        text: "first,last,state\n0,3,lost\ngaps,-,0\nend,4,0\n",
+        side: Some("0,9,1,fr"),
+        input: Text("drop,0,9,1"),
+        output: Text("first,last,state\n0,3,lost\ngaps,-,0\nend,4,0\n"),
+        report: "",
+        refusal: None,
     },
     // The first two are forced, and the loss of both leaves nothing sure.
     Row {
         words: FOUR,
-        plan: "",
-        script: "drop,0,1,1",
-        text: "first,last,state\n0,1,lost\n2,3,open\ngaps,2,1\nend,4,0\n",
+        side: Some(""),
+        input: Text("drop,0,1,1"),
+        output: Text("first,last,state\n0,1,lost\n2,3,open\ngaps,2,1\nend,4,0\n"),
+        report: "",
+        refusal: None,
     },
     Row {
         words: "forecast out=b packets=1 robust=0 plan=s script=a",
-        plan: "",
-        script: "repeat,0,0,1,8",
-        text: "first,last,state\n0,0,sure\ngaps,0,0\nend,1,1\n",
+        side: Some(""),
+        input: Text("repeat,0,0,1,8"),
+        output: Text("first,last,state\n0,0,sure\ngaps,0,0\nend,1,1\n"),
+        report: "",
+        refusal: None,
     },
     // Whole content and no mask: the packet is sure, and the next one is not.
     Row {
         words: "forecast out=b packets=6 robust=0 plan=s script=a",
-        plan: "3,3,1,r\n5,5,1,f",
-        script: "drop,1,2,1",
-        text: "first,last,state\n0,0,sure\n1,2,lost\n3,3,sure\n4,5,open\ngaps,0,3\nend,6,2\n",
+        side: Some("3,3,1,r\n5,5,1,f"),
+        input: Text("drop,1,2,1"),
+        output: Text(
+            "first,last,state\n0,0,sure\n1,2,lost\n3,3,sure\n4,5,open\ngaps,0,3\nend,6,2\n",
+        ),
+        report: "",
+        refusal: None,
     },
     // The mask two packets after it: the content reaches no further.
     Row {
         words: "forecast out=b packets=6 robust=0 plan=s script=a",
-        plan: "3,3,1,r\n4,4,1,f",
-        script: "drop,1,2,1",
-        text: "first,last,state\n0,0,sure\n1,2,lost\n3,5,sure\ngaps,0,3\nend,6,4\n",
+        side: Some("3,3,1,r\n4,4,1,f"),
+        input: Text("drop,1,2,1"),
+        output: Text("first,last,state\n0,0,sure\n1,2,lost\n3,5,sure\ngaps,0,3\nend,6,4\n"),
+        report: "",
+        refusal: None,
     },
     // The last row that names a packet decides, of the required robustness and of the copies.
     Row {
         words: "forecast out=b packets=6 robust=0 plan=s script=a",
-        plan: "robust,0,9,1,7\nrobust,0,9,3,0",
-        script: "drop,1,4,1\nrepeat,2,2,2,1",
-        text: "first,last,state\n0,0,sure\n1,1,lost\n2,2,sure\n3,4,lost\n5,5,sure\ngaps,0,3\nend,6,3\n",
+        side: Some("robust,0,9,1,7\nrobust,0,9,3,0"),
+        input: Text("drop,1,4,1\nrepeat,2,2,2,1"),
+        output: Text(
+            "first,last,state\n0,0,sure\n1,1,lost\n2,2,sure\n3,4,lost\n5,5,sure\ngaps,0,3\nend,6,3\n",
+        ),
+        report: "",
+        refusal: None,
     },
     // No row is about these packets.
     Row {
         words: "forecast out=b packets=2 robust=7 plan=s script=a",
-        plan: "8,4294967295,1,p\nrobust,9,9,1,0",
-        script: "drop,2,4294967295,4294967295",
-        text: "first,last,state\n0,1,sure\ngaps,0,1\nend,2,2\n",
+        side: Some("8,4294967295,1,p\nrobust,9,9,1,0"),
+        input: Text("drop,2,4294967295,4294967295"),
+        output: Text("first,last,state\n0,1,sure\ngaps,0,1\nend,2,2\n"),
+        report: "",
+        refusal: None,
     },
 ];
 
 #[test]
 fn forecasts(rt: HostRuntime) -> Result<(), Fail> {
-    for row in &FORECASTS {
-        let case = with_both(row.words, row.script.as_bytes(), row.plan.as_bytes());
-        assert_both(&rt, case, &done(row.text.as_bytes(), &[]))?;
-    }
-    Ok(())
+    assert_rows(&rt, &FORECASTS)
 }
 
 /// A schedule, a script, and what is answered to them.
@@ -117,11 +132,7 @@ static NO_SCRIPT: [(Call, u32); 2] = [(Call::OpenIn, 2), (Call::OpenOut, 1)];
 #[test]
 fn refusals(rt: HostRuntime) -> Result<(), Fail> {
     for (plan, script, refusal) in &REFUSED {
-        let case = Case {
-            fails: &NO_OUTPUT,
-            ..with_both(FOUR, script.as_bytes(), plan.as_bytes())
-        };
-        assert_ending(&rt, &case, &refused(*refusal, &[], &[]))?;
+        assert_script(&rt, plan.as_bytes(), script.as_bytes(), *refusal)?;
     }
     Ok(())
 }
@@ -256,7 +267,7 @@ fn a_forecast_at_each_fault(rt: HostRuntime) -> Result<(), Fail> {
 }
 
 /// Lines of words, and the place of the first wrong word in each.
-static WRONG_WORDS: [(&str, u32); 16] = [
+static WRONG_WORDS: [Wrong; 16] = [
     ("forecast", 1),
     ("forecast out=b packets=0 robust=1 plan=s script=a", 2),
     ("forecast out=b packets=1000001 robust=1 plan=s script=a", 2),
@@ -280,9 +291,5 @@ static WRONG_WORDS: [(&str, u32); 16] = [
 
 #[test]
 fn words_of_forecasts(rt: HostRuntime) -> Result<(), Fail> {
-    for (words, place) in &WRONG_WORDS {
-        let refusal = Refusal::BadWords { word: *place };
-        assert_ending(&rt, &words_alone(words), &refused(refusal, &[], &[]))?;
-    }
-    Ok(())
+    assert_wrong_words(&rt, &WRONG_WORDS)
 }

@@ -1,9 +1,8 @@
 //! Schedules, scripts and recordings that are drawn: a forecast is what the definition says, packet by packet, and
 //! what it calls sure is written.
 
-use super::desk::{answer, hold};
+use super::desk::{assert_done, hold, new_desk};
 use desk_ports::MemDesk;
-use pocket_cmd::Status;
 use side_tables::{Schedule, Script};
 use std::alloc::{AllocError, Global};
 use std::process::Abort;
@@ -179,20 +178,9 @@ fn lines_of(alloc: Global, states: &[&'static str]) -> Result<String, Fail> {
     Ok(text)
 }
 
-/// Does what the words say, which must end well.
-fn assert_done(
-    rt: &(impl Abort + AllocGlobal),
-    words: &str,
-    desk: &mut MemDesk,
-) -> Result<(), Fail> {
-    let status = answer(rt.alloc(), words, desk)?;
-    assert_eq!(rt; status, Status::Done, "{words}");
-    Ok(())
-}
-
 /// A desk with what was drawn.
 fn desk_of(alloc: Global, plan: &str, script: &str, recording: &[u8]) -> Result<MemDesk, Fail> {
-    let mut desk = MemDesk::new(alloc);
+    let mut desk = new_desk(alloc);
     hold(&mut desk, "plan", plan.as_bytes())?;
     hold(&mut desk, "script", script.as_bytes())?;
     hold(&mut desk, "recording", recording)?;

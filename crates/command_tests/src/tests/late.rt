@@ -2,14 +2,15 @@
 //! same stores in order.
 
 use super::desk::{
-    EIGHT_BITS, HEADER, answer, assert_both, assert_ending, bytes_of_all, done, hold, joined,
-    refused, with_input, words_alone,
+    EIGHT_BITS, Ending, HEADER, assert_both, assert_done, assert_ending, bytes_of, bytes_of_all,
+    done, hold, joined, new_desk, refused, with_input,
 };
 use super::faults::{End, Table, assert_tables};
+use super::rows::{Wrong, assert_wrong_words};
 use super::samples::{FIRST, FOURTH, SECOND, THIRD};
-use desk_ports::{Call, MemDesk};
+use desk_ports::Call;
 use packet_store::StoreKind;
-use pocket_cmd::{Refusal, Status};
+use pocket_cmd::Refusal;
 use std::alloc::{AllocError, Global};
 use std::process::Abort;
 use std::test::Fail;
@@ -30,7 +31,14 @@ const SAME_LAST_COUNT: &str = "00 64 FF FF 00 00 82";
 const IDLE: &str = "07 FF C0 00 00 00 00";
 
 /// A window, packets in the order of arrival, what is restored in hexadecimal, and the report after its first line.
-static ORDERS: [(&str, &[&str], &str, &str); 15] = [
+type Order = (
+    &'static str,
+    &'static [&'static str],
+    &'static str,
+    &'static str,
+);
+
+static ORDERS: [Order; 15] = [
     (
         "1",
         &[FIRST, THIRD, SECOND, FOURTH],
@@ -124,24 +132,25 @@ static ORDERS: [(&str, &[&str], &str, &str); 15] = [
     ),
 ];
 
-/// A window, a store that ends inside its last packet, the offset of that, what stands of the restored packets, and the rows
-/// after the first line.
-static CUT: [(&str, &[&str], u64, &str, &str); 5] = [
-    ("1", &[FIRST, THIRD, SECOND, "00 64"], 28, "B0 B1", ""),
+/// Stores that end inside their last packet, what stands of each, and the byte at which that packet begins.
+static CUT: [(Order, u64); 5] = [
+    (("1", &[FIRST, THIRD, SECOND, "00 64"], "B0 B1", ""), 28),
     (
-        "0",
-        &[FIRST, THIRD, SECOND, "00 64"],
+        (
+            "0",
+            &[FIRST, THIRD, SECOND, "00 64"],
+            "B0 B1",
+            "1,1,lost,0\n",
+        ),
         28,
-        "B0 B1",
-        "1,1,lost,0\n",
     ),
-    ("2", &[FIRST, THIRD, SECOND, "00 64"], 28, "B0", ""),
-    ("3", &[FIRST, THIRD, SECOND, "00 64"], 28, "", ""),
-    ("5", &["00 64"], 0, "", ""),
+    (("2", &[FIRST, THIRD, SECOND, "00 64"], "B0", ""), 28),
+    (("3", &[FIRST, THIRD, SECOND, "00 64"], "", ""), 28),
+    (("5", &["00 64"], "", ""), 0),
 ];
 
 /// Lines of words, and the place of the first wrong word in each.
-static WRONG_WORDS: [(&str, u32); 18] = [
+static WRONG_WORDS: [Wrong; 18] = [
     ("late", 1),
     ("late out=b report=c bits=8 apid=1 window=1", 6),
     ("late in=a report=c bits=8 apid=1 window=1", 6),
@@ -234,32 +243,42 @@ static FAILING: [Table; 2] = [
     },
 ];
 
+/// Runs packets in the order of arrival. A store that is cut ends in the packet that begins at this byte.
+fn assert_order(
+    rt: &(impl Abort + AllocGlobal),
+    (window, packets, restored, rows): Order,
+    cut: Option<u64>,
+) -> Result<(), Fail> {
+    let words = joined(rt.alloc(), LATE, window)?;
+    let store = bytes_of_all(rt.alloc(), packets)?;
+    let restored = bytes_of(rt.alloc(), restored)?;
+    let report = joined(rt.alloc(), HEADER, rows)?;
+    let wanted = order_ending(cut, &restored, report.as_bytes());
+    assert_both(rt, with_input(&words, &store), &wanted)
+}
+
+fn order_ending<'a>(cut: Option<u64>, restored: &'a [u8], report: &'a [u8]) -> Ending<'a> {
+    match cut {
+        None => done(restored, report),
+        Some(byte) => {
+            let kind = StoreKind::Cut;
+            refused(Refusal::BadStore { byte, kind }, restored, report)
+        }
+    }
+}
+
 #[test]
 fn late_packets(rt: HostRuntime) -> Result<(), Fail> {
-    for (window, packets, restored, rows) in &ORDERS {
-        let words = joined(rt.alloc(), LATE, window)?;
-        let store = bytes_of_all(rt.alloc(), packets)?;
-        let restored = bytes_of_all(rt.alloc(), &[*restored])?;
-        let report = joined(rt.alloc(), HEADER, rows)?;
-        let wanted = done(&restored, report.as_bytes());
-        assert_both(&rt, with_input(&words, &store), &wanted)?;
+    for order in &ORDERS {
+        assert_order(&rt, *order, None)?;
     }
     Ok(())
 }
 
 #[test]
 fn cut_stores_of_late_packets(rt: HostRuntime) -> Result<(), Fail> {
-    for (window, packets, byte, restored, rows) in &CUT {
-        let words = joined(rt.alloc(), LATE, window)?;
-        let store = bytes_of_all(rt.alloc(), packets)?;
-        let restored = bytes_of_all(rt.alloc(), &[*restored])?;
-        let report = joined(rt.alloc(), HEADER, rows)?;
-        let refusal = Refusal::BadStore {
-            byte: *byte,
-            kind: StoreKind::Cut,
-        };
-        let wanted = refused(refusal, &restored, report.as_bytes());
-        assert_both(&rt, with_input(&words, &store), &wanted)?;
+    for (order, byte) in &CUT {
+        assert_order(&rt, *order, Some(*byte))?;
     }
     Ok(())
 }
@@ -271,11 +290,7 @@ fn late_packets_at_each_fault(rt: HostRuntime) -> Result<(), Fail> {
 
 #[test]
 fn words_of_late(rt: HostRuntime) -> Result<(), Fail> {
-    for (line, word) in &WRONG_WORDS {
-        let wanted = refused(Refusal::BadWords { word: *word }, &[], &[]);
-        assert_ending(&rt, &words_alone(line), &wanted)?;
-    }
-    Ok(())
+    assert_wrong_words(&rt, &WRONG_WORDS)
 }
 
 /// A draw from 0 up, below this number.
@@ -367,22 +382,11 @@ fn reordered(
     Ok(bytes)
 }
 
-/// Does what the words say, which must end well.
-fn assert_kept(
-    rt: &(impl Abort + AllocGlobal),
-    words: &str,
-    desk: &mut MemDesk,
-) -> Result<(), Fail> {
-    let status = answer(rt.alloc(), words, desk)?;
-    assert_eq!(rt; status, Status::Done);
-    Ok(())
-}
-
 /// The store of a recording.
 fn store_of(rt: &(impl Abort + AllocGlobal), recording: &[u8]) -> Result<Vec<u8>, Fail> {
-    let mut desk = MemDesk::new(rt.alloc());
+    let mut desk = new_desk(rt.alloc());
     hold(&mut desk, "a", recording)?;
-    assert_kept(
+    assert_done(
         rt,
         "compress in=a out=b bits=8 apid=100 robust=2",
         &mut desk,
@@ -420,9 +424,9 @@ fn assert_same(
     store: &[u8],
     late: &[u8],
 ) -> Result<(), Fail> {
-    let mut desk = MemDesk::new(rt.alloc());
+    let mut desk = new_desk(rt.alloc());
     hold(&mut desk, "a", store)?;
-    assert_kept(rt, EIGHT_BITS, &mut desk)?;
+    assert_done(rt, EIGHT_BITS, &mut desk)?;
     let report = with_none_late(rt.alloc(), desk.get("c"))?;
     assert_late(rt, window, late, desk.get("b"), &report)
 }

@@ -1,10 +1,9 @@
 //! Texts of schedules and scripts, as both commands take them.
 
-use super::desk::{BY_SCRIPT, Case, assert_ending, bytes_of, done, refused, with_both};
+use super::desk::{BY_SCRIPT, Case, assert_ending, bytes_of, done, with_both};
+use super::rows::{Wrong, assert_refused, assert_wrong_sides};
 use super::samples::{PLAY_REPORT, PLAYED, STORE};
-use desk_ports::Call;
 use pocket_cmd::Refusal;
-use std::process::Abort;
 use std::test::Fail;
 
 const BY_PLAN: &str = "compress in=a out=b bits=8 apid=100 robust=1 plan=s";
@@ -40,7 +39,7 @@ static SCHEDULES: [(&str, &str); 10] = [
 ];
 
 /// Schedules, and the first row of each that is wrong.
-static WRONG_SCHEDULES: [(&str, u32); 23] = [
+static WRONG_SCHEDULES: [Wrong; 23] = [
     ("1,5,0,p", 1),
     ("0,9,1,f\n5,9,1,pp", 2),
     ("\n\n1,5,0,p", 1),
@@ -74,7 +73,7 @@ static SCRIPTS: [&str; 3] = [
 ];
 
 /// Scripts, and the first row of each that is wrong.
-static WRONG_SCRIPTS: [(&str, u32); 12] = [
+static WRONG_SCRIPTS: [Wrong; 12] = [
     ("repeat,0,3,1,9", 1),
     ("repeat,0,3,1,0", 1),
     ("repeat,0,3,1", 1),
@@ -89,22 +88,6 @@ static WRONG_SCRIPTS: [(&str, u32); 12] = [
     ("drop,2,2,1\r\n\r\nDrop,2,2,1\r\nkeep", 2),
 ];
 
-/// No other input and no output is opened.
-static NOTHING_ELSE: [(Call, u32); 2] = [(Call::OpenIn, 2), (Call::OpenOut, 1)];
-
-/// The side input is refused before anything else is opened.
-fn assert_refused(
-    rt: &(impl Abort + AllocGlobal),
-    case: Case<'_>,
-    refusal: Refusal,
-) -> Result<(), Fail> {
-    let alone = Case {
-        fails: &NOTHING_ELSE,
-        ..case
-    };
-    assert_ending(rt, &alone, &refused(refusal, &[], &[]))
-}
-
 fn planned(text: &[u8]) -> Case<'_> {
     with_both(BY_PLAN, RECORDING, text)
 }
@@ -115,14 +98,7 @@ fn schedules(rt: HostRuntime) -> Result<(), Fail> {
         let store = bytes_of(rt.alloc(), store)?;
         assert_ending(&rt, &planned(text.as_bytes()), &done(&store, &[]))?;
     }
-    for (text, row) in &WRONG_SCHEDULES {
-        assert_refused(
-            &rt,
-            planned(text.as_bytes()),
-            Refusal::BadSide { row: *row },
-        )?;
-    }
-    Ok(())
+    assert_wrong_sides(&rt, BY_PLAN, RECORDING, &WRONG_SCHEDULES)
 }
 
 #[test]
@@ -132,11 +108,7 @@ fn scripts(rt: HostRuntime) -> Result<(), Fail> {
         let case = with_both(BY_SCRIPT, STORE, text.as_bytes());
         assert_ending(&rt, &case, &wanted)?;
     }
-    for (text, row) in &WRONG_SCRIPTS {
-        let case = with_both(BY_SCRIPT, STORE, text.as_bytes());
-        assert_refused(&rt, case, Refusal::BadSide { row: *row })?;
-    }
-    Ok(())
+    assert_wrong_sides(&rt, BY_SCRIPT, STORE, &WRONG_SCRIPTS)
 }
 
 #[test]

@@ -1,13 +1,17 @@
 //! Worked stores of several streams, the rules of their side texts, and what stands if a call fails.
 
 use super::desk::{
-    Case, HEADER, answer, assert_both, assert_ending, bytes_of, done, front, hold, refused,
-    with_both, with_input, words_alone,
+    HEADER, assert_both, assert_done, assert_ending, bytes_of, done, front, hold, new_desk,
+    refused, with_both, with_input,
 };
 use super::faults::{End, Table, assert_tables};
+use super::rows::Bytes::Hex;
+use super::rows::{
+    Row, Wrong, assert_refused, assert_rows, assert_wrong_sides, assert_wrong_words,
+};
 use desk_ports::{Call, MemDesk, Outlet};
 use packet_store::StoreKind;
-use pocket_cmd::{Refusal, Status};
+use pocket_cmd::Refusal;
 use std::alloc::{AllocError, Global};
 use std::process::Abort;
 use std::test::Fail;
@@ -33,79 +37,101 @@ const RESTORED: &[u8] = &[
 const REPORT: &[u8] = b"apid,first,last,cause,value\n101,0,4,lost,0\n101,5,5,unsynced,0\n\
     100,end,2,2,0\n101,end,1,0,0\nshape,1\n";
 
-/// A side text, a store in hexadecimal, what is restored, and the report.
-struct Row {
-    streams: &'static [u8],
-    store: &'static str,
-    output: &'static str,
-    report: &'static [u8],
-}
-
+/// Stores with what is restored of them, and the reports.
 static WHOLE: [Row; 9] = [
     Row {
-        streams: TWO_STREAMS,
-        store: "00 64 C0 00 00 03 85 B8 D6 00 00 65 C0 05 00 00 82 00 64 C0 01 00 00 82 00 65 00 00 00 00 82",
-        output: "00 64 C0 00 00 00 B0 00 64 C0 01 00 00 B0",
-        report: REPORT,
+        words: MULTI,
+        side: Some("100,8\n101,8\n"),
+        input: Hex(
+            "00 64 C0 00 00 03 85 B8 D6 00 00 65 C0 05 00 00 82 00 64 C0 01 00 00 82 00 65 00 00 00 00 82",
+        ),
+        output: Hex("00 64 C0 00 00 00 B0 00 64 C0 01 00 00 B0"),
+        report: "apid,first,last,cause,value\n101,0,4,lost,0\n101,5,5,unsynced,0\n\
+            100,end,2,2,0\n101,end,1,0,0\nshape,1\n",
+        refusal: None,
     },
     // No stream.
     Row {
-        streams: b"",
-        store: "00 64 C0 00 00 03 85 B8 D6 00 00 65 00 00 00 00 82",
-        output: "",
-        report: b"apid,first,last,cause,value\nshape,0\n",
+        words: MULTI,
+        side: Some(""),
+        input: Hex("00 64 C0 00 00 03 85 B8 D6 00 00 65 00 00 00 00 82"),
+        output: Hex(""),
+        report: "apid,first,last,cause,value\nshape,0\n",
+        refusal: None,
     },
     Row {
-        streams: b"101,8\n100,8\n",
-        store: "",
-        output: "",
-        report: b"apid,first,last,cause,value\n101,end,0,0,0\n100,end,0,0,0\nshape,0\n",
+        words: MULTI,
+        side: Some("101,8\n100,8\n"),
+        input: Hex(""),
+        output: Hex(""),
+        report: "apid,first,last,cause,value\n101,end,0,0,0\n100,end,0,0,0\nshape,0\n",
+        refusal: None,
     },
     // Other APIDs are passed over, in whatever shape their packets are.
     Row {
-        streams: b"\n100,8",
-        store: "00 65 C0 00 00 03 85 B8 D6 00 07 FF C0 00 00 00 00 18 66 40 05 00 00 FF \
+        words: MULTI,
+        side: Some("\n100,8"),
+        input: Hex(
+            "00 65 C0 00 00 03 85 B8 D6 00 07 FF C0 00 00 00 00 18 66 40 05 00 00 FF \
             00 64 C0 00 00 03 85 B8 D6 00",
-        output: "00 64 C0 00 00 00 B0",
-        report: b"apid,first,last,cause,value\n100,end,1,1,0\nshape,0\n",
+        ),
+        output: Hex("00 64 C0 00 00 00 B0"),
+        report: "apid,first,last,cause,value\n100,end,1,1,0\nshape,0\n",
+        refusal: None,
     },
     // A telecommand, a packet with a secondary header and a segment, none of which is an arrival.
     Row {
-        streams: b"100,8",
-        store: "00 64 C0 00 00 03 85 B8 D6 00 10 64 C0 01 00 00 82 08 64 C0 01 00 00 82 \
+        words: MULTI,
+        side: Some("100,8"),
+        input: Hex(
+            "00 64 C0 00 00 03 85 B8 D6 00 10 64 C0 01 00 00 82 08 64 C0 01 00 00 82 \
             00 64 40 01 00 00 82 00 64 C0 01 00 00 82",
-        output: "00 64 C0 00 00 00 B0 00 64 C0 01 00 00 B0",
-        report: b"apid,first,last,cause,value\n100,end,2,2,0\nshape,3\n",
+        ),
+        output: Hex("00 64 C0 00 00 00 B0 00 64 C0 01 00 00 B0"),
+        report: "apid,first,last,cause,value\n100,end,2,2,0\nshape,3\n",
+        refusal: None,
     },
     // Each stream has its own counts, its own mask and its own content.
     Row {
-        streams: b"0,8\n2046,8\n",
-        store: "00 00 C0 00 00 03 85 B8 D6 00 07 FE C0 00 00 03 85 5C 6B 00 \
+        words: MULTI,
+        side: Some("0,8\n2046,8\n"),
+        input: Hex(
+            "00 00 C0 00 00 03 85 B8 D6 00 07 FE C0 00 00 03 85 5C 6B 00 \
             00 00 C0 02 00 03 85 B8 D6 00 07 FE C0 01 00 03 85 5C 64 F0 00 00 C0 02 00 03 85 B8 D6 00",
-        output: "00 00 C0 00 00 00 B0 07 FE C0 00 00 00 B0 00 00 C0 02 00 00 B0 07 FE C0 01 00 00 4F",
-        report: b"apid,first,last,cause,value\n0,1,1,lost,0\n0,end,3,2,1\n2046,end,2,2,0\nshape,0\n",
+        ),
+        output: Hex(
+            "00 00 C0 00 00 00 B0 07 FE C0 00 00 00 B0 00 00 C0 02 00 00 B0 07 FE C0 01 00 00 4F",
+        ),
+        report: "apid,first,last,cause,value\n0,1,1,lost,0\n0,end,3,2,1\n2046,end,2,2,0\nshape,0\n",
+        refusal: None,
     },
     // Vectors of two lengths: each packet is read by the length of its own stream.
     Row {
-        streams: b"10,8\n100,13\n",
-        store: "00 64 C0 00 00 03 81 B9 62 47 00 0A C0 00 00 03 85 B8 D6 00",
-        output: "00 64 C0 00 00 01 12 38 00 0A C0 00 00 00 B0",
-        report: b"apid,first,last,cause,value\n10,end,1,1,0\n100,end,1,1,0\nshape,0\n",
+        words: MULTI,
+        side: Some("10,8\n100,13\n"),
+        input: Hex("00 64 C0 00 00 03 81 B9 62 47 00 0A C0 00 00 03 85 B8 D6 00"),
+        output: Hex("00 64 C0 00 00 01 12 38 00 0A C0 00 00 00 B0"),
+        report: "apid,first,last,cause,value\n10,end,1,1,0\n100,end,1,1,0\nshape,0\n",
+        refusal: None,
     },
     // An APID that begins with another one.
     Row {
-        streams: b"1,8\n10,8\n",
-        store: "00 01 C0 01 00 00 82 00 0A C0 02 00 00 82",
-        output: "",
-        report: b"apid,first,last,cause,value\n1,0,0,lost,0\n1,1,1,unsynced,0\n10,0,1,lost,0\n10,2,2,unsynced,0\n\
+        words: MULTI,
+        side: Some("1,8\n10,8\n"),
+        input: Hex("00 01 C0 01 00 00 82 00 0A C0 02 00 00 82"),
+        output: Hex(""),
+        report: "apid,first,last,cause,value\n1,0,0,lost,0\n1,1,1,unsynced,0\n10,0,1,lost,0\n10,2,2,unsynced,0\n\
             1,end,1,0,0\n10,end,1,0,0\nshape,0\n",
+        refusal: None,
     },
     // The last count before the first one comes again: the number is written by the period.
     Row {
-        streams: b"100,8",
-        store: "00 64 FF FF 00 03 85 B8 D6 00 00 64 C0 00 00 00 82",
-        output: "00 64 FF FF 00 00 B0 00 64 C0 00 00 00 B0",
-        report: b"apid,first,last,cause,value\n100,0,16382,lost,0\n100,end,2,2,0\nshape,0\n",
+        words: MULTI,
+        side: Some("100,8"),
+        input: Hex("00 64 FF FF 00 03 85 B8 D6 00 00 64 C0 00 00 00 82"),
+        output: Hex("00 64 FF FF 00 00 B0 00 64 C0 00 00 00 B0"),
+        report: "apid,first,last,cause,value\n100,0,16382,lost,0\n100,end,2,2,0\nshape,0\n",
+        refusal: None,
     },
 ];
 
@@ -121,7 +147,7 @@ static CUTS: [(usize, u64, usize, usize); 6] = [
 ];
 
 /// Side texts, and the first row of each that is wrong.
-static WRONG: [(&str, u32); 16] = [
+static WRONG: [Wrong; 16] = [
     ("100,8\n100,16\n", 2),
     ("2047,8", 1),
     ("-1,8", 1),
@@ -141,7 +167,7 @@ static WRONG: [(&str, u32); 16] = [
 ];
 
 /// Lines of words, and the place of the first wrong word in each.
-static WRONG_WORDS: [(&str, u32); 13] = [
+static WRONG_WORDS: [Wrong; 13] = [
     ("multi", 1),
     ("multi out=b report=c streams=s", 4),
     ("multi in=a report=c streams=s", 4),
@@ -219,12 +245,7 @@ static FAILING: [Table; 2] = [
 
 #[test]
 fn stores_of_streams(rt: HostRuntime) -> Result<(), Fail> {
-    for row in &WHOLE {
-        let store = bytes_of(rt.alloc(), row.store)?;
-        let output = bytes_of(rt.alloc(), row.output)?;
-        let case = with_both(MULTI, &store, row.streams);
-        assert_both(&rt, case, &done(&output, row.report))?;
-    }
+    assert_rows(&rt, &WHOLE)?;
     for (length, byte, output, report) in CUTS {
         let store = front(STORE, length);
         let refusal = Refusal::BadStore {
@@ -242,28 +263,10 @@ fn streams_at_each_fault(rt: HostRuntime) -> Result<(), Fail> {
     assert_tables(&rt, &FAILING)
 }
 
-/// No other input and no output is opened.
-static NOTHING_ELSE: [(Call, u32); 2] = [(Call::OpenIn, 2), (Call::OpenOut, 1)];
-
-/// A side text that is refused.
-fn refused_text(text: &[u8]) -> Case<'_> {
-    Case {
-        fails: &NOTHING_ELSE,
-        ..with_both(MULTI, &[], text)
-    }
-}
-
 #[test]
 fn rules_of_streams(rt: HostRuntime) -> Result<(), Fail> {
-    for (text, row) in &WRONG {
-        let wanted = refused(Refusal::BadSide { row: *row }, &[], &[]);
-        assert_ending(&rt, &refused_text(text.as_bytes()), &wanted)?;
-    }
-    for (line, word) in &WRONG_WORDS {
-        let wanted = refused(Refusal::BadWords { word: *word }, &[], &[]);
-        assert_ending(&rt, &words_alone(line), &wanted)?;
-    }
-    Ok(())
+    assert_wrong_sides(&rt, MULTI, &[], &WRONG)?;
+    assert_wrong_words(&rt, &WRONG_WORDS)
 }
 
 /// The side text, the store, the output and the report of many streams, each with a packet.
@@ -301,9 +304,8 @@ fn most_streams(rt: HostRuntime) -> Result<(), Fail> {
     let case = with_both(MULTI, &most.store, most.streams.as_bytes());
     assert_both(&rt, case, &done(&most.output, most.report.as_bytes()))?;
     let more = many_streams(rt.alloc(), 66)?;
-    let wanted = refused(Refusal::BadSide { row: 65 }, &[], &[]);
-    assert_ending(&rt, &refused_text(more.streams.as_bytes()), &wanted)?;
-    Ok(())
+    let case = with_both(MULTI, &[], more.streams.as_bytes());
+    assert_refused(&rt, case, Refusal::BadSide { row: 65 })
 }
 
 /// The packets of the worked recording, without their APIDs.
@@ -425,7 +427,7 @@ fn rows_on(alloc: Global, report: &[u8], apid: u8) -> Result<String, AllocError>
 
 /// A desk with a mixed store and its streams.
 fn held_desk(alloc: Global, seed: u64) -> Result<MemDesk, Fail> {
-    let mut desk = MemDesk::new(alloc);
+    let mut desk = new_desk(alloc);
     let store = mixed_store(alloc, seed, None)?;
     hold(&mut desk, "a", &store)?;
     hold(&mut desk, "s", b"101,8\n100,8\n102,8\n")?;
@@ -461,8 +463,7 @@ fn assert_stream(
 /// What `multi` makes of a mixed store has of each stream what `restore` makes of its packets alone.
 fn assert_apart(rt: &(impl Abort + AllocGlobal), seed: u64) -> Result<(), Fail> {
     let mut desk = held_desk(rt.alloc(), seed)?;
-    let status = answer(rt.alloc(), MULTI, &mut desk)?;
-    assert_eq!(rt; status, Status::Done);
+    assert_done(rt, MULTI, &mut desk)?;
     for apid in &APIDS {
         assert_stream(rt, &desk, seed, *apid)?;
     }

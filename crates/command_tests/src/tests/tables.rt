@@ -1,10 +1,10 @@
 //! Tables of worked recordings, the rules of their side texts, and what stands if a call fails.
 
-use super::desk::{
-    Case, answer, assert_both, assert_ending, bytes_of, done, hold, refused, with_both, words_alone,
-};
+use super::desk::{answer, assert_both, done, hold, new_desk, with_both};
 use super::faults::{End, Table, assert_tables};
-use desk_ports::{Call, MemDesk};
+use super::rows::Bytes::{Hex, Text};
+use super::rows::{Row, Wrong, assert_rows, assert_wrong_sides, assert_wrong_words};
+use desk_ports::Call;
 use pocket_cmd::{Refusal, Status};
 use std::alloc::{AllocError, Global};
 use std::test::Fail;
@@ -25,94 +25,130 @@ const TABLE: &[u8] = b"t,mode,temp\n0,1,-16\n1,2,40\n";
 
 const REPORT: &[u8] = b"t,name,value,low,high\n0,temp,-16,-10,40\nend,2,1\n";
 
-/// Words, a side text, a recording in hexadecimal, its table and its report.
-static WHOLE: [(&str, &str, &str, &str, &str); 9] = [
-    (
-        SIXTEEN_BITS,
-        "field,0,8,u,mode\nlimit,mode,1,2\n",
-        "",
-        "t,mode\n",
-        "t,name,value,low,high\nend,0,0\n",
-    ),
+/// Recordings with their tables and reports.
+static WHOLE: [Row; 9] = [
+    Row {
+        words: SIXTEEN_BITS,
+        side: Some("field,0,8,u,mode\nlimit,mode,1,2\n"),
+        input: Hex(""),
+        output: Text("t,mode\n"),
+        report: "t,name,value,low,high\nend,0,0\n",
+        refusal: None,
+    },
     // No field.
-    (
-        SIXTEEN_BITS,
-        "\n",
-        "01 F0 02 28",
-        "t\n0\n1\n",
-        "t,name,value,low,high\nend,2,0\n",
-    ),
+    Row {
+        words: SIXTEEN_BITS,
+        side: Some("\n"),
+        input: Hex("01 F0 02 28"),
+        output: Text("t\n0\n1\n"),
+        report: "t,name,value,low,high\nend,2,0\n",
+        refusal: None,
+    },
     // A value at its limit is within it, and one beside it is not.
-    (
-        SIXTEEN_BITS,
-        "field,0,16,u,a\nlimit,a,1,3",
-        "00 00 00 01 00 03 00 04",
-        "t,a\n0,0\n1,1\n2,3\n3,4\n",
-        "t,name,value,low,high\n0,a,0,1,3\n3,a,4,1,3\nend,4,2\n",
-    ),
+    Row {
+        words: SIXTEEN_BITS,
+        side: Some("field,0,16,u,a\nlimit,a,1,3"),
+        input: Hex("00 00 00 01 00 03 00 04"),
+        output: Text("t,a\n0,0\n1,1\n2,3\n3,4\n"),
+        report: "t,name,value,low,high\n0,a,0,1,3\n3,a,4,1,3\nend,4,2\n",
+        refusal: None,
+    },
     // By packet and then by field, whatever the order of the limits is.
-    (
-        SIXTEEN_BITS,
-        "field,0,1,u,a\nfield,1,1,s,b\nfield,0,2,s,c\nlimit,c,0,1\nlimit,b,0,0\nlimit,a,1,1\n",
-        "40 00 80 00",
-        "t,a,b,c\n0,0,-1,1\n1,1,0,-2\n",
-        "t,name,value,low,high\n0,a,0,1,1\n0,b,-1,0,0\n1,c,-2,0,1\nend,2,3\n",
-    ),
+    Row {
+        words: SIXTEEN_BITS,
+        side: Some(
+            "field,0,1,u,a\nfield,1,1,s,b\nfield,0,2,s,c\nlimit,c,0,1\nlimit,b,0,0\nlimit,a,1,1\n",
+        ),
+        input: Hex("40 00 80 00"),
+        output: Text("t,a,b,c\n0,0,-1,1\n1,1,0,-2\n"),
+        report: "t,name,value,low,high\n0,a,0,1,1\n0,b,-1,0,0\n1,c,-2,0,1\nend,2,3\n",
+        refusal: None,
+    },
     // The least and the greatest numbers, within the widest limits and beside narrower ones.
-    (
-        WIDE,
-        "field,0,64,u,U\nfield,0,64,s,S\nlimit,U,0,18446744073709551615\n\
+    Row {
+        words: WIDE,
+        side: Some(
+            "field,0,64,u,U\nfield,0,64,s,S\nlimit,U,0,18446744073709551615\n\
             limit,S,-9223372036854775808,9223372036854775807\n",
-        "FF FF FF FF FF FF FF FF 80 00 00 00 00 00 00 00 7F FF FF FF FF FF FF FF",
-        "t,U,S\n0,18446744073709551615,-1\n1,9223372036854775808,-9223372036854775808\n\
+        ),
+        input: Hex("FF FF FF FF FF FF FF FF 80 00 00 00 00 00 00 00 7F FF FF FF FF FF FF FF"),
+        output: Text(
+            "t,U,S\n0,18446744073709551615,-1\n1,9223372036854775808,-9223372036854775808\n\
             2,9223372036854775807,9223372036854775807\n",
-        "t,name,value,low,high\nend,3,0\n",
-    ),
-    (
-        WIDE,
-        "field,0,64,u,U\nfield,0,64,s,S\nlimit,U,1,18446744073709551614\n\
+        ),
+        report: "t,name,value,low,high\nend,3,0\n",
+        refusal: None,
+    },
+    Row {
+        words: WIDE,
+        side: Some(
+            "field,0,64,u,U\nfield,0,64,s,S\nlimit,U,1,18446744073709551614\n\
             limit,S,-9223372036854775807,9223372036854775806\n",
-        "FF FF FF FF FF FF FF FF 80 00 00 00 00 00 00 00 7F FF FF FF FF FF FF FF",
-        "t,U,S\n0,18446744073709551615,-1\n1,9223372036854775808,-9223372036854775808\n\
+        ),
+        input: Hex("FF FF FF FF FF FF FF FF 80 00 00 00 00 00 00 00 7F FF FF FF FF FF FF FF"),
+        output: Text(
+            "t,U,S\n0,18446744073709551615,-1\n1,9223372036854775808,-9223372036854775808\n\
             2,9223372036854775807,9223372036854775807\n",
-        "t,name,value,low,high\n0,U,18446744073709551615,1,18446744073709551614\n\
+        ),
+        report: "t,name,value,low,high\n0,U,18446744073709551615,1,18446744073709551614\n\
             1,S,-9223372036854775808,-9223372036854775807,9223372036854775806\n\
             2,S,9223372036854775807,-9223372036854775807,9223372036854775806\nend,3,3\n",
-    ),
+        refusal: None,
+    },
     // Fields over the places 64 and 128, and one that ends at the last place.
-    (
-        LONG,
-        "field,60,8,u,a\nfield,60,64,s,b\nfield,127,2,s,c\nfield,72,64,u,d\n",
-        "00 00 00 00 00 00 00 0A 50 00 00 00 00 00 00 01 80",
-        "t,a,b,c,d\n0,165,-6557241057451442176,-1,384\n",
-        "t,name,value,low,high\nend,1,0\n",
-    ),
-    (
-        THIRTEEN_BITS,
-        "field,0,13,u,all\nfield,12,1,s,last\n",
-        "12 38 12 38",
-        "t,all,last\n0,583,-1\n1,583,-1\n",
-        "t,name,value,low,high\nend,2,0\n",
-    ),
+    Row {
+        words: LONG,
+        side: Some("field,60,8,u,a\nfield,60,64,s,b\nfield,127,2,s,c\nfield,72,64,u,d\n"),
+        input: Hex("00 00 00 00 00 00 00 0A 50 00 00 00 00 00 00 01 80"),
+        output: Text("t,a,b,c,d\n0,165,-6557241057451442176,-1,384\n"),
+        report: "t,name,value,low,high\nend,1,0\n",
+        refusal: None,
+    },
+    Row {
+        words: THIRTEEN_BITS,
+        side: Some("field,0,13,u,all\nfield,12,1,s,last\n"),
+        input: Hex("12 38 12 38"),
+        output: Text("t,all,last\n0,583,-1\n1,583,-1\n"),
+        report: "t,name,value,low,high\nend,2,0\n",
+        refusal: None,
+    },
     // Quotes, and lines with no record.
-    (
-        SIXTEEN_BITS,
-        "\u{feff}\n\n\"field\",15,\"1\",s,Z_9\r\n\nlimit,Z_9,0,\"0\"",
-        "00 01",
-        "t,Z_9\n0,-1\n",
-        "t,name,value,low,high\n0,Z_9,-1,0,0\nend,1,1\n",
-    ),
+    Row {
+        words: SIXTEEN_BITS,
+        side: Some("\u{feff}\n\n\"field\",15,\"1\",s,Z_9\r\n\nlimit,Z_9,0,\"0\""),
+        input: Hex("00 01"),
+        output: Text("t,Z_9\n0,-1\n"),
+        report: "t,name,value,low,high\n0,Z_9,-1,0,0\nend,1,1\n",
+        refusal: None,
+    },
 ];
 
-/// Recordings of packets of 13 bits in hexadecimal, the refusal, and the lines that stand before it.
-static FAULTY: [(&str, Refusal, &str); 3] = [
-    ("12", Refusal::CutRecord { t: 0 }, "t,all\n"),
-    ("12 38 12", Refusal::CutRecord { t: 1 }, "t,all\n0,583\n"),
-    (
-        "12 38 12 34 12 38",
-        Refusal::SpareBit { t: 1 },
-        "t,all\n0,583\n",
-    ),
+/// Recordings of packets of 13 bits, what is wrong with each, and the lines that stand before it.
+static FAULTY: [Row; 3] = [
+    Row {
+        words: THIRTEEN_BITS,
+        side: Some("field,0,13,u,all"),
+        input: Hex("12"),
+        output: Text("t,all\n"),
+        report: "t,name,value,low,high\n",
+        refusal: Some(Refusal::CutRecord { t: 0 }),
+    },
+    Row {
+        words: THIRTEEN_BITS,
+        side: Some("field,0,13,u,all"),
+        input: Hex("12 38 12"),
+        output: Text("t,all\n0,583\n"),
+        report: "t,name,value,low,high\n",
+        refusal: Some(Refusal::CutRecord { t: 1 }),
+    },
+    Row {
+        words: THIRTEEN_BITS,
+        side: Some("field,0,13,u,all"),
+        input: Hex("12 38 12 34 12 38"),
+        output: Text("t,all\n0,583\n"),
+        report: "t,name,value,low,high\n",
+        refusal: Some(Refusal::SpareBit { t: 1 }),
+    },
 ];
 
 /// Side texts for packets of 16 bits that are right.
@@ -126,7 +162,7 @@ static RIGHT: [&str; 6] = [
 ];
 
 /// Side texts for packets of 16 bits, and the first row of each that is wrong.
-static WRONG: [(&str, u32); 42] = [
+static WRONG: [Wrong; 42] = [
     ("field,9,8,u,x\n", 1),
     ("field,16,1,u,x\n", 1),
     ("field,0,0,u,x\n", 1),
@@ -172,7 +208,7 @@ static WRONG: [(&str, u32); 42] = [
 ];
 
 /// Lines of words, and the place of the first wrong word in each.
-static WRONG_WORDS: [(&str, u32); 17] = [
+static WRONG_WORDS: [Wrong; 17] = [
     ("table", 1),
     ("table out=b report=c fields=s bits=8", 5),
     ("table in=a report=c fields=s bits=8", 5),
@@ -249,34 +285,13 @@ static FAILING: [Table; 2] = [
 fn tables(rt: HostRuntime) -> Result<(), Fail> {
     let worked = with_both(SIXTEEN_BITS, RECORDING, FIELDS);
     assert_both(&rt, worked, &done(TABLE, REPORT))?;
-    for (words, fields, recording, table, report) in &WHOLE {
-        let recording = bytes_of(rt.alloc(), recording)?;
-        let case = with_both(words, &recording, fields.as_bytes());
-        assert_both(&rt, case, &done(table.as_bytes(), report.as_bytes()))?;
-    }
-    for (recording, refusal, table) in &FAULTY {
-        let recording = bytes_of(rt.alloc(), recording)?;
-        let case = with_both(THIRTEEN_BITS, &recording, b"field,0,13,u,all");
-        let wanted = refused(*refusal, table.as_bytes(), b"t,name,value,low,high\n");
-        assert_both(&rt, case, &wanted)?;
-    }
-    Ok(())
+    assert_rows(&rt, &WHOLE)?;
+    assert_rows(&rt, &FAULTY)
 }
 
 #[test]
 fn tables_at_each_fault(rt: HostRuntime) -> Result<(), Fail> {
     assert_tables(&rt, &FAILING)
-}
-
-/// No other input and no output is opened.
-static NOTHING_ELSE: [(Call, u32); 2] = [(Call::OpenIn, 2), (Call::OpenOut, 1)];
-
-/// A side text that is refused.
-fn refused_text(text: &[u8]) -> Case<'_> {
-    Case {
-        fails: &NOTHING_ELSE,
-        ..with_both(SIXTEEN_BITS, &[], text)
-    }
 }
 
 /// A text with so many fields of one bit.
@@ -291,7 +306,7 @@ fn many_fields(alloc: Global, count: u32) -> Result<String, AllocError> {
 
 /// What is answered to a text with a recording of no bytes.
 fn answer_of(alloc: Global, text: &str) -> Result<Status, Fail> {
-    let mut desk = MemDesk::new(alloc);
+    let mut desk = new_desk(alloc);
     hold(&mut desk, "a", &[])?;
     hold(&mut desk, "s", text.as_bytes())?;
     Ok(answer(alloc, SIXTEEN_BITS, &mut desk)?)
@@ -302,10 +317,7 @@ fn rules_of_fields(rt: HostRuntime) -> Result<(), Fail> {
     for text in &RIGHT {
         assert_eq!(rt; answer_of(rt.alloc(), text)?, Status::Done, "{text}");
     }
-    for (text, row) in &WRONG {
-        let wanted = refused(Refusal::BadSide { row: *row }, &[], &[]);
-        assert_ending(&rt, &refused_text(text.as_bytes()), &wanted)?;
-    }
+    assert_wrong_sides(&rt, SIXTEEN_BITS, &[], &WRONG)?;
     let most = many_fields(rt.alloc(), 256)?;
     assert_eq!(rt; answer_of(rt.alloc(), &most)?, Status::Done);
     let more = many_fields(rt.alloc(), 257)?;
@@ -316,9 +328,5 @@ fn rules_of_fields(rt: HostRuntime) -> Result<(), Fail> {
 
 #[test]
 fn words_of_tables(rt: HostRuntime) -> Result<(), Fail> {
-    for (line, word) in &WRONG_WORDS {
-        let wanted = refused(Refusal::BadWords { word: *word }, &[], &[]);
-        assert_ending(&rt, &words_alone(line), &wanted)?;
-    }
-    Ok(())
+    assert_wrong_words(&rt, &WRONG_WORDS)
 }

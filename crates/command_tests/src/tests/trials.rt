@@ -1,8 +1,7 @@
 //! Trials: a worked one, and many of which the summary is compared with what the trial holds.
 
-use super::desk::{answer, assert_both, done, words_alone};
+use super::desk::{assert_both, assert_done, done, new_desk, words_alone};
 use desk_ports::{MemDesk, Outlet};
-use pocket_cmd::Status;
 use std::alloc::Global;
 use std::process::Abort;
 use std::test::Fail;
@@ -22,9 +21,8 @@ fn a_trial(rt: HostRuntime) -> Result<(), Fail> {
 /// What is printed of fifty packets of thirteen bits.
 fn printed(rt: &(impl Abort + AllocGlobal), seed: u32) -> Result<MemDesk, Fail> {
     let line = format!(in rt.alloc(); "trial seed={seed} packets=50 bits=13 robust=2 out=summary")?;
-    let mut desk = MemDesk::new(rt.alloc());
-    let status = answer(rt.alloc(), &line, &mut desk)?;
-    assert_eq!(rt; status, Status::Done);
+    let mut desk = new_desk(rt.alloc());
+    assert_done(rt, &line, &mut desk)?;
     Ok(desk)
 }
 

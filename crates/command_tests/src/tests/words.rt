@@ -1,13 +1,13 @@
 //! Words, and what is answered to them at a desk with nothing or with empty inputs.
 
-use super::desk::{answer, assert_ending, hold, refused, words_alone};
-use desk_ports::MemDesk;
-use pocket_cmd::{Refusal, Status};
+use super::desk::{answer, hold, new_desk};
+use super::rows::{Wrong, assert_wrong_words};
+use pocket_cmd::Status;
 use std::alloc::Global;
 use std::test::Fail;
 
 /// Lines of words, and the place of the first wrong word in each.
-static WRONG: [(&str, u32); 109] = [
+static WRONG: [Wrong; 109] = [
     ("", 0),
     ("shrink", 0),
     ("Restore in=a out=b report=c bits=8 apid=100", 0),
@@ -165,16 +165,12 @@ static RIGHT: [(&str, &[&str]); 21] = [
 
 #[test]
 fn wrong_words(rt: HostRuntime) -> Result<(), Fail> {
-    for (line, word) in &WRONG {
-        let wanted = refused(Refusal::BadWords { word: *word }, &[], &[]);
-        assert_ending(&rt, &words_alone(line), &wanted)?;
-    }
-    Ok(())
+    assert_wrong_words(&rt, &WRONG)
 }
 
 /// What is answered if these inputs exist, with no bytes.
 fn answer_with(alloc: Global, line: &str, inputs: &[&str]) -> Result<Status, Fail> {
-    let mut desk = MemDesk::new(alloc);
+    let mut desk = new_desk(alloc);
     for name in inputs {
         hold(&mut desk, name, &[])?;
     }

@@ -1,84 +1,129 @@
 //! The words of counts, and the first faults of others, by worked examples.
 
-use bit_vectors::{BitEye, BitFault, BitPen};
+ghost use Rattle.bit_vectors.specs.Vectors.{IsPlaces};
+
+use bit_vectors::{BitEye, BitFault, BitPen, NoMemory};
 use count_code::{Count, count_len, match_count, put_count, put_end, take_count};
+use std::alloc::Global;
 use std::test::Fail;
+
+fn eye(bytes: &[u8]) -> BitEye<'_> {
+    BitEye::new(&bytes[..bytes.len().min(65536)])
+}
+
+/// Whether the bits are this count, and then the end.
+fn is_count(bits: &[u8], a: u32) -> bool
+    requires valid { IsPlaces a }
+{
+    let mut taken = eye(bits);
+    let mut matched = eye(bits);
+    take_count(&mut taken, 49_152) == Ok(Count::Value(a))
+        && take_count(&mut taken, 49_152) == Ok(Count::End)
+        && match_count(&mut matched, a) == Ok(())
+        && matched.take_number(2) == Ok(0b10)
+}
+
+/// Whether a count has so many bits, in these bytes, and is read from them.
+fn is_word(alloc: Global, a: u32, len: u32, bytes: &[u8]) -> Result<bool, NoMemory> {
+    let a = a.clamp(1, 49_152);
+    let mut pen = BitPen::with_room(alloc, count_len(a) + 2)?;
+    put_count(&mut pen, a);
+    let is_written = pen.len() == len && pen.bytes() == bytes;
+    put_end(&mut pen);
+    Ok(is_written && is_count(pen.bytes(), a))
+}
+
+/// Counts, how many bits each has, and its bytes.
+static WORDS: [(u32, u32, &[u8]); 6] = [
+    (1, 1, &[0x00]),
+    (2, 8, &[0xc0]),
+    (33, 8, &[0xdf]),
+    (34, 9, &[0xf0, 0x00]),
+    (66, 11, &[0xe8, 0x00]),
+    (49_152, 29, &[0xe0, 0x05, 0xff, 0xf0]),
+];
 
 #[test]
 fn words_of_counts(rt: HostRuntime) -> Result<(), Fail> {
-    let rows: [(u32, u32, &[u8]); 6] = [
-        (1, 1, &[0x00]),
-        (2, 8, &[0xc0]),
-        (33, 8, &[0xdf]),
-        (34, 9, &[0xf0, 0x00]),
-        (66, 11, &[0xe8, 0x00]),
-        (49_152, 29, &[0xe0, 0x05, 0xff, 0xf0]),
-    ];
-    for (a, len, bytes) in rows {
-        assert!(rt; 1 <= a && a <= 49_152);
-        let mut pen = BitPen::with_room(rt.alloc(), count_len(a) + 2)?;
-        put_count(&mut pen, a);
-        assert_eq!(rt; pen.len(), len);
-        assert_eq!(rt; pen.bytes(), bytes);
-        put_end(&mut pen);
-        let mut eye = BitEye::new(pen.bytes());
-        assert_eq!(rt; take_count(&mut eye, 49_152), Ok(Count::Value(a)));
-        assert_eq!(rt; take_count(&mut eye, 49_152), Ok(Count::End));
-        let mut again = BitEye::new(pen.bytes());
-        assert_eq!(rt; match_count(&mut again, a), Ok(()));
-        assert_eq!(rt; again.take_number(2), Ok(0b10));
+    for &(a, len, bytes) in &WORDS {
+        assert!(rt; is_word(rt.alloc(), a, len, bytes)?, "{a}");
     }
     Ok(())
 }
+
+/// A pen with so many zeros, a count and the end.
+fn pen_after(alloc: Global, before: u32, a: u32) -> Result<BitPen, NoMemory> {
+    let a = a.clamp(1, 49_152);
+    let mut pen = BitPen::with_room(alloc, 128)?;
+    pen.put_word(0, before.clamp(1, 64));
+    if count_len(a) <= pen.room() - pen.len() {
+        put_count(&mut pen, a);
+    }
+    if 2 <= pen.room() - pen.len() {
+        put_end(&mut pen);
+    }
+    Ok(pen)
+}
+
+/// Whether the bits are so many zeros, and then a count and the end.
+fn is_taken(bits: &[u8], before: u32, a: u32) -> bool {
+    let mut eye = eye(bits);
+    eye.take_word(before.clamp(1, 64)) == Ok(0)
+        && take_count(&mut eye, 49_152) == Ok(Count::Value(a))
+        && take_count(&mut eye, 0) == Ok(Count::End)
+}
+
+/// Whether they are so many zeros, and then so many bits of this number and the end.
+fn has_word(bits: &[u8], before: u32, len: u32, word: u64) -> bool {
+    let mut eye = eye(bits);
+    eye.take_word(before.clamp(1, 64)) == Ok(0)
+        && eye.take_word(len.clamp(1, 64)) == Ok(word)
+        && take_count(&mut eye, 0) == Ok(Count::End)
+}
+
+/// How many zeros stand before a count, the count, how many bits it has, and their number.
+static ACROSS: [(u32, u32, u32, u64); 7] = [
+    (62, 1, 1, 0),
+    (63, 1, 1, 0),
+    (60, 2, 8, 0xc0),
+    (56, 33, 8, 0xdf),
+    (58, 34, 9, 0x1e0),
+    (54, 66, 11, 0x740),
+    (50, 49_152, 29, 0x1c00_bffe),
+];
 
 /// A count and the end after the given number of zeros, so that the boundary of a word is before, in or after them.
 #[test]
 fn counts_across_words(rt: HostRuntime) -> Result<(), Fail> {
-    let rows: [(u32, u32, u32, u64); 7] = [
-        (62, 1, 1, 0),
-        (63, 1, 1, 0),
-        (60, 2, 8, 0xc0),
-        (56, 33, 8, 0xdf),
-        (58, 34, 9, 0x1e0),
-        (54, 66, 11, 0x740),
-        (50, 49_152, 29, 0x1c00_bffe),
-    ];
-    for (before, a, len, word) in rows {
-        assert!(rt; 1 <= before && before <= 64 && 1 <= a && a <= 49_152 && len <= 29);
-        let mut pen = BitPen::with_room(rt.alloc(), 128)?;
-        pen.put_word(0, before);
-        assert!(rt; count_len(a) <= pen.room() - pen.len());
-        put_count(&mut pen, a);
-        assert!(rt; 2 <= pen.room() - pen.len());
-        put_end(&mut pen);
-        let mut eye = BitEye::new(pen.bytes());
-        assert_eq!(rt; eye.take_word(before), Ok(0));
-        let mut again = BitEye::new(pen.bytes());
-        assert_eq!(rt; again.take_word(before), Ok(0));
-        assert_eq!(rt; take_count(&mut eye, 49_152), Ok(Count::Value(a)));
-        assert_eq!(rt; take_count(&mut eye, 0), Ok(Count::End));
-        assert_eq!(rt; again.take_word(len), Ok(word));
-        assert_eq!(rt; take_count(&mut again, 0), Ok(Count::End));
+    for &(before, a, len, word) in &ACROSS {
+        let pen = pen_after(rt.alloc(), before, a)?;
+        let is_right = is_taken(pen.bytes(), before, a) && has_word(pen.bytes(), before, len, word);
+        assert!(rt; is_right, "{a}");
     }
     Ok(())
 }
 
+/// What is read of a count up to this limit.
+fn taken(eye: &mut BitEye<'_>, limit: u32) -> Result<Count, BitFault> {
+    take_count(eye, limit.min(49_152))
+}
+
+/// Bits, the greatest count, and what is wrong with them.
+static FAULTS: [(&[u8], u32, BitFault); 4] = [
+    (&[0xd0], 8, BitFault::Wrong { bit: 3 }),
+    (&[0xe0], 8, BitFault::Wrong { bit: 2 }),
+    (&[0xe8], 66, BitFault::EndsEarly { bit: 8 }),
+    (&[], 8, BitFault::EndsEarly { bit: 0 }),
+];
+
 #[test]
 fn first_faults(rt: HostRuntime) {
-    let rows: [(&[u8], u32, BitFault); 4] = [
-        (&[0xd0], 8, BitFault::Wrong { bit: 3 }),
-        (&[0xe0], 8, BitFault::Wrong { bit: 2 }),
-        (&[0xe8], 66, BitFault::EndsEarly { bit: 8 }),
-        (&[], 8, BitFault::EndsEarly { bit: 0 }),
-    ];
-    for (bytes, limit, fault) in rows {
-        assert!(rt; limit <= 49_152);
-        let mut eye = BitEye::new(bytes);
-        assert_eq!(rt; take_count(&mut eye, limit), Err(fault));
+    for &(bytes, limit, fault) in &FAULTS {
+        assert_eq!(rt; taken(&mut eye(bytes), limit), Err(fault));
     }
-    let mut eye = BitEye::new(&[0x00, 0xc0]);
+    let mut ones = eye(&[0x00, 0xc0]);
     for _ in 0..8 {
-        assert_eq!(rt; take_count(&mut eye, 8), Ok(Count::Value(1)));
+        assert_eq!(rt; taken(&mut ones, 8), Ok(Count::Value(1)));
     }
-    assert_eq!(rt; take_count(&mut eye, 0), Err(BitFault::Wrong { bit: 9 }));
+    assert_eq!(rt; taken(&mut ones, 0), Err(BitFault::Wrong { bit: 9 }));
 }

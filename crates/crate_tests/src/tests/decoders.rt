@@ -66,18 +66,33 @@ fn byte(vector: &Bits) -> u8 {
     out[0]
 }
 
-fn passes(decoder: &mut Decoder, run: &Run<'_>) -> bool {
-    for &(t, data, answer) in run.packets {
+fn all_answer(decoder: &mut Decoder, packets: &[(u64, &[u8], Answer)]) -> bool {
+    for &(t, data, answer) in packets {
         if !answers(decoder, t, data, answer) {
             return false;
         }
     }
-    decoder.last() == run.last
-        && decoder.last_mask() == run.last_mask
-        && byte(decoder.mask()) == run.mask
-        && byte(decoder.content()) == run.content
-        && byte(decoder.recent()) == run.recent
-        && decoder.level() == run.level
+    true
+}
+
+/// The numbers of the last packets that told a content and a mask, and the level of the last.
+fn latest(decoder: &Decoder) -> (Option<u64>, Option<u64>, u8) {
+    (decoder.last(), decoder.last_mask(), decoder.level())
+}
+
+/// The mask, the content and the recent changes.
+fn vectors(decoder: &Decoder) -> [u8; 3] {
+    [
+        byte(decoder.mask()),
+        byte(decoder.content()),
+        byte(decoder.recent()),
+    ]
+}
+
+fn passes(decoder: &mut Decoder, run: &Run<'_>) -> bool {
+    all_answer(decoder, run.packets)
+        && latest(decoder) == (run.last, run.last_mask, run.level)
+        && vectors(decoder) == [run.mask, run.content, run.recent]
 }
 
 /// Every front of each packet of a recording `B0 B1 B1 B3`, and the packet: mask and content, mask and content

@@ -1,7 +1,8 @@
 //! A worked history, at several lengths.
 
-use bit_vectors::Bits;
+use bit_vectors::{Bits, NoMemory};
 use mask_update::Masks;
+use std::alloc::Global;
 use std::test::Fail;
 
 // The last bits of a step's input and of mask, build and change after it, and whether the input came again. All other
@@ -65,15 +66,20 @@ fn run(masks: &mut Masks, zeros: &Bits, last: &Bits) -> bool {
     true
 }
 
+// Whether the masks of vectors of `f` places follow the rows.
+fn follow_all(alloc: Global, f: u32) -> Result<bool, NoMemory> {
+    let f = f.clamp(1, 49_152);
+    let zeros = Bits::zeros(alloc, f)?;
+    let mut last = Bits::zeros(alloc, f)?;
+    last.set(f - 1, true);
+    let mut masks = Masks::open(alloc, &zeros)?;
+    Ok(run(&mut masks, &zeros, &last) && masks.taken() == 6)
+}
+
 #[test]
 fn worked_history(rt: HostRuntime) -> Result<(), Fail> {
     for f in [1, 8, 13, 65] {
-        let zeros = Bits::zeros(rt.alloc(), f)?;
-        let mut last = Bits::zeros(rt.alloc(), f)?;
-        last.set(f - 1, true);
-        let mut masks = Masks::open(rt.alloc(), &zeros)?;
-        assert!(rt; run(&mut masks, &zeros, &last));
-        assert_eq!(rt; masks.taken(), 6);
+        assert!(rt; follow_all(rt.alloc(), f)?, "{f}");
     }
     Ok(())
 }

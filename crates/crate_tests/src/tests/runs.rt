@@ -38,90 +38,145 @@ fn eye(bytes: &[u8]) -> BitEye<'_> {
     BitEye::new(&bytes[..bytes.len().min(65536)])
 }
 
+/// Whether the runs of a vector are written as this word.
+fn writes(alloc: Global, v: &Bits, word: &[u8]) -> Result<bool, NoMemory> {
+    let mut pen = BitPen::with_room(alloc, 4 * v.len() + 2)?;
+    put_runs(&mut pen, v);
+    Ok(pen.bytes() == word)
+}
+
+/// Whether the word is read as the runs of a vector, and matches them.
+fn reads(alloc: Global, v: &Bits, word: &[u8]) -> Result<bool, NoMemory> {
+    let mut into = Bits::zeros(alloc, v.len())?;
+    let taken = take_runs(&mut eye(word), &mut into);
+    Ok(taken == Ok(()) && into.same(v) && match_runs(&mut eye(word), v) == Ok(()))
+}
+
+fn is_word(alloc: Global, f: u32, ones: &[u32], word: &[u8]) -> Result<bool, NoMemory> {
+    let v = vector(alloc, f, ones)?;
+    Ok(writes(alloc, &v, word)? && reads(alloc, &v, word)?)
+}
+
+/// The places of a vector, its ones, and the word of its runs.
+static WORDS: [(u32, &[u32], &[u8]); 14] = [
+    (8, &[], &[0x80]),
+    (8, &[7], &[0x40]),
+    (8, &[0], &[0xc6, 0x80]),
+    (8, &[0, 3, 7], &[0x61, 0x60, 0xc0]),
+    (1, &[], &[0x80]),
+    (1, &[0], &[0x40]),
+    (13, &[12, 6], &[0x62, 0x40]),
+    (64, &[0], &[0xff, 0x40]),
+    (65, &[0], &[0xff, 0xc0]),
+    (63, &ONES, &[0x7f, 0x20]),
+    (64, &ONES, &[0x3f, 0x90]),
+    (65, &ONES, &[0x1f, 0xc8]),
+    (127, &ONES, &[0x7e, 0xc7, 0xf2]),
+    (128, &ONES, &[0x3f, 0x63, 0xf9, 0x00]),
+];
+
 #[test]
 fn run_words(rt: HostRuntime) -> Result<(), Fail> {
-    let rows: [(u32, &[u32], &[u8]); 14] = [
-        (8, &[], &[0x80]),
-        (8, &[7], &[0x40]),
-        (8, &[0], &[0xc6, 0x80]),
-        (8, &[0, 3, 7], &[0x61, 0x60, 0xc0]),
-        (1, &[], &[0x80]),
-        (1, &[0], &[0x40]),
-        (13, &[12, 6], &[0x62, 0x40]),
-        (64, &[0], &[0xff, 0x40]),
-        (65, &[0], &[0xff, 0xc0]),
-        (63, &ONES, &[0x7f, 0x20]),
-        (64, &ONES, &[0x3f, 0x90]),
-        (65, &ONES, &[0x1f, 0xc8]),
-        (127, &ONES, &[0x7e, 0xc7, 0xf2]),
-        (128, &ONES, &[0x3f, 0x63, 0xf9, 0x00]),
-    ];
-    for (f, ones, word) in rows {
-        let v = vector(rt.alloc(), f, ones)?;
-        let mut pen = BitPen::with_room(rt.alloc(), 4 * v.len() + 2)?;
-        put_runs(&mut pen, &v);
-        assert_eq!(rt; pen.bytes(), word);
-        let mut into = Bits::zeros(rt.alloc(), v.len())?;
-        assert_eq!(rt; take_runs(&mut eye(word), &mut into), Ok(()));
-        assert!(rt; into.same(&v));
-        assert_eq!(rt; match_runs(&mut eye(word), &v), Ok(()));
+    for &(f, ones, word) in &WORDS {
+        assert!(rt; is_word(rt.alloc(), f, ones, word)?, "{f} {ones:?}");
     }
     Ok(())
 }
 
+/// What is wrong with bits that are taken as runs of eight places, and that are matched with those of a vector.
+fn faults_of(alloc: Global, bits: &[u8]) -> Result<[Result<(), BitFault>; 2], NoMemory> {
+    let mut into = vector(alloc, 8, &[0])?;
+    let matched = match_runs(&mut eye(bits), &into);
+    Ok([take_runs(&mut eye(bits), &mut into), matched])
+}
+
+/// Bits, what is wrong with them if they are taken, and if they are matched.
+static FAULTS: [(&[u8], BitFault, BitFault); 5] = [
+    // a count above eight; a count of three ones; a ninth place
+    (
+        &[0xd0],
+        BitFault::Wrong { bit: 3 },
+        BitFault::Wrong { bit: 3 },
+    ),
+    (
+        &[0xe0],
+        BitFault::Wrong { bit: 2 },
+        BitFault::Wrong { bit: 2 },
+    ),
+    (
+        &[0x00, 0xc0],
+        BitFault::Wrong { bit: 9 },
+        BitFault::Wrong { bit: 0 },
+    ),
+    (
+        &[0xc6],
+        BitFault::EndsEarly { bit: 8 },
+        BitFault::EndsEarly { bit: 8 },
+    ),
+    (
+        &[0xc6, 0xc0],
+        BitFault::Wrong { bit: 9 },
+        BitFault::Wrong { bit: 9 },
+    ),
+];
+
 #[test]
 fn faults_of_run_words(rt: HostRuntime) -> Result<(), Fail> {
-    let rows: [(&[u8], BitFault, BitFault); 5] = [
-        // a count above eight; a count of three ones; a ninth place
-        (
-            &[0xd0],
-            BitFault::Wrong { bit: 3 },
-            BitFault::Wrong { bit: 3 },
-        ),
-        (
-            &[0xe0],
-            BitFault::Wrong { bit: 2 },
-            BitFault::Wrong { bit: 2 },
-        ),
-        (
-            &[0x00, 0xc0],
-            BitFault::Wrong { bit: 9 },
-            BitFault::Wrong { bit: 0 },
-        ),
-        (
-            &[0xc6],
-            BitFault::EndsEarly { bit: 8 },
-            BitFault::EndsEarly { bit: 8 },
-        ),
-        (
-            &[0xc6, 0xc0],
-            BitFault::Wrong { bit: 9 },
-            BitFault::Wrong { bit: 9 },
-        ),
-    ];
-    for (bits, taken, matched) in rows {
-        let mut into = vector(rt.alloc(), 8, &[0])?;
-        assert_eq!(rt; match_runs(&mut eye(bits), &into), Err(matched));
-        assert_eq!(rt; take_runs(&mut eye(bits), &mut into), Err(taken));
+    for &(bits, taken, matched) in &FAULTS {
+        let wanted = [Err(taken), Err(matched)];
+        assert_eq!(rt; faults_of(rt.alloc(), bits)?, wanted);
     }
     Ok(())
+}
+
+/// A fault that no bits have.
+const UNLIKE: BitFault = BitFault::Wrong { bit: u32::MAX };
+
+/// Whether the bits of a vector at few ones of another are put as these bytes.
+fn extracts(alloc: Global, a: &Bits, b: &Bits, bytes: &[u8]) -> Result<bool, NoMemory> {
+    let ones = b.ones();
+    if ones > 7 || a.len() != b.len() {
+        return Ok(false);
+    }
+    let mut pen = BitPen::with_room(alloc, ones)?;
+    put_extract(&mut pen, a, b);
+    Ok(pen.bytes() == bytes)
+}
+
+fn take_extracted(bits: &[u8], into: &mut Bits, b: &Bits) -> Result<(), BitFault> {
+    if into.len() != b.len() {
+        return Err(UNLIKE);
+    }
+    take_into(&mut eye(bits), into, b)
+}
+
+/// Whether the inverted bits of a mask at few ones of a vector are put as these bytes.
+fn inverts(alloc: Global, mask: &Bits, x: &Bits, bytes: &[u8]) -> Result<bool, NoMemory> {
+    let ones = x.ones();
+    if ones > 7 || mask.len() != x.len() {
+        return Ok(false);
+    }
+    let mut pen = BitPen::with_room(alloc, ones)?;
+    put_inverse_up(&mut pen, mask, x);
+    Ok(pen.bytes() == bytes)
+}
+
+fn take_inverted(bits: &[u8], x: &Bits, mask: &mut Bits) -> Result<(), BitFault> {
+    if mask.len() != x.len() || x.is_zero() {
+        return Err(UNLIKE);
+    }
+    take_inverse_up(&mut eye(bits), x, mask)
 }
 
 #[test]
 fn extracted_bits_both_ways(rt: HostRuntime) -> Result<(), Fail> {
     let mut a = vector(rt.alloc(), 8, &[0])?;
     let b = vector(rt.alloc(), 8, &[0, 3, 7])?;
-    let ones = b.ones();
-    assert!(rt; ones == 3 && a.len() == b.len());
-    let mut pen = BitPen::with_room(rt.alloc(), ones)?;
-    put_extract(&mut pen, &a, &b);
-    assert_eq!(rt; pen.bytes(), [0x20].as_slice());
-    assert_eq!(rt; take_into(&mut eye(&[0xc0]), &mut a, &b), Ok(()));
+    assert!(rt; extracts(rt.alloc(), &a, &b, &[0x20])?);
+    assert_eq!(rt; take_extracted(&[0xc0], &mut a, &b), Ok(()));
     assert!(rt; has_ones(&a, &[3, 7]));
-    assert_eq!(rt;
-        take_into(&mut eye(&[]), &mut a, &b),
-        Err(BitFault::EndsEarly { bit: 0 })
-    );
+    let early = Err(BitFault::EndsEarly { bit: 0 });
+    assert_eq!(rt; take_extracted(&[], &mut a, &b), early);
     Ok(())
 }
 
@@ -129,76 +184,75 @@ fn extracted_bits_both_ways(rt: HostRuntime) -> Result<(), Fail> {
 fn inverted_bits_both_ways(rt: HostRuntime) -> Result<(), Fail> {
     let mut mask = vector(rt.alloc(), 8, &[0])?;
     let x = vector(rt.alloc(), 8, &[0, 3, 7])?;
-    let ones = x.ones();
-    assert!(rt; ones == 3 && mask.len() == x.len());
-    assert!(rt; !x.is_zero());
-    let mut pen = BitPen::with_room(rt.alloc(), ones)?;
-    put_inverse_up(&mut pen, &mask, &x);
-    assert_eq!(rt; pen.bytes(), [0x60].as_slice());
-    assert_eq!(rt; take_inverse_up(&mut eye(&[0x60]), &x, &mut mask), Ok(()));
+    assert!(rt; inverts(rt.alloc(), &mask, &x, &[0x60])?);
+    assert_eq!(rt; take_inverted(&[0x60], &x, &mut mask), Ok(()));
     assert!(rt; has_ones(&mask, &[3, 7]));
-    assert_eq!(rt;
-        take_inverse_up(&mut eye(&[0x10]), &x, &mut mask),
-        Err(BitFault::Wrong { bit: 2 })
-    );
-    assert_eq!(rt;
-        take_inverse_up(&mut eye(&[]), &x, &mut mask),
-        Err(BitFault::EndsEarly { bit: 0 })
-    );
+    let wrong = Err(BitFault::Wrong { bit: 2 });
+    assert_eq!(rt; take_inverted(&[0x10], &x, &mut mask), wrong);
+    let early = Err(BitFault::EndsEarly { bit: 0 });
+    assert_eq!(rt; take_inverted(&[], &x, &mut mask), early);
     Ok(())
 }
+
+/// Whether the bits at the ones of a vector of `f` places go both ways through these bytes.
+fn go_both_ways(alloc: Global, f: u32, down: u8, up: u8) -> Result<bool, NoMemory> {
+    let a = vector(alloc, f, &[62, 65, 127])?;
+    let b = vector(alloc, f, &ONES)?;
+    let mut into = vector(alloc, f, &[])?;
+    let is_down = extracts(alloc, &a, &b, &[down])?
+        && take_extracted(&[down], &mut into, &b) == Ok(())
+        && has_ones(&into, &[62, 65, 127]);
+    let is_up = inverts(alloc, &a, &b, &[up])?
+        && take_inverted(&[up], &b, &mut into) == Ok(())
+        && has_ones(&into, &[0, 63, 64, 126]);
+    Ok(is_down && is_up)
+}
+
+/// The places, the extracted bits, and the inverted ones.
+static ACROSS: [(u32, u8, u8); 6] = [
+    (1, 0x00, 0x80),
+    (63, 0x80, 0x80),
+    (64, 0x40, 0xa0),
+    (65, 0x20, 0xb0),
+    (127, 0x48, 0xb4),
+    (128, 0xa4, 0xb4),
+];
 
 /// The bits of a vector at the ones, from the highest place down, and the inverted bits of it as a mask, from the
 /// lowest place up, each in one byte.
 #[test]
 fn bits_across_words(rt: HostRuntime) -> Result<(), Fail> {
-    let rows: [(u32, u8, u8); 6] = [
-        (1, 0x00, 0x80),
-        (63, 0x80, 0x80),
-        (64, 0x40, 0xa0),
-        (65, 0x20, 0xb0),
-        (127, 0x48, 0xb4),
-        (128, 0xa4, 0xb4),
-    ];
-    for (f, down, up) in rows {
-        let a = vector(rt.alloc(), f, &[62, 65, 127])?;
-        let b = vector(rt.alloc(), f, &ONES)?;
-        let mut into = vector(rt.alloc(), f, &[])?;
-        assert!(rt; a.len() == b.len() && into.len() == b.len());
-        assert!(rt; b.ones() <= 7 && !b.is_zero());
-        let mut pen = BitPen::with_room(rt.alloc(), 7)?;
-        put_extract(&mut pen, &a, &b);
-        assert_eq!(rt; pen.bytes(), [down].as_slice());
-        assert_eq!(rt; take_into(&mut eye(&[down]), &mut into, &b), Ok(()));
-        assert!(rt; into.same(&a));
-        let mut pen = BitPen::with_room(rt.alloc(), 7)?;
-        put_inverse_up(&mut pen, &a, &b);
-        assert_eq!(rt; pen.bytes(), [up].as_slice());
-        assert_eq!(rt; take_inverse_up(&mut eye(&[up]), &b, &mut into), Ok(()));
-        assert!(rt; has_ones(&into, &[0, 63, 64, 126]));
+    for &(f, down, up) in &ACROSS {
+        assert!(rt; go_both_ways(rt.alloc(), f, down, up)?, "{f}");
     }
     Ok(())
 }
 
+/// Whether these are the edges of a mask with ones at those places, and give the mask again.
+fn are_edges(alloc: Global, f: u32, ones: &[u32], expected: &[u32]) -> Result<bool, NoMemory> {
+    let mask = vector(alloc, f, ones)?;
+    let mut into = Bits::zeros(alloc, mask.len())?;
+    edges(&mask, &mut into);
+    let mut again = Bits::zeros(alloc, mask.len())?;
+    from_edges(&into, &mut again);
+    Ok(has_ones(&into, expected) && again.same(&mask))
+}
+
+/// The places, the ones of a mask, and those of its edges.
+static EDGES: [(u32, &[u32], &[u32]); 7] = [
+    (8, &[4, 5, 6, 7], &[3, 7]),
+    (1, &ONES, &[0]),
+    (63, &ONES, &[0, 61, 62]),
+    (64, &ONES, &[0, 61, 63]),
+    (65, &ONES, &[0, 61, 64]),
+    (127, &ONES, &[0, 61, 65, 125, 126]),
+    (128, &ONES, &[0, 61, 65, 125, 127]),
+];
+
 #[test]
 fn edges_both_ways(rt: HostRuntime) -> Result<(), Fail> {
-    let rows: [(u32, &[u32], &[u32]); 7] = [
-        (8, &[4, 5, 6, 7], &[3, 7]),
-        (1, &ONES, &[0]),
-        (63, &ONES, &[0, 61, 62]),
-        (64, &ONES, &[0, 61, 63]),
-        (65, &ONES, &[0, 61, 64]),
-        (127, &ONES, &[0, 61, 65, 125, 126]),
-        (128, &ONES, &[0, 61, 65, 125, 127]),
-    ];
-    for (f, ones, expected) in rows {
-        let mask = vector(rt.alloc(), f, ones)?;
-        let mut into = Bits::zeros(rt.alloc(), mask.len())?;
-        edges(&mask, &mut into);
-        assert!(rt; has_ones(&into, expected));
-        let mut again = Bits::zeros(rt.alloc(), mask.len())?;
-        from_edges(&into, &mut again);
-        assert!(rt; again.same(&mask));
+    for &(f, ones, expected) in &EDGES {
+        assert!(rt; are_edges(rt.alloc(), f, ones, expected)?, "{f}");
     }
     Ok(())
 }

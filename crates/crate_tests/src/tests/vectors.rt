@@ -102,41 +102,64 @@ fn pen_with_room(rt: HostRuntime) -> Result<(), Fail> {
     Ok(())
 }
 
+/// A pen with so many zeros, put one by one, and ten bits.
+fn pen_after(alloc: Global, before: u32) -> Result<BitPen, NoMemory> {
+    let mut pen = BitPen::with_room(alloc, 192)?;
+    for _ in 0..before {
+        if pen.len() < pen.room() {
+            pen.put(false);
+        }
+    }
+    if pen.room() == 192 && pen.len() < 128 {
+        pen.put_word(0b10_1001_1001, 10);
+    }
+    Ok(pen)
+}
+
+/// Whether these bytes stand from a place on, or zeros after the last one.
+fn has_bytes(written: &[u8], place: usize, bytes: [u8; 3]) -> bool {
+    let mut same = true;
+    for (index, byte) in bytes.into_iter().enumerate() {
+        let found = written.get(place.saturating_add(index));
+        same &= found.copied().unwrap_or(0) == byte;
+    }
+    same
+}
+
+/// Whether the ten bits are read after so many zeros, and no more than those.
+fn reads_ten(bytes: &[u8], before: u32) -> bool {
+    let mut eye = BitEye::new(&bytes[..bytes.len().min(65536)]);
+    if before > eye.left() {
+        return false;
+    }
+    eye.pass(before);
+    let is_ahead = eye.ahead() >> 54 == 0b10_1001_1001;
+    let is_taken = eye.take_word(10) == Ok(0b10_1001_1001);
+    let early = Err(BitFault::EndsEarly { bit: eye.size() });
+    is_ahead && is_taken && eye.take_word(64) == early
+}
+
+/// How many zeros stand before the ten bits, and the bytes from the last whole byte of zeros on.
+static ACROSS: [(u32, [u8; 3]); 7] = [
+    (0, [0xa6, 0x40, 0x00]),
+    (1, [0x53, 0x20, 0x00]),
+    (53, [0x05, 0x32, 0x00]),
+    (54, [0x02, 0x99, 0x00]),
+    (55, [0x01, 0x4c, 0x80]),
+    (63, [0x01, 0x4c, 0x80]),
+    (127, [0x01, 0x4c, 0x80]),
+];
+
 /// Ten bits at each place around the boundaries of words, and the bytes that they give.
 #[test]
 fn numbers_across_words(rt: HostRuntime) -> Result<(), Fail> {
-    let rows: [(u32, [u8; 3]); 7] = [
-        (0, [0xa6, 0x40, 0x00]),
-        (1, [0x53, 0x20, 0x00]),
-        (53, [0x05, 0x32, 0x00]),
-        (54, [0x02, 0x99, 0x00]),
-        (55, [0x01, 0x4c, 0x80]),
-        (63, [0x01, 0x4c, 0x80]),
-        (127, [0x01, 0x4c, 0x80]),
-    ];
-    for (before, bytes) in rows {
-        let mut pen = BitPen::with_room(rt.alloc(), 192)?;
-        assert!(rt; before < 128 && pen.len() == 0 && pen.room() == 192);
-        for _ in 0..before {
-            assert!(rt; pen.len() < 128 && pen.room() == 192);
-            pen.put(false);
-        }
-        assert!(rt; pen.len() < 128 && pen.room() == 192);
-        pen.put_word(0b10_1001_1001, 10);
-        let written = pen.bytes();
-        for (index, byte) in bytes.into_iter().enumerate() {
-            let found = written.get((before / 8) as usize + index);
-            assert_eq!(rt; found.copied().unwrap_or(0), byte);
-        }
-        let mut eye = BitEye::new(pen.bytes());
-        assert!(rt; before <= eye.left());
-        eye.pass(before);
-        assert_eq!(rt; eye.ahead() >> 54, 0b10_1001_1001);
-        assert_eq!(rt; eye.take_word(10), Ok(0b10_1001_1001));
-        assert_eq!(rt;
-            eye.take_word(64),
-            Err(BitFault::EndsEarly { bit: eye.size() })
+    for &(before, bytes) in &ACROSS {
+        let pen = pen_after(rt.alloc(), before)?;
+        assert!(rt;
+            has_bytes(pen.bytes(), (before / 8) as usize, bytes),
+            "{before}"
         );
+        assert!(rt; reads_ten(pen.bytes(), before), "{before}");
     }
     Ok(())
 }

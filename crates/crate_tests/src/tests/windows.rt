@@ -1,8 +1,37 @@
 //! The window over worked histories.
 
+ghost use Rattle.std.specs.Prelude.{◌<◌, ◌≤◌};
+
 use bit_vectors::Bits;
 use robust_window::Window;
 use std::test::Fail;
+
+/// Whether these are the recent changes, and this is the level.
+fn is_recent(window: &Window, changes: &Bits, level: u8) -> bool
+    requires { 0 < window.now.taken }
+{
+    let recent = window.recent();
+    recent.len() == changes.len() && recent.same(changes) && window.effective() == level
+}
+
+/// Whether this is the change so many steps ago.
+fn is_past(window: &Window, back: u8, change: &Bits) -> bool
+    requires most { back ≤ 15 }
+    requires taken { back < window.now.taken }
+{
+    let past = window.past(back);
+    past.len() == change.len() && past.same(change)
+}
+
+/// Whether the last change and that four steps before it are alike, and those one step before each are another.
+fn are_past(window: &Window, one: &Bits, other: &Bits) -> bool
+    requires { 5 < window.now.taken }
+{
+    is_past(window, 0, one)
+        && is_past(window, 1, other)
+        && is_past(window, 4, one)
+        && is_past(window, 5, other)
+}
 
 #[test]
 fn worked_history(rt: HostRuntime) -> Result<(), Fail> {
@@ -16,19 +45,12 @@ fn worked_history(rt: HostRuntime) -> Result<(), Fail> {
     window.step(&none, true, 1);
     window.step_still(false, 1);
     window.step(&last, true, 1);
-    assert!(rt; window.recent().same(&last));
-    assert_eq!(rt; window.effective(), 3);
-    assert!(rt; window.twice());
-    assert!(rt; window.past(0).same(&last));
-    assert!(rt; window.past(1).same(&none));
-    assert!(rt; window.past(4).same(&last));
-    assert!(rt; window.past(5).same(&none));
+    assert!(rt; is_recent(&window, &last, 3) && window.twice());
+    assert!(rt; are_past(&window, &last, &none));
     // The same changes are recent if more is required, also those that were not recent before.
     window.step_still(false, 0);
-    assert!(rt; window.recent().same(&none));
-    assert_eq!(rt; window.effective(), 0);
+    assert!(rt; is_recent(&window, &none, 0));
     window.step(&none, false, 2);
-    assert!(rt; window.recent().same(&last));
-    assert_eq!(rt; window.effective(), 5);
+    assert!(rt; is_recent(&window, &last, 5));
     Ok(())
 }

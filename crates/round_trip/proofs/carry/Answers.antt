@@ -11,13 +11,13 @@ use Rattle.packet_decode.specs.Decoding.{Decoding}
 use Rattle.packet_decode.specs.Spelling.{Spells}
 use Rattle.packet_decode.specs.State.{both_known, next_state}
 use Rattle.packet_decode.specs.declared.decoder.Reading.TheVariants.{Written}
-use Rattle.round_trip.specs.Carrying.{AreInStep, with_input}
+use Rattle.round_trip.specs.Carrying.{AreInStep, with_forced_input}
 use Rattle.round_trip.proofs.Carried.{carried, places_are}
 use Rattle.round_trip.proofs.carry.Goals as goal
 
 module _ (c : goal.After-read) (h : History) (stands : StandsFor h c.args.encoder.now) where
   abbrev after : History
-  after = with_input h c.args.input.now
+  after = with_forced_input h c.args.input.now
 
   abbrev t : ℕ
   t = length h.steps

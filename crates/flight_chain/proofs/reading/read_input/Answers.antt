@@ -3,8 +3,8 @@ use Rattle.std.proofs.lemmas.Bool.{false≢true}
 use Rattle.std.proofs.lemmas.Result.{err_from_is_err_and}
 use Rattle.bit_vectors.specs.Vectors.{byte_count}
 use Rattle.desk_ports.specs.ReadAhead.{ReadsOn}
-use Rattle.flight_chain.specs.Reading.{Takes}
-use Rattle.flight_chain.proofs.Readings.{Takes-whole, Stops-too_many, Stops-cut, Stops-spare, Waits-short}
+use Rattle.flight_chain.specs.Reading.{TakesInput}
+use Rattle.flight_chain.proofs.Readings.{TakesInput-whole, Stops-too_many, Stops-cut, Stops-spare, Waits-short}
 use Rattle.flight_chain.proofs.reading.read_input.Goals as goal
 
 pub returns-in_err-whole-clause-unread : goal.returns-in_err-whole-clause-unread
@@ -73,4 +73,4 @@ returns-clause-taken g c =
     let read = subst (λ l. ReadsOn before l a b) (sym c.bytes-2.ensures.ahead) told.read in
     let loaded = c.in-Ok.ensures in
     let left = ap (drop n) c.bytes-2.ensures.ahead ∙ sym c.pass.ensures in
-    subst (λ after. Takes f c.args.t before after a b c.load.new.self) left (Takes-whole f c.args.t n before held a b c.load.new.self c.requires.vector.0 few size long (λ one. false≢true (loaded.spare.1 one)) loaded.loaded loaded.len read)
+    subst (λ after. TakesInput f c.args.t before after a b c.load.new.self) left (TakesInput-whole f c.args.t n before held a b c.load.new.self c.requires.vector.0 few size long (λ one. false≢true (loaded.spare.1 one)) loaded.loaded loaded.len read)

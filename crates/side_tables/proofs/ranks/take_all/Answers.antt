@@ -1,5 +1,5 @@
 use Rattle.side_tables.specs.Spans.{names}
-use Rattle.side_tables.proofs.Claimed.{HasReached-more, Takes-then}
+use Rattle.side_tables.proofs.Claimed.{HasReached-more, TakesRank-then}
 use Rattle.side_tables.proofs.ranks.take_all.Goals as goal
 
 pub loop-reached-preserved : goal.loop-reached-preserved
@@ -8,7 +8,7 @@ loop-reached-preserved c =
     let kept = c.loop-reached.invariant in
     let visited = c.visit-reached.ensures in
     record {
-      takes = Takes-then (names claim.span) claim.rank c.args.cells.now c.loop-reached.cells c.visit-reached.new.cells kept.takes visited.takes;
+      takes = TakesRank-then (names claim.span) claim.rank c.args.cells.now c.loop-reached.cells c.visit-reached.new.cells kept.takes visited.takes;
       runs = visited.cells.runs;
       numbers = kept.numbers;
       past = HasReached-more claim c.loop-reached.cells c.visit-reached.new.cells c.loop-reached.reached c.in-Some.t c.visit-reached.result kept.past visited.takes c.in-Some.ensures.named c.in-Some.ensures.first visited.holds;

@@ -24,7 +24,7 @@ records-init g c =
       inr (inr (rw (flexible, headers) at fr.has_headers, fr.headers)),
       left,
       rw (flexible, headers) at fr.config ∙ c.new.ensures.config,
-      c.if-text-gt-MOST_BYTES.false,
+      c.if-text-gt-MOST_TEXT_BYTES.false,
       strip_bom c.args.text.now,
       [],
       fr.source,

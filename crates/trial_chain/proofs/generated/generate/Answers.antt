@@ -5,14 +5,14 @@ use Rattle.bit_vectors.specs.Vectors.{vector_bytes}
 use Rattle.side_tables.specs.declared.rows.CopyRow.{CopyRow}
 use Rattle.side_tables.specs.Rows.{IsCopyRow, copies_of}
 use Rattle.flight_chain.specs.Recordings.{recording_of}
-use Rattle.trial_chain.specs.Draws.{drawn, next_number, number_at}
+use Rattle.trial_chain.specs.Draws.{drawn, next_number, generator_at}
 use Rattle.trial_chain.specs.Trials.{copies_by, next_input, rows_for, trial_copies, trial_input, trial_inputs}
 use Rattle.trial_chain.proofs.Recordings.{recording-more}
 use Rattle.trial_chain.proofs.Scripts.{script-more, script-start}
 use Rattle.trial_chain.proofs.generated.generate.Goals as goal
 
 pub packets-init : goal.packets-init
-unfolding number_at trial_input
+unfolding generator_at trial_input
 packets-init c =
     let input = ap (λ g. g.input) c.in_ok-generator.ensures in
     record {
@@ -27,7 +27,7 @@ packets-init c =
     }
 
 pub packets-preserved : goal.packets-preserved
-unfolding number_at trial_input
+unfolding generator_at trial_input
 packets-preserved c =
     let i = c.packets.invariant in
     let input = c.advance-copies.ensures.input ∙ λ k. next_input (drawn (next_number (i.number k))) (i.input k) in

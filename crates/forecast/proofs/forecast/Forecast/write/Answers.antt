@@ -4,7 +4,7 @@ use Rattle.desk_ports.specs.Courses.{to_output}
 use Rattle.desk_ports.proofs.Writings.{Writes-cut, Writes-err, Writes-is, Writes-ok, Writes-ready, Writes-then}
 use Rattle.forecast.specs.declared.stretch.Stretch.{Stretch}
 use Rattle.forecast.specs.Prospects.{Prospect, fate_of}
-use Rattle.forecast.specs.Outlooks.{ForecastState, IsCount, ended_before, foresees, row_of, rows_at, stretch_at}
+use Rattle.forecast.specs.Outlooks.{ForecastState, IsPacketCount, ended_before, foresees, row_of, rows_at, stretch_at}
 use Rattle.forecast.specs.Texts.{closing_rows, header_row, stretch_rows, sure_count}
 use Rattle.forecast.proofs.Rows.{first_rows-at, rows-last, rows-next}
 use Rattle.forecast.proofs.forecast.Forecast.write.Goals as goal
@@ -71,7 +71,7 @@ returns-in_err-write_row-2-clause-written g c =
     let all_packets = ap (λ (r : ForecastState). r.packets) c.self.view_is in
     let last : c.loop.counter ≡ c.args.self.packets = omega (arith, all_packets) in
     let stretch = c.stretch.ensures ∙ ap (λ (r : ForecastState). stretch_at (fate_of (foresees r.outlook)) r.packets) kept.running in
-    let rows = all_rows p n c.loop.counter c.stretch.result (subst IsCount all_packets c.self.invariant).some last stretch in
+    let rows = all_rows p n c.loop.counter c.stretch.result (subst IsPacketCount all_packets c.self.invariant).some last stretch in
     Writes-is (ap (λ (l : List ℕ). to_output (l ++ closing_rows p n)) rows) (Writes-cut _ (to_output (closing_rows p n)) c.from_residual-in_err-write_row-2.ensures.1 (Writes-then kept.written c.in_err-write_row-2.ensures))
 
 pub returns-in_err-write_closing-clause-written : goal.returns-in_err-write_closing-clause-written
@@ -81,7 +81,7 @@ returns-in_err-write_closing-clause-written g c =
     let all_packets = ap (λ (r : ForecastState). r.packets) c.self.view_is in
     let last : c.loop.counter ≡ c.args.self.packets = omega (arith, all_packets) in
     let stretch = c.stretch.ensures ∙ ap (λ (r : ForecastState). stretch_at (fate_of (foresees r.outlook)) r.packets) kept.running in
-    let rows = ap to_output (all_rows p c.args.self.packets c.loop.counter c.stretch.result (subst IsCount all_packets c.self.invariant).some last stretch) in
+    let rows = ap to_output (all_rows p c.args.self.packets c.loop.counter c.stretch.result (subst IsPacketCount all_packets c.self.invariant).some last stretch) in
     let closing = ap (λ (r : ForecastState). to_output (closing_rows (foresees r.outlook) r.packets)) kept.running ∙ ap (λ (k : ℕ). to_output (closing_rows p k)) last in
     Writes-err _ c.from_residual-in_err-write_closing.ensures.1 (Writes-then (Writes-is rows (Writes-then kept.written c.in_ok-write_row-2.ensures)) (Writes-is closing c.in_err-write_closing.ensures))
 
@@ -92,7 +92,7 @@ returns-clause-written g c =
     let all_packets = ap (λ (r : ForecastState). r.packets) c.self.view_is in
     let last : c.loop.counter ≡ c.args.self.packets = omega (arith, all_packets) in
     let stretch = c.stretch.ensures ∙ ap (λ (r : ForecastState). stretch_at (fate_of (foresees r.outlook)) r.packets) kept.running in
-    let rows = ap to_output (all_rows p c.args.self.packets c.loop.counter c.stretch.result (subst IsCount all_packets c.self.invariant).some last stretch) in
+    let rows = ap to_output (all_rows p c.args.self.packets c.loop.counter c.stretch.result (subst IsPacketCount all_packets c.self.invariant).some last stretch) in
     let closing = ap (λ (r : ForecastState). to_output (closing_rows (foresees r.outlook) r.packets)) kept.running ∙ ap (λ (k : ℕ). to_output (closing_rows p k)) last in
     Writes-ok (Writes-then (Writes-is rows (Writes-then kept.written c.in_ok-write_row-2.ensures)) (Writes-is closing c.in_ok-write_closing.ensures))
 

@@ -5,7 +5,7 @@ use Rattle.loss_player.proofs.Tallies.{tally_next}
 use Rattle.forecast.specs.declared.fate.Fate.{Fate}
 use Rattle.forecast.specs.declared.fate.Fate.TheVariants.{Sure}
 use Rattle.forecast.specs.declared.running.Running.TheInside.{Inside}
-use Rattle.forecast.specs.Outlooks.{AreKept, OutlookState, foresees, latest_at}
+use Rattle.forecast.specs.Outlooks.{HasForeseen, OutlookState, foresees, latest_at}
 use Rattle.forecast.specs.Prospects.{fate_of, is_sure}
 use Rattle.forecast.specs.Stretches.{same_fate}
 use Rattle.forecast.proofs.Rows.{sure_count-next}
@@ -36,8 +36,8 @@ invariant_of-self c =
     let outlook = ap (λ (r : Inside). r.foresight) all ∙ c.at-foreseen.ensures.same in
     let tally_is = ap (λ (r : Inside). r.tally) all ∙ tally in
     let packets : new.tally.played.packets ≡ t + 1 = ap (λ (l : Tally). l.played.packets) tally_is in
-    subst (λ (o : OutlookState). AreKept (foresees o) new.tally.played.packets new.latest c.go_on.new.stretch new.tally new.sure) (sym outlook)
-    (subst (λ (n : ℕ). AreKept p n new.latest c.go_on.new.stretch new.tally new.sure) (sym packets) (record {
+    subst (λ (o : OutlookState). HasForeseen (foresees o) new.tally.played.packets new.latest c.go_on.new.stretch new.tally new.sure) (sym outlook)
+    (subst (λ (n : ℕ). HasForeseen p n new.latest c.go_on.new.stretch new.tally new.sure) (sym packets) (record {
       latest_is = ap (λ (r : Inside). r.latest) all ∙ latest;
       stretch_is = c.go_on.ensures.stretch (fate_of p) fate (ap (λ (r : Inside). r.stretch) all ∙ kept.stretch_is);
       tally_is = tally_is;

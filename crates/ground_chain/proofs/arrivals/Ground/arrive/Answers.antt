@@ -2,7 +2,7 @@ use Rattle.std.specs.Prelude.{IfSome}
 use Rattle.std.proofs.Common.{◌≡◌, ℕ, Option, Some, None, refl, sym, ap, ◌∙◌, subst, rules}
 use Rattle.ground_chain.specs.declared.verdict.Verdict.{Verdict}
 use Rattle.ground_chain.specs.Numbers.{number_after, latest_after, expected}
-use Rattle.ground_chain.specs.Run.{Judged, Known, lost_from, kind_of, verdict_of}
+use Rattle.ground_chain.specs.Run.{Judged, Known, lost_from, answer_kind, verdict_of}
 use Rattle.ground_chain.specs.Refusals.{IsExactVerdict}
 use Rattle.ground_chain.specs.Reception.{Reception, AgreesWith, StandsFor, known_of, next_judged}
 use Rattle.ground_chain.proofs.Receptions.{judged_read, kept_read, judged_repeat, shows_read, shows_repeat, stands_next}
@@ -25,9 +25,9 @@ returns-clause-verdict c =
     let old : Reception = record { latest = c.self.inside.numbers; decoder = c.self.inside.decoder } in
     let number : number_after c.self.inside.numbers c.args.count ≡ Some c.in-Some.t = sym c.next.ensures.number ∙ c.in-Some.is in
     let lost = c.lost_from-lost.ensures.is ∙ ap (λ (n : ℕ). lost_from n c.in-Some.t) c.expected-expected.ensures in
-    let verdict : Verdict = record { lost = c.lost_from-lost.result; t = c.in-Some.t; kind = c.kind_of-kind.result } in
-    let is : verdict ≡ record { lost = lost_from (expected c.self.inside.numbers) c.in-Some.t; t = c.in-Some.t; kind = kind_of c.read.result } =
-    λ i. record { lost = lost i; t = c.in-Some.t; kind = c.kind_of-kind.ensures i } in
+    let verdict : Verdict = record { lost = c.lost_from-lost.result; t = c.in-Some.t; kind = c.answer_kind-kind.result } in
+    let is : verdict ≡ record { lost = lost_from (expected c.self.inside.numbers) c.in-Some.t; t = c.in-Some.t; kind = answer_kind c.read.result } =
+    λ i. record { lost = lost i; t = c.in-Some.t; kind = c.answer_kind-kind.ensures i } in
     let judged = judged_read old c.read.new.self c.args.count c.in-Some.t c.args.bytes.now verdict c.read.result c.self.invariant number is c.read.ensures.exact (record { decodes = c.read.ensures.written; masks = c.read.ensures.mask_alone; unchanged = c.read.ensures.unchanged }) in
     ap (λ (j : Judged). j.verdict) judged ∙ ap (λ (r : Reception). (next_judged r c.args.count c.args.bytes.now).verdict) c.self.view_is
 
@@ -36,9 +36,9 @@ returns-clause-known c =
     let old : Reception = record { latest = c.self.inside.numbers; decoder = c.self.inside.decoder } in
     let number : number_after c.self.inside.numbers c.args.count ≡ Some c.in-Some.t = sym c.next.ensures.number ∙ c.in-Some.is in
     let lost = c.lost_from-lost.ensures.is ∙ ap (λ (n : ℕ). lost_from n c.in-Some.t) c.expected-expected.ensures in
-    let verdict : Verdict = record { lost = c.lost_from-lost.result; t = c.in-Some.t; kind = c.kind_of-kind.result } in
-    let is : verdict ≡ record { lost = lost_from (expected c.self.inside.numbers) c.in-Some.t; t = c.in-Some.t; kind = kind_of c.read.result } =
-    λ i. record { lost = lost i; t = c.in-Some.t; kind = c.kind_of-kind.ensures i } in
+    let verdict : Verdict = record { lost = c.lost_from-lost.result; t = c.in-Some.t; kind = c.answer_kind-kind.result } in
+    let is : verdict ≡ record { lost = lost_from (expected c.self.inside.numbers) c.in-Some.t; t = c.in-Some.t; kind = answer_kind c.read.result } =
+    λ i. record { lost = lost i; t = c.in-Some.t; kind = c.answer_kind-kind.ensures i } in
     let judged = judged_read old c.read.new.self c.args.count c.in-Some.t c.args.bytes.now verdict c.read.result c.self.invariant number is c.read.ensures.exact (record { decodes = c.read.ensures.written; masks = c.read.ensures.mask_alone; unchanged = c.read.ensures.unchanged }) in
     let latest : c.next.new.self ≡ Some c.in-Some.t = c.next.ensures.latest ∙ ap (latest_after c.self.inside.numbers) c.in-Some.is in
     ap (λ (n : Option ℕ). record { latest = n; state = c.read.new.self.state }) latest ∙ ap (λ (j : Judged). j.after) judged ∙ ap (λ (r : Reception). (next_judged r c.args.count c.args.bytes.now).after) c.self.view_is
@@ -60,9 +60,9 @@ returns-clause-exact c =
     let old : Reception = record { latest = c.self.inside.numbers; decoder = c.self.inside.decoder } in
     let number : number_after c.self.inside.numbers c.args.count ≡ Some c.in-Some.t = sym c.next.ensures.number ∙ c.in-Some.is in
     let lost = c.lost_from-lost.ensures.is ∙ ap (λ (n : ℕ). lost_from n c.in-Some.t) c.expected-expected.ensures in
-    let verdict : Verdict = record { lost = c.lost_from-lost.result; t = c.in-Some.t; kind = c.kind_of-kind.result } in
+    let verdict : Verdict = record { lost = c.lost_from-lost.result; t = c.in-Some.t; kind = c.answer_kind-kind.result } in
     let is : verdict ≡ verdict_of c.self.inside.numbers c.in-Some.t c.read.result =
-    λ i. record { lost = lost i; t = c.in-Some.t; kind = c.kind_of-kind.ensures i } in
+    λ i. record { lost = lost i; t = c.in-Some.t; kind = c.answer_kind-kind.ensures i } in
     let exact : IsExactVerdict old c.args.bytes.now verdict c.in-Some.t = record { answer = c.read.result; exact = c.read.ensures.exact; is = is } in
     subst (λ (r : Reception). IfSome (number_after r.latest c.args.count) (IsExactVerdict r c.args.bytes.now verdict)) c.self.view_is
     (subst (λ (n : Option ℕ). IfSome n (IsExactVerdict old c.args.bytes.now verdict)) (sym number) exact)

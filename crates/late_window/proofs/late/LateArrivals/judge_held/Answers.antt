@@ -1,7 +1,7 @@
 use Rattle.std.proofs.Common.{◌^◌, [], ap, true, arith}
 use Rattle.desk_ports.proofs.Steps.{AreReady-ran}
 use Rattle.late_window.specs.declared.late.LateArrivals.{LateArrivals}
-use Rattle.late_window.specs.Late.{held_parts}
+use Rattle.late_window.specs.Late.{held_bytes}
 use Rattle.late_window.proofs.Held.{JudgedPart-cut, JudgedPart-next, few-left}
 use Rattle.late_window.proofs.late.LateArrivals.judge_held.Goals as goal
 
@@ -11,7 +11,7 @@ judge_least-requires-clause-few g c = few-left c.loop-self.invariant (2 ^ 32) c.
 pub judge_least-requires-clause-ready : goal.judge_least-requires-clause-ready
 judge_least-requires-clause-ready g c =
     let part = c.loop-self.invariant in
-    let parts = held_parts c.args.self.now.judging part.done in
+    let parts = held_bytes c.args.self.now.judging part.done in
     AreReady-ran (λ _. true) (g.D.Desk.meaning c.args.desk.now) (g.D.Desk.meaning c.loop-self.desk) [] parts.output parts.report part.written.wrote c.requires.ready
 
 pub loop-self-preserved : goal.loop-self-preserved

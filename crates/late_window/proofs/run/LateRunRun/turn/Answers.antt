@@ -12,7 +12,7 @@ use Rattle.desk_ports.proofs.Parts.{WroteFront-within}
 use Rattle.ground_chain.specs.Run.{Arrival}
 use Rattle.ground_chain.specs.Restoring.{restored_texts}
 use Rattle.ground_chain.proofs.Reckonings.{put_all-parts}
-use Rattle.late_window.specs.Late.{arrival_each, given_at, run_of}
+use Rattle.late_window.specs.Late.{arrival_parts, given_up_for, run_of}
 use Rattle.late_window.specs.declared.done.LateDone.{LateDone}
 use Rattle.late_window.specs.Restoring.{left_to_sort, parts_to_sort}
 use Rattle.late_window.proofs.Lefts.{limits-next}
@@ -60,7 +60,7 @@ returns-in_err-arrive-clause-turned g c = λ work owes.
     let goes_on = GoesOn-sorted s t (meaning c.args.desk.now) (meaning c.next.new.desk) c.in-Some.taken told.some c.if-taken.true sorts in
     let p = err_from_is_err_and c.from_residual-in_err-arrive.result c.from_residual-in_err-arrive.ensures.1 in
     let front = rw c.body-body.ensures at c.in_err-arrive.ensures.written.front in
-    let given = given_at s.arrivals (record { count = c.in-Some.taken.count; body = c.next.new.self.body }) in
+    let given = given_up_for s.arrivals (record { count = c.in-Some.taken.count; body = c.next.new.self.body }) in
     let whole = subst (WroteFront (meaning c.next.new.desk) (meaning c.arrive.new.desk)) (put_all-parts restored_texts (run_of s.arrivals.judging given)) (WroteFront-within front) in
     rw (p.1, p.2) (IsCutShort-on (TakesItem-store told.some) goes_on owes.work_is whole)
 
@@ -130,8 +130,8 @@ returns-in_ok-arrive-clause-parts g c = λ parts_of owes.
     let goes_on = PartsGoOn-sorted s t a b c.in-Some.taken told.some c.if-taken.true sorts in
     let wrote = rw c.body-body.ensures at c.in_ok-arrive.ensures.written.wrote in
     let arrival : Arrival = record { count = c.in-Some.taken.count; body = c.next.new.self.body } in
-    let given = given_at s.arrivals arrival in
-    AdvancesParts-on (arrival_each s.arrivals arrival) (TakesItem-store told.some) goes_on owes (subst (λ (o : Outputs). Wrote b d o) (sym (put_all-parts restored_texts (run_of s.arrivals.judging given))) wrote) refl
+    let given = given_up_for s.arrivals arrival in
+    AdvancesParts-on (arrival_parts s.arrivals arrival) (TakesItem-store told.some) goes_on owes (subst (λ (o : Outputs). Wrote b d o) (sym (put_all-parts restored_texts (run_of s.arrivals.judging given))) wrote) refl
 
 pub returns-else-taken-clause-parts : goal.returns-else-taken-clause-parts
 returns-else-taken-clause-parts g c = λ parts_of owes.

@@ -1,10 +1,12 @@
-use Rattle.std.proofs.Common.{rules, ◌≡◌, ℕ, Bool, List, ◌++◌, length, take, drop, ap, sym, ◌∙◌, subst}
+use Rattle.packet_calls.specs.declared.fault.SendFault.TheVariants.{Robust, NoRoom, TooMany}
+use Rattle.std.proofs.Common.{rules, Some, None, ◌≡◌, ℕ, Bool, List, ◌++◌, length, take, drop, ap, sym, ◌∙◌, subst}
 use Rattle.std.proofs.lemmas.List.{take_at}
 use Rattle.bit_vectors.specs.Vectors.{vector_bytes}
 use Rattle.packet_encode.specs.Encoder.{StandsFor}
 use Rattle.packet_encode.specs.Packets.{with_next_input}
 use Rattle.flight_chain.specs.Stores.{data_at}
 use Rattle.packet_calls.specs.Sending.{SenderState, vector_in}
+use Rattle.packet_calls.proofs.Refused.{fault_after, sending_fault-input}
 use Rattle.packet_calls.proofs.sender.Sender.send.Goals as goal
 
 pub returns-clause-packet : goal.returns-clause-packet
@@ -16,3 +18,23 @@ returns-clause-packet c = λ h stands.
     take_at c.copy_from_slice.new.self (drop (length c.bytes-bytes.result.now) c.args.out.now) (length c.bytes-bytes.result.now) (ap (λ (l : List ℕ). length l) copied) ∙ copied in
     let input : c.load.new.self ≡ vector_in (length c.args.self.now.encoder.masks.mask) c.args.input.now = search rules in
     front ∙ (bytes ∙ ap (λ (v : List Bool). data_at (with_next_input h c.args.robust v c.args.flags) (length h.steps)) input)
+
+pub returns-then-robust-gt-MOST_ROBUST-clause-fault : goal.returns-then-robust-gt-MOST_ROBUST-clause-fault
+returns-then-robust-gt-MOST_ROBUST-clause-fault c =
+    let rest : Some Robust ≡ fault_after c.args.self.now c.args.robust (length c.args.out.now) = search rules in
+    rest ∙ sending_fault-input c.args.self.now c.args.input.now c.args.robust (length c.args.out.now) (search rules) (search rules)
+
+pub returns-then-out-packet_room-clause-fault : goal.returns-then-out-packet_room-clause-fault
+returns-then-out-packet_room-clause-fault c =
+    let rest : Some NoRoom ≡ fault_after c.args.self.now c.args.robust (length c.args.out.now) = search rules in
+    rest ∙ sending_fault-input c.args.self.now c.args.input.now c.args.robust (length c.args.out.now) (search rules) (search rules)
+
+pub returns-then-taken-ge-MOST_PACKETS-clause-fault : goal.returns-then-taken-ge-MOST_PACKETS-clause-fault
+returns-then-taken-ge-MOST_PACKETS-clause-fault c =
+    let rest : Some TooMany ≡ fault_after c.args.self.now c.args.robust (length c.args.out.now) = search rules in
+    rest ∙ sending_fault-input c.args.self.now c.args.input.now c.args.robust (length c.args.out.now) (search rules) (search rules)
+
+pub returns-clause-fault : goal.returns-clause-fault
+returns-clause-fault c =
+    let rest : None ≡ fault_after c.args.self.now c.args.robust (length c.args.out.now) = search rules in
+    rest ∙ sending_fault-input c.args.self.now c.args.input.now c.args.robust (length c.args.out.now) (search rules) (search rules)

@@ -2,9 +2,9 @@ use Rattle.std.proofs.Common.{◌≡◌, ◌+◌, ◌^◌, ◌<◌, true, Ok, re
 use Rattle.std.proofs.lemmas.Result.{err_from_is_err_and}
 use Rattle.desk_ports.specs.ReadAhead.{ReadsOn}
 use Rattle.packet_store.specs.declared.fault.WalkFault.TheVariants as fault
-use Rattle.packet_store.specs.StoreReader.{ReaderState, state_of, Takes, Stops, Waits, AfterFault}
+use Rattle.packet_store.specs.StoreReader.{ReaderState, reader_state, TakesPacket, Stops, Waits, AfterFault}
 use Rattle.packet_store.specs.declared.reader.Taken.{Taken}
-use Rattle.packet_store.proofs.Reading.{AfterFault-unread, IsOver-read, Stops-too_many, Takes-read, Waits-none}
+use Rattle.packet_store.proofs.Reading.{AfterFault-unread, IsOver-read, Stops-too_many, TakesPacket-read, Waits-none}
 use Rattle.packet_store.proofs.reader.StoreReader.next.Goals as goal
 
 pub returns-in_err-hold-clause-fault : goal.returns-in_err-hold-clause-fault
@@ -12,7 +12,7 @@ returns-in_err-hold-clause-fault g c =
     let a = g.D.Desk.meaning c.args.desk.now in
     let b = g.D.Desk.meaning c.hold.new.desk in
     let inside = c.self.inside in
-    let old = state_of inside.chosen inside.taken inside.offset inside.live inside.held inside.input in
+    let old = reader_state inside.chosen inside.taken inside.offset inside.live inside.held inside.input in
     let told = c.in_err-hold.ensures in
     let read = subst (λ l. ReadsOn l c.hold.new.self a b) c.pass.ensures told.read in
     let p = err_from_is_err_and c.from_residual.result c.from_residual.ensures.1 in
@@ -23,7 +23,7 @@ returns-then-branch-clause-fault g c =
     let a = g.D.Desk.meaning c.args.desk.now in
     let b = g.D.Desk.meaning c.hold.new.desk in
     let inside = c.self.inside in
-    let old = state_of inside.chosen inside.taken inside.offset inside.live inside.held inside.input in
+    let old = reader_state inside.chosen inside.taken inside.offset inside.live inside.held inside.input in
     let told = c.in_ok-hold.ensures in
     let read = subst (λ l. ReadsOn l c.hold.new.self a b) c.pass.ensures told.read in
     subst (λ (s : ReaderState). Stops s c.hold.new.self a b fault.TooMany) c.self.view_is (Stops-too_many old c.hold.new.self a b c.if-self-eq-MOST_PACKETS.true read (told.held (ap Ok c.if-branch.true)))
@@ -34,7 +34,7 @@ returns-in_err-header-clause-fault g c =
     let b = g.D.Desk.meaning c.hold_packet.new.desk in
     let inside = c.self.inside in
     let input = c.hold_packet.new.input in
-    let old = state_of inside.chosen inside.taken inside.offset inside.live inside.held inside.input in
+    let old = reader_state inside.chosen inside.taken inside.offset inside.live inside.held inside.input in
     let few : inside.taken < 2 ^ 32 = omega (arith, c.self.invariant.few, c.if-self-eq-MOST_PACKETS.false) in
     let read = subst (λ l. ReadsOn l input a b) c.pass.ensures c.in_err-header.ensures.read in
     let reason = c.in_err-header.field-0.0 in
@@ -69,7 +69,7 @@ returns-clause-some g c =
     let b = g.D.Desk.meaning c.hold_packet.new.desk in
     let inside = c.self.inside in
     let input = c.hold_packet.new.input in
-    let old = state_of inside.chosen inside.taken inside.offset inside.live inside.held inside.input in
+    let old = reader_state inside.chosen inside.taken inside.offset inside.live inside.held inside.input in
     let told = rw c.in-Some.is at c.in_ok-header.ensures in
     let h = c.in-Some.header in
     let few : inside.taken < 2 ^ 32 = omega (arith, c.self.invariant.few, c.if-self-eq-MOST_PACKETS.false) in
@@ -77,5 +77,5 @@ returns-clause-some g c =
     let size : h.length + 7 ≡ 6 + c.size.result = omega (arith, c.size.ensures) in
     let read = subst (λ l. ReadsOn l input a b) c.pass.ensures told.read in
     let given : Taken = record { chosen = c.is_chosen.result; count = h.count } in
-    let new = state_of inside.chosen (inside.taken + 1) (inside.offset + (6 + c.size.result)) true (6 + c.size.result) input in
-    subst (λ (s : ReaderState). Takes s new a b given) c.self.view_is (Takes-read old h (6 + c.size.result) input given a b live few size told.good told.header read c.is_chosen.ensures refl)
+    let new = reader_state inside.chosen (inside.taken + 1) (inside.offset + (6 + c.size.result)) true (6 + c.size.result) input in
+    subst (λ (s : ReaderState). TakesPacket s new a b given) c.self.view_is (TakesPacket-read old h (6 + c.size.result) input given a b live few size told.good told.header read c.is_chosen.ensures refl)

@@ -10,7 +10,7 @@ use Rattle.pocket_cmd.specs.declared.verbs.Verb.TheVariants as verb
 use Rattle.pocket_cmd.specs.declared.words.Command.{Command as Held}
 use Rattle.pocket_cmd.specs.declared.job.Job.{Job}
 use Rattle.pocket_cmd.specs.declared.job.Job.TheVariants as job
-use Rattle.pocket_cmd.specs.Verbs.{rows_of}
+use Rattle.pocket_cmd.specs.Verbs.{verb_rows}
 use Rattle.pocket_cmd.specs.Words.{Words, fault_of, packets, robust}
 use Rattle.pocket_cmd.specs.Command.{IsRight, Names, name_at, names_of, view_command}
 use Rattle.pocket_cmd.specs.Courses.{bad_row_of, bad_script_row_of, course_of}
@@ -23,8 +23,8 @@ module _ (command : Held) (v : Verb) (is : command.verb ≡ v) where
   abbrev words : Words
   words = map string_bytes command.words.now
 
-  sound : fault_of (rows_of v) words ≡ None
-  sound = subst (λ v. fault_of (rows_of v) words ≡ None) is command.right
+  sound : fault_of (verb_rows v) words ≡ None
+  sound = subst (λ v. fault_of (verb_rows v) words ≡ None) is command.right
 
   -- a command's numbers are right
   right : IsRight (v, words)
@@ -35,12 +35,12 @@ module _ (command : Held) (v : Verb) (is : command.verb ≡ v) where
   made text old new job e = subst (λ v. AfterMaking (v, words) text old new (Ok job)) (sym is) e
 
   -- a name is given for what the job reads and writes
-  named : (at : Port) → is_side at ≡ false → is_some (key_at (rows_of v) at) ≡ is_some (name_at (v, words) at)
-  named at other = sym (is_some-name_of (rows_of v) words (AreSound-by (rows_of v) words sound) (keys_of v) at other)
+  named : (at : Port) → is_side at ≡ false → is_some (key_at (verb_rows v) at) ≡ is_some (name_at (v, words) at)
+  named at other = sym (is_some-name_of (verb_rows v) words (AreSound-by (verb_rows v) words sound) (keys_of v) at other)
 
   -- a job that reads no text before its run
   streamed : (text : List ℕ) (m : Meanings) (job : Job) → bad_script_row_of (v, words) ≡ None → bad_row_of (v, words) text ≡ None → job_course job ≡ course_of (v, words) text
-      → reads_input job ≡ is_some (key_at (rows_of v) port.Input) → writes_report job ≡ is_some (key_at (rows_of v) port.Report) → AfterMaking (view_command command) text m m (Ok job)
+      → reads_input job ≡ is_some (key_at (verb_rows v) port.Input) → writes_report job ≡ is_some (key_at (verb_rows v) port.Report) → AfterMaking (view_command command) text m m (Ok job)
   streamed text m job no_text rows owes reads reports = made text m m job (
     rows,
     subst (λ script. OnceAllRead script (names_of (v, words)) (course_of (v, words) text) m (λ names course start. IsJobOf job names course start m)) (sym no_text)
