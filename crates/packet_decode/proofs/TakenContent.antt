@@ -68,9 +68,9 @@ module _ (places known content : List Bool) (old new : EyeState) (len : length p
   same_tells (Err (Wrong n)) none all short fault bits = absurd cc
 
 -- the same, of the vectors as a body makes them
-module _ (places known copied content again xored spare : List Bool) (old new : EyeState) (places_are : length places ≡ length known) (copied_is : copied ≡ known) (content_len : length content ≡ length copied)
-    (taken : content ≡ take (length copied) (bits_left old) ++ drop (length (bits_left old)) copied) (again_is : again ≡ content) (xored_is : xored ≡ xor_bits again known) (spare_is : spare ≡ without_bits xored places) where
-  spare_are : spare ≡ without_bits (xor_bits content known) places
+module _ (places known copied content again xored workspace : List Bool) (old new : EyeState) (places_are : length places ≡ length known) (copied_is : copied ≡ known) (content_len : length content ≡ length copied)
+    (taken : content ≡ take (length copied) (bits_left old) ++ drop (length (bits_left old)) copied) (again_is : again ≡ content) (xored_is : xored ≡ xor_bits again known) (spare_is : workspace ≡ without_bits xored places) where
+  spare_are : workspace ≡ without_bits (xor_bits content known) places
   spare_are = spare_is ∙ ap (λ (x : List Bool). without_bits x places) (xored_is ∙ ap (λ (x : List Bool). xor_bits x known) again_is)
 
   len_are : length content ≡ length known
@@ -79,14 +79,14 @@ module _ (places known copied content again xored spare : List Bool) (old new : 
   taken_are : content ≡ take (length known) (bits_left old) ++ drop (length (bits_left old)) known
   taken_are = rw copied_is at taken
 
-  pub place_inside : (p : ℕ) → get_or spare p false ≡ true → ((k : ℕ) → 0 ≤ k → k < p → get_or spare k false ≡ false) → p < length (bits_left old)
+  pub place_inside : (p : ℕ) → get_or workspace p false ≡ true → ((k : ℕ) → 0 ≤ k → k < p → get_or workspace k false ≡ false) → p < length (bits_left old)
   place_inside p one before = (first_difference places known content old new places_are len_are taken_are p (rw spare_are at one) (λ k lt. rw spare_are at (before k (omega arith) lt))).0
 
-  pub tells_place : (p start : ℕ) → get_or spare p false ≡ true → ((k : ℕ) → 0 ≤ k → k < p → get_or spare k false ≡ false) → start ≡ old.place → new.bits ≡ old.bits
+  pub tells_place : (p start : ℕ) → get_or workspace p false ≡ true → ((k : ℕ) → 0 ≤ k → k < p → get_or workspace k false ≡ false) → start ≡ old.place → new.bits ≡ old.bits
       → Tells (λ (u : Unit {0}). content) (Err (Wrong (start + p))) new (parse_kept places known (bits_left old))
   tells_place p start one before = difference_tells places known content old new places_are len_are taken_are p start (rw spare_are at one) (λ k lt. rw spare_are at (before k (omega arith) lt))
 
-  pub tells_same : (result : Result (Unit {0}) BitFault) → ((k : ℕ) → 0 ≤ k → k < length spare → get_or spare k false ≡ false)
+  pub tells_same : (result : Result (Unit {0}) BitFault) → ((k : ℕ) → 0 ≤ k → k < length workspace → get_or workspace k false ≡ false)
       → OnOk result (bits_left old ≡ content ++ bits_left new) → (IsErr result ↔ (length (bits_left old) < length copied)) → IfErr result (λ fault. fault ≡ EndsEarly (length old.bits)) → new.bits ≡ old.bits
       → Tells (λ (u : Unit {0}). content) result new (parse_kept places known (bits_left old))
   tells_same result none all short = same_tells places known content old new places_are len_are taken_are result (rw spare_are at none) all (rw copied_is at short)

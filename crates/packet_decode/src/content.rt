@@ -155,10 +155,10 @@ fn take_kept(eye: &mut BitEye, known: &Bits, draft: &mut Draft) -> Result<(), Bi
     let left = eye.size() - start;
     draft.content.copy_from(known);
     let taken = eye.take_bits(&mut draft.content);
-    draft.spare.copy_from(&draft.content);
-    draft.spare.xor_in(known);
-    draft.spare.drop_in(&draft.places);
-    match draft.spare.next_one_up(0) {
+    draft.workspace.copy_from(&draft.content);
+    draft.workspace.xor_in(known);
+    draft.workspace.drop_in(&draft.places);
+    match draft.workspace.next_one_up(0) {
         Some(place) => {
             prove!(place < left);
             Err(BitFault::Wrong { bit: start + place })

@@ -116,9 +116,9 @@ fn take_masked(
         (lent known.entry)) }
 {
     let Some(mask) = deduced else {
-        read_mask(eye, sent, &mut draft.spare)?;
+        read_mask(eye, sent, &mut draft.workspace)?;
         return Ok(DataKind::Sent(take_content(eye, change, sent, known, draft)?));
     };
-    match_mask(eye, mask, &mut draft.spare)?;
+    match_mask(eye, mask, &mut draft.workspace)?;
     Ok(DataKind::Deduced(take_content(eye, change, mask, known, draft)?))
 }

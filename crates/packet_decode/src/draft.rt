@@ -17,12 +17,12 @@ pub struct Draft {
     /// The places of the content that are extracted.
     pub places: Bits,
     /// The edges of a mask, or where a content differs from the known one.
-    pub spare: Bits,
+    pub workspace: Bits,
     /// How the latest extracted bits of each word moved. If the next packet extracts the same places, they are not found
     /// anew.
     pub moves: Vec<WordMoves>,
     ghost extracted_places: { length places ≡ length content },
-    ghost spare_places: { length spare ≡ length content },
+    ghost workspace_places: { length workspace ≡ length content },
     // The moves have the room that `zeros` took.
     ghost moves_taken: { vec_capacity moves ≡ word_count (length content) },
 }
@@ -52,7 +52,7 @@ impl Room {
         let sent = Bits::zeros(alloc, f)?;
         let content = Bits::zeros(alloc, f)?;
         let places = Bits::zeros(alloc, f)?;
-        let spare = Bits::zeros(alloc, f)?;
+        let workspace = Bits::zeros(alloc, f)?;
         let moves = moves_of_zeros(alloc, f)?;
         Ok(Room {
             next,
@@ -61,7 +61,7 @@ impl Room {
             draft: Draft {
                 content,
                 places,
-                spare,
+                workspace,
                 moves,
             },
         })

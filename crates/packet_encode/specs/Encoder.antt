@@ -26,16 +26,16 @@ pub record StandsFor (h : History) (value : EncoderState) : Type 0 where
 abbrev pub plain_data : Running → List Bool
 plain_data masks = data_bits None (Part (extract masks.previous masks.mask))
 
--- mask, recent changes and spare vector have a bit for each of `f` places
+-- mask, recent changes and workspace vector have a bit for each of `f` places
 abbrev pub HavePlaces : ℕ → List Bool → List Bool → List Bool → Type 0
-HavePlaces f mask recent spare = (length mask ≡ f) × (length recent ≡ f) × (length spare ≡ f)
+HavePlaces f mask recent workspace = (length mask ≡ f) × (length recent ≡ f) × (length workspace ≡ f)
 
 -- Masks and window have taken the same number of steps, of vectors of the same length. What is kept has room for a packet,
 -- and if data are kept, they are plain ones of the latest input.
-pub record IsEncoder (masks : Running) (window : WindowState) (spare : List Bool) (kept : PenState) (is_kept : Bool) : Type 0 where
+pub record IsEncoder (masks : Running) (window : WindowState) (workspace : List Bool) (kept : PenState) (is_kept : Bool) : Type 0 where
   pub vector : IsVector masks.mask
   pub places : length window.recent ≡ length masks.mask
   pub taken : window.taken ≡ masks.taken
-  pub spare_places : length spare ≡ length masks.mask
+  pub workspace_places : length workspace ≡ length masks.mask
   pub room : kept.room ≡ 10 * length masks.mask + 43
   pub bits : OnTrue is_kept (kept.bits ≡ plain_data masks)

@@ -19,29 +19,29 @@ use std::alloc::Global;
 #[derive(Debug, Drop)]
 pub(crate) struct Scratch {
     /// The edges of a mask, or the places of the content that are extracted.
-    pub(crate) spare: Bits,
+    pub(crate) workspace: Bits,
     /// How the extracted bits of each word of the content moved. If the next packet extracts the same places, they are not
     /// found anew.
     pub(crate) moves: Vec<WordMoves>,
     // The moves have the room that `open` took.
-    ghost moves_taken: { vec_capacity moves ≡ word_count (length spare) },
+    ghost moves_taken: { vec_capacity moves ≡ word_count (length workspace) },
 }
 
 impl Scratch {
     /// For inputs of `f` places.
     pub(crate) fn open(alloc: Global, f: u32) -> Result<Scratch, NoMemory>
         requires valid { IsPlaces f }
-        ensures { IfOk result (λ scratch. length scratch.spare ≡ f) }
+        ensures { IfOk result (λ scratch. length scratch.workspace ≡ f) }
     {
-        let spare = Bits::zeros(alloc, f)?;
+        let workspace = Bits::zeros(alloc, f)?;
         let moves = moves_of_zeros(alloc, f)?;
-        Ok(Scratch { spare, moves })
+        Ok(Scratch { workspace, moves })
     }
 }
 
 /// Appends a 1 if neither the mask nor the whole content is sent, and otherwise a 0, the mask if it is sent,
 /// and whether the content is whole; then the content, or its bits at the places of the mask, and also of the recent
-/// changes if `wide` is true. The spare vector of `scratch` may then have any bits.
+/// changes if `wide` is true. The workspace vector of `scratch` may then have any bits.
 pub(crate) fn put_data(
     pen: &mut BitPen,
     input: &Bits,
@@ -51,18 +51,18 @@ pub(crate) fn put_data(
     wide: bool,
     scratch: &mut Scratch,
 )
-    requires places { HavePlaces (length input.now) mask.now recent.now scratch.old.spare }
+    requires places { HavePlaces (length input.now) mask.now recent.now scratch.old.workspace }
     requires room { length pen.old.bits + (5 * length input.now + 34) ≤ pen.old.room }
     ensures bits { let places = if wide then or_bits mask.now recent.now else mask.now in
         pen.new.bits ≡ pen.old.bits
         ++ data_bits (sent_of flags.f mask.now) (sent_content flags.r input.now places) }
     ensures room { pen.new.room ≡ pen.old.room }
-    ensures spare { length scratch.new.spare ≡ length scratch.old.spare }
+    ensures workspace { length scratch.new.workspace ≡ length scratch.old.workspace }
 {
     let is_short = !flags.f && !flags.r;
     pen.put(is_short);
     if !is_short {
-        put_mask(pen, flags.f, mask, &mut scratch.spare);
+        put_mask(pen, flags.f, mask, &mut scratch.workspace);
         pen.put(flags.r);
     }
     if flags.r {
@@ -75,11 +75,11 @@ pub(crate) fn put_data(
 /// Makes the bits those of the data if neither the mask nor the whole content is sent and there is no recent change.
 pub(crate) fn set_plain_data(pen: &mut BitPen, content: &Bits, mask: &Bits, scratch: &mut Scratch)
     requires places { length mask.now ≡ length content.now }
-    requires spare { length scratch.old.spare ≡ length content.now }
+    requires workspace { length scratch.old.workspace ≡ length content.now }
     requires room { length content.now + 1 ≤ pen.old.room }
     ensures bits { pen.new.bits ≡ data_bits None (Part (extract content.now mask.now)) }
     ensures room { pen.new.room ≡ pen.old.room }
-    ensures spare { length scratch.new.spare ≡ length scratch.old.spare }
+    ensures workspace { length scratch.new.workspace ≡ length scratch.old.workspace }
 {
     pen.clear();
     pen.put(true);
@@ -88,18 +88,18 @@ pub(crate) fn set_plain_data(pen: &mut BitPen, content: &Bits, mask: &Bits, scra
 
 /// Appends whether the mask is sent, and if it is, the runs of its edges.
 #[cold]
-fn put_mask(pen: &mut BitPen, send: bool, mask: &Bits, spare: &mut Bits)
-    requires spare { length spare.old ≡ length mask.now }
+fn put_mask(pen: &mut BitPen, send: bool, mask: &Bits, workspace: &mut Bits)
+    requires workspace { length workspace.old ≡ length mask.now }
     requires room { length pen.old.bits + (4 * length mask.now + 3) ≤ pen.old.room }
     ensures bits { pen.new.bits ≡ pen.old.bits ++ mask_bits (sent_of send mask.now) }
     ensures most { length pen.new.bits ≤ length pen.old.bits + (4 * length mask.now + 3) }
     ensures room { pen.new.room ≡ pen.old.room }
-    ensures spare { length spare.new ≡ length spare.old }
+    ensures workspace { length workspace.new ≡ length workspace.old }
 {
     pen.put(send);
     if send {
-        edges(mask, spare);
-        put_runs(pen, spare);
+        edges(mask, workspace);
+        put_runs(pen, workspace);
     }
 }
 
@@ -123,18 +123,18 @@ fn put_part(
     wide: bool,
     scratch: &mut Scratch,
 )
-    requires places { HavePlaces (length content.now) mask.now recent.now scratch.old.spare }
+    requires places { HavePlaces (length content.now) mask.now recent.now scratch.old.workspace }
     requires room { length pen.old.bits + length content.now ≤ pen.old.room }
     ensures bits { pen.new.bits
         ≡ pen.old.bits ++ extract content.now
         (if wide then or_bits mask.now recent.now else mask.now) }
     ensures room { pen.new.room ≡ pen.old.room }
-    ensures spare { length scratch.new.spare ≡ length scratch.old.spare }
+    ensures workspace { length scratch.new.workspace ≡ length scratch.old.workspace }
 {
     if wide {
-        scratch.spare.copy_from(mask);
-        scratch.spare.or_in(recent);
-        put_extract_with(pen, content, &scratch.spare, &mut scratch.moves);
+        scratch.workspace.copy_from(mask);
+        scratch.workspace.or_in(recent);
+        put_extract_with(pen, content, &scratch.workspace, &mut scratch.moves);
     } else {
         put_extract_with(pen, content, mask, &mut scratch.moves);
     }

@@ -51,7 +51,7 @@ impl Model for Encoder {
 
     ghost view = { λ e. record { masks = e.masks; window = e.window } };
 
-    ghost invariant = { λ e. IsEncoder e.masks e.window e.scratch.spare e.kept e.is_kept };
+    ghost invariant = { λ e. IsEncoder e.masks e.window e.scratch.workspace e.kept e.is_kept };
 }
 
 impl Encoder {
@@ -191,7 +191,7 @@ fn step_window(window: &mut Window, masks: &Masks, new_mask: bool, robust: u8)
     }
 }
 
-/// Writes the packet of this input after masks and window have taken a step. The spare vector may then have any bits.
+/// Writes the packet of this input after masks and window have taken a step. The workspace vector may then have any bits.
 fn write_packet(
     pen: &mut BitPen,
     input: &Bits,
@@ -202,14 +202,14 @@ fn write_packet(
 )
     requires empty { pen.old.bits ≡ [] }
     requires taken { 0 < window.now.taken }
-    requires places { HavePlaces (length input.now) masks.now.mask window.now.recent scratch.old.spare }
+    requires places { HavePlaces (length input.now) masks.now.mask window.now.recent scratch.old.workspace }
     requires room { 10 * length input.now + 43 ≤ pen.old.room }
     ensures bits { let window = window.now in
         pen.new.bits
         ≡ form_bits
         (form_of masks.now.mask window.recent window.level window.twice input.now flags) }
     ensures room { pen.new.room ≡ pen.old.room }
-    ensures spare { length scratch.new.spare ≡ length scratch.old.spare }
+    ensures workspace { length scratch.new.workspace ≡ length scratch.old.workspace }
 {
     let mask = masks.mask();
     let wide = put_changes(pen, mask, window);
@@ -221,11 +221,11 @@ fn keep(kept: &mut BitPen, is_kept: bool, input: &Bits, masks: &Masks, scratch: 
     requires kept { OnTrue is_kept (OnTrue masks.now.again (kept.old.bits ≡ plain_data masks.now)) }
     requires input { masks.now.previous ≡ input.now }
     requires places { length masks.now.mask ≡ length input.now }
-    requires spare { length scratch.old.spare ≡ length input.now }
+    requires workspace { length scratch.old.workspace ≡ length input.now }
     requires room { length input.now + 1 ≤ kept.old.room }
     ensures bits { kept.new.bits ≡ plain_data masks.now }
     ensures room { kept.new.room ≡ kept.old.room }
-    ensures spare { length scratch.new.spare ≡ length scratch.old.spare }
+    ensures workspace { length scratch.new.workspace ≡ length scratch.old.workspace }
 {
     if !(is_kept && masks.is_again()) {
         set_plain_data(kept, input, masks.mask(), scratch);
