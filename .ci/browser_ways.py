@@ -3,9 +3,10 @@
 import os
 import time
 
+from browser_times import longest, longest_two, measured, taken
+
 TEXT = "(document.getElementById('{}').textContent)"
 IS_STILL = "document.querySelectorAll('.old').length === 0"
-TRIES = 5  # of what is measured on a machine that has other work too
 
 
 def text(browser, part):
@@ -37,30 +38,6 @@ def seen(browser, strip):
     browser.press("Home")
     browser.press("PageDown")
     return 10 * int(browser.value(f"document.getElementById('{strip}').getAttribute('aria-valuenow')"))
-
-
-def measured(take, most, words):
-    """The fault of some tries, or that what they give is above so much in all of them; or None. `words` tell what that is."""
-    for _ in range(TRIES):
-        found = take()
-        if isinstance(found, str):
-            return found
-        if found <= most:
-            return None
-    return words.format(found)
-
-
-def longest(found):
-    """The longest of some tasks, or their fault."""
-    return found if isinstance(found, str) else max(found, default=0)
-
-
-def longest_two(found):
-    """The longest time of two tasks one after the other, as a key's and the drawing after it are; or their fault."""
-    if isinstance(found, str):
-        return found
-    long = [it for it in found if it >= 1]
-    return max(map(sum, zip(long, long[1:])), default=0)
 
 
 def tell_wheel(browser, page, _):
@@ -140,31 +117,33 @@ def tell_drag(browser, page, _):
     return None if browser.value(losses) == before else "Z does not take the row back"
 
 
-def looked_at(browser, strip, part, words, keys):
-    """Waits for what a part says, and presses keys on a strip; gives what it says in its place, or None."""
-    if not browser.wait(f"document.getElementById('{part}').textContent.includes('{words}')", 120):
-        return f"it says {text(browser, part)!r}"
-    browser.value(f"document.getElementById('{strip}').focus()")
-    for key in keys:
-        browser.press(key)
+def is_told(browser, part, words):
+    """Waits for what a part says; gives what it says in its place, or None."""
+    return None if browser.wait(f"document.getElementById('{part}').textContent.includes('{words}')", 120) else f"it says {text(browser, part)!r}"
+
+
+def pressed(browser, key):
+    """Presses a key, and waits for what is drawn after it."""
+    browser.press(key)
     browser.frame()
-    time.sleep(0.3)
-    return None
+    time.sleep(0.1)
 
 
 def held_up(browser, page, view, chooser, bits, paths, words, keys):
     """The fault of files that are opened in a view and keys on its strip, or that a task of the page takes more than 50 milliseconds; or None."""
-    def work():
+    def opened():
         browser.choose(chooser, *paths)
-        return looked_at(browser, f"{view}-strip", f"{view}-sum", words, keys)
+        return is_told(browser, f"{view}-sum", words)
 
     def take():
         begin(browser, page, view)
         give(browser, f"{view}-bits", bits)
-        return longest(browser.tasks(work))
+        first = taken(browser, [opened], longest)
+        browser.value(f"document.getElementById('{view}-strip').focus()")
+        return first if isinstance(first, str) else first + taken(browser, [lambda key=key: pressed(browser, key) for key in keys], longest)
 
     browser.size(1280, 800)
-    return measured(take, 50, "its longest task takes {} milliseconds")
+    return measured(browser, take, 50, "its longest task takes {} milliseconds")
 
 
 def tell_million(browser, page, files):
@@ -193,24 +172,19 @@ def tell_fields(browser, page, files):
 def tell_typing(browser, page, files):
     """Typing in a schedule of 10,000 rows takes the page at most 100 milliseconds for a key and the drawing after it."""
     browser.size(1280, 800)
-
-    def work():
-        browser.value("document.getElementById('plan').focus()")
-        for key in "\r7,9,1,r":
-            browser.press("Enter" if key == "\r" else key)
-            time.sleep(0.1)
-        browser.frame()
+    keys = ["Enter", *"7,9,1,r"]
 
     def take():
         begin(browser, page, "forecast")
         give(browser, "packets", "1000000")
         browser.choose("plan-file", files["rows"])
-        is_open = browser.wait(f"document.getElementById('plan').value.length > 100000 && {IS_STILL}", 30)
-        return longest_two(browser.tasks(work)) if is_open else "the schedule was not opened"
+        if not browser.wait(f"document.getElementById('plan').value.length > 100000 && {IS_STILL}", 30):
+            return "the schedule was not opened"
+        browser.value("document.getElementById('plan').focus()")
+        return taken(browser, [lambda key=key: pressed(browser, key) for key in keys], longest_two)
 
-    fault = measured(take, 100, "a key takes {} milliseconds")
-    is_told = browser.wait("document.getElementById('forecast-sum').textContent.includes('of 1,000,000')", 60)
-    return fault or (None if is_told else f"it says {text(browser, 'forecast-sum')!r}")
+    fault = measured(browser, take, 100, "a key takes {} milliseconds")
+    return fault or is_told(browser, "forecast-sum", "of 1,000,000")
 
 
 def tell_no_store(browser, page, files):
@@ -225,9 +199,9 @@ def tell_no_store(browser, page, files):
             if not browser.wait("window.took > 0 && !document.getElementById('store-refusal').hidden", 60):
                 return f"{name}: it says {text(browser, 'store-sum')!r}"
             said = text(browser, "store-refusal")
-            return browser.value("window.took") if "The program says: store packet at byte" in said else f"{name}: it says {said!r}"
+            return [browser.value("window.took")] if "The program says: store packet at byte" in said else f"{name}: it says {said!r}"
 
-        fault = measured(take, 1000, f"{name} are refused after {{}} milliseconds")
+        fault = measured(browser, take, 1000, f"{name} are refused after {{}} milliseconds")
         if fault:
             return fault
     return None

@@ -1,0 +1,50 @@
+"""How long what is done with the page holds up its thread, on a machine that has other work too and may be a slow one."""
+
+TRIES = 5
+# What takes the page's thread some forty milliseconds on the machine for which the limits are: sums over eight megabytes.
+LOOP = """(() => { const cells = new Float64Array(1 << 20); let x = 1;
+    for (let n = 0; n < 4e6; n++) { x = Math.imul(x, 48271) & 0x7fffffff; cells[x & 1048575] += x; } return cells[0]; })()"""
+LOOP_TOOK = 40
+# Beside other work, of this machine or its host, the same step takes up to twice the processor's time.
+BESIDE = 2
+
+
+def longest(times):
+    """The longest of a step's tasks."""
+    return max(times, default=0)
+
+
+def longest_two(times):
+    """The longest time of two tasks one after the other, as a key's and the drawing after it are."""
+    long = [it for it in times if it >= 1]
+    return max(map(sum, zip(long, long[1:])), default=longest(long))
+
+
+def taken(browser, steps, of):
+    """What each of some steps takes, by its tasks' processor time in milliseconds, or the fault of one."""
+    found = []
+    for step in steps:
+        times = browser.tasks(step)
+        if isinstance(times, str):
+            return times
+        found.append(of(times))
+    return found
+
+
+def slowness(browser):
+    """How much slower than the machine for which the limits are this one is now; at least 1."""
+    return max(1, longest(browser.tasks(lambda: browser.value(LOOP) and None)) / LOOP_TOOK)
+
+
+def measured(browser, take, most, words):
+    """The fault of what is tried, or that a step takes more than so many milliseconds in all tries; or None. `take` tries all
+    steps, and gives what each took, or a fault; `words` tell a time."""
+    best = None
+    for _ in range(TRIES):
+        found = take()
+        if isinstance(found, str):
+            return found
+        best = [min(it) for it in zip(best or found, found)]
+        if max(best) <= most * BESIDE * slowness(browser):
+            return None
+    return words.format(round(max(best)))
