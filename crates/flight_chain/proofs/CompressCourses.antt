@@ -1,6 +1,7 @@
 -- What is owed for the rest of a recording, packet by packet.
 use Rattle.std.proofs.Common.{length-append, ◌≡◌, ℕ, ◌+◌, ◌%◌, Bool, List, [], ◌∷◌, ◌++◌, length, refl, sym, ap, ◌∙◌, subst, append_assoc, append-nil, arith}
 use Rattle.desk_ports.specs.Meanings.{Meanings}
+use Rattle.desk_ports.specs.Stop.{Stop}
 use Rattle.desk_ports.specs.Courses.{Work, no_outputs, to_output, AfterStop}
 use Rattle.desk_ports.specs.WalkWorks.{work_on}
 use Rattle.desk_ports.proofs.WalkTurns.{AfterStop-on, GoesOn, IsDone, TakesItem}
@@ -12,11 +13,10 @@ use Rattle.packet_encode.specs.Packets.{with_next_input}
 use Rattle.packet_store.specs.SpacePackets.{period, space_packet}
 use Rattle.flight_chain.specs.declared.compressing.Compressing.{Compressing}
 use Rattle.flight_chain.specs.declared.fault.RecordFault.{RecordFault}
-use Rattle.flight_chain.specs.declared.reading.Unread.{Unread}
-use Rattle.flight_chain.specs.Reading.{TakesInput, AfterUnread, fault_by}
+use Rattle.flight_chain.specs.Reading.{TakesInput, AfterUnread}
 use Rattle.flight_chain.specs.Recordings.{walk_over}
 use Rattle.flight_chain.specs.Stores.{data_at}
-use Rattle.flight_chain.specs.Compressing.{Compression, history_by, HasTaken, left_to_compress, next_packet, required_robustness, rest_work, stop_by, with_packet}
+use Rattle.flight_chain.specs.Compressing.{Compression, history_by, HasTaken, left_to_compress, next_packet, required_robustness, rest_work, with_packet}
 use Rattle.flight_chain.proofs.RecordTurns.{AfterWalk-recording, TakesItem-recording}
 
 length-push : (inputs : List (List Bool)) (input : List Bool) → length (inputs ++ input ∷ []) ≡ length inputs + 1
@@ -50,13 +50,13 @@ pub HasTaken-number : (k : Compression) (inputs : List (List Bool)) (s : Compres
 HasTaken-number k inputs s taken = taken.stands.masks.taken ∙ length-history_of inputs (flags_of k.rows.flags) (required_robustness k.rows.robust k.robust) k.places k.mask
 
 -- a packet that was not read ends the run
-pub AfterStop-next : (k : Compression) (inputs : List (List Bool)) (s : Compressing) (f t : ℕ) (before : List ℕ) (a b : Meanings) (work : Work ℕ RecordFault) (u : Unread) → HasTaken k inputs s → length s.encoder.masks.mask ≡ f → t ≡ s.encoder.masks.taken
-    → work ≡ rest_work k inputs before → AfterUnread f t before a b u → AfterStop work.course a b (stop_by (fault_by u))
-AfterStop-next k inputs s f t before a b work u taken places number is after =
+pub AfterStop-next : (k : Compression) (inputs : List (List Bool)) (s : Compressing) (f t : ℕ) (before : List ℕ) (a b : Meanings) (work : Work ℕ RecordFault) (reason : Stop RecordFault) → HasTaken k inputs s → length s.encoder.masks.mask ≡ f → t ≡ s.encoder.masks.taken
+    → work ≡ rest_work k inputs before → AfterUnread f t before a b reason → AfterStop work.course a b reason
+AfterStop-next k inputs s f t before a b work reason taken places number is after =
     let f_is = sym places ∙ taken.places in
     let t_is = number ∙ HasTaken-number k inputs s taken in
-    let here = subst (λ (n : ℕ). AfterUnread k.places n before a b u) t_is (subst (λ (n : ℕ). AfterUnread n t before a b u) f_is after) in
-    AfterStop-on (left_to_compress k inputs) (walk_over k.places (length inputs) before) work a b (stop_by (fault_by u)) is refl (AfterWalk-recording k.places (length inputs) before a b u here)
+    let here = subst (λ (n : ℕ). AfterUnread k.places n before a b reason) t_is (subst (λ (n : ℕ). AfterUnread n t before a b reason) f_is after) in
+    AfterStop-on (left_to_compress k inputs) (walk_over k.places (length inputs) before) work a b reason is refl (AfterWalk-recording k.places (length inputs) before a b reason here)
 
 module _ (k : Compression) (inputs : List (List Bool)) (s : Compressing) (taken : HasTaken k inputs s) (t : ℕ) (number : t ≡ length inputs) (input : List Bool) where
   -- the history with the next input

@@ -1,16 +1,10 @@
 -- A reading of one packet of a recording: what stands after each of its answers.
-use Rattle.std.specs.Prelude.{◌≡◌, ℕ, ◌+◌, ◌^◌, ◌<◌, Bool, List, [], ◌++◌, length, Result, Ok, Err, IfSome}
+use Rattle.std.specs.Prelude.{◌≡◌, ℕ, ◌+◌, ◌^◌, ◌<◌, Bool, List, [], ◌++◌, length, IfSome}
 use Rattle.bit_vectors.specs.Vectors.{byte_count}
-use Rattle.desk_ports.specs.Meanings.{Meanings, Counts, Moves, FailsToRead, left}
+use Rattle.desk_ports.specs.Meanings.{Meanings, Moves, left}
 use Rattle.desk_ports.specs.declared.desk.Inlet.TheVariants as inlet
-use Rattle.desk_ports.specs.Stop.{Stop}
-use Rattle.desk_ports.specs.Stop as stop
+use Rattle.desk_ports.specs.Stop.{Stop, Data, ReadFault, WriteFault}
 use Rattle.flight_chain.specs.declared.fault.RecordFault.{RecordFault}
-use Rattle.flight_chain.specs.declared.fault.RecordFault.TheVariants as record_fault
-use Rattle.flight_chain.specs.declared.fault.FlightFault.{FlightFault}
-use Rattle.flight_chain.specs.declared.fault.FlightFault.TheVariants.{CutRecord, SpareBit, TooMany, ReadFault}
-use Rattle.flight_chain.specs.declared.reading.Unread.{Unread}
-use Rattle.flight_chain.specs.declared.reading.Unread.TheVariants as unread
 use Rattle.flight_chain.specs.Recordings.{recording_walk_from, input_first, stopped_at}
 
 -- Some bytes were read after those that were ahead, and nothing else happened. The packet t with this input was taken,
@@ -37,25 +31,8 @@ pub record Waits (f t : ℕ) (before : List ℕ) (old new : Meanings) : Type 0 w
   pub short : length (before ++ taken) < byte_count f
   pub none : (recording_walk_from f t (before ++ taken)).inputs ≡ []
 
--- after a packet that was not read, when these bytes were ahead
-abbrev pub AfterUnread : ℕ → ℕ → List ℕ → Meanings → Meanings → Unread → Type 0
-AfterUnread f t before old new (unread.Data fault) = Stops f t before old new fault
-AfterUnread f t before old new unread.ReadFault = Waits f t before old new
-
--- ReadFault comes only if a reading failed, and otherwise both counts are as before
-abbrev pub HasUnreadCause : {T : Type 0} → Counts → Counts → Result T Unread → Type 0
-HasUnreadCause old new (Ok done) = new ≡ old
-HasUnreadCause old new (Err (unread.Data fault)) = new ≡ old
-HasUnreadCause old new (Err unread.ReadFault) = FailsToRead old new
-
--- the reason to end a run
-abbrev pub stop_of : Unread → Stop RecordFault
-stop_of (unread.Data fault) = stop.Data fault
-stop_of unread.ReadFault = stop.ReadFault
-
--- the answer of a flight
-abbrev pub fault_by : Unread → FlightFault
-fault_by (unread.Data (record_fault.CutRecord t)) = CutRecord t
-fault_by (unread.Data (record_fault.SpareBit t)) = SpareBit t
-fault_by (unread.Data record_fault.TooMany) = TooMany
-fault_by unread.ReadFault = ReadFault
+-- after a packet that was not read, by the reason to end the run, when these bytes were ahead
+abbrev pub AfterUnread : ℕ → ℕ → List ℕ → Meanings → Meanings → Stop RecordFault → Type 0
+AfterUnread f t before old new (Data fault) = Stops f t before old new fault
+AfterUnread f t before old new ReadFault = Waits f t before old new
+AfterUnread f t before old new WriteFault = ⊥

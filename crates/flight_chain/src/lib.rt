@@ -14,4 +14,4 @@ pub use laws::{
     schedules_without_robustness, stores_grow, stores_of_histories_are_walked,
     walks_of_front_recordings, whole_recordings_owe_their_store, worked_recordings,
 };
-pub use reading::{Unread, read_input};
+pub use reading::read_input;

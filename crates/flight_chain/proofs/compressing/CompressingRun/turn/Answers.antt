@@ -5,7 +5,7 @@ use Rattle.desk_ports.proofs.Runs.{Ran-none}
 use Rattle.desk_ports.proofs.Steps.{AreReady-moved}
 use Rattle.desk_ports.proofs.WalkTurns.{Advances-on, Finishes-on, IsCutShort-on}
 use Rattle.desk_ports.specs.WalkWorks.{work_on}
-use Rattle.flight_chain.specs.Compressing.{left_to_compress, Owes}
+use Rattle.flight_chain.specs.Compressing.{left_to_compress, Owes, stop_by}
 use Rattle.flight_chain.specs.Recordings.{walk_over}
 use Rattle.flight_chain.proofs.CompressCourses.{AfterStop-next, GoesOn-compress, HasTaken-number, HasTaken-read, IsDone-compress, IsNext-read, rest_work-next}
 use Rattle.flight_chain.proofs.RecordTurns.{IsOver-recording}
@@ -17,7 +17,7 @@ returns-in_err-t-clause-turned g c = λ work owes.
     let a = g.D.Desk.meaning c.args.desk.now in
     let b = g.D.Desk.meaning c.read_input.new.desk in
     let p = err_from_is_err_and c.from_residual.result c.from_residual.ensures.1 in
-    rw (p.1, p.2) (AfterStop-next owes.k owes.inputs c.args.self.now _ c.taken-number.result c.args.self.now.ahead a b work c.in_err-t.field-0.0 owes.taken owes.right.places c.taken-number.ensures.kept owes.work_is c.in_err-t.ensures.unread)
+    rw (p.1, p.2) (AfterStop-next owes.k owes.inputs c.args.self.now _ c.taken-number.result c.args.self.now.ahead a b work (stop_by c.in_err-t.field-0.0) owes.taken owes.right.places c.taken-number.ensures.kept owes.work_is c.in_err-t.ensures.unread)
 
 -- the recording is at its end
 pub returns-in_default-clause-turned : goal.returns-in_default-clause-turned

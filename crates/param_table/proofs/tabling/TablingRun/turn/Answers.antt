@@ -12,7 +12,6 @@ use Rattle.desk_ports.proofs.Writings.{WritesBy-alone}
 use Rattle.flight_chain.specs.Recordings.{walk_over}
 use Rattle.flight_chain.proofs.RecordTurns.{AfterWalk-recording, IsOver-recording, TakesItem-recording}
 use Rattle.flight_chain.specs.Compressing.{stop_by}
-use Rattle.flight_chain.specs.Reading.{fault_by}
 use Rattle.param_table.specs.declared.rows.Column.{Column}
 use Rattle.param_table.specs.declared.tabling.Tabling.{Tabling}
 use Rattle.param_table.specs.Tabling.{Owes, left_to_tabulate, packet_texts, parts_left}
@@ -26,9 +25,9 @@ returns-in_err-t-clause-turned g c = λ work owes.
     let s = c.args.self.now in
     let a = g.D.Desk.meaning c.args.desk.now in
     let b = g.D.Desk.meaning c.read_input.new.desk in
-    let u = c.in_err-t.field-0.0 in
+    let reason = stop_by c.in_err-t.field-0.0 in
     let p = err_from_is_err_and c.from_residual.result c.from_residual.ensures.1 in
-    rw (p.1, p.2) (AfterStop-on (left_to_tabulate s.fields s.taken s.found) (walk_over (length s.packet) s.taken s.ahead) work a b (stop_by (fault_by u)) owes.work_is refl (AfterWalk-recording (length s.packet) s.taken s.ahead a b u c.in_err-t.ensures.unread))
+    rw (p.1, p.2) (AfterStop-on (left_to_tabulate s.fields s.taken s.found) (walk_over (length s.packet) s.taken s.ahead) work a b reason owes.work_is refl (AfterWalk-recording (length s.packet) s.taken s.ahead a b reason c.in_err-t.ensures.unread))
 
 -- the recording is at its end
 pub write_end-requires : goal.write_end-requires
@@ -90,9 +89,9 @@ returns-in_err-t-clause-parts g c = λ parts_of owes.
     let s = c.args.self.now in
     let a = g.D.Desk.meaning c.args.desk.now in
     let b = g.D.Desk.meaning c.read_input.new.desk in
-    let u = c.in_err-t.field-0.0 in
+    let reason = stop_by c.in_err-t.field-0.0 in
     let p = err_from_is_err_and c.from_residual.result c.from_residual.ensures.1 in
-    rw (p.1, p.2) (StopsWithin-on outlet.Main parts_of (walk_over (length s.packet) s.taken s.ahead) a b (stop_by (fault_by u)) (AfterWalk-recording (length s.packet) s.taken s.ahead a b u c.in_err-t.ensures.unread))
+    rw (p.1, p.2) (StopsWithin-on outlet.Main parts_of (walk_over (length s.packet) s.taken s.ahead) a b reason (AfterWalk-recording (length s.packet) s.taken s.ahead a b reason c.in_err-t.ensures.unread))
 
 pub returns-in_err-write_end-clause-parts : goal.returns-in_err-write_end-clause-parts
 returns-in_err-write_end-clause-parts g c = λ parts_of owes.
