@@ -60,7 +60,10 @@ impl RunDesk {
         ensures { OnOk result
             (Begins (run_meanings self.old) (run_meanings self.new) outlet name.now) }
     {
-        self.open_out(outlet, name).map_err(no_memory)
+        let Ok(()) = self.open_out(outlet, name) else {
+            return Err(NoMemory);
+        };
+        Ok(())
     }
 
     /// Finishes an output, which is held then.
@@ -68,7 +71,10 @@ impl RunDesk {
         requires { IsReadyOut (run_meanings self.old) outlet }
         ensures { OnOk result (Keeps (run_meanings self.old) (run_meanings self.new) outlet) }
     {
-        self.finish(outlet).map_err(no_memory)
+        let Ok(()) = self.finish(outlet) else {
+            return Err(NoMemory);
+        };
+        Ok(())
     }
 
     /// The desk after the run.
@@ -78,11 +84,6 @@ impl RunDesk {
     {
         self.desk
     }
-}
-
-/// What a failed writing is when no call is told to fail.
-fn no_memory(_failed: Failed) -> NoMemory {
-    NoMemory
 }
 
 impl Desk for RunDesk {
