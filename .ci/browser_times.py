@@ -1,7 +1,10 @@
-"""How long what is done with the page holds up its thread, on a machine that has other work too and may be a slow one."""
+"""How long what is done with the page holds up its thread, on a machine that has other work too and may be a slow one.
+
+The milliseconds that a case names are a goal. What fails is a step whose best time of all tries is above twice the goal, or above more if
+the loop below takes longer than it did when it was measured: at a load of 7, for no quiet machine was at hand."""
 
 TRIES = 5
-# What takes the page's thread some forty milliseconds on the machine for which the limits are: sums over eight megabytes.
+# What took the page's thread some forty milliseconds: sums over eight megabytes.
 LOOP = """(() => { const cells = new Float64Array(1 << 20); let x = 1;
     for (let n = 0; n < 4e6; n++) { x = Math.imul(x, 48271) & 0x7fffffff; cells[x & 1048575] += x; } return cells[0]; })()"""
 LOOP_TOOK = 40
@@ -32,7 +35,7 @@ def taken(browser, steps, of):
 
 
 def slowness(browser):
-    """How much slower than the machine for which the limits are this one is now; at least 1."""
+    """How many times as long as then the loop takes now; at least 1."""
     return max(1, longest(browser.tasks(lambda: browser.value(LOOP) and None)) / LOOP_TOOK)
 
 
