@@ -4,7 +4,6 @@ pub mod ReadAheads
 pub mod Runs
 pub mod Courses
 pub mod Steps
-pub mod Parts
 pub mod WalkTurns
 pub mod Logs
 pub mod Cursors

@@ -5,8 +5,7 @@ use Rattle.desk_ports.specs.declared.desk.Inlet.TheVariants as inlet
 use Rattle.desk_ports.specs.declared.desk.Outlet.{Outlet}
 use Rattle.desk_ports.specs.Stop.{Stop, Data, ReadFault, WriteFault}
 use Rattle.desk_ports.specs.Meanings.{Meanings, Moves, left}
-use Rattle.desk_ports.specs.Runs.{Ran}
-use Rattle.desk_ports.specs.Courses.{Outputs, no_outputs, put, Course, owed, written_first, AreFronts, Went, Ends, IsCutOff, IsCutShort, Work, Finishes, AfterStop, AfterRun}
+use Rattle.desk_ports.specs.Courses.{Outputs, Ran, Course, owed, written_first, AreFronts, Went, Ends, IsCutOff, IsCutShort, Work, Finishes, AfterStop, AfterRun}
 use Rattle.desk_ports.specs.Turns.{AreReady, Steps, Reaches, Advances, IsLast, Wrote, WroteFront}
 use Rattle.desk_ports.proofs.Runs.{Ran-none, Ran-then, Ran-moves, Ran-ready_in, Ran-ready_out}
 use Rattle.desk_ports.proofs.Courses.{owed-written_first, written_first-twice, AreFronts-then, AreFronts-put, rest_of, Went-ran, Went-then, IfSome-IsAtEnd}
@@ -16,9 +15,9 @@ use Rattle.desk_ports.proofs.Transfers.{prepend_known-none}
 
 -- no turn was made
 pub Reaches-none : {A F : Type 0} (work : Work A F) (m : Meanings) → Reaches work work m m
-Reaches-none work m = record { taken = []; outputs = no_outputs; ran = Ran-none m; steps = record { course = λ rest. refl; answer = λ rest. refl } }
+Reaches-none work m = record { taken = []; outputs = []; ran = Ran-none m; steps = record { course = λ rest. refl; answer = λ rest. refl } }
 
-Steps-then : {A F : Type 0} (work here next : Work A F) (xs ys : List ℕ) (a b : Outputs) → Steps work here xs a → Steps here next ys b → Steps work next (xs ++ ys) (put a b)
+Steps-then : {A F : Type 0} (work here next : Work A F) (xs ys : List ℕ) (a b : Outputs) → Steps work here xs a → Steps here next ys b → Steps work next (xs ++ ys) (a ++ b)
 Steps-then work here next xs ys a b p q = record {
   course = λ rest. ap work.course (append_assoc xs ys rest) ∙ (p.course (ys ++ rest) ∙ (ap (written_first a) (q.course rest) ∙ written_first-twice a b (next.course rest)));
   answer = λ rest. ap work.answer (append_assoc xs ys rest) ∙ (p.answer (ys ++ rest) ∙ q.answer rest);
@@ -27,8 +26,8 @@ Steps-then work here next xs ys a b p q = record {
 Reaches-then : {A F : Type 0} (work here next : Work A F) (a b c : Meanings) → Reaches work here a b → Reaches here next b c → Reaches work next a c
 Reaches-then work here next a b c p q = record {
   taken = p.taken ++ q.taken;
-  outputs = put p.outputs q.outputs;
-  ran = Ran-then a b c p.taken q.taken p.outputs.output q.outputs.output p.outputs.report q.outputs.report p.ran q.ran;
+  outputs = p.outputs ++ q.outputs;
+  ran = Ran-then a b c p.taken q.taken p.outputs q.outputs p.ran q.ran;
   steps = Steps-then work here next p.taken q.taken p.outputs q.outputs p.steps q.steps;
 }
 
@@ -48,18 +47,17 @@ Ends-after {F = F} work here a b c ending p q =
 
 IsCutOff-after : {A F : Type 0} (work here : Work A F) (a b c : Meanings) → Reaches work here a b → IsCutOff here.course b c → IsCutOff work.course a c
 IsCutOff-after {F = F} work here a b c p q =
-    let stand = (here.course q.taken).before in
     record {
       taken = p.taken ++ q.taken;
-      ran = subst (λ (o : Outputs). Ran a c (p.taken ++ q.taken) o.output o.report) (sym (ap (λ (k : Course F). k.before) (p.steps.course q.taken))) (Ran-then a b c p.taken q.taken p.outputs.output stand.output p.outputs.report stand.report p.ran q.ran);
+      ran = subst (Ran a c (p.taken ++ q.taken)) (sym (ap (λ (k : Course F). k.before) (p.steps.course q.taken))) (Ran-then a b c p.taken q.taken p.outputs (here.course q.taken).before p.ran q.ran);
     }
 
 IsCutShort-after : {A F : Type 0} (work here : Work A F) (a b c : Meanings) → Reaches work here a b → IsCutShort here.course b c → IsCutShort work.course a c
 IsCutShort-after work here a b c p q = record {
   input = p.taken ++ q.input;
-  stand = put p.outputs q.stand;
+  stand = p.outputs ++ q.stand;
   went = Went-then a b c p.taken q.input p.outputs q.stand p.ran q.went;
-  fronts = subst (AreFronts (put p.outputs q.stand)) (sym (ap owed (p.steps.course q.input) ∙ owed-written_first p.outputs (here.course q.input))) (AreFronts-put p.outputs q.stand (owed (here.course q.input)) q.fronts);
+  fronts = subst (AreFronts (p.outputs ++ q.stand)) (sym (ap owed (p.steps.course q.input) ∙ owed-written_first p.outputs (here.course q.input))) (AreFronts-put p.outputs q.stand (owed (here.course q.input)) q.fronts);
 }
 
 -- a fault that ended the run, after the turns before it
@@ -79,23 +77,23 @@ AfterRun-after work here a b c (Ok answer) p q = Finishes-after work here a b c 
 AfterRun-after work here a b c (Err stop) p q = AfterStop-after work here a b c stop p q
 
 -- what was opened stays open
-pub AreReady-ran : (writes : Outlet → Bool) (a b : Meanings) (xs us rs : List ℕ) → Ran a b xs us rs → AreReady writes a → AreReady writes b
-AreReady-ran writes a b xs us rs ran ready = record { input = Ran-ready_in a b xs us rs ran ready.input; outputs = λ outlet is. Ran-ready_out a b outlet xs us rs ran (ready.outputs outlet is) }
+pub AreReady-ran : (writes : Outlet → Bool) (a b : Meanings) (xs : List ℕ) (us : Outputs) → Ran a b xs us → AreReady writes a → AreReady writes b
+AreReady-ran writes a b xs us ran ready = record { input = Ran-ready_in a b xs us ran ready.input; outputs = λ outlet is. Ran-ready_out a b outlet xs us ran (ready.outputs outlet is) }
 
 pub AreReady-moved : {writes : Outlet → Bool} {a b : Meanings} {taken : List ℕ} → Moves a b inlet.Main taken → AreReady writes a → AreReady writes b
-AreReady-moved {writes = writes} {a = a} {b = b} {taken = taken} moves ready = AreReady-ran writes a b taken [] [] (Ran-moves a b taken moves) ready
+AreReady-moved {writes = writes} {a = a} {b = b} {taken = taken} moves ready = AreReady-ran writes a b taken [] (Ran-moves a b taken moves) ready
 
 -- ---- a turn
 
-pub Ran-taken : (a b c : Meanings) (taken : List ℕ) (outputs : Outputs) → Moves a b inlet.Main taken → Wrote b c outputs → Ran a c taken outputs.output outputs.report
-Ran-taken a b c taken outputs moves wrote = subst (λ (l : List ℕ). Ran a c l outputs.output outputs.report) (append-nil taken) (Ran-then a b c taken [] [] outputs.output [] outputs.report (Ran-moves a b taken moves) wrote)
+pub Ran-taken : (a b c : Meanings) (taken : List ℕ) (outputs : Outputs) → Moves a b inlet.Main taken → Wrote b c outputs → Ran a c taken outputs
+Ran-taken a b c taken outputs moves wrote = subst (λ (l : List ℕ). Ran a c l outputs) (append-nil taken) (Ran-then a b c taken [] [] outputs (Ran-moves a b taken moves) wrote)
 
 -- bytes were taken, and all that is owed for them was written
 pub Advances-taken : {A F : Type 0} {work here next : Work A F} {owes : Work A F → Type 0} {a b c : Meanings} {taken : List ℕ} {outputs : Outputs} → work ≡ here → Steps here next taken outputs → Moves a b inlet.Main taken → Wrote b c outputs → owes next → Advances work owes a c
 Advances-taken {A = A} {F = F} {next = next} {owes = owes} {a = a} {b = b} {c = c} {taken = taken} {outputs = outputs} is steps moves wrote owed =
     subst (λ (w : Work A F). Advances w owes a c) (sym is) (record { next = next; owed = owed; reaches = record { taken = taken; outputs = outputs; ran = Ran-taken a b c taken outputs moves wrote; steps = steps } })
 
-IsCutShort-front : {A F : Type 0} (work next : Work A F) (a b : Meanings) (taken : List ℕ) (stand outputs : Outputs) → Steps work next taken outputs → AreFronts stand outputs → Ran a b taken stand.output stand.report → IsCutShort work.course a b
+IsCutShort-front : {A F : Type 0} (work next : Work A F) (a b : Meanings) (taken : List ℕ) (stand outputs : Outputs) → Steps work next taken outputs → AreFronts stand outputs → Ran a b taken stand → IsCutShort work.course a b
 IsCutShort-front work next a b taken stand outputs steps fronts ran =
     let rest = rest_of (left b inlet.Main) in
     record {

@@ -1,17 +1,14 @@
--- How a turn over an input is made that is walked item by item, for every work and for all parts that are defined by the walk.
-use Rattle.std.proofs.Common.{◌≡◌, ℕ, List, [], ◌∷◌, ◌++◌, Some, None, IfSome, sym, ap, ◌∙◌, subst, append_assoc}
+-- How a turn over an input is made that is walked item by item, for every work that is defined by the walk.
+use Rattle.std.proofs.Common.{◌≡◌, ℕ, List, [], ◌∷◌, ◌++◌, Some, None, IfSome, sym, ap, ◌∙◌, subst}
 use Rattle.std.specs.Io.KnownBytes.{IsAtEnd}
 use Rattle.desk_ports.specs.declared.desk.Inlet.TheVariants as inlet
-use Rattle.desk_ports.specs.declared.desk.Outlet.{Outlet}
 use Rattle.desk_ports.specs.Stop.{Stop, Data, ReadFault, WriteFault}
 use Rattle.desk_ports.specs.Meanings.{Meanings, Moves, left}
-use Rattle.desk_ports.specs.Courses.{Outputs, no_outputs, put, Work, Finishes, AfterStop, IsCutShort}
+use Rattle.desk_ports.specs.Courses.{Outputs, Work, Finishes, AfterStop, IsCutShort}
 use Rattle.desk_ports.specs.Turns.{Steps, Advances, IsLast, Wrote, WroteFront}
-use Rattle.desk_ports.specs.Parts.{AdvancesParts, IsCutWithin, StopsWithin, WroteWithin, if_whole, put_all}
-use Rattle.desk_ports.specs.WalkWorks.{WalkOver, WalkWork, WalkParts, course_on, work_on, parts_on}
+use Rattle.desk_ports.specs.WalkWorks.{WalkOver, WalkWork, course_on, work_on}
 use Rattle.desk_ports.proofs.Courses.{Ends-fault, IsCutOff-moves}
 use Rattle.desk_ports.proofs.Steps.{Advances-taken, Finishes-end, IsCutShort-taken, IsCutShort-end}
-use Rattle.desk_ports.proofs.Parts.{AdvancesParts-taken, IsCutWithin-end, IsCutWithin-taken}
 
 -- ---- the walk ends early
 
@@ -36,20 +33,14 @@ AfterWalk walk a b (Data fault) = StopsAt walk a b fault
 AfterWalk walk a b ReadFault = IsCutInItem walk a b
 AfterWalk walk a b WriteFault = ⊥
 
-AfterStop-at : {P A F : Type 0} (k : WalkWork P A) (walk : WalkOver P F) (a b : Meanings) (stop : Stop F) → k.before [] ≡ no_outputs → AfterWalk walk a b stop → AfterStop (course_on k walk) a b stop
+AfterStop-at : {P A F : Type 0} (k : WalkWork P A) (walk : WalkOver P F) (a b : Meanings) (stop : Stop F) → k.before [] ≡ [] → AfterWalk walk a b stop → AfterStop (course_on k walk) a b stop
 AfterStop-at k walk a b (Data fault) nothing stops = Ends-fault (course_on k walk) a b stops.taken stops.rest fault stops.moved stops.told (ap k.before stops.items ∙ nothing) stops.ending
 AfterStop-at k walk a b ReadFault nothing cut = IsCutOff-moves (course_on k walk) a b cut.taken cut.moved (ap k.before cut.items ∙ nothing)
 AfterStop-at k walk a b WriteFault nothing none = absurd none
 
 -- then the run ends
-pub AfterStop-on : {P A F : Type 0} (k : WalkWork P A) (walk : WalkOver P F) (work : Work A F) (a b : Meanings) (stop : Stop F) → work ≡ work_on k walk → k.before [] ≡ no_outputs → AfterWalk walk a b stop → AfterStop work.course a b stop
+pub AfterStop-on : {P A F : Type 0} (k : WalkWork P A) (walk : WalkOver P F) (work : Work A F) (a b : Meanings) (stop : Stop F) → work ≡ work_on k walk → k.before [] ≡ [] → AfterWalk walk a b stop → AfterStop work.course a b stop
 AfterStop-on {A = A} {F = F} k walk work a b stop is nothing after = subst (λ (w : Work A F). AfterStop w.course a b stop) (sym is) (AfterStop-at k walk a b stop nothing after)
-
--- and no write failed
-pub StopsWithin-on : {P F : Type 0} (first : Outlet) (parts_of : List ℕ → List Outputs) (walk : WalkOver P F) (a b : Meanings) (stop : Stop F) → AfterWalk walk a b stop → StopsWithin first parts_of a b stop
-StopsWithin-on first parts_of walk a b (Data fault) stops = tt
-StopsWithin-on first parts_of walk a b ReadFault cut = tt
-StopsWithin-on first parts_of walk a b WriteFault none = absurd none
 
 -- ---- an item was read
 
@@ -62,7 +53,7 @@ pub record TakesItem {P F : Type 0} (walk later : WalkOver P F) (a b : Meanings)
 
 -- an item owes this output, and the items after it owe other work
 pub record GoesOn {P A : Type 0} (k next : WalkWork P A) (item : P) (outputs : Outputs) : Type 0 where
-  pub before : (items : List P) → k.before (item ∷ items) ≡ put outputs (next.before items)
+  pub before : (items : List P) → k.before (item ∷ items) ≡ outputs ++ next.before items
   pub answer : (items : List P) → k.answer (item ∷ items) ≡ next.answer items
   pub after : (items : List P) → k.after (item ∷ items) ≡ next.after items
 
@@ -87,30 +78,6 @@ pub IsCutShort-on : {P A F : Type 0} {k next : WalkWork P A} {walk later : WalkO
     → TakesItem walk later a b item → GoesOn k next item outputs → work ≡ work_on k walk → WroteFront b d outputs → IsCutShort work.course a d
 IsCutShort-on takes goes_on is front = IsCutShort-taken is (Steps-on takes goes_on) takes.moved front
 
--- an item owes these parts, and the items after it owe other ones
-pub record PartsGoOn {P : Type 0} (k next : WalkParts P) (item : P) (parts : List Outputs) : Type 0 where
-  pub before : (items : List P) → k.before (item ∷ items) ≡ parts ++ next.before items
-  pub after : (items : List P) → k.after (item ∷ items) ≡ next.after items
-
-parts_on-item : {P F : Type 0} {k next : WalkParts P} {walk later : WalkOver P F} {a b : Meanings} {item : P} {parts : List Outputs} (takes : TakesItem walk later a b item) → PartsGoOn k next item parts
-    → (rest : List ℕ) → parts_on k walk (takes.taken ++ rest) ≡ parts ++ parts_on next later rest
-parts_on-item {k = k} {next = next} {later = later} {parts = parts} takes goes_on rest =
-    let items = later.items rest in
-    let before = ap k.before (takes.items rest) ∙ goes_on.before items in
-    let after = ap k.after (takes.items rest) ∙ goes_on.after items in
-    let ending = takes.ending rest in
-    (λ i. before i ++ if_whole (ending i) (after i)) ∙ append_assoc parts (next.before items) (if_whole (later.ending rest) (next.after items))
-
--- all of them were written
-pub AdvancesParts-on : {P F : Type 0} {k next : WalkParts P} {walk later : WalkOver P F} {parts_of : List ℕ → List Outputs} {owes : (List ℕ → List Outputs) → Type 0} {a b d : Meanings} {item : P} (parts : List Outputs)
-    → TakesItem walk later a b item → PartsGoOn k next item parts → parts_of ≡ parts_on k walk → Wrote b d (put_all parts) → owes (parts_on next later) → AdvancesParts parts_of owes a d
-AdvancesParts-on {next = next} {later = later} parts takes goes_on is wrote owed = AdvancesParts-taken (parts_on next later) parts is (parts_on-item takes goes_on) takes.moved wrote owed
-
--- and if a write failed, within one of them
-pub IsCutWithin-on : {P F : Type 0} {first : Outlet} {k next : WalkParts P} {walk later : WalkOver P F} {parts_of : List ℕ → List Outputs} {a b d : Meanings} {item : P} {parts : List Outputs}
-    → TakesItem walk later a b item → PartsGoOn k next item parts → parts_of ≡ parts_on k walk → WroteWithin first b d parts → IsCutWithin first parts_of a d
-IsCutWithin-on {next = next} {later = later} takes goes_on is cut = IsCutWithin-taken (parts_on next later) is (parts_on-item takes goes_on) takes.moved cut
-
 -- ---- nothing is left
 
 -- the walk is at its end, and so is the input
@@ -122,7 +89,7 @@ pub record IsOver {P F : Type 0} (walk : WalkOver P F) (a b : Meanings) : Type 0
 
 -- if there is no item, this last part alone is owed, and this is the answer
 pub record IsDone {P A : Type 0} (k : WalkWork P A) (last : Outputs) (answer : A) : Type 0 where
-  pub nothing : k.before [] ≡ no_outputs
+  pub nothing : k.before [] ≡ []
   pub last_is : k.after [] ≡ last
   pub answer_is : k.answer [] ≡ answer
 
@@ -140,12 +107,3 @@ Finishes-on done over is wrote = Finishes-end is (IsLast-on done over) over.move
 -- and if a write failed, only a prefix of it was written
 pub IsCutShort-end-on : {P A F : Type 0} {k : WalkWork P A} {walk : WalkOver P F} {work : Work A F} {a b d : Meanings} {last : Outputs} {answer : A} → IsDone k last answer → IsOver walk a b → work ≡ work_on k walk → WroteFront b d last → IsCutShort work.course a d
 IsCutShort-end-on done over is front = IsCutShort-end is (IsLast-on done over) over.moved over.at_end front
-
--- within one of the last parts
-pub IsCutWithin-end-on : {P F : Type 0} {first : Outlet} {parts_of : List ℕ → List Outputs} {walk : WalkOver P F} {a b d : Meanings} (k : WalkParts P)
-    → k.before [] ≡ [] → IsOver walk a b → parts_of ≡ parts_on k walk → WroteWithin first b d (k.after []) → IsCutWithin first parts_of a d
-IsCutWithin-end-on k nothing over is cut =
-    let before = ap k.before over.items ∙ nothing in
-    let after = ap k.after over.items in
-    let ending = over.ending in
-    IsCutWithin-end is (λ i. before i ++ if_whole (ending i) (after i)) over.moved over.at_end cut

@@ -1,28 +1,60 @@
 -- What a command owes for its input, that is, must write, and what a run of it does to a desk, by its answer. Every
 -- command reads one input to its end and writes up to two outputs.
-use Rattle.std.specs.Prelude.{◌≡◌, ℕ, List, [], ◌++◌, Option, Some, None, Result, Ok, Err, IfSome}
+use Rattle.std.specs.Prelude.{◌≡◌, ℕ, List, [], ◌∷◌, ◌++◌, map, Option, Some, None, Result, Ok, Err, IfSome}
+use Rattle.std.specs.List.{flat_map}
+use Rattle.std.specs.Io.KnownBytes.{prepend_known, append_known}
 use Rattle.desk_ports.specs.declared.desk.Inlet.TheVariants as inlet
+use Rattle.desk_ports.specs.declared.desk.Outlet.{Outlet}
+use Rattle.desk_ports.specs.declared.desk.Outlet.TheVariants as outlet
 use Rattle.desk_ports.specs.Stop.{Stop, Data, ReadFault, WriteFault}
-use Rattle.desk_ports.specs.Meanings.{Meanings, Counts, FailsToRead, FailsToWrite, left}
-use Rattle.desk_ports.specs.Runs.{Ran}
+use Rattle.desk_ports.specs.Meanings.{Meanings, Counts, FailsToRead, FailsToWrite, left, made, with_left, with_made}
 
--- bytes of the main output and of the report
-pub record Outputs : Type 0 where
+-- bytes for both outlets, each with its outlet, in the order in which they are written
+abbrev pub Outputs : Type 0
+Outputs = List (Outlet × ℕ)
+
+abbrev pub to_outlet : Outlet → List ℕ → Outputs
+to_outlet o bytes = map (λ byte. (o, byte)) bytes
+
+abbrev pub to_output : List ℕ → Outputs
+to_output bytes = to_outlet outlet.Main bytes
+
+abbrev pub to_report : List ℕ → Outputs
+to_report bytes = to_outlet outlet.Report bytes
+
+abbrev pub other_than : Outlet → Outlet
+other_than outlet.Main = outlet.Report
+other_than outlet.Report = outlet.Main
+
+-- a byte, if it is for this outlet
+abbrev pub byte_for : Outlet → Outlet × ℕ → List ℕ
+byte_for outlet.Main (outlet.Main, byte) = byte ∷ []
+byte_for outlet.Main (outlet.Report, byte) = []
+byte_for outlet.Report (outlet.Main, byte) = []
+byte_for outlet.Report (outlet.Report, byte) = byte ∷ []
+
+-- those of them that are for this outlet
+abbrev pub bytes_for : Outlet → Outputs → List ℕ
+bytes_for o outputs = flat_map (byte_for o) outputs
+
+-- the text of each output
+pub record OutputTexts : Type 0 where
   pub output : List ℕ
   pub report : List ℕ
 
-abbrev pub no_outputs : Outputs
-no_outputs = record { output = []; report = [] }
+abbrev pub texts_of : Outputs → OutputTexts
+texts_of outputs = record { output = bytes_for outlet.Main outputs; report = bytes_for outlet.Report outputs }
 
-abbrev pub to_output : List ℕ → Outputs
-to_output bytes = record { output = bytes; report = [] }
+-- the same desk with other bytes still to come and other bytes made
+abbrev pub with_bytes : Meanings → Option (List ℕ) → Option (List ℕ) → Option (List ℕ) → Meanings
+with_bytes m rest output report = with_made (with_made (with_left m inlet.Main rest) outlet.Main output) outlet.Report report
 
-abbrev pub to_report : List ℕ → Outputs
-to_report bytes = record { output = []; report = bytes }
-
--- these bytes and then those
-abbrev pub put : Outputs → Outputs → Outputs
-put first more = record { output = first.output ++ more.output; report = first.report ++ more.report }
+-- these bytes were taken from the main input, these were added to the outputs, each to its own, and nothing else changed
+pub record Ran (old new : Meanings) (taken : List ℕ) (outputs : Outputs) : Type 0 where
+  pub input : left old inlet.Main ≡ prepend_known taken (left new inlet.Main)
+  pub output : made new outlet.Main ≡ append_known (made old outlet.Main) (bytes_for outlet.Main outputs)
+  pub report : made new outlet.Report ≡ append_known (made old outlet.Report) (bytes_for outlet.Report outputs)
+  pub others : new ≡ with_bytes old (left new inlet.Main) (made new outlet.Main) (made new outlet.Report)
 
 -- What a command owes for an input: what must be written when the end of the input is reached, what a complete input
 -- adds to that, and the fault of the data, if there is one.
@@ -32,7 +64,7 @@ pub record Course (F : Type 0) : Type 0 where
   pub ending : Option F
 
 abbrev pub by_ending : {F : Type 0} → Option F → Outputs → Outputs → Outputs
-by_ending None before after = put before after
+by_ending None before after = before ++ after
 by_ending (Some fault) before after = before
 
 -- all that is owed: what a complete input adds is not owed if there is a fault
@@ -41,12 +73,12 @@ owed course = by_ending course.ending course.before course.after
 
 -- the same course if these outputs were written already
 abbrev pub written_first : {F : Type 0} → Outputs → Course F → Course F
-written_first stand course = record course { before = put stand course.before }
+written_first stand course = record course { before = stand ++ course.before }
 
 -- what was written is a prefix of all that is owed
 pub record AreFronts (stand all : Outputs) : Type 0 where
   pub rest : Outputs
-  pub joined : put stand rest ≡ all
+  pub joined : stand ++ rest ≡ all
 
 -- The input is these bytes, if the desk tells it. A prefix of it was taken, this was added to the outputs, and nothing
 -- else changed.
@@ -55,7 +87,7 @@ pub record Went (old new : Meanings) (input : List ℕ) (stand : Outputs) : Type
   pub rest : List ℕ
   pub split : taken ++ rest ≡ input
   pub told : IfSome (left new inlet.Main) (λ bytes. bytes ≡ rest)
-  pub ran : Ran old new taken stand.output stand.report
+  pub ran : Ran old new taken stand
 
 -- nothing is left of the main input, if the desk tells it
 abbrev pub IsReadOut : Meanings → Type 0
@@ -71,7 +103,7 @@ pub record Ends {F : Type 0} (course_of : List ℕ → Course F) (old new : Mean
 -- a read failed: what is owed for the bytes that were taken was written, and nothing of what a complete input adds
 pub record IsCutOff {F : Type 0} (course_of : List ℕ → Course F) (old new : Meanings) : Type 0 where
   pub taken : List ℕ
-  pub ran : Ran old new taken (course_of taken).before.output (course_of taken).before.report
+  pub ran : Ran old new taken (course_of taken).before
 
 -- a write failed: a prefix of what the input owes was written
 pub record IsCutShort {F : Type 0} (course_of : List ℕ → Course F) (old new : Meanings) : Type 0 where

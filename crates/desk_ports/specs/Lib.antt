@@ -1,11 +1,9 @@
 pub mod Meanings
 pub mod ReadAhead
-pub mod Runs
 pub mod Stop
 pub mod Courses
 pub mod Turns
 pub mod Writings
-pub mod Parts
 pub mod WalkWorks
 pub mod FileDesk
 pub mod Log

@@ -7,8 +7,7 @@ use Rattle.desk_ports.specs.Stop.{Stop}
 use Rattle.desk_ports.specs.declared.turns.Turn.{Turn}
 use Rattle.desk_ports.specs.declared.turns.Turn.TheVariants.{More, Done}
 use Rattle.desk_ports.specs.Meanings.{Meanings, IsReadyIn, IsReadyOut}
-use Rattle.desk_ports.specs.Runs.{Ran}
-use Rattle.desk_ports.specs.Courses.{Outputs, no_outputs, written_first, AreFronts, Work, Finishes, AfterStop}
+use Rattle.desk_ports.specs.Courses.{Outputs, Ran, written_first, AreFronts, Work, Finishes, AfterStop}
 
 -- there is work that is owed, that is, still to do
 pub record IsOwed {A F : Type 0} (owes : Work A F → Type 0) : Type 0 where
@@ -34,7 +33,7 @@ pub record Steps {A F : Type 0} (work next : Work A F) (taken : List ℕ) (outpu
 pub record Reaches {A F : Type 0} (work next : Work A F) (old new : Meanings) : Type 0 where
   pub taken : List ℕ
   pub outputs : Outputs
-  pub ran : Ran old new taken outputs.output outputs.report
+  pub ran : Ran old new taken outputs
   pub steps : Steps work next taken outputs
 
 -- part of the work is done, and some other work is still to do
@@ -51,12 +50,12 @@ AfterTurn work owes old new (Err stop) = AfterStop work.course old new stop
 
 -- Nothing is left of the input: this last part is owed, and this is the answer.
 pub record IsLast {A F : Type 0} (work : Work A F) (last : Outputs) (value : A) : Type 0 where
-  pub course : work.course [] ≡ record { before = no_outputs; after = last; ending = None }
+  pub course : work.course [] ≡ record { before = []; after = last; ending = None }
   pub answer : work.answer [] ≡ value
 
 -- these bytes were written, and nothing else happened
 abbrev pub Wrote : Meanings → Meanings → Outputs → Type 0
-Wrote old new all = Ran old new [] all.output all.report
+Wrote old new all = Ran old new [] all
 
 -- a prefix of these bytes was written, and nothing else happened
 pub record WroteFront (old new : Meanings) (all : Outputs) : Type 0 where

@@ -1,7 +1,6 @@
 -- Work over an input that is walked item by item, as a store is by its packets and a recording by its vectors.
-use Rattle.std.specs.Prelude.{ℕ, List, ◌++◌, Option}
+use Rattle.std.specs.Prelude.{ℕ, List, Option}
 use Rattle.desk_ports.specs.Courses.{Outputs, Course, Work}
-use Rattle.desk_ports.specs.Parts.{if_whole}
 
 -- the walk over the bytes that are left: its items in order, and the fault that ends it, or none
 pub record WalkOver (P F : Type 0) : Type 0 where
@@ -21,12 +20,3 @@ course_on k walk bytes = record { before = k.before (walk.items bytes); after = 
 -- the work over them
 abbrev pub work_on : {P A F : Type 0} → WalkWork P A → WalkOver P F → Work A F
 work_on k walk = record { course = course_on k walk; answer = λ bytes. k.answer (walk.items bytes) }
-
--- the parts that items owe, and, if the input is whole, those that are owed last
-pub record WalkParts (P : Type 0) : Type 0 where
-  pub before : List P → List Outputs
-  pub after : List P → List Outputs
-
--- the parts that are owed for the bytes that are left
-abbrev pub parts_on : {P F : Type 0} → WalkParts P → WalkOver P F → List ℕ → List Outputs
-parts_on k walk bytes = k.before (walk.items bytes) ++ if_whole (walk.ending bytes) (k.after (walk.items bytes))

@@ -6,8 +6,8 @@ ghost use Rattle.desk_ports.specs.declared.desk.Failed.{Failed};
 ghost use Rattle.desk_ports.specs.declared.desk.Inlet.{Inlet};
 ghost use Rattle.desk_ports.specs.declared.desk.Outlet.{Outlet};
 ghost use Rattle.desk_ports.specs.Meanings.{Meanings, Counts, Moves, Adds, AddsFront, AreBelowLast, Fails, Keeps, Opens, Rose, faults, HasReadCause, HasWriteCause, left, made, outgoing};
-ghost use Rattle.desk_ports.specs.Courses.{Course, Ends, Finishes, Outputs, Work, owed, put};
-ghost use Rattle.desk_ports.specs.Writings.{to_outlet, Writes};
+ghost use Rattle.desk_ports.specs.Courses.{Course, Ends, Finishes, Outputs, Work, bytes_for, owed, to_outlet};
+ghost use Rattle.desk_ports.specs.Writings.{Writes};
 ghost use Rattle.desk_ports.specs.QuietState.{QuietState, quiet_meanings, quiet_counts};
 
 /// Two reads are one read of both pieces, and two writes are one write.
@@ -30,7 +30,7 @@ pub fn writes_go_by_their_answer<D, T, E>()
         × HasWriteCause (counts old) (counts new) result) }
     ensures joined { (meaning : D → Meanings) (counts : D → Counts) (a b c : D) (first next : Outputs) (done : T) (answer result : Result T E)
         → answer ≡ Ok done → Writes meaning counts a b first answer
-        → Writes meaning counts b c next result → Writes meaning counts a c (put first next) result }
+        → Writes meaning counts b c next result → Writes meaning counts a c (first ++ next) result }
 {}
 
 /// What was written to an output that was finished is what is left of an input that is then opened by the same name.
@@ -47,9 +47,10 @@ pub fn finished_is_held()
 pub fn runs_follow_their_course<A, F>()
     ensures written { (course_of : List ℕ → Course F) (a b : Meanings) (ending : Option F) (input : List ℕ)
         → left a Inlet.Main ≡ Some input → Ends course_of a b ending
-        → (made b Outlet.Main ≡ append_known (made a Outlet.Main) (owed (course_of input)).output)
+        → (made b Outlet.Main
+        ≡ append_known (made a Outlet.Main) (bytes_for Outlet.Main (owed (course_of input))))
         × (made b Outlet.Report
-        ≡ append_known (made a Outlet.Report) (owed (course_of input)).report)
+        ≡ append_known (made a Outlet.Report) (bytes_for Outlet.Report (owed (course_of input))))
         × ((course_of input).ending ≡ ending) }
     ensures answer { (work : Work A F) (a b : Meanings) (answer : A) (input : List ℕ)
         → left a Inlet.Main ≡ Some input → Finishes work a b answer

@@ -3,7 +3,8 @@
 ghost use Rattle.std.specs.Prelude.{◌<◌, ◌≤◌, ℕ, List, length, take, IfOk, OnErr};
 ghost use Rattle.std.specs.Io.KnownBytes.{IsAtEnd};
 ghost use Rattle.desk_ports.specs.Meanings.{Moves, IsReadyIn, IsReadyOut, HasReadCause, left};
-ghost use Rattle.desk_ports.specs.Writings.{to_outlet, Writes};
+ghost use Rattle.desk_ports.specs.Courses.{to_outlet};
+ghost use Rattle.desk_ports.specs.Writings.{Writes};
 
 use crate::desk::{Desk, Failed, Inlet, Outlet};
 

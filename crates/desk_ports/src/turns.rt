@@ -1,12 +1,11 @@
 //! A run over a desk, turn by turn: it reads its input to the end, and writes what it owes for that input.
 
-ghost use Rattle.std.specs.Prelude.{◌≡◌, ◌<◌, ℕ, Bool, List, Ok};
+ghost use Rattle.std.specs.Prelude.{◌≡◌, ◌<◌, ℕ, Bool, Ok};
 ghost use Rattle.desk_ports.specs.declared.desk.Outlet.{Outlet};
 ghost use Rattle.desk_ports.specs.Stop.{Stop};
 ghost use Rattle.desk_ports.specs.declared.turns.Turn.TheVariants as turn;
-ghost use Rattle.desk_ports.specs.Courses.{Outputs, Work, AfterRun, HasCause, by_stop};
+ghost use Rattle.desk_ports.specs.Courses.{Work, AfterRun, HasCause, by_stop};
 ghost use Rattle.desk_ports.specs.Turns.{IsOwed, AreReady, AfterTurn};
-ghost use Rattle.desk_ports.specs.Parts.{InParts, TurnInParts};
 
 use crate::desk::Desk;
 
@@ -29,12 +28,6 @@ pub trait Run {
     /// This work is still to do.
     ghost owes: { Self → Work Self.Answer Self.Data → Type 0 };
 
-    /// These parts are still to be written for an input, if the order of the two outlets is told.
-    ghost owes_parts: { Self → (List ℕ → List Outputs) → Type 0 };
-
-    /// The outlet of a part that is written first.
-    ghost first: { Outlet };
-
     /// A fault, as a reason to end a run.
     ghost stop_of: { Self.Fault → Stop Self.Data };
 
@@ -51,9 +44,6 @@ pub trait Run {
         ensures turned { (work : Work Self.Answer Self.Data) → owes self.old work
             → AfterTurn work (owes self.new) (D.meaning desk.old) (D.meaning desk.new)
             (by_stop stop_of result) }
-        ensures parts { (parts_of : List ℕ → List Outputs) → owes_parts self.old parts_of
-            → TurnInParts first parts_of (owes_parts self.new) (D.meaning desk.old)
-            (D.meaning desk.new) (by_stop stop_of result) }
         ensures cause { HasCause (D.counts desk.old) (D.counts desk.new) (by_stop stop_of result) }
         ensures fewer { result ≡ Ok Turn.More → remaining self.new < remaining self.old };
 }
@@ -62,15 +52,10 @@ pub trait Run {
 pub fn drive<R: Run, D: Desk>(run: &mut R, desk: &mut D) -> Result<R::Answer, R::Fault>
     requires owed { IsOwed (R.owes run.old) }
     requires ready { AreReady R.writes (D.meaning desk.old) }
-    // What was added to the outputs after each answer is what is owed for the input, all of it or up to where a fault
-    // ends the run; the answer of a run that is done is the one for the same bytes.
+    // What was added to the outputs after each answer is what is owed for the input, in its order, all of it or up to where
+    // a fault ends the run; the answer of a run that is done is the one for the same bytes.
     ensures ran { (work : Work R.Answer R.Data) → R.owes run.old work
         → AfterRun work (D.meaning desk.old) (D.meaning desk.new) (by_stop R.stop_of result) }
-    // If a write failed, then within a part of that: both outputs have all parts before it, and of this one the first
-    // outlet is written first.
-    ensures parts { (parts_of : List ℕ → List Outputs) → R.owes_parts run.old parts_of
-        → InParts R.first parts_of (D.meaning desk.old) (D.meaning desk.new)
-        (by_stop R.stop_of result) }
     ensures cause { HasCause (D.counts desk.old) (D.counts desk.new) (by_stop R.stop_of result) }
 {
     'turns: loop {

@@ -2,8 +2,10 @@
 use Rattle.std.proofs.Common.{length-append, ◌≡◌, ℕ, ◌+◌, ◌%◌, Bool, List, [], ◌∷◌, ◌++◌, length, refl, sym, ap, ◌∙◌, subst, append_assoc, append-nil, arith}
 use Rattle.desk_ports.specs.Meanings.{Meanings}
 use Rattle.desk_ports.specs.Stop.{Stop}
-use Rattle.desk_ports.specs.Courses.{Work, no_outputs, to_output, AfterStop}
+use Rattle.desk_ports.specs.Courses.{Work, to_output, AfterStop}
+use Rattle.desk_ports.specs.declared.desk.Outlet.TheVariants as outlet
 use Rattle.desk_ports.specs.WalkWorks.{work_on}
+use Rattle.desk_ports.proofs.Runs.{to_outlet-append}
 use Rattle.desk_ports.proofs.WalkTurns.{AfterStop-on, GoesOn, IsDone, TakesItem}
 use Rattle.side_tables.specs.Rows.{flags_of}
 use Rattle.mask_update.specs.Histories.{History, step_of, with_step}
@@ -16,7 +18,7 @@ use Rattle.flight_chain.specs.declared.fault.RecordFault.{RecordFault}
 use Rattle.flight_chain.specs.Reading.{TakesInput, AfterUnread}
 use Rattle.flight_chain.specs.Recordings.{walk_over}
 use Rattle.flight_chain.specs.Stores.{data_at}
-use Rattle.flight_chain.specs.Compressing.{Compression, history_by, HasTaken, left_to_compress, next_packet, required_robustness, rest_work, with_packet}
+use Rattle.flight_chain.specs.Compressing.{Compression, further_packets, history_by, HasTaken, left_to_compress, next_packet, required_robustness, rest_work, with_packet}
 use Rattle.flight_chain.proofs.RecordTurns.{AfterWalk-recording, TakesItem-recording}
 
 length-push : (inputs : List (List Bool)) (input : List Bool) → length (inputs ++ input ∷ []) ≡ length inputs + 1
@@ -25,13 +27,13 @@ length-push inputs input = omega (arith, length-append inputs (input ∷ []))
 -- its Space Packet is owed for an input, and the rest is left to do after one more
 pub GoesOn-compress : (k : Compression) (inputs : List (List Bool)) (input : List Bool) → GoesOn (left_to_compress k inputs) (left_to_compress k (inputs ++ input ∷ [])) input (to_output (next_packet k inputs input))
 GoesOn-compress k inputs input = record {
-  before = λ more. refl;
+  before = λ more. to_outlet-append outlet.Main (next_packet k inputs input) (further_packets k (inputs ++ input ∷ []) more);
   answer = λ more. ap length (sym (append_assoc inputs (input ∷ []) more));
   after = λ more. refl;
 }
 
 -- after the last input nothing more is owed
-pub IsDone-compress : (k : Compression) (inputs : List (List Bool)) (n : ℕ) → n ≡ length inputs → IsDone (left_to_compress k inputs) no_outputs n
+pub IsDone-compress : (k : Compression) (inputs : List (List Bool)) (n : ℕ) → n ≡ length inputs → IsDone (left_to_compress k inputs) [] n
 IsDone-compress k inputs n number = record { nothing = refl; last_is = refl; answer_is = ap length (append-nil inputs) ∙ sym number }
 
 -- the history of one more input

@@ -5,7 +5,7 @@ use Rattle.desk_ports.specs.declared.desk.Outlet.{Outlet}
 use Rattle.desk_ports.specs.declared.desk.Outlet.TheVariants as outlet
 use Rattle.desk_ports.specs.Stop.{Stop}
 use Rattle.desk_ports.specs.Stop as stop
-use Rattle.desk_ports.specs.Courses.{Course, Work, no_outputs, to_output}
+use Rattle.desk_ports.specs.Courses.{Course, Work, to_output}
 use Rattle.desk_ports.specs.WalkWorks.{WalkWork, work_on}
 use Rattle.mask_update.specs.Histories.{History, history_of}
 use Rattle.side_tables.specs.declared.rows.RobustRow.{RobustRow}
@@ -47,7 +47,7 @@ history_by k inputs = history_of inputs (flags_of k.rows.flags) (required_robust
 abbrev pub compress_course : Compression → List ℕ → Course RecordFault
 compress_course k recording = record {
   before = to_output (store_of (history_by k (recording_walk k.places recording).inputs) k.apid);
-  after = no_outputs;
+  after = [];
   ending = (recording_walk k.places recording).ending;
 }
 
@@ -101,7 +101,7 @@ abbrev pub left_to_compress : Compression → List (List Bool) → WalkWork (Lis
 left_to_compress k inputs = record {
   before = λ more. to_output (further_packets k inputs more);
   answer = λ more. length (inputs ++ more);
-  after = λ _. no_outputs;
+  after = λ _. [];
 }
 
 -- the work of compressing what is ahead and what is left of the recording

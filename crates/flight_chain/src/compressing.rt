@@ -37,14 +37,9 @@ impl Run for Compressing {
 
     type Data = RecordFault;
 
-    ghost use Rattle.desk_ports.specs.declared.desk.Outlet.TheVariants as outlet;
     ghost use Rattle.flight_chain.specs.Compressing.{Owes, is_main, stop_by};
 
     ghost owes = { Owes };
-
-    ghost owes_parts = { λ _ _. ⊥ };
-
-    ghost first = { outlet.Main };
 
     ghost stop_of = { stop_by };
 

@@ -1,13 +1,14 @@
 -- What a run over the played store of a history writes.
-use Rattle.std.proofs.Common.{◌≡◌, ℕ, ◌++◌, ◌^◌, ◌<◌, ◌≤◌, ◌⊎◌, List, length, Some, None, Result, Ok, Err, IsOk, inl, inr, append-nil, append_assoc, refl, sym, ap, ◌∙◌, subst}
+use Rattle.std.proofs.Common.{◌≡◌, ℕ, ◌++◌, ◌^◌, ◌<◌, ◌≤◌, ◌⊎◌, List, length, Some, None, Result, Ok, Err, IsOk, inl, inr, refl, sym, ap, ◌∙◌, subst}
 use Rattle.std.specs.Io.KnownBytes.{append_known}
 use Rattle.std.proofs.lemmas.Bool.{cases_lt}
 use Rattle.desk_ports.specs.declared.desk.Outlet.TheVariants as outlet
 use Rattle.desk_ports.specs.Stop.{Stop, Data, ReadFault, WriteFault}
 use Rattle.desk_ports.specs.Meanings.{Meanings, Counts, Rose, made}
-use Rattle.desk_ports.specs.Courses.{AfterRun, Finishes, HasCause, Outputs, Work, by_ending, by_stop, owed}
+use Rattle.desk_ports.specs.Courses.{AfterRun, Finishes, HasCause, OutputTexts, Work, by_ending, by_stop, owed, texts_of, to_output}
 use Rattle.desk_ports.proofs.Faults.{Rose-reads, Rose-writes}
 use Rattle.desk_ports.proofs.Courses.{Ends-told, Finishes-told}
+use Rattle.desk_ports.proofs.Runs.{to_outlet-append}
 use Rattle.mask_update.specs.Histories.{History, IsValid}
 use Rattle.packet_encode.specs.Deliveries.{arrivals}
 use Rattle.packet_store.specs.declared.fault.WalkFault.{WalkFault}
@@ -17,24 +18,30 @@ use Rattle.loss_player.specs.Gaps.{AreGapsShort}
 use Rattle.loss_player.specs.Played.{played_bytes}
 use Rattle.packet_store.specs.declared.fault.RunFault.{RunFault}
 use Rattle.ground_chain.specs.declared.restored.Restored.{Restored}
-use Rattle.ground_chain.specs.Run.{run}
-use Rattle.ground_chain.specs.Report.{end_row, header_row, restored_of, run_bytes, run_report, run_rows}
+use Rattle.ground_chain.specs.Run.{Judged, run}
+use Rattle.ground_chain.specs.Report.{end_row, header_row, restored_of, run_bytes, run_report, verdict_rows, written_bytes}
 use Rattle.packet_store.specs.Faults.{stop_by}
+use Rattle.ground_chain.specs.Listing.{end_line, listing_course, run_lines, run_listing}
 use Rattle.ground_chain.specs.Restoring.{restore_course, restore_work, store_run}
 use Rattle.ground_chain.specs.Deliveries.{IsDelivered, IsPlayed, delivered_numbers, report_text, restored_bytes, history_arrivals}
 use Rattle.ground_chain.proofs.HistoryBytes.{bytes-history}
 use Rattle.ground_chain.proofs.HistoryNumbers.{numbers-history}
 use Rattle.ground_chain.proofs.HistoryRows.{rows-history}
 use Rattle.ground_chain.proofs.PlayedHistories.{arrivals-played, walk-played, walk-too_many}
+use Rattle.ground_chain.proofs.Writings.{texts-around}
 
 -- what a whole store owes
-pub owed-whole : (f apid : ℕ) (store : List ℕ) → (walk (Some apid) store).ending ≡ None
-    → owed (restore_course f apid store) ≡ record { output = run_bytes (store_run f apid store); report = run_report (store_run f apid store) }
+pub owed-whole : (f apid : ℕ) (store : List ℕ) → (walk (Some apid) store).ending ≡ None → texts_of (owed (restore_course f apid store)) ≡ record { output = run_bytes (store_run f apid store); report = run_report (store_run f apid store) }
 owed-whole f apid store whole =
     let judged = store_run f apid store in
-    let output = append-nil (run_bytes judged) in
-    let report = append_assoc header_row (run_rows judged) (end_row (restored_of judged)) in
-    ap (λ ending. by_ending ending (restore_course f apid store).before (restore_course f apid store).after) whole ∙ λ i. record { output = output i; report = report i }
+    ap (λ ending. texts_of (by_ending ending (restore_course f apid store).before (restore_course f apid store).after)) whole
+    ∙ texts-around (λ (j : Judged). verdict_rows j.verdict) written_bytes header_row (end_row (restored_of judged)) judged
+
+-- and as a listing
+pub owed-listed : (f apid : ℕ) (store : List ℕ) → (walk (Some apid) store).ending ≡ None → owed (listing_course f apid store) ≡ to_output (run_listing (store_run f apid store))
+owed-listed f apid store whole =
+    let judged = store_run f apid store in
+    ap (λ ending. by_ending ending (listing_course f apid store).before (listing_course f apid store).after) whole ∙ sym (to_outlet-append outlet.Main (run_lines judged) (end_line (restored_of judged)))
 
 module _ (h : History) (copies : ℕ → ℕ) (apid : ℕ) (valid : IsValid h) (chosen : apid ≤ 2046) where
   -- a played store that is whole is not too long
@@ -51,7 +58,7 @@ module _ (h : History) (copies : ℕ → ℕ) (apid : ℕ) (valid : IsValid h) (
   run-played whole = ap (run h.places) (arrivals-played h copies apid valid chosen (few-whole whole))
 
   module _ (short : AreGapsShort copies (length h.steps)) (whole : (walk (Some apid) (played_bytes copies apid (store_of h apid))).ending ≡ None) where
-    pub owed-played : owed (restore_course h.places apid (played_bytes copies apid (store_of h apid))) ≡ record { output = restored_bytes h copies; report = report_text h copies }
+    pub owed-played : texts_of (owed (restore_course h.places apid (played_bytes copies apid (store_of h apid)))) ≡ record { output = restored_bytes h copies; report = report_text h copies }
     owed-played =
         owed-whole h.places apid (played_bytes copies apid (store_of h apid)) whole
         ∙ (ap (λ judged. record { output = run_bytes judged; report = run_report judged }) (run-played whole)
@@ -67,11 +74,11 @@ IsDelivered-done f apid h copies restored a b played done =
     let store : List ℕ = played_bytes copies apid (store_of h apid) in
     let told = Ends-told (restore_course f apid) a b None store played.input done.ends in
     let whole = told.2 in
-    let owed_is = subst (λ places. owed (restore_course places apid store) ≡ record { output = restored_bytes h copies; report = report_text h copies }) played.places (owed-played h copies apid played.valid played.chosen played.gaps whole) in
+    let owed_is = subst (λ places. texts_of (owed (restore_course places apid store)) ≡ record { output = restored_bytes h copies; report = report_text h copies }) played.places (owed-played h copies apid played.valid played.chosen played.gaps whole) in
     let numbers_are = subst (λ places. restored_of (store_run places apid store) ≡ delivered_numbers h copies) played.places (numbers-played h copies apid played.valid played.chosen played.gaps whole) in
     record {
-      output = told.0 ∙ ap (λ (o : Outputs). append_known (made a outlet.Main) o.output) owed_is;
-      report = told.1 ∙ ap (λ (o : Outputs). append_known (made a outlet.Report) o.report) owed_is;
+      output = told.0 ∙ ap (λ (o : OutputTexts). append_known (made a outlet.Main) o.output) owed_is;
+      report = told.1 ∙ ap (λ (o : OutputTexts). append_known (made a outlet.Report) o.report) owed_is;
       numbers = Finishes-told (restore_work f apid) a b restored store played.input done ∙ numbers_are;
     }
 

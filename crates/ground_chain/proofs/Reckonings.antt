@@ -1,8 +1,5 @@
 -- One more judged arrival: what the run over it and the arrivals after it is, what is written of it, and its numbers.
-use Rattle.std.proofs.Common.{◌≡◌, ℕ, List, [], ◌∷◌, ◌++◌, map, refl, sym, ap, ◌∙◌}
-use Rattle.std.proofs.lemmas.List.Concat.{flat_map-cons}
-use Rattle.desk_ports.specs.Courses.{put}
-use Rattle.desk_ports.specs.Parts.{put_all}
+use Rattle.std.proofs.Common.{◌≡◌, ℕ, List, [], ◌∷◌, ◌++◌, sym, ap, ◌∙◌}
 use Rattle.ground_chain.specs.declared.restored.Restored.{Restored}
 use Rattle.ground_chain.specs.Run.{Arrival, Judged, nothing_known, judge, run, run_from, known_after}
 use Rattle.ground_chain.specs.Report.{restored_of, restored_by, added}
@@ -13,14 +10,6 @@ use Rattle.ground_chain.proofs.Runs.{run_from-append}
 use Rattle.ground_chain.proofs.Receptions.{stands_next}
 use Rattle.ground_chain.proofs.Counted.{restored_of-cons, restored_of-append, added-assoc, added-none}
 
--- what is written arrival by arrival is what is written of the run
-pub put_all-parts : (texts : Texts) (judged : List Judged) → put_all (map texts.parts judged) ≡ all_parts texts judged
-put_all-parts texts [] = refl
-put_all-parts texts (j ∷ judged) =
-    let output = flat_map-cons (λ (k : Judged). (texts.parts k).output) j judged in
-    let report = flat_map-cons (λ (k : Judged). (texts.parts k).report) j judged in
-    ap (put (texts.parts j)) (put_all-parts texts judged) ∙ λ i. record { output = sym output i; report = sym report i }
-
 abbrev pub arrival_with : ℕ → List ℕ → Arrival
 arrival_with count body = record { count = count; body = body }
 
@@ -30,11 +19,8 @@ module _ {old new : Reckoning} {count : ℕ} {body : List ℕ} (is : Judges old 
   next_run-judged arrivals = let places = sym is.places in let known = sym is.known in λ i. next_judged old.reception count body ∷ run_from (places i) (known i) arrivals
 
   -- what is written of it comes before what is written of the others
-  pub all_parts-judged : (texts : Texts) (arrivals : List Arrival) → all_parts texts (next_run old (arrival_with count body ∷ arrivals)) ≡ put (texts.parts (next_judged old.reception count body)) (all_parts texts (next_run new arrivals))
-  all_parts-judged texts arrivals =
-      let output = flat_map-cons (λ (j : Judged). (texts.parts j).output) (next_judged old.reception count body) (next_run new arrivals) in
-      let report = flat_map-cons (λ (j : Judged). (texts.parts j).report) (next_judged old.reception count body) (next_run new arrivals) in
-      ap (all_parts texts) (next_run-judged arrivals) ∙ λ i. record { output = output i; report = report i }
+  pub all_parts-judged : (texts : Texts) (arrivals : List Arrival) → all_parts texts (next_run old (arrival_with count body ∷ arrivals)) ≡ texts.parts (next_judged old.reception count body) ++ all_parts texts (next_run new arrivals)
+  all_parts-judged texts arrivals = ap (all_parts texts) (next_run-judged arrivals)
 
   -- its numbers are counted
   pub added-judged : (arrivals : List Arrival) → added old.restored (restored_of (next_run old (arrival_with count body ∷ arrivals))) ≡ added new.restored (restored_of (next_run new arrivals))

@@ -1,33 +1,29 @@
 -- What is owed for the rest of a store, packet by packet.
-use Rattle.std.proofs.Common.{◌≡◌, ℕ, ◌+◌, ◌≤◌, Bool, true, false, if◌then◌else◌, List, [], ◌∷◌, ◌++◌, map, Option, Some, refl, sym, ap, ◌∙◌, subst, arith}
-use Rattle.std.specs.List.{filter, flat_map}
-use Rattle.std.proofs.lemmas.List.Concat.{flat_map-cons}
+use Rattle.std.proofs.Common.{◌≡◌, ℕ, ◌+◌, ◌≤◌, Bool, true, false, if◌then◌else◌, List, [], ◌∷◌, map, Option, refl, sym, ap, ◌∙◌, subst, arith}
+use Rattle.std.specs.List.{filter}
 use Rattle.desk_ports.specs.Meanings.{Meanings}
-use Rattle.desk_ports.specs.Courses.{Outputs, Course, Work, no_outputs, to_report, written_first}
+use Rattle.desk_ports.specs.Courses.{Outputs, Course, Work, to_report, written_first}
 use Rattle.desk_ports.specs.Turns.{Steps}
-use Rattle.desk_ports.specs.declared.desk.Outlet.{Outlet}
-use Rattle.desk_ports.specs.Parts.{EndsWithin, IsFrontBy, if_whole}
-use Rattle.desk_ports.specs.WalkWorks.{parts_on}
-use Rattle.desk_ports.proofs.Parts.{EndsWithin-first}
-use Rattle.desk_ports.proofs.WalkTurns.{GoesOn, IsDone, PartsGoOn}
+use Rattle.desk_ports.specs.declared.desk.Outlet.TheVariants as outlet
+use Rattle.desk_ports.proofs.Runs.{to_outlet-flat_map}
+use Rattle.desk_ports.proofs.WalkTurns.{GoesOn, IsDone}
 use Rattle.packet_store.specs.declared.reader.Taken.{Taken}
 use Rattle.packet_store.specs.declared.fault.WalkFault.{WalkFault}
 use Rattle.packet_store.specs.SpacePackets.{Packet, is_chosen}
-use Rattle.packet_store.specs.StoreReader.{ReaderState, TakesPacket, walk_over}
-use Rattle.packet_store.specs.Walks.{walk}
+use Rattle.packet_store.specs.StoreReader.{ReaderState, TakesPacket}
 use Rattle.packet_store.proofs.StoreTurns.{packet_of}
 use Rattle.ground_chain.specs.declared.restored.Restored.{Restored}
 use Rattle.ground_chain.specs.declared.receiving.Receiving.{Receiving}
-use Rattle.ground_chain.specs.Run.{Arrival, Judged}
-use Rattle.ground_chain.specs.Report.{end_row, header_row, restored_of, added}
+use Rattle.ground_chain.specs.Run.{Arrival}
+use Rattle.ground_chain.specs.Report.{header_row, restored_of, added}
 use Rattle.ground_chain.specs.Reception.{next_judged}
 use Rattle.ground_chain.specs.Reckoning.{Judges, next_run}
 use Rattle.ground_chain.specs.Accounts.{Texts, all_parts}
-use Rattle.ground_chain.specs.Restoring.{arrival_of, arrivals_of, store_run, store_work, restore_course, restore_parts, restored_texts}
-use Rattle.ground_chain.specs.Receiving.{all_numbers, left_to_receive, nothing_received, parts_left, receiving_state, rest_run, rest_work, store_course, IsUnread, Owes}
+use Rattle.ground_chain.specs.Restoring.{arrival_of, arrivals_of, store_run, store_work, restore_course, restored_texts}
+use Rattle.ground_chain.specs.Receiving.{all_numbers, left_to_receive, nothing_received, receiving_state, rest_work, store_course, IsUnread, Owes}
 use Rattle.ground_chain.specs.Listing.{judged_lines, listing_course, listed_texts}
 use Rattle.ground_chain.proofs.Counted.{none-added, added-none}
-use Rattle.ground_chain.proofs.Reckonings.{added-judged, all_parts-judged, arrival_with, next_run-judged}
+use Rattle.ground_chain.proofs.Reckonings.{added-judged, all_parts-judged, arrival_with}
 
 -- ---- a packet
 
@@ -39,49 +35,40 @@ same_chosen : (old new : ReaderState) (a b : Meanings) (given : Taken) → Takes
 same_chosen old new a b given takes = sym (ap (λ (s : ReaderState). s.chosen) takes.others)
 
 -- a packet of another APID changes nothing
-run-passed : {A : Type 0} (s : Receiving A) (reader : ReaderState) (a b : Meanings) (given : Taken) (takes : TakesPacket s.reader reader a b given) → given.chosen ≡ false
-    → (packets : List Packet) → rest_run s (packet_of takes.header reader ∷ packets) ≡ rest_run (record s { reader = reader }) packets
-run-passed s reader a b given takes other packets =
-    ap (λ own. next_run s.judging (filtered s.reader.chosen (packet_of takes.header reader) packets own)) (sym takes.is_chosen ∙ other)
-    ∙ ap (λ chosen. next_run s.judging (arrivals_of chosen packets)) (same_chosen s.reader reader a b given takes)
+pub arrivals-passed : (old new : ReaderState) (a b : Meanings) (given : Taken) (takes : TakesPacket old new a b given) → given.chosen ≡ false
+    → (packets : List Packet) → arrivals_of old.chosen (packet_of takes.header new ∷ packets) ≡ arrivals_of new.chosen packets
+arrivals-passed old new a b given takes other packets =
+    ap (filtered old.chosen (packet_of takes.header new) packets) (sym takes.is_chosen ∙ other)
+    ∙ ap (λ chosen. arrivals_of chosen packets) (same_chosen old new a b given takes)
 
 -- so what is owed is what the packets after it owe
 pub GoesOn-passed : {A : Type 0} (texts : Texts) (s : Receiving A) (reader : ReaderState) (a b : Meanings) (given : Taken) (takes : TakesPacket s.reader reader a b given) → given.chosen ≡ false
-    → GoesOn (left_to_receive texts s) (left_to_receive texts (record s { reader = reader })) (packet_of takes.header reader) no_outputs
+    → GoesOn (left_to_receive texts s) (left_to_receive texts (record s { reader = reader })) (packet_of takes.header reader) []
 GoesOn-passed texts s reader a b given takes other =
-    let run = run-passed s reader a b given takes other in
+    let arrivals = arrivals-passed s.reader reader a b given takes other in
     record {
-      before = λ packets. ap (all_parts texts) (run packets);
-      answer = λ packets. ap (λ (l : List Judged). added s.judging.restored (restored_of l)) (run packets);
-      after = λ packets. ap (λ (l : List Judged). texts.last (added s.judging.restored (restored_of l))) (run packets);
-    }
-
-pub PartsGoOn-passed : {A : Type 0} (texts : Texts) (s : Receiving A) (reader : ReaderState) (a b : Meanings) (given : Taken) (takes : TakesPacket s.reader reader a b given) → given.chosen ≡ false
-    → PartsGoOn (parts_left texts s) (parts_left texts (record s { reader = reader })) (packet_of takes.header reader) []
-PartsGoOn-passed texts s reader a b given takes other =
-    let run = run-passed s reader a b given takes other in
-    record {
-      before = λ packets. ap (λ (l : List Judged). map texts.parts l) (run packets);
-      after = λ packets. ap (λ (l : List Judged). texts.last (added s.judging.restored (restored_of l)) ∷ []) (run packets);
+      before = λ packets. ap (λ (l : List Arrival). all_parts texts (next_run s.judging l)) (arrivals packets);
+      answer = λ packets. ap (λ (l : List Arrival). added s.judging.restored (restored_of (next_run s.judging l))) (arrivals packets);
+      after = λ packets. ap (λ (l : List Arrival). texts.last (added s.judging.restored (restored_of (next_run s.judging l)))) (arrivals packets);
     }
 
 -- a packet of the chosen APID is an arrival
-arrivals-read : {A : Type 0} (s t : Receiving A) (a b : Meanings) (given : Taken) (takes : TakesPacket s.reader t.reader a b given) → given.chosen ≡ true
-    → (packets : List Packet) → arrivals_of s.reader.chosen (packet_of takes.header t.reader ∷ packets) ≡ arrival_with given.count t.reader.body ∷ arrivals_of t.reader.chosen packets
-arrivals-read s t a b given takes own packets =
-    ap (filtered s.reader.chosen (packet_of takes.header t.reader) packets) (sym takes.is_chosen ∙ own)
-    ∙ (let count = sym takes.count in let chosen = same_chosen s.reader t.reader a b given takes in λ i. arrival_with (count i) t.reader.body ∷ arrivals_of (chosen i) packets)
+pub arrivals-read : (old new : ReaderState) (a b : Meanings) (given : Taken) (takes : TakesPacket old new a b given) → given.chosen ≡ true
+    → (packets : List Packet) → arrivals_of old.chosen (packet_of takes.header new ∷ packets) ≡ arrival_with given.count new.body ∷ arrivals_of new.chosen packets
+arrivals-read old new a b given takes own packets =
+    ap (filtered old.chosen (packet_of takes.header new) packets) (sym takes.is_chosen ∙ own)
+    ∙ (let count = sym takes.count in let chosen = same_chosen old new a b given takes in λ i. arrival_with (count i) new.body ∷ arrivals_of (chosen i) packets)
 
 numbers-read : {A : Type 0} (s t : Receiving A) (a b : Meanings) (given : Taken) (takes : TakesPacket s.reader t.reader a b given) → given.chosen ≡ true → Judges s.judging t.judging given.count t.reader.body
     → (packets : List Packet) → all_numbers s (packet_of takes.header t.reader ∷ packets) ≡ all_numbers t packets
 numbers-read s t a b given takes own is packets =
-    ap (λ (l : List Arrival). added s.judging.restored (restored_of (next_run s.judging l))) (arrivals-read s t a b given takes own packets) ∙ added-judged is (arrivals_of t.reader.chosen packets)
+    ap (λ (l : List Arrival). added s.judging.restored (restored_of (next_run s.judging l))) (arrivals-read s.reader t.reader a b given takes own packets) ∙ added-judged is (arrivals_of t.reader.chosen packets)
 
 -- what is written of it is owed, and after it what the packets after it owe
 pub GoesOn-judged : {A : Type 0} (texts : Texts) (s t : Receiving A) (a b : Meanings) (given : Taken) (takes : TakesPacket s.reader t.reader a b given) → given.chosen ≡ true → Judges s.judging t.judging given.count t.reader.body
     → GoesOn (left_to_receive texts s) (left_to_receive texts t) (packet_of takes.header t.reader) (texts.parts (next_judged s.judging.reception given.count t.reader.body))
 GoesOn-judged texts s t a b given takes own is =
-    let arrivals = arrivals-read s t a b given takes own in
+    let arrivals = arrivals-read s.reader t.reader a b given takes own in
     let numbers = numbers-read s t a b given takes own is in
     record {
       before = λ packets. ap (λ (l : List Arrival). all_parts texts (next_run s.judging l)) (arrivals packets) ∙ all_parts-judged is texts (arrivals_of t.reader.chosen packets);
@@ -89,21 +76,9 @@ GoesOn-judged texts s t a b given takes own is =
       after = λ packets. ap texts.last (numbers packets);
     }
 
-pub PartsGoOn-judged : {A : Type 0} (texts : Texts) (s t : Receiving A) (a b : Meanings) (given : Taken) (takes : TakesPacket s.reader t.reader a b given) → given.chosen ≡ true → Judges s.judging t.judging given.count t.reader.body
-    → PartsGoOn (parts_left texts s) (parts_left texts t) (packet_of takes.header t.reader) (texts.parts (next_judged s.judging.reception given.count t.reader.body) ∷ [])
-PartsGoOn-judged texts s t a b given takes own is = record {
-  before = λ packets. ap (λ (l : List Arrival). map texts.parts (next_run s.judging l)) (arrivals-read s t a b given takes own packets) ∙ ap (λ (l : List Judged). map texts.parts l) (next_run-judged is (arrivals_of t.reader.chosen packets));
-  after = λ packets. ap (λ (r : Restored). texts.last r ∷ []) (numbers-read s t a b given takes own is packets);
-}
-
 -- if nothing is left, the last part of the numbers so far is owed
 pub IsDone-received : {A : Type 0} (texts : Texts) (s : Receiving A) → IsDone (left_to_receive texts s) (texts.last s.judging.restored) s.judging.restored
 IsDone-received texts s = record { nothing = refl; last_is = ap texts.last (added-none s.judging.restored); answer_is = added-none s.judging.restored }
-
--- and so is the part of it
-pub EndsWithin-received : {A : Type 0} {first : Outlet} {stand : Outputs} (texts : Texts) (s : Receiving A) → IsFrontBy first stand (texts.last s.judging.restored) → EndsWithin first stand ((parts_left texts s).after [])
-EndsWithin-received {first = first} {stand = stand} texts s front =
-    subst (λ (r : Restored). EndsWithin first stand (texts.last r ∷ [])) (sym (added-none s.judging.restored)) (EndsWithin-first [] front)
 
 -- after a packet the rest of the store is still to be received
 pub Owes-next : {A : Type 0} (texts : Texts) (s t : Receiving A) (a b : Meanings) (given : Taken) (work : Work Restored WalkFault) → Owes texts s work → TakesPacket s.reader t.reader a b given → t.judging.restored.packets ≤ s.judging.restored.packets + 1 → Owes texts t (rest_work texts t)
@@ -136,27 +111,11 @@ Steps-unread {A = A} texts s course first is same =
 pub restore_course-is : (f apid : ℕ) (store : List ℕ) → restore_course f apid store ≡ written_first (to_report header_row) (store_course restored_texts f apid store)
 restore_course-is f apid store = refl
 
-restore_parts-none : (A : Type 0) (f apid : ℕ) (store : List ℕ) → restore_parts f apid store ≡ to_report header_row ∷ parts_on (parts_left restored_texts (nothing_received {A = A} f apid)) (walk_over (nothing_received {A = A} f apid).reader) store
-restore_parts-none A f apid store =
-    let run = store_run f apid store in
-    let counted = sym (none-added (restored_of run)) in
-    λ i. to_report header_row ∷ map restored_texts.parts run ++ if_whole (walk (Some apid) store).ending (to_report (end_row (counted i)) ∷ [])
-
--- and part by part
-pub restore_parts-unread : {A : Type 0} (s : Receiving A) → IsUnread s → (store : List ℕ) → restore_parts (receiving_state s).places (receiving_state s).apid store ≡ to_report header_row ∷ parts_on (parts_left restored_texts s) (walk_over s.reader) store
-restore_parts-unread {A = A} s is store =
-    subst (λ (r : Receiving A). restore_parts (receiving_state s).places (receiving_state s).apid store ≡ to_report header_row ∷ parts_on (parts_left restored_texts r) (walk_over r.reader) store) (sym is)
-    (restore_parts-none A (receiving_state s).places (receiving_state s).apid store)
-
-no_report : (judged : List Judged) → flat_map (λ (j : Judged). (listed_texts.parts j).report) judged ≡ []
-no_report [] = refl
-no_report (j ∷ judged) = flat_map-cons (λ (j : Judged). (listed_texts.parts j).report) j judged ∙ no_report judged
-
 -- the lines alone are owed
 pub listing_course-is : (f apid : ℕ) (store : List ℕ) → listing_course f apid store ≡ store_course listed_texts f apid store
 listing_course-is f apid store =
-    let none = sym (no_report (store_run f apid store)) in
-    λ i. record (listing_course f apid store) { before = record { output = flat_map judged_lines (store_run f apid store); report = none i } }
+    let lines = to_outlet-flat_map outlet.Main judged_lines (store_run f apid store) in
+    λ i. record (listing_course f apid store) { before = lines i }
 
 -- nothing is read
 pub Owes-unread : {A : Type 0} (texts : Texts) (s : Receiving A) → IsUnread s → Owes texts s (rest_work texts s)

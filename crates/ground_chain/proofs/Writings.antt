@@ -1,5 +1,9 @@
--- The content that is written of one arrival.
-use Rattle.std.proofs.Common.{◌≡◌, Bool, true, false, if◌then◌else◌, [], Option, refl, sym, ap, ◌∙◌}
+-- What is written of arrivals.
+use Rattle.std.proofs.Common.{◌≡◌, ℕ, Bool, true, false, if◌then◌else◌, List, [], ◌++◌, Option, refl, sym, ap, ◌∙◌, append-nil}
+use Rattle.std.specs.List.{flat_map}
+use Rattle.desk_ports.specs.declared.desk.Outlet.TheVariants as outlet
+use Rattle.desk_ports.specs.Courses.{texts_of, to_output, to_report}
+use Rattle.desk_ports.proofs.Runs.{bytes_for-around, bytes_for-first, bytes_for-last, bytes_for-other, bytes_for-own}
 use Rattle.bit_vectors.specs.Vectors.{vector_bytes}
 use Rattle.packet_decode.specs.State.{KnownVector, State}
 use Rattle.packet_decode.specs.Decoding.{Decoding, latest_content, known_vector}
@@ -26,3 +30,15 @@ content_written j decoder written shows =
 
 pub no_content : (j : Judged) → is_written_kind j.verdict.kind ≡ false → [] ≡ written_bytes j
 no_content j other = ap (λ (b : Bool). if b then content_bytes j.after.state else []) (sym other)
+
+-- the two texts of rows and contents, where each thing's rows are before its content, between the report's first line and its
+-- last rows
+pub texts-around : {X : Type 0} (rows content : X → List ℕ) (first last : List ℕ) (xs : List X)
+    → texts_of ((to_report first ++ flat_map (λ x. to_report (rows x) ++ to_output (content x)) xs) ++ to_report last) ≡ record { output = flat_map content xs; report = first ++ flat_map rows xs ++ last }
+texts-around {X = X} rows content first last xs =
+    let part = λ (x : X). to_report (rows x) ++ to_output (content x) in
+    let contents = bytes_for-around outlet.Main (to_report first) (to_report last) part content (λ x. bytes_for-last outlet.Main (rows x) (content x)) xs in
+    let all_rows = bytes_for-around outlet.Report (to_report first) (to_report last) part rows (λ x. bytes_for-first outlet.Report (rows x) (content x)) xs in
+    let output = contents ∙ ((λ i. (bytes_for-other outlet.Main first i ++ flat_map content xs) ++ bytes_for-other outlet.Main last i) ∙ append-nil (flat_map content xs)) in
+    let report = all_rows ∙ λ i. (bytes_for-own outlet.Report first i ++ flat_map rows xs) ++ bytes_for-own outlet.Report last i in
+    λ i. record { output = output i; report = report i }

@@ -5,7 +5,6 @@ use Rattle.std.specs.List.{flat_map}
 use Rattle.std.specs.Vec.{vec_capacity}
 use Rattle.bit_vectors.specs.declared.fault.BitFault.TheVariants.{Wrong, EndsEarly}
 use Rattle.bit_vectors.specs.Vectors.{byte_count, vector_bytes}
-use Rattle.desk_ports.specs.declared.desk.Outlet.TheVariants as outlet
 use Rattle.desk_ports.specs.Courses.{Course, Work, to_output}
 use Rattle.hex.specs.Hex.{encode_lower}
 use Rattle.packet_decode.specs.State.{KnownVector, State, Change}
@@ -146,7 +145,7 @@ listing_work f apid = store_work (listing_course f apid) f apid
 
 -- what is written of the arrivals: their lines
 abbrev pub listed_texts : Texts
-listed_texts = record { parts = λ judged. to_output (judged_lines judged); last = λ restored. to_output (end_line restored); first = outlet.Main }
+listed_texts = record { parts = λ judged. to_output (judged_lines judged); last = λ restored. to_output (end_line restored) }
 
 -- there is room for the bytes of a vector of f places, and for their digits, and never more room, so that no memory is
 -- taken

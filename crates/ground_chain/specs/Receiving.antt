@@ -1,7 +1,7 @@
 -- What is owed for the rest of a store, with an account of its arrivals.
-use Rattle.std.specs.Prelude.{◌≡◌, ℕ, ◌≤◌, IsTrue, List, [], ◌∷◌, map, Some, unwrap_or}
-use Rattle.desk_ports.specs.Courses.{Course, Outputs, Work}
-use Rattle.desk_ports.specs.WalkWorks.{WalkParts, WalkWork, parts_on, work_on}
+use Rattle.std.specs.Prelude.{◌≡◌, ℕ, ◌≤◌, IsTrue, List, Some, unwrap_or}
+use Rattle.desk_ports.specs.Courses.{Course, Work}
+use Rattle.desk_ports.specs.WalkWorks.{WalkWork, work_on}
 use Rattle.packet_store.specs.declared.fault.WalkFault.{WalkFault}
 use Rattle.packet_store.specs.Walks.{walk}
 use Rattle.packet_store.specs.SpacePackets.{Packet}
@@ -56,17 +56,6 @@ left_to_receive texts s = record {
 -- the work of receiving what is left of the store
 abbrev pub rest_work : {A : Type 0} → Texts → Receiving A → Work Restored WalkFault
 rest_work texts s = work_on (left_to_receive texts s) (walk_over s.reader)
-
--- the parts that are owed for packets that are read next
-abbrev pub parts_left : {A : Type 0} → Texts → Receiving A → WalkParts Packet
-parts_left texts s = record {
-  before = λ packets. map texts.parts (rest_run s packets);
-  after = λ packets. texts.last (all_numbers s packets) ∷ [];
-}
-
--- these parts are owed: those of the rest of the store
-abbrev pub OwesParts : {A : Type 0} → Texts → Receiving A → (List ℕ → List Outputs) → Type 0
-OwesParts texts s parts_of = parts_of ≡ parts_on (parts_left texts s) (walk_over s.reader)
 
 -- this work is owed: that of the rest of the store
 pub record Owes {A : Type 0} (texts : Texts) (s : Receiving A) (work : Work Restored WalkFault) : Type 0 where

@@ -1,19 +1,17 @@
 -- What restoring a store owes: the run over its packets of the chosen APID.
-use Rattle.std.specs.Prelude.{◌≡◌, ℕ, List, [], ◌∷◌, ◌++◌, map, Option, Some, vec_len}
+use Rattle.std.specs.Prelude.{◌≡◌, ℕ, List, ◌++◌, map, Option, Some, vec_len}
 use Rattle.std.specs.List.{filter}
 use Rattle.std.specs.Vec.{vec_capacity}
 use Rattle.bit_vectors.specs.Vectors.{byte_count}
-use Rattle.desk_ports.specs.declared.desk.Outlet.TheVariants as outlet
-use Rattle.desk_ports.specs.Courses.{Course, Outputs, Work, to_report}
-use Rattle.desk_ports.specs.Parts.{if_whole}
+use Rattle.desk_ports.specs.Courses.{Course, Work, to_output, to_report}
 use Rattle.packet_store.specs.declared.fault.WalkFault.{WalkFault}
 use Rattle.packet_store.specs.SpacePackets.{Packet, is_chosen}
 use Rattle.packet_store.specs.Walks.{walk}
 use Rattle.ground_chain.specs.declared.reporting.Reporting.{Reporting}
 use Rattle.ground_chain.specs.declared.restored.Restored.{Restored}
 use Rattle.ground_chain.specs.Run.{Arrival, Judged, run}
-use Rattle.ground_chain.specs.Report.{header_row, verdict_rows, written_bytes, run_bytes, run_rows, end_row, restored_of}
-use Rattle.ground_chain.specs.Accounts.{Texts}
+use Rattle.ground_chain.specs.Report.{header_row, verdict_rows, written_bytes, end_row, restored_of}
+use Rattle.ground_chain.specs.Accounts.{Texts, all_parts}
 
 abbrev pub arrival_of : Packet → Arrival
 arrival_of p = record { count = p.header.count; body = p.body }
@@ -26,11 +24,18 @@ arrivals_of chosen packets = map arrival_of (filter (λ p. is_chosen chosen p.he
 abbrev pub store_run : ℕ → ℕ → List ℕ → List Judged
 store_run f apid store = run f (arrivals_of (Some apid) (walk (Some apid) store).packets)
 
--- What restoring a store owes: the restored packets and the report's header and rows of the arrivals before the end, the
--- report's last row if the store is whole, and otherwise the fault of its walk.
+-- what is written of the arrivals: the rows of each, and then its content if it is written
+abbrev pub restored_texts : Texts
+restored_texts = record {
+  parts = λ judged. to_report (verdict_rows judged.verdict) ++ to_output (written_bytes judged);
+  last = λ restored. to_report (end_row restored);
+}
+
+-- What restoring a store owes: the report's header, and what is written of the arrivals before the end, the report's last
+-- row if the store is whole, and otherwise the fault of its walk.
 abbrev pub restore_course : ℕ → ℕ → List ℕ → Course WalkFault
 restore_course f apid store = record {
-  before = record { output = run_bytes (store_run f apid store); report = header_row ++ run_rows (store_run f apid store) };
+  before = to_report header_row ++ all_parts restored_texts (store_run f apid store);
   after = to_report (end_row (restored_of (store_run f apid store)));
   ending = (walk (Some apid) store).ending;
 }
@@ -42,19 +47,6 @@ store_work course f apid = record { course = course; answer = λ store. restored
 -- the work of restoring a store
 abbrev pub restore_work : ℕ → ℕ → Work Restored WalkFault
 restore_work f apid = store_work (restore_course f apid) f apid
-
--- what is written of the arrivals: the rows of each, and then its content if it is written
-abbrev pub restored_texts : Texts
-restored_texts = record {
-  parts = λ judged. record { output = written_bytes judged; report = verdict_rows judged.verdict };
-  last = λ restored. to_report (end_row restored);
-  first = outlet.Report;
-}
-
--- the same part by part: the report's header, what is written of each arrival, and if the store is whole the report's last row
-abbrev pub restore_parts : ℕ → ℕ → List ℕ → List Outputs
-restore_parts f apid store =
-    to_report header_row ∷ map restored_texts.parts (store_run f apid store) ++ if_whole (walk (Some apid) store).ending (to_report (end_row (restored_of (store_run f apid store))) ∷ [])
 
 -- there is room for the bytes of a content of f places, and never more room, so that no memory is taken
 pub record HasContentRoom (reporting : Reporting) (f : ℕ) : Type 0 where

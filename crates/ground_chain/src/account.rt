@@ -4,7 +4,7 @@ ghost use Rattle.std.specs.Prelude.{◌≡◌, ℕ, Bool};
 ghost use Rattle.desk_ports.specs.declared.desk.Outlet.{Outlet};
 ghost use Rattle.desk_ports.specs.Meanings.{HasWriteCause};
 ghost use Rattle.desk_ports.specs.Turns.{AreReady};
-ghost use Rattle.desk_ports.specs.Writings.{WritesBy};
+ghost use Rattle.desk_ports.specs.Writings.{Writes};
 ghost use Rattle.ground_chain.specs.Accounts.{Texts};
 ghost use Rattle.ground_chain.specs.Reception.{AgreesWith};
 ghost use Rattle.ground_chain.specs.Run.{Judged};
@@ -16,8 +16,8 @@ use packet_decode::Decoder;
 
 /// What is written of a run over arrivals.
 ///
-/// `texts` is what is written of each judged arrival, and finally of the numbers of the run, and the outlet that is written
-/// first each time, `writes` the outlets that are written, and `has_room` that there is room for vectors of so many places.
+/// `texts` is what is written of each judged arrival, and finally of the numbers of the run, `writes` the outlets that are
+/// written, and `has_room` that there is room for vectors of so many places.
 pub trait Account: Drop {
     ghost texts: { Texts };
 
@@ -35,12 +35,12 @@ pub trait Account: Drop {
         requires room { has_room self.old decoder.now.places }
         requires ready { AreReady writes (D.meaning desk.old) }
         ensures written { (judged : Judged) → judged.verdict ≡ verdict.now → AgreesWith decoder.now judged
-            → WritesBy texts.first D.meaning D.counts desk.old desk.new (texts.parts judged) result }
+            → Writes D.meaning D.counts desk.old desk.new (texts.parts judged) result }
         ensures room { has_room self.new decoder.now.places }
         ensures cause { HasWriteCause (D.counts desk.old) (D.counts desk.new) result };
 
     /// Writes the last part.
     fn end<D: Desk>(&self, desk: &mut D, restored: &Restored) -> Result<(), Failed>
         requires ready { AreReady writes (D.meaning desk.old) }
-        ensures { WritesBy texts.first D.meaning D.counts desk.old desk.new (texts.last restored.now) result };
+        ensures { Writes D.meaning D.counts desk.old desk.new (texts.last restored.now) result };
 }

@@ -9,7 +9,7 @@ ghost use Rattle.packet_store.specs.Walks.{walk};
 ghost use Rattle.flight_chain.specs.Stores.{store_of};
 ghost use Rattle.loss_player.specs.Gaps.{AreGapsShort};
 ghost use Rattle.loss_player.specs.Played.{played_bytes};
-ghost use Rattle.desk_ports.specs.Courses.{owed};
+ghost use Rattle.desk_ports.specs.Courses.{owed, texts_of};
 ghost use Rattle.ground_chain.specs.Restoring.{arrivals_of, restore_course, store_run};
 ghost use Rattle.ground_chain.specs.Run.{known_after, run};
 ghost use Rattle.ground_chain.specs.Report.{header_row, run_bytes, run_rows, run_report, restored_of};
@@ -98,7 +98,7 @@ pub fn played_histories_are_restored()
     ensures outputs { (h : History) (copies : ℕ → ℕ) (apid : ℕ) → IsValid h → apid ≤ 2046
         → AreGapsShort copies (length h.steps)
         → (walk (Some apid) (played_bytes copies apid (store_of h apid))).ending ≡ None
-        → owed (restore_course h.places apid (played_bytes copies apid (store_of h apid)))
+        → texts_of (owed (restore_course h.places apid (played_bytes copies apid (store_of h apid))))
         ≡ record { output = restored_bytes h copies; report = report_text h copies } }
     ensures numbers { (h : History) (copies : ℕ → ℕ) (apid : ℕ) → IsValid h → apid ≤ 2046
         → AreGapsShort copies (length h.steps)

@@ -2,7 +2,7 @@
 
 ghost use Rattle.std.specs.Prelude.{◌≡◌, IfOk};
 ghost use Rattle.desk_ports.specs.Turns.{AreReady};
-ghost use Rattle.desk_ports.specs.Writings.{WritesBy};
+ghost use Rattle.desk_ports.specs.Writings.{Writes};
 ghost use Rattle.ground_chain.specs.Reception.{next_judged};
 ghost use Rattle.ground_chain.specs.Reckoning.{IsNextArrival, Judges, nothing_judged};
 ghost use Rattle.bit_vectors.specs.Vectors.{IsPlaces};
@@ -49,7 +49,7 @@ impl<A: Account> Judging<A> {
         requires next { IsNextArrival self.old count bytes.now }
         requires ready { AreReady A.writes (D.meaning desk.old) }
         ensures judges { Judges self.old self.new count bytes.now }
-        ensures written { WritesBy A.texts.first D.meaning D.counts desk.old desk.new
+        ensures written { Writes D.meaning D.counts desk.old desk.new
             (A.texts.parts (next_judged self.old.reception count bytes.now)) result }
     {
         let verdict = self.arrivals.judge(count, bytes);
@@ -59,7 +59,7 @@ impl<A: Account> Judging<A> {
     /// Writes the account's last part.
     pub fn end<D: Desk>(&self, desk: &mut D) -> Result<(), Failed>
         requires ready { AreReady A.writes (D.meaning desk.old) }
-        ensures { WritesBy A.texts.first D.meaning D.counts desk.old desk.new
+        ensures { Writes D.meaning D.counts desk.old desk.new
             (A.texts.last self.now.restored) result }
     {
         self.account.end(desk, self.arrivals.restored())

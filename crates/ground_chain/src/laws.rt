@@ -10,10 +10,9 @@ ghost use Rattle.ground_chain.specs.Listing.{IsToldAlike, listed_texts, listing_
 ghost use Rattle.ground_chain.specs.Receiving.{store_course};
 ghost use Rattle.ground_chain.specs.Report.{HasContent, HasRowNumbers, header_row, is_repeat, is_unwritten, own_row, restored_of, run_bytes, run_report, run_rows, written_bytes};
 ghost use Rattle.ground_chain.specs.Sound.{IsExactRun, IsSoundRun, but_for_faults};
-ghost use Rattle.ground_chain.specs.Restoring.{restore_course, restore_parts, restored_texts, store_run};
-ghost use Rattle.desk_ports.specs.Parts.{put_all};
+ghost use Rattle.ground_chain.specs.Restoring.{restore_course, restored_texts, store_run};
 ghost use Rattle.ground_chain.specs.Worked.{arrival, written_verdict};
-ghost use Rattle.desk_ports.specs.Courses.{AreFronts, written_first, owed, to_output, to_report};
+ghost use Rattle.desk_ports.specs.Courses.{AreFronts, written_first, owed, texts_of, to_output, to_report};
 ghost use Rattle.packet_store.specs.Walks.{walk};
 ghost use Rattle.ground_chain.specs.Told.{AreArrivals, run_numbers};
 
@@ -124,7 +123,7 @@ pub fn row_numbers_are_small()
 /// a listing that of the same run.
 pub fn whole_stores_owe_their_run()
     ensures restored { (f apid : ℕ) (store : List ℕ) → (walk (Some apid) store).ending ≡ None →
-        owed (restore_course f apid store)
+        texts_of (owed (restore_course f apid store))
         ≡ record {
           output = run_bytes (store_run f apid store);
           report = run_report
@@ -142,11 +141,6 @@ pub fn fronts_owe_fronts()
     ensures listed { (f apid : ℕ) (front rest : List ℕ) → All (λ b. b < 256) front →
         AreFronts (listing_course f apid front).before
         (listing_course f apid (front ++ rest)).before }
-{}
-
-/// What is owed part by part is, one part after another, what is owed.
-pub fn parts_are_owed()
-    ensures { (f apid : ℕ) (store : List ℕ) → put_all (restore_parts f apid store) ≡ owed (restore_course f apid store) }
 {}
 
 /// Report and listing are accounts of one run: what a store owes as either is what is written of the same verdicts.

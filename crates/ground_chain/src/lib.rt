@@ -30,7 +30,7 @@ pub use deliveries::{
 pub use judging::Judging;
 pub use laws::{
     contents_have_the_places, every_number_once, fronts_owe_fronts, numbers_are_the_next_ones,
-    numbers_count_the_run, numbers_rise, one_exact_run, parts_are_owed, repeats_change_nothing,
+    numbers_count_the_run, numbers_rise, one_exact_run, repeats_change_nothing,
     report_and_listing_agree, row_numbers_are_small, runs_grow, sound_runs_agree,
     whole_stores_owe_their_run, worked_runs,
 };

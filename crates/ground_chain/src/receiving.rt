@@ -27,13 +27,9 @@ impl<A: Account> Run for Receiving<A> {
     type Data = WalkFault;
 
     ghost use Rattle.packet_store.specs.Faults.{stop_by};
-    ghost use Rattle.ground_chain.specs.Receiving.{Owes, OwesParts};
+    ghost use Rattle.ground_chain.specs.Receiving.{Owes};
 
     ghost owes = { Owes A.texts };
-
-    ghost owes_parts = { OwesParts A.texts };
-
-    ghost first = { A.texts.first };
 
     ghost stop_of = { stop_by };
 

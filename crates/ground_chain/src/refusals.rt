@@ -2,7 +2,7 @@
 
 ghost use Rattle.std.specs.Prelude.{◌≡◌, ◌+◌, ◌≤◌, ◌<◌, ◌^◌, ◌↔◌, ◌∷◌, [], ◌++◌, ℕ, length, take, List, Some, None, codes};
 ghost use Rattle.bit_vectors.specs.Vectors.{bits_of};
-ghost use Rattle.desk_ports.specs.Courses.{owed, to_output};
+ghost use Rattle.desk_ports.specs.Courses.{owed, texts_of, to_output};
 ghost use Rattle.packet_decode.specs.State.{IsState};
 ghost use Rattle.packet_decode.specs.Answers.{IsExactAnswer};
 ghost use Rattle.packet_store.specs.Walks.{walk};
@@ -29,7 +29,7 @@ pub fn commands_follow_the_exact_run()
     ensures restore { (f apid : ℕ) (store : List ℕ) (judged : List Judged) →
         (walk (Some apid) store).ending ≡ None →
         IsExactRun f (arrivals_of (Some apid) (walk (Some apid) store).packets) judged →
-        owed (restore_course f apid store)
+        texts_of (owed (restore_course f apid store))
         ≡ record { output = run_bytes judged; report = run_report judged } }
     ensures show { (f apid : ℕ) (store : List ℕ) (judged : List Judged) →
         (walk (Some apid) store).ending ≡ None →

@@ -4,12 +4,11 @@ ghost use Rattle.std.specs.Prelude.{◌≡◌, ◌≤◌, ◌^◌, ℕ, length, 
 ghost use Rattle.desk_ports.specs.Meanings.{Rose};
 ghost use Rattle.desk_ports.specs.Turns.{IsReadyRun};
 ghost use Rattle.desk_ports.specs.Courses.{AfterRun, HasCause, by_stop};
-ghost use Rattle.desk_ports.specs.Parts.{InParts};
 ghost use Rattle.mask_update.specs.Histories.{History};
 ghost use Rattle.packet_encode.specs.Deliveries.{arrivals};
 ghost use Rattle.ground_chain.specs.Deliveries.{IsDelivered, IsPlayed};
 ghost use Rattle.packet_store.specs.Faults.{stop_by};
-ghost use Rattle.ground_chain.specs.Restoring.{restore_parts, restore_work};
+ghost use Rattle.ground_chain.specs.Restoring.{restore_work};
 ghost use Rattle.flight_chain.specs.Stores.{IsStream};
 
 use crate::RestoreFault;
@@ -60,10 +59,6 @@ impl Restorer {
         ensures ran { AfterRun (restore_work self.places self.apid) (D.meaning desk.old)
             (D.meaning desk.new) (by_stop stop_by result) }
         ensures cause { HasCause (D.counts desk.old) (D.counts desk.new) (by_stop stop_by result) }
-        // The rows of an arrival are written before its content. So if a write failed, then up to some arrival all rows and
-        // contents stand, and of the next one a prefix of its rows, or its rows and a prefix of its content.
-        ensures order { InParts Outlet.Report (restore_parts self.places self.apid)
-            (D.meaning desk.old) (D.meaning desk.new) (by_stop stop_by result) }
         // Whatever was lost or repeated, with gaps that are shorter than the period of the sequence counts: each packet up to
         // the last arrival is written exactly as it was, or listed.
         ensures headline { (h : History) (copies : ℕ → ℕ)

@@ -5,7 +5,7 @@ use Rattle.desk_ports.specs.declared.desk.Inlet.TheVariants as inlet
 use Rattle.desk_ports.specs.declared.desk.Outlet.TheVariants as outlet
 use Rattle.desk_ports.specs.Stop.{Stop, Data, ReadFault, WriteFault}
 use Rattle.desk_ports.specs.Meanings.{Meanings, Counts, Rose, left, made}
-use Rattle.desk_ports.specs.Courses.{AfterRun, Finishes, HasCause, Outputs, by_stop, owed}
+use Rattle.desk_ports.specs.Courses.{AfterRun, Finishes, HasCause, OutputTexts, by_stop, owed, texts_of}
 use Rattle.desk_ports.proofs.Faults.{Rose-reads, Rose-writes}
 use Rattle.desk_ports.proofs.Courses.{Ends-told, Finishes-told}
 use Rattle.mask_update.specs.Histories.{History, IsValid}
@@ -42,7 +42,7 @@ module _ (h : History) (copies : ℕ → ℕ) (apid window : ℕ) (store numbers
       λ i. record { restored = restored i; late = count-late i }
 
   -- a whole store owes what the headline says of the copies
-  pub owed-late : (walk (Some apid) store).ending ≡ None → owed (late_course h.places apid window store) ≡ record { output = restored_bytes h copies; report = report_text h copies ++ late_row 0 }
+  pub owed-late : (walk (Some apid) store).ending ≡ None → texts_of (owed (late_course h.places apid window store)) ≡ record { output = restored_bytes h copies; report = report_text h copies ++ late_row 0 }
   owed-late whole =
       let short = short-gaps delivery in
       let bytes = ap run_bytes run-late ∙ bytes-history h copies valid short in
@@ -55,13 +55,13 @@ IsLateDelivered-done : (f apid window : ℕ) (h : History) (copies : ℕ → ℕ
 IsLateDelivered-done f apid window h copies done a b played is =
     let store = played.store in
     let told = Ends-told (late_course f apid window) a b None store played.input is.ends in
-    let owed_is = subst (λ (places : ℕ). owed (late_course places apid window store) ≡ record { output = restored_bytes h copies; report = report_text h copies ++ late_row 0 }) played.places
+    let owed_is = subst (λ (places : ℕ). texts_of (owed (late_course places apid window store)) ≡ record { output = restored_bytes h copies; report = report_text h copies ++ late_row 0 }) played.places
     (owed-late h copies apid window store played.numbers played.valid played.delivery played.arrives told.2) in
     let numbers_are = subst (λ (places : ℕ). late_done places apid window store ≡ record { restored = delivered_numbers h copies; late = 0 }) played.places
     (done-late h copies apid window store played.numbers played.valid played.delivery played.arrives) in
     record {
-      output = told.0 ∙ ap (λ (o : Outputs). append_known (made a outlet.Main) o.output) owed_is;
-      report = told.1 ∙ ap (λ (o : Outputs). append_known (made a outlet.Report) o.report) owed_is;
+      output = told.0 ∙ ap (λ (o : OutputTexts). append_known (made a outlet.Main) o.output) owed_is;
+      report = told.1 ∙ ap (λ (o : OutputTexts). append_known (made a outlet.Report) o.report) owed_is;
       numbers = Finishes-told (late_work f apid window) a b done store played.input is ∙ numbers_are;
     }
 

@@ -2,26 +2,18 @@
 use Rattle.std.proofs.Common.{◌≡◌, ℕ, ◌+◌, List, ◌++◌, length, map, sym, ap, ◌∙◌}
 use Rattle.std.proofs.lemmas.List.{length-map, map-append}
 use Rattle.std.proofs.lemmas.List.Concat.{flat_map-append}
-use Rattle.desk_ports.specs.Courses.{put}
 use Rattle.ground_chain.specs.declared.restored.Restored.{Restored}
 use Rattle.ground_chain.specs.Run.{Judged, known_from, run_from}
 use Rattle.ground_chain.specs.Report.{added, restored_of}
 use Rattle.ground_chain.specs.Reception.{known_of}
 use Rattle.ground_chain.specs.Reckoning.{Reckoning}
-use Rattle.ground_chain.specs.Accounts.{Texts, all_parts}
+use Rattle.ground_chain.specs.Accounts.{all_parts}
 use Rattle.ground_chain.specs.Restoring.{restored_texts}
 use Rattle.ground_chain.proofs.Runs.{known_from-append, run_from-append}
 use Rattle.ground_chain.proofs.Counted.{added-assoc, restored_of-append, run_packets}
 use Rattle.late_window.specs.Numbers.{Numbered}
 use Rattle.late_window.specs.Order.{arrival_of}
-use Rattle.late_window.specs.Late.{AreJudged, held_parts, held_bytes, run_of}
-
--- what is written of one part and of another
-pub all_parts-append : (texts : Texts) (xs ys : List Judged) → all_parts texts (xs ++ ys) ≡ put (all_parts texts xs) (all_parts texts ys)
-all_parts-append texts xs ys =
-    let output = flat_map-append (λ (j : Judged). (texts.parts j).output) xs ys in
-    let report = flat_map-append (λ (j : Judged). (texts.parts j).report) xs ys in
-    λ i. record { output = output i; report = report i }
+use Rattle.late_window.specs.Late.{AreJudged, held_bytes, run_of}
 
 module _ {a b : Reckoning} {xs : List Numbered} (first : AreJudged a b xs) where
   -- the run goes on after them
@@ -33,11 +25,8 @@ module _ {a b : Reckoning} {xs : List Numbered} (first : AreJudged a b xs) where
       ∙ (run_from-append a.reception.decoder.places (known_of a.reception) (map arrival_of xs) (map arrival_of ys)
       ∙ λ i. run_of a xs ++ run_from (places i) (known i) (map arrival_of ys))
 
-  pub held_bytes-then : (ys : List Numbered) → held_bytes a (xs ++ ys) ≡ put (held_bytes a xs) (held_bytes b ys)
-  held_bytes-then ys = ap (all_parts restored_texts) (run_of-then ys) ∙ all_parts-append restored_texts (run_of a xs) (run_of b ys)
-
-  pub held_parts-then : (ys : List Numbered) → held_parts a (xs ++ ys) ≡ held_parts a xs ++ held_parts b ys
-  held_parts-then ys = ap (λ (l : List Judged). map restored_texts.parts l) (run_of-then ys) ∙ map-append restored_texts.parts (run_of a xs) (run_of b ys)
+  pub held_bytes-then : (ys : List Numbered) → held_bytes a (xs ++ ys) ≡ held_bytes a xs ++ held_bytes b ys
+  held_bytes-then ys = ap (all_parts restored_texts) (run_of-then ys) ∙ flat_map-append restored_texts.parts (run_of a xs) (run_of b ys)
 
   -- and so do its numbers
   pub added-then : (ys : List Numbered) → added a.restored (restored_of (run_of a (xs ++ ys))) ≡ added b.restored (restored_of (run_of b ys))

@@ -3,7 +3,7 @@ use Rattle.std.proofs.Common.{◌≡◌, ℕ, ◌+◌, ◌≤◌, ltb, Bool, tru
 use Rattle.std.proofs.lemmas.Bool.{ltb-false}
 use Rattle.std.proofs.lemmas.List.{length-map}
 use Rattle.std.proofs.Math.Seq.{drop-append-add}
-use Rattle.desk_ports.specs.Courses.{put, to_report}
+use Rattle.desk_ports.specs.Courses.{to_report}
 use Rattle.ground_chain.specs.Run.{Arrival}
 use Rattle.ground_chain.specs.Report.{added, restored_of}
 use Rattle.ground_chain.specs.Reception.{known_of}
@@ -15,8 +15,8 @@ use Rattle.late_window.specs.declared.late.LateArrivals.{LateArrivals}
 use Rattle.late_window.specs.Numbers.{Numbered, highest_with, near_number, numbered_from}
 use Rattle.late_window.specs.Order.{arrival_of}
 use Rattle.late_window.specs.Lines.{Line, given_from, holding, is_below, late_from, line_after, next_line, settled, surplus, without_first}
-use Rattle.late_window.specs.Late.{IsWithinLimits, Sorts, arrival_parts, arrival_bytes, done_of, parts_left, given_up_for, given_left, held_parts, held_left, held_bytes, last_parts, last_bytes, last_rows, row_parts, numbered_at, bytes_left, run_left, run_of}
-use Rattle.late_window.proofs.Judgings.{added-then, held_parts-then, held_bytes-then, packets-judged, run_of-then}
+use Rattle.late_window.specs.Late.{IsWithinLimits, Sorts, arrival_bytes, done_of, given_up_for, given_left, held_left, held_bytes, last_bytes, last_rows, numbered_at, bytes_left, run_left, run_of}
+use Rattle.late_window.proofs.Judgings.{added-then, held_bytes-then, packets-judged, run_of-then}
 use Rattle.late_window.proofs.Placing.{length-placed}
 
 pub length-run_of : (r : Reckoning) (given : List Numbered) → length (run_of r given) ≡ length given
@@ -35,11 +35,8 @@ module _ {old new : LateArrivals} {a : Arrival} (is : Sorts old new a) (later : 
   run-next : run_left old (a ∷ later) ≡ run_of old.judging (given_up_for old a) ++ run_left new later
   run-next = ap (run_of old.judging) order-next ∙ run_of-then is.judged (given_left new later ++ held_left new later)
 
-  pub bytes-next : bytes_left old (a ∷ later) ≡ put (arrival_bytes old a) (bytes_left new later)
+  pub bytes-next : bytes_left old (a ∷ later) ≡ arrival_bytes old a ++ bytes_left new later
   bytes-next = ap (held_bytes old.judging) given-next ∙ held_bytes-then is.judged (given_left new later)
-
-  pub parts-next : parts_left old (a ∷ later) ≡ arrival_parts old a ++ parts_left new later
-  parts-next = ap (held_parts old.judging) given-next ∙ held_parts-then is.judged (given_left new later)
 
   late-next : old.late + late_from old.sorter.line (numbered_from old.numbers (a ∷ later)) ≡ new.late + late_from new.sorter.line (numbered_from new.numbers later)
   late-next =
@@ -62,10 +59,7 @@ module _ {old new : LateArrivals} {a : Arrival} (is : Sorts old new a) (later : 
       (λ i. drop (size i) (run-next i)) ∙ drop-append-add first (run_left new later) (length (given_left new later))
 
   pub last-next : last_bytes old (a ∷ later) ≡ last_bytes new later
-  last-next = λ i. put (all_parts restored_texts (rest-next i)) (to_report (last_rows (done-next i)))
-
-  pub last_parts-next : last_parts old (a ∷ later) ≡ last_parts new later
-  last_parts-next = λ i. map restored_texts.parts (rest-next i) ++ row_parts (done-next i)
+  last-next = λ i. all_parts restored_texts (rest-next i) ++ to_report (last_rows (done-next i))
 
 -- ---- its numbers stay within their limits
 

@@ -1,28 +1,26 @@
 -- What a store owes is owed from its first packet on.
-use Rattle.std.proofs.Common.{◌≡◌, ℕ, ◌-◌, List, [], ◌∷◌, ◌++◌, length, take, drop, map, Some, None, refl, sym, ap, ◌∙◌, subst, append-nil, append_assoc, arith}
+use Rattle.std.proofs.Common.{◌≡◌, ℕ, ◌-◌, List, [], ◌++◌, length, take, drop, map, Some, None, refl, sym, ap, ◌∙◌, subst, append_assoc, arith}
 use Rattle.std.proofs.lemmas.List.{map-append, take-append-drop, take_at}
 use Rattle.std.proofs.lemmas.List.Concat.{flat_map-append}
-use Rattle.desk_ports.specs.Courses.{by_ending, owed, put, to_report, written_first}
+use Rattle.desk_ports.specs.Courses.{Outputs, by_ending, owed, texts_of, to_report, written_first}
 use Rattle.desk_ports.specs.Turns.{Steps}
-use Rattle.desk_ports.specs.Parts.{if_whole}
-use Rattle.desk_ports.specs.WalkWorks.{parts_on}
-use Rattle.packet_store.specs.StoreReader.{walk_over}
 use Rattle.packet_store.specs.Walks.{walk}
 use Rattle.ground_chain.specs.Run.{Arrival, Judged, known_from, run, run_from}
-use Rattle.ground_chain.specs.Report.{end_row, header_row, restored_of, run_bytes, run_report, run_rows, written_bytes, verdict_rows}
+use Rattle.ground_chain.specs.Report.{end_row, header_row, restored_of, run_bytes, run_report, run_rows, verdict_rows, written_bytes}
 use Rattle.ground_chain.specs.Reception.{known_of}
 use Rattle.ground_chain.specs.Reckoning.{Reckoning, nothing_judged}
 use Rattle.ground_chain.specs.Accounts.{all_parts}
 use Rattle.ground_chain.specs.Restoring.{restored_texts}
 use Rattle.ground_chain.proofs.Counted.{none-added}
 use Rattle.ground_chain.proofs.Runs.{run_from-append}
+use Rattle.ground_chain.proofs.Writings.{texts-around}
 use Rattle.late_window.specs.declared.done.LateDone.{LateDone}
 use Rattle.late_window.specs.declared.run.LateRun.{LateRun}
 use Rattle.late_window.specs.Numbers.{Numbered, numbered}
 use Rattle.late_window.specs.Order.{arrival_of, in_order, late_count, ordered}
 use Rattle.late_window.specs.Rows.{late_row}
-use Rattle.late_window.specs.Late.{done_of, parts_left, given_left, held_left, last_parts, last_bytes, last_rows, nothing_late, bytes_left, row_parts, run_left, run_of}
-use Rattle.late_window.specs.Restoring.{IsUnread, Owes, judged_before, late_course, late_done, late_parts, late_state, late_work, parts_to_sort, nothing_read, ordered_run, rest_work, store_arrivals}
+use Rattle.late_window.specs.Late.{done_of, given_left, held_left, last_bytes, last_rows, nothing_late, bytes_left, run_left, run_of}
+use Rattle.late_window.specs.Restoring.{IsUnread, Owes, judged_before, late_course, late_done, late_state, late_work, nothing_read, ordered_run, rest_work, store_arrivals}
 use Rattle.late_window.proofs.Lefts.{length-run_of}
 use Rattle.late_window.proofs.Orders.{given-count, late-is-count, order-is}
 
@@ -63,17 +61,8 @@ module _ (f window : ℕ) (arrivals : List Arrival) where
       λ i. record { restored = restored i; late = late i }
 
   -- and what is written at the end
-  pub last-all : put (all_parts restored_texts (drop (judged_before window (run f (ordered window arrivals))) (run f (ordered window arrivals)))) (to_report (last_rows (done_of (nothing_late f window) arrivals))) ≡ last_bytes (nothing_late f window) arrivals
-  last-all = λ i. put (all_parts restored_texts (drop (before-count i) (run-all i))) (to_report (last_rows (done_of (nothing_late f window) arrivals)))
-
-  -- the same part by part
-  each-all : map restored_texts.parts (take (judged_before window (run f (ordered window arrivals))) (run f (ordered window arrivals))) ≡ parts_left (nothing_late f window) arrivals
-  each-all =
-      let s = nothing_late f window in
-      ap (λ (l : List Judged). map restored_texts.parts l) ((λ i. take (before-count i) (run-all i)) ∙ take-run s.judging (given_left s arrivals) (held_left s arrivals))
-
-  last_parts-all : map restored_texts.parts (drop (judged_before window (run f (ordered window arrivals))) (run f (ordered window arrivals))) ++ row_parts done-by ≡ last_parts (nothing_late f window) arrivals
-  last_parts-all = λ i. map restored_texts.parts (drop (before-count i) (run-all i)) ++ row_parts (done-all i)
+  pub last-all : all_parts restored_texts (drop (judged_before window (run f (ordered window arrivals))) (run f (ordered window arrivals))) ++ to_report (last_rows (done_of (nothing_late f window) arrivals)) ≡ last_bytes (nothing_late f window) arrivals
+  last-all = λ i. all_parts restored_texts (drop (before-count i) (run-all i)) ++ to_report (last_rows (done_of (nothing_late f window) arrivals))
 
 -- ---- a store
 
@@ -85,8 +74,8 @@ course-is f apid window store =
     let last = last-all f window arrivals in
     let done = done-all f window arrivals in
     let judged = ordered_run f apid window store in
-    let after = (λ i. put (all_parts restored_texts (drop (judged_before window judged) judged)) (to_report (last_rows (done i)))) ∙ last in
-    λ i. record { before = put (to_report header_row) (parts i); after = after i; ending = (walk (Some apid) store).ending }
+    let after = (λ i. all_parts restored_texts (drop (judged_before window judged) judged) ++ to_report (last_rows (done i))) ∙ last in
+    λ i. record { before = to_report header_row ++ parts i; after = after i; ending = (walk (Some apid) store).ending }
 
 Steps-none : (f apid window : ℕ) → Steps (late_work f apid window) (rest_work (nothing_read f apid window)) [] (to_report header_row)
 Steps-none f apid window = record { course = course-is f apid window; answer = λ store. done-all f window (store_arrivals apid store) }
@@ -95,19 +84,6 @@ pub Steps-unread : (r : LateRun) → IsUnread r → let s = late_state r in Step
 Steps-unread r is =
     let s = late_state r in
     subst (λ (x : LateRun). Steps (late_work s.places s.apid s.window) (rest_work x) [] (to_report header_row)) (sym is) (Steps-none s.places s.apid s.window)
-
-parts-none : (f apid window : ℕ) (store : List ℕ) → late_parts f apid window store ≡ to_report header_row ∷ parts_on (parts_to_sort (nothing_read f apid window)) (walk_over (nothing_read f apid window).reader) store
-parts-none f apid window store =
-    let arrivals = store_arrivals apid store in
-    let before = each-all f window arrivals in
-    let after = last_parts-all f window arrivals in
-    λ i. to_report header_row ∷ before i ++ if_whole (walk (Some apid) store).ending (after i)
-
--- and part by part
-pub late_parts-unread : (r : LateRun) → IsUnread r → let s = late_state r in (store : List ℕ) → late_parts s.places s.apid s.window store ≡ to_report header_row ∷ parts_on (parts_to_sort r) (walk_over r.reader) store
-late_parts-unread r is = λ store.
-    let s = late_state r in
-    subst (λ (x : LateRun). late_parts s.places s.apid s.window store ≡ to_report header_row ∷ parts_on (parts_to_sort x) (walk_over x.reader) store) (sym is) (parts-none s.places s.apid s.window store)
 
 -- nothing is read
 pub Owes-unread : (r : LateRun) → IsUnread r → Owes r (rest_work r)
@@ -120,24 +96,23 @@ Owes-unread r is = subst (λ (x : LateRun). Owes x (rest_work x)) (sym is) (reco
 
 -- ---- a whole store
 
-owed-rows : (header first rest ending late : List ℕ) → (header ++ first) ++ (rest ++ (ending ++ late)) ≡ (header ++ ((first ++ rest) ++ ending)) ++ late
-owed-rows header first rest ending late = simp append_assoc
+owed-all : (header first rest last : Outputs) → (header ++ first) ++ (rest ++ last) ≡ (header ++ (first ++ rest)) ++ last
+owed-all header first rest last = simp append_assoc
+
+owed-rows : (header rows ending late : List ℕ) → header ++ rows ++ (ending ++ late) ≡ (header ++ rows ++ ending) ++ late
+owed-rows header rows ending late = simp append_assoc
 
 -- it owes the restored packets and the report of the run over its arrivals in order, and the row of those that are too late
 pub owed-whole : (f apid window : ℕ) (store : List ℕ) → (walk (Some apid) store).ending ≡ None
-    → owed (late_course f apid window store)
-    ≡ record { output = run_bytes (ordered_run f apid window store); report = run_report (ordered_run f apid window store) ++ late_row (late_done f apid window store).late }
+    → texts_of (owed (late_course f apid window store)) ≡ record { output = run_bytes (ordered_run f apid window store); report = run_report (ordered_run f apid window store) ++ late_row (late_done f apid window store).late }
 owed-whole f apid window store whole =
     let judged = ordered_run f apid window store in
     let n = judged_before window judged in
     let done = late_done f apid window store in
     let course = late_course f apid window store in
-    let joined = take-append-drop n judged in
-    let bytes : run_bytes (take n judged) ++ (run_bytes (drop n judged) ++ []) ≡ run_bytes judged =
-    ap (λ (l : List ℕ). run_bytes (take n judged) ++ l) (append-nil (run_bytes (drop n judged)))
-    ∙ (sym (flat_map-append written_bytes (take n judged) (drop n judged)) ∙ ap run_bytes joined) in
-    let rows : run_rows (take n judged) ++ run_rows (drop n judged) ≡ run_rows judged =
-    sym (flat_map-append (λ (j : Judged). verdict_rows j.verdict) (take n judged) (drop n judged)) ∙ ap run_rows joined in
-    let report = owed-rows header_row (run_rows (take n judged)) (run_rows (drop n judged)) (end_row done.restored) (late_row done.late)
-    ∙ ap (λ (l : List ℕ). (header_row ++ (l ++ end_row done.restored)) ++ late_row done.late) rows in
-    ap (λ ending. by_ending ending course.before course.after) whole ∙ λ i. record { output = bytes i; report = report i }
+    let header = to_report header_row in
+    let last = to_report (last_rows done) in
+    let joined = sym (flat_map-append restored_texts.parts (take n judged) (drop n judged)) ∙ ap (all_parts restored_texts) (take-append-drop n judged) in
+    ap (λ ending. texts_of (by_ending ending course.before course.after)) whole
+    ∙ (ap texts_of (owed-all header (all_parts restored_texts (take n judged)) (all_parts restored_texts (drop n judged)) last ∙ ap (λ (o : Outputs). (header ++ o) ++ last) joined)
+    ∙ (texts-around (λ (j : Judged). verdict_rows j.verdict) written_bytes header_row (last_rows done) judged ∙ λ i. record { output = run_bytes judged; report = owed-rows header_row (run_rows judged) (end_row done.restored) (late_row done.late) i }))

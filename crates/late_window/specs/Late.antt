@@ -1,6 +1,6 @@
 -- What is kept of arrivals that may come late, and what is still to be written of them and of all later ones.
-use Rattle.std.specs.Prelude.{◌≡◌, ℕ, ◌+◌, ◌*◌, ◌≤◌, List, [], ◌∷◌, ◌++◌, length, drop, map, None}
-use Rattle.desk_ports.specs.Courses.{Outputs, put, to_report}
+use Rattle.std.specs.Prelude.{◌≡◌, ℕ, ◌+◌, ◌*◌, ◌≤◌, List, [], ◌++◌, length, drop, map, None}
+use Rattle.desk_ports.specs.Courses.{Outputs, to_report}
 use Rattle.packet_store.specs.SpacePackets.{period}
 use Rattle.ground_chain.specs.Numbers.{expected}
 use Rattle.ground_chain.specs.Run.{Arrival, Judged, known_from}
@@ -37,10 +37,6 @@ run_of r given = next_run r (map arrival_of given)
 abbrev pub held_bytes : Reckoning → List Numbered → Outputs
 held_bytes r given = all_parts restored_texts (run_of r given)
 
--- the same part by part
-abbrev pub held_parts : Reckoning → List Numbered → List Outputs
-held_parts r given = map restored_texts.parts (run_of r given)
-
 -- these arrivals were judged: it keeps what the run knows after them, and counts them
 pub record AreJudged (old new : Reckoning) (given : List Numbered) : Type 0 where
   pub places : new.reception.decoder.places ≡ old.reception.decoder.places
@@ -58,9 +54,6 @@ given_up_for s a = gives s.sorter.line (numbered_at s a)
 
 abbrev pub arrival_bytes : LateArrivals → Arrival → Outputs
 arrival_bytes s a = held_bytes s.judging (given_up_for s a)
-
-abbrev pub arrival_parts : LateArrivals → Arrival → List Outputs
-arrival_parts s a = held_parts s.judging (given_up_for s a)
 
 -- it was held, or counted as too late, and what was given up for it was judged
 pub record Sorts (old new : LateArrivals) (a : Arrival) : Type 0 where
@@ -98,14 +91,4 @@ abbrev pub last_rows : LateDone → List ℕ
 last_rows done = end_row done.restored ++ late_row done.late
 
 abbrev pub last_bytes : LateArrivals → List Arrival → Outputs
-last_bytes s arrivals = put (all_parts restored_texts (drop (length (given_left s arrivals)) (run_left s arrivals))) (to_report (last_rows (done_of s arrivals)))
-
--- the same part by part: an arrival each time, and then each of the two rows
-abbrev pub row_parts : LateDone → List Outputs
-row_parts done = to_report (end_row done.restored) ∷ to_report (late_row done.late) ∷ []
-
-abbrev pub parts_left : LateArrivals → List Arrival → List Outputs
-parts_left s arrivals = held_parts s.judging (given_left s arrivals)
-
-abbrev pub last_parts : LateArrivals → List Arrival → List Outputs
-last_parts s arrivals = map restored_texts.parts (drop (length (given_left s arrivals)) (run_left s arrivals)) ++ row_parts (done_of s arrivals)
+last_bytes s arrivals = all_parts restored_texts (drop (length (given_left s arrivals)) (run_left s arrivals)) ++ to_report (last_rows (done_of s arrivals))

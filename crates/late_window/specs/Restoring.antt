@@ -1,8 +1,7 @@
 -- What restoring a store owes whose packets may come late: the run over its packets of the chosen APID, in order.
-use Rattle.std.specs.Prelude.{◌≡◌, ℕ, ◌-◌, ◌^◌, ◌≤◌, IsTrue, List, ◌∷◌, ◌++◌, length, take, drop, map, Some, unwrap_or}
-use Rattle.desk_ports.specs.Courses.{Course, Outputs, Work, put, to_report}
-use Rattle.desk_ports.specs.Parts.{if_whole}
-use Rattle.desk_ports.specs.WalkWorks.{WalkParts, WalkWork, parts_on, work_on}
+use Rattle.std.specs.Prelude.{◌≡◌, ℕ, ◌-◌, ◌^◌, ◌≤◌, IsTrue, List, ◌++◌, length, take, drop, Some, unwrap_or}
+use Rattle.desk_ports.specs.Courses.{Course, Work, to_report}
+use Rattle.desk_ports.specs.WalkWorks.{WalkWork, work_on}
 use Rattle.packet_store.specs.declared.fault.WalkFault.{WalkFault}
 use Rattle.packet_store.specs.SpacePackets.{Packet}
 use Rattle.packet_store.specs.StoreReader.{opened, walk_over}
@@ -15,7 +14,7 @@ use Rattle.late_window.specs.declared.done.LateDone.{LateDone}
 use Rattle.late_window.specs.declared.run.LateRun.{LateRun}
 use Rattle.late_window.specs.Numbers.{numbered}
 use Rattle.late_window.specs.Order.{late_count, ordered}
-use Rattle.late_window.specs.Late.{IsWithinLimits, done_of, parts_left, last_parts, last_bytes, last_rows, nothing_late, bytes_left, row_parts}
+use Rattle.late_window.specs.Late.{IsWithinLimits, done_of, last_bytes, last_rows, nothing_late, bytes_left}
 
 -- the packets of the APID in a store, as they arrive
 abbrev pub store_arrivals : ℕ → List ℕ → List Arrival
@@ -42,19 +41,10 @@ abbrev pub late_course : ℕ → ℕ → ℕ → List ℕ → Course WalkFault
 late_course f apid window store =
     let judged = ordered_run f apid window store in
     record {
-      before = put (to_report header_row) (all_parts restored_texts (take (judged_before window judged) judged));
-      after = put (all_parts restored_texts (drop (judged_before window judged) judged)) (to_report (last_rows (late_done f apid window store)));
+      before = to_report header_row ++ all_parts restored_texts (take (judged_before window judged) judged);
+      after = all_parts restored_texts (drop (judged_before window judged) judged) ++ to_report (last_rows (late_done f apid window store));
       ending = (walk (Some apid) store).ending;
     }
-
--- The same part by part: the report's header, what is written of each arrival that is judged before the end, and if the store
--- is whole that of the others and the report's last two rows.
-abbrev pub late_parts : ℕ → ℕ → ℕ → List ℕ → List Outputs
-late_parts f apid window store =
-    let judged = ordered_run f apid window store in
-    to_report header_row
-    ∷ map restored_texts.parts (take (judged_before window judged) judged)
-    ++ if_whole (walk (Some apid) store).ending (map restored_texts.parts (drop (judged_before window judged) judged) ++ row_parts (late_done f apid window store))
 
 -- the work of restoring it
 abbrev pub late_work : ℕ → ℕ → ℕ → Work LateDone WalkFault
@@ -88,17 +78,6 @@ left_to_sort r = record {
 
 abbrev pub rest_work : LateRun → Work LateDone WalkFault
 rest_work r = work_on (left_to_sort r) (walk_over r.reader)
-
--- the same part by part
-abbrev pub parts_to_sort : LateRun → WalkParts Packet
-parts_to_sort r = record {
-  before = λ packets. parts_left r.arrivals (arrivals_of r.reader.chosen packets);
-  after = λ packets. last_parts r.arrivals (arrivals_of r.reader.chosen packets);
-}
-
--- these parts are owed: those of the rest of the store
-abbrev pub OwesParts : LateRun → (List ℕ → List Outputs) → Type 0
-OwesParts r parts_of = parts_of ≡ parts_on (parts_to_sort r) (walk_over r.reader)
 
 -- this work is owed: that of the rest of the store
 pub record Owes (r : LateRun) (work : Work LateDone WalkFault) : Type 0 where

@@ -2,9 +2,9 @@
 
 ghost use Rattle.std.specs.Prelude.{◌≡◌, ◌+◌, ◌-◌, ◌^◌, ◌<◌, ◌≤◌, ◌*◌, [], length, take, true, IfOk, OnOk};
 ghost use Rattle.desk_ports.specs.Turns.{AreReady};
-ghost use Rattle.desk_ports.specs.Writings.{WritesWithin};
+ghost use Rattle.desk_ports.specs.Writings.{Writes};
 ghost use Rattle.ground_chain.specs.Run.{IsArrival};
-ghost use Rattle.late_window.specs.Late.{AreJudged, IsWithinLimits, Sorts, arrival_parts, arrival_bytes, held_parts, held_bytes, last_parts, last_bytes, done_of, nothing_late};
+ghost use Rattle.late_window.specs.Late.{AreJudged, IsWithinLimits, Sorts, arrival_bytes, held_bytes, last_bytes, done_of, nothing_late};
 ghost use Rattle.late_window.specs.Lines.{given_up};
 ghost use Rattle.bit_vectors.specs.Vectors.{IsPlaces};
 
@@ -55,9 +55,8 @@ impl LateArrivals {
         requires limits { IsWithinLimits self.old (2 ^ 32 - 1) }
         requires ready { AreReady (λ _. true) (D.meaning desk.old) }
         ensures sorts { Sorts self.old self.new (record { count = count; body = bytes.now }) }
-        ensures written { WritesWithin Outlet.Report D.meaning D.counts desk.old desk.new
-            (arrival_bytes self.old (record { count = count; body = bytes.now }))
-            (arrival_parts self.old (record { count = count; body = bytes.now })) result }
+        ensures written { Writes D.meaning D.counts desk.old desk.new
+            (arrival_bytes self.old (record { count = count; body = bytes.now })) result }
     {
         let t = self.numbers.next(count);
         if !self.sorter.push(t, bytes) {
@@ -79,9 +78,8 @@ impl LateArrivals {
         ensures judged { AreJudged self.old.judging self.new.judging
             (take 1 self.old.sorter.line.held) }
         ensures others { self.new ≡ record self.old { sorter = self.new.sorter; judging = self.new.judging } }
-        ensures written { WritesWithin Outlet.Report D.meaning D.counts desk.old desk.new
-            (held_bytes self.old.judging (take 1 self.old.sorter.line.held))
-            (held_parts self.old.judging (take 1 self.old.sorter.line.held)) result }
+        ensures written { Writes D.meaning D.counts desk.old desk.new
+            (held_bytes self.old.judging (take 1 self.old.sorter.line.held)) result }
     {
         self.sorter.release();
         let count = (self.sorter.out_number() % PERIOD) as u16;
@@ -95,9 +93,8 @@ impl LateArrivals {
         ensures judged { OnOk result (AreJudged self.old.judging self.new.judging
             self.old.sorter.line.held) }
         ensures late { self.new.late ≡ self.old.late }
-        ensures written { WritesWithin Outlet.Report D.meaning D.counts desk.old desk.new
-            (held_bytes self.old.judging self.old.sorter.line.held)
-            (held_parts self.old.judging self.old.sorter.line.held) result }
+        ensures written { Writes D.meaning D.counts desk.old desk.new
+            (held_bytes self.old.judging self.old.sorter.line.held) result }
     {
         while self.sorter.held() > 0 {
             self.judge_least(desk)?;
@@ -110,8 +107,8 @@ impl LateArrivals {
         requires few { self.old.judging.restored.packets + length self.old.sorter.line.held ≤ 2 ^ 32 }
         requires ready { AreReady (λ _. true) (D.meaning desk.old) }
         ensures done { IfOk result (λ done. done ≡ done_of self.old []) }
-        ensures written { WritesWithin Outlet.Report D.meaning D.counts desk.old desk.new
-            (last_bytes self.old []) (last_parts self.old []) result }
+        ensures written { Writes D.meaning D.counts desk.old desk.new
+            (last_bytes self.old []) result }
     {
         self.judge_held(desk)?;
         self.judging.end(desk)?;

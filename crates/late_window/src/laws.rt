@@ -3,7 +3,7 @@
 ghost use Rattle.std.specs.Prelude.{◌≡◌, ◌-◌, ◌<◌, ℕ, List, length, map, take, drop, codes, [], ◌∷◌, ◌++◌, None, Some};
 ghost use Rattle.packet_store.specs.SpacePackets.{period};
 ghost use Rattle.packet_store.specs.Walks.{walk};
-ghost use Rattle.desk_ports.specs.Courses.{owed};
+ghost use Rattle.desk_ports.specs.Courses.{owed, texts_of};
 ghost use Rattle.mask_update.specs.Histories.{History, IsValid};
 ghost use Rattle.loss_player.specs.Gaps.{AreGapsShort};
 ghost use Rattle.ground_chain.specs.Deliveries.{arrival_at, history_arrivals, report_text, restored_bytes};
@@ -14,8 +14,7 @@ ghost use Rattle.ground_chain.specs.Report.{header_row, run_bytes, run_report};
 ghost use Rattle.late_window.specs.Numbers.{IsNear, Numbered, near_number, numbered};
 ghost use Rattle.late_window.specs.Order.{IsSorting, AreWithinWindow, arrival_of, in_order, kept, late_count, ordered, sorted};
 ghost use Rattle.late_window.specs.Lines.{empty_line, given_from, late_from, line_after};
-ghost use Rattle.late_window.specs.Restoring.{late_course, late_done, late_parts, ordered_run, store_arrivals};
-ghost use Rattle.desk_ports.specs.Parts.{put_all};
+ghost use Rattle.late_window.specs.Restoring.{late_course, late_done, ordered_run, store_arrivals};
 ghost use Rattle.late_window.specs.Rows.{late_row};
 ghost use Rattle.late_window.specs.Worked.{swapped};
 
@@ -62,17 +61,12 @@ pub fn within_the_window_all_are_kept()
 /// those that are too late.
 pub fn whole_stores_owe_their_order()
     ensures { (f apid window : ℕ) (store : List ℕ) → (walk (Some apid) store).ending ≡ None →
-        owed (late_course f apid window store)
+        texts_of (owed (late_course f apid window store))
         ≡ record {
           output = run_bytes (ordered_run f apid window store);
           report = run_report (ordered_run f apid window store)
               ++ late_row (late_done f apid window store).late;
         } }
-{}
-
-/// What is owed part by part is, one part after another, what is owed.
-pub fn parts_are_owed()
-    ensures { (f apid window : ℕ) (store : List ℕ) → put_all (late_parts f apid window store) ≡ owed (late_course f apid window store) }
 {}
 
 /// If the packets of a valid history come late by no more than the window, and none is far from those before it, then the
@@ -91,7 +85,7 @@ pub fn late_deliveries_are_restored()
         → IsValid h → IsLateDelivery window (length h.steps) copies numbers
         → store_arrivals apid store ≡ map (arrival_at h) numbers
         → (walk (Some apid) store).ending ≡ None
-        → owed (late_course h.places apid window store)
+        → texts_of (owed (late_course h.places apid window store))
         ≡ record { output = restored_bytes h copies; report = report_text h copies ++ late_row 0 } }
 {}
 

@@ -13,9 +13,8 @@ mod sorter;
 
 pub use done::LateDone;
 pub use laws::{
-    late_deliveries_are_restored, numbers_are_near, one_order, parts_are_owed,
-    sorters_put_in_order, whole_stores_owe_their_order, within_the_window_all_are_kept,
-    worked_orders,
+    late_deliveries_are_restored, numbers_are_near, one_order, sorters_put_in_order,
+    whole_stores_owe_their_order, within_the_window_all_are_kept, worked_orders,
 };
 pub use near::NearCount;
 pub use restorer::LateRestorer;

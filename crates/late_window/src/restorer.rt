@@ -4,11 +4,10 @@ ghost use Rattle.std.specs.Prelude.{◌≡◌, ◌≤◌, ℕ, List, None, Some,
 ghost use Rattle.desk_ports.specs.Meanings.{Rose, left};
 ghost use Rattle.desk_ports.specs.Turns.{IsReadyRun};
 ghost use Rattle.desk_ports.specs.Courses.{AfterRun, HasCause, by_stop};
-ghost use Rattle.desk_ports.specs.Parts.{InParts};
 ghost use Rattle.mask_update.specs.Histories.{History};
 ghost use Rattle.packet_store.specs.Walks.{walk};
 ghost use Rattle.packet_store.specs.Faults.{stop_by};
-ghost use Rattle.late_window.specs.Restoring.{late_parts, late_work};
+ghost use Rattle.late_window.specs.Restoring.{late_work};
 ghost use Rattle.late_window.specs.Deliveries.{IsLateDelivered, IsLatePlayed};
 ghost use Rattle.flight_chain.specs.Stores.{IsStream};
 
@@ -59,10 +58,6 @@ impl LateRestorer {
         ensures ran { AfterRun (late_work self.places self.apid self.window) (D.meaning desk.old)
             (D.meaning desk.new) (by_stop stop_by result) }
         ensures cause { HasCause (D.counts desk.old) (D.counts desk.new) (by_stop stop_by result) }
-        // The rows of an arrival are written before its content. So if a write failed, then up to some arrival all rows and
-        // contents stand, and of the next one a prefix of its rows, or its rows and a prefix of its content.
-        ensures order { InParts Outlet.Report (late_parts self.places self.apid self.window)
-            (D.meaning desk.old) (D.meaning desk.new) (by_stop stop_by result) }
         // Packets of a history that come late by no more than the window: each up to the greatest number that arrives is
         // written exactly as it was, or listed.
         ensures headline { (h : History) (copies : ℕ → ℕ)

@@ -27,14 +27,9 @@ impl Run for LateRun {
 
     ghost use Rattle.std.specs.Prelude.{true};
     ghost use Rattle.packet_store.specs.Faults.{stop_by};
-    ghost use Rattle.desk_ports.specs.declared.desk.Outlet.TheVariants as outlet;
-    ghost use Rattle.late_window.specs.Restoring.{Owes, OwesParts};
+    ghost use Rattle.late_window.specs.Restoring.{Owes};
 
     ghost owes = { Owes };
-
-    ghost owes_parts = { OwesParts };
-
-    ghost first = { outlet.Report };
 
     ghost stop_of = { stop_by };
 

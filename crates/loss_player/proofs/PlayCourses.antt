@@ -5,6 +5,8 @@ use Rattle.std.proofs.lemmas.Grind.{flat_map-append}
 use Rattle.desk_ports.specs.Meanings.{Meanings}
 use Rattle.desk_ports.specs.Courses.{Work, to_output, to_report}
 use Rattle.desk_ports.specs.WalkWorks.{work_on}
+use Rattle.desk_ports.specs.declared.desk.Outlet.TheVariants as outlet
+use Rattle.desk_ports.proofs.Runs.{to_outlet-append}
 use Rattle.desk_ports.proofs.WalkTurns.{GoesOn, IsDone}
 use Rattle.side_tables.specs.Rows.{copies_of}
 use Rattle.packet_store.specs.declared.reader.Taken.{Taken}
@@ -70,7 +72,7 @@ module _ (s t : Playing) (reader : ReaderState) (a b : Meanings) (given : Taken)
 pub GoesOn-played : (s t : Playing) (reader : ReaderState) (a b : Meanings) (given : Taken) (takes : TakesPacket s.reader reader a b given) → HasCounted (record s { reader = reader }) t given.chosen
     → GoesOn (left_to_play s) (left_to_play t) (packet_of takes.header reader) (to_output (next_copies s given.chosen reader.packet))
 GoesOn-played s t reader a b given takes is = record {
-  before = λ packets. ap to_output (taken_bytes s t reader a b given takes is packets);
+  before = λ packets. ap to_output (taken_bytes s t reader a b given takes is packets) ∙ to_outlet-append outlet.Main (next_copies s given.chosen reader.packet) (packets_bytes (rest_packets t packets));
   answer = λ packets. taken_numbers s t reader a b given takes is packets;
   after = λ packets. ap (λ (numbers : Played). to_report (play_report numbers)) (taken_numbers s t reader a b given takes is packets);
 }

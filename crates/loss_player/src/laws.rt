@@ -2,7 +2,7 @@
 
 ghost use Rattle.std.specs.Prelude.{◌≡◌, ◌↔◌, ◌^◌, ◌≤◌, ◌<◌, ◌++◌, ◌∷◌, ℕ, List, [], length, not, None, Some, All, codes};
 ghost use Rattle.std.specs.List.{filter};
-ghost use Rattle.desk_ports.specs.Courses.{AreFronts, owed};
+ghost use Rattle.desk_ports.specs.Courses.{AreFronts, owed, to_output, to_report};
 ghost use Rattle.side_tables.specs.Rows.{copies_of};
 ghost use Rattle.packet_store.specs.SpacePackets.{is_chosen};
 ghost use Rattle.packet_store.specs.Walks.{walk};
@@ -47,16 +47,13 @@ pub fn played_stores_are_walked()
         → (walk (Some apid) (played_bytes copies apid store)).ending ≡ Some WalkFault.TooMany }
 {}
 
-/// What a whole store owes is the played store and the report of its numbers.
+/// What a whole store owes is the played store, and then the report of its numbers.
 pub fn whole_stores_owe_their_report()
     ensures { (copies : ℕ → ℕ) (apid : ℕ) (store : List ℕ) → (walk (Some apid) store).ending ≡ None
         →
         owed (play_course copies apid store)
-        ≡ record {
-          output = played_bytes copies apid store;
-          report = play_report
-              (store_numbers copies apid store);
-        } }
+        ≡ to_output (played_bytes copies apid store)
+        ++ to_report (play_report (store_numbers copies apid store)) }
 {}
 
 /// What a front of a store owes before its end is a front of what the store owes before its end.

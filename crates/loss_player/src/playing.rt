@@ -31,15 +31,10 @@ impl Run for Playing {
 
     type Data = WalkFault;
 
-    ghost use Rattle.desk_ports.specs.declared.desk.Outlet.TheVariants as outlet;
     ghost use Rattle.packet_store.specs.Faults.{stop_by};
     ghost use Rattle.loss_player.specs.Playing.{Owes};
 
     ghost owes = { Owes };
-
-    ghost owes_parts = { λ _ _. ⊥ };
-
-    ghost first = { outlet.Main };
 
     ghost stop_of = { stop_by };
 

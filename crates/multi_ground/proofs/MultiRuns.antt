@@ -1,13 +1,12 @@
 -- The run over the packets of several streams, part by part.
 use Rattle.std.proofs.Common.{◌≡◌, ℕ, ◌+◌, ◌<◌, ◌≤◌, ◌==◌, Bool, true, false, cond, List, [], ◌∷◌, ◌++◌, map, length, Option, Some, None, refl, sym, ap, ◌∙◌, append-nil, append_assoc, arith}
-use Rattle.std.specs.List.{cons_option, filter, flat_map, count_by}
+use Rattle.std.specs.List.{cons_option, filter, count_by}
 use Rattle.std.proofs.lemmas.Bool.{and_left, and_right, ne_eqb}
 use Rattle.std.proofs.lemmas.List.{map-append, length-map}
-use Rattle.std.proofs.lemmas.List.Concat.{flat_map-cons}
 use Rattle.std.proofs.lemmas.List.Elements.{filter-append}
 use Rattle.std.proofs.lemmas.List.Sums.{count_by-le-length, length-filter, sum_by-append}
 use Rattle.std.proofs.lemmas.Option.{none-some}
-use Rattle.desk_ports.specs.Courses.{put}
+use Rattle.desk_ports.specs.Courses.{Outputs}
 use Rattle.packet_store.specs.SpacePackets.{Packet}
 use Rattle.side_tables.specs.declared.rows.StreamRow.{StreamRow}
 use Rattle.side_tables.specs.Streams.{AreStreams, stream_at, stream_of}
@@ -15,7 +14,7 @@ use Rattle.side_tables.proofs.StreamRows.{stream_of-index}
 use Rattle.ground_chain.specs.Report.{is_written_kind}
 use Rattle.ground_chain.specs.Restoring.{arrival_of}
 use Rattle.multi_ground.specs.MultiRun.{StreamJudged, has_shape, is_arrival, is_other_shape, judged_after, multi_run, multi_run_from, shape_count, stream_arrivals, written_count}
-use Rattle.multi_ground.specs.MultiOutputs.{outputs_of, tagged_rows, written_packet}
+use Rattle.multi_ground.specs.MultiOutputs.{arrival_texts, outputs_of}
 
 -- ---- the arrivals of a stream
 
@@ -107,9 +106,6 @@ shape_count-few streams packets = count_by-le-length (is_other_shape streams) pa
 
 -- ---- what is written
 
-pub outputs_of-cons : (o : Option StreamJudged) (xs : List StreamJudged) → outputs_of (cons_option o xs) ≡ put (outputs_of (cons_option o [])) (outputs_of xs)
+pub outputs_of-cons : (o : Option StreamJudged) (xs : List StreamJudged) → outputs_of (cons_option o xs) ≡ outputs_of (cons_option o []) ++ outputs_of xs
 outputs_of-cons None xs = refl
-outputs_of-cons (Some j) xs =
-    let output = flat_map-cons written_packet j xs ∙ ap (λ l. l ++ flat_map written_packet xs) (sym (flat_map-cons written_packet j [] ∙ append-nil (written_packet j))) in
-    let report = flat_map-cons tagged_rows j xs ∙ ap (λ l. l ++ flat_map tagged_rows xs) (sym (flat_map-cons tagged_rows j [] ∙ append-nil (tagged_rows j))) in
-    λ i. record { output = output i; report = report i }
+outputs_of-cons (Some j) xs = ap (λ (o : Outputs). o ++ outputs_of xs) (sym (append-nil (arrival_texts j)))

@@ -13,7 +13,7 @@ use Rattle.side_tables.specs.Streams.{stream_at}
 use Rattle.ground_chain.specs.Run.{Arrival, Judged, run}
 use Rattle.ground_chain.specs.Report.{content_bytes, end_row, is_written_kind, restored_of, run_bytes, run_rows}
 use Rattle.multi_ground.specs.MultiRun.{StreamJudged, multi_run, shape_count, stream_arrivals}
-use Rattle.multi_ground.specs.MultiOutputs.{end_rows, multi_header, outputs_of, shape_row}
+use Rattle.multi_ground.specs.MultiOutputs.{end_rows, multi_header, shape_row, tagged_rows}
 
 -- the judged arrivals of the stream with an APID
 abbrev pub judged_with : ℕ → List StreamJudged → List Judged
@@ -54,7 +54,7 @@ rows_on apid report = flat_map (after_front (decimal apid ++ codes ",")) (lines_
 
 -- the report of the streams in whole stores
 abbrev pub multi_report : List StreamRow → List Packet → List ℕ
-multi_report streams packets = multi_header ++ (outputs_of (multi_run streams packets)).report ++ (end_rows streams packets ++ shape_row (shape_count streams packets))
+multi_report streams packets = multi_header ++ flat_map tagged_rows (multi_run streams packets) ++ (end_rows streams packets ++ shape_row (shape_count streams packets))
 
 -- ---- a whole store
 

@@ -1,9 +1,8 @@
 -- What is written of the streams in a store: the restored packets as a store of Space Packets, and one report.
-use Rattle.std.specs.Prelude.{ℕ, ◌%◌, if◌then◌else◌, List, [], ◌∷◌, ◌++◌, map, codes, None}
+use Rattle.std.specs.Prelude.{ℕ, ◌%◌, if◌then◌else◌, List, [], ◌∷◌, ◌++◌, codes, None}
 use Rattle.std.specs.Fmt.{decimal}
 use Rattle.std.specs.List.{flat_map}
-use Rattle.desk_ports.specs.Courses.{Outputs, Course, Work, put, to_report}
-use Rattle.desk_ports.specs.Parts.{if_whole}
+use Rattle.desk_ports.specs.Courses.{Outputs, Course, Work, to_output, to_report}
 use Rattle.packet_store.specs.declared.fault.WalkFault.{WalkFault}
 use Rattle.packet_store.specs.SpacePackets.{Packet, period, space_packet}
 use Rattle.packet_store.specs.Walks.{walk}
@@ -26,13 +25,13 @@ tagged apid (byte ∷ row) = decimal apid ++ codes "," ++ byte ∷ row
 abbrev pub tagged_rows : StreamJudged → List ℕ
 tagged_rows j = tagged j.apid (lost_row j.judged.verdict.lost) ++ tagged j.apid (own_row j.judged.verdict.t j.judged.verdict.kind)
 
+-- what is written of an arrival: its rows, and then its Space Packet
+abbrev pub arrival_texts : StreamJudged → Outputs
+arrival_texts j = to_report (tagged_rows j) ++ to_output (written_packet j)
+
 -- what is written of arrivals
 abbrev pub outputs_of : List StreamJudged → Outputs
-outputs_of judged = record { output = flat_map written_packet judged; report = flat_map tagged_rows judged }
-
--- the same part by part: a part for each arrival
-abbrev pub arrival_parts : List StreamJudged → List Outputs
-arrival_parts judged = map (λ (j : StreamJudged). record { output = written_packet j; report = tagged_rows j }) judged
+outputs_of judged = flat_map arrival_texts judged
 
 -- the report's first line
 abbrev pub multi_header : List ℕ
@@ -54,15 +53,10 @@ last_rows streams packets = end_rows streams packets ++ shape_row (shape_count s
 -- rows if the store is whole, and otherwise the fault of its walk.
 abbrev pub multi_course : List StreamRow → List ℕ → Course WalkFault
 multi_course streams store = record {
-  before = put (to_report multi_header) (outputs_of (multi_run streams (walk None store).packets));
+  before = to_report multi_header ++ outputs_of (multi_run streams (walk None store).packets);
   after = to_report (last_rows streams (walk None store).packets);
   ending = (walk None store).ending;
 }
-
--- The same part by part: the header, what is written of each arrival, and the last rows if the store is whole.
-abbrev pub multi_parts : List StreamRow → List ℕ → List Outputs
-multi_parts streams store =
-    to_report multi_header ∷ arrival_parts (multi_run streams (walk None store).packets) ++ if_whole (walk None store).ending (to_report (last_rows streams (walk None store).packets) ∷ [])
 
 -- the work of restoring them, whose answer is the number of written packets
 abbrev pub multi_work : List StreamRow → Work ℕ WalkFault

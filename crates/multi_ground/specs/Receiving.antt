@@ -1,9 +1,9 @@
 -- What is kept on the way through a store of several streams, and what is owed for the rest of it.
-use Rattle.std.specs.Prelude.{◌≡◌, ℕ, ◌+◌, ◌^◌, ◌<◌, ◌≤◌, if◌then◌else◌, IsTrue, List, [], ◌∷◌, ◌++◌, length, slice_set, vec_len, None}
+use Rattle.std.specs.Prelude.{◌≡◌, ℕ, ◌+◌, ◌^◌, ◌<◌, ◌≤◌, if◌then◌else◌, IsTrue, List, [], ◌++◌, length, slice_set, vec_len, None}
 use Rattle.std.specs.List.{cons_option}
 use Rattle.std.specs.Vec.{vec_capacity}
 use Rattle.desk_ports.specs.Courses.{Outputs, Work, to_report}
-use Rattle.desk_ports.specs.WalkWorks.{WalkParts, WalkWork, parts_on, work_on}
+use Rattle.desk_ports.specs.WalkWorks.{WalkWork, work_on}
 use Rattle.packet_store.specs.declared.fault.WalkFault.{WalkFault}
 use Rattle.packet_store.specs.SpacePackets.{Packet, packet_bytes}
 use Rattle.packet_store.specs.Walks.{IsGood}
@@ -16,7 +16,7 @@ use Rattle.ground_chain.specs.Report.{is_written_kind}
 use Rattle.multi_ground.specs.declared.receiving.MultiReceiving.{MultiReceiving}
 use Rattle.multi_ground.specs.Grounds.{reckoning_at}
 use Rattle.multi_ground.specs.MultiRun.{StreamJudged, judged_after, multi_run, multi_run_from, shape_count, stream_arrivals, written_count}
-use Rattle.multi_ground.specs.MultiOutputs.{arrival_parts, last_rows, outputs_of}
+use Rattle.multi_ground.specs.MultiOutputs.{last_rows, outputs_of}
 
 -- of each stream the arrivals among these packets were judged
 pub record AreReckoned (streams : List StreamRow) (packets : List Packet) (reckonings : List Reckoning) : Type 0 where
@@ -66,9 +66,6 @@ pub record JudgesOne (old new : MultiReceiving) (index count : ℕ) (body : List
 abbrev pub outputs_after : List StreamRow → List Packet → Packet → Outputs
 outputs_after streams before p = outputs_of (cons_option (judged_after streams before p) [])
 
-abbrev pub parts_after : List StreamRow → List Packet → Packet → List Outputs
-parts_after streams before p = arrival_parts (cons_option (judged_after streams before p) [])
-
 -- what is owed for packets that are read after these
 abbrev pub left_after : List StreamRow → List Packet → WalkWork Packet ℕ
 left_after streams before = record {
@@ -76,20 +73,6 @@ left_after streams before = record {
   answer = λ packets. written_count (multi_run streams (before ++ packets));
   after = λ packets. to_report (last_rows streams (before ++ packets));
 }
-
--- the same part by part
-abbrev pub parts_left : List StreamRow → List Packet → WalkParts Packet
-parts_left streams before = record {
-  before = λ packets. arrival_parts (multi_run_from streams before packets);
-  after = λ packets. to_report (last_rows streams (before ++ packets)) ∷ [];
-}
-
--- these parts are owed: those of the rest of the store, after the packets that were received
-pub record OwesParts (s : MultiReceiving) (parts_of : List ℕ → List Outputs) : Type 0 where
-  pub packets : List Packet
-  pub received : HasReceived s packets
-  pub chosen : s.reader.chosen ≡ None
-  pub parts_are : parts_of ≡ parts_on (parts_left s.streams packets) (walk_over s.reader)
 
 -- this work is owed: that of the rest of the store, after the packets that were received
 pub record Owes (s : MultiReceiving) (work : Work ℕ WalkFault) : Type 0 where

@@ -1,7 +1,8 @@
 //! What the definitions of the streams in a store mean.
 
 ghost use Rattle.std.specs.Prelude.{◌≡◌, ◌^◌, ◌<◌, ◌≤◌, ◌∷◌, ◌++◌, [], codes, ℕ, All, List, None, Some, length};
-ghost use Rattle.desk_ports.specs.Courses.{AreFronts, owed};
+ghost use Rattle.desk_ports.specs.Courses.{AreFronts, owed, texts_of};
+ghost use Rattle.std.specs.List.{flat_map};
 ghost use Rattle.packet_store.specs.SpacePackets.{Packet};
 ghost use Rattle.packet_store.specs.Walks.{IsGood, walk};
 ghost use Rattle.side_tables.specs.declared.rows.StreamRow.{StreamRow};
@@ -15,8 +16,7 @@ ghost use Rattle.ground_chain.specs.Deliveries.{history_arrivals, report_text, r
 ghost use Rattle.ground_chain.specs.Report.{end_row, header_row, restored_of, run_bytes, run_rows};
 ghost use Rattle.ground_chain.specs.Run.{run};
 ghost use Rattle.multi_ground.specs.Apart.{HasStream, arrivals_on, contents_on, judged_with, multi_report, packets_from, rows_on};
-ghost use Rattle.multi_ground.specs.MultiOutputs.{multi_course, multi_header, multi_parts, multi_work, outputs_of};
-ghost use Rattle.desk_ports.specs.Parts.{put_all};
+ghost use Rattle.multi_ground.specs.MultiOutputs.{multi_course, multi_header, multi_work, written_packet};
 ghost use Rattle.multi_ground.specs.MultiRun.{multi_run, stream_arrivals};
 ghost use Rattle.multi_ground.specs.Worked.{two_streams, two_stream_store};
 
@@ -36,7 +36,7 @@ pub fn streams_are_apart()
 pub fn the_output_is_a_store()
     ensures { (streams : List StreamRow) (packets : List Packet) → AreStreams streams
         → All (IsGood None) packets → length packets ≤ 2 ^ 32
-        → walk None (outputs_of (multi_run streams packets)).output
+        → walk None (flat_map written_packet (multi_run streams packets))
         ≡ record {
           packets = packets_from (multi_run streams packets);
           rest = [];
@@ -48,7 +48,7 @@ pub fn the_output_is_a_store()
 pub fn contents_are_apart()
     ensures { (streams : List StreamRow) (packets : List Packet) (index : ℕ) → AreStreams streams
         → All (IsGood None) packets → length packets ≤ 2 ^ 32 → index < length streams
-        → contents_on (stream_at streams index).apid (outputs_of (multi_run streams packets)).output
+        → contents_on (stream_at streams index).apid (flat_map written_packet (multi_run streams packets))
         ≡ run_bytes (run (stream_at streams index).bits
         (stream_arrivals (stream_at streams index).apid packets)) }
 {}
@@ -68,11 +68,12 @@ pub fn rows_are_apart()
 pub fn whole_stores_owe_each_stream()
     ensures whole { (streams : List StreamRow) (store : List ℕ) → AreStreams streams
         → All (λ b. b < 256) store → (walk None store).ending ≡ None
-        → (walk None (owed (multi_course streams store)).output).ending ≡ None }
+        → (walk None (texts_of (owed (multi_course streams store))).output).ending ≡ None }
     ensures each { (streams : List StreamRow) (store : List ℕ) (index : ℕ) → AreStreams streams
         → All (λ b. b < 256) store → (walk None store).ending ≡ None → index < length streams
-        → HasStream (stream_at streams index) store (owed (multi_course streams store)).output
-        (owed (multi_course streams store)).report }
+        → HasStream (stream_at streams index) store
+        (texts_of (owed (multi_course streams store))).output
+        (texts_of (owed (multi_course streams store))).report }
 {}
 
 /// What a front of a store owes before its end is a front of what the store owes before its end.
@@ -80,11 +81,6 @@ pub fn fronts_owe_fronts()
     ensures { (streams : List StreamRow) (front rest : List ℕ) → All (λ b. b < 256) front →
         AreFronts (multi_course streams front).before
         (multi_course streams (front ++ rest)).before }
-{}
-
-/// What is owed part by part is, one part after another, what is owed.
-pub fn parts_are_owed()
-    ensures { (streams : List StreamRow) (store : List ℕ) → put_all (multi_parts streams store) ≡ owed (multi_course streams store) }
 {}
 
 /// The played store of a valid history is whole in the walk for no APID too, and the arrivals on its APID are the packets of
@@ -119,10 +115,10 @@ pub fn played_streams_are_restored()
 /// A worked store of two streams of 8 bits, with the APIDs 100 and 101: the second one's first packet comes late, and its
 /// second one is segmented.
 pub fn worked_streams()
-    ensures output { (owed (multi_course two_streams two_stream_store)).output
+    ensures output { (texts_of (owed (multi_course two_streams two_stream_store))).output
         ≡ 0x00 ∷ 0x64 ∷ 0xC0 ∷ 0x00 ∷ 0x00 ∷ 0x00 ∷ 0xB0 ∷ 0x00 ∷ 0x64 ∷ 0xC0 ∷ 0x01 ∷ 0x00 ∷ 0x00
         ∷ 0xB0 ∷ [] }
-    ensures report { (owed (multi_course two_streams two_stream_store)).report
+    ensures report { (texts_of (owed (multi_course two_streams two_stream_store))).report
         ≡ multi_header ++ codes
         "101,0,4,lost,0\n101,5,5,unsynced,0\n100,end,2,2,0\n101,end,1,0,0\nshape,1\n" }
     ensures written { (multi_work two_streams).answer two_stream_store ≡ 2 }

@@ -9,8 +9,8 @@ mod writing;
 
 pub use ground::MultiGround;
 pub use laws::{
-    contents_are_apart, fronts_owe_fronts, parts_are_owed, played_streams_are_restored,
-    played_streams_arrive, rows_are_apart, streams_are_apart, the_output_is_a_store,
-    whole_stores_owe_each_stream, worked_streams,
+    contents_are_apart, fronts_owe_fronts, played_streams_are_restored, played_streams_arrive,
+    rows_are_apart, streams_are_apart, the_output_is_a_store, whole_stores_owe_each_stream,
+    worked_streams,
 };
 pub use restorer::MultiRestorer;

@@ -4,7 +4,7 @@ ghost use Rattle.std.specs.Prelude.{◌≡◌, ◌+◌, ◌-◌, ◌^◌, ◌<�
 ghost use Rattle.desk_ports.specs.Meanings.{HasWriteCause};
 ghost use Rattle.desk_ports.specs.Turns.{AreReady};
 ghost use Rattle.desk_ports.specs.Courses.{to_report};
-ghost use Rattle.desk_ports.specs.Writings.{Writes, WritesWithin};
+ghost use Rattle.desk_ports.specs.Writings.{Writes};
 ghost use Rattle.packet_store.specs.SpacePackets.{Packet};
 ghost use Rattle.ground_chain.specs.Run.{IsArrival};
 
@@ -36,14 +36,9 @@ impl Run for MultiReceiving {
     type Data = WalkFault;
 
     ghost use Rattle.packet_store.specs.Faults.{stop_by};
-    ghost use Rattle.desk_ports.specs.declared.desk.Outlet.TheVariants as outlet;
-    ghost use Rattle.multi_ground.specs.Receiving.{Owes, OwesParts};
+    ghost use Rattle.multi_ground.specs.Receiving.{Owes};
 
     ghost owes = { Owes };
-
-    ghost owes_parts = { OwesParts };
-
-    ghost first = { outlet.Report };
 
     ghost stop_of = { stop_by };
 
@@ -62,8 +57,8 @@ impl Run for MultiReceiving {
 }
 
 impl MultiReceiving {
-    ghost use Rattle.multi_ground.specs.Receiving.{HasRead, HasReceived, IsReceiving, IsUnread, JudgesOne, next_of, outputs_after, parts_after};
-    ghost use Rattle.multi_ground.specs.MultiOutputs.{arrival_parts, last_rows, outputs_of};
+    ghost use Rattle.multi_ground.specs.Receiving.{HasRead, HasReceived, IsReceiving, IsUnread, JudgesOne, next_of, outputs_after};
+    ghost use Rattle.multi_ground.specs.MultiOutputs.{last_rows, outputs_of};
 
     /// Nothing is read. Takes all memory of the run.
     pub fn open(alloc: Global, streams: Streams) -> Result<MultiReceiving, NoMemory>
@@ -88,8 +83,8 @@ impl MultiReceiving {
         ensures received { (p : Packet) (packets : List Packet) → HasRead self.old p → HasReceived self.old packets
             → HasReceived self.new (packets ++ p ∷ []) }
         ensures written { (p : Packet) (packets : List Packet) → HasRead self.old p → HasReceived self.old packets
-            → WritesWithin Outlet.Report D.meaning D.counts desk.old desk.new
-            (outputs_after self.old.streams packets p) (parts_after self.old.streams packets p) result }
+            → Writes D.meaning D.counts desk.old desk.new
+            (outputs_after self.old.streams packets p) result }
         ensures reader { self.new.reader ≡ self.old.reader }
         ensures streams { self.new.streams ≡ self.old.streams }
         ensures cause { HasWriteCause (D.counts desk.old) (D.counts desk.new) result }
@@ -113,9 +108,8 @@ impl MultiReceiving {
         requires some { 0 < length self.old.reader.body }
         requires ready { AreReady (λ _. true) (D.meaning desk.old) }
         ensures judges { JudgesOne self.old self.new index count self.old.reader.body }
-        ensures written { WritesWithin Outlet.Report D.meaning D.counts desk.old desk.new
-            (outputs_of (next_of self.old index count self.old.reader.body ∷ []))
-            (arrival_parts (next_of self.old index count self.old.reader.body ∷ [])) result }
+        ensures written { Writes D.meaning D.counts desk.old desk.new
+            (outputs_of (next_of self.old index count self.old.reader.body ∷ [])) result }
     {
         let verdict = self.arrivals.arrive(index, count, self.reader.body());
         self.written += u64::from(verdict.kind.is_written());

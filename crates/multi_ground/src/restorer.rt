@@ -4,15 +4,14 @@ ghost use Rattle.std.specs.Prelude.{◌≡◌, ◌<◌, ℕ, All, Err, List, Som
 ghost use Rattle.desk_ports.specs.Meanings.{left};
 ghost use Rattle.desk_ports.specs.Turns.{IsReadyRun};
 ghost use Rattle.desk_ports.specs.Courses.{AfterRun, HasCause, by_stop};
-ghost use Rattle.desk_ports.specs.Parts.{InParts};
 ghost use Rattle.packet_store.specs.Faults.{stop_by};
 ghost use Rattle.multi_ground.specs.Apart.{AreRestored};
-ghost use Rattle.multi_ground.specs.MultiOutputs.{multi_parts, multi_work};
+ghost use Rattle.multi_ground.specs.MultiOutputs.{multi_work};
 
 use crate::receiving::MultiReceiving;
 use crate::writing::write_header;
 use bit_vectors::NoMemory;
-use desk_ports::{Desk, Inlet, Outlet, drive};
+use desk_ports::{Desk, Inlet, drive};
 use ground_chain::RestoreFault;
 use packet_store::StoreFault;
 use side_tables::Streams;
@@ -54,10 +53,6 @@ impl MultiRestorer {
         ensures ran { AfterRun (multi_work self) (D.meaning desk.old) (D.meaning desk.new)
             (by_stop stop_by result) }
         ensures cause { HasCause (D.counts desk.old) (D.counts desk.new) (by_stop stop_by result) }
-        // The rows of an arrival are written before its Space Packet. So if a write failed, then up to some arrival all rows
-        // and packets stand, and of the next one a prefix of its rows, or its rows and a prefix of its packet.
-        ensures order { InParts Outlet.Report (multi_parts self) (D.meaning desk.old)
-            (D.meaning desk.new) (by_stop stop_by result) }
         // No stream sees another: what is added is a store of Space Packets again, whose contents on each APID are those of
         // the run over its own arrivals, and a report whose lines on each APID are the rows of that run.
         ensures apart { (store : List ℕ) → All (λ b. b < 256) store

@@ -6,13 +6,13 @@ ghost use Rattle.bit_vectors.specs.Vectors.{vector_bytes};
 ghost use Rattle.desk_ports.specs.Meanings.{IsReadyOut, HasWriteCause};
 ghost use Rattle.desk_ports.specs.Courses.{to_output, to_report};
 ghost use Rattle.desk_ports.specs.Turns.{AreReady};
-ghost use Rattle.desk_ports.specs.Writings.{Writes, WritesWithin};
+ghost use Rattle.desk_ports.specs.Writings.{Writes};
 ghost use Rattle.packet_decode.specs.Decoding.{latest_content};
 ghost use Rattle.packet_store.specs.SpacePackets.{period, space_packet};
 ghost use Rattle.ground_chain.specs.Reception.{AgreesWith};
 ghost use Rattle.ground_chain.specs.Report.{lost_row, own_row};
 ghost use Rattle.ground_chain.specs.Run.{Judged};
-ghost use Rattle.multi_ground.specs.MultiOutputs.{arrival_parts, multi_header, outputs_of, shape_row, tagged};
+ghost use Rattle.multi_ground.specs.MultiOutputs.{multi_header, outputs_of, shape_row, tagged};
 
 use bit_vectors::byte_len;
 use desk_ports::{Desk, Failed, Outlet, Row, write_all};
@@ -45,9 +45,8 @@ pub fn write_arrival<D: Desk>(
     requires chosen { apid ≤ 2046 }
     requires ready { AreReady (λ _. true) (D.meaning desk.old) }
     ensures written { (judged : Judged) → judged.verdict ≡ verdict.now → AgreesWith decoder.now judged
-        → WritesWithin Outlet.Report D.meaning D.counts desk.old desk.new
-        (outputs_of (record { apid = apid; judged = judged } ∷ []))
-        (arrival_parts (record { apid = apid; judged = judged } ∷ [])) result }
+        → Writes D.meaning D.counts desk.old desk.new
+        (outputs_of (record { apid = apid; judged = judged } ∷ [])) result }
     ensures cause { HasWriteCause (D.counts desk.old) (D.counts desk.new) result }
 {
     write_rows(desk, apid, verdict)?;

@@ -9,7 +9,7 @@ ghost use Rattle.packet_encode.specs.Deliveries.{WrittenAt, arrivals};
 ghost use Rattle.packet_encode.specs.Packets.{with_next_input};
 ghost use Rattle.packet_store.specs.SpacePackets.{period, space_packet};
 ghost use Rattle.packet_store.specs.Walks.{walk};
-ghost use Rattle.desk_ports.specs.Courses.{owed};
+ghost use Rattle.desk_ports.specs.Courses.{owed, texts_of};
 ghost use Rattle.flight_chain.specs.Stores.{data_at, store_of};
 ghost use Rattle.loss_player.specs.Gaps.{AreGapsShort};
 ghost use Rattle.ground_chain.specs.Deliveries.{arrival_at};
@@ -59,7 +59,7 @@ pub fn verdicts_are_those_of_restoring()
         r.restored ≡ restored_of (run f arrivals) }
     ensures restore { (f apid : ℕ) (store : List ℕ) → (walk (Some apid) store).ending ≡ None →
         let judged = run f (arrivals_of (Some apid) (walk (Some apid) store).packets) in
-        owed (restore_course f apid store)
+        texts_of (owed (restore_course f apid store))
         ≡ record { output = run_bytes judged; report = run_report judged } }
 {}
 

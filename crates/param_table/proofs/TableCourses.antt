@@ -1,29 +1,24 @@
 -- What is owed for the rest of a recording, packet by packet.
 use Rattle.std.proofs.Common.{length-append, ◌≡◌, ℕ, ◌+◌, ◌^◌, ◌<◌, ◌≤◌, Bool, List, [], ◌∷◌, ◌++◌, length, refl, sym, ap, ◌∙◌, subst, add-one, arith}
-use Rattle.std.proofs.lemmas.Grind.{flat_map-append}
 use Rattle.desk_ports.specs.Courses.{to_report, written_first}
 use Rattle.desk_ports.specs.Turns.{Steps}
-use Rattle.desk_ports.specs.Parts.{if_whole}
-use Rattle.desk_ports.specs.WalkWorks.{course_on, parts_on, work_on}
-use Rattle.desk_ports.proofs.WalkTurns.{GoesOn, IsDone, PartsGoOn}
+use Rattle.desk_ports.specs.WalkWorks.{course_on, work_on}
+use Rattle.desk_ports.proofs.WalkTurns.{GoesOn, IsDone}
 use Rattle.flight_chain.specs.Recordings.{recording_walk, recording_walk_from, walk_over}
 use Rattle.param_table.specs.declared.rows.Column.{Column}
 use Rattle.param_table.specs.declared.tabling.Tabling.{Tabling}
 use Rattle.param_table.specs.Rows.{AreColumns}
-use Rattle.param_table.specs.Texts.{Violation, end_row, packet_violations, values_line, values_lines, violation_row, violation_rows, violations}
-use Rattle.param_table.specs.Tabling.{HasTakenNothing, IsTabling, Owes, headers, left_to_tabulate, packet_texts, packets_texts, parts_left, rest_work, table_course, table_parts, table_work, tabulation_of}
+use Rattle.param_table.specs.Texts.{Violation, end_row, packet_violations, violations}
+use Rattle.param_table.specs.Tabling.{HasTakenNothing, IsTabling, Owes, headers, left_to_tabulate, packet_texts, packets_texts, rest_work, table_course, table_work, tabulation_of}
 
 -- ---- one packet more
 
 module _ (columns : List Column) (t : ℕ) (packet : List Bool) (packets : List (List Bool)) where
-  lines-next : values_lines columns t (packet ∷ packets) ≡ values_line columns (t, packet) ++ values_lines columns (t + 1) packets
-  lines-next = rw add-one refl
+  texts-next : packets_texts columns t (packet ∷ packets) ≡ packet_texts columns (t, packet) ++ packets_texts columns (t + 1) packets
+  texts-next = rw add-one refl
 
   violations-next : violations columns t (packet ∷ packets) ≡ packet_violations columns (t, packet) ++ violations columns (t + 1) packets
   violations-next = rw add-one refl
-
-  rows-next : violation_rows (violations columns t (packet ∷ packets)) ≡ violation_rows (packet_violations columns (t, packet)) ++ violation_rows (violations columns (t + 1) packets)
-  rows-next = ap violation_rows violations-next ∙ flat_map-append violation_row (packet_violations columns (t, packet)) (violations columns (t + 1) packets)
 
   found-next : (found : ℕ) → found + length (violations columns t (packet ∷ packets)) ≡ found + length (packet_violations columns (t, packet)) + length (violations columns (t + 1) packets)
   found-next found = omega (arith, ap (λ (l : List Violation). length l) violations-next, length-append (packet_violations columns (t, packet)) (violations columns (t + 1) packets))
@@ -37,22 +32,9 @@ pub GoesOn-table : (s : Tabling) (t : ℕ) (packet : List Bool) → t ≡ s.take
 GoesOn-table s t packet is =
     subst (λ (n : ℕ). GoesOn (left_to_tabulate s.fields s.taken s.found) (left_to_tabulate s.fields (s.taken + 1) (s.found + length (packet_violations s.fields (n, packet)))) packet (packet_texts s.fields (n, packet))) (sym is)
     (record {
-      before = λ packets. λ i. record { output = lines-next s.fields s.taken packet packets i; report = rows-next s.fields s.taken packet packets i };
+      before = texts-next s.fields s.taken packet;
       answer = packets-next s.fields s.taken packet;
       after = λ packets. λ i. to_report (end_row (packets-next s.fields s.taken packet packets i) (found-next s.fields s.taken packet packets s.found i));
-    })
-
--- and part by part
-texts-next : (columns : List Column) (t : ℕ) (packet : List Bool) (packets : List (List Bool)) → packets_texts columns t (packet ∷ packets) ≡ packet_texts columns (t, packet) ∷ packets_texts columns (t + 1) packets
-texts-next columns t packet packets = rw add-one refl
-
-pub PartsGoOn-table : (s : Tabling) (t : ℕ) (packet : List Bool) → t ≡ s.taken
-    → PartsGoOn (parts_left s.fields s.taken s.found) (parts_left s.fields (s.taken + 1) (s.found + length (packet_violations s.fields (t, packet)))) packet (packet_texts s.fields (t, packet) ∷ [])
-PartsGoOn-table s t packet is =
-    subst (λ (n : ℕ). PartsGoOn (parts_left s.fields s.taken s.found) (parts_left s.fields (s.taken + 1) (s.found + length (packet_violations s.fields (n, packet)))) packet (packet_texts s.fields (n, packet) ∷ [])) (sym is)
-    (record {
-      before = texts-next s.fields s.taken packet;
-      after = λ packets. λ i. to_report (end_row (packets-next s.fields s.taken packet packets i) (found-next s.fields s.taken packet packets s.found i)) ∷ [];
     })
 
 -- after the last packet the last row is owed
@@ -61,13 +43,6 @@ IsDone-table columns t found =
     let packets : t + 0 ≡ t = omega arith in
     let all : found + 0 ≡ found = omega arith in
     record { nothing = refl; last_is = λ i. to_report (end_row (packets i) (all i)); answer_is = packets }
-
--- after the last packet the last row is owed
-pub last-table : (columns : List Column) (t found : ℕ) → (parts_left columns t found).after [] ≡ to_report (end_row t found) ∷ []
-last-table columns t found =
-    let packets : t + 0 ≡ t = omega arith in
-    let all : found + 0 ≡ found = omega arith in
-    λ i. to_report (end_row (packets i) (all i)) ∷ []
 
 -- the rest is owed after it
 pub Owes-next : (s : Tabling) (line : List ℕ) (packet : List Bool) (after : List ℕ) (n : ℕ) → IsTabling s → s.taken < 2 ^ 32 → n ≤ 256 → length packet ≡ length s.packet
@@ -101,15 +76,6 @@ Steps-headers s none = record {
       sym (from-zero (length (recording_walk (length s.packet) rest).inputs))
       ∙ λ i. sym none.taken i + length (recording_walk_from (length s.packet) (sym none.taken i) (sym none.ahead i ++ rest)).inputs;
 }
-
--- and part by part
-pub table_parts-headers : (s : Tabling) → HasTakenNothing s → (rest : List ℕ) → table_parts (tabulation_of s) rest ≡ headers s.fields ∷ parts_on (parts_left s.fields s.taken s.found) (walk_over (length s.packet) s.taken s.ahead) rest
-table_parts-headers s none rest =
-    let walk = recording_walk (length s.packet) rest in
-    let count = from-zero (length walk.inputs) in
-    let found = from-zero (length (violations s.fields 0 walk.inputs)) in
-    (λ i. headers s.fields ∷ packets_texts s.fields 0 walk.inputs ++ if_whole walk.ending (to_report (end_row (sym count i) (sym found i)) ∷ []))
-    ∙ λ i. headers s.fields ∷ parts_on (parts_left s.fields (sym none.taken i) (sym none.found i)) (walk_over (length s.packet) (sym none.taken i) (sym none.ahead i)) rest
 
 pub Owes-unread : (s : Tabling) (line : List ℕ) → HasTakenNothing s → Owes (record s { line = line }) (rest_work s)
 Owes-unread s line none =

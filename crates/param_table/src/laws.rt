@@ -1,13 +1,12 @@
 //! What the definitions of numbers, fields and texts mean.
 
 ghost use Rattle.std.specs.Prelude.{◌≡◌, ℕ, ◌+◌, ◌≤◌, ◌++◌, Bool, List, [], ◌∷◌, length, codes, Some, All};
-ghost use Rattle.desk_ports.specs.Courses.{AreFronts, owed};
+ghost use Rattle.desk_ports.specs.Courses.{AreFronts, owed, texts_of};
 ghost use Rattle.flight_chain.specs.Recordings.{recording_of, recording_walk};
 ghost use Rattle.param_table.specs.Cells.{cell_in, first_bit, number_in, signed_if, sum_by_weight};
 ghost use Rattle.param_table.specs.Grammar.{bad_text_row, text_columns};
 ghost use Rattle.param_table.specs.Texts.{limit_text, table_text};
-ghost use Rattle.param_table.specs.Tabling.{Tabulation, table_course, table_parts};
-ghost use Rattle.desk_ports.specs.Parts.{put_all};
+ghost use Rattle.param_table.specs.Tabling.{Tabulation, table_course};
 ghost use Rattle.param_table.specs.Worked.{worked_columns, worked_packets};
 
 /// A number is the sum of its bits, each by its weight: the first has the greatest, half of 2 to the power of the width, and
@@ -24,19 +23,14 @@ pub fn numbers_are_sums()
 pub fn whole_recordings_owe_their_texts()
     ensures { (k : Tabulation) (packets : List (List Bool)) → 1 ≤ k.places
         → All (λ packet. length packet ≡ k.places) packets → length packets ≤ 4294967296 →
-        owed (table_course k (recording_of packets)) ≡ record
-        { output = table_text k.columns packets; report = limit_text k.columns packets } }
+        texts_of (owed (table_course k (recording_of packets)))
+        ≡ record { output = table_text k.columns packets; report = limit_text k.columns packets } }
 {}
 
 /// What a front of a recording owes is a front of what the recording owes before its end.
 pub fn fronts_owe_fronts()
     ensures { (k : Tabulation) (front rest : List ℕ) → 1 ≤ k.places →
         AreFronts (table_course k front).before (table_course k (front ++ rest)).before }
-{}
-
-/// What is owed part by part is, one part after another, what is owed.
-pub fn parts_are_owed()
-    ensures { (k : Tabulation) (recording : List ℕ) → put_all (table_parts k recording) ≡ owed (table_course k recording) }
 {}
 
 /// A worked side text and recording: two packets of 16 places with two fields, one of which has a limit that the first

@@ -17,8 +17,7 @@ pub use cells::cell;
 pub use fields::Fields;
 pub use flight_chain::FlightFault as TableFault;
 pub use laws::{
-    fronts_owe_fronts, numbers_are_sums, parts_are_owed, whole_recordings_owe_their_texts,
-    worked_tables,
+    fronts_owe_fronts, numbers_are_sums, whole_recordings_owe_their_texts, worked_tables,
 };
 pub use name::Name;
 pub use rows::{Column, FieldRow, Limit};

@@ -3,10 +3,9 @@
 ghost use Rattle.std.specs.Prelude.{◌≡◌, IfOk};
 ghost use Rattle.desk_ports.specs.Turns.{IsReadyRun};
 ghost use Rattle.desk_ports.specs.Courses.{AfterRun, HasCause, by_stop};
-ghost use Rattle.desk_ports.specs.Parts.{InParts};
 ghost use Rattle.flight_chain.specs.Compressing.{stop_by};
 ghost use Rattle.param_table.specs.Rows.{AreColumns};
-ghost use Rattle.param_table.specs.Tabling.{table_parts, table_work};
+ghost use Rattle.param_table.specs.Tabling.{table_work};
 ghost use Rattle.bit_vectors.specs.Vectors.{IsPlaces};
 
 use crate::TableFault;
@@ -15,7 +14,7 @@ use crate::line::Line;
 use crate::tabling::Tabling;
 use crate::writing::write_headers;
 use bit_vectors::{Bits, NoMemory};
-use desk_ports::{Desk, Outlet, ReadAhead, drive};
+use desk_ports::{Desk, ReadAhead, drive};
 use std::alloc::Global;
 use std::marker::Model;
 
@@ -59,15 +58,11 @@ impl Tabler {
     /// Tabulates the recording, and tells the number of its packets. It takes no memory.
     pub fn tabulate<D: Desk>(self, desk: &mut D) -> Result<u64, TableFault>
         requires { IsReadyRun (D.meaning desk.old) }
-        // What stands after each answer is what the recording owes, all of it or up to where its walk or the desk ends it;
-        // the number is that of the packets of the same recording, whatever the desk tells.
+        // What stands after each answer is what the recording owes, in its order, all of it or up to where its walk or the
+        // desk ends it; the number is that of the packets of the same recording, whatever the desk tells.
         ensures ran { AfterRun (table_work self) (D.meaning desk.old) (D.meaning desk.new)
             (by_stop stop_by result) }
         ensures cause { HasCause (D.counts desk.old) (D.counts desk.new) (by_stop stop_by result) }
-        // The line of a packet is written before its rows. So if a write failed, then up to some packet all lines and rows
-        // stand, and of the next one a prefix of its line, or its line and a prefix of its rows.
-        ensures order { InParts Outlet.Main (table_parts self) (D.meaning desk.old)
-            (D.meaning desk.new) (by_stop stop_by result) }
     {
         let mut tabling = self.tabling;
         write_headers(desk, &mut tabling.line, tabling.fields.columns())?;

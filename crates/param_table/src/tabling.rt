@@ -30,14 +30,9 @@ impl Run for Tabling {
     type Data = RecordFault;
 
     ghost use Rattle.flight_chain.specs.Compressing.{stop_by};
-    ghost use Rattle.desk_ports.specs.declared.desk.Outlet.TheVariants as outlet;
-    ghost use Rattle.param_table.specs.Tabling.{Owes, OwesParts};
+    ghost use Rattle.param_table.specs.Tabling.{Owes};
 
     ghost owes = { Owes };
-
-    ghost owes_parts = { OwesParts };
-
-    ghost first = { outlet.Main };
 
     ghost stop_of = { stop_by };
 

@@ -5,7 +5,7 @@ ghost use Rattle.std.specs.Option.{option_to_list};
 ghost use Rattle.desk_ports.specs.Meanings.{IsReadyOut};
 ghost use Rattle.desk_ports.specs.Turns.{IsReadyRun};
 ghost use Rattle.desk_ports.specs.Courses.{to_report};
-ghost use Rattle.desk_ports.specs.Writings.{Writes, WritesBy};
+ghost use Rattle.desk_ports.specs.Writings.{Writes};
 ghost use Rattle.param_table.specs.Rows.{AreColumns, IsColumn};
 ghost use Rattle.param_table.specs.Texts.{end_row, packet_violations, violation_of, violation_rows};
 ghost use Rattle.param_table.specs.Tabling.{headers, packet_texts};
@@ -28,7 +28,7 @@ pub fn write_headers<D: Desk>(
 ) -> Result<(), Failed>
     requires ready { IsReadyRun (D.meaning desk.old) }
     requires few { length columns.now ≤ 256 }
-    ensures { WritesBy Outlet.Main D.meaning D.counts desk.old desk.new (headers columns.now) result }
+    ensures { Writes D.meaning D.counts desk.old desk.new (headers columns.now) result }
 {
     put_names(line, columns);
     write_all(desk, Outlet::Main, line.as_bytes())?;
@@ -45,7 +45,7 @@ pub fn write_packet<D: Desk>(
 ) -> Result<u64, Failed>
     requires ready { IsReadyRun (D.meaning desk.old) }
     requires columns { AreColumns (length packet.now) columns.now }
-    ensures written { WritesBy Outlet.Main D.meaning D.counts desk.old desk.new
+    ensures written { Writes D.meaning D.counts desk.old desk.new
         (packet_texts columns.now (t, packet.now)) result }
     ensures found { IfOk result
         (λ found. found ≡ length (packet_violations columns.now (t, packet.now))) }

@@ -6,9 +6,8 @@ use Rattle.std.specs.Option.{option_map}
 use Rattle.std.specs.Str.{bytes_eq}
 use Rattle.desk_ports.specs.declared.desk.Inlet.TheVariants as inlet
 use Rattle.desk_ports.specs.declared.desk.Outlet.TheVariants as outlet
-use Rattle.desk_ports.specs.Courses.{Course}
+use Rattle.desk_ports.specs.Courses.{Outputs, Ran, Course}
 use Rattle.desk_ports.specs.Meanings.{Kept, Meanings, kept_after, kept_at, made}
-use Rattle.desk_ports.specs.Runs.{Ran}
 use Rattle.desk_ports.proofs.Held.{kept_apart, kept_here}
 use Rattle.std.proofs.lemmas.Option.{same_Some}
 use Rattle.std.proofs.lemmas.Slice.Eq.{bytes_eq-Decides}
@@ -262,12 +261,12 @@ stays-kept kept out report differ first name made is = by_cases kept name made i
     by_first (Some bytes) is = apart ∙ is
 
 -- a run leaves the names of the outputs
-outlets-ran : (a b : Meanings) (xs us rs : List ℕ) → Ran a b xs us rs → (b.output.name ≡ a.output.name) × (b.report.name ≡ a.report.name)
-outlets-ran a b xs us rs p = (ap (λ (m : Meanings). m.output.name) p.others, ap (λ (m : Meanings). m.report.name) p.others)
+outlets-ran : (a b : Meanings) (xs : List ℕ) (us : Outputs) → Ran a b xs us → (b.output.name ≡ a.output.name) × (b.report.name ≡ a.report.name)
+outlets-ran a b xs us p = (ap (λ (m : Meanings). m.output.name) p.others, ap (λ (m : Meanings). m.report.name) p.others)
 
 outlets-ends : (reads : Bool) (course : List ℕ → Course DataFault) (a b : Meanings) (ending : Option DataFault) → EndsBy reads course a b ending → (b.output.name ≡ a.output.name) × (b.report.name ≡ a.report.name)
-outlets-ends true course a b ending e = outlets-ran a b _ _ _ e.went.ran
-outlets-ends false course a b ending e = outlets-ran a b _ _ _ e.ran
+outlets-ends true course a b ending e = outlets-ran a b _ _ e.went.ran
+outlets-ends false course a b ending e = outlets-ran a b _ _ e.ran
 
 output-opened : (report : Option (List ℕ)) (input : Option (List ℕ)) (out bytes : List ℕ) (m : Meanings) → (with_report (with_output (with_input m input bytes) out) report).output.name ≡ option_map (λ _. out) m.output.name
 output-opened None None out bytes m = refl

@@ -2,7 +2,9 @@
 use Rattle.std.proofs.Common.{◌≡◌, ℕ, ◌^◌, ◌<◌, ◌≤◌, List, [], length, All, sym, ap, ◌∙◌, subst, append-nil, arith, codes}
 use Rattle.std.specs.Option.{option_map}
 use Rattle.std.specs.Prelude.{IfSome, None, Option, Some, unwrap_or}
-use Rattle.desk_ports.specs.Courses.{Outputs, by_ending, no_outputs, owed, to_output, to_report}
+use Rattle.desk_ports.specs.Courses.{OutputTexts, Outputs, by_ending, owed, texts_of, to_output, to_report}
+use Rattle.desk_ports.specs.declared.desk.Outlet.TheVariants as outlet
+use Rattle.desk_ports.proofs.Runs.{bytes_for-first, bytes_for-last, bytes_for-own}
 use Rattle.mask_update.specs.Histories.{History, IsValid}
 use Rattle.mask_update.proofs.HistoriesOf.{IsValid-history_of}
 use Rattle.side_tables.specs.Grammar.{copy_rows_of, schedule_rows_of}
@@ -50,19 +52,21 @@ pub owed-recorded : (c : Words) (text recording : List ℕ) → IsInputWhole (Co
     → owed (course_of (Compress, c) text recording) ≡ to_output (store_of (recorded_history c text recording) (apid c))
 owed-recorded c text recording whole =
     sym (owed-with_fault of_recording (compress_course (compression_by c text) recording))
-    ∙ (ap (λ ending. by_ending ending (to_output (store_of (recorded_history c text recording) (apid c))) no_outputs) (unmapped of_recording (recording_walk (bits c) recording).ending (whole.ends text))
-    ∙ ap to_output (append-nil (store_of (recorded_history c text recording) (apid c))))
+    ∙ (ap (λ ending. by_ending ending (to_output (store_of (recorded_history c text recording) (apid c))) []) (unmapped of_recording (recording_walk (bits c) recording).ending (whole.ends text))
+    ∙ append-nil (to_output (store_of (recorded_history c text recording) (apid c))))
 
 -- what playing the store of a history owes
 pub owed-played_store : (p : Words) (h : History) (text : List ℕ) → apid p ≤ 2046 → IsValid h
-    → owed (course_of (Play, p) text (store_of h (apid p)))
+    → texts_of (owed (course_of (Play, p) text (store_of h (apid p))))
     ≡ record { output = played_bytes (copies_of (copy_rows_of text)) (apid p) (store_of h (apid p)); report = play_report (played_of (copies_of (copy_rows_of text)) (length h.steps)) }
 owed-played_store p h text chosen valid =
     let copies : ℕ → ℕ = copies_of (copy_rows_of text) in
     let store : List ℕ = store_of h (apid p) in
-    sym (owed-with_fault of_store (play_course copies (apid p) store))
-    ∙ (ap (λ ending. by_ending ending (to_output (played_bytes copies (apid p) store)) (to_report (play_report (store_numbers copies (apid p) store)))) (whole-store_of h (apid p) valid chosen)
-    ∙ λ i. record { output = append-nil (played_bytes copies (apid p) store) i; report = play_report (played_of copies (count-chosen h (apid p) valid chosen i)) })
+    sym (ap texts_of (owed-with_fault of_store (play_course copies (apid p) store)))
+    ∙ (ap (λ ending. texts_of (by_ending ending (to_output (played_bytes copies (apid p) store)) (to_report (play_report (store_numbers copies (apid p) store))))) (whole-store_of h (apid p) valid chosen)
+    ∙ (let bytes = played_bytes copies (apid p) store in
+    let report = play_report (store_numbers copies (apid p) store) in
+    (λ i. record { output = bytes_for-first outlet.Main bytes report i; report = bytes_for-last outlet.Report bytes report i }) ∙ λ i. record { output = bytes; report = play_report (played_of copies (count-chosen h (apid p) valid chosen i)) }))
 
 pub IsInputWhole-history : (p : Words) (h : History) → apid p ≤ 2046 → IsValid h → IsInputWhole (Play, p) (store_of h (apid p))
 IsInputWhole-history p h chosen valid = record { right = tt; ends = λ text. ap (option_map of_store) (whole-store_of h (apid p) valid chosen) }
@@ -77,27 +81,27 @@ pub whole-restored : (r : Words) (h : History) (copies : ℕ → ℕ) → apid r
 whole-restored r h copies chosen valid few = record { right = tt; ends = λ text. ap (option_map of_store) (ending-played r h copies chosen valid few) }
 
 pub owed-restored : (r : Words) (h : History) (copies : ℕ → ℕ) → apid r ≤ 2046 → IsValid h → h.places ≡ bits r → AreGapsShort copies (length h.steps) → length (arrivals copies (length h.steps)) ≤ 2 ^ 32
-    → owed (course_of (Restore, r) [] (played_bytes copies (apid r) (store_of h (apid r)))) ≡ record { output = restored_bytes h copies; report = report_text h copies }
+    → texts_of (owed (course_of (Restore, r) [] (played_bytes copies (apid r) (store_of h (apid r))))) ≡ record { output = restored_bytes h copies; report = report_text h copies }
 owed-restored r h copies chosen valid places short few =
     let store : List ℕ = played_bytes copies (apid r) (store_of h (apid r)) in
-    sym (owed-with_fault of_store (restore_course (bits r) (apid r) store))
-    ∙ subst (λ f. owed (restore_course f (apid r) store) ≡ record { output = restored_bytes h copies; report = report_text h copies }) places
+    sym (ap texts_of (owed-with_fault of_store (restore_course (bits r) (apid r) store)))
+    ∙ subst (λ f. texts_of (owed (restore_course f (apid r) store)) ≡ record { output = restored_bytes h copies; report = report_text h copies }) places
     (owed-played h copies (apid r) valid chosen short (ending-played r h copies chosen valid few))
 
 -- all three
 pub owed-chain : (c p r : Words) (plan script recording : List ℕ)
     → IsValid (recorded_history c plan recording) → apid p ≤ 2046 → apid p ≡ apid c → apid r ≡ apid c → bits r ≡ bits c → IsInputWhole (Compress, c) recording
     → AreGapsShort (copies_of (copy_rows_of script)) (length (recorded_history c plan recording).steps) → length (arrivals (copies_of (copy_rows_of script)) (length (recorded_history c plan recording).steps)) ≤ 2 ^ 32
-    → owed (course_of (Restore, r) [] (owed (course_of (Play, p) script (owed (course_of (Compress, c) plan recording)).output)).output)
+    → texts_of (owed (course_of (Restore, r) [] (texts_of (owed (course_of (Play, p) script (texts_of (owed (course_of (Compress, c) plan recording))).output))).output))
     ≡ record { output = restored_bytes (recorded_history c plan recording) (copies_of (copy_rows_of script)); report = report_text (recorded_history c plan recording) (copies_of (copy_rows_of script)) }
 owed-chain c p r plan script recording valid chosen same_play same_restore same_bits whole short few =
     let h : History = recorded_history c plan recording in
     let copies : ℕ → ℕ = copies_of (copy_rows_of script) in
     let restoring : apid r ≤ 2046 = omega (arith, chosen, same_play, same_restore) in
-    let stored : (owed (course_of (Compress, c) plan recording)).output ≡ store_of h (apid p) =
-    ap (λ (all : Outputs). all.output) (owed-recorded c plan recording whole) ∙ ap (store_of h) (sym same_play) in
-    let handed : (owed (course_of (Play, p) script (owed (course_of (Compress, c) plan recording)).output)).output ≡ played_bytes copies (apid r) (store_of h (apid r)) =
-    ap (λ store. (owed (course_of (Play, p) script store)).output) stored
-    ∙ (ap (λ (all : Outputs). all.output) (owed-played_store p h script chosen valid)
+    let stored : (texts_of (owed (course_of (Compress, c) plan recording))).output ≡ store_of h (apid p) =
+    ap (λ (all : Outputs). (texts_of all).output) (owed-recorded c plan recording whole) ∙ (bytes_for-own outlet.Main (store_of h (apid c)) ∙ ap (store_of h) (sym same_play)) in
+    let handed : (texts_of (owed (course_of (Play, p) script (texts_of (owed (course_of (Compress, c) plan recording))).output))).output ≡ played_bytes copies (apid r) (store_of h (apid r)) =
+    ap (λ store. (texts_of (owed (course_of (Play, p) script store))).output) stored
+    ∙ (ap (λ (all : OutputTexts). all.output) (owed-played_store p h script chosen valid)
     ∙ ap (λ apid. played_bytes copies apid (store_of h apid)) (same_play ∙ sym same_restore)) in
-    ap (λ store. owed (course_of (Restore, r) [] store)) handed ∙ owed-restored r h copies restoring valid (sym same_bits) short few
+    ap (λ store. texts_of (owed (course_of (Restore, r) [] store))) handed ∙ owed-restored r h copies restoring valid (sym same_bits) short few

@@ -1,7 +1,7 @@
 -- What restoring the played store of a history writes, and which commands are done.
 use Rattle.std.proofs.Common.{◌≡◌, ℕ, List, [], Option, Some, None, Result, refl, sym, ap, ◌∙◌, subst}
 use Rattle.desk_ports.specs.declared.desk.Inlet.TheVariants as inlet
-use Rattle.desk_ports.specs.Courses.{Outputs, owed}
+use Rattle.desk_ports.specs.Courses.{OutputTexts, owed, texts_of}
 use Rattle.desk_ports.specs.Meanings.{Meanings}
 use Rattle.mask_update.specs.Histories.{History}
 use Rattle.packet_store.specs.Walks.{walk}
@@ -34,8 +34,8 @@ HasWritten-played r h copies old new right played stands =
     let store : List ℕ = played_bytes copies (apid r) (store_of h (apid r)) in
     let ending = ending_is (names_of (Restore, r)) (course_of (Restore, r) stands.text) old new None store stands.after.1 played.told in
     let whole = unmapped of_store (walk (Some (apid r)) store).ending ending in
-    let owed_is = subst (λ f. owed (restore_course f (apid r) store) ≡ record { output = restored_bytes h copies; report = report_text h copies }) played.places (owed-played h copies (apid r) played.valid chosen.1 played.gaps whole) in
-    subst (λ (all : Outputs). HasWritten (names_of (Restore, r)) all new) (sym (owed-with_fault of_store (restore_course (bits r) (apid r) store)) ∙ owed_is)
+    let owed_is = subst (λ f. texts_of (owed (restore_course f (apid r) store)) ≡ record { output = restored_bytes h copies; report = report_text h copies }) played.places (owed-played h copies (apid r) played.valid chosen.1 played.gaps whole) in
+    subst (λ (all : OutputTexts). HasWritten (names_of (Restore, r)) all new) (sym (ap texts_of (owed-with_fault of_store (restore_course (bits r) (apid r) store))) ∙ owed_is)
     (HasWritten-stands (Restore, r) old new [] store stands refl played.told)
 
 pub HasWritten-restored : (command : Command) (r : Words) (h : History) (copies : ℕ → ℕ) (old new : Meanings) (answer : Result (Unit {0}) Refusal) → command ≡ (Restore, r) → IsRight (Restore, r) → IsPlayedStore r h copies old

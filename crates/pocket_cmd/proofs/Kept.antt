@@ -4,9 +4,8 @@ use Rattle.std.specs.Prelude.{IsSome}
 use Rattle.std.specs.Option.{option_map}
 use Rattle.desk_ports.specs.declared.desk.Inlet.TheVariants as inlet
 use Rattle.desk_ports.specs.declared.desk.Outlet.TheVariants as outlet
-use Rattle.desk_ports.specs.Courses.{Course}
+use Rattle.desk_ports.specs.Courses.{Outputs, Ran, Course}
 use Rattle.desk_ports.specs.Meanings.{Meanings, Incoming, kept_after, made}
-use Rattle.desk_ports.specs.Runs.{Ran}
 use Rattle.pocket_cmd.specs.Status.{Class}
 use Rattle.pocket_cmd.specs.Status as class
 use Rattle.pocket_cmd.specs.Command.{Command, Names, names_of}
@@ -86,20 +85,20 @@ held-with_report m (Some name) = refl
 held-opened : (names : Names) (m : Meanings) (bytes : List ℕ) → (all_opened names m bytes).held ≡ m.held
 held-opened names m bytes = held-with_report (with_output (with_input m names.input bytes) names.output) names.report ∙ held-with_input m names.input bytes
 
-held-ran : (a b : Meanings) (xs us rs : List ℕ) → Ran a b xs us rs → b.held ≡ a.held
-held-ran a b xs us rs p = ap (λ (m : Meanings). m.held) p.others
+held-ran : (a b : Meanings) (xs : List ℕ) (us : Outputs) → Ran a b xs us → b.held ≡ a.held
+held-ran a b xs us p = ap (λ (m : Meanings). m.held) p.others
 
 held-ends : (reads : Bool) (course : List ℕ → Course DataFault) (a b : Meanings) (ending : Option DataFault) → EndsBy reads course a b ending → b.held ≡ a.held
-held-ends true course a b ending e = held-ran a b _ _ _ e.went.ran
-held-ends false course a b ending e = held-ran a b _ _ _ e.ran
+held-ends true course a b ending e = held-ran a b _ _ e.went.ran
+held-ends false course a b ending e = held-ran a b _ _ e.ran
 
 held-cut_off : (reads : Bool) (course : List ℕ → Course DataFault) (a b : Meanings) → IsCutOffBy reads course a b → b.held ≡ a.held
-held-cut_off true course a b e = held-ran a b _ _ _ e.ran
+held-cut_off true course a b e = held-ran a b _ _ e.ran
 held-cut_off false course a b e = absurd e
 
 held-cut_short : (reads : Bool) (course : List ℕ → Course DataFault) (a b : Meanings) → IsCutShortBy reads course a b → b.held ≡ a.held
-held-cut_short true course a b e = held-ran a b _ _ _ e.went.ran
-held-cut_short false course a b e = held-ran a b _ _ _ e.ran
+held-cut_short true course a b e = held-ran a b _ _ e.went.ran
+held-cut_short false course a b e = held-ran a b _ _ e.ran
 
 held-stands : (names : Names) (course : List ℕ → Course DataFault) (old new : Meanings) (why : DataFault) → RunStands names course old new (Some why) → new.held ≡ old.held
 held-stands names course old new why e =
@@ -148,12 +147,12 @@ held-lacks_report names None old new bytes e = ap (λ (m : Meanings). m.held) e 
 held-lacks_report names (Some name) old new bytes (inl e) = ap (λ (m : Meanings). m.held) e ∙ held-with_input old names.input bytes
 held-lacks_report names (Some name) old new bytes (inr e) = ap (λ (m : Meanings). m.held) e ∙ held-with_input old names.input bytes
 
-name-ran : (a b : Meanings) (xs us rs : List ℕ) → Ran a b xs us rs → b.output.name ≡ a.output.name
-name-ran a b xs us rs p = ap (λ (m : Meanings). m.output.name) p.others
+name-ran : (a b : Meanings) (xs : List ℕ) (us : Outputs) → Ran a b xs us → b.output.name ≡ a.output.name
+name-ran a b xs us p = ap (λ (m : Meanings). m.output.name) p.others
 
 name-ends : (reads : Bool) (course : List ℕ → Course DataFault) (a b : Meanings) (ending : Option DataFault) → EndsBy reads course a b ending → b.output.name ≡ a.output.name
-name-ends true course a b ending e = name-ran a b _ _ _ e.went.ran
-name-ends false course a b ending e = name-ran a b _ _ _ e.ran
+name-ends true course a b ending e = name-ran a b _ _ e.went.ran
+name-ends false course a b ending e = name-ran a b _ _ e.ran
 
 name-with_side : (m : Meanings) (side : Option (List ℕ)) → (with_text m inlet.Side side).output.name ≡ m.output.name
 name-with_side m None = refl

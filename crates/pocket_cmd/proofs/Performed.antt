@@ -8,7 +8,7 @@ use Rattle.desk_ports.specs.declared.desk.Outlet.TheVariants as outlet
 use Rattle.desk_ports.specs.Stop.{Stop}
 use Rattle.desk_ports.specs.Stop.{Data, ReadFault, WriteFault}
 use Rattle.desk_ports.specs.Meanings.{Meanings, Counts, Kept, Rose, kept_at, left, made}
-use Rattle.desk_ports.specs.Courses.{Course, owed}
+use Rattle.desk_ports.specs.Courses.{Course, owed, texts_of}
 use Rattle.desk_ports.proofs.Faults.{Rose-reads, Rose-writes}
 use Rattle.pocket_cmd.proofs.Faults.{class-refusal_of}
 use Rattle.pocket_cmd.specs.Faults.{DataFault}
@@ -36,8 +36,8 @@ left-with_report m (Some name) = refl
 
 -- a run ended so, and added all that the course of this input owes to the outputs
 pub record AddsOwed (course : List ℕ → Course DataFault) (start end : Meanings) (ending : Option DataFault) (input : List ℕ) : Type 0 where
-  pub output : made end outlet.Main ≡ append_known (made start outlet.Main) (owed (course input)).output
-  pub report : made end outlet.Report ≡ append_known (made start outlet.Report) (owed (course input)).report
+  pub output : made end outlet.Main ≡ append_known (made start outlet.Main) (texts_of (owed (course input))).output
+  pub report : made end outlet.Report ≡ append_known (made start outlet.Report) (texts_of (owed (course input))).report
   pub ends : (course input).ending ≡ ending
 
 AddsOwed-by : (name : Option (List ℕ)) (names : Names) (course : List ℕ → Course DataFault) (old end : Meanings) (ending : Option DataFault) (opened input : List ℕ) → AreKeptUnder old name opened

@@ -1,7 +1,7 @@
 -- What each command is to do.
-use Rattle.std.specs.Prelude.{ℕ, List, Option, Some, None}
+use Rattle.std.specs.Prelude.{ℕ, List, [], Option, Some, None}
 use Rattle.std.specs.Option.{option_map}
-use Rattle.desk_ports.specs.Courses.{Course, no_outputs, to_output}
+use Rattle.desk_ports.specs.Courses.{Course, to_output}
 use Rattle.side_tables.specs.Grammar.{schedule_rows_of, copy_rows_of, bad_schedule_row, bad_copy_row}
 use Rattle.side_tables.specs.Rows.{copies_of}
 use Rattle.side_tables.specs.Streams.{bad_stream_row, streams_of}
@@ -36,7 +36,7 @@ tabulation_by words text = record { places = bits words; columns = text_columns 
 
 -- a text is owed, whatever the input is
 abbrev pub text_course : List ℕ → Course DataFault
-text_course text = record { before = no_outputs; after = to_output text; ending = None }
+text_course text = record { before = []; after = to_output text; ending = None }
 
 -- the text of a forecast under a schedule and a script of these texts
 abbrev pub forecast_by_texts : Words → List ℕ → List ℕ → List ℕ

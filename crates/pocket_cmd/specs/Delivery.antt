@@ -1,7 +1,7 @@
 -- What a command that is done has written, and for which inputs it is done.
 use Rattle.std.specs.Prelude.{◌≡◌, ℕ, List, length, Option, Some, None, IfSome}
 use Rattle.desk_ports.specs.declared.desk.Outlet.TheVariants as outlet
-use Rattle.desk_ports.specs.Courses.{Outputs}
+use Rattle.desk_ports.specs.Courses.{OutputTexts}
 use Rattle.desk_ports.specs.Meanings.{Meanings, made}
 use Rattle.mask_update.specs.Histories.{History, IsValid}
 use Rattle.flight_chain.specs.Recordings.{recording_walk}
@@ -17,7 +17,7 @@ use Rattle.pocket_cmd.specs.Outcome.{IsTextRight}
 use Rattle.pocket_cmd.specs.Words.{Words, apid, bits}
 
 -- the outputs of a command got this, if the desk tells what was written
-pub record HasWritten (names : Names) (all : Outputs) (m : Meanings) : Type 0 where
+pub record HasWritten (names : Names) (all : OutputTexts) (m : Meanings) : Type 0 where
   pub output : IfSome (made m outlet.Main) (λ bytes. bytes ≡ all.output)
   pub report : IfSome names.report (λ name. IfSome (made m outlet.Report) (λ bytes. bytes ≡ all.report))
 

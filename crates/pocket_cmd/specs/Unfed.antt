@@ -1,18 +1,17 @@
 -- What a run leaves of a desk that has no input, by its answer.
 use Rattle.std.specs.Prelude.{◌≡◌, List, [], Bool, true, false, ℕ, Option}
-use Rattle.desk_ports.specs.Courses.{Outputs, Course, Ends, IsCutOff, IsCutShort, AreFronts, owed}
+use Rattle.desk_ports.specs.Courses.{Outputs, Ran, Course, Ends, IsCutOff, IsCutShort, AreFronts, owed}
 use Rattle.desk_ports.specs.Meanings.{Meanings}
-use Rattle.desk_ports.specs.Runs.{Ran}
 
 -- all that is owed stands, and nothing else changed
 pub record EndsUnfed {F : Type 0} (course : Course F) (old new : Meanings) (ending : Option F) : Type 0 where
-  pub ran : Ran old new [] (owed course).output (owed course).report
+  pub ran : Ran old new [] (owed course)
   pub ends : course.ending ≡ ending
 
 -- a writing failed: what stands is a front of what is owed, and nothing else changed
 pub record IsCutShortUnfed {F : Type 0} (course : Course F) (old new : Meanings) : Type 0 where
   pub stand : Outputs
-  pub ran : Ran old new [] stand.output stand.report
+  pub ran : Ran old new [] stand
   pub fronts : AreFronts stand (owed course)
 
 -- ---- with an input or without one

@@ -1,6 +1,6 @@
 //! Laws of the definitions that the top call's contract cites.
 ghost use Rattle.std.specs.Prelude.{◌≡◌, ◌⊎◌, ◌≤◌, ◌<◌, ◌^◌, ◌++◌, ℕ, [], length, map, All, List, Ok, Some, None};
-ghost use Rattle.desk_ports.specs.Courses.{owed, to_output};
+ghost use Rattle.desk_ports.specs.Courses.{owed, texts_of, to_output};
 ghost use Rattle.desk_ports.specs.Meanings.{Meanings};
 ghost use Rattle.mask_update.specs.Histories.{History, IsValid};
 ghost use Rattle.side_tables.specs.Grammar.{copy_rows_of, schedule_rows_of};
@@ -53,7 +53,7 @@ pub fn done_commands_wrote_all()
         → Stands command old new None
         → side_given old (names_of command).side ≡ Some text
         → input_given old (names_of command).input ≡ Some input
-        → HasWritten (names_of command) (owed (course_of command text input)) new }
+        → HasWritten (names_of command) (texts_of (owed (course_of command text input))) new }
 {}
 
 /// A trial owes its summary, whatever a side text or an input would be, and reads nothing: it is refused only if a
@@ -71,7 +71,7 @@ pub fn trials_owe_their_summary()
 /// late by no more than the window, that is the inputs of the packets that are written, and the report of all others.
 pub fn late_stores_owe_their_order()
     ensures order { (l : Words) (store : List ℕ) → IsInputWhole (Verb.Late, l) store →
-        owed (course_of (Verb.Late, l) [] store) ≡ record {
+        texts_of (owed (course_of (Verb.Late, l) [] store)) ≡ record {
           output = run_bytes (ordered_run (bits l) (apid l) (window l) store);
           report = run_report (ordered_run (bits l) (apid l) (window l) store)
               ++ late_row (late_done (bits l) (apid l) (window l) store).late;
@@ -80,7 +80,7 @@ pub fn late_stores_owe_their_order()
         → IsInputWhole (Verb.Late, l) store → IsValid h → h.places ≡ bits l
         → IsLateDelivery (window l) (length h.steps) copies numbers
         → store_arrivals (apid l) store ≡ map (arrival_at h) numbers →
-        owed (course_of (Verb.Late, l) [] store)
+        texts_of (owed (course_of (Verb.Late, l) [] store))
         ≡ record { output = restored_bytes h copies; report = report_text h copies ++ late_row 0 } }
 {}
 
@@ -89,7 +89,7 @@ pub fn late_stores_owe_their_order()
 pub fn tables_owe_their_texts()
     ensures { (t : Words) (fields recording : List ℕ) → IsInputWhole (Verb.Table, t) recording →
         let packets = (recording_walk (bits t) recording).inputs in
-        owed (course_of (Verb.Table, t) fields recording) ≡ record {
+        texts_of (owed (course_of (Verb.Table, t) fields recording)) ≡ record {
           output = table_text (text_columns (bits t) fields) packets;
           report = limit_text (text_columns (bits t) fields) packets;
         } }
@@ -101,10 +101,10 @@ pub fn tables_owe_their_texts()
 pub fn streams_are_restored_apart()
     ensures whole { (m : Words) (streams store : List ℕ) → All (λ b. b < 256) store
         → IsInputWhole (Verb.Multi, m) store
-        → (walk None (owed (course_of (Verb.Multi, m) streams store)).output).ending ≡ None }
+        → (walk None (texts_of (owed (course_of (Verb.Multi, m) streams store))).output).ending ≡ None }
     ensures each { (m : Words) (streams store : List ℕ) (index : ℕ) → All (λ b. b < 256) store
         → IsInputWhole (Verb.Multi, m) store → index < length (streams_of streams)
-        → let all = owed (course_of (Verb.Multi, m) streams store) in
+        → let all = texts_of (owed (course_of (Verb.Multi, m) streams store)) in
         HasStream (stream_at (streams_of streams) index) store all.output all.report }
     ensures restored { (m : Words) (streams store : List ℕ) (index : ℕ) (h : History)
         (copies : ℕ → ℕ) → All (λ b. b < 256) store → IsInputWhole (Verb.Multi, m) store
@@ -113,7 +113,7 @@ pub fn streams_are_restored_apart()
         → length (arrivals copies (length h.steps)) ≤ 2 ^ 32
         → arrivals_on stream.apid store
         ≡ arrivals_on stream.apid (played_bytes copies stream.apid (store_of h stream.apid))
-        → let all = owed (course_of (Verb.Multi, m) streams store) in
+        → let all = texts_of (owed (course_of (Verb.Multi, m) streams store)) in
         (contents_on stream.apid all.output ≡ restored_bytes h copies)
         × (header_row ++ rows_on stream.apid all.report ≡ report_text h copies) }
 {}
@@ -142,7 +142,7 @@ pub fn commands_compose()
         ≡ to_output (store_of (recorded_history c plan recording) (apid c))) }
     ensures play { (p : Words) (script : List ℕ) (h : History) → IsRight (Verb.Play, p) → IsValid h
         → IsInputWhole (Verb.Play, p) (store_of h (apid p))
-        × (owed (course_of (Verb.Play, p) script (store_of h (apid p))) ≡ record {
+        × (texts_of (owed (course_of (Verb.Play, p) script (store_of h (apid p)))) ≡ record {
           output = played_bytes (copies_of (copy_rows_of script)) (apid p) (store_of h (apid p));
           report = play_report (played_of (copies_of (copy_rows_of script)) (length h.steps));
         }) }
@@ -150,7 +150,7 @@ pub fn commands_compose()
         → IsValid h → h.places ≡ bits r
         → AreGapsShort copies (length h.steps) → length (arrivals copies (length h.steps)) ≤ 2 ^ 32
         → IsInputWhole (Verb.Restore, r) (played_bytes copies (apid r) (store_of h (apid r)))
-        × (owed (course_of (Verb.Restore, r) [] (played_bytes copies (apid r) (store_of h (apid r))))
+        × (texts_of (owed (course_of (Verb.Restore, r) [] (played_bytes copies (apid r) (store_of h (apid r)))))
         ≡ record { output = restored_bytes h copies; report = report_text h copies }) }
     // All three, one after the other, for one APID and one number of bits.
     ensures chain { (c p r : Words)
@@ -161,8 +161,8 @@ pub fn commands_compose()
         → let h = recorded_history c plan recording in let copies = copies_of (copy_rows_of script)
         in
         AreGapsShort copies (length h.steps) → length (arrivals copies (length h.steps)) ≤ 2 ^ 32
-        → let store = (owed (course_of (Verb.Compress, c) plan recording)).output in
-        let played = (owed (course_of (Verb.Play, p) script store)).output in
-        owed (course_of (Verb.Restore, r) [] played)
+        → let store = (texts_of (owed (course_of (Verb.Compress, c) plan recording))).output in
+        let played = (texts_of (owed (course_of (Verb.Play, p) script store))).output in
+        texts_of (owed (course_of (Verb.Restore, r) [] played))
         ≡ record { output = restored_bytes h copies; report = report_text h copies } }
 {}

@@ -6,7 +6,7 @@ use Rattle.std.specs.Io.KnownBytes.{append_known}
 use Rattle.desk_ports.specs.declared.desk.Inlet.TheVariants as inlet
 use Rattle.desk_ports.specs.declared.desk.Outlet.TheVariants as outlet
 use Rattle.desk_ports.specs.Meanings.{Meanings, Kept, Begins, Keeps, kept_after, kept_at, left, made, outgoing, with_outgoing}
-use Rattle.desk_ports.specs.Courses.{Course, Ends, owed}
+use Rattle.desk_ports.specs.Courses.{Course, Ends, owed, texts_of}
 use Rattle.desk_ports.specs.MemState.{MemState}
 use Rattle.desk_ports.proofs.Courses.{Ends-told}
 use Rattle.trial_chain.specs.RunDesk.{run_opened}
@@ -25,27 +25,27 @@ held_by a b e = cc
 
 -- the output, and so what it made
 kept_main : {F : Type 0} (desk : MemState) (input output : List ℕ) (course : List ℕ → Course F) (b c d : Meanings) → left b inlet.Main ≡ Some (kept_at desk.held input) → b.output ≡ record { made = Some []; name = Some output; ready = true }
-    → b.held ≡ Some desk.held → Ends course b c None → Keeps c d outlet.Main → d.held ≡ Some (map.insert desk.held output (owed (course (kept_at desk.held input))).output)
+    → b.held ≡ Some desk.held → Ends course b c None → Keeps c d outlet.Main → d.held ≡ Some (map.insert desk.held output (texts_of (owed (course (kept_at desk.held input)))).output)
 kept_main desk input output course b c d told empty held ends keeps =
     let others = ends.went.ran.others in
-    let bytes = (owed (course (kept_at desk.held input))).output in
+    let bytes = (texts_of (owed (course (kept_at desk.held input)))).output in
     let written : made c outlet.Main ≡ Some bytes = (Ends-told course b c None (kept_at desk.held input) told ends).0 ∙ ap (λ o. append_known o.made bytes) empty in
     let name : c.output.name ≡ Some output = ap (λ (m : Meanings). m.output.name) others ∙ ap (λ o. o.name) empty in
     let same : c.held ≡ Some desk.held = ap (λ (m : Meanings). m.held) others ∙ held in
     ap (λ (m : Meanings). m.held) keeps ∙ λ i. kept_after (same i) (name i) (written i)
 
 pub kept_output : {F : Type 0} (desk : MemState) (after : Kept) (input output : List ℕ) (course : List ℕ → Course F) (b c d : Meanings) → b ≡ run_opened desk input output → Ends course b c None → Keeps c d outlet.Main
-    → d.held ≡ Some after → after ≡ map.insert desk.held output (owed (course (kept_at desk.held input))).output
+    → d.held ≡ Some after → after ≡ map.insert desk.held output (texts_of (owed (course (kept_at desk.held input)))).output
 kept_output desk after input output course b c d opened ends keeps is =
     held_by _ _ (sym is ∙ kept_main desk input output course b c d (ap (λ (m : Meanings). m.input.left) opened) (ap (λ (m : Meanings). m.output) opened) (ap (λ (m : Meanings). m.held) opened) ends keeps)
 
 -- and the report
 pub kept_outputs : {F : Type 0} (desk : MemState) (after : Kept) (input output report : List ℕ) (course : List ℕ → Course F) (b c d e : Meanings) → b ≡ run_reported desk input output report → Ends course b c None
-    → Keeps c d outlet.Main → Keeps d e outlet.Report → e.held ≡ Some after → after ≡ with_outputs desk.held output report (owed (course (kept_at desk.held input)))
+    → Keeps c d outlet.Main → Keeps d e outlet.Report → e.held ≡ Some after → after ≡ with_outputs desk.held output report (texts_of (owed (course (kept_at desk.held input))))
 kept_outputs desk after input output report course b c d e opened ends main noted is =
     let others = ends.went.ran.others in
     let told = ap (λ (m : Meanings). m.input.left) opened in
-    let all = owed (course (kept_at desk.held input)) in
+    let all = texts_of (owed (course (kept_at desk.held input))) in
     let held = kept_main desk input output course b c d told (ap (λ (m : Meanings). m.output) opened) (ap (λ (m : Meanings). m.held) opened) ends main in
     let written : made d outlet.Report ≡ Some all.report =
     ap (λ (m : Meanings). m.report.made) main ∙ ((Ends-told course b c None (kept_at desk.held input) told ends).1 ∙ ap (λ (m : Meanings). append_known m.report.made all.report) opened) in

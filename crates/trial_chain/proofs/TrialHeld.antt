@@ -9,7 +9,7 @@ use Rattle.std.proofs.Math.Path.{fun_ext}
 use Rattle.std.proofs.lemmas.Bool.{true≢false}
 use Rattle.std.proofs.lemmas.Cmp.{nat_list_cmp_total, nat_list_eq_equiv}
 use Rattle.std.proofs.lemmas.Map.Text.{is_eq-slice_cmp}
-use Rattle.desk_ports.specs.Courses.{owed}
+use Rattle.desk_ports.specs.Courses.{owed, texts_of}
 use Rattle.desk_ports.specs.Meanings.{Kept, kept_at}
 use Rattle.desk_ports.proofs.Held.{kept_here}
 use Rattle.side_tables.specs.declared.rows.CopyRow.{CopyRow}
@@ -53,10 +53,10 @@ kept-recording seed packets f held is = kept_latest held map.empty recording_nam
 -- ---- the store
 
 pub held-compressed : (seed packets f robust : ℕ) → IsTrial packets f robust → (before after : Kept) (flight : Compression) → before ≡ held_recording seed packets f → flight ≡ trial_flight f robust
-    → after ≡ map.insert before store_name (owed (compress_course flight (kept_at before recording_name))).output → after ≡ held_store seed packets f robust
+    → after ≡ map.insert before store_name (texts_of (owed (compress_course flight (kept_at before recording_name)))).output → after ≡ held_store seed packets f robust
 held-compressed seed packets f robust trial before after flight started opened is =
     is ∙ λ i. map.insert (started i) store_name
-    (((λ j. (owed (compress_course (opened j) (kept-recording seed packets f before started j))).output) ∙ owed-recording seed packets f robust trial) i)
+    (((λ j. (texts_of (owed (compress_course (opened j) (kept-recording seed packets f before started j)))).output) ∙ owed-recording seed packets f robust trial) i)
 
 pub kept-store : (seed packets f robust : ℕ) (held : Kept) → held ≡ held_store seed packets f robust → kept_at held store_name ≡ trial_store seed packets f robust
 kept-store seed packets f robust held is = kept_latest held (held_recording seed packets f) store_name (trial_store seed packets f robust) is
@@ -67,10 +67,10 @@ pub same-copies : (seed packets : ℕ) (rows script : List CopyRow) → rows ≡
 same-copies seed packets rows script is so = ap copies_of is ∙ fun_ext so
 
 pub held-played : (seed packets f robust : ℕ) → IsTrial packets f robust → (before after : Kept) (player : PlayerState) → before ≡ held_store seed packets f robust → player.apid ≡ 100 → copies_of player.rows ≡ trial_copies seed packets
-    → after ≡ with_outputs before played_name play_name (owed (play_course (copies_of player.rows) player.apid (kept_at before store_name))) → after ≡ held_played seed packets f robust
+    → after ≡ with_outputs before played_name play_name (texts_of (owed (play_course (copies_of player.rows) player.apid (kept_at before store_name)))) → after ≡ held_played seed packets f robust
 held-played seed packets f robust trial before after player started apid copies is =
     is ∙ λ i. with_outputs (started i) played_name play_name
-    (((λ j. owed (play_course (copies j) (apid j) (kept-store seed packets f robust before started j))) ∙ owed-store seed packets f robust (trial_copies seed packets) trial) i)
+    (((λ j. texts_of (owed (play_course (copies j) (apid j) (kept-store seed packets f robust before started j)))) ∙ owed-store seed packets f robust (trial_copies seed packets) trial) i)
 
 pub kept-played : (seed packets f robust : ℕ) (held : Kept) → held ≡ held_played seed packets f robust → kept_at held played_name ≡ trial_played seed packets f robust
 kept-played seed packets f robust held is =
@@ -87,11 +87,11 @@ IsSome-played seed packets f robust held is =
 -- ---- the restored packets
 
 pub held-restored : (seed packets f robust : ℕ) → IsTrial packets f robust → (before after : Kept) (restorer : RestorerState) → before ≡ held_played seed packets f robust → restorer ≡ record { places = f; apid = 100 }
-    → after ≡ with_outputs before restored_name report_name (owed (restore_course restorer.places restorer.apid (kept_at before played_name)))
+    → after ≡ with_outputs before restored_name report_name (texts_of (owed (restore_course restorer.places restorer.apid (kept_at before played_name))))
     → after ≡ held_restored seed packets f robust
 held-restored seed packets f robust trial before after restorer started opened is =
     is ∙ λ i. with_outputs (started i) restored_name report_name
-    (((λ j. owed (restore_course (opened j).places (opened j).apid (kept-played seed packets f robust before started j))) ∙ owed-restored seed packets f robust trial) i)
+    (((λ j. texts_of (owed (restore_course (opened j).places (opened j).apid (kept-played seed packets f robust before started j)))) ∙ owed-restored seed packets f robust trial) i)
 
 -- all six, and nothing else
 pub HoldsTrial-held : (seed packets f robust : ℕ) (held : Kept) → held ≡ held_restored seed packets f robust → HoldsTrial seed packets f robust held

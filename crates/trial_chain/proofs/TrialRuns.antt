@@ -1,6 +1,8 @@
 -- What the three runs of a trial owe.
 use Rattle.std.proofs.Common.{◌≡◌, ℕ, false, [], length, replicate, Some, None, ap, ◌∙◌, append-nil, arith}
-use Rattle.desk_ports.specs.Courses.{by_ending, no_outputs, owed, to_output, to_report}
+use Rattle.desk_ports.specs.Courses.{by_ending, bytes_for, owed, texts_of, to_output, to_report}
+use Rattle.desk_ports.specs.declared.desk.Outlet.TheVariants as outlet
+use Rattle.desk_ports.proofs.Runs.{bytes_for-first, bytes_for-last, bytes_for-own}
 use Rattle.mask_update.specs.Histories.{History, IsValid}
 use Rattle.packet_store.specs.Walks.{Walk, walk}
 use Rattle.flight_chain.specs.Recordings.{RecordingWalk, recording_walk}
@@ -30,11 +32,12 @@ walk-trial seed packets f robust trial =
 pub whole-recording : (seed packets f robust : ℕ) → IsTrial packets f robust → (compress_course (trial_flight f robust) (trial_recording seed packets f)).ending ≡ None
 whole-recording seed packets f robust trial = ap (λ (w : RecordingWalk). w.ending) (walk-trial seed packets f robust trial)
 
-pub owed-recording : (seed packets f robust : ℕ) → IsTrial packets f robust → (owed (compress_course (trial_flight f robust) (trial_recording seed packets f))).output ≡ store_of (trial_history seed packets f robust) 100
+pub owed-recording : (seed packets f robust : ℕ) → IsTrial packets f robust → (texts_of (owed (compress_course (trial_flight f robust) (trial_recording seed packets f)))).output ≡ store_of (trial_history seed packets f robust) 100
 owed-recording seed packets f robust trial =
     let k = trial_flight f robust in
-    ap (λ (w : RecordingWalk). (by_ending w.ending (to_output (store_of (history_by k w.inputs) 100)) no_outputs).output) (walk-trial seed packets f robust trial)
-    ∙ (append-nil (store_of (history_by k (trial_inputs seed packets f)) 100)
+    let store = store_of (history_by k (trial_inputs seed packets f)) 100 in
+    ap (λ (w : RecordingWalk). (texts_of (by_ending w.ending (to_output (store_of (history_by k w.inputs) 100)) [])).output) (walk-trial seed packets f robust trial)
+    ∙ (ap (bytes_for outlet.Main) (append-nil (to_output store)) ∙ bytes_for-own outlet.Main store
     ∙ ap (λ (h : History). store_of h 100) (history-planned (trial_inputs seed packets f) (λ _. robust) f (replicate f false) (omega (arith, trial.few, length-inputs seed packets f))))
 
 -- ---- playing
@@ -50,12 +53,13 @@ numbers-store seed packets f robust copies trial =
     ap (played_of copies) (count-chosen (trial_history seed packets f robust) 100 (valid_trial seed packets f robust trial) (omega arith) ∙ length-steps seed packets f robust)
 
 pub owed-store : (seed packets f robust : ℕ) (copies : ℕ → ℕ) → IsTrial packets f robust
-    → owed (play_course copies 100 (store_of (trial_history seed packets f robust) 100))
+    → texts_of (owed (play_course copies 100 (store_of (trial_history seed packets f robust) 100)))
     ≡ record { output = played_bytes copies 100 (store_of (trial_history seed packets f robust) 100); report = play_report (played_of copies packets) }
 owed-store seed packets f robust copies trial =
     let store = store_of (trial_history seed packets f robust) 100 in
-    ap (λ ending. by_ending ending (to_output (played_bytes copies 100 store)) (to_report (play_report (store_numbers copies 100 store)))) (whole-store seed packets f robust trial)
-    ∙ λ i. record { output = append-nil (played_bytes copies 100 store) i; report = play_report (numbers-store seed packets f robust copies trial i) }
+    ap (λ ending. texts_of (by_ending ending (to_output (played_bytes copies 100 store)) (to_report (play_report (store_numbers copies 100 store))))) (whole-store seed packets f robust trial)
+    ∙ ((λ i. record { output = bytes_for-first outlet.Main (played_bytes copies 100 store) (play_report (store_numbers copies 100 store)) i; report = bytes_for-last outlet.Report (played_bytes copies 100 store) (play_report (store_numbers copies 100 store)) i })
+    ∙ λ i. record { output = played_bytes copies 100 store; report = play_report (numbers-store seed packets f robust copies trial i) })
 
 -- ---- restoring
 
@@ -65,7 +69,7 @@ whole-played seed packets f robust trial =
     ap (λ (w : Walk). w.ending) (walk-played (trial_history seed packets f robust) (trial_copies seed packets) 100 (valid_trial seed packets f robust trial) (omega arith)
     (omega (arith, trial.few, n, few-arrivals seed packets (length (trial_history seed packets f robust).steps))))
 
-pub owed-restored : (seed packets f robust : ℕ) → IsTrial packets f robust → owed (restore_course f 100 (trial_played seed packets f robust))
+pub owed-restored : (seed packets f robust : ℕ) → IsTrial packets f robust → texts_of (owed (restore_course f 100 (trial_played seed packets f robust)))
     ≡ record { output = restored_bytes (trial_history seed packets f robust) (trial_copies seed packets); report = report_text (trial_history seed packets f robust) (trial_copies seed packets) }
 owed-restored seed packets f robust trial =
     owed-played (trial_history seed packets f robust) (trial_copies seed packets) 100 (valid_trial seed packets f robust trial) (omega arith)

@@ -1,7 +1,7 @@
 -- The names under which a trial holds what it makes.
 use Rattle.std.specs.Prelude.{◌≡◌, ℕ, List, [], ◌∷◌, Contains, Some, IsSome, codes}
 use Rattle.std.specs.FinMap as map
-use Rattle.desk_ports.specs.Courses.{Outputs}
+use Rattle.desk_ports.specs.Courses.{OutputTexts}
 use Rattle.desk_ports.specs.Meanings.{Kept}
 use Rattle.flight_chain.specs.Stores.{store_of}
 use Rattle.loss_player.specs.Played.{played_bytes, played_of}
@@ -31,7 +31,7 @@ abbrev pub trial_names : List (List ℕ)
 trial_names = recording_name ∷ store_name ∷ played_name ∷ play_name ∷ restored_name ∷ report_name ∷ []
 
 -- both outputs of a run, held under these names
-abbrev pub with_outputs : Kept → List ℕ → List ℕ → Outputs → Kept
+abbrev pub with_outputs : Kept → List ℕ → List ℕ → OutputTexts → Kept
 with_outputs kept output report all = map.insert (map.insert kept output all.output) report all.report
 
 -- ---- what is held after each step of a trial
@@ -42,10 +42,10 @@ trial_store seed packets f robust = store_of (trial_history seed packets f robus
 abbrev pub trial_played : ℕ → ℕ → ℕ → ℕ → List ℕ
 trial_played seed packets f robust = played_bytes (trial_copies seed packets) trial_apid (trial_store seed packets f robust)
 
-abbrev pub played_outputs : ℕ → ℕ → ℕ → ℕ → Outputs
+abbrev pub played_outputs : ℕ → ℕ → ℕ → ℕ → OutputTexts
 played_outputs seed packets f robust = record { output = trial_played seed packets f robust; report = play_report (played_of (trial_copies seed packets) packets) }
 
-abbrev pub restored_outputs : ℕ → ℕ → ℕ → ℕ → Outputs
+abbrev pub restored_outputs : ℕ → ℕ → ℕ → ℕ → OutputTexts
 restored_outputs seed packets f robust = record {
   output = restored_bytes (trial_history seed packets f robust) (trial_copies seed packets);
   report = report_text (trial_history seed packets f robust) (trial_copies seed packets);

@@ -2,7 +2,7 @@
 
 ghost use Rattle.std.specs.Prelude.{◌≡◌, IfOk};
 ghost use Rattle.std.specs.FinMap as map;
-ghost use Rattle.desk_ports.specs.Courses.{owed};
+ghost use Rattle.desk_ports.specs.Courses.{owed, texts_of};
 ghost use Rattle.desk_ports.specs.Meanings.{kept_at};
 ghost use Rattle.side_tables.specs.Rows.{copies_of};
 ghost use Rattle.flight_chain.specs.Compressing.{compress_course};
@@ -25,7 +25,7 @@ pub(crate) fn compress(desk: MemDesk, flight: Flight) -> Result<MemDesk, NoMemor
     requires { HoldsWhole desk recording_name (compress_course flight) }
     ensures { IfOk result (λ after. HoldsJust after
         (map.insert desk.held store_name
-        (owed (compress_course flight (kept_at desk.held recording_name))).output)) }
+        (texts_of (owed (compress_course flight (kept_at desk.held recording_name)))).output)) }
 {
     let mut run = RunDesk::open(desk, "recording", "store")?;
     match flight.compress(&mut run) {
@@ -45,7 +45,7 @@ pub(crate) fn play(desk: MemDesk, player: Player) -> Result<(MemDesk, Played), N
     requires { HoldsWhole desk store_name (play_course (copies_of player.rows) player.apid) }
     ensures held { IfOk result (λ after. HoldsJust after.0
         (with_outputs desk.held played_name play_name
-        (owed (play_course (copies_of player.rows) player.apid (kept_at desk.held store_name))))) }
+        (texts_of (owed (play_course (copies_of player.rows) player.apid (kept_at desk.held store_name)))))) }
     ensures numbers { IfOk result
         (λ after. after.1 ≡ store_numbers (copies_of player.rows) player.apid
         (kept_at desk.held store_name)) }
@@ -67,7 +67,7 @@ pub(crate) fn restore(desk: MemDesk, restorer: Restorer) -> Result<(MemDesk, Res
     requires { HoldsWhole desk played_name (restore_course restorer.places restorer.apid) }
     ensures held { IfOk result (λ after. after.0.held
         ≡ with_outputs desk.held restored_name report_name
-        (owed (restore_course restorer.places restorer.apid (kept_at desk.held played_name)))) }
+        (texts_of (owed (restore_course restorer.places restorer.apid (kept_at desk.held played_name))))) }
     ensures numbers { IfOk result
         (λ after. after.1 ≡ restored_of
         (store_run restorer.places restorer.apid (kept_at desk.held played_name))) }

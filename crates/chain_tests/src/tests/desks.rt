@@ -104,16 +104,10 @@ impl Run for Countdown {
 
     type Data = u8;
 
-    ghost use Rattle.std.specs.Prelude.{◌≡◌, ℕ, List, false, Some};
-    ghost use Rattle.desk_ports.specs.declared.desk.Outlet.TheVariants as outlet;
-    ghost use Rattle.desk_ports.specs.Courses.{no_outputs};
+    ghost use Rattle.std.specs.Prelude.{◌≡◌, ℕ, List, [], false, Some};
     ghost use Rattle.desk_ports.specs.Stop as stop;
 
-    ghost owes = { λ _ work. (input : List ℕ) → work.course input ≡ record { before = no_outputs; after = no_outputs; ending = Some 7 } };
-
-    ghost owes_parts = { λ _ _. ⊥ };
-
-    ghost first = { outlet.Main };
+    ghost owes = { λ _ work. (input : List ℕ) → work.course input ≡ record { before = []; after = []; ending = Some 7 } };
 
     ghost stop_of = { λ fault. stop.Data fault };
 

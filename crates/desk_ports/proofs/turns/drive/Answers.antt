@@ -1,13 +1,11 @@
 use Rattle.std.proofs.Common.{refl, ◌∙◌}
 use Rattle.desk_ports.proofs.Steps.{Reaches-none, Advances-after, Finishes-after, AfterStop-after, AreReady-ran}
-use Rattle.desk_ports.proofs.Parts.{ReachesParts-none, AdvancesParts-after, StopsWithin-after}
 use Rattle.desk_ports.proofs.turns.drive.Goals as goal
 
 pub turns-init : goal.turns-init
 turns-init g c = record {
   owed = c.requires.owed;
   advances = λ work owed. record { next = work; owed = owed; reaches = Reaches-none work (g.D.Desk.meaning c.args.desk.now) };
-  parts = λ parts_of owed. record { next = parts_of; owed = owed; reaches = ReachesParts-none parts_of (g.D.Desk.meaning c.args.desk.now) };
   ready = c.requires.ready;
   steady = refl;
 }
@@ -26,10 +24,7 @@ turns-preserved g c =
       advances = λ work owed.
           let behind = kept.advances work owed in
           Advances-after work behind.next owes a b d behind.reaches (told.turned behind.next behind.owed);
-      parts = λ parts_of owed.
-          let behind = kept.parts parts_of owed in
-          AdvancesParts-after parts_of behind.next (g.R.Run.owes_parts c.turn.new.self) a b d behind.reaches (told.parts behind.next behind.owed);
-      ready = AreReady-ran g.R.Run.writes b d some.reaches.taken some.reaches.outputs.output some.reaches.outputs.report some.reaches.ran kept.ready;
+      ready = AreReady-ran g.R.Run.writes b d some.reaches.taken some.reaches.outputs some.reaches.ran kept.ready;
       steady = told.cause ∙ kept.steady;
     }
 
@@ -49,11 +44,3 @@ returns-in-Err-clause-ran g c = λ work owed.
     let d = g.D.Desk.meaning c.turn.new.desk in
     let behind = c.turns.invariant.advances work owed in
     AfterStop-after work behind.next a b d (g.R.Run.stop_of c.in-Err.fault) behind.reaches (c.in-Err.ensures.turned behind.next behind.owed)
-
-pub returns-in-Err-clause-parts : goal.returns-in-Err-clause-parts
-returns-in-Err-clause-parts g c = λ parts_of owed.
-    let a = g.D.Desk.meaning c.args.desk.now in
-    let b = g.D.Desk.meaning c.turns.desk in
-    let d = g.D.Desk.meaning c.turn.new.desk in
-    let behind = c.turns.invariant.parts parts_of owed in
-    StopsWithin-after g.R.Run.first parts_of behind.next a b d (g.R.Run.stop_of c.in-Err.fault) behind.reaches (c.in-Err.ensures.parts behind.next behind.owed)

@@ -1,6 +1,4 @@
-use Rattle.std.proofs.Common.{◌≡◌, ℕ, List}
-use Rattle.desk_ports.specs.Courses.{Outputs}
-use Rattle.desk_ports.specs.Parts.{AdvancesParts}
+use Rattle.std.proofs.Common.{◌≡◌}
 use Rattle.desk_ports.specs.Turns.{IsOwed, AreReady, Advances}
 use Rattle.desk_ports.proofs.turns.drive.Given as goal
 
@@ -13,7 +11,6 @@ invariant-turns g l =
     record {
       owed : IsOwed (owes l.run);
       advances : (work : _) → owes l.fn.run work → Advances work (owes l.run) (meaning l.fn.desk) (meaning l.desk);
-      parts : (parts_of : List ℕ → List Outputs) → g.R.Run.owes_parts l.fn.run parts_of → AdvancesParts parts_of (g.R.Run.owes_parts l.run) (meaning l.fn.desk) (meaning l.desk);
       ready : AreReady g.R.Run.writes (meaning l.desk);
       steady : counts l.desk ≡ counts l.fn.desk;
     }

@@ -1,5 +1,7 @@
 use Rattle.std.proofs.Common.{List, Bool, length, sym, ap, ◌∙◌, arith}
 use Rattle.desk_ports.specs.Courses.{to_output}
+use Rattle.desk_ports.specs.declared.desk.Outlet.TheVariants as outlet
+use Rattle.desk_ports.proofs.Runs.{to_outlet-append}
 use Rattle.flight_chain.specs.Recordings.{recording_walk}
 use Rattle.flight_chain.specs.Stores.{store_of}
 use Rattle.flight_chain.specs.Compressing.{history_by, further_packets}
@@ -13,5 +15,5 @@ returns c = λ k front rest some.
     let inputs = (recording_walk k.places front).inputs in
     record {
       rest = to_output (further_packets k inputs longer.later);
-      joined = ap to_output (sym (ap (λ (l : List (List Bool)). store_of (history_by k l) k.apid) longer.joined ∙ store_of-further k inputs longer.later));
+      joined = sym (ap to_output (ap (λ (l : List (List Bool)). store_of (history_by k l) k.apid) longer.joined ∙ store_of-further k inputs longer.later) ∙ to_outlet-append outlet.Main (store_of (history_by k inputs) k.apid) (further_packets k inputs longer.later));
     }

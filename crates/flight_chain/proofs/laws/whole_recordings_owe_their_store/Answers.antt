@@ -1,5 +1,5 @@
-use Rattle.std.proofs.Common.{ap, ◌∙◌, append-nil, arith}
-use Rattle.desk_ports.specs.Courses.{by_ending, no_outputs, to_output}
+use Rattle.std.proofs.Common.{[], ap, ◌∙◌, append-nil, arith}
+use Rattle.desk_ports.specs.Courses.{by_ending, to_output}
 use Rattle.flight_chain.specs.Recordings.{RecordingWalk}
 use Rattle.flight_chain.specs.Stores.{store_of}
 use Rattle.flight_chain.specs.Compressing.{history_by}
@@ -8,5 +8,5 @@ use Rattle.flight_chain.proofs.laws.whole_recordings_owe_their_store.Goals as go
 
 pub returns : goal.returns
 returns c = λ k inputs some all few.
-    ap (λ (w : RecordingWalk). by_ending w.ending (to_output (store_of (history_by k w.inputs) k.apid)) no_outputs) (recording_walk_from-recording_of k.places 0 inputs some all (omega arith))
-    ∙ ap to_output (append-nil (store_of (history_by k inputs) k.apid))
+    ap (λ (w : RecordingWalk). by_ending w.ending (to_output (store_of (history_by k w.inputs) k.apid)) []) (recording_walk_from-recording_of k.places 0 inputs some all (omega arith))
+    ∙ append-nil (to_output (store_of (history_by k inputs) k.apid))

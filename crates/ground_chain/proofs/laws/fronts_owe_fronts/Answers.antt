@@ -1,5 +1,5 @@
 use Rattle.std.proofs.Common.{◌≡◌, ◌<◌, ℕ, All, List, ◌++◌, length, map, Option, Some, sym, ap, ◌∙◌, subst, arith}
-use Rattle.std.specs.List.{filter, flat_map}
+use Rattle.std.specs.List.{filter}
 use Rattle.std.proofs.lemmas.List.{map-append}
 use Rattle.std.proofs.lemmas.List.Elements.{filter-append}
 use Rattle.std.proofs.lemmas.Grind.{flat_map-append}
@@ -9,7 +9,7 @@ use Rattle.packet_store.specs.declared.fault.WalkFault.{WalkFault}
 use Rattle.packet_store.specs.SpacePackets.{Packet, is_chosen}
 use Rattle.packet_store.specs.Walks.{walk}
 use Rattle.packet_store.proofs.Walks.{IsLonger-walk_from}
-use Rattle.ground_chain.specs.Run.{Judged, nothing_known, run_from, run, known_after}
+use Rattle.ground_chain.specs.Run.{nothing_known, run_from, run, known_after}
 use Rattle.ground_chain.specs.Report.{header_row}
 use Rattle.ground_chain.specs.Accounts.{Texts, all_parts}
 use Rattle.ground_chain.specs.Restoring.{arrival_of, arrivals_of, restored_texts, store_run}
@@ -34,9 +34,7 @@ fronts texts f apid front rest all =
     let later = run_from f (known_after f first) more in
     let runs : store_run f apid (front ++ rest) ≡ store_run f apid front ++ later =
     ap (λ (l : List Packet). run f (arrivals_of (Some apid) l)) longer.joined ∙ (ap (run f) (arrivals-append (Some apid) packets longer.later) ∙ run_from-append f nothing_known first more) in
-    let output = ap (flat_map (λ (j : Judged). (texts.parts j).output)) runs ∙ flat_map-append (λ (j : Judged). (texts.parts j).output) (store_run f apid front) later in
-    let report = ap (flat_map (λ (j : Judged). (texts.parts j).report)) runs ∙ flat_map-append (λ (j : Judged). (texts.parts j).report) (store_run f apid front) later in
-    record { rest = all_parts texts later; joined = λ i. record { output = sym output i; report = sym report i } }
+    record { rest = all_parts texts later; joined = sym (ap (all_parts texts) runs ∙ flat_map-append texts.parts (store_run f apid front) later) }
 
 pub returns-clause-restored : goal.returns-clause-restored
 returns-clause-restored c = λ f apid front rest all.

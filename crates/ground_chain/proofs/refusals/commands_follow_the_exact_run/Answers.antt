@@ -5,14 +5,13 @@ use Rattle.packet_store.specs.Walks.{walk}
 use Rattle.std.specs.Prelude.{Some}
 use Rattle.ground_chain.specs.Numbers.{number_after}
 use Rattle.ground_chain.specs.Report.{run_bytes, run_report}
-use Rattle.ground_chain.specs.Listing.{listing_course, run_listing}
+use Rattle.ground_chain.specs.Listing.{run_listing}
 use Rattle.ground_chain.specs.Restoring.{arrivals_of}
 use Rattle.ground_chain.specs.Run.{Judged, nothing_known}
 use Rattle.ground_chain.specs.Sound.{AreJudged, IsJudged}
-use Rattle.ground_chain.proofs.DeliveredRuns.{owed-whole}
+use Rattle.ground_chain.proofs.DeliveredRuns.{owed-listed, owed-whole}
 use Rattle.ground_chain.proofs.Sound.{AreJudged-run, AreJudged-only, judged_exact, judged_only}
 use Rattle.ground_chain.proofs.refusals.commands_follow_the_exact_run.Goals as goal
-use Rattle.desk_ports.specs.Courses.{by_ending}
 
 pub returns-clause-arrive : goal.returns-clause-arrive
 returns-clause-arrive c = λ f known arrival judged has. (
@@ -35,4 +34,4 @@ returns-clause-restore c = λ f apid store judged whole is.
 pub returns-clause-show : goal.returns-clause-show
 returns-clause-show c = λ f apid store judged whole is.
     let same = AreJudged-only f nothing_known (arrivals_of (Some apid) (walk (Some apid) store).packets) judged (record { mask = tt; content = tt }) is in
-    ap (λ ending. by_ending ending (listing_course f apid store).before (listing_course f apid store).after) whole ∙ ap (λ (run : List Judged). to_output (run_listing run)) (sym same)
+    owed-listed f apid store whole ∙ ap (λ (run : List Judged). to_output (run_listing run)) (sym same)

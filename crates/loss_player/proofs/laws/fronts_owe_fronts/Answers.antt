@@ -4,7 +4,9 @@ use Rattle.packet_store.specs.SpacePackets.{Packet, packet_bytes}
 use Rattle.packet_store.specs.Walks.{walk, packets_bytes}
 use Rattle.packet_store.proofs.Walks.{IsLonger-walk_from}
 use Rattle.desk_ports.specs.Courses.{to_output}
-use Rattle.loss_player.specs.Played.{played_from, played_packets}
+use Rattle.desk_ports.specs.declared.desk.Outlet.TheVariants as outlet
+use Rattle.desk_ports.proofs.Runs.{to_outlet-append}
+use Rattle.loss_player.specs.Played.{played_bytes, played_from, played_packets}
 use Rattle.loss_player.proofs.PlayedPackets.{number_after, played_from-append}
 use Rattle.loss_player.proofs.laws.fronts_owe_fronts.Goals as goal
 
@@ -15,4 +17,4 @@ returns c = λ copies apid front rest all.
     let output =
     ap (λ (l : List Packet). packets_bytes (played_from (Some apid) copies 0 l)) longer.joined
     ∙ (ap packets_bytes (played_from-append (Some apid) copies 0 (walk (Some apid) front).packets longer.later) ∙ flat_map-append packet_bytes (played_packets copies apid front) later) in
-    record { rest = to_output (packets_bytes later); joined = λ i. to_output (sym output i) }
+    record { rest = to_output (packets_bytes later); joined = sym (ap to_output output ∙ to_outlet-append outlet.Main (played_bytes copies apid front) (packets_bytes later)) }

@@ -1,14 +1,13 @@
 use Rattle.std.proofs.Common.{ap, ◌∙◌}
-use Rattle.desk_ports.specs.declared.desk.Outlet.TheVariants as outlet
 use Rattle.desk_ports.specs.Courses.{to_output, to_report}
-use Rattle.desk_ports.proofs.Writings.{Writes-is, WritesBy-both, WritesBy-cut}
+use Rattle.desk_ports.proofs.Writings.{Writes-cut, Writes-is, Writes-then}
 use Rattle.param_table.specs.Texts.{header_row}
 use Rattle.param_table.proofs.writing.write_headers.Goals as goal
 
 pub returns-in_err-write_all : goal.returns-in_err-write_all
-returns-in_err-write_all g c = WritesBy-cut _ outlet.Main _ header_row c.from_residual.ensures.1 (Writes-is (ap to_output (c.as_bytes.ensures ∙ c.put_names.ensures)) c.in_err-write_all.ensures)
+returns-in_err-write_all g c = Writes-cut _ (to_report header_row) c.from_residual.ensures.1 (Writes-is (ap to_output (c.as_bytes.ensures ∙ c.put_names.ensures)) c.in_err-write_all.ensures)
 
 pub returns : goal.returns
 returns g c =
     let names = Writes-is (ap to_output (c.as_bytes.ensures ∙ c.put_names.ensures)) c.in_ok-write_all.ensures in
-    WritesBy-both outlet.Main _ _ names (Writes-is (ap to_report c.as_bytes-2.ensures.value) c.write_all-2.ensures)
+    Writes-then names (Writes-is (ap to_report c.as_bytes-2.ensures.value) c.write_all-2.ensures)

@@ -3,7 +3,7 @@ use Rattle.std.specs.Option.{option_to_list}
 use Rattle.std.proofs.lemmas.List.{take_all}
 use Rattle.desk_ports.specs.declared.desk.Outlet.TheVariants as outlet
 use Rattle.desk_ports.specs.Courses.{to_report}
-use Rattle.desk_ports.proofs.Writings.{Writes-cut, Writes-is, Writes-none, Writes-ok, Writes-ready, Writes-then}
+use Rattle.desk_ports.proofs.Writings.{Writes-cut-more, Writes-is, Writes-more, Writes-none, Writes-ok, Writes-ready}
 use Rattle.param_table.specs.declared.rows.Column.{Column}
 use Rattle.param_table.specs.Texts.{packet_violations, violation_of, violation_rows}
 use Rattle.param_table.proofs.Violations.{rows-more, rows-split, count-more, count-some, count-none}
@@ -18,7 +18,7 @@ returns-in_err-write_violation-clause-written g c =
     let rest = violation_rows (packet_violations (drop (i + 1) columns) packet) in
     let item = ap (λ (column : Column). to_report (violation_rows (option_to_list (violation_of packet column)))) c.column-item.is in
     let all = ap (λ (l : List ℕ). l ++ rest) (sym (rows-more packet columns i c.column-item.result c.loop-column-test.true)) ∙ sym (rows-split packet columns (i + 1)) in
-    Writes-is (ap to_report all) (Writes-cut _ (to_report rest) c.from_residual.ensures.1 (Writes-then c.loop-column.invariant.written (Writes-is item c.in_err-write_violation.ensures.written)))
+    Writes-is (ap to_report all) (Writes-cut-more _ outlet.Report _ rest c.from_residual.ensures.1 (Writes-more outlet.Report _ _ c.loop-column.invariant.written (Writes-is item c.in_err-write_violation.ensures.written)))
 
 pub returns-clause-written : goal.returns-clause-written
 returns-clause-written g c =
@@ -39,7 +39,7 @@ loop-column-preserved g c =
     let item = ap (λ (column : Column). to_report (violation_rows (option_to_list (violation_of packet column)))) c.column-item.is in
     let of_item = ap (λ (column : Column). length (option_to_list (violation_of packet column))) c.column-item.is in
     record {
-      written = Writes-is (ap to_report (sym (rows-more packet columns i c.column-item.result c.loop-column-test.true))) (Writes-then inv.written (Writes-is item (Writes-ok wrote.written)));
+      written = Writes-is (ap to_report (sym (rows-more packet columns i c.column-item.result c.loop-column-test.true))) (Writes-more outlet.Report _ _ inv.written (Writes-is item (Writes-ok wrote.written)));
       ready = Writes-ready outlet.Report wrote.written inv.ready;
       found = elim c.if-branch.branch [
         | then-branch w ↦

@@ -1,6 +1,6 @@
-use Rattle.std.proofs.Common.{◌≡◌, ℕ, List, [], ◌++◌, Option, Some, None, refl, sym, ◌∙◌, subst}
+use Rattle.std.proofs.Common.{◌≡◌, ℕ, List, [], ◌++◌, Option, Some, None, refl, sym, ap, ◌∙◌, subst}
 use Rattle.std.specs.Option.{option_map}
-use Rattle.desk_ports.specs.Courses.{owed}
+use Rattle.desk_ports.specs.Courses.{owed, texts_of}
 use Rattle.packet_store.specs.Walks.{walk}
 use Rattle.packet_store.specs.declared.fault.WalkFault.{WalkFault}
 use Rattle.ground_chain.specs.Deliveries.{report_text, restored_bytes}
@@ -25,10 +25,10 @@ whole_walk l store whole = none_named (walk (Some (apid l)) store).ending (whole
 
 pub returns-clause-order : goal.returns-clause-order
 returns-clause-order c = λ l store whole.
-    sym (owed-with_fault of_store (late_course (bits l) (apid l) (window l) store)) ∙ owed-whole (bits l) (apid l) (window l) store (whole_walk l store whole)
+    sym (ap texts_of (owed-with_fault of_store (late_course (bits l) (apid l) (window l) store))) ∙ owed-whole (bits l) (apid l) (window l) store (whole_walk l store whole)
 
 pub returns-clause-restored : goal.returns-clause-restored
 returns-clause-restored c = λ l h copies store numbers whole valid places delivery arrives.
-    sym (owed-with_fault of_store (late_course (bits l) (apid l) (window l) store))
-    ∙ subst (λ f. owed (late_course f (apid l) (window l) store) ≡ record { output = restored_bytes h copies; report = report_text h copies ++ late_row 0 }) places
+    sym (ap texts_of (owed-with_fault of_store (late_course (bits l) (apid l) (window l) store)))
+    ∙ subst (λ f. texts_of (owed (late_course f (apid l) (window l) store)) ≡ record { output = restored_bytes h copies; report = report_text h copies ++ late_row 0 }) places
     (owed-late h copies (apid l) (window l) store numbers valid delivery arrives (whole_walk l store whole))

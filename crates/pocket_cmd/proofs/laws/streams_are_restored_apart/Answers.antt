@@ -1,5 +1,5 @@
 use Rattle.std.proofs.Common.{◌≡◌, ℕ, ◌<◌, ◌≤◌, List, length, None, subst}
-use Rattle.desk_ports.specs.Courses.{Outputs, owed}
+use Rattle.desk_ports.specs.Courses.{Outputs, owed, texts_of}
 use Rattle.packet_store.specs.Walks.{walk}
 use Rattle.side_tables.specs.Streams.{no_stream, stream_at, streams_of}
 use Rattle.side_tables.specs.Texts.{records_of}
@@ -26,11 +26,11 @@ same_owed m text store = owed-with_fault of_store (multi_course (streams_of text
 
 pub returns-clause-whole : goal.returns-clause-whole
 returns-clause-whole c = λ m text store bytes whole.
-    subst (λ (o : Outputs). (walk None o.output).ending ≡ None) (same_owed m text store) (owed-store (streams_of text) (rows_of-streams (records_of text)) store bytes (whole_walk m text store whole))
+    subst (λ (o : Outputs). (walk None (texts_of o).output).ending ≡ None) (same_owed m text store) (owed-store (streams_of text) (rows_of-streams (records_of text)) store bytes (whole_walk m text store whole))
 
 pub returns-clause-each : goal.returns-clause-each
 returns-clause-each c = λ m text store index bytes whole within.
-    subst (λ (o : Outputs). HasStream (stream_at (streams_of text) index) store o.output o.report) (same_owed m text store)
+    subst (λ (o : Outputs). HasStream (stream_at (streams_of text) index) store (texts_of o).output (texts_of o).report) (same_owed m text store)
     (owed-stream (streams_of text) (rows_of-streams (records_of text)) store bytes (whole_walk m text store whole) index within)
 
 -- a stream has an APID of packets

@@ -1,6 +1,5 @@
-use Rattle.std.proofs.Common.{Some, refl}
-use Rattle.desk_ports.specs.Courses.{no_outputs}
+use Rattle.std.proofs.Common.{[], Some, refl}
 use Rattle.chain_tests.proofs.tests.desks.counted_down.Goals as goal
 
 pub drive-requires-clause-owed : goal.drive-requires-clause-owed
-drive-requires-clause-owed g c = record { work = record { course = λ input. record { before = no_outputs; after = no_outputs; ending = Some 7 }; answer = λ input. 0 }; owed = λ input. refl }
+drive-requires-clause-owed g c = record { work = record { course = λ input. record { before = []; after = []; ending = Some 7 }; answer = λ input. 0 }; owed = λ input. refl }

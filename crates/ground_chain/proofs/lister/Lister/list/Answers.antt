@@ -1,6 +1,6 @@
-use Rattle.std.proofs.Common.{refl, subst}
+use Rattle.std.proofs.Common.{[], refl, subst}
 use Rattle.desk_ports.specs.Meanings.{Meanings}
-use Rattle.desk_ports.specs.Courses.{AfterRun, by_stop, no_outputs}
+use Rattle.desk_ports.specs.Courses.{AfterRun, by_stop}
 use Rattle.desk_ports.specs.Turns.{Reaches}
 use Rattle.desk_ports.proofs.Runs.{Ran-none}
 use Rattle.desk_ports.proofs.Steps.{AfterRun-after, Reaches-wrote}
@@ -18,8 +18,8 @@ use Rattle.ground_chain.proofs.lister.Lister.list.Goals as goal
 unread : (s : Receiving Listing) (a : Meanings) → IsUnread s → Reaches (listing_work (receiving_state s).places (receiving_state s).apid) (rest_work listed_texts s) a a
 unread s a is =
     let k = receiving_state s in
-    let steps = Steps-unread listed_texts s (listing_course k.places k.apid) no_outputs is (listing_course-is k.places k.apid) in
-    Reaches-wrote (listing_work k.places k.apid) (rest_work listed_texts s) a a no_outputs steps (Ran-none a)
+    let steps = Steps-unread listed_texts s (listing_course k.places k.apid) [] is (listing_course-is k.places k.apid) in
+    Reaches-wrote (listing_work k.places k.apid) (rest_work listed_texts s) a a [] steps (Ran-none a)
 
 pub returns-clause-ran : goal.returns-clause-ran
 returns-clause-ran g c =

@@ -1,18 +1,14 @@
-use Rattle.std.proofs.Common.{[], ◌∷◌, refl, sym, ap, subst, arith}
+use Rattle.std.proofs.Common.{refl, ap, arith}
 use Rattle.std.proofs.lemmas.Result.{err_from_is_err_and}
 use Rattle.desk_ports.proofs.Runs.{Ran-none}
-use Rattle.desk_ports.specs.Courses.{Outputs}
-use Rattle.desk_ports.specs.Turns.{Wrote}
 use Rattle.desk_ports.proofs.Steps.{AreReady-moved}
-use Rattle.desk_ports.proofs.Parts.{WroteFront-by, WroteWithin-one, put_all-one}
-use Rattle.desk_ports.proofs.WalkTurns.{Advances-on, AdvancesParts-on, AfterStop-on, Finishes-on, IsCutShort-on, IsCutShort-end-on, IsCutWithin-on, IsCutWithin-end-on, StopsWithin-on}
+use Rattle.desk_ports.proofs.WalkTurns.{Advances-on, AfterStop-on, Finishes-on, IsCutShort-on, IsCutShort-end-on}
 use Rattle.packet_store.specs.Faults.{stop_of}
 use Rattle.packet_store.specs.StoreReader.{walk_over}
 use Rattle.packet_store.proofs.StoreTurns.{AfterWalk-store, IsOver-store, TakesItem-store}
-use Rattle.ground_chain.specs.Reception.{next_judged}
-use Rattle.ground_chain.specs.Receiving.{left_to_receive, parts_left}
+use Rattle.ground_chain.specs.Receiving.{left_to_receive}
 use Rattle.ground_chain.specs.declared.restored.Restored.{Restored}
-use Rattle.ground_chain.proofs.RestCourses.{EndsWithin-received, GoesOn-judged, GoesOn-passed, IsDone-received, Owes-next, PartsGoOn-judged, PartsGoOn-passed}
+use Rattle.ground_chain.proofs.RestCourses.{GoesOn-judged, GoesOn-passed, IsDone-received, Owes-next}
 use Rattle.ground_chain.proofs.receiving.ReceivingRun.turn.Goals as goal
 
 -- the store is not read on
@@ -36,7 +32,7 @@ returns-in_err-end-clause-turned g c = λ work owes.
     let s = c.args.self.now in
     let told = rw c.in_default.is at c.in_ok-taken.ensures in
     let p = err_from_is_err_and c.from_residual-in_err-end.result c.from_residual-in_err-end.ensures.1 in
-    rw (p.1, p.2) (IsCutShort-end-on (IsDone-received g.A.Account.texts s) (IsOver-store s.reader told.ahead told.none told.at_end) owes.work_is (WroteFront-by c.in_err-end.ensures.front))
+    rw (p.1, p.2) (IsCutShort-end-on (IsDone-received g.A.Account.texts s) (IsOver-store s.reader told.ahead told.none told.at_end) owes.work_is c.in_err-end.ensures.front)
 
 pub returns-in_default-clause-turned : goal.returns-in_default-clause-turned
 returns-in_default-clause-turned g c = λ work owes.
@@ -60,7 +56,7 @@ returns-in_err-arrive-clause-turned g c = λ work owes.
     let goes_on = GoesOn-judged g.A.Account.texts s t (meaning c.args.desk.now) (meaning c.next.new.desk) c.in-Some.taken told.some c.if-taken.true judges in
     let p = err_from_is_err_and c.from_residual-in_err-arrive.result c.from_residual-in_err-arrive.ensures.1 in
     let front = rw c.body-body.ensures at c.in_err-arrive.ensures.written.front in
-    rw (p.1, p.2) (IsCutShort-on (TakesItem-store told.some) goes_on owes.work_is (WroteFront-by front))
+    rw (p.1, p.2) (IsCutShort-on (TakesItem-store told.some) goes_on owes.work_is front)
 
 pub returns-in_ok-arrive-clause-turned : goal.returns-in_ok-arrive-clause-turned
 returns-in_ok-arrive-clause-turned g c = λ work owes.
@@ -86,59 +82,3 @@ returns-else-taken-clause-turned g c = λ work owes.
     let told = rw c.in-Some.is at c.in_ok-taken.ensures in
     let goes_on = GoesOn-passed texts s reader a b c.in-Some.taken told.some c.if-taken.false in
     Advances-on (TakesItem-store told.some) goes_on owes.work_is (Ran-none b) (Owes-next texts s (record s { reader = reader }) a b c.in-Some.taken work owes told.some (omega arith))
-
--- ---- part by part
-
-pub returns-in_err-taken-clause-parts : goal.returns-in_err-taken-clause-parts
-returns-in_err-taken-clause-parts g c = λ parts_of owes.
-    let reader = c.args.self.now.reader in
-    let a = g.D.Desk.meaning c.args.desk.now in
-    let b = g.D.Desk.meaning c.next.new.desk in
-    let reason = c.in_err-taken.field-0.0 in
-    let p = err_from_is_err_and c.from_residual.result c.from_residual.ensures.1 in
-    rw (p.1, p.2) (StopsWithin-on g.A.Account.texts.first parts_of (walk_over reader) a b (stop_of reason) (AfterWalk-store reader c.next.new.self.ahead a b reason c.in_err-taken.ensures.fault))
-
-pub returns-in_err-end-clause-parts : goal.returns-in_err-end-clause-parts
-returns-in_err-end-clause-parts g c = λ parts_of owes.
-    let s = c.args.self.now in
-    let texts = g.A.Account.texts in
-    let told = rw c.in_default.is at c.in_ok-taken.ensures in
-    let front = c.in_err-end.ensures.front in
-    let p = err_from_is_err_and c.from_residual-in_err-end.result c.from_residual-in_err-end.ensures.1 in
-    rw (p.1, p.2) (IsCutWithin-end-on (parts_left texts s) refl (IsOver-store s.reader told.ahead told.none told.at_end) owes (record { stand = front.stand; wrote = front.wrote; within = EndsWithin-received texts s front.front }))
-
-pub returns-in_err-arrive-clause-parts : goal.returns-in_err-arrive-clause-parts
-returns-in_err-arrive-clause-parts g c = λ parts_of owes.
-    let s = c.args.self.now in
-    let t = record s { reader = c.next.new.self; judging = c.arrive.new.self } in
-    let meaning = g.D.Desk.meaning in
-    let told = rw c.in-Some.is at c.in_ok-taken.ensures in
-    let judges = rw c.body-body.ensures at c.arrive.ensures.judges in
-    let goes_on = PartsGoOn-judged g.A.Account.texts s t (meaning c.args.desk.now) (meaning c.next.new.desk) c.in-Some.taken told.some c.if-taken.true judges in
-    let p = err_from_is_err_and c.from_residual-in_err-arrive.result c.from_residual-in_err-arrive.ensures.1 in
-    let front = rw c.body-body.ensures at c.in_err-arrive.ensures.written.front in
-    rw (p.1, p.2) (IsCutWithin-on (TakesItem-store told.some) goes_on owes (WroteWithin-one front))
-
-pub returns-in_ok-arrive-clause-parts : goal.returns-in_ok-arrive-clause-parts
-returns-in_ok-arrive-clause-parts g c = λ parts_of owes.
-    let s = c.args.self.now in
-    let t = record s { reader = c.next.new.self; judging = c.arrive.new.self } in
-    let texts = g.A.Account.texts in
-    let a = g.D.Desk.meaning c.args.desk.now in
-    let b = g.D.Desk.meaning c.next.new.desk in
-    let d = g.D.Desk.meaning c.arrive.new.desk in
-    let told = rw c.in-Some.is at c.in_ok-taken.ensures in
-    let judges = rw c.body-body.ensures at c.arrive.ensures.judges in
-    let goes_on = PartsGoOn-judged texts s t a b c.in-Some.taken told.some c.if-taken.true judges in
-    let part = texts.parts (next_judged s.judging.reception c.in-Some.taken.count c.next.new.self.body) in
-    let wrote = rw c.body-body.ensures at c.in_ok-arrive.ensures.written.wrote in
-    AdvancesParts-on (part ∷ []) (TakesItem-store told.some) goes_on owes (subst (λ (o : Outputs). Wrote b d o) (sym (put_all-one part)) wrote) refl
-
-pub returns-else-taken-clause-parts : goal.returns-else-taken-clause-parts
-returns-else-taken-clause-parts g c = λ parts_of owes.
-    let s = c.args.self.now in
-    let a = g.D.Desk.meaning c.args.desk.now in
-    let b = g.D.Desk.meaning c.next.new.desk in
-    let told = rw c.in-Some.is at c.in_ok-taken.ensures in
-    let goes_on = PartsGoOn-passed g.A.Account.texts s c.next.new.self a b c.in-Some.taken told.some c.if-taken.false in
-    AdvancesParts-on [] (TakesItem-store told.some) goes_on owes (Ran-none b) refl

@@ -1,15 +1,10 @@
 use Rattle.std.proofs.Common.{ℕ, [], Ok, Err, Result, IfOk, refl, ap, subst}
 use Rattle.std.proofs.lemmas.Result.{err_from_is_err_and}
-use Rattle.desk_ports.specs.declared.desk.Outlet.TheVariants as outlet
 use Rattle.desk_ports.specs.Meanings.{Meanings, Counts}
 use Rattle.desk_ports.specs.Courses.{AfterRun, HasCause, IsCutShort, by_stop, to_report}
 use Rattle.desk_ports.specs.Turns.{Reaches, Steps, Wrote}
-use Rattle.desk_ports.specs.Parts.{InParts, IsCutWithin}
-use Rattle.desk_ports.proofs.Parts.{InParts-after, IsCutWithin-wrote, ReachesParts-wrote}
-use Rattle.desk_ports.specs.WalkWorks.{parts_on}
-use Rattle.packet_store.specs.StoreReader.{walk_over}
 use Rattle.desk_ports.proofs.Steps.{AfterRun-after, IsCutShort-wrote, Reaches-wrote}
-use Rattle.desk_ports.proofs.Writings.{Writes-is, WritesBy-alone}
+use Rattle.desk_ports.proofs.Writings.{Writes-is}
 use Rattle.mask_update.specs.Histories.{History}
 use Rattle.packet_store.specs.declared.fault.RunFault.{RunFault}
 use Rattle.ground_chain.specs.declared.restored.Restored.{Restored}
@@ -18,10 +13,10 @@ use Rattle.ground_chain.specs.declared.reporting.Reporting.{Reporting}
 use Rattle.ground_chain.specs.Deliveries.{IsDelivered, IsPlayed}
 use Rattle.ground_chain.specs.Report.{header_row}
 use Rattle.packet_store.specs.Faults.{stop_by}
-use Rattle.ground_chain.specs.Restoring.{RestorerState, restore_course, restore_parts, restore_work, restored_texts}
-use Rattle.ground_chain.specs.Receiving.{IsUnread, parts_left, receiving_state, rest_work}
+use Rattle.ground_chain.specs.Restoring.{RestorerState, restore_course, restore_work, restored_texts}
+use Rattle.ground_chain.specs.Receiving.{IsUnread, receiving_state, rest_work}
 use Rattle.ground_chain.proofs.DeliveredRuns.{IsDelivered-done, IsOk-run}
-use Rattle.ground_chain.proofs.RestCourses.{Owes-unread, Steps-unread, restore_course-is, restore_parts-unread}
+use Rattle.ground_chain.proofs.RestCourses.{Owes-unread, Steps-unread, restore_course-is}
 use Rattle.ground_chain.proofs.restorer.Restorer.restore.Goals as goal
 
 unread : (s : Receiving Reporting) → IsUnread s → Steps (restore_work (receiving_state s).places (receiving_state s).apid) (rest_work restored_texts s) [] (to_report header_row)
@@ -55,32 +50,6 @@ returns-clause-ran g c =
     let written = Writes-is (ap to_report c.as_bytes.ensures.value) c.in_ok-write_all.ensures in
     let ran = c.drive.ensures.ran (rest_work restored_texts s) (Owes-unread restored_texts s c.self.invariant) in
     subst (λ (r : RestorerState). AfterRun (restore_work r.places r.apid) a d (by_stop stop_by c.drive.result)) c.self.view_is (AfterRun-after (restore_work k.places k.apid) (rest_work restored_texts s) a b d (by_stop stop_by c.drive.result) (header s a b c.self.invariant written.wrote) ran)
-
--- ---- the order
-
-pub returns-in_err-write_all-clause-order : goal.returns-in_err-write_all-clause-order
-returns-in_err-write_all-clause-order g c =
-    let a = g.D.Desk.meaning c.args.desk.now in
-    let b = g.D.Desk.meaning c.write_all.new.desk in
-    let s = c.self.inside.receiving in
-    let k = receiving_state s in
-    let written = WritesBy-alone outlet.Report outlet.Report _ (Writes-is (ap to_report c.as_bytes.ensures.value) c.in_err-write_all.ensures) in
-    let cut = IsCutWithin-wrote outlet.Report (restore_parts k.places k.apid) (parts_on (parts_left restored_texts s) (walk_over s.reader)) a b (to_report header_row) (restore_parts-unread s c.self.invariant) written.front in
-    let p = err_from_is_err_and c.from_residual.result c.from_residual.ensures.1 in
-    rw (p.1, p.2) (subst (λ (r : RestorerState). IsCutWithin outlet.Report (restore_parts r.places r.apid) a b) c.self.view_is cut)
-
-pub returns-clause-order : goal.returns-clause-order
-returns-clause-order g c =
-    let a = g.D.Desk.meaning c.args.desk.now in
-    let b = g.D.Desk.meaning c.write_all.new.desk in
-    let d = g.D.Desk.meaning c.drive.new.desk in
-    let s = c.self.inside.receiving in
-    let k = receiving_state s in
-    let here = parts_on (parts_left restored_texts s) (walk_over s.reader) in
-    let written = Writes-is (ap to_report c.as_bytes.ensures.value) c.in_ok-write_all.ensures in
-    let reached = ReachesParts-wrote (restore_parts k.places k.apid) here a b (to_report header_row) (restore_parts-unread s c.self.invariant) written.wrote in
-    subst (λ (r : RestorerState). InParts outlet.Report (restore_parts r.places r.apid) a d (by_stop stop_by c.drive.result)) c.self.view_is
-    (InParts-after outlet.Report (restore_parts k.places k.apid) here a b d (by_stop stop_by c.drive.result) reached (c.drive.ensures.parts here refl))
 
 delivered : (f apid : ℕ) (h : History) (copies : ℕ → ℕ) (a b : Meanings) (result : Result Restored RunFault) → IsPlayed f apid h copies a → AfterRun (restore_work f apid) a b (by_stop stop_by result)
     → IfOk result (λ restored. IsDelivered h copies restored a b)

@@ -12,7 +12,7 @@ pub judge_least-requires-clause-ready : goal.judge_least-requires-clause-ready
 judge_least-requires-clause-ready g c =
     let part = c.loop-self.invariant in
     let parts = held_bytes c.args.self.now.judging part.done in
-    AreReady-ran (λ _. true) (g.D.Desk.meaning c.args.desk.now) (g.D.Desk.meaning c.loop-self.desk) [] parts.output parts.report part.written.wrote c.requires.ready
+    AreReady-ran (λ _. true) (g.D.Desk.meaning c.args.desk.now) (g.D.Desk.meaning c.loop-self.desk) [] parts part.written.wrote c.requires.ready
 
 pub loop-self-preserved : goal.loop-self-preserved
 loop-self-preserved g c =

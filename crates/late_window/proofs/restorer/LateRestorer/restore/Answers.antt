@@ -1,21 +1,16 @@
-use Rattle.std.proofs.Common.{refl, ap, subst}
+use Rattle.std.proofs.Common.{ap, subst}
 use Rattle.std.proofs.lemmas.Result.{err_from_is_err_and}
-use Rattle.desk_ports.specs.declared.desk.Outlet.TheVariants as outlet
 use Rattle.desk_ports.specs.Meanings.{Meanings, Counts}
 use Rattle.desk_ports.specs.Courses.{AfterRun, HasCause, IsCutShort, by_stop, to_report}
 use Rattle.desk_ports.specs.Turns.{Reaches, Wrote}
-use Rattle.desk_ports.specs.Parts.{InParts, IsCutWithin}
-use Rattle.desk_ports.proofs.Parts.{InParts-after, IsCutWithin-wrote, ReachesParts-wrote}
-use Rattle.desk_ports.specs.WalkWorks.{parts_on}
-use Rattle.packet_store.specs.StoreReader.{walk_over}
 use Rattle.desk_ports.proofs.Steps.{AfterRun-after, IsCutShort-wrote, Reaches-wrote}
-use Rattle.desk_ports.proofs.Writings.{Writes-is, WritesBy-alone}
+use Rattle.desk_ports.proofs.Writings.{Writes-is}
 use Rattle.ground_chain.specs.Report.{header_row}
 use Rattle.packet_store.specs.Faults.{stop_by}
 use Rattle.late_window.specs.declared.run.LateRun.{LateRun}
-use Rattle.late_window.specs.Restoring.{IsUnread, LateState, late_course, late_parts, late_state, late_work, parts_to_sort, rest_work}
+use Rattle.late_window.specs.Restoring.{IsUnread, LateState, late_course, late_state, late_work, rest_work}
 use Rattle.late_window.proofs.Delivered.{IsLateDelivered-run, IsOk-run}
-use Rattle.late_window.proofs.Wholes.{Owes-unread, Steps-unread, late_parts-unread}
+use Rattle.late_window.proofs.Wholes.{Owes-unread, Steps-unread}
 use Rattle.late_window.proofs.restorer.LateRestorer.restore.Goals as goal
 
 pub returns-in_err-write_all-clause-ran : goal.returns-in_err-write_all-clause-ran
@@ -46,32 +41,6 @@ returns-clause-ran g c =
     let written = Writes-is (ap to_report c.as_bytes.ensures.value) c.in_ok-write_all.ensures in
     let ran = c.drive.ensures.ran (rest_work r) (Owes-unread r c.self.invariant) in
     subst (λ (s : LateState). AfterRun (late_work s.places s.apid s.window) a d (by_stop stop_by c.drive.result)) c.self.view_is (AfterRun-after (late_work k.places k.apid k.window) (rest_work r) a b d (by_stop stop_by c.drive.result) (header r a b c.self.invariant written.wrote) ran)
-
--- ---- the order
-
-pub returns-in_err-write_all-clause-order : goal.returns-in_err-write_all-clause-order
-returns-in_err-write_all-clause-order g c =
-    let a = g.D.Desk.meaning c.args.desk.now in
-    let b = g.D.Desk.meaning c.write_all.new.desk in
-    let r = c.self.inside.run in
-    let k = late_state r in
-    let written = WritesBy-alone outlet.Report outlet.Report _ (Writes-is (ap to_report c.as_bytes.ensures.value) c.in_err-write_all.ensures) in
-    let cut = IsCutWithin-wrote outlet.Report (late_parts k.places k.apid k.window) (parts_on (parts_to_sort r) (walk_over r.reader)) a b (to_report header_row) (late_parts-unread r c.self.invariant) written.front in
-    let p = err_from_is_err_and c.from_residual.result c.from_residual.ensures.1 in
-    rw (p.1, p.2) (subst (λ (s : LateState). IsCutWithin outlet.Report (late_parts s.places s.apid s.window) a b) c.self.view_is cut)
-
-pub returns-clause-order : goal.returns-clause-order
-returns-clause-order g c =
-    let a = g.D.Desk.meaning c.args.desk.now in
-    let b = g.D.Desk.meaning c.write_all.new.desk in
-    let d = g.D.Desk.meaning c.drive.new.desk in
-    let r = c.self.inside.run in
-    let k = late_state r in
-    let here = parts_on (parts_to_sort r) (walk_over r.reader) in
-    let written = Writes-is (ap to_report c.as_bytes.ensures.value) c.in_ok-write_all.ensures in
-    let reached = ReachesParts-wrote (late_parts k.places k.apid k.window) here a b (to_report header_row) (late_parts-unread r c.self.invariant) written.wrote in
-    subst (λ (s : LateState). InParts outlet.Report (late_parts s.places s.apid s.window) a d (by_stop stop_by c.drive.result)) c.self.view_is
-    (InParts-after outlet.Report (late_parts k.places k.apid k.window) here a b d (by_stop stop_by c.drive.result) reached (c.drive.ensures.parts here refl))
 
 pub returns-clause-headline : goal.returns-clause-headline
 returns-clause-headline g c = λ h copies played.

@@ -2,7 +2,7 @@ use Rattle.std.proofs.Common.{◌<◌, ◌≤◌, ◌+◌, ◌++◌, List, drop,
 use Rattle.std.proofs.lemmas.List.{take_all}
 use Rattle.desk_ports.specs.declared.desk.Outlet.TheVariants as outlet
 use Rattle.desk_ports.specs.Courses.{to_report}
-use Rattle.desk_ports.proofs.Writings.{Writes-cut, Writes-is, Writes-none, Writes-ok, Writes-ready, Writes-then}
+use Rattle.desk_ports.proofs.Writings.{Writes-cut-more, Writes-is, Writes-more, Writes-none, Writes-ok, Writes-ready}
 use Rattle.side_tables.specs.declared.rows.StreamRow.{StreamRow}
 use Rattle.ground_chain.specs.Reckoning.{Reckoning}
 use Rattle.multi_ground.specs.MultiRun.{shape_count}
@@ -21,7 +21,7 @@ returns-in_err-write_tagged-clause-written g c = λ packets has.
     let restored = c.restored.ensures ∙ ap (λ (r : Reckoning). r.restored) c.stream.ensures in
     let row = ap (tagged c.apid.result) c.end_row-row.ensures ∙ end_of-kept s packets index c.apid.result c.restored.result.now has within restored c.apid.ensures.apid in
     let rest = end_rows (drop (index + 1) s.streams) packets ++ shape_row (shape_count s.streams packets) in
-    Writes-is (ap to_report (rows_after s.streams packets index within)) (Writes-cut _ (to_report rest) c.from_residual.ensures.1 (Writes-then (c.loop-index.invariant.written packets has) (Writes-is (ap to_report row) c.in_err-write_tagged.ensures)))
+    Writes-is (ap to_report (rows_after s.streams packets index within)) (Writes-cut-more _ outlet.Report _ rest c.from_residual.ensures.1 (Writes-more outlet.Report _ _ (c.loop-index.invariant.written packets has) (Writes-is (ap to_report row) c.in_err-write_tagged.ensures)))
 
 pub loop-index-preserved : goal.loop-index-preserved
 loop-index-preserved g c =
@@ -33,7 +33,7 @@ loop-index-preserved g c =
     record {
       written = λ packets has.
           let row = ap (tagged c.apid.result) c.end_row-row.ensures ∙ end_of-kept s packets index c.apid.result c.restored.result.now has within restored c.apid.ensures.apid in
-          Writes-is (ap to_report (sym (more_rows s.streams packets index within))) (Writes-then (c.loop-index.invariant.written packets has) (Writes-is (ap to_report row) (Writes-ok wrote)));
+          Writes-is (ap to_report (sym (more_rows s.streams packets index within))) (Writes-more outlet.Report _ _ (c.loop-index.invariant.written packets has) (Writes-is (ap to_report row) (Writes-ok wrote)));
       ready = Writes-ready outlet.Report wrote c.loop-index.invariant.ready;
       steady = wrote.cause ∙ c.loop-index.invariant.steady;
     }
@@ -44,4 +44,4 @@ returns-clause-written g c = λ packets has.
     let all : length s.streams ≤ c.loop-index.index = omega (arith, c.loop-index-test.false, c.count-index-end.ensures.count) in
     let every = Writes-is (ap (λ (l : List StreamRow). to_report (end_rows l packets)) (take_all c.loop-index.index s.streams all)) (c.loop-index.invariant.written packets has) in
     let row = c.as_bytes.ensures ∙ (c.shape_row.ensures ∙ ap shape_row has.shapes) in
-    Writes-then every (Writes-is (ap to_report row) c.write_all.ensures)
+    Writes-more outlet.Report _ _ every (Writes-is (ap to_report row) c.write_all.ensures)

@@ -1,21 +1,11 @@
-use Rattle.std.proofs.Common.{List, [], ◌∷◌, refl, sym, subst, append-nil}
-use Rattle.std.specs.List.{cons_option}
+use Rattle.std.proofs.Common.{refl}
 use Rattle.std.proofs.lemmas.Result.{err_from_is_err_and}
-use Rattle.desk_ports.proofs.WalkTurns.{Advances-on, AdvancesParts-on, AfterStop-on, Finishes-on, IsCutShort-on, IsCutShort-end-on, IsCutWithin-on, IsCutWithin-end-on, StopsWithin-on}
+use Rattle.desk_ports.proofs.WalkTurns.{Advances-on, AfterStop-on, Finishes-on, IsCutShort-on, IsCutShort-end-on}
 use Rattle.packet_store.specs.Faults.{stop_of}
-use Rattle.packet_store.specs.SpacePackets.{Packet}
 use Rattle.packet_store.specs.StoreReader.{walk_over}
 use Rattle.packet_store.proofs.StoreTurns.{AfterWalk-store, IsOver-store, TakesItem-store, packet_of}
-use Rattle.desk_ports.specs.declared.desk.Outlet.TheVariants as outlet
-use Rattle.desk_ports.specs.Courses.{Outputs, to_report}
-use Rattle.desk_ports.specs.Turns.{Wrote, WroteFront}
-use Rattle.desk_ports.specs.Parts.{WroteWithin}
-use Rattle.desk_ports.proofs.Parts.{WroteFront-within, WroteWithin-one}
-use Rattle.desk_ports.proofs.Writings.{WritesBy-alone}
-use Rattle.multi_ground.specs.MultiRun.{judged_after}
-use Rattle.multi_ground.specs.MultiOutputs.{last_rows}
-use Rattle.multi_ground.specs.Receiving.{left_after, parts_after, parts_left}
-use Rattle.multi_ground.proofs.MultiCourses.{GoesOn-next, HasRead-taken, IsDone-received, Owes-next, OwesParts-next, PartsGoOn-next, put_all-arrivals, received-read}
+use Rattle.multi_ground.specs.Receiving.{left_after}
+use Rattle.multi_ground.proofs.MultiCourses.{GoesOn-next, HasRead-taken, IsDone-received, Owes-next, received-read}
 use Rattle.multi_ground.proofs.receiving.MultiReceivingRun.turn.Goals as goal
 
 -- the store is not read on
@@ -58,13 +48,11 @@ returns-in_err-receive-clause-turned g c = λ work owes.
     let reader = c.next.new.self in
     let a = g.D.Desk.meaning c.args.desk.now in
     let b = g.D.Desk.meaning c.next.new.desk in
-    let d = g.D.Desk.meaning c.receive.new.desk in
     let told = rw c.in-Some.is at c.in_ok-next.ensures in
     let read = HasRead-taken s reader a b c.in-Some.field-0 told.some owes.chosen in
     let p = err_from_is_err_and c.from_residual-in_err-receive.result c.from_residual-in_err-receive.ensures.1 in
     let written = c.in_err-receive.ensures.written (packet_of told.some.header reader) owes.packets read (received-read s reader owes.packets owes.received) in
-    let whole = subst (WroteFront b d) (put_all-arrivals (cons_option (judged_after s.streams owes.packets (packet_of told.some.header reader)) [])) (WroteFront-within written.front) in
-    rw (p.1, p.2) (IsCutShort-on (TakesItem-store told.some) (GoesOn-next s.streams owes.packets (packet_of told.some.header reader)) owes.work_is whole)
+    rw (p.1, p.2) (IsCutShort-on (TakesItem-store told.some) (GoesOn-next s.streams owes.packets (packet_of told.some.header reader)) owes.work_is written.front)
 
 pub returns-clause-turned : goal.returns-clause-turned
 returns-clause-turned g c = λ work owes.
@@ -80,53 +68,3 @@ returns-clause-turned g c = λ work owes.
     let written = c.in_ok-receive.ensures.written p owes.packets read has in
     let next = Owes-next s t reader a b c.in-Some.field-0 work owes told.some c.receive.ensures.reader c.receive.ensures.streams (c.receive.ensures.received p owes.packets read has) in
     Advances-on (TakesItem-store told.some) (GoesOn-next s.streams owes.packets p) owes.work_is written.wrote next
-
--- ---- part by part
-
-pub returns-in_err-next-clause-parts : goal.returns-in_err-next-clause-parts
-returns-in_err-next-clause-parts g c = λ parts_of owes.
-    let reader = c.args.self.now.reader in
-    let a = g.D.Desk.meaning c.args.desk.now in
-    let b = g.D.Desk.meaning c.next.new.desk in
-    let reason = c.in_err-next.field-0.0 in
-    let p = err_from_is_err_and c.from_residual.result c.from_residual.ensures.1 in
-    rw (p.1, p.2) (StopsWithin-on outlet.Report parts_of (walk_over reader) a b (stop_of reason) (AfterWalk-store reader c.next.new.self.ahead a b reason c.in_err-next.ensures.fault))
-
-pub returns-in_err-end-clause-parts : goal.returns-in_err-end-clause-parts
-returns-in_err-end-clause-parts g c = λ parts_of owes.
-    let s = c.args.self.now in
-    let b = g.D.Desk.meaning c.next.new.desk in
-    let d = g.D.Desk.meaning c.end.new.desk in
-    let told = rw c.in_default.is at c.in_ok-next.ensures in
-    let p = err_from_is_err_and c.from_residual-in_err-end.result c.from_residual-in_err-end.ensures.1 in
-    let written = c.in_err-end.ensures.written owes.packets (received-read s c.next.new.self owes.packets owes.received) in
-    let cut = subst (λ (l : List Packet). WroteWithin outlet.Report b d (to_report (last_rows s.streams l) ∷ [])) (sym (append-nil owes.packets)) (WroteWithin-one (WritesBy-alone outlet.Report outlet.Report _ written).front) in
-    rw (p.1, p.2) (IsCutWithin-end-on (parts_left s.streams owes.packets) refl (IsOver-store s.reader told.ahead told.none told.at_end) owes.parts_are cut)
-
-pub returns-in_err-receive-clause-parts : goal.returns-in_err-receive-clause-parts
-returns-in_err-receive-clause-parts g c = λ parts_of owes.
-    let s = c.args.self.now in
-    let reader = c.next.new.self in
-    let a = g.D.Desk.meaning c.args.desk.now in
-    let b = g.D.Desk.meaning c.next.new.desk in
-    let told = rw c.in-Some.is at c.in_ok-next.ensures in
-    let read = HasRead-taken s reader a b c.in-Some.field-0 told.some owes.chosen in
-    let p = err_from_is_err_and c.from_residual-in_err-receive.result c.from_residual-in_err-receive.ensures.1 in
-    let written = c.in_err-receive.ensures.written (packet_of told.some.header reader) owes.packets read (received-read s reader owes.packets owes.received) in
-    rw (p.1, p.2) (IsCutWithin-on (TakesItem-store told.some) (PartsGoOn-next s.streams owes.packets (packet_of told.some.header reader)) owes.parts_are written.front)
-
-pub returns-clause-parts : goal.returns-clause-parts
-returns-clause-parts g c = λ parts_of owes.
-    let s = c.args.self.now in
-    let t = c.receive.new.self in
-    let reader = c.next.new.self in
-    let a = g.D.Desk.meaning c.args.desk.now in
-    let b = g.D.Desk.meaning c.next.new.desk in
-    let d = g.D.Desk.meaning c.receive.new.desk in
-    let told = rw c.in-Some.is at c.in_ok-next.ensures in
-    let read = HasRead-taken s reader a b c.in-Some.field-0 told.some owes.chosen in
-    let has = received-read s reader owes.packets owes.received in
-    let p = packet_of told.some.header reader in
-    let wrote = subst (λ (o : Outputs). Wrote b d o) (sym (put_all-arrivals (cons_option (judged_after s.streams owes.packets p) []))) (c.in_ok-receive.ensures.written p owes.packets read has).wrote in
-    let next = OwesParts-next s t reader a b c.in-Some.field-0 parts_of owes told.some c.receive.ensures.reader c.receive.ensures.streams (c.receive.ensures.received p owes.packets read has) in
-    AdvancesParts-on (parts_after s.streams owes.packets p) (TakesItem-store told.some) (PartsGoOn-next s.streams owes.packets p) owes.parts_are wrote next

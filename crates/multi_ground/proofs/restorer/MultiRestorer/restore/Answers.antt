@@ -3,21 +3,17 @@ use Rattle.std.proofs.lemmas.Result.{err_from_is_err_and}
 use Rattle.desk_ports.specs.declared.desk.Inlet.TheVariants as inlet
 use Rattle.desk_ports.specs.Meanings.{Meanings, left}
 use Rattle.desk_ports.specs.Courses.{AfterRun, IsCutShort, by_stop, to_report}
-use Rattle.desk_ports.specs.declared.desk.Outlet.TheVariants as outlet
-use Rattle.desk_ports.specs.Parts.{InParts, IsCutWithin}
-use Rattle.desk_ports.proofs.Parts.{InParts-after, IsCutWithin-wrote, ReachesParts-wrote}
 use Rattle.desk_ports.proofs.Steps.{AfterRun-after, IsCutShort-wrote, Reaches-wrote}
-use Rattle.desk_ports.proofs.Writings.{WritesBy-alone}
-use Rattle.desk_ports.specs.WalkWorks.{parts_on, work_on}
+use Rattle.desk_ports.specs.WalkWorks.{work_on}
 use Rattle.packet_store.specs.StoreReader.{walk_over}
 use Rattle.side_tables.specs.declared.rows.StreamRow.{StreamRow}
 use Rattle.side_tables.specs.Streams.{AreStreams}
 use Rattle.packet_store.specs.declared.fault.RunFault.{RunFault}
 use Rattle.packet_store.specs.Faults.{stop_by}
 use Rattle.multi_ground.specs.Apart.{AreRestored}
-use Rattle.multi_ground.specs.MultiOutputs.{multi_course, multi_header, multi_parts, multi_work}
-use Rattle.multi_ground.specs.Receiving.{left_after, parts_left}
-use Rattle.multi_ground.proofs.MultiCourses.{Owes-unread, OwesParts-unread, Steps-unread, multi_parts-unread}
+use Rattle.multi_ground.specs.MultiOutputs.{multi_course, multi_header, multi_work}
+use Rattle.multi_ground.specs.Receiving.{left_after}
+use Rattle.multi_ground.proofs.MultiCourses.{Owes-unread, Steps-unread}
 use Rattle.multi_ground.proofs.NoShapes.{no_shape}
 use Rattle.multi_ground.proofs.Restored.{AreRestored-done}
 use Rattle.multi_ground.proofs.restorer.MultiRestorer.restore.Goals as goal
@@ -44,29 +40,6 @@ returns-clause-ran g c =
     let reached = Reaches-wrote (multi_work s.streams) here a b (to_report multi_header) (Steps-unread s c.self.invariant) c.in_ok-write_header.ensures.wrote in
     subst (λ (streams : List StreamRow). AfterRun (multi_work streams) a d (by_stop stop_by c.drive.result)) c.self.view_is
     (AfterRun-after (multi_work s.streams) here a b d (by_stop stop_by c.drive.result) reached (c.drive.ensures.ran here (Owes-unread s c.self.invariant)))
-
--- ---- the order
-
-pub returns-in_err-write_header-clause-order : goal.returns-in_err-write_header-clause-order
-returns-in_err-write_header-clause-order g c =
-    let a = g.D.Desk.meaning c.args.desk.now in
-    let b = g.D.Desk.meaning c.write_header.new.desk in
-    let s = c.self.inside.receiving in
-    let written = WritesBy-alone outlet.Report outlet.Report _ c.in_err-write_header.ensures in
-    let cut = IsCutWithin-wrote outlet.Report (multi_parts s.streams) (parts_on (parts_left s.streams []) (walk_over s.reader)) a b (to_report multi_header) (multi_parts-unread s c.self.invariant) written.front in
-    let p = err_from_is_err_and c.from_residual.result c.from_residual.ensures.1 in
-    rw (p.1, p.2) (subst (λ (streams : List StreamRow). IsCutWithin outlet.Report (multi_parts streams) a b) c.self.view_is cut)
-
-pub returns-clause-order : goal.returns-clause-order
-returns-clause-order g c =
-    let a = g.D.Desk.meaning c.args.desk.now in
-    let b = g.D.Desk.meaning c.write_header.new.desk in
-    let d = g.D.Desk.meaning c.drive.new.desk in
-    let s = c.self.inside.receiving in
-    let here = parts_on (parts_left s.streams []) (walk_over s.reader) in
-    let reached = ReachesParts-wrote (multi_parts s.streams) here a b (to_report multi_header) (multi_parts-unread s c.self.invariant) c.in_ok-write_header.ensures.wrote in
-    subst (λ (streams : List StreamRow). InParts outlet.Report (multi_parts streams) a d (by_stop stop_by c.drive.result)) c.self.view_is
-    (InParts-after outlet.Report (multi_parts s.streams) here a b d (by_stop stop_by c.drive.result) reached (c.drive.ensures.parts here (OwesParts-unread s c.self.invariant)))
 
 pub returns-clause-shape : goal.returns-clause-shape
 returns-clause-shape g c = λ byte is.

@@ -1,17 +1,12 @@
-use Rattle.std.proofs.Common.{length, List, refl, subst}
+use Rattle.std.proofs.Common.{List, subst}
 use Rattle.std.proofs.lemmas.Result.{err_from_is_err_and}
 use Rattle.desk_ports.specs.Courses.{AfterRun, IsCutShort, by_stop}
-use Rattle.desk_ports.specs.Turns.{Wrote}
-use Rattle.desk_ports.specs.declared.desk.Outlet.TheVariants as outlet
-use Rattle.desk_ports.specs.Parts.{InParts, IsCutWithin, WroteFrontBy}
-use Rattle.desk_ports.proofs.Parts.{InParts-after, IsCutWithin-wrote, ReachesParts-wrote, WroteFront-by}
-use Rattle.desk_ports.specs.WalkWorks.{parts_on}
+use Rattle.desk_ports.specs.Turns.{Wrote, WroteFront}
 use Rattle.desk_ports.proofs.Steps.{AfterRun-after, IsCutShort-wrote, Reaches-wrote}
-use Rattle.flight_chain.specs.Recordings.{walk_over}
 use Rattle.param_table.specs.declared.rows.Column.{Column}
 use Rattle.flight_chain.specs.Compressing.{stop_by}
-use Rattle.param_table.specs.Tabling.{Tabulation, headers, parts_left, rest_work, table_course, table_parts, table_work, tabulation_of}
-use Rattle.param_table.proofs.TableCourses.{Owes-unread, Steps-headers, table_parts-headers}
+use Rattle.param_table.specs.Tabling.{Tabulation, headers, rest_work, table_course, table_work, tabulation_of}
+use Rattle.param_table.proofs.TableCourses.{Owes-unread, Steps-headers}
 use Rattle.param_table.proofs.tabler.Tabler.tabulate.Goals as goal
 
 pub returns-in_err-write_headers-clause-ran : goal.returns-in_err-write_headers-clause-ran
@@ -19,8 +14,8 @@ returns-in_err-write_headers-clause-ran g c =
     let a = g.D.Desk.meaning c.args.desk.now in
     let b = g.D.Desk.meaning c.write_headers.new.desk in
     let s = c.self.inside.tabling in
-    let front = subst (λ (columns : List Column). WroteFrontBy outlet.Main a b (headers columns)) c.columns.ensures c.in_err-write_headers.ensures.front in
-    let cut = IsCutShort-wrote (table_work (tabulation_of s)) (rest_work s) a b (headers s.fields) (Steps-headers s c.self.invariant) (WroteFront-by front) in
+    let front = subst (λ (columns : List Column). WroteFront a b (headers columns)) c.columns.ensures c.in_err-write_headers.ensures.front in
+    let cut = IsCutShort-wrote (table_work (tabulation_of s)) (rest_work s) a b (headers s.fields) (Steps-headers s c.self.invariant) front in
     let p = err_from_is_err_and c.from_residual.result c.from_residual.ensures.1 in
     rw (p.1, p.2) (subst (λ (k : Tabulation). IsCutShort (table_course k) a b) c.self.view_is cut)
 
@@ -34,25 +29,3 @@ returns-clause-ran g c =
     let reached = Reaches-wrote (table_work (tabulation_of s)) (rest_work s) a b (headers s.fields) (Steps-headers s c.self.invariant) wrote in
     let ran = c.drive.ensures.ran (rest_work s) (Owes-unread s c.write_headers.new.line c.self.invariant) in
     subst (λ (k : Tabulation). AfterRun (table_work k) a d (by_stop stop_by c.drive.result)) c.self.view_is (AfterRun-after (table_work (tabulation_of s)) (rest_work s) a b d (by_stop stop_by c.drive.result) reached ran)
-
-pub returns-in_err-write_headers-clause-order : goal.returns-in_err-write_headers-clause-order
-returns-in_err-write_headers-clause-order g c =
-    let a = g.D.Desk.meaning c.args.desk.now in
-    let b = g.D.Desk.meaning c.write_headers.new.desk in
-    let s = c.self.inside.tabling in
-    let front = subst (λ (columns : List Column). WroteFrontBy outlet.Main a b (headers columns)) c.columns.ensures c.in_err-write_headers.ensures.front in
-    let cut = IsCutWithin-wrote outlet.Main (table_parts (tabulation_of s)) (parts_on (parts_left s.fields s.taken s.found) (walk_over (length s.packet) s.taken s.ahead)) a b (headers s.fields) (table_parts-headers s c.self.invariant) front in
-    let p = err_from_is_err_and c.from_residual.result c.from_residual.ensures.1 in
-    rw (p.1, p.2) (subst (λ (k : Tabulation). IsCutWithin outlet.Main (table_parts k) a b) c.self.view_is cut)
-
-pub returns-clause-order : goal.returns-clause-order
-returns-clause-order g c =
-    let a = g.D.Desk.meaning c.args.desk.now in
-    let b = g.D.Desk.meaning c.write_headers.new.desk in
-    let d = g.D.Desk.meaning c.drive.new.desk in
-    let s = c.self.inside.tabling in
-    let here = parts_on (parts_left s.fields s.taken s.found) (walk_over (length s.packet) s.taken s.ahead) in
-    let wrote = subst (λ (columns : List Column). Wrote a b (headers columns)) c.columns.ensures c.in_ok-write_headers.ensures.wrote in
-    let reached = ReachesParts-wrote (table_parts (tabulation_of s)) here a b (headers s.fields) (table_parts-headers s c.self.invariant) wrote in
-    subst (λ (k : Tabulation). InParts outlet.Main (table_parts k) a d (by_stop stop_by c.drive.result)) c.self.view_is
-    (InParts-after outlet.Main (table_parts (tabulation_of s)) here a b d (by_stop stop_by c.drive.result) reached (c.drive.ensures.parts here refl))

@@ -1,22 +1,18 @@
-use Rattle.std.proofs.Common.{ℕ, List, [], ◌∷◌, refl, sym, ap, ◌+◌, length, subst, ◌∙◌}
+use Rattle.std.proofs.Common.{ℕ, List, refl, ap, ◌+◌, length, subst, ◌∙◌}
 use Rattle.std.proofs.lemmas.Result.{err_from_is_err_and}
 use Rattle.desk_ports.specs.declared.desk.Outlet.TheVariants as outlet
 use Rattle.desk_ports.proofs.Steps.{AreReady-moved}
-use Rattle.desk_ports.specs.WalkWorks.{parts_on, work_on}
-use Rattle.desk_ports.proofs.WalkTurns.{Advances-on, AdvancesParts-on, AfterStop-on, Finishes-on, IsCutShort-on, IsCutShort-end-on, IsCutWithin-on, IsCutWithin-end-on, StopsWithin-on}
-use Rattle.desk_ports.specs.Turns.{Wrote}
-use Rattle.desk_ports.specs.Courses.{Outputs}
-use Rattle.desk_ports.specs.Parts.{WroteFrontBy, WroteWithin}
-use Rattle.desk_ports.proofs.Parts.{WroteFront-by, WroteWithin-one, put_all-one}
-use Rattle.desk_ports.proofs.Writings.{WritesBy-alone}
+use Rattle.desk_ports.specs.WalkWorks.{work_on}
+use Rattle.desk_ports.proofs.WalkTurns.{Advances-on, AfterStop-on, Finishes-on, IsCutShort-on, IsCutShort-end-on}
+use Rattle.desk_ports.specs.Turns.{Wrote, WroteFront}
 use Rattle.flight_chain.specs.Recordings.{walk_over}
 use Rattle.flight_chain.proofs.RecordTurns.{AfterWalk-recording, IsOver-recording, TakesItem-recording}
 use Rattle.flight_chain.specs.Compressing.{stop_by}
 use Rattle.param_table.specs.declared.rows.Column.{Column}
 use Rattle.param_table.specs.declared.tabling.Tabling.{Tabling}
-use Rattle.param_table.specs.Tabling.{Owes, left_to_tabulate, packet_texts, parts_left}
+use Rattle.param_table.specs.Tabling.{Owes, left_to_tabulate, packet_texts}
 use Rattle.param_table.specs.Texts.{packet_violations}
-use Rattle.param_table.proofs.TableCourses.{GoesOn-table, IsDone-table, Owes-next, PartsGoOn-table, last-table}
+use Rattle.param_table.proofs.TableCourses.{GoesOn-table, IsDone-table, Owes-next}
 use Rattle.param_table.proofs.tabling.TablingRun.turn.Goals as goal
 
 -- the recording is not read on
@@ -63,9 +59,9 @@ returns-in_err-self-clause-turned g c = λ work owes.
     let packet = c.read_input.new.input in
     let told = rw c.in-Some.is at c.in_ok-t.ensures in
     let goes_on = GoesOn-table s c.in-Some.t packet told.number in
-    let front = subst (λ (columns : List Column). WroteFrontBy outlet.Main b d (packet_texts columns (c.in-Some.t, packet))) c.columns-columns.ensures c.in_err-self.ensures.written.front in
+    let front = subst (λ (columns : List Column). WroteFront b d (packet_texts columns (c.in-Some.t, packet))) c.columns-columns.ensures c.in_err-self.ensures.written.front in
     let p = err_from_is_err_and c.from_residual-in_err-self.result c.from_residual-in_err-self.ensures.1 in
-    rw (p.1, p.2) (IsCutShort-on (TakesItem-recording told.taken) goes_on owes.work_is (WroteFront-by front))
+    rw (p.1, p.2) (IsCutShort-on (TakesItem-recording told.taken) goes_on owes.work_is front)
 
 pub returns-clause-turned : goal.returns-clause-turned
 returns-clause-turned g c = λ work owes.
@@ -81,51 +77,3 @@ returns-clause-turned g c = λ work owes.
     let new : Tabling = record { fields = s.fields; taken = s.taken + 1; found = s.found + c.in_ok-self.field-0; ahead = after; packet = packet; line = c.write_packet.new.line } in
     let owed = Owes-next s c.write_packet.new.line packet after c.in_ok-self.field-0 owes.right told.taken.few c.in_ok-self.ensures.few told.taken.places in
     Advances-on (TakesItem-recording told.taken) goes_on owes.work_is wrote (subst (λ (n : ℕ). Owes new (work_on (left_to_tabulate s.fields (s.taken + 1) (s.found + n)) (walk_over (length s.packet) (s.taken + 1) after))) count owed)
-
--- ---- part by part
-
-pub returns-in_err-t-clause-parts : goal.returns-in_err-t-clause-parts
-returns-in_err-t-clause-parts g c = λ parts_of owes.
-    let s = c.args.self.now in
-    let a = g.D.Desk.meaning c.args.desk.now in
-    let b = g.D.Desk.meaning c.read_input.new.desk in
-    let reason = stop_by c.in_err-t.field-0.0 in
-    let p = err_from_is_err_and c.from_residual.result c.from_residual.ensures.1 in
-    rw (p.1, p.2) (StopsWithin-on outlet.Main parts_of (walk_over (length s.packet) s.taken s.ahead) a b reason (AfterWalk-recording (length s.packet) s.taken s.ahead a b reason c.in_err-t.ensures.unread))
-
-pub returns-in_err-write_end-clause-parts : goal.returns-in_err-write_end-clause-parts
-returns-in_err-write_end-clause-parts g c = λ parts_of owes.
-    let s = c.args.self.now in
-    let b = g.D.Desk.meaning c.read_input.new.desk in
-    let d = g.D.Desk.meaning c.write_end.new.desk in
-    let told = rw c.in_default.is at c.in_ok-t.ensures in
-    let p = err_from_is_err_and c.from_residual-in_err-write_end.result c.from_residual-in_err-write_end.ensures.1 in
-    let cut = subst (λ (l : List Outputs). WroteWithin outlet.Main b d l) (sym (last-table s.fields s.taken s.found)) (WroteWithin-one (WritesBy-alone outlet.Main outlet.Report _ c.in_err-write_end.ensures).front) in
-    rw (p.1, p.2) (IsCutWithin-end-on (parts_left s.fields s.taken s.found) refl (IsOver-recording (length s.packet) s.taken told.ahead told.none told.at_end) owes cut)
-
-pub returns-in_err-self-clause-parts : goal.returns-in_err-self-clause-parts
-returns-in_err-self-clause-parts g c = λ parts_of owes.
-    let s = c.args.self.now in
-    let b = g.D.Desk.meaning c.read_input.new.desk in
-    let d = g.D.Desk.meaning c.write_packet.new.desk in
-    let packet = c.read_input.new.input in
-    let told = rw c.in-Some.is at c.in_ok-t.ensures in
-    let goes_on = PartsGoOn-table s c.in-Some.t packet told.number in
-    let front = subst (λ (columns : List Column). WroteFrontBy outlet.Main b d (packet_texts columns (c.in-Some.t, packet))) c.columns-columns.ensures c.in_err-self.ensures.written.front in
-    let p = err_from_is_err_and c.from_residual-in_err-self.result c.from_residual-in_err-self.ensures.1 in
-    rw (p.1, p.2) (IsCutWithin-on (TakesItem-recording told.taken) goes_on owes (WroteWithin-one front))
-
-pub returns-clause-parts : goal.returns-clause-parts
-returns-clause-parts g c = λ parts_of owes.
-    let s = c.args.self.now in
-    let b = g.D.Desk.meaning c.read_input.new.desk in
-    let d = g.D.Desk.meaning c.write_packet.new.desk in
-    let packet = c.read_input.new.input in
-    let after = c.read_input.new.ahead in
-    let told = rw c.in-Some.is at c.in_ok-t.ensures in
-    let goes_on = PartsGoOn-table s c.in-Some.t packet told.number in
-    let wrote = subst (λ (columns : List Column). Wrote b d (packet_texts columns (c.in-Some.t, packet))) c.columns-columns.ensures c.in_ok-self.ensures.written.wrote in
-    let count = c.in_ok-self.ensures.found ∙ ap (λ (columns : List Column). length (packet_violations columns (c.in-Some.t, packet))) c.columns-columns.ensures in
-    let part = packet_texts s.fields (c.in-Some.t, packet) in
-    let places = told.taken.places in
-    AdvancesParts-on (part ∷ []) (TakesItem-recording told.taken) goes_on owes (subst (λ (o : Outputs). Wrote b d o) (sym (put_all-one part)) wrote) (λ i. parts_on (parts_left s.fields (s.taken + 1) (s.found + sym count i)) (walk_over (sym places i) (s.taken + 1) after))

@@ -1,7 +1,7 @@
 use Rattle.std.proofs.Common.{◌∙◌}
 use Rattle.std.proofs.lemmas.Result.{IfOk-weaker}
 use Rattle.std.specs.FinMap as map
-use Rattle.desk_ports.specs.Courses.{owed}
+use Rattle.desk_ports.specs.Courses.{owed, texts_of}
 use Rattle.desk_ports.specs.Meanings.{kept_at}
 use Rattle.desk_ports.specs.MemState.{MemState}
 use Rattle.flight_chain.specs.Compressing.{compress_course}
@@ -22,7 +22,7 @@ compress-requires c = (
 pub returns : goal.returns
 returns c =
     IfOk-weaker c.compress.result
-    (λ (after : MemState). HoldsJust after (map.insert c.args.held.held store_name (owed (compress_course c.in_ok-flight.flight (kept_at c.args.held.held recording_name))).output))
+    (λ (after : MemState). HoldsJust after (map.insert c.args.held.held store_name (texts_of (owed (compress_course c.in_ok-flight.flight (kept_at c.args.held.held recording_name)))).output))
     (λ after. HoldsJust after (held_store c.args.self.seed c.args.self.packets c.args.self.f c.args.self.robust))
     (λ after is. (is.0, held-compressed c.args.self.seed c.args.self.packets c.args.self.f c.args.self.robust c.args.self.bounds c.args.held.held after.held c.in_ok-flight.flight c.requires.1 c.in_ok-flight.ensures is.1))
     c.compress.ensures

@@ -1,6 +1,6 @@
 use Rattle.std.proofs.Common.{◌≡◌, Some, ap, ◌∙◌}
 use Rattle.std.proofs.lemmas.Result.{IfOk-weaker}
-use Rattle.desk_ports.specs.Courses.{owed}
+use Rattle.desk_ports.specs.Courses.{owed, texts_of}
 use Rattle.desk_ports.specs.Meanings.{kept_at}
 use Rattle.side_tables.specs.Rows.{copies_of}
 use Rattle.packet_store.specs.Walks.{walk}
@@ -26,7 +26,7 @@ returns-clause-held c =
     let apid = ap (λ (p : PlayerState). p.apid) c.in_ok-player.ensures in
     let copies = same-copies c.args.self.seed c.args.self.packets c.in_ok-player.player.rows c.args.script.now (ap (λ (p : PlayerState). p.rows) c.in_ok-player.ensures) c.requires.script.1 in
     IfOk-weaker c.play.result
-    (λ after. HoldsJust after.0 (with_outputs c.args.held.held played_name play_name (owed (play_course (copies_of c.in_ok-player.player.rows) c.in_ok-player.player.apid (kept_at c.args.held.held store_name)))))
+    (λ after. HoldsJust after.0 (with_outputs c.args.held.held played_name play_name (texts_of (owed (play_course (copies_of c.in_ok-player.player.rows) c.in_ok-player.player.apid (kept_at c.args.held.held store_name))))))
     (λ after. HoldsJust after.0 (held_played c.args.self.seed c.args.self.packets c.args.self.f c.args.self.robust))
     (λ after is. (is.0, held-played c.args.self.seed c.args.self.packets c.args.self.f c.args.self.robust c.args.self.bounds c.args.held.held after.0.held c.in_ok-player.player c.requires.held.1 apid copies is.1))
     c.play.ensures.held

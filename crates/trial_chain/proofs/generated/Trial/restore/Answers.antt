@@ -1,6 +1,6 @@
 use Rattle.std.proofs.Common.{◌≡◌, Some, ap, ◌∙◌}
 use Rattle.std.proofs.lemmas.Result.{IfOk-weaker}
-use Rattle.desk_ports.specs.Courses.{owed}
+use Rattle.desk_ports.specs.Courses.{owed, texts_of}
 use Rattle.desk_ports.specs.Meanings.{kept_at}
 use Rattle.packet_store.specs.Walks.{walk}
 use Rattle.ground_chain.specs.Deliveries.{delivered_numbers}
@@ -23,7 +23,7 @@ restore-requires c = (
 pub returns-clause-held : goal.returns-clause-held
 returns-clause-held c =
     IfOk-weaker c.restore.result
-    (λ after. after.0.held ≡ with_outputs c.args.held.held restored_name report_name (owed (restore_course c.in_ok-restorer.restorer.places c.in_ok-restorer.restorer.apid (kept_at c.args.held.held played_name))))
+    (λ after. after.0.held ≡ with_outputs c.args.held.held restored_name report_name (texts_of (owed (restore_course c.in_ok-restorer.restorer.places c.in_ok-restorer.restorer.apid (kept_at c.args.held.held played_name)))))
     (λ after. after.0.held ≡ held_restored c.args.self.seed c.args.self.packets c.args.self.f c.args.self.robust)
     (λ after is. held-restored c.args.self.seed c.args.self.packets c.args.self.f c.args.self.robust c.args.self.bounds c.args.held.held after.0.held c.in_ok-restorer.restorer c.requires.1 c.in_ok-restorer.ensures is)
     c.restore.ensures.held
