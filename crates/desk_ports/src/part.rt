@@ -158,7 +158,10 @@ impl Part {
 
 /// The file that a link of this name points to, and the name itself if it is not a link.
 fn target_of(rt: &HostRuntime, name: &str) -> io::Result<String> {
-    let is_link = fs::symlink_metadata(rt, name).is_ok_and(|found| found.is_symlink());
+    let is_link = match fs::symlink_metadata(rt, name) {
+        Ok(found) => found.is_symlink(),
+        Err(_) => false,
+    };
     if !is_link {
         return Ok(format!(in rt.alloc(); "{name}")?);
     }

@@ -59,11 +59,10 @@ impl Progress {
 
     /// Shows how far the run is, if it is time to.
     fn tell(&mut self, rt: &HostRuntime, now: Instant) {
-        let soon = self
-            .told
-            .is_some_and(|told| now.duration_since(told).as_millis() < PAUSE);
-        if soon {
-            return;
+        if let Some(told) = self.told {
+            if now.duration_since(told).as_millis() < PAUSE {
+                return;
+            }
         }
         self.told = Some(now);
         let _ = match self.whole {

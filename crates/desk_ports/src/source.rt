@@ -86,5 +86,8 @@ fn may_wait(metadata: io::Result<Metadata>) -> bool
     ensures told { IfOk metadata (λ found. IsFalse result ↔ IsFile (file_type found)) }
     ensures untold { OnErr metadata (IsTrue result) }
 {
-    !metadata.is_ok_and(|found| found.is_file())
+    match metadata {
+        Ok(found) => !found.is_file(),
+        Err(_) => true,
+    }
 }

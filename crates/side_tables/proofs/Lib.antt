@@ -7,3 +7,4 @@ pub mod RowBounds
 pub mod StreamRows
 pub mod Claimed
 pub mod LastRows
+pub mod ClaimLists

@@ -179,7 +179,7 @@ fn visit(cells: &mut [Cell], t: u32, claim: &Claim) -> u32
 fn serves(run: RankRun, t: u32, claim: &Claim) -> bool
     ensures { result ≡ true → Serves claim.now t run }
 {
-    run.step == claim.span.step && claim.rank <= run.rank && t < run.until
+    (run.step == claim.span.step) & (claim.rank <= run.rank) & (t < run.until)
 }
 
 /// A run that serves a claim, joined with that from the next number in its steps, if that serves the claim too.

@@ -7,7 +7,6 @@ use std::test::Fail;
 
 /// The data of packets, each with its number and the answer that it must have, and what a decoder that reads
 /// them in this order shows at the end.
-#[derive(Clone, Copy)]
 struct Run<'a> {
     packets: &'a [(u64, &'a [u8], Answer)],
     last: Option<u64>,
@@ -22,18 +21,20 @@ struct Run<'a> {
 #[derive(Clone, Copy)]
 enum Answer {
     Written,
+    /// Written, and each shorter front of the data ends early.
+    Fronts,
     Unsynced(bool),
     Gap(u8, bool),
     Early(u32),
     Wrong(u32),
 }
 
-use Answer::{Early, Gap, Unsynced, Written, Wrong};
+use Answer::{Early, Fronts, Gap, Unsynced, Written, Wrong};
 
 impl Answer {
     fn result(self) -> Result<Reading, BitFault> {
         match self {
-            Written => Ok(Reading::Written),
+            Written | Fronts => Ok(Reading::Written),
             Unsynced(mask) => Ok(Reading::Unsynced { mask }),
             Gap(level, mask) => Ok(Reading::Gap { level, mask }),
             Early(bit) => Err(BitFault::EndsEarly { bit }),
@@ -66,9 +67,25 @@ fn byte(vector: &Bits) -> u8 {
     out[0]
 }
 
+/// Whether each shorter front of the data ends early.
+fn fronts_end_early(decoder: &mut Decoder, t: u64, data: &[u8]) -> bool {
+    let mut bit = 0u32;
+    for len in 0..data.len() {
+        if !answers(decoder, t, &data[..len], Early(bit)) {
+            return false;
+        }
+        bit = bit.saturating_add(8);
+    }
+    true
+}
+
 fn all_answer(decoder: &mut Decoder, packets: &[(u64, &[u8], Answer)]) -> bool {
     for &(t, data, answer) in packets {
-        if !answers(decoder, t, data, answer) {
+        let is_right = match answer {
+            Fronts => fronts_end_early(decoder, t, data),
+            _ => true,
+        };
+        if !is_right || !answers(decoder, t, data, answer) {
             return false;
         }
     }
@@ -95,256 +112,200 @@ fn passes(decoder: &mut Decoder, run: &Run<'_>) -> bool {
         && vectors(decoder) == [run.mask, run.content, run.recent]
 }
 
-/// Every front of each packet of a recording `B0 B1 B1 B3`, and the packet: mask and content, mask and content
-/// again, one extracted bit, two.
-const FRONTS: Run<'static> = Run {
-    packets: &[
-        (0, &[], Early(0)),
-        (0, &[0x85], Early(8)),
-        (0, &[0x85, 0xB8], Early(16)),
-        (0, &[0x85, 0xB8, 0xD6], Early(24)),
-        (0, &[0x85, 0xB8, 0xD6, 0x00], Written),
-        (1, &[], Early(0)),
-        (1, &[0x42], Early(8)),
-        (1, &[0x42, 0x4B], Early(16)),
-        (1, &[0x42, 0x4B, 0x8D], Early(24)),
-        (1, &[0x42, 0x4B, 0x8D, 0x62], Written),
-        (2, &[], Early(0)),
-        (2, &[0x44], Early(8)),
-        (2, &[0x44, 0xC0], Written),
-        (3, &[], Early(0)),
-        (3, &[0xC0], Early(8)),
-        (3, &[0xC0, 0x85], Early(16)),
-        (3, &[0xC0, 0x85, 0xC0], Written),
-    ],
-    last: Some(3),
-    last_mask: Some(3),
-    mask: 0x03,
-    content: 0xB3,
-    recent: 0x02,
-    level: 1,
-};
-
-/// Every front of each packet of a recording `00 01 01 01 01 01` with a new mask at 3 and 5. In the last one a place
-/// became predictable and is extracted again: its padding with a one, and a byte after it, are wrong.
-const DIRECTIONS: Run<'static> = Run {
-    packets: &[
-        (0, &[], Early(0)),
-        (0, &[0x85], Early(8)),
-        (0, &[0x85, 0xB8], Early(16)),
-        (0, &[0x85, 0xB8, 0xC0], Early(24)),
-        (0, &[0x85, 0xB8, 0xC0, 0x00], Written),
-        (1, &[], Early(0)),
-        (1, &[0x42], Early(8)),
-        (1, &[0x42, 0x4B], Early(16)),
-        (1, &[0x42, 0x4B, 0x8C], Early(24)),
-        (1, &[0x42, 0x4B, 0x8C, 0x02], Written),
-        (2, &[], Early(0)),
-        (2, &[0x44], Early(8)),
-        (2, &[0x44, 0xC0], Written),
-        (3, &[], Early(0)),
-        (3, &[0x87], Written),
-        (4, &[], Early(0)),
-        (4, &[0x8B], Written),
-        (5, &[0x47, 0xF8], Wrong(12)),
-        (5, &[0x47, 0xF0, 0x00], Wrong(16)),
-        (5, &[], Early(0)),
-        (5, &[0x47], Early(8)),
-        (5, &[0x47, 0xF0], Written),
-    ],
-    last: Some(5),
-    last_mask: Some(5),
-    mask: 0x00,
-    content: 0x01,
-    recent: 0x01,
-    level: 3,
-};
-
-/// A recording `00 01 03 03 03 03 03`, which begins with the same packets; 2 and 3 are lost. Every front of two that
-/// can't be understood, and of one that stands alone.
-const ALONE: Run<'static> = Run {
-    packets: &[
-        (0, &[0x85, 0xB8, 0xC0, 0x00], Written),
-        (1, &[0x42, 0x4B, 0x8C, 0x02], Written),
-        (4, &[], Early(0)),
-        (4, &[0x87], Gap(1, false)),
-        (4, &[0x87, 0x80], Gap(1, false)),
-        (5, &[], Early(0)),
-        (5, &[0x8B], Gap(2, false)),
-        (5, &[0x8B, 0x80], Gap(2, false)),
-        (6, &[], Early(0)),
-        (6, &[0x8D], Early(8)),
-        (6, &[0x8D, 0x60], Early(16)),
-        (6, &[0x8D, 0x60, 0x5C], Early(24)),
-        (6, &[0x8D, 0x60, 0x5C, 0x60], Early(32)),
-        (6, &[0x8D, 0x60, 0x5C, 0x60, 0x30], Written),
-    ],
-    last: Some(6),
-    last_mask: Some(6),
-    mask: 0x03,
-    content: 0x03,
-    recent: 0x00,
-    level: 3,
-};
-
-/// A count above eight, a count of 34 or more, a ninth place, a ninth place; directions without a place; neither
-/// a mask nor a content; another mask; another content; and the packet.
-const FAULTS: Run<'static> = Run {
-    packets: &[
-        (0, &[0x85, 0xB8, 0xD6, 0x00], Written),
-        (1, &[0xD0], Wrong(3)),
-        (1, &[0xE0], Wrong(2)),
-        (1, &[0x00, 0x00], Wrong(8)),
-        (1, &[0x00, 0xC0], Wrong(9)),
-        (1, &[0x43, 0x00], Wrong(8)),
-        (1, &[0x43], Early(8)),
-        (1, &[0x84, 0x00], Wrong(8)),
-        (1, &[0x42, 0x5B, 0x8D, 0x62], Wrong(11)),
-        (1, &[0x42, 0x4B, 0x8C, 0x62], Wrong(23)),
-        (1, &[0x42, 0x4B, 0x8D, 0x62], Written),
-    ],
-    last: Some(1),
-    last_mask: Some(1),
-    mask: 0x01,
-    content: 0xB1,
-    recent: 0x01,
-    level: 1,
-};
-
-/// A packet out of reach, and one whose level reaches back over it.
-const REACH: Run<'static> = Run {
-    packets: &[
-        (0, &[0x85, 0xB8, 0xD6, 0x00], Written),
-        (2, &[0x82], Gap(0, false)),
-        (3, &[0x8A], Written),
-    ],
-    last: Some(3),
-    last_mask: Some(3),
-    mask: 0x00,
-    content: 0xB0,
-    recent: 0x00,
-    level: 2,
-};
-
-/// With nothing known: a content of nine places, and a packet that doesn't stand alone.
-const UNSYNCED: Run<'static> = Run {
-    packets: &[
-        (0, &[0x85, 0xB8, 0xF6, 0x00], Wrong(18)),
-        (5, &[0x82], Unsynced(false)),
-    ],
-    last: None,
-    last_mask: None,
-    mask: 0x00,
-    content: 0x00,
-    recent: 0x00,
-    level: 0,
-};
-
-/// A recording `00 01 03 03 02 02`, of which 1 and 2 are lost. Whole content without a mask; then a mask under which the
-/// content is known.
-const CONTENT_FIRST: Run<'static> = Run {
-    packets: &[
-        (0, &[0x81, 0xB8, 0xC0, 0x00], Written),
-        (3, &[], Early(0)),
-        (3, &[0x80], Early(8)),
-        (3, &[0x80, 0xE3], Early(16)),
-        (3, &[0x80, 0xE3, 0x01], Early(24)),
-        (3, &[0x80, 0x00], Wrong(8)),
-        (3, &[0x80, 0xE3, 0x01, 0x80], Written),
-        (4, &[0x85, 0x60, 0x44], Written),
-        (5, &[0x8A, 0x80], Written),
-    ],
-    last: Some(5),
-    last_mask: Some(5),
-    mask: 0x03,
-    content: 0x02,
-    recent: 0x00,
-    level: 2,
-};
-
-/// The content of 3 leaves the mask of 0.
-const CONTENT_ALONE: Run<'static> = Run {
-    packets: &[
-        (0, &[0x81, 0xB8, 0xC0, 0x00], Written),
-        (3, &[0x80, 0xE3, 0x01, 0x80], Written),
-    ],
-    last: Some(3),
-    last_mask: Some(0),
-    mask: 0x00,
-    content: 0x03,
-    recent: 0x00,
-    level: 0,
-};
-
-/// The same recording. A mask whose extracted bits tell no content; then whole content; then extracted bits under both.
-const MASK_FIRST: Run<'static> = Run {
-    packets: &[
-        (0, &[0x81, 0xB8, 0xC0, 0x00], Written),
-        (3, &[0x81], Early(8)),
-        (3, &[0x81, 0x60], Early(16)),
-        (3, &[0x81, 0x60, 0x4D], Wrong(23)),
-        (3, &[0x81, 0x60, 0x4C, 0x00], Wrong(24)),
-        (3, &[0x81, 0x60, 0x4C], Gap(0, true)),
-        (4, &[0x84, 0x00], Wrong(8)),
-        (4, &[0x84, 0xE3, 0x01, 0x00], Written),
-        (5, &[0x8A, 0x80], Written),
-    ],
-    last: Some(5),
-    last_mask: Some(5),
-    mask: 0x03,
-    content: 0x02,
-    recent: 0x00,
-    level: 2,
-};
-
-/// The mask of 3 leaves the content of 0, with its recent changes and its level.
-const MASK_ALONE: Run<'static> = Run {
-    packets: &[
-        (0, &[0x81, 0xB8, 0xC0, 0x00], Written),
-        (3, &[0x81, 0x60, 0x4C], Gap(0, true)),
-    ],
-    last: Some(0),
-    last_mask: Some(3),
-    mask: 0x03,
-    content: 0x00,
-    recent: 0x00,
-    level: 0,
-};
-
-/// The first packet that arrives tells its mask alone. One that tells nothing is then after a gap if its mask can't be
-/// deduced; if it can, the content is missing.
-const MASK_UNSYNCED: Run<'static> = Run {
-    packets: &[
-        (5, &[0x85, 0x60, 0x45], Wrong(23)),
-        (5, &[0x85, 0x60, 0x44], Unsynced(true)),
-        (6, &[0x8A, 0x80], Unsynced(true)),
-        (9, &[0x82], Gap(0, false)),
-    ],
-    last: None,
-    last_mask: Some(6),
-    mask: 0x03,
-    content: 0x00,
-    recent: 0x00,
-    level: 0,
-};
+static RUNS: [Run<'static>; 11] = [
+    // Every front of each packet of a recording `B0 B1 B1 B3`, and the packet: mask and content, mask and content
+    // again, one extracted bit, two.
+    Run {
+        packets: &[
+            (0, &[0x85, 0xB8, 0xD6, 0x00], Fronts),
+            (1, &[0x42, 0x4B, 0x8D, 0x62], Fronts),
+            (2, &[0x44, 0xC0], Fronts),
+            (3, &[0xC0, 0x85, 0xC0], Fronts),
+        ],
+        last: Some(3),
+        last_mask: Some(3),
+        mask: 0x03,
+        content: 0xB3,
+        recent: 0x02,
+        level: 1,
+    },
+    // Every front of each packet of a recording `00 01 01 01 01 01` with a new mask at 3 and 5. In the last one a place
+    // became predictable and is extracted again: its padding with a one, and a byte after it, are wrong.
+    Run {
+        packets: &[
+            (0, &[0x85, 0xB8, 0xC0, 0x00], Fronts),
+            (1, &[0x42, 0x4B, 0x8C, 0x02], Fronts),
+            (2, &[0x44, 0xC0], Fronts),
+            (3, &[0x87], Fronts),
+            (4, &[0x8B], Fronts),
+            (5, &[0x47, 0xF8], Wrong(12)),
+            (5, &[0x47, 0xF0, 0x00], Wrong(16)),
+            (5, &[0x47, 0xF0], Fronts),
+        ],
+        last: Some(5),
+        last_mask: Some(5),
+        mask: 0x00,
+        content: 0x01,
+        recent: 0x01,
+        level: 3,
+    },
+    // A recording `00 01 03 03 03 03 03`, which begins with the same packets; 2 and 3 are lost. Every front of two that
+    // can't be understood, and of one that stands alone.
+    Run {
+        packets: &[
+            (0, &[0x85, 0xB8, 0xC0, 0x00], Written),
+            (1, &[0x42, 0x4B, 0x8C, 0x02], Written),
+            (4, &[], Early(0)),
+            (4, &[0x87], Gap(1, false)),
+            (4, &[0x87, 0x80], Gap(1, false)),
+            (5, &[], Early(0)),
+            (5, &[0x8B], Gap(2, false)),
+            (5, &[0x8B, 0x80], Gap(2, false)),
+            (6, &[0x8D, 0x60, 0x5C, 0x60, 0x30], Fronts),
+        ],
+        last: Some(6),
+        last_mask: Some(6),
+        mask: 0x03,
+        content: 0x03,
+        recent: 0x00,
+        level: 3,
+    },
+    // A count above eight, a count of 34 or more, a ninth place, a ninth place; directions without a place; neither
+    // a mask nor a content; another mask; another content; and the packet.
+    Run {
+        packets: &[
+            (0, &[0x85, 0xB8, 0xD6, 0x00], Written),
+            (1, &[0xD0], Wrong(3)),
+            (1, &[0xE0], Wrong(2)),
+            (1, &[0x00, 0x00], Wrong(8)),
+            (1, &[0x00, 0xC0], Wrong(9)),
+            (1, &[0x43, 0x00], Wrong(8)),
+            (1, &[0x43], Early(8)),
+            (1, &[0x84, 0x00], Wrong(8)),
+            (1, &[0x42, 0x5B, 0x8D, 0x62], Wrong(11)),
+            (1, &[0x42, 0x4B, 0x8C, 0x62], Wrong(23)),
+            (1, &[0x42, 0x4B, 0x8D, 0x62], Written),
+        ],
+        last: Some(1),
+        last_mask: Some(1),
+        mask: 0x01,
+        content: 0xB1,
+        recent: 0x01,
+        level: 1,
+    },
+    // A packet out of reach, and one whose level reaches back over it.
+    Run {
+        packets: &[
+            (0, &[0x85, 0xB8, 0xD6, 0x00], Written),
+            (2, &[0x82], Gap(0, false)),
+            (3, &[0x8A], Written),
+        ],
+        last: Some(3),
+        last_mask: Some(3),
+        mask: 0x00,
+        content: 0xB0,
+        recent: 0x00,
+        level: 2,
+    },
+    // With nothing known: a content of nine places, and a packet that doesn't stand alone.
+    Run {
+        packets: &[
+            (0, &[0x85, 0xB8, 0xF6, 0x00], Wrong(18)),
+            (5, &[0x82], Unsynced(false)),
+        ],
+        last: None,
+        last_mask: None,
+        mask: 0x00,
+        content: 0x00,
+        recent: 0x00,
+        level: 0,
+    },
+    // A recording `00 01 03 03 02 02`, of which 1 and 2 are lost. Whole content without a mask; then a mask under which the
+    // content is known.
+    Run {
+        packets: &[
+            (0, &[0x81, 0xB8, 0xC0, 0x00], Written),
+            (3, &[0x80, 0x00], Wrong(8)),
+            (3, &[0x80, 0xE3, 0x01, 0x80], Fronts),
+            (4, &[0x85, 0x60, 0x44], Written),
+            (5, &[0x8A, 0x80], Written),
+        ],
+        last: Some(5),
+        last_mask: Some(5),
+        mask: 0x03,
+        content: 0x02,
+        recent: 0x00,
+        level: 2,
+    },
+    // The content of 3 leaves the mask of 0.
+    Run {
+        packets: &[
+            (0, &[0x81, 0xB8, 0xC0, 0x00], Written),
+            (3, &[0x80, 0xE3, 0x01, 0x80], Written),
+        ],
+        last: Some(3),
+        last_mask: Some(0),
+        mask: 0x00,
+        content: 0x03,
+        recent: 0x00,
+        level: 0,
+    },
+    // The same recording. A mask whose extracted bits tell no content; then whole content; then extracted bits under both.
+    Run {
+        packets: &[
+            (0, &[0x81, 0xB8, 0xC0, 0x00], Written),
+            (3, &[0x81], Early(8)),
+            (3, &[0x81, 0x60], Early(16)),
+            (3, &[0x81, 0x60, 0x4D], Wrong(23)),
+            (3, &[0x81, 0x60, 0x4C, 0x00], Wrong(24)),
+            (3, &[0x81, 0x60, 0x4C], Gap(0, true)),
+            (4, &[0x84, 0x00], Wrong(8)),
+            (4, &[0x84, 0xE3, 0x01, 0x00], Written),
+            (5, &[0x8A, 0x80], Written),
+        ],
+        last: Some(5),
+        last_mask: Some(5),
+        mask: 0x03,
+        content: 0x02,
+        recent: 0x00,
+        level: 2,
+    },
+    // The mask of 3 leaves the content of 0, with its recent changes and its level.
+    Run {
+        packets: &[
+            (0, &[0x81, 0xB8, 0xC0, 0x00], Written),
+            (3, &[0x81, 0x60, 0x4C], Gap(0, true)),
+        ],
+        last: Some(0),
+        last_mask: Some(3),
+        mask: 0x03,
+        content: 0x00,
+        recent: 0x00,
+        level: 0,
+    },
+    // The first packet that arrives tells its mask alone. One that tells nothing is then after a gap if its mask can't be
+    // deduced; if it can, the content is missing.
+    Run {
+        packets: &[
+            (5, &[0x85, 0x60, 0x45], Wrong(23)),
+            (5, &[0x85, 0x60, 0x44], Unsynced(true)),
+            (6, &[0x8A, 0x80], Unsynced(true)),
+            (9, &[0x82], Gap(0, false)),
+        ],
+        last: None,
+        last_mask: Some(6),
+        mask: 0x03,
+        content: 0x00,
+        recent: 0x00,
+        level: 0,
+    },
+];
 
 #[test]
 fn worked_data(rt: HostRuntime) -> Result<(), Fail> {
-    for run in [
-        FRONTS,
-        DIRECTIONS,
-        ALONE,
-        FAULTS,
-        REACH,
-        UNSYNCED,
-        CONTENT_FIRST,
-        CONTENT_ALONE,
-        MASK_FIRST,
-        MASK_ALONE,
-        MASK_UNSYNCED,
-    ] {
+    for run in &RUNS {
         let mut decoder = Decoder::open(rt.alloc(), 8)?;
-        assert!(rt; passes(&mut decoder, &run));
+        assert!(rt; passes(&mut decoder, run));
     }
     Ok(())
 }

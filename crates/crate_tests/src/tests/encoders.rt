@@ -1,6 +1,6 @@
 //! Worked packets, through the encoder.
 
-ghost use Rattle.std.specs.Prelude.{◌≡◌, ◌+◌, ◌*◌, ◌≤◌, length};
+ghost use Rattle.std.specs.Prelude.{◌≡◌, ◌+◌, ◌*◌, length};
 
 use bit_vectors::{BitPen, Bits, Flags, NoMemory, byte_len};
 use packet_encode::{Encoder, room};
@@ -31,67 +31,70 @@ struct Sender {
     encoder: Encoder,
     input: Bits,
     pen: BitPen,
-    robust: u8,
-    is_ready: bool,
-    ghost most: { robust ≤ 7 },
     ghost room: { pen.room ≡ 10 * length input + 43 },
     ghost places: { length input ≡ length encoder.masks.mask },
 }
 
 impl Sender {
-    fn open(alloc: Global, places: u32, robust: u8, first_mask: &[u8]) -> Result<Sender, NoMemory> {
-        let places = places.clamp(1, 49_152);
-        let mut input = Bits::zeros(alloc, places)?;
-        let is_ready = first_mask.len() == byte_len(places) as usize
-            && input.load(first_mask).is_ok();
+    fn open(alloc: Global, mask: Bits) -> Result<Sender, NoMemory> {
+        let places = mask.len();
+        let pen = BitPen::with_room(alloc, room(places))?;
+        let encoder = Encoder::open(alloc, places, &mask)?;
         Ok(Sender {
-            encoder: Encoder::open(alloc, places, &input)?,
-            input,
-            pen: BitPen::with_room(alloc, room(places))?,
-            robust: robust.min(7),
-            is_ready,
+            encoder,
+            input: mask,
+            pen,
         })
     }
 
     // Encodes the next input, and tells whether that may be asked.
-    fn encodes(&mut self, input: &[u8], flags: Flags) -> bool {
-        if !self.is_ready
-            || self.encoder.taken() >= 4_294_967_296
-            || input.len() != byte_len(self.input.len()) as usize
-            || self.input.load(input).is_err()
-        {
+    fn encodes(&mut self, input: &[u8], flags: Flags, robust: u8) -> bool {
+        if self.encoder.taken() >= 4_294_967_296 || !is_loaded(&mut self.input, input) {
             return false;
         }
         self.pen.clear();
         self.encoder
-            .encode(&self.input, flags, self.robust, &mut self.pen);
+            .encode(&self.input, flags, robust.min(7), &mut self.pen);
         true
     }
 
     // Whether the packet of the next input has these bytes.
-    fn packs(&mut self, (input, flags, data): Packet<'_>) -> bool {
-        self.encodes(input, flags) && self.pen.bytes() == data
+    fn packs(&mut self, robust: u8, &(input, flags, data): &Packet) -> bool {
+        self.encodes(input, flags, robust) && self.pen.bytes() == data
     }
 
-    // How many bytes it has.
-    fn size_of_next(&mut self, input: &[u8], flags: Flags) -> Option<usize> {
-        if self.encodes(input, flags) {
-            Some(self.pen.bytes().len())
-        } else {
-            None
-        }
+    // Whether it has so many bytes.
+    fn has_size(&mut self, input: &[u8], flags: Flags, size: usize) -> bool {
+        self.encodes(input, flags, 0) && self.pen.bytes().len() == size
+    }
+}
+
+// Whether the bytes are a vector of these places, which then has them.
+fn is_loaded(vector: &mut Bits, bytes: &[u8]) -> bool
+    ensures { length vector.new ≡ length vector.old }
+{
+    bytes.len() == byte_len(vector.len()) as usize && vector.load(bytes).is_ok()
+}
+
+// A vector of so many places from its bytes.
+fn vector(alloc: Global, places: u32, bytes: &[u8]) -> Result<Bits, NoMemory> {
+    let mut vector = Bits::zeros(alloc, places.clamp(1, 49_152))?;
+    if is_loaded(&mut vector, bytes) {
+        Ok(vector)
+    } else {
+        Err(NoMemory)
     }
 }
 
 // An input, its flags, and the bytes of its packet.
-type Packet<'a> = (&'a [u8], Flags, &'a [u8]);
+type Packet = (&'static [u8], Flags, &'static [u8]);
 
 // The packets of an encoder from its first on.
 struct History {
     places: u32,
     robust: u8,
     first_mask: &'static [u8],
-    packets: &'static [Packet<'static>],
+    packets: &'static [Packet],
 }
 
 static HISTORIES: [History; 8] = [
@@ -210,49 +213,45 @@ static HISTORIES: [History; 8] = [
     },
 ];
 
-// How many packets have their bytes, up to the first that has others.
-fn right_packets(sender: &mut Sender, packets: &[Packet<'_>]) -> usize {
-    for (count, packet) in packets.iter().enumerate() {
-        if !sender.packs(*packet) {
-            return count;
+// Whether all packets have their bytes.
+fn all_pack(sender: &mut Sender, robust: u8, packets: &[Packet]) -> bool {
+    for packet in packets {
+        if !sender.packs(robust, packet) {
+            return false;
         }
     }
-    packets.len()
+    true
 }
 
-fn right_of(alloc: Global, history: &History) -> Result<usize, NoMemory> {
-    let (places, robust) = (history.places, history.robust);
-    let mut sender = Sender::open(alloc, places, robust, history.first_mask)?;
-    Ok(right_packets(&mut sender, history.packets))
+fn is_right(alloc: Global, history: &History) -> Result<bool, NoMemory> {
+    let mask = vector(alloc, history.places, history.first_mask)?;
+    let mut sender = Sender::open(alloc, mask)?;
+    Ok(all_pack(&mut sender, history.robust, history.packets))
 }
 
 #[test]
 fn worked_packets(rt: HostRuntime) -> Result<(), Fail> {
     for history in &HISTORIES {
-        let right = right_of(rt.alloc(), history)?;
-        assert_eq!(rt; right, history.packets.len());
+        assert!(rt; is_right(rt.alloc(), history)?);
     }
     Ok(())
 }
 
 // The longest vectors: a packet of zeros, and one in which every second place has moved.
-fn longest_sizes(sender: &mut Sender, zeros: &[u8], moved: &[u8]) -> [Option<usize>; 2] {
-    [
-        sender.size_of_next(zeros, NONE),
-        sender.size_of_next(moved, WHOLE),
-    ]
+fn have_sizes(sender: &mut Sender, zeros: &[u8], moved: &[u8]) -> bool {
+    sender.has_size(zeros, NONE, 6_149) && sender.has_size(moved, WHOLE, 36_870)
 }
 
-fn longest(alloc: Global, zeros: &[u8], moved: &[u8]) -> Result<[Option<usize>; 2], NoMemory> {
-    let mut sender = Sender::open(alloc, 49_152, 0, zeros)?;
-    Ok(longest_sizes(&mut sender, zeros, moved))
+fn longest_are_right(alloc: Global, zeros: &[u8], moved: &[u8]) -> Result<bool, NoMemory> {
+    let mask = vector(alloc, 49_152, zeros)?;
+    let mut sender = Sender::open(alloc, mask)?;
+    Ok(have_sizes(&mut sender, zeros, moved))
 }
 
 #[test]
 fn longest_vectors(rt: HostRuntime) -> Result<(), Fail> {
     let zeros = vec![in rt.alloc(); 0; 6_144]?;
     let moved = vec![in rt.alloc(); 0xAA; 6_144]?;
-    let sizes = longest(rt.alloc(), &zeros, &moved)?;
-    assert_eq!(rt; sizes, [Some(6_149), Some(36_870)]);
+    assert!(rt; longest_are_right(rt.alloc(), &zeros, &moved)?);
     Ok(())
 }

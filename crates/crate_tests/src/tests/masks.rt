@@ -5,28 +5,18 @@ use mask_update::Masks;
 use std::alloc::Global;
 use std::test::Fail;
 
-// The last bits of a step's input and of mask, build and change after it, and whether the input came again. All other
-// bits are 0.
-#[derive(Clone, Copy)]
-struct Row {
-    input: bool,
-    new_mask: bool,
-    mask: bool,
-    build: bool,
-    change: bool,
-    again: bool,
-}
+/// The last bit of a step's input, whether it starts a new mask, the last bits of mask, build and change after it, and whether
+/// the input came again. All other bits are 0.
+type Row = (bool, bool, bool, bool, bool, bool);
 
-const fn step_row(input: bool, new_mask: bool, [mask, build, change, again]: [bool; 4]) -> Row {
-    Row {
-        input,
-        new_mask,
-        mask,
-        build,
-        change,
-        again,
-    }
-}
+static ROWS: [Row; 6] = [
+    (false, false, false, false, false, false),
+    (true, false, true, true, true, false),
+    (true, false, true, true, false, true),
+    (true, true, true, false, false, false),
+    (true, false, true, false, false, true),
+    (true, true, false, false, true, false),
+];
 
 fn is_last_alone(vector: &Bits, bit: bool) -> bool {
     vector.ones() == u32::from(bit) && vector.get(vector.len() - 1) == bit
@@ -40,25 +30,18 @@ fn take(masks: &mut Masks, input: &Bits, new_mask: bool) {
 }
 
 // Whether the vectors after the row's step are those of the row.
-fn follow(masks: &mut Masks, zeros: &Bits, last: &Bits, row: Row) -> bool {
-    take(masks, if row.input { last } else { zeros }, row.new_mask);
-    is_last_alone(masks.mask(), row.mask)
-        && is_last_alone(masks.build(), row.build)
-        && is_last_alone(masks.change(), row.change)
-        && masks.is_still() != row.change
-        && masks.is_again() == row.again
+fn follow(masks: &mut Masks, zeros: &Bits, last: &Bits, row: &Row) -> bool {
+    let &(input, new_mask, mask, build, change, again) = row;
+    take(masks, if input { last } else { zeros }, new_mask);
+    is_last_alone(masks.mask(), mask)
+        && is_last_alone(masks.build(), build)
+        && is_last_alone(masks.change(), change)
+        && masks.is_still() != change
+        && masks.is_again() == again
 }
 
 fn run(masks: &mut Masks, zeros: &Bits, last: &Bits) -> bool {
-    let rows = [
-        step_row(false, false, [false, false, false, false]),
-        step_row(true, false, [true, true, true, false]),
-        step_row(true, false, [true, true, false, true]),
-        step_row(true, true, [true, false, false, false]),
-        step_row(true, false, [true, false, false, true]),
-        step_row(true, true, [false, false, true, false]),
-    ];
-    for row in rows {
+    for row in &ROWS {
         if !follow(masks, zeros, last, row) {
             return false;
         }
@@ -78,7 +61,7 @@ fn follow_all(alloc: Global, f: u32) -> Result<bool, NoMemory> {
 
 #[test]
 fn worked_history(rt: HostRuntime) -> Result<(), Fail> {
-    for f in [1, 8, 13, 65] {
+    for &f in &[1, 8, 13, 65] {
         assert!(rt; follow_all(rt.alloc(), f)?, "{f}");
     }
     Ok(())

@@ -1,29 +1,45 @@
 //! Each call that allocates, with ample memory, and the texts of the faults. Zeros are put one by one before the
 //! numbers that cross words, so that `put` is tried at each place too.
 
-ghost use Rattle.std.specs.Prelude.{◌<◌, ◌≤◌};
+ghost use Rattle.std.specs.Prelude.{◌≡◌, ◌<◌, ◌≤◌, length};
 
 use bit_vectors::{BitEye, BitFault, BitPen, Bits, NoMemory, SpareBit, byte_len};
 use std::alloc::Global;
 use std::test::Fail;
 
+/// What is answered to bytes, if they are as many as the vector's.
+fn load(vector: &mut Bits, bytes: &[u8]) -> Result<(), SpareBit>
+    ensures { length vector.new ≡ length vector.old }
+{
+    if bytes.len() == byte_len(vector.len()) as usize {
+        vector.load(bytes)
+    } else {
+        Err(SpareBit)
+    }
+}
+
+/// Whether thirteen places are loaded, found, put and taken, and a spare bit is refused.
+fn thirteen_places_are_right(alloc: Global) -> Result<bool, NoMemory> {
+    let mut vector = Bits::zeros(alloc, 13)?;
+    let mut pen = BitPen::with_room(alloc, 13)?;
+    let is_zero = vector.is_zero();
+    let is_loaded = load(&mut vector, &[0x12, 0x38]) == Ok(());
+    if vector.len() != 13 {
+        return Ok(false);
+    }
+    let are_found = vector.next_one_down(13) == Some(12) && vector.next_one_down(10) == Some(6);
+    let is_refused = load(&mut vector, &[0x12, 0x3c]) == Err(SpareBit);
+    pen.put_bits(&vector);
+    let is_put = pen.bytes() == [0x12, 0x38].as_slice();
+    let early = Err(BitFault::EndsEarly { bit: 8 });
+    let is_early = BitEye::new(&[0xff]).take_bits(&mut vector) == early;
+    let stands = vector.next_one_up(8) == Some(10);
+    Ok(is_zero && is_loaded && are_found && is_refused && is_put && is_early && stands)
+}
+
 #[test]
 fn vector_of_thirteen_places(rt: HostRuntime) -> Result<(), Fail> {
-    let mut vector = Bits::zeros(rt.alloc(), 13)?;
-    assert!(rt; vector.is_zero());
-    vector.load(&[0x12, 0x38])?;
-    assert_eq!(rt; vector.next_one_down(13), Some(12));
-    assert_eq!(rt; vector.next_one_down(10), Some(6));
-    assert_eq!(rt; vector.load(&[0x12, 0x3c]), Err(SpareBit));
-    let mut pen = BitPen::with_room(rt.alloc(), 13)?;
-    pen.put_bits(&vector);
-    assert_eq!(rt; pen.bytes(), [0x12, 0x38].as_slice());
-    let mut eye = BitEye::new(&[0xff]);
-    assert_eq!(rt;
-        eye.take_bits(&mut vector),
-        Err(BitFault::EndsEarly { bit: 8 })
-    );
-    assert_eq!(rt; vector.next_one_up(8), Some(10));
+    assert!(rt; thirteen_places_are_right(rt.alloc())?);
     Ok(())
 }
 
@@ -58,6 +74,15 @@ fn finds_its_last_place(alloc: Global, places: u32) -> Result<bool, NoMemory>
     Ok(up & down & word & (vector.ones() == 1))
 }
 
+/// Whether a vector that is stored is given back by its bytes.
+fn is_given_back(alloc: Global, vector: &Bits, into: &mut Bits) -> Result<bool, NoMemory>
+    requires { length into.old ≡ length vector.now }
+{
+    let mut bytes = vec![in alloc; 0; byte_len(vector.len()) as usize]?;
+    vector.store(&mut bytes);
+    Ok(into.load(&bytes).is_ok() && into.same(vector))
+}
+
 /// Two vectors of the given number of places combined, and one of them stored and loaded again.
 fn puts_together(alloc: Global, places: u32) -> Result<bool, NoMemory>
     requires some { 1 < places }
@@ -74,9 +99,7 @@ fn puts_together(alloc: Global, places: u32) -> Result<bool, NoMemory>
     let joined = vector.same(&both);
     vector.drop_in(&both);
     let none = vector.is_zero();
-    let mut bytes = vec![in alloc; 0; byte_len(places) as usize]?;
-    both.store(&mut bytes);
-    let loaded = vector.load(&bytes).is_ok() & vector.same(&both);
+    let loaded = is_given_back(alloc, &both, &mut vector)?;
     vector.clear();
     Ok(first & joined & none & loaded & vector.is_zero())
 }
@@ -166,20 +189,9 @@ fn numbers_across_words(rt: HostRuntime) -> Result<(), Fail> {
 
 #[test]
 fn texts_of_faults(rt: HostRuntime) -> Result<(), Fail> {
-    let texts = [
-        format!(in rt.alloc(); "{}", NoMemory)?,
-        format!(in rt.alloc(); "{}", SpareBit)?,
-        format!(in rt.alloc(); "{}", BitFault::Wrong { bit: 9 })?,
-        format!(in rt.alloc(); "{}", BitFault::EndsEarly { bit: 16 })?,
-    ];
-    let expected = [
-        "out of memory",
-        "a spare bit is set",
-        "bit 9 is wrong",
-        "the bits end early at 16",
-    ];
-    for (text, wanted) in texts.iter().zip(expected) {
-        assert_eq!(rt; text.as_str(), wanted);
-    }
+    let (wrong, early) = (BitFault::Wrong { bit: 9 }, BitFault::EndsEarly { bit: 16 });
+    let text = format!(in rt.alloc(); "{NoMemory}; {SpareBit}; {wrong}; {early}")?;
+    let wanted = "out of memory; a spare bit is set; bit 9 is wrong; the bits end early at 16";
+    assert_eq!(rt; text.as_str(), wanted);
     Ok(())
 }

@@ -1,9 +1,10 @@
 //! The window over worked histories.
 
-ghost use Rattle.std.specs.Prelude.{◌<◌, ◌≤◌};
+ghost use Rattle.std.specs.Prelude.{◌≡◌, ◌<◌, ◌≤◌, length, replicate, false};
 
-use bit_vectors::Bits;
+use bit_vectors::{Bits, NoMemory};
 use robust_window::Window;
+use std::alloc::Global;
 use std::test::Fail;
 
 /// Whether these are the recent changes, and this is the level.
@@ -33,24 +34,40 @@ fn are_past(window: &Window, one: &Bits, other: &Bits) -> bool
         && is_past(window, 5, other)
 }
 
-#[test]
-fn worked_history(rt: HostRuntime) -> Result<(), Fail> {
-    let none = Bits::zeros(rt.alloc(), 8)?;
-    let mut last = Bits::zeros(rt.alloc(), 8)?;
-    last.set(7, true);
-    let mut window = Window::open(rt.alloc(), 8)?;
-    window.step(&none, false, 1);
-    window.step(&last, false, 1);
-    window.step(&none, false, 1);
-    window.step(&none, true, 1);
+/// Six steps: the last place changes twice, and the last two are new masks.
+fn take_six(window: &mut Window, none: &Bits, last: &Bits)
+    requires taken { window.old.taken ≡ 0 }
+    requires none { none.now ≡ replicate 8 false }
+    requires places { length last.now ≡ 8 }
+    requires width { length window.old.recent ≡ 8 }
+    ensures taken { window.new.taken ≡ 6 }
+    ensures places { length window.new.recent ≡ 8 }
+{
+    window.step(none, false, 1);
+    window.step(last, false, 1);
+    window.step(none, false, 1);
+    window.step(none, true, 1);
     window.step_still(false, 1);
-    window.step(&last, true, 1);
-    assert!(rt; is_recent(&window, &last, 3) && window.twice());
-    assert!(rt; are_past(&window, &last, &none));
+    window.step(last, true, 1);
+}
+
+fn history_is_right(alloc: Global) -> Result<bool, NoMemory> {
+    let none = Bits::zeros(alloc, 8)?;
+    let mut last = Bits::zeros(alloc, 8)?;
+    last.set(7, true);
+    let mut window = Window::open(alloc, 8)?;
+    take_six(&mut window, &none, &last);
+    let is_first = is_recent(&window, &last, 3) && window.twice();
+    let is_followed = are_past(&window, &last, &none);
     // The same changes are recent if more is required, also those that were not recent before.
     window.step_still(false, 0);
-    assert!(rt; is_recent(&window, &none, 0));
+    let is_quiet = is_recent(&window, &none, 0);
     window.step(&none, false, 2);
-    assert!(rt; is_recent(&window, &last, 5));
+    Ok(is_first && is_followed && is_quiet && is_recent(&window, &last, 5))
+}
+
+#[test]
+fn worked_history(rt: HostRuntime) -> Result<(), Fail> {
+    assert!(rt; history_is_right(rt.alloc())?);
     Ok(())
 }
