@@ -15,8 +15,8 @@ TRAITS = {"Abort", "IsTerminal", "MetadataExt", "Read", "TableRow", "Write"}
 DEFINED = re.compile(r"(?:abbrev |unfoldable )?pub (?:record |data )?([A-Za-z][\w-]*) ?(?:[:({]|$)")
 # What several crates say in the same sense, each of its own type, chain or surface.
 OF_EACH = set("""
-    Advances AfterUnread AreColumns AreJudged HasTakenNothing IsNearNext IsUnread IsWithinLimits Owes OwesParts StandsFor Stops Waits
-    all_numbers arrival_of arrival_parts end_row ending_at first_mask header_row last_rows nothing_read numbered_from parts_left rest_work
+    Advances AfterUnread AreColumns AreJudged HasTakenNothing IsNearNext IsUnread IsWithinLimits Owes StandsFor Stops Waits
+    all_numbers arrival_of end_row ending_at first_mask header_row last_rows nothing_read numbered_from rest_work
     stop_by stop_of stopped_at walk_over walked worked
 """.split())
 

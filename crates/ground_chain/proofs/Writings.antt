@@ -42,3 +42,10 @@ texts-around {X = X} rows content first last xs =
     let output = contents ∙ ((λ i. (bytes_for-other outlet.Main first i ++ flat_map content xs) ++ bytes_for-other outlet.Main last i) ∙ append-nil (flat_map content xs)) in
     let report = all_rows ∙ λ i. (bytes_for-own outlet.Report first i ++ flat_map rows xs) ++ bytes_for-own outlet.Report last i in
     λ i. record { output = output i; report = report i }
+
+-- the same without last rows
+pub texts-before : {X : Type 0} (rows content : X → List ℕ) (first : List ℕ) (xs : List X)
+    → texts_of (to_report first ++ flat_map (λ x. to_report (rows x) ++ to_output (content x)) xs) ≡ record { output = flat_map content xs; report = first ++ flat_map rows xs }
+texts-before rows content first xs =
+    ap texts_of (sym (append-nil (to_report first ++ flat_map (λ x. to_report (rows x) ++ to_output (content x)) xs)))
+    ∙ (texts-around rows content first [] xs ∙ λ i. record { output = flat_map content xs; report = append-nil (first ++ flat_map rows xs) i })

@@ -119,9 +119,15 @@ pub fn row_numbers_are_small()
         → All (λ judged. HasRowNumbers judged.verdict) (run f arrivals) }
 {}
 
-/// What a whole store owes is the restored packets and the report of the run over its packets of the chosen APID, and as
-/// a listing that of the same run.
+/// What a store owes before its end is what its run over the packets of the chosen APID writes and lists. What a whole store
+/// owes is the restored packets and the report of that run, and as a listing that of the same run.
 pub fn whole_stores_owe_their_run()
+    ensures before { (f apid : ℕ) (store : List ℕ) →
+        texts_of (restore_course f apid store).before
+        ≡ record {
+          output = run_bytes (store_run f apid store);
+          report = header_row ++ run_rows (store_run f apid store);
+        } }
     ensures restored { (f apid : ℕ) (store : List ℕ) → (walk (Some apid) store).ending ≡ None →
         texts_of (owed (restore_course f apid store))
         ≡ record {

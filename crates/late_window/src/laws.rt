@@ -10,11 +10,11 @@ ghost use Rattle.ground_chain.specs.Deliveries.{arrival_at, history_arrivals, re
 ghost use Rattle.ground_chain.specs.Run.{Arrival};
 ghost use Rattle.ground_chain.specs.Worked.{four_packets, lost_between};
 ghost use Rattle.late_window.specs.Deliveries.{IsLateDelivery};
-ghost use Rattle.ground_chain.specs.Report.{header_row, run_bytes, run_report};
+ghost use Rattle.ground_chain.specs.Report.{header_row, run_bytes, run_report, run_rows};
 ghost use Rattle.late_window.specs.Numbers.{IsNear, Numbered, near_number, numbered};
 ghost use Rattle.late_window.specs.Order.{IsSorting, AreWithinWindow, arrival_of, in_order, kept, late_count, ordered, sorted};
 ghost use Rattle.late_window.specs.Lines.{empty_line, given_from, late_from, line_after};
-ghost use Rattle.late_window.specs.Restoring.{late_course, late_done, ordered_run, store_arrivals};
+ghost use Rattle.late_window.specs.Restoring.{judged_before, late_course, late_done, ordered_run, store_arrivals};
 ghost use Rattle.late_window.specs.Rows.{late_row};
 ghost use Rattle.late_window.specs.Worked.{swapped};
 
@@ -57,10 +57,16 @@ pub fn within_the_window_all_are_kept()
         → ordered window arrivals ≡ map arrival_of (sorted (numbered arrivals)) }
 {}
 
-/// What a whole store owes is the restored packets and the report of the run over its arrivals in order, and then the row of
+/// What a store owes before its end is what the run over its arrivals in order writes and lists of all but the last ones, as
+/// many as the window is large. What a whole store owes is the restored packets and the report of that run, and then the row of
 /// those that are too late.
 pub fn whole_stores_owe_their_order()
-    ensures { (f apid window : ℕ) (store : List ℕ) → (walk (Some apid) store).ending ≡ None →
+    ensures before { (f apid window : ℕ) (store : List ℕ) →
+        let judged = ordered_run f apid window store in
+        let early = take (judged_before window judged) judged in
+        texts_of (late_course f apid window store).before
+        ≡ record { output = run_bytes early; report = header_row ++ run_rows early } }
+    ensures whole { (f apid window : ℕ) (store : List ℕ) → (walk (Some apid) store).ending ≡ None →
         texts_of (owed (late_course f apid window store))
         ≡ record {
           output = run_bytes (ordered_run f apid window store);

@@ -53,8 +53,8 @@ impl LateRestorer {
     /// Restores the store, and tells the numbers of its run. It takes no memory.
     pub fn restore<D: Desk>(self, desk: &mut D) -> Result<LateDone, RestoreFault>
         requires { IsReadyRun (D.meaning desk.old) }
-        // What stands after each answer is what the store owes, all of it or up to where its walk or the desk ends it; the
-        // numbers are those of the run over the same store, whatever the desk tells.
+        // What stands after each answer is what the store owes, in its order, all of it or up to where its walk or the desk
+        // ends it; the numbers are those of the run over the same store, whatever the desk tells.
         ensures ran { AfterRun (late_work self.places self.apid self.window) (D.meaning desk.old)
             (D.meaning desk.new) (by_stop stop_by result) }
         ensures cause { HasCause (D.counts desk.old) (D.counts desk.new) (by_stop stop_by result) }

@@ -22,7 +22,7 @@ use Rattle.multi_ground.proofs.StreamsApart.{apart_from}
 use Rattle.multi_ground.proofs.WellJudged.{IsWellJudged, all_well}
 
 -- what a whole store owes
-owed-whole : (streams : List StreamRow) (store : List ℕ) → (walk None store).ending ≡ None → texts_of (owed (multi_course streams store)) ≡ record { output = flat_map written_packet (multi_run streams (walk None store).packets); report = multi_report streams (walk None store).packets }
+pub owed-whole : (streams : List StreamRow) (store : List ℕ) → (walk None store).ending ≡ None → texts_of (owed (multi_course streams store)) ≡ record { output = flat_map written_packet (multi_run streams (walk None store).packets); report = multi_report streams (walk None store).packets }
 owed-whole streams store whole =
     let course = multi_course streams store in
     let packets = (walk None store).packets in

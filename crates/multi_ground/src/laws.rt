@@ -16,7 +16,7 @@ ghost use Rattle.ground_chain.specs.Deliveries.{history_arrivals, report_text, r
 ghost use Rattle.ground_chain.specs.Report.{end_row, header_row, restored_of, run_bytes, run_rows};
 ghost use Rattle.ground_chain.specs.Run.{run};
 ghost use Rattle.multi_ground.specs.Apart.{HasStream, arrivals_on, contents_on, judged_with, multi_report, packets_from, rows_on};
-ghost use Rattle.multi_ground.specs.MultiOutputs.{multi_course, multi_header, multi_work, written_packet};
+ghost use Rattle.multi_ground.specs.MultiOutputs.{multi_course, multi_header, multi_work, tagged_rows, written_packet};
 ghost use Rattle.multi_ground.specs.MultiRun.{multi_run, stream_arrivals};
 ghost use Rattle.multi_ground.specs.Worked.{two_streams, two_stream_store};
 
@@ -64,8 +64,23 @@ pub fn rows_are_apart()
         ≡ run_rows judged ++ end_row (restored_of judged) }
 {}
 
-/// What a whole store owes is a store of Space Packets again, and a report, which have each stream by itself.
+/// What a store owes before its end is the Space Packets of its written arrivals and, after the header, the rows of all. What a
+/// whole store owes is these packets, a store again, and the report with its last rows, which have each stream by itself.
 pub fn whole_stores_owe_each_stream()
+    ensures before { (streams : List StreamRow) (store : List ℕ) →
+        let judged = multi_run streams (walk None store).packets in
+        texts_of (multi_course streams store).before
+        ≡ record {
+          output = flat_map written_packet judged;
+          report = multi_header ++ flat_map tagged_rows judged;
+        } }
+    ensures texts { (streams : List StreamRow) (store : List ℕ) → (walk None store).ending ≡ None →
+        let packets = (walk None store).packets in
+        texts_of (owed (multi_course streams store))
+        ≡ record {
+          output = flat_map written_packet (multi_run streams packets);
+          report = multi_report streams packets;
+        } }
     ensures whole { (streams : List StreamRow) (store : List ℕ) → AreStreams streams
         → All (λ b. b < 256) store → (walk None store).ending ≡ None
         → (walk None (texts_of (owed (multi_course streams store))).output).ending ≡ None }

@@ -49,7 +49,8 @@ impl MultiRestorer {
     /// Restores the streams of the store, and tells how many packets were written. It takes no memory.
     pub fn restore<D: Desk>(self, desk: &mut D) -> Result<u64, RestoreFault>
         requires { IsReadyRun (D.meaning desk.old) }
-        // What stands after each answer is what the store owes, all of it or up to where its walk or the desk ends it.
+        // What stands after each answer is what the store owes, in its order, all of it or up to where its walk or the desk
+        // ends it.
         ensures ran { AfterRun (multi_work self) (D.meaning desk.old) (D.meaning desk.new)
             (by_stop stop_by result) }
         ensures cause { HasCause (D.counts desk.old) (D.counts desk.new) (by_stop stop_by result) }

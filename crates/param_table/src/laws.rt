@@ -5,7 +5,7 @@ ghost use Rattle.desk_ports.specs.Courses.{AreFronts, owed, texts_of};
 ghost use Rattle.flight_chain.specs.Recordings.{recording_of, recording_walk};
 ghost use Rattle.param_table.specs.Cells.{cell_in, first_bit, number_in, signed_if, sum_by_weight};
 ghost use Rattle.param_table.specs.Grammar.{bad_text_row, text_columns};
-ghost use Rattle.param_table.specs.Texts.{limit_text, table_text};
+ghost use Rattle.param_table.specs.Texts.{header_row, limit_text, table_text, violation_rows, violations};
 ghost use Rattle.param_table.specs.Tabling.{Tabulation, table_course};
 ghost use Rattle.param_table.specs.Worked.{worked_columns, worked_packets};
 
@@ -19,9 +19,17 @@ pub fn numbers_are_sums()
         ≡ signed_if signed (first_bit v place) width (sum_by_weight v place width) }
 {}
 
-/// What a whole recording owes is the table of its packets, and the report of the values out of their limits.
+/// What a recording owes before its end is the table of its packets, and the rows of the values out of their limits. What a
+/// whole recording owes is this table, and the report with its last row.
 pub fn whole_recordings_owe_their_texts()
-    ensures { (k : Tabulation) (packets : List (List Bool)) → 1 ≤ k.places
+    ensures before { (k : Tabulation) (recording : List ℕ) →
+        let packets = (recording_walk k.places recording).inputs in
+        texts_of (table_course k recording).before
+        ≡ record {
+          output = table_text k.columns packets;
+          report = header_row ++ violation_rows (violations k.columns 0 packets);
+        } }
+    ensures whole { (k : Tabulation) (packets : List (List Bool)) → 1 ≤ k.places
         → All (λ packet. length packet ≡ k.places) packets → length packets ≤ 4294967296 →
         texts_of (owed (table_course k (recording_of packets)))
         ≡ record { output = table_text k.columns packets; report = limit_text k.columns packets } }
