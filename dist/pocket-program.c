@@ -93196,8 +93196,8 @@ static void code_f100(uint8_t *const m, const u32 last, u64 p0, u64 p1, u64 p2) 
 static void code_f101(uint8_t *const m, const u32 last, u64 p0, u64 p1, u64 p2, u64 p3, u32 p4) {
   u32 l11 = 0, l12 = 0, l13 = 0, l14 = 0, l15 = 0, l16 = 0, l17 = 0;
   u64 l5 = 0, l6 = 0, l7 = 0, l8 = 0, l9 = 0, l10 = 0;
-  u32 i0, i1, i2, i3, i4;
-  u64 j0, j1, j2, j3, j4, j5;
+  u32 i0, i1, i2, i3, i4, i5;
+  u64 j0, j1, j2, j3, j4, j5, j6;
   uint8_t *a0, *a1, *a2, *a3, *a4, *a5, *a6, *a7;
   j0 = p1;
   i0 = !(j0);
@@ -93252,7 +93252,7 @@ static void code_f101(uint8_t *const m, const u32 last, u64 p0, u64 p1, u64 p2, 
   if (i0) {goto B4;}
   j0 = 0ull;
   l7 = j0;
-  L5:
+  L6:
     j0 = p2;
     j1 = l7;
     j2 = 24ull;
@@ -93265,7 +93265,7 @@ static void code_f101(uint8_t *const m, const u32 last, u64 p0, u64 p1, u64 p2, 
     i64_load(j0, i0, 0);
     l6 = j0;
     i0 = !(j0);
-    if (i0) {goto B6;}
+    if (i0) {goto B7;}
     j0 = l5;
     j1 = 4ull;
     j0 += j1;
@@ -93283,7 +93283,7 @@ static void code_f101(uint8_t *const m, const u32 last, u64 p0, u64 p1, u64 p2, 
     i3 = i3 > i4;
     i1 = i3 ? i1 : i2;
     i0 = i0 < i1;
-    if (i0) {goto B6;}
+    if (i0) {goto B7;}
     j0 = l5;
     j1 = 8ull;
     j0 += j1;
@@ -93293,7 +93293,7 @@ static void code_f101(uint8_t *const m, const u32 last, u64 p0, u64 p1, u64 p2, 
     i0 = p4;
     i1 = l13;
     i0 = i0 <= i1;
-    if (i0) {goto B9;}
+    if (i0) {goto B10;}
     i0 = l14;
     i0 = !(i0);
     if (i0) {goto B3;}
@@ -93306,7 +93306,7 @@ static void code_f101(uint8_t *const m, const u32 last, u64 p0, u64 p1, u64 p2, 
     rem_u(i0, i0, i1);
     l13 = i0;
     i0 = !(i0);
-    if (i0) {goto B10;}
+    if (i0) {goto B11;}
     i0 = l12;
     i1 = p4;
     i0 -= i1;
@@ -93315,12 +93315,12 @@ static void code_f101(uint8_t *const m, const u32 last, u64 p0, u64 p1, u64 p2, 
     i1 -= i2;
     l13 = i1;
     i0 = i0 < i1;
-    if (i0) {goto B6;}
+    if (i0) {goto B7;}
     i0 = l13;
     i1 = p4;
     i0 += i1;
     l15 = i0;
-    B10:;
+    B11:;
     i0 = l12;
     i1 = p4;
     i0 -= i1;
@@ -93329,8 +93329,8 @@ static void code_f101(uint8_t *const m, const u32 last, u64 p0, u64 p1, u64 p2, 
     i1 = p4;
     i0 -= i1;
     l12 = i0;
-    goto B8;
-    B9:;
+    goto B9;
+    B10:;
     i0 = l12;
     i1 = p4;
     i0 -= i1;
@@ -93341,11 +93341,11 @@ static void code_f101(uint8_t *const m, const u32 last, u64 p0, u64 p1, u64 p2, 
     l12 = i0;
     i0 = l14;
     i0 = !(i0);
-    if (i0) {goto B7;}
-    B8:;
+    if (i0) {goto B8;}
+    B9:;
     i0 = 0u;
     l13 = i0;
-    L11:
+    L12:
       i0 = l16;
       i1 = l12;
       i2 = l13;
@@ -93354,17 +93354,17 @@ static void code_f101(uint8_t *const m, const u32 last, u64 p0, u64 p1, u64 p2, 
       i3 = i3 > i4;
       i1 = i3 ? i1 : i2;
       i0 = i0 < i1;
-      if (i0) {goto B6;}
+      if (i0) {goto B7;}
       i0 = 1u;
       l15 = i0;
       i0 = l13;
       i1 = l12;
       i0 = i0 > i1;
-      if (i0) {goto B13;}
+      if (i0) {goto B14;}
       i0 = l12;
       l13 = i0;
-      goto B12;
-      B13:;
+      goto B13;
+      B14:;
       i0 = l13;
       i1 = l12;
       i0 -= i1;
@@ -93372,7 +93372,7 @@ static void code_f101(uint8_t *const m, const u32 last, u64 p0, u64 p1, u64 p2, 
       rem_u(i0, i0, i1);
       l17 = i0;
       i0 = !(i0);
-      if (i0) {goto B12;}
+      if (i0) {goto B13;}
       i0 = l14;
       i1 = l17;
       i0 -= i1;
@@ -93388,14 +93388,14 @@ static void code_f101(uint8_t *const m, const u32 last, u64 p0, u64 p1, u64 p2, 
       l15 = i2;
       i0 = i2 ? i0 : i1;
       l13 = i0;
-      B12:;
+      B13:;
       i0 = l15;
       i0 = !(i0);
-      if (i0) {goto B6;}
+      if (i0) {goto B7;}
       i0 = l13;
       i1 = l11;
       i0 = i0 >= i1;
-      if (i0) {goto B6;}
+      if (i0) {goto B7;}
       j0 = p0;
       i1 = l13;
       j1 = (u64)(i1);
@@ -93404,29 +93404,29 @@ static void code_f101(uint8_t *const m, const u32 last, u64 p0, u64 p1, u64 p2, 
       j0 += j1;
       l5 = j0;
       i0 = (u32)(j0);
-      reach(a2, i0, 0, 4);
+      reach(a2, i0, 0, 8);
       i64_load_at(j0, a2, 0);
       l8 = j0;
+      j0 = l5;
+      i0 = (u32)(j0);
+      i32_load_at(i0, a2, 12);
+      l15 = i0;
+      i1 = l13;
+      i0 = i0 <= i1;
+      if (i0) {goto B16;}
       j0 = l5;
       i0 = (u32)(j0);
       i32_load_at(i0, a2, 8);
       i1 = l14;
       i0 = i0 != i1;
-      if (i0) {goto B15;}
+      if (i0) {goto B16;}
       j0 = l6;
       j1 = l5;
       i1 = (u32)(j1);
       i64_load(j1, i1, 16);
       l9 = j1;
       i0 = j0 > j1;
-      if (i0) {goto B15;}
-      j0 = l5;
-      i0 = (u32)(j0);
-      i32_load(i0, i0, 12);
-      l15 = i0;
-      i1 = l13;
-      i0 = i0 <= i1;
-      if (i0) {goto B15;}
+      if (i0) {goto B16;}
       i0 = l15;
       l17 = i0;
       i0 = l15;
@@ -93436,7 +93436,7 @@ static void code_f101(uint8_t *const m, const u32 last, u64 p0, u64 p1, u64 p2, 
       rem_u(i0, i0, i1);
       l13 = i0;
       i0 = !(i0);
-      if (i0) {goto B16;}
+      if (i0) {goto B17;}
       i0 = l14;
       i1 = l13;
       i0 -= i1;
@@ -93445,61 +93445,57 @@ static void code_f101(uint8_t *const m, const u32 last, u64 p0, u64 p1, u64 p2, 
       i2 = 4294967295u;
       i1 ^= i2;
       i0 = i0 <= i1;
-      if (i0) {goto B17;}
+      if (i0) {goto B18;}
       i0 = l15;
       l13 = i0;
-      goto B14;
-      B17:;
+      goto B15;
+      B18:;
       i0 = l13;
       i1 = l15;
       i0 += i1;
       l17 = i0;
-      B16:;
+      B17:;
       j0 = p1;
       i1 = l17;
       j1 = (u64)(i1);
       l10 = j1;
       i0 = j0 > j1;
-      if (i0) {goto B18;}
-      i0 = l15;
-      l13 = i0;
-      goto B14;
-      B18:;
-      j0 = p0;
-      j1 = l10;
-      j2 = 24ull;
-      j1 *= j2;
-      j0 += j1;
-      l10 = j0;
-      j1 = 8ull;
-      j0 += j1;
-      i0 = (u32)(j0);
-      i32_load(i0, i0, 0);
-      i1 = l14;
-      i0 = i0 == i1;
       if (i0) {goto B19;}
       i0 = l15;
       l13 = i0;
-      goto B14;
+      goto B15;
       B19:;
       j0 = l6;
       j1 = l9;
-      j2 = l6;
-      j3 = l10;
-      j4 = 16ull;
+      i2 = l17;
+      j3 = p0;
+      j4 = l10;
+      j5 = 24ull;
+      j4 *= j5;
+      j3 += j4;
+      l10 = j3;
+      j4 = 12ull;
       j3 += j4;
       i3 = (u32)(j3);
-      reach(a3, i3, -4, 4);
-      i64_load_at(j3, a3, 4);
-      i2 = j2 <= j3;
-      i3 = l17;
-      j4 = l10;
-      j5 = 12ull;
-      j4 += j5;
-      i4 = (u32)(j4);
-      i32_load_at(i4, a3, 0);
-      l13 = i4;
-      i3 = i3 < i4;
+      reach(a3, i3, -4, 8);
+      i32_load_at(i3, a3, 4);
+      l13 = i3;
+      i2 = i2 < i3;
+      j3 = l10;
+      j4 = 8ull;
+      j3 += j4;
+      i3 = (u32)(j3);
+      i32_load_at(i3, a3, 0);
+      i4 = l14;
+      i3 = i3 == i4;
+      j4 = l6;
+      j5 = l10;
+      j6 = 16ull;
+      j5 += j6;
+      i5 = (u32)(j5);
+      i64_load_at(j5, a3, 8);
+      i4 = j4 <= j5;
+      i3 &= i4;
       i2 &= i3;
       l17 = i2;
       j0 = i2 ? j0 : j1;
@@ -93509,24 +93505,23 @@ static void code_f101(uint8_t *const m, const u32 last, u64 p0, u64 p1, u64 p2, 
       i2 = l17;
       i0 = i2 ? i0 : i1;
       l13 = i0;
-      goto B14;
-      B15:;
+      goto B15;
+      B16:;
       i0 = l13;
       i1 = 1u;
       i0 += i1;
       l13 = i0;
       j0 = l6;
       l9 = j0;
-      B14:;
+      B15:;
       j0 = l5;
       i0 = (u32)(j0);
       j1 = l9;
-      reach(a4, i0, 12, 4);
-      i64_store_at(j1, a4, 4);
+      i64_store(j1, i0, 16);
       j0 = l5;
       i0 = (u32)(j0);
       i1 = l13;
-      i32_store_at(i1, a4, 0);
+      i32_store_at(i1, a2, 12);
       j0 = l5;
       i0 = (u32)(j0);
       i1 = l14;
@@ -93543,18 +93538,14 @@ static void code_f101(uint8_t *const m, const u32 last, u64 p0, u64 p1, u64 p2, 
       i0 = l13;
       i1 = l11;
       i0 = i0 < i1;
-      if (i0) {goto L11;}
-      goto B6;
+      if (i0) {goto L12;}
+      goto B7;
     goto trap;
-    B7:;
-    i0 = l16;
-    i1 = l12;
-    i0 = i0 < i1;
-    if (i0) {goto B6;}
+    B8:;
     i0 = l12;
     i1 = l11;
     i0 = i0 >= i1;
-    if (i0) {goto B6;}
+    if (i0) {goto B7;}
     j0 = p0;
     i1 = l12;
     j1 = (u64)(i1);
@@ -93562,43 +93553,57 @@ static void code_f101(uint8_t *const m, const u32 last, u64 p0, u64 p1, u64 p2, 
     j1 *= j2;
     j0 += j1;
     l5 = j0;
-    i0 = (u32)(j0);
-    reach(a5, i0, 0, 4);
-    i64_load_at(j0, a5, 0);
-    l8 = j0;
-    j0 = l5;
-    i0 = (u32)(j0);
-    i32_load_at(i0, a5, 8);
-    if (i0) {goto B20;}
-    j0 = l6;
-    j1 = l5;
-    i1 = (u32)(j1);
-    i64_load(j1, i1, 16);
-    i0 = j0 > j1;
-    if (i0) {goto B20;}
+    i0 = l12;
+    i1 = 1u;
+    i0 += i1;
+    l13 = i0;
+    i1 = l11;
+    i0 = i0 >= i1;
+    if (i0) {goto B21;}
+    i0 = l16;
+    i1 = l12;
+    i0 = i0 < i1;
+    if (i0) {goto B7;}
     i0 = l12;
     j1 = l5;
     i1 = (u32)(j1);
-    i32_load(i1, i1, 12);
+    reach(a4, i1, 0, 16);
+    i32_load_at(i1, a4, 12);
     i0 = i0 < i1;
+    j1 = l5;
+    i1 = (u32)(j1);
+    i32_load_at(i1, a4, 8);
+    i1 = !(i1);
+    j2 = l6;
+    j3 = l5;
+    i3 = (u32)(j3);
+    i64_load_at(j3, a4, 16);
+    i2 = j2 <= j3;
+    i1 &= i2;
+    i0 &= i1;
+    l12 = i0;
+    j0 = l5;
+    i0 = (u32)(j0);
+    i64_load_at(j0, a4, 0);
+    l8 = j0;
+    i0 = l13;
+    i1 = l16;
+    i0 = i0 <= i1;
+    if (i0) {goto B20;}
+    i0 = l12;
     if (i0) {goto B3;}
-    B20:;
     j0 = l5;
     i0 = (u32)(j0);
     j1 = l6;
-    reach(a6, i0, 12, 4);
-    i64_store_at(j1, a6, 4);
+    i64_store_at(j1, a4, 16);
+    j0 = l5;
+    i0 = (u32)(j0);
+    i1 = l13;
+    i32_store_at(i1, a4, 12);
     j0 = l5;
     i0 = (u32)(j0);
     i1 = 0u;
-    i32_store_at(i1, a5, 8);
-    j0 = l5;
-    i0 = (u32)(j0);
-    i1 = l12;
-    i2 = 1u;
-    i1 += i2;
-    l13 = i1;
-    i32_store_at(i1, a6, 0);
+    i32_store_at(i1, a4, 8);
     j0 = l5;
     i0 = (u32)(j0);
     j1 = l6;
@@ -93607,34 +93612,104 @@ static void code_f101(uint8_t *const m, const u32 last, u64 p0, u64 p1, u64 p2, 
     j4 = l8;
     i3 = j3 > j4;
     j1 = i3 ? j1 : j2;
-    i64_store_at(j1, a5, 0);
-    i0 = l13;
-    i1 = l11;
-    i0 = i0 >= i1;
-    if (i0) {goto B6;}
+    i64_store_at(j1, a4, 0);
+    goto B7;
+    B21:;
     i0 = l16;
     i1 = l12;
-    i0 = i0 > i1;
+    i0 = i0 < i1;
+    if (i0) {goto B7;}
+    i0 = l12;
+    j1 = l5;
+    i1 = (u32)(j1);
+    reach(a5, i1, 12, 0);
+    i32_load_at(i1, a5, 0);
+    i0 = i0 >= i1;
+    if (i0) {goto B22;}
+    j0 = l5;
+    i0 = (u32)(j0);
+    i32_load(i0, i0, 8);
+    if (i0) {goto B22;}
+    j0 = l6;
+    j1 = l5;
+    i1 = (u32)(j1);
+    i64_load(j1, i1, 16);
+    i0 = j0 <= j1;
     if (i0) {goto B3;}
-    B6:;
+    B22:;
+    j0 = l5;
+    i0 = (u32)(j0);
+    j1 = l6;
+    reach(a6, i0, 0, 16);
+    i64_store_at(j1, a6, 16);
+    j0 = l5;
+    i0 = (u32)(j0);
+    i1 = l13;
+    i32_store_at(i1, a5, 0);
+    j0 = l5;
+    i0 = (u32)(j0);
+    i1 = 0u;
+    i32_store_at(i1, a6, 8);
+    j0 = l5;
+    i0 = (u32)(j0);
+    j1 = l6;
+    j2 = l5;
+    i2 = (u32)(j2);
+    i64_load_at(j2, a6, 0);
+    l8 = j2;
+    j3 = l6;
+    j4 = l8;
+    i3 = j3 > j4;
+    j1 = i3 ? j1 : j2;
+    i64_store_at(j1, a6, 0);
+    goto B7;
+    B20:;
+    i0 = l12;
+    i0 = !(i0);
+    if (i0) {goto B5;}
+    goto B3;
+    B7:;
     j0 = l7;
     j1 = 1ull;
     j0 += j1;
     l7 = j0;
     j1 = p3;
     i0 = j0 != j1;
-    if (i0) {goto L5;}
+    if (i0) {goto L6;}
     goto B2;
   goto trap;
+  B5:;
+  j0 = l5;
+  i0 = (u32)(j0);
+  j1 = l6;
+  i64_store_at(j1, a4, 16);
+  j0 = l5;
+  i0 = (u32)(j0);
+  i1 = l13;
+  i32_store_at(i1, a4, 12);
+  j0 = l5;
+  i0 = (u32)(j0);
+  i1 = 0u;
+  i32_store_at(i1, a4, 8);
+  j0 = l5;
+  i0 = (u32)(j0);
+  j1 = l6;
+  j2 = l8;
+  j3 = l6;
+  j4 = l8;
+  i3 = j3 > j4;
+  j1 = i3 ? j1 : j2;
+  i64_store_at(j1, a4, 0);
+  goto trap;
   B4:;
-  L21:
+  L23:
     j0 = p2;
     j1 = 16ull;
     j0 += j1;
     i0 = (u32)(j0);
     i64_load(j0, i0, 0);
     i0 = !(j0);
-    if (i0) {goto B22;}
+    if (i0) {goto B24;}
     j0 = p2;
     j1 = 4ull;
     j0 += j1;
@@ -93651,11 +93726,11 @@ static void code_f101(uint8_t *const m, const u32 last, u64 p0, u64 p1, u64 p2, 
     i3 = i3 > i4;
     i1 = i3 ? i1 : i2;
     i0 = i0 < i1;
-    if (i0) {goto B22;}
+    if (i0) {goto B24;}
     i0 = p4;
     i1 = l13;
     i0 = i0 <= i1;
-    if (i0) {goto B22;}
+    if (i0) {goto B24;}
     j0 = p2;
     j1 = 8ull;
     j0 += j1;
@@ -93663,7 +93738,7 @@ static void code_f101(uint8_t *const m, const u32 last, u64 p0, u64 p1, u64 p2, 
     i32_load(i0, i0, 0);
     i0 = !(i0);
     if (i0) {goto B3;}
-    B22:;
+    B24:;
     j0 = p2;
     j1 = 24ull;
     j0 += j1;
@@ -93674,7 +93749,7 @@ static void code_f101(uint8_t *const m, const u32 last, u64 p0, u64 p1, u64 p2, 
     p3 = j0;
     i0 = !(j0);
     i0 = !(i0);
-    if (i0) {goto L21;}
+    if (i0) {goto L23;}
     goto B2;
   goto trap;
   B3:;
