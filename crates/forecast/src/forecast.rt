@@ -68,14 +68,27 @@ impl Forecast {
             (λ sure. sure ≡ sure_count (foresees self.outlook) self.packets) }
     {
         let mut running = Running::of(self.foresight);
-        write_all(desk, Outlet::Main, HEADER.as_bytes())?;
-        for _ in 0..self.packets {
-            write_row(desk, running.take())?;
-        }
-        write_row(desk, running.stretch())?;
-        write_closing(desk, &running)?;
-        Ok(running.sure())
+        write_rows(desk, &mut running, self.packets)
     }
+}
+
+/// Writes the forecast for so many packets, none of which was taken yet, and tells how many are sure.
+fn write_rows<D: Desk>(desk: &mut D, running: &mut Running, packets: u32) -> Result<u64, Failed>
+    requires count { IsPacketCount packets }
+    requires none { running.old.packets ≡ 0 }
+    requires ready { IsReadyOut (D.meaning desk.old) Outlet.Main }
+    ensures written { Writes D.meaning D.counts desk.old desk.new
+        (to_output (forecast_text (foresees running.old.outlook) packets)) result }
+    ensures sure { IfOk result
+        (λ sure. sure ≡ sure_count (foresees running.old.outlook) packets) }
+{
+    write_all(desk, Outlet::Main, HEADER.as_bytes())?;
+    for _ in 0..packets {
+        write_row(desk, running.take())?;
+    }
+    write_row(desk, running.stretch())?;
+    write_closing(desk, running)?;
+    Ok(running.sure())
 }
 
 /// Writes the line of a stretch, if there is one.

@@ -8,6 +8,7 @@ ghost use Rattle.mask_update.specs.Histories.{History};
 ghost use Rattle.packet_encode.specs.Deliveries.{arrivals};
 ghost use Rattle.ground_chain.specs.Deliveries.{IsDelivered, IsPlayed};
 ghost use Rattle.packet_store.specs.Faults.{stop_by};
+ghost use Rattle.ground_chain.specs.Receiving.{IsUnread, receiving_state};
 ghost use Rattle.ground_chain.specs.Restoring.{restore_work};
 ghost use Rattle.flight_chain.specs.Stores.{IsStream};
 
@@ -74,7 +75,22 @@ impl Restorer {
             → IsOk result }
     {
         let mut receiving = self.receiving;
-        write_all(desk, Outlet::Report, HEADER.as_bytes())?;
-        drive(&mut receiving, desk)
+        run(&mut receiving, desk)
     }
+}
+
+/// Writes the report's first line, and drives a run that has read nothing.
+fn run<D: Desk>(
+    receiving: &mut Receiving<Reporting>,
+    desk: &mut D,
+) -> Result<Restored, RestoreFault>
+    requires unread { IsUnread receiving.old }
+    requires ready { IsReadyRun (D.meaning desk.old) }
+    ensures ran { AfterRun
+        (restore_work (receiving_state receiving.old).places (receiving_state receiving.old).apid)
+        (D.meaning desk.old) (D.meaning desk.new) (by_stop stop_by result) }
+    ensures cause { HasCause (D.counts desk.old) (D.counts desk.new) (by_stop stop_by result) }
+{
+    write_all(desk, Outlet::Report, HEADER.as_bytes())?;
+    drive(receiving, desk)
 }

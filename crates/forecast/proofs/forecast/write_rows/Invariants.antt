@@ -6,12 +6,12 @@ use Rattle.desk_ports.proofs.Writings.{HasWritten}
 use Rattle.forecast.specs.Prospects.{fate_of}
 use Rattle.forecast.specs.Outlooks.{foresees, rows_at}
 use Rattle.forecast.specs.Texts.{header_row}
-use Rattle.forecast.proofs.forecast.Forecast.write.Given as goal
+use Rattle.forecast.proofs.forecast.write_rows.Given as goal
 
 -- the first line and those of the stretches that have ended were written, and nothing else happened
 abbrev pub invariant-loop : goal.invariant-loop
 invariant-loop g l = record {
-  written : HasWritten g.D.Desk.meaning g.D.Desk.counts l.fn.desk l.desk (to_output (header_row ++ rows_at (fate_of (foresees l.fn.self.outlook)) l.counter));
+  written : HasWritten g.D.Desk.meaning g.D.Desk.counts l.fn.desk l.desk (to_output (header_row ++ rows_at (fate_of (foresees l.fn.running.outlook)) l.counter));
   ready : IsReadyOut (g.D.Desk.meaning l.desk) outlet.Main;
-  running : l.running ≡ record { packets = l.counter; outlook = l.fn.self.outlook };
+  running : l.running ≡ record { packets = l.counter; outlook = l.fn.running.outlook };
 }
