@@ -4,6 +4,7 @@ ghost use Rattle.std.specs.Prelude.{List, [], ◌∷◌, ◌++◌, ◌≡◌, �
 ghost use Rattle.std.specs.Bool.{OnTrue};
 ghost use Rattle.bit_vectors.specs.Vectors.{IsPlaces, padded};
 ghost use Rattle.mask_update.specs.Histories.{History, flags_after, no_steps};
+ghost use Rattle.mask_update.specs.Masks.{StandsFor as MasksStandFor};
 ghost use Rattle.robust_window.specs.Changes.{MaskStep};
 ghost use Rattle.robust_window.specs.Window.{IsNextStep, StandsFor as WindowStandsFor};
 ghost use Rattle.packet_encode.specs.Encoder.{HavePlaces, StandsFor, plain_data};
@@ -64,11 +65,13 @@ impl Encoder {
         ensures places { IfOk result (λ encoder. length encoder.masks.mask ≡ f) }
         ensures taken { IfOk result (λ encoder. encoder.masks.taken ≡ 0) }
     {
+        let (masks, window) = before_any_input(alloc, f, mask)?;
+        let (scratch, kept) = workspaces(alloc, f)?;
         Ok(Encoder {
-            masks: Masks::open(alloc, mask)?,
-            window: Window::open(alloc, f)?,
-            scratch: Scratch::open(alloc, f)?,
-            kept: BitPen::with_room(alloc, room(f))?,
+            masks,
+            window,
+            scratch,
+            kept,
             is_kept: false,
         })
     }
@@ -168,6 +171,33 @@ impl Encoder {
     {
         self.masks.taken()
     }
+}
+
+/// The running vectors, with this mask of `f` places, and the latest changes, before any input.
+fn before_any_input(alloc: Global, f: u32, mask: &Bits) -> Result<(Masks, Window), NoMemory>
+    requires valid { IsPlaces f }
+    requires places { length mask.now ≡ f }
+    ensures masks { IfOk result (λ r. MasksStandFor (no_steps mask.now) r.0) }
+    ensures mask { IfOk result (λ r. r.0.mask ≡ mask.now) }
+    ensures masks_taken { IfOk result (λ r. r.0.taken ≡ 0) }
+    ensures window { IfOk result (λ r. WindowStandsFor [] r.1) }
+    ensures recent { IfOk result (λ r. r.1.recent ≡ replicate f false) }
+    ensures window_taken { IfOk result (λ r. r.1.taken ≡ 0) }
+{
+    let masks = Masks::open(alloc, mask)?;
+    let window = Window::open(alloc, f)?;
+    Ok((masks, window))
+}
+
+/// What `encode` works in, for inputs of `f` places, and room for the data of a packet.
+fn workspaces(alloc: Global, f: u32) -> Result<(Scratch, BitPen), NoMemory>
+    requires valid { IsPlaces f }
+    ensures workspace { IfOk result (λ r. length r.0.workspace ≡ f) }
+    ensures room { IfOk result (λ r. r.1.room ≡ 10 * f + 43) }
+{
+    let scratch = Scratch::open(alloc, f)?;
+    let kept = BitPen::with_room(alloc, room(f))?;
+    Ok((scratch, kept))
 }
 
 /// Takes the latest change of the masks. Without one, no vector is looked at.
