@@ -1,8 +1,10 @@
 //! The summary of a trial, which is run in memory.
 ghost use Rattle.std.specs.Prelude.{◌≡◌, ◌≤◌, ◌++◌, length, map, IfOk, OnOk};
 ghost use Rattle.std.specs.String.{string_bytes};
+ghost use Rattle.trial_chain.specs.Trials.{trial_summary};
 ghost use Rattle.pocket_cmd.specs.Command.{IsRight};
 ghost use Rattle.pocket_cmd.specs.Summary.{summary_by, summary_line, summary_lines};
+ghost use Rattle.pocket_cmd.specs.Words.{bits, packets, robust, seed};
 
 use crate::verbs::Verb;
 use crate::words::number_at;
@@ -16,11 +18,21 @@ pub fn summary_text(alloc: Global, words: &[String]) -> Result<Vec<u8>, NoMemory
     requires { IsRight (Verb.Trial, map string_bytes words.now) }
     ensures { IfOk result (λ text. text.items ≡ summary_by (map string_bytes words.now)) }
 {
+    let summary = summary_of(alloc, words)?;
+    lines(alloc, &summary)
+}
+
+/// Runs the trial of the words at a desk of its own.
+fn summary_of(alloc: Global, words: &[String]) -> Result<Summary, NoMemory>
+    requires { IsRight (Verb.Trial, map string_bytes words.now) }
+    ensures { let words = map string_bytes words.now in
+        IfOk result (λ summary. summary
+        ≡ trial_summary (seed words) (packets words) (bits words) (robust words)) }
+{
     let mut desk = MemDesk::new(alloc);
     let (seed, packets) = (number_at(words, "seed"), number_at(words, "packets"));
     let (f, robust) = (number_at(words, "bits"), number_at(words, "robust") as u8);
-    let summary = run_trial(alloc, seed, packets, f, robust, &mut desk)?;
-    lines(alloc, &summary)
+    run_trial(alloc, seed, packets, f, robust, &mut desk)
 }
 
 /// The seven lines of a summary.
