@@ -7,6 +7,8 @@ ghost use Rattle.desk_ports.specs.Writings.{Writes};
 ghost use Rattle.flight_chain.specs.Compressing.{Compression, IsCompression, next_packet};
 ghost use Rattle.flight_chain.specs.Stores.{IsStream};
 ghost use Rattle.bit_vectors.specs.Vectors.{IsPlaces};
+ghost use Rattle.mask_update.specs.Histories.{no_steps};
+ghost use Rattle.packet_encode.specs.Encoder.{StandsFor};
 
 use crate::fault::{FlightFault, RecordFault};
 use crate::reading::read_input;
@@ -83,9 +85,10 @@ impl Compressing {
     {
         let (ahead, input) = reading(alloc, f)?;
         let (writer, pen) = writing(alloc, f, apid)?;
+        let (plan, encoder) = encoding(alloc, f, mask, plan)?;
         Ok(Compressing {
-            encoder: Encoder::open(alloc, f, mask)?,
-            plan: Lookup::open(alloc, plan)?,
+            encoder,
+            plan,
             robust,
             writer,
             ahead,
@@ -140,4 +143,20 @@ fn writing(alloc: Global, f: u32, apid: u16) -> Result<(StoreWriter, BitPen), No
         StoreWriter::open(alloc, apid)?,
         BitPen::with_room(alloc, room(f))?,
     ))
+}
+
+/// What packets are made with: a lookup of the schedule, and an encoder that starts with this mask.
+fn encoding(
+    alloc: Global,
+    f: u32,
+    mask: &Bits,
+    plan: Schedule,
+) -> Result<(Lookup, Encoder), NoMemory>
+    requires valid { IsPlaces f }
+    requires places { length mask.now ≡ f }
+    ensures rows { IfOk result (λ made. made.0 ≡ plan) }
+    ensures stands { IfOk result (λ made. StandsFor (no_steps mask.now) made.1) }
+    ensures places { IfOk result (λ made. length made.1.masks.mask ≡ f) }
+{
+    Ok((Lookup::open(alloc, plan)?, Encoder::open(alloc, f, mask)?))
 }

@@ -1,14 +1,14 @@
 //! The command `compress`: from a recording to the store of its compressed packets.
 
 ghost use Rattle.std.specs.Prelude.{◌≡◌, IfOk};
-ghost use Rattle.desk_ports.specs.Turns.{AreReady};
-ghost use Rattle.desk_ports.specs.Courses.{AfterRun, HasCause, by_stop};
+ghost use Rattle.desk_ports.specs.Turns.{AreReady, IsOwed};
+ghost use Rattle.desk_ports.specs.Courses.{AfterRun, HasCause, Work, by_stop};
 ghost use Rattle.flight_chain.specs.Compressing.{IsCompression, compress_work, is_main, stop_by};
 
 use crate::compressing::Compressing;
 use crate::fault::FlightFault;
 use bit_vectors::{Bits, NoMemory};
-use desk_ports::{Desk, drive};
+use desk_ports::{Desk, Run, drive};
 use side_tables::Schedule;
 use std::alloc::Global;
 use std::marker::Model;
@@ -61,7 +61,17 @@ impl Flight {
             (by_stop stop_by result) }
         ensures cause { HasCause (D.counts desk.old) (D.counts desk.new) (by_stop stop_by result) }
     {
-        let mut compressing = self.compressing;
-        drive(&mut compressing, desk)
+        drive_whole(self.compressing, desk)
     }
+}
+
+/// Makes turns until the run is done, or until a fault ends it, and lets the run go.
+fn drive_whole<R: Run + Drop, D: Desk>(mut run: R, desk: &mut D) -> Result<R::Answer, R::Fault>
+    requires owed { IsOwed (R.owes run) }
+    requires ready { AreReady R.writes (D.meaning desk.old) }
+    ensures ran { (work : Work R.Answer R.Data) → R.owes run work
+        → AfterRun work (D.meaning desk.old) (D.meaning desk.new) (by_stop R.stop_of result) }
+    ensures cause { HasCause (D.counts desk.old) (D.counts desk.new) (by_stop R.stop_of result) }
+{
+    drive(&mut run, desk)
 }
