@@ -27,6 +27,25 @@ pub struct Draft {
     ghost moves_taken: { vec_capacity moves ≡ word_count (length content) },
 }
 
+impl Draft {
+    /// Vectors of `f` places, and the moves of zeros.
+    fn zeros(alloc: Global, f: u32) -> Result<Draft, NoMemory>
+        requires valid { IsPlaces f }
+        ensures { IfOk result (λ draft. length draft.content ≡ f) }
+    {
+        let content = Bits::zeros(alloc, f)?;
+        let places = Bits::zeros(alloc, f)?;
+        let workspace = Bits::zeros(alloc, f)?;
+        let moves = moves_of_zeros(alloc, f)?;
+        Ok(Draft {
+            content,
+            places,
+            workspace,
+            moves,
+        })
+    }
+}
+
 /// What the next packet fills: vectors of the same number of places.
 #[derive(Debug, Drop)]
 pub struct Room {
@@ -50,20 +69,12 @@ impl Room {
         let next = FirstPart::zeros(alloc, f)?;
         let deduced = Bits::zeros(alloc, f)?;
         let sent = Bits::zeros(alloc, f)?;
-        let content = Bits::zeros(alloc, f)?;
-        let places = Bits::zeros(alloc, f)?;
-        let workspace = Bits::zeros(alloc, f)?;
-        let moves = moves_of_zeros(alloc, f)?;
+        let draft = Draft::zeros(alloc, f)?;
         Ok(Room {
             next,
             deduced,
             sent,
-            draft: Draft {
-                content,
-                places,
-                workspace,
-                moves,
-            },
+            draft,
         })
     }
 }
