@@ -1,13 +1,16 @@
 //! The command `late`: from a store whose packets may come late to the restored packets and the report.
 
-ghost use Rattle.std.specs.Prelude.{◌≡◌, ◌≤◌, ℕ, List, None, Some, IsOk, IfOk};
+ghost use Rattle.std.specs.Prelude.{◌≡◌, ◌≤◌, ℕ, List, [], None, Some, IsOk, IfOk};
 ghost use Rattle.desk_ports.specs.Meanings.{Rose, left};
-ghost use Rattle.desk_ports.specs.Turns.{IsReadyRun};
-ghost use Rattle.desk_ports.specs.Courses.{AfterRun, HasCause, by_stop};
+ghost use Rattle.desk_ports.specs.Turns.{IsOwed, IsReadyRun, Steps};
+ghost use Rattle.desk_ports.specs.Courses.{AfterRun, HasCause, Work, by_stop, to_report};
 ghost use Rattle.mask_update.specs.Histories.{History};
 ghost use Rattle.packet_store.specs.Walks.{walk};
 ghost use Rattle.packet_store.specs.Faults.{stop_by};
-ghost use Rattle.late_window.specs.Restoring.{late_work};
+ghost use Rattle.packet_store.specs.declared.fault.WalkFault.{WalkFault};
+ghost use Rattle.ground_chain.specs.Report.{header_row};
+ghost use Rattle.late_window.specs.Restoring.{Owes, late_work};
+ghost use Rattle.late_window.specs.declared.done.LateDone.{LateDone};
 ghost use Rattle.late_window.specs.Deliveries.{IsLateDelivered, IsLatePlayed};
 ghost use Rattle.flight_chain.specs.Stores.{IsStream};
 
@@ -72,7 +75,19 @@ impl LateRestorer {
             → IsOk result }
     {
         let mut run = self.run;
-        write_all(desk, Outlet::Report, HEADER.as_bytes())?;
-        drive(&mut run, desk)
+        run_after_header(&mut run, desk)
     }
+}
+
+/// Writes the report's header, and then makes the run.
+fn run_after_header<D: Desk>(run: &mut LateRun, desk: &mut D) -> Result<LateDone, RestoreFault>
+    requires owed { IsOwed (Owes run.old) }
+    requires ready { IsReadyRun (D.meaning desk.old) }
+    ensures ran { (work rest : Work LateDone WalkFault) → Owes run.old rest
+        → Steps work rest [] (to_report header_row)
+        → AfterRun work (D.meaning desk.old) (D.meaning desk.new) (by_stop stop_by result) }
+    ensures cause { HasCause (D.counts desk.old) (D.counts desk.new) (by_stop stop_by result) }
+{
+    write_all(desk, Outlet::Report, HEADER.as_bytes())?;
+    drive(run, desk)
 }
