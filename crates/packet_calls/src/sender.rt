@@ -66,20 +66,9 @@ impl Sender {
             → (opening_fault places (given_mask mask.entry) ≡ None)
             ⊎ (opening_fault places (given_mask mask.entry) ≡ Some OpenFault.MaskSpareBit) }
     {
-        if places == 0 || places > 49152 {
-            return Err(OpenFault::Places);
-        }
-        if !mask_fits(places, mask) {
-            return Err(OpenFault::MaskLength);
-        }
-        let mut input = Bits::zeros(alloc, places)?;
-        if let Some(mask) = mask {
-            if input.load(mask).is_err() {
-                return Err(OpenFault::MaskSpareBit);
-            }
-        }
-        let encoder = Encoder::open(alloc, places, &input)?;
+        let input = first_vector(alloc, places, mask)?;
         let pen = BitPen::with_room(alloc, room(places))?;
+        let encoder = Encoder::open(alloc, places, &input)?;
         Ok(Sender {
             encoder,
             input,
@@ -207,6 +196,32 @@ impl Sender {
     {
         self.encoder.taken()
     }
+}
+
+/// The vector of the first mask, for so many places: the one that these bytes spell, or one of zeros.
+fn first_vector(alloc: Global, places: u32, mask: Option<&[u8]>) -> Result<Bits, OpenFault>
+    ensures vector { IfOk result (λ vector. vector ≡ first_mask places (given_mask mask.entry)) }
+    ensures len { IfOk result (λ vector. length vector ≡ places) }
+    ensures fault { (result ≡ Err OpenFault.NoMemory → ⊥)
+        → fault_in result ≡ opening_fault places (given_mask mask.entry) }
+    ensures no_memory { result ≡ Err OpenFault.NoMemory
+        → (opening_fault places (given_mask mask.entry) ≡ None)
+        ⊎ (opening_fault places (given_mask mask.entry) ≡ Some OpenFault.MaskSpareBit) }
+{
+    if places == 0 || places > 49152 {
+        return Err(OpenFault::Places);
+    }
+    if !mask_fits(places, mask) {
+        return Err(OpenFault::MaskLength);
+    }
+    let mut vector = Bits::zeros(alloc, places)?;
+    let Some(mask) = mask else {
+        return Ok(vector);
+    };
+    if vector.load(mask).is_err() {
+        return Err(OpenFault::MaskSpareBit);
+    }
+    Ok(vector)
 }
 
 /// Whether no mask is given, or one that has as many bytes as its places need.
