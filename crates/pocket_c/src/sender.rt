@@ -15,7 +15,7 @@ ghost use Rattle.pocket_c.specs.Statuses.{status_number};
 
 use crate::held::{Handle, Held};
 use crate::status::CallStatus;
-use bit_vectors::Flags;
+use bit_vectors::{Flags, NoMemory};
 use packet_calls::Sender;
 use std::alloc::Global;
 
@@ -42,17 +42,13 @@ pub extern "C" fn pocket_sender_open(
     ensures unchanged { (result ≡ status_number CallStatus.Done → ⊥)
         → handle.new.held ≡ handle.old.held }
 {
-    if let Some(held) = handle.take(alloc) {
-        handle.put(alloc, held);
+    if handle.is_open(alloc) {
         return CallStatus::Open.number();
     }
     match Sender::open(alloc, places, mask_in(mask)) {
-        Ok(sender) => match Box::new(alloc, Held::Sender(sender)) {
-            Ok(held) => {
-                handle.put(alloc, held);
-                CallStatus::Done.number()
-            }
-            Err(_) => CallStatus::NoMemory.number(),
+        Ok(sender) => match handle.hold(alloc, Held::Sender(sender)) {
+            Ok(()) => CallStatus::Done.number(),
+            Err(NoMemory) => CallStatus::NoMemory.number(),
         },
         Err(fault) => CallStatus::from(fault).number(),
     }
