@@ -1,6 +1,6 @@
 //! The commands one after the other at one desk.
 
-use super::desk::{HEADER, assert_done, by_single_bytes, hold, joined, new_desk};
+use super::desk::{HEADER, assert_done, by_single_bytes, desk_with, joined};
 use super::samples::PLAY_HEADER;
 use desk_ports::MemDesk;
 use std::alloc::Global;
@@ -60,10 +60,12 @@ fn assert_kept(rt: &impl Abort, chain: &Chain<'_>, desk: &MemDesk, name: &str, w
 }
 
 fn desk_of(alloc: Global, chain: &Chain<'_>, one_byte: bool) -> Result<MemDesk, Fail> {
-    let mut desk = new_desk(alloc);
-    hold(&mut desk, "recording", chain.recording)?;
-    hold(&mut desk, "plan", chain.plan.as_bytes())?;
-    hold(&mut desk, "script", chain.script.as_bytes())?;
+    let kept = [
+        ("recording", chain.recording),
+        ("plan", chain.plan.as_bytes()),
+        ("script", chain.script.as_bytes()),
+    ];
+    let mut desk = desk_with(alloc, &kept)?;
     if one_byte {
         by_single_bytes(&mut desk);
     }

@@ -241,6 +241,21 @@ pub fn hold(desk: &mut MemDesk, name: &str, bytes: &[u8]) -> Result<(), NoMemory
     desk.put(name, bytes)
 }
 
+/// Holds bytes under each name.
+fn hold_all(desk: &mut MemDesk, kept: &[(&str, &[u8])]) -> Result<(), NoMemory> {
+    for (name, bytes) in kept {
+        hold(desk, name, bytes)?;
+    }
+    Ok(())
+}
+
+/// A desk that holds bytes under each name.
+pub fn desk_with(alloc: Global, kept: &[(&str, &[u8])]) -> Result<MemDesk, NoMemory> {
+    let mut desk = new_desk(alloc);
+    hold_all(&mut desk, kept)?;
+    Ok(desk)
+}
+
 /// Holds the bytes of an input, if there is one.
 fn hold_some(desk: &mut MemDesk, name: &str, input: Option<&[u8]>) -> Result<(), NoMemory> {
     match input {
@@ -251,15 +266,21 @@ fn hold_some(desk: &mut MemDesk, name: &str, input: Option<&[u8]>) -> Result<(),
 
 fn desk_for(alloc: Global, case: &Case<'_>) -> Result<MemDesk, NoMemory> {
     let mut desk = new_desk(alloc);
-    hold_some(&mut desk, "a", case.input)?;
-    hold_some(&mut desk, "s", case.side)?;
+    prepare(&mut desk, case)?;
+    Ok(desk)
+}
+
+/// Holds the inputs of a case, and lets the calls fail that it names.
+fn prepare(desk: &mut MemDesk, case: &Case<'_>) -> Result<(), NoMemory> {
+    hold_some(desk, "a", case.input)?;
+    hold_some(desk, "s", case.side)?;
     if case.one_byte {
-        by_single_bytes(&mut desk);
+        by_single_bytes(desk);
     }
     for (call, nth) in case.fails {
-        let_fail(&mut desk, *call, *nth)?;
+        let_fail(desk, *call, *nth)?;
     }
-    Ok(desk)
+    Ok(())
 }
 
 fn ended(status: Status, desk: &MemDesk) -> Ending<'_> {

@@ -1,7 +1,7 @@
 //! Schedules, scripts and recordings that are drawn: a forecast is what the definition says, packet by packet, and
 //! what it calls sure is written.
 
-use super::desk::{assert_done, hold, new_desk};
+use super::desk::{assert_done, desk_with};
 use desk_ports::MemDesk;
 use side_tables::{Schedule, Script};
 use std::alloc::{AllocError, Global};
@@ -180,11 +180,12 @@ fn lines_of(alloc: Global, states: &[&'static str]) -> Result<String, Fail> {
 
 /// A desk with what was drawn.
 fn desk_of(alloc: Global, plan: &str, script: &str, recording: &[u8]) -> Result<MemDesk, Fail> {
-    let mut desk = new_desk(alloc);
-    hold(&mut desk, "plan", plan.as_bytes())?;
-    hold(&mut desk, "script", script.as_bytes())?;
-    hold(&mut desk, "recording", recording)?;
-    Ok(desk)
+    let kept = [
+        ("plan", plan.as_bytes()),
+        ("script", script.as_bytes()),
+        ("recording", recording),
+    ];
+    Ok(desk_with(alloc, &kept)?)
 }
 
 /// A schedule, a script, and a desk with both and a recording.

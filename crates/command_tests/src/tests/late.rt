@@ -8,7 +8,7 @@ use super::desk::{
 use super::faults::{End, Table, assert_tables};
 use super::rows::{Wrong, assert_wrong_words};
 use super::samples::{FIRST, FOURTH, SECOND, THIRD};
-use desk_ports::Call;
+use desk_ports::{Call, MemDesk};
 use packet_store::StoreKind;
 use pocket_cmd::Refusal;
 use std::alloc::{AllocError, Global};
@@ -385,12 +385,17 @@ fn reordered(
 /// The store of a recording.
 fn store_of(rt: &(impl Abort + AllocGlobal), recording: &[u8]) -> Result<Vec<u8>, Fail> {
     let mut desk = new_desk(rt.alloc());
-    hold(&mut desk, "a", recording)?;
-    assert_done(
-        rt,
-        "compress in=a out=b bits=8 apid=100 robust=2",
-        &mut desk,
-    )?;
+    compressed(rt, recording, &mut desk)
+}
+
+/// The same, at a desk.
+fn compressed(
+    rt: &(impl Abort + AllocGlobal),
+    recording: &[u8],
+    desk: &mut MemDesk,
+) -> Result<Vec<u8>, Fail> {
+    hold(desk, "a", recording)?;
+    assert_done(rt, "compress in=a out=b bits=8 apid=100 robust=2", desk)?;
     let mut store = Vec::new(rt.alloc());
     store.extend_from_slice(desk.get("b"))?;
     Ok(store)
@@ -425,8 +430,18 @@ fn assert_same(
     late: &[u8],
 ) -> Result<(), Fail> {
     let mut desk = new_desk(rt.alloc());
-    hold(&mut desk, "a", store)?;
-    assert_done(rt, EIGHT_BITS, &mut desk)?;
+    assert_same_at(rt, window, store, late, &mut desk)
+}
+
+fn assert_same_at(
+    rt: &(impl Abort + AllocGlobal),
+    window: &str,
+    store: &[u8],
+    late: &[u8],
+    desk: &mut MemDesk,
+) -> Result<(), Fail> {
+    hold(desk, "a", store)?;
+    assert_done(rt, EIGHT_BITS, desk)?;
     let report = with_none_late(rt.alloc(), desk.get("c"))?;
     assert_late(rt, window, late, desk.get("b"), &report)
 }

@@ -1,8 +1,8 @@
 //! Worked stores of several streams, the rules of their side texts, and what stands if a call fails.
 
 use super::desk::{
-    HEADER, assert_both, assert_done, assert_ending, bytes_of, done, front, hold, new_desk,
-    refused, with_both, with_input,
+    HEADER, assert_both, assert_done, assert_ending, bytes_of, desk_with, done, front, refused,
+    with_both, with_input,
 };
 use super::faults::{End, Table, assert_tables};
 use super::rows::Bytes::Hex;
@@ -427,11 +427,8 @@ fn rows_on(alloc: Global, report: &[u8], apid: u8) -> Result<String, AllocError>
 
 /// A desk with a mixed store and its streams.
 fn held_desk(alloc: Global, seed: u64) -> Result<MemDesk, Fail> {
-    let mut desk = new_desk(alloc);
     let store = mixed_store(alloc, seed, None)?;
-    hold(&mut desk, "a", &store)?;
-    hold(&mut desk, "s", b"101,8\n100,8\n102,8\n")?;
-    Ok(desk)
+    Ok(desk_with(alloc, &[("a", &store), ("s", b"101,8\n100,8\n102,8\n")])?)
 }
 
 /// What `restore` makes of the packets of one stream alone.

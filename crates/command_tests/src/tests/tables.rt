@@ -4,7 +4,7 @@ use super::desk::{answer, assert_both, done, hold, new_desk, with_both};
 use super::faults::{End, Table, assert_tables};
 use super::rows::Bytes::{Hex, Text};
 use super::rows::{Row, Wrong, assert_rows, assert_wrong_sides, assert_wrong_words};
-use desk_ports::Call;
+use desk_ports::{Call, MemDesk};
 use pocket_cmd::{Refusal, Status};
 use std::alloc::{AllocError, Global};
 use std::test::Fail;
@@ -307,9 +307,13 @@ fn many_fields(alloc: Global, count: u32) -> Result<String, AllocError> {
 /// What is answered to a text with a recording of no bytes.
 fn answer_of(alloc: Global, text: &str) -> Result<Status, Fail> {
     let mut desk = new_desk(alloc);
-    hold(&mut desk, "a", &[])?;
-    hold(&mut desk, "s", text.as_bytes())?;
-    Ok(answer(alloc, SIXTEEN_BITS, &mut desk)?)
+    answer_at(alloc, text, &mut desk)
+}
+
+fn answer_at(alloc: Global, text: &str, desk: &mut MemDesk) -> Result<Status, Fail> {
+    hold(desk, "a", &[])?;
+    hold(desk, "s", text.as_bytes())?;
+    Ok(answer(alloc, SIXTEEN_BITS, desk)?)
 }
 
 #[test]
