@@ -12,6 +12,7 @@ pub mod OneAnswer
 pub mod ViableData
 pub mod PaddingBits
 pub mod Telling
+pub mod WholePackets
 pub mod NoDirections
 pub mod TakenContent
 pub mod DecoderAnswers

@@ -1,0 +1,79 @@
+use Rattle.std.proofs.Common.{◌≡◌, ℕ, List, Bool, length, None, Some, ap, sym, ◌∙◌, subst}
+use Rattle.std.proofs.lemmas.Result.{err_from_is_err_and}
+use Rattle.std.specs.Option.{option_map}
+use Rattle.bit_vectors.specs.Eye.{bits_left}
+use Rattle.bit_vectors.specs.Reading.{Gives, Read}
+use Rattle.packet_decode.specs.State.{deduced_by, mask_after}
+use Rattle.packet_decode.specs.PacketReading.{parse_change}
+use Rattle.packet_decode.specs.Parts.{kept_state, outcome_of, part_by}
+use Rattle.packet_decode.proofs.WholePackets.{moves_on, parts_change, parts_data, reach_is, reach_vector}
+use Rattle.packet_decode.proofs.packet.take_parts.Goals as goal
+
+pub returns-in_err-take-clause-taken : goal.returns-in_err-take-clause-taken
+returns-in_err-take-clause-taken c =
+    let p = err_from_is_err_and c.from_residual.result c.from_residual.ensures.1 in
+    let state = kept_state c.args.latest.now in
+    let room = c.args.room.now in
+    let change = c.take.new.self in
+    let bits = bits_left c.args.eye.now in
+    let given = subst (λ (f : ℕ). Gives (λ (u : Unit {0}). change) c.take.result c.take.new.eye (parse_change f bits)) room.next_places c.take.ensures.reading in
+    rw (p.1, p.2) (record {
+      moves = c.take.ensures.moves;
+      reading = parts_change _ state c.args.t bits change (λ kind. record { change = change; outcome = outcome_of kind (deduced_by state c.args.t change) room.sent room.draft.content }) _ c.take.new.eye (rw c.in_err-take.was at given);
+    })
+
+pub returns-in_default-clause-taken : goal.returns-in_default-clause-taken
+returns-in_default-clause-taken c =
+    let latest = c.args.latest.now in
+    let state = kept_state latest in
+    let room = c.args.room.now in
+    let change = c.take.new.self in
+    let bits = bits_left c.args.eye.now in
+    let given = subst (λ (f : ℕ). parse_change f bits ≡ Read change (bits_left c.take.new.eye)) room.next_places c.in_ok-take.ensures.reading in
+    let known = reach_is (part_by latest.content_number latest.content) c.args.t c.level-level.result change.level c.in_reach_of-known.result c.in_reach_of-known.ensures c.level-level.ensures.level in
+    let mask = reach_is (part_by latest.mask_number latest.mask) c.args.t c.level-level.result change.level c.in_reach_of.result c.in_reach_of.ensures c.level-level.ensures.level in
+    let deduced : deduced_by state c.args.t change ≡ None = ap (option_map (λ (m : List Bool). mask_after m change)) (rw c.in_default.is at mask) in
+    let others = c.take_data.ensures.taken in
+    record {
+      moves = moves_on c.args.eye.now c.take.new.eye c.take_data.new.eye c.in_ok-take.ensures.moves others.moves;
+      reading = parts_data _ state c.args.t bits change _ given c.take_data.new.sent c.take_data.new.draft.content c.take_data.new.eye _ _ deduced known c.take_data.result others.reading;
+    }
+
+pub returns-then-is_quiet-clause-taken : goal.returns-then-is_quiet-clause-taken
+returns-then-is_quiet-clause-taken c =
+    let latest = c.args.latest.now in
+    let state = kept_state latest in
+    let room = c.args.room.now in
+    let change = c.take.new.self in
+    let bits = bits_left c.args.eye.now in
+    let given = subst (λ (f : ℕ). parse_change f bits ≡ Read change (bits_left c.take.new.eye)) room.next_places c.in_ok-take.ensures.reading in
+    let known = reach_is (part_by latest.content_number latest.content) c.args.t c.level-level.result change.level c.in_reach_of-known.result c.in_reach_of-known.ensures c.level-level.ensures.level in
+    let mask = reach_is (part_by latest.mask_number latest.mask) c.args.t c.level-level.result change.level c.in_reach_of.result c.in_reach_of.ensures c.level-level.ensures.level in
+    let found = rw c.in-Some.is at mask in
+    let same : c.in-Some.mask.now ≡ latest.mask = reach_vector latest.mask_number latest.mask c.args.t change.level c.in-Some.mask.now found in
+    let places : length c.in-Some.mask.now ≡ length change.recent = ap length same ∙ c.requires.vectors.mask ∙ sym (c.take.ensures.places ∙ room.next_places) in
+    let stays = rw c.if-is_quiet.true at c.is_quiet.ensures.stays in
+    let deduced : deduced_by state c.args.t change ≡ Some c.in-Some.mask.now = ap (option_map (λ (m : List Bool). mask_after m change)) found ∙ ap Some (stays c.in-Some.mask.now places) in
+    let others = c.take_data-then-is_quiet.ensures.taken in
+    record {
+      moves = moves_on c.args.eye.now c.take.new.eye c.take_data-then-is_quiet.new.eye c.in_ok-take.ensures.moves others.moves;
+      reading = parts_data _ state c.args.t bits change _ given c.take_data-then-is_quiet.new.sent c.take_data-then-is_quiet.new.draft.content c.take_data-then-is_quiet.new.eye _ _ deduced known c.take_data-then-is_quiet.result others.reading;
+    }
+
+pub returns-clause-taken : goal.returns-clause-taken
+returns-clause-taken c =
+    let latest = c.args.latest.now in
+    let state = kept_state latest in
+    let room = c.args.room.now in
+    let change = c.take.new.self in
+    let bits = bits_left c.args.eye.now in
+    let given = subst (λ (f : ℕ). parse_change f bits ≡ Read change (bits_left c.take.new.eye)) room.next_places c.in_ok-take.ensures.reading in
+    let known = reach_is (part_by latest.content_number latest.content) c.args.t c.level-level.result change.level c.in_reach_of-known.result c.in_reach_of-known.ensures c.level-level.ensures.level in
+    let mask = reach_is (part_by latest.mask_number latest.mask) c.args.t c.level-level.result change.level c.in_reach_of.result c.in_reach_of.ensures c.level-level.ensures.level in
+    let deduced : deduced_by state c.args.t change ≡ Some c.deduce.new.mask =
+    ap (option_map (λ (m : List Bool). mask_after m change)) (rw c.in-Some.is at mask) ∙ ap Some (sym (c.deduce.ensures.mask ∙ ap (λ (m : List Bool). mask_after m change) c.copy_from.ensures)) in
+    let others = c.take_data-2.ensures.taken in
+    record {
+      moves = moves_on c.args.eye.now c.take.new.eye c.take_data-2.new.eye c.in_ok-take.ensures.moves others.moves;
+      reading = parts_data _ state c.args.t bits change _ given c.take_data-2.new.sent c.take_data-2.new.draft.content c.take_data-2.new.eye _ _ deduced known c.take_data-2.result others.reading;
+    }
