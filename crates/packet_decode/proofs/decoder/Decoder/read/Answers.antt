@@ -8,8 +8,10 @@ use Rattle.packet_encode.specs.Forms.{Form}
 use Rattle.packet_decode.specs.State.{Change, IsState, deduced_by, known_if}
 use Rattle.packet_decode.specs.Spelling.{Spells}
 use Rattle.packet_decode.specs.declared.decoder.Reading.TheVariants.{Written}
+use Rattle.packet_decode.specs.declared.draft.Room.{Room}
+use Rattle.packet_decode.specs.declared.latest.Latest.{Latest}
 use Rattle.packet_decode.specs.PacketReading.{parse_whole_packet, answer_of, missed, outcome_answer, Outcome, Spelled, Opaque}
-use Rattle.packet_decode.specs.Parts.{IsRemembered, SpellLatest, found_in, kept_state, part_by, tells_content, tells_mask}
+use Rattle.packet_decode.specs.Parts.{IsDecoder, IsRemembered, SpellLatest, found_in, kept_state, part_by, tells_content, tells_mask}
 use Rattle.packet_decode.specs.Decoding.{Decoding}
 use Rattle.packet_decode.proofs.DecoderAnswers.{IsFound, IsTold, decoding_of, exact_by, says_by, spelled_by, has_state, found_is, opaque_unspelled, fault_is, reading_is, alone_is, written_is, deduced_is, told_as}
 use Rattle.packet_decode.proofs.OneAnswer.{spelled_places}
@@ -240,3 +242,53 @@ pub invariant_of-self-2 : goal.invariant_of-self-2
 invariant_of-self-2 c =
     let kept = remembered (goal.at.invariant_of-self-2 c).After-swap in
     search (rules, kept)
+
+pub returns-clause-unchanged : goal.returns-clause-unchanged
+returns-clause-unchanged c = λ nothing. absurd (false≢true nothing)
+
+pub returns-in-Some-clause-unchanged : goal.returns-in-Some-clause-unchanged
+returns-in-Some-clause-unchanged c = λ nothing. absurd (false≢true nothing)
+
+pub returns-clause-places : goal.returns-clause-places
+returns-clause-places c =
+    ap length (c.swap.ensures.x_after ∙ c.keep_mask.ensures.draft) ∙ c.take_whole_packet.ensures.places ∙ c.self.invariant.room_places ∙ ap (λ (d : Decoding). d.places) c.self.view_is
+
+-- what is filled is the same in number of places
+with_room : (latest : Latest) (shown : Change) (room filled : Room) (kept : List ℕ) → IsDecoder latest shown room kept → length filled.draft.content ≡ length room.draft.content → IsDecoder latest shown filled kept
+with_room latest shown room filled kept d places = record {
+  vector = d.vector;
+  latest_vectors = d.latest_vectors;
+  shown_places = d.shown_places;
+  room_places = places ∙ d.room_places;
+  first_mask = d.first_mask;
+  first_content = d.first_content;
+  first_recent = d.first_recent;
+  first_level = d.first_level;
+  remembered = d.remembered;
+}
+
+pub invariant_of-self-in_err-kind : goal.invariant_of-self-in_err-kind
+invariant_of-self-in_err-kind c = with_room c.self.inside.latest c.self.inside.shown c.self.inside.room c.take_whole_packet.new.room c.self.inside.remembered c.self.invariant c.take_whole_packet.ensures.places
+
+pub invariant_of-self-then-is_opaque : goal.invariant_of-self-then-is_opaque
+invariant_of-self-then-is_opaque c = with_room c.self.inside.latest c.self.inside.shown c.self.inside.room c.take_whole_packet.new.room c.self.inside.remembered c.self.invariant c.take_whole_packet.ensures.places
+
+-- the data that are remembered spell the latest packet again
+at_level : (latest : Latest) (shown after : Change) (room : Room) (kept : List ℕ) (t : ℕ) → IsDecoder latest shown room kept → after.recent ≡ shown.recent
+    → IsDecoder (record { mask_number = Some t; mask = latest.mask; content_number = Some t; content = latest.content }) after room kept
+at_level latest shown after room kept t d same = record {
+  vector = d.vector;
+  latest_vectors = record { mask = d.latest_vectors.mask; content = d.latest_vectors.content };
+  shown_places = ap length same ∙ d.shown_places;
+  room_places = d.room_places;
+  first_mask = tt;
+  first_content = tt;
+  first_recent = tt;
+  first_level = tt;
+  remembered = λ some.
+    let spelled = d.remembered some in
+    record { state = spelled.state; t = spelled.t; form = spelled.form; spells = spelled.spells; recent = spelled.recent ∙ sym same; quiet = spelled.quiet; numbers = refl };
+}
+
+pub invariant_of-self : goal.invariant_of-self
+invariant_of-self c = at_level c.self.inside.latest c.self.inside.shown c.set_level.new.self c.self.inside.room c.self.inside.remembered c.args.t c.self.invariant (ap (λ (x : Change). x.recent) c.set_level.ensures)
