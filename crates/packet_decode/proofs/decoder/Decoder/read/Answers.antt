@@ -241,7 +241,20 @@ remembered c some =
 pub invariant_of-self-2 : goal.invariant_of-self-2
 invariant_of-self-2 c =
     let kept = remembered (goal.at.invariant_of-self-2 c).After-swap in
-    search (rules, kept)
+    let d = c.self.invariant in
+    let filled = ap length (c.swap.ensures.x_after ∙ c.keep_mask.ensures.draft) in
+    let places : length c.swap.new.x ≡ length c.self.inside.latest.content = filled ∙ c.take_whole_packet.ensures.places ∙ d.room_places in
+    record {
+      vector = (omega (arith, places, d.vector.0), omega (arith, places, d.vector.1));
+      latest_vectors = record { mask = c.keep_mask.ensures.places ∙ d.latest_vectors.mask ∙ sym places; content = refl };
+      shown_places = ap (λ (x : Change). length x.recent) (c.take_over.ensures.same ∙ c.keep_mask.ensures.next) ∙ c.take_whole_packet.new.room.next_places ∙ sym filled;
+      room_places = ap length (c.swap.ensures.y_after ∙ c.keep_mask.ensures.content) ∙ sym places;
+      first_mask = search rules;
+      first_content = tt;
+      first_recent = tt;
+      first_level = tt;
+      remembered = kept;
+    }
 
 pub returns-clause-unchanged : goal.returns-clause-unchanged
 returns-clause-unchanged c = λ nothing. absurd (false≢true nothing)
@@ -292,3 +305,19 @@ at_level latest shown after room kept t d same = record {
 
 pub invariant_of-self : goal.invariant_of-self
 invariant_of-self c = at_level c.self.inside.latest c.self.inside.shown c.set_level.new.self c.self.inside.room c.self.inside.remembered c.args.t c.self.invariant (ap (λ (x : Change). x.recent) c.set_level.ensures)
+
+pub invariant_of-self-then-not-tells_content : goal.invariant_of-self-then-not-tells_content
+invariant_of-self-then-not-tells_content c =
+    let d = c.self.invariant in
+    let same : length c.keep_mask.new.latest.content ≡ length c.self.inside.latest.content = ap length c.keep_mask.ensures.content in
+    record {
+      vector = (omega (arith, same, d.vector.0), omega (arith, same, d.vector.1));
+      latest_vectors = record { mask = c.keep_mask.ensures.places ∙ d.latest_vectors.mask ∙ sym same; content = refl };
+      shown_places = d.shown_places ∙ sym same;
+      room_places = ap length c.keep_mask.ensures.draft ∙ c.take_whole_packet.ensures.places ∙ d.room_places ∙ sym same;
+      first_mask = search rules;
+      first_content = rw (c.keep_mask.ensures.content_number, c.keep_mask.ensures.content) d.first_content;
+      first_recent = rw (c.keep_mask.ensures.content_number, c.keep_mask.ensures.content) d.first_recent;
+      first_level = rw c.keep_mask.ensures.content_number d.first_level;
+      remembered = search rules;
+    }
