@@ -2,6 +2,7 @@
 -- the data.
 use Rattle.std.proofs.Common.{◌≡◌, ℕ, ◌-◌, ◌≤◌, nat_le, Bool, true, false, if◌then◌else◌, List, length, Option, None, Some, Result, Ok, Err, refl, arith, ap, sym, ◌∙◌, subst}
 use Rattle.std.specs.Borrow.{Bor}
+use Rattle.std.specs.Prelude.{OnOk}
 use Rattle.std.proofs.lemmas.List.{length-drop}
 use Rattle.bit_vectors.specs.declared.fault.BitFault.{BitFault}
 use Rattle.bit_vectors.specs.declared.fault.BitFault.TheVariants.{Wrong, EndsEarly}
@@ -88,3 +89,9 @@ module _ (f : ℕ) (state : State) (t : ℕ) (bits : List Bool) (change : Change
     parts_data deduced known d k result told =
         parts_by result (subst (λ (x : Option (List Bool)). Tells (λ kind. outcome_of kind x sent content) result new (parse_data f change x (known_by state t change) rest)) (sym d)
         (subst (λ (y : Option (List Bool)). Tells (λ kind. outcome_of kind deduced sent content) result new (parse_data f change deduced y rest)) (sym k) told))
+
+-- ---- of a call that gave a value
+
+pub on_ok : {A E : Type 0} (result : Result A E) (P : Type 0) → P → OnOk result P
+on_ok (Ok value) P p = p
+on_ok (Err fault) P p = tt

@@ -1,12 +1,13 @@
-use Rattle.std.proofs.Common.{◌≡◌, ℕ, List, Bool, length, None, Some, ap, sym, ◌∙◌, subst}
+use Rattle.std.proofs.Common.{◌≡◌, ℕ, List, Bool, length, Option, None, Some, refl, ap, sym, ◌∙◌, subst}
 use Rattle.std.proofs.lemmas.Result.{err_from_is_err_and}
 use Rattle.std.specs.Option.{option_map}
+use Rattle.std.specs.Prelude.{IfSome}
 use Rattle.bit_vectors.specs.Eye.{bits_left}
 use Rattle.bit_vectors.specs.Reading.{Gives, Read}
 use Rattle.packet_decode.specs.State.{deduced_by, mask_after}
 use Rattle.packet_decode.specs.PacketReading.{parse_change}
 use Rattle.packet_decode.specs.Parts.{kept_state, outcome_of, part_by}
-use Rattle.packet_decode.proofs.WholePackets.{moves_on, parts_change, parts_data, reach_is, reach_vector}
+use Rattle.packet_decode.proofs.WholePackets.{moves_on, on_ok, parts_change, parts_data, reach_is, reach_vector}
 use Rattle.packet_decode.proofs.packet.take_parts.Goals as goal
 
 pub returns-in_err-take-clause-taken : goal.returns-in_err-take-clause-taken
@@ -77,3 +78,25 @@ returns-clause-taken c =
       moves = moves_on c.args.eye.now c.take.new.eye c.take_data-2.new.eye c.in_ok-take.ensures.moves others.moves;
       reading = parts_data _ state c.args.t bits change _ given c.take_data-2.new.sent c.take_data-2.new.draft.content c.take_data-2.new.eye _ _ deduced known c.take_data-2.result others.reading;
     }
+
+pub returns-clause-changed : goal.returns-clause-changed
+returns-clause-changed c =
+    let latest = c.args.latest.now in
+    let state = kept_state latest in
+    let change = c.take.new.self in
+    let mask = reach_is (part_by latest.mask_number latest.mask) c.args.t c.level-level.result change.level c.in_reach_of.result c.in_reach_of.ensures c.level-level.ensures.level in
+    let deduced : deduced_by state c.args.t change ≡ Some c.deduce.new.mask =
+    ap (option_map (λ (m : List Bool). mask_after m change)) (rw c.in-Some.is at mask) ∙ ap Some (sym (c.deduce.ensures.mask ∙ ap (λ (m : List Bool). mask_after m change) c.copy_from.ensures)) in
+    on_ok c.take_data-2.result _ (λ changed. subst (λ (x : Option (List Bool)). IfSome x (λ mask. c.deduce.new.mask ≡ mask)) (sym deduced) refl)
+
+pub returns-in_default-clause-changed : goal.returns-in_default-clause-changed
+returns-in_default-clause-changed c =
+    let latest = c.args.latest.now in
+    let state = kept_state latest in
+    let change = c.take.new.self in
+    let mask = reach_is (part_by latest.mask_number latest.mask) c.args.t c.level-level.result change.level c.in_reach_of.result c.in_reach_of.ensures c.level-level.ensures.level in
+    let deduced : deduced_by state c.args.t change ≡ None = ap (option_map (λ (m : List Bool). mask_after m change)) (rw c.in_default.is at mask) in
+    on_ok c.take_data.result _ (λ changed. subst (λ (x : Option (List Bool)). IfSome x (λ mask. c.args.room.now.deduced ≡ mask)) (sym deduced) tt)
+
+pub returns-then-is_quiet-clause-changed : goal.returns-then-is_quiet-clause-changed
+returns-then-is_quiet-clause-changed c = on_ok c.take_data-then-is_quiet.result _ (λ changed. absurd (changed (c.is_quiet.ensures.zero.0 c.if-is_quiet.true)))

@@ -299,8 +299,8 @@ at_level latest shown after room kept t d same = record {
   first_recent = tt;
   first_level = tt;
   remembered = λ some.
-    let spelled = d.remembered some in
-    record { state = spelled.state; t = spelled.t; form = spelled.form; spells = spelled.spells; recent = spelled.recent ∙ sym same; quiet = spelled.quiet; numbers = refl };
+      let spelled = d.remembered some in
+      record { state = spelled.state; t = spelled.t; form = spelled.form; spells = spelled.spells; recent = spelled.recent ∙ sym same; quiet = spelled.quiet; numbers = refl };
 }
 
 pub invariant_of-self : goal.invariant_of-self
