@@ -1,7 +1,8 @@
 -- What is held after a run whose outputs are finished.
-use Rattle.std.proofs.Common.{◌≡◌, ℕ, true, List, [], Option, Some, None, sym, ap, ◌∙◌}
+use Rattle.std.proofs.Common.{◌≡◌, ℕ, true, List, [], Option, Some, None, Result, Ok, Err, IfOk, OnOk, unwrap_or, sym, ap, subst, ◌∙◌}
 use Rattle.std.specs.FinMap as map
 use Rattle.std.specs.Option.{option_map}
+use Rattle.std.specs.Str.{bytes_eq}
 use Rattle.std.specs.Io.KnownBytes.{append_known}
 use Rattle.desk_ports.specs.declared.desk.Inlet.TheVariants as inlet
 use Rattle.desk_ports.specs.declared.desk.Outlet.TheVariants as outlet
@@ -9,19 +10,38 @@ use Rattle.desk_ports.specs.Meanings.{Meanings, Kept, Begins, Keeps, kept_after,
 use Rattle.desk_ports.specs.Courses.{Course, Ends, owed, texts_of}
 use Rattle.desk_ports.specs.MemState.{MemState}
 use Rattle.desk_ports.proofs.Courses.{Ends-told}
-use Rattle.trial_chain.specs.RunDesk.{run_opened}
+use Rattle.trial_chain.specs.RunDesk.{HoldsJust, RunState, run_meanings, run_opened, run_reported}
 use Rattle.trial_chain.specs.Stages.{with_outputs}
 
 -- the report of the run is opened too
-abbrev pub run_reported : MemState → List ℕ → List ℕ → List ℕ → Meanings
-run_reported desk input output report = record (run_opened desk input output) { report = record { made = Some []; name = Some report; ready = true } }
-
 pub run_reported-is : (desk : MemState) (input output report : List ℕ) (b c : Meanings) → b ≡ run_opened desk input output → Begins b c outlet.Report report → c ≡ run_reported desk input output report
 run_reported-is desk input output report b c opened begins =
     begins ∙ ap (λ (m : Meanings). with_outgoing m outlet.Report (record { made = option_map (λ _. []) (made m outlet.Report); name = option_map (λ _. report) (outgoing m outlet.Report).name; ready = true })) opened
 
 held_by : (a b : Kept) → ◌≡◌ {A = Option Kept} (Some a) (Some b) → a ≡ b
 held_by a b e = cc
+
+-- the desk of a run holds what the desk before it held
+pub held_opened : (desk : MemState) (input output : List ℕ) (run : RunState) → run_meanings run ≡ run_opened desk input output → run.desk.held ≡ desk.held
+held_opened desk input output run opened = held_by _ _ (ap (λ (m : Meanings). m.held) opened)
+
+pub held_reported : (desk : MemState) (input output report : List ℕ) (run : RunState) → run_meanings run ≡ run_reported desk input output report → run.desk.held ≡ desk.held
+held_reported desk input output report run opened = held_by _ _ (ap (λ (m : Meanings). m.held) opened)
+
+-- so it is opened over itself
+pub run_opened-own : (desk : MemState) (input output : List ℕ) (run : RunState) → run_meanings run ≡ run_opened desk input output → run_meanings run ≡ run_opened run.desk input output
+run_opened-own desk input output run opened =
+    opened ∙ sym (ap (λ (m : Meanings). record m { input = record { left = Some (kept_at (unwrap_or m.held map.empty) input); ready = true }; output = record { made = Some []; name = Some output; ready = true }; grants_in = λ name. bytes_eq name input }) opened)
+
+pub run_reported-own : (desk : MemState) (input output report : List ℕ) (run : RunState) → run_meanings run ≡ run_reported desk input output report → run_meanings run ≡ run_reported run.desk input output report
+run_reported-own desk input output report run opened =
+    opened
+    ∙ sym (ap (λ (m : Meanings). record m {
+      input = record { left = Some (kept_at (unwrap_or m.held map.empty) input); ready = true };
+      output = record { made = Some []; name = Some output; ready = true };
+      report = record { made = Some []; name = Some report; ready = true };
+      grants_in = λ name. bytes_eq name input;
+    }) opened)
 
 -- the output, and so what it made
 kept_main : {F : Type 0} (desk : MemState) (input output : List ℕ) (course : List ℕ → Course F) (b c d : Meanings) → left b inlet.Main ≡ Some (kept_at desk.held input) → b.output ≡ record { made = Some []; name = Some output; ready = true }
@@ -51,3 +71,13 @@ kept_outputs desk after input output report course b c d e opened ends main note
     ap (λ (m : Meanings). m.report.made) main ∙ ((Ends-told course b c None (kept_at desk.held input) told ends).1 ∙ ap (λ (m : Meanings). append_known m.report.made all.report) opened) in
     let name : d.report.name ≡ Some report = ap (λ (m : Meanings). m.report.name) main ∙ (ap (λ (m : Meanings). m.report.name) others ∙ ap (λ (m : Meanings). m.report.name) opened) in
     held_by _ _ (sym is ∙ (ap (λ (m : Meanings). m.held) noted ∙ λ i. kept_after (held i) (name i) (written i)))
+
+-- what is held after a run that answered
+pub held_ended : {A E F : Type 0} (r : Result (MemState × A) E) (answer : Result A F) (left now : Kept) → IfOk r (λ after. HoldsJust after.0 left) → IfOk r (λ after. answer ≡ Ok after.1) → OnOk answer (left ≡ now) → IfOk r (λ after. HoldsJust after.0 now)
+held_ended (Ok after) answer left now just is so = (just.0, just.1 ∙ subst (λ a. OnOk a (left ≡ now)) is so)
+held_ended (Err fault) answer left now just is so = tt
+
+-- what is known of its answer
+pub answer_ended : {A E F : Type 0} (r : Result (MemState × A) E) (answer : Result A F) (P : A → Type 0) → IfOk r (λ after. answer ≡ Ok after.1) → IfOk answer P → IfOk r (λ after. P after.1)
+answer_ended (Ok after) answer P is so = subst (λ a. IfOk a P) is so
+answer_ended (Err fault) answer P is so = tt

@@ -43,3 +43,7 @@ run_opened desk input output = record (mem_meanings desk) {
   output = record { made = Some []; name = Some output; ready = true };
   grants_in = λ name. bytes_eq name input;
 }
+
+-- and its report is opened too
+abbrev pub run_reported : MemState → List ℕ → List ℕ → List ℕ → Meanings
+run_reported desk input output report = record (run_opened desk input output) { report = record { made = Some []; name = Some report; ready = true } }

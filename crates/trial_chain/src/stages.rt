@@ -1,6 +1,6 @@
 //! The three runs of a trial, each over a desk in memory that holds its input, and its outputs after it.
 
-ghost use Rattle.std.specs.Prelude.{◌≡◌, IfOk};
+ghost use Rattle.std.specs.Prelude.{◌≡◌, Ok, None, IfOk, OnOk};
 ghost use Rattle.std.specs.FinMap as map;
 ghost use Rattle.desk_ports.specs.Courses.{owed, texts_of};
 ghost use Rattle.desk_ports.specs.Meanings.{kept_at};
@@ -10,7 +10,7 @@ ghost use Rattle.loss_player.specs.Played.{store_numbers};
 ghost use Rattle.loss_player.specs.Playing.{play_course};
 ghost use Rattle.ground_chain.specs.Report.{restored_of};
 ghost use Rattle.ground_chain.specs.Restoring.{restore_course, store_run};
-ghost use Rattle.trial_chain.specs.RunDesk.{HoldsJust, HoldsWhole};
+ghost use Rattle.trial_chain.specs.RunDesk.{HoldsJust, HoldsWhole, IsRunDesk, run_meanings, run_opened, run_reported};
 ghost use Rattle.trial_chain.specs.Stages.{recording_name, store_name, played_name, play_name, restored_name, report_name, with_outputs};
 
 use crate::run_desk::RunDesk;
@@ -27,8 +27,20 @@ pub(crate) fn compress(desk: MemDesk, flight: Flight) -> Result<MemDesk, NoMemor
         (map.insert desk.held store_name
         (texts_of (owed (compress_course flight (kept_at desk.held recording_name)))).output)) }
 {
-    let mut run = RunDesk::open(desk, "recording", "store")?;
-    match flight.compress(&mut run) {
+    let (mut run, flight) = with_chain(RunDesk::open(desk, "recording", "store"), flight)?;
+    let done = compress_on(&mut run, flight);
+    let (after, ()) = ended(run, done)?;
+    Ok(after)
+}
+
+/// Compresses the recording at the desk of a run, and finishes the store.
+fn compress_on(run: &mut RunDesk, flight: Flight) -> Result<(), NoMemory>
+    requires opened { run_meanings run.old ≡ run_opened run.old.desk recording_name store_name }
+    requires whole { (compress_course flight (kept_at run.old.desk.held recording_name)).ending ≡ None }
+    ensures { OnOk result (run.new.desk.held ≡ map.insert run.old.desk.held store_name
+        (texts_of (owed (compress_course flight (kept_at run.old.desk.held recording_name)))).output) }
+{
+    match flight.compress(run) {
         Ok(_) => {}
         Err(FlightFault::WriteFault) => return Err(NoMemory),
         Err(FlightFault::CutRecord { .. }) => unreachable!(),
@@ -36,8 +48,7 @@ pub(crate) fn compress(desk: MemDesk, flight: Flight) -> Result<MemDesk, NoMemor
         Err(FlightFault::TooMany) => unreachable!(),
         Err(FlightFault::ReadFault) => unreachable!(),
     }
-    run.keep(Outlet::Main)?;
-    Ok(run.into_desk())
+    run.keep(Outlet::Main)
 }
 
 /// Plays the store to the played store and the play report.
@@ -50,16 +61,39 @@ pub(crate) fn play(desk: MemDesk, player: Player) -> Result<(MemDesk, Played), N
         (λ after. after.1 ≡ store_numbers (copies_of player.rows) player.apid
         (kept_at desk.held store_name)) }
 {
+    let (mut run, player) = with_chain(play_desk(desk), player)?;
+    let played = play_on(&mut run, player);
+    ended(run, played)
+}
+
+/// A desk at which the input and both outputs of a play are opened.
+fn play_desk(desk: MemDesk) -> Result<RunDesk, NoMemory>
+    requires { IsRunDesk desk store_name }
+    ensures { IfOk result (λ run. run_meanings run ≡ run_reported desk store_name played_name play_name) }
+{
     let mut run = RunDesk::open(desk, "store", "played")?;
     run.begin(Outlet::Report, "play")?;
-    let played = match player.play(&mut run) {
+    Ok(run)
+}
+
+/// Plays the store at the desk of a run, and finishes both outputs.
+fn play_on(run: &mut RunDesk, player: Player) -> Result<Played, NoMemory>
+    requires opened { run_meanings run.old ≡ run_reported run.old.desk store_name played_name play_name }
+    requires whole { (play_course (copies_of player.rows) player.apid (kept_at run.old.desk.held store_name)).ending ≡ None }
+    ensures held { OnOk result (run.new.desk.held ≡ with_outputs run.old.desk.held played_name play_name
+        (texts_of (owed (play_course (copies_of player.rows) player.apid (kept_at run.old.desk.held store_name))))) }
+    ensures numbers { IfOk result
+        (λ played. played ≡ store_numbers (copies_of player.rows) player.apid
+        (kept_at run.old.desk.held store_name)) }
+{
+    let played = match player.play(run) {
         Ok(played) => played,
         Err(PlayFault::WriteFault) => return Err(NoMemory),
         Err(PlayFault::Store(_)) => unreachable!(),
     };
     run.keep(Outlet::Main)?;
     run.keep(Outlet::Report)?;
-    Ok((run.into_desk(), played))
+    Ok(played)
 }
 
 /// Restores the played store to the restored packets and the report.
@@ -72,14 +106,55 @@ pub(crate) fn restore(desk: MemDesk, restorer: Restorer) -> Result<(MemDesk, Res
         (λ after. after.1 ≡ restored_of
         (store_run restorer.places restorer.apid (kept_at desk.held played_name))) }
 {
+    let (mut run, restorer) = with_chain(restore_desk(desk), restorer)?;
+    let restored = restore_on(&mut run, restorer);
+    ended(run, restored)
+}
+
+/// A desk at which the input and both outputs of a restoring are opened.
+fn restore_desk(desk: MemDesk) -> Result<RunDesk, NoMemory>
+    requires { IsRunDesk desk played_name }
+    ensures { IfOk result (λ run. run_meanings run ≡ run_reported desk played_name restored_name report_name) }
+{
     let mut run = RunDesk::open(desk, "played", "restored")?;
     run.begin(Outlet::Report, "report")?;
-    let restored = match restorer.restore(&mut run) {
+    Ok(run)
+}
+
+/// Restores the played store at the desk of a run, and finishes both outputs.
+fn restore_on(run: &mut RunDesk, restorer: Restorer) -> Result<Restored, NoMemory>
+    requires opened { run_meanings run.old ≡ run_reported run.old.desk played_name restored_name report_name }
+    requires whole { (restore_course restorer.places restorer.apid (kept_at run.old.desk.held played_name)).ending ≡ None }
+    ensures held { OnOk result (run.new.desk.held ≡ with_outputs run.old.desk.held restored_name report_name
+        (texts_of (owed (restore_course restorer.places restorer.apid (kept_at run.old.desk.held played_name))))) }
+    ensures numbers { IfOk result
+        (λ restored. restored ≡ restored_of
+        (store_run restorer.places restorer.apid (kept_at run.old.desk.held played_name))) }
+{
+    let restored = match restorer.restore(run) {
         Ok(restored) => restored,
         Err(RestoreFault::WriteFault) => return Err(NoMemory),
         Err(RestoreFault::Store(_)) => unreachable!(),
     };
     run.keep(Outlet::Main)?;
     run.keep(Outlet::Report)?;
-    Ok((run.into_desk(), restored))
+    Ok(restored)
+}
+
+/// The desk of a run, if there was memory to open it, with the chain that runs over it.
+fn with_chain<C: Drop>(run: Result<RunDesk, NoMemory>, chain: C) -> Result<(RunDesk, C), NoMemory>
+    ensures run { IfOk result (λ opened. run ≡ Ok opened.0) }
+    ensures chain { IfOk result (λ opened. opened.1 ≡ chain) }
+{
+    let run = run?;
+    Ok((run, chain))
+}
+
+/// The desk after a run, with what the run answered.
+fn ended<A>(run: RunDesk, answer: Result<A, NoMemory>) -> Result<(MemDesk, A), NoMemory>
+    ensures desk { IfOk result (λ after. HoldsJust after.0 run.desk.held) }
+    ensures answer { IfOk result (λ after. answer ≡ Ok after.1) }
+{
+    let answer = answer?;
+    Ok((run.into_desk(), answer))
 }
