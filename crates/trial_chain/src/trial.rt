@@ -69,7 +69,7 @@ pub fn run_trial(
     let held = trial.compress(alloc, held)?;
     let (held, played) = trial.play(alloc, held, &script)?;
     let (held, restored) = trial.restore(alloc, held)?;
-    *desk = held;
+    put_in_place(desk, held);
     Ok(Summary {
         packets: u64::from(packets),
         recording: desk.get("recording").len() as u64,
@@ -161,6 +161,13 @@ impl Trial {
         let restorer = Restorer::open(alloc, self.f, APID)?;
         restore(held, restorer)
     }
+}
+
+/// Puts the desk that holds what was made in the place of the new one.
+fn put_in_place(desk: &mut MemDesk, held: MemDesk)
+    ensures { desk.new ≡ held }
+{
+    *desk = held;
 }
 
 /// Flags for every packet whose number is so many times a whole number above 0.

@@ -16,7 +16,9 @@ restore_on-restored-requires-clause-opened c =
 pub returns-clause-held : goal.returns-clause-held
 returns-clause-held c =
     let held = held_reported c.args.desk played_name restored_name report_name c.in_ok-run.run' (IfOk-at_ok (λ run. run_meanings run ≡ run_reported c.args.desk played_name restored_name report_name) c.in_ok-run.ensures.run c.restore_desk.ensures) in
-    IfOk-weaker c.ended.result (λ after. HoldsJust after.0 (with_outputs c.args.desk.held restored_name report_name (texts_of (owed (restore_course c.args.restorer.places c.args.restorer.apid (kept_at c.args.desk.held played_name)))))) (λ after. after.0.held ≡ with_outputs c.args.desk.held restored_name report_name (texts_of (owed (restore_course c.args.restorer.places c.args.restorer.apid (kept_at c.args.desk.held played_name))))) (λ after just. just.1) (held_ended c.ended.result c.restore_on-restored.result c.restore_on-restored.new.run.desk.held (with_outputs c.args.desk.held restored_name report_name (texts_of (owed (restore_course c.args.restorer.places c.args.restorer.apid (kept_at c.args.desk.held played_name)))))
+    let now = with_outputs c.args.desk.held restored_name report_name (texts_of (owed (restore_course c.args.restorer.places c.args.restorer.apid (kept_at c.args.desk.held played_name)))) in
+    IfOk-weaker c.ended.result (λ after. HoldsJust after.0 now) (λ after. after.0.held ≡ now) (λ after just. just.1)
+    (held_ended c.ended.result c.restore_on-restored.result c.restore_on-restored.new.run.desk.held now
     c.ended.ensures.desk c.ended.ensures.answer
     (on_ok_weaker c.restore_on-restored.result (λ is. is ∙ λ i. with_outputs (held i) restored_name report_name (texts_of (owed (restore_course (ap (λ (r : RestorerState). r.places) c.in_ok-run.ensures.chain i) (ap (λ (r : RestorerState). r.apid) c.in_ok-run.ensures.chain i) (kept_at (held i) played_name))))) c.restore_on-restored.ensures.held))
 

@@ -1,13 +1,14 @@
 use Rattle.std.proofs.Common.{ℕ, List, [], Option, unwrap_or, length, ap, ◌∙◌}
+use Rattle.desk_ports.specs.MemState.{MemState}
 use Rattle.trial_chain.proofs.TrialHeld.{HoldsTrial-held}
 use Rattle.trial_chain.proofs.trial.run_trial.Goals as goal
 
 pub returns-clause-held : goal.returns-clause-held
-returns-clause-held c = HoldsTrial-held c.args.seed c.args.packets c.args.f c.args.robust c.in_ok-held-4.held.held c.in_ok-held-4.ensures.held
+returns-clause-held c = HoldsTrial-held c.args.seed c.args.packets c.args.f c.args.robust c.put_in_place.new.desk.held (ap (λ (d : MemState). d.held) c.put_in_place.ensures ∙ c.in_ok-held-4.ensures.held)
 
 pub returns-clause-summary : goal.returns-clause-summary
 returns-clause-summary c =
-    let holds = HoldsTrial-held c.args.seed c.args.packets c.args.f c.args.robust c.in_ok-held-4.held.held c.in_ok-held-4.ensures.held in
+    let holds = HoldsTrial-held c.args.seed c.args.packets c.args.f c.args.robust c.put_in_place.new.desk.held (ap (λ (d : MemState). d.held) c.put_in_place.ensures ∙ c.in_ok-held-4.ensures.held) in
     λ i. record {
       packets = c.from.ensures i;
       recording = length ((c.get.ensures ∙ ap (λ (o : Option (List ℕ)). unwrap_or o []) holds.recording) i);
