@@ -17,7 +17,6 @@ ghost use Rattle.pocket_c.specs.Statuses.{IsOneOf, status_number};
 use crate::bench::Bench;
 use crate::held::{Handle, Held};
 use crate::status::CallStatus;
-use bit_vectors::NoMemory;
 use pocket_cmd::{exit_code, refusal_row};
 use std::alloc::Global;
 use std::str;
@@ -101,9 +100,12 @@ pub extern "C" fn pocket_desk_open(alloc: Global, handle: &mut Handle) -> u32
     if handle.is_open(alloc) {
         return CallStatus::Open.number();
     }
-    match handle.hold(alloc, Held::Bench(Bench::new(alloc))) {
-        Ok(()) => CallStatus::Done.number(),
-        Err(NoMemory) => CallStatus::NoMemory.number(),
+    match Box::new(alloc, Held::Bench(Bench::new(alloc))) {
+        Ok(held) => {
+            handle.put(alloc, held);
+            CallStatus::Done.number()
+        }
+        Err(_) => CallStatus::NoMemory.number(),
     }
 }
 

@@ -1,6 +1,6 @@
 //! What C holds: a handle, which owns a value on the heap, or nothing.
 
-ghost use Rattle.std.specs.Prelude.{◌≡◌, ◌↔◌, Option, Some, None, true, OnOk, OnErr};
+ghost use Rattle.std.specs.Prelude.{◌≡◌, ◌↔◌, Option, Some, None, true};
 ghost use Rattle.std.specs.Coded.{coded_option};
 ghost use Rattle.std.specs.Option.{option_map};
 ghost use Rattle.pocket_c.specs.Owned.{owned};
@@ -8,7 +8,6 @@ ghost use Rattle.pocket_c.specs.contracts.held.Held.{the_row};
 
 use crate::bench::Bench;
 use crate::loose::Loose;
-use bit_vectors::NoMemory;
 use packet_calls::{Receiver, Sender};
 use std::alloc::Global;
 use std::marker::{Model, Send};
@@ -105,15 +104,5 @@ impl Handle {
         };
         self.put(alloc, held);
         true
-    }
-
-    /// Puts a value, for which it takes memory, in place of what it holds.
-    pub(crate) fn hold(&mut self, alloc: Global, value: Held) -> Result<(), NoMemory>
-        ensures ok { OnOk result (self.new.held ≡ Some value) }
-        ensures err { OnErr result (self.new.held ≡ self.old.held) }
-    {
-        let held = Box::new(alloc, value)?;
-        self.put(alloc, held);
-        Ok(())
     }
 }

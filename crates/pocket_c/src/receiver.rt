@@ -14,7 +14,7 @@ ghost use Rattle.pocket_c.specs.Verdicts.{counts_told, finding_of, first_lost, k
 
 use crate::held::{Handle, Held};
 use crate::status::CallStatus;
-use bit_vectors::{BitFault, NoMemory};
+use bit_vectors::BitFault;
 use ground_chain::{Kind, Lost, Restored, Verdict};
 use packet_calls::Receiver;
 use std::alloc::Global;
@@ -141,9 +141,12 @@ pub extern "C" fn pocket_receiver_open(alloc: Global, handle: &mut Handle, place
         return CallStatus::Open.number();
     }
     match Receiver::open(alloc, places) {
-        Ok(receiver) => match handle.hold(alloc, Held::Receiver(receiver)) {
-            Ok(()) => CallStatus::Done.number(),
-            Err(NoMemory) => CallStatus::NoMemory.number(),
+        Ok(receiver) => match Box::new(alloc, Held::Receiver(receiver)) {
+            Ok(held) => {
+                handle.put(alloc, held);
+                CallStatus::Done.number()
+            }
+            Err(_) => CallStatus::NoMemory.number(),
         },
         Err(fault) => CallStatus::from(fault).number(),
     }

@@ -15,7 +15,7 @@ ghost use Rattle.pocket_c.specs.Statuses.{status_number};
 
 use crate::held::{Handle, Held};
 use crate::status::CallStatus;
-use bit_vectors::{Flags, NoMemory};
+use bit_vectors::Flags;
 use packet_calls::Sender;
 use std::alloc::Global;
 
@@ -46,9 +46,12 @@ pub extern "C" fn pocket_sender_open(
         return CallStatus::Open.number();
     }
     match Sender::open(alloc, places, mask_in(mask)) {
-        Ok(sender) => match handle.hold(alloc, Held::Sender(sender)) {
-            Ok(()) => CallStatus::Done.number(),
-            Err(NoMemory) => CallStatus::NoMemory.number(),
+        Ok(sender) => match Box::new(alloc, Held::Sender(sender)) {
+            Ok(held) => {
+                handle.put(alloc, held);
+                CallStatus::Done.number()
+            }
+            Err(_) => CallStatus::NoMemory.number(),
         },
         Err(fault) => CallStatus::from(fault).number(),
     }
