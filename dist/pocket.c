@@ -29,9 +29,9 @@
 #define STACK_TOP 1048576u
 #define HEAP_BASE 1048576u
 #define CONSTANT_BYTES 0
-#define DEEPEST 1104
+#define DEEPEST 944
 #define STACK_BYTES POCKET_STACK_BYTES
-#define MODULE_SUM 0x173395F2u
+#define MODULE_SUM 0x8336BECBu
 
 /* The machine, written by hand. Its memory is one block of bytes, the little end first on all processors; in it there are only offsets, from
  * BASE on: the stack, from its top down to BASE, then the constants and the heap. m is the place of the block, last the greatest offset at
@@ -1232,19 +1232,18 @@ static void code_f16(uint8_t *const m, const u32 last, u64 p0, u64 p1) {
 }
 #ifndef POCKET_NO_SENDER
 static void code_f4(uint8_t *const m, const u32 last, u64 p0);
-static u32 code_f25(uint8_t *const m, const u32 last, u64 p0, u64 p1, u64 p2);
-static void code_f26(uint8_t *const m, const u32 last, u64 p0, u64 p1, u64 p2, u32 p3, u64 p4);
-static void code_f27(uint8_t *const m, const u32 last, u64 p0);
-static u32 code_f28(uint8_t *const m, const u32 last, u64 p0, u32 p1, u64 p2, u32 p3);
-static void code_f29(uint8_t *const m, const u32 last, u64 p0, u64 p1, u64 p2, u64 p3, u64 p4);
-static void code_f30(uint8_t *const m, const u32 last, u64 p0, u64 p1);
-static u64 code_f31(uint8_t *const m, const u32 last, u64 p0, u64 p1);
-static void code_f32(uint8_t *const m, const u32 last, u64 p0, u32 p1, u64 p2, u64 p3);
-static void code_f33(uint8_t *const m, const u32 last, u64 p0, u64 p1);
-static u32 code_f34(uint8_t *const m, const u32 last, u64 p0, u64 p1, u64 p2, u64 p3, u64 p4, u32 p5);
-static void code_f35(uint8_t *const m, const u32 last, u64 p0, u32 p1);
-static void code_f36(uint8_t *const m, const u32 last, u64 p0, u32 p1, u64 p2);
-static void code_f37(uint8_t *const m, const u32 last, u64 p0);
+static u32 code_f24(uint8_t *const m, const u32 last, u64 p0, u64 p1, u64 p2);
+static void code_f25(uint8_t *const m, const u32 last, u64 p0, u64 p1, u64 p2, u32 p3, u64 p4);
+static void code_f26(uint8_t *const m, const u32 last, u64 p0);
+static u32 code_f27(uint8_t *const m, const u32 last, u64 p0, u32 p1, u64 p2, u32 p3);
+static void code_f28(uint8_t *const m, const u32 last, u64 p0, u64 p1, u64 p2, u64 p3, u64 p4);
+static void code_f29(uint8_t *const m, const u32 last, u64 p0, u64 p1);
+static u64 code_f30(uint8_t *const m, const u32 last, u64 p0, u64 p1);
+static void code_f31(uint8_t *const m, const u32 last, u64 p0, u32 p1, u64 p2, u64 p3);
+static void code_f32(uint8_t *const m, const u32 last, u64 p0, u64 p1);
+static u32 code_f33(uint8_t *const m, const u32 last, u64 p0, u64 p1, u64 p2, u64 p3, u64 p4, u32 p5);
+static void code_f34(uint8_t *const m, const u32 last, u64 p0, u32 p1);
+static void code_f35(uint8_t *const m, const u32 last, u64 p0, u32 p1, u64 p2);
 static u32 code_pocket_send(uint8_t *const m, const u32 last, u64 p0, u64 p1, u64 p2, u32 p3, u32 p4, u32 p5, u32 p6, u64 p7, u64 p8, u64 p9, u64 p10);
 static u32 code_pocket_sender_open(uint8_t *const m, const u32 last, u64 p0, u32 p1, u64 p2, u64 p3);
 static u32 code_pocket_sender_reset(uint8_t *const m, const u32 last, u64 p0, u64 p1, u64 p2);
@@ -1375,7 +1374,7 @@ static void code_f4(uint8_t *const m, const u32 last, u64 p0) {
   return;
 }
 
-static u32 code_f25(uint8_t *const m, const u32 last, u64 p0, u64 p1, u64 p2) {
+static u32 code_f24(uint8_t *const m, const u32 last, u64 p0, u64 p1, u64 p2) {
   u32 l3 = 0, l4 = 0;
   u64 l5 = 0, l6 = 0, l7 = 0, l8 = 0, l9 = 0, l10 = 0, l11 = 0, l12 = 0;
   u32 i0, i1, i2, i3;
@@ -1738,7 +1737,7 @@ static u32 code_f25(uint8_t *const m, const u32 last, u64 p0, u64 p1, u64 p2) {
   return 0;
 }
 
-static void code_f26(uint8_t *const m, const u32 last, u64 p0, u64 p1, u64 p2, u32 p3, u64 p4) {
+static void code_f25(uint8_t *const m, const u32 last, u64 p0, u64 p1, u64 p2, u32 p3, u64 p4) {
   u32 l5 = 0, l6 = 0, l7 = 0, l8 = 0, l9 = 0, l10 = 0, l11 = 0, l12 = 0;
   u64 l13 = 0, l14 = 0, l15 = 0, l16 = 0, l17 = 0, l18 = 0, l19 = 0, l20 = 0, l21 = 0, l22 = 0, l23 = 0, l24 = 0, l25 = 0, l26 = 0, l27 = 0;
   u32 i0, i1, i2, i3, i4, i5, i6, i7;
@@ -4686,7 +4685,7 @@ static void code_f26(uint8_t *const m, const u32 last, u64 p0, u64 p1, u64 p2, u
   l22 = j0;
   B7:;
   j0 = l21;
-  call(code_f27(m, last, j0));
+  call(code_f26(m, last, j0));
   j0 = p0;
   j1 = 216ull;
   j0 += j1;
@@ -4725,7 +4724,7 @@ static void code_f26(uint8_t *const m, const u32 last, u64 p0, u64 p1, u64 p2, u
   j4 = l16;
   i4 = (u32)(j4);
   i32_load8_u_at(i4, a65, 80);
-  call(i1 = code_f28(m, last, j1, i2, j3, i4));
+  call(i1 = code_f27(m, last, j1, i2, j3, i4));
   l9 = i1;
   i32_store8_at(i1, a65, 80);
   j0 = p2;
@@ -4916,7 +4915,7 @@ static void code_f26(uint8_t *const m, const u32 last, u64 p0, u64 p1, u64 p2, u
   if (i0) {goto B74;}
   B75:;
   j0 = l21;
-  call(code_f27(m, last, j0));
+  call(code_f26(m, last, j0));
   j0 = p0;
   j1 = 216ull;
   j0 += j1;
@@ -4955,7 +4954,7 @@ static void code_f26(uint8_t *const m, const u32 last, u64 p0, u64 p1, u64 p2, u
   j4 = l16;
   i4 = (u32)(j4);
   i32_load8_u_at(i4, a67, 80);
-  call(i1 = code_f28(m, last, j1, i2, j3, i4));
+  call(i1 = code_f27(m, last, j1, i2, j3, i4));
   l9 = i1;
   i32_store8_at(i1, a67, 80);
   j0 = p2;
@@ -5482,7 +5481,7 @@ static void code_f26(uint8_t *const m, const u32 last, u64 p0, u64 p1, u64 p2, u
   j4 = l19;
   i4 = (u32)(j4);
   i32_load8_u_at(i4, a76, 80);
-  call(i1 = code_f28(m, last, j1, i2, j3, i4));
+  call(i1 = code_f27(m, last, j1, i2, j3, i4));
   l9 = i1;
   i32_store8_at(i1, a76, 80);
   j0 = l15;
@@ -5676,7 +5675,7 @@ static void code_f26(uint8_t *const m, const u32 last, u64 p0, u64 p1, u64 p2, u
   j4 += j5;
   i4 = (u32)(j4);
   i64_load_at(j4, a78, 55);
-  call(code_f29(m, last, j0, j1, j2, j3, j4));
+  call(code_f28(m, last, j0, j1, j2, j3, j4));
   j0 = p0;
   j1 = 257ull;
   j0 += j1;
@@ -6296,7 +6295,7 @@ static void code_f26(uint8_t *const m, const u32 last, u64 p0, u64 p1, u64 p2, u
   B2:;
   j0 = p4;
   j1 = p2;
-  call(code_f30(m, last, j0, j1));
+  call(code_f29(m, last, j0, j1));
   i0 = l12;
   j0 = (u64)(i0);
   j1 = 255ull;
@@ -6940,7 +6939,7 @@ static void code_f26(uint8_t *const m, const u32 last, u64 p0, u64 p1, u64 p2, u
     B127:;
     j0 = l16;
     j1 = p2;
-    call(j0 = code_f31(m, last, j0, j1));
+    call(j0 = code_f30(m, last, j0, j1));
     l15 = j0;
     B126:;
     j0 = l22;
@@ -7499,7 +7498,7 @@ static void code_f26(uint8_t *const m, const u32 last, u64 p0, u64 p1, u64 p2, u
   i1 &= i2;
   j2 = l13;
   j3 = l14;
-  call(code_f32(m, last, j0, i1, j2, j3));
+  call(code_f31(m, last, j0, i1, j2, j3));
   i0 = p3;
   j0 = (u64)(i0);
   j1 = 1ull;
@@ -7638,7 +7637,7 @@ static void code_f26(uint8_t *const m, const u32 last, u64 p0, u64 p1, u64 p2, u
   if (i0) {goto B137;}
   j0 = p4;
   j1 = p1;
-  call(code_f33(m, last, j0, j1));
+  call(code_f32(m, last, j0, j1));
   goto B136;
   B137:;
   i0 = l9;
@@ -8025,7 +8024,7 @@ static void code_f26(uint8_t *const m, const u32 last, u64 p0, u64 p1, u64 p2, u
   j4 += j5;
   i4 = (u32)(j4);
   i64_load_at(j4, a127, 8);
-  call(code_f29(m, last, j0, j1, j2, j3, j4));
+  call(code_f28(m, last, j0, j1, j2, j3, j4));
   goto B136;
   B138:;
   j0 = p4;
@@ -8042,7 +8041,7 @@ static void code_f26(uint8_t *const m, const u32 last, u64 p0, u64 p1, u64 p2, u
   j4 += j5;
   i4 = (u32)(j4);
   i64_load_at(j4, a128, 8);
-  call(code_f29(m, last, j0, j1, j2, j3, j4));
+  call(code_f28(m, last, j0, j1, j2, j3, j4));
   B136:;
   j0 = p0;
   j1 = 376ull;
@@ -8057,7 +8056,7 @@ static void code_f26(uint8_t *const m, const u32 last, u64 p0, u64 p1, u64 p2, u
   return;
 }
 
-static void code_f27(uint8_t *const m, const u32 last, u64 p0) {
+static void code_f26(uint8_t *const m, const u32 last, u64 p0) {
   u64 l1 = 0, l2 = 0, l3 = 0, l4 = 0, l5 = 0, l6 = 0, l7 = 0, l8 = 0, l9 = 0, l10 = 0;
   u32 i0, i1, i2, i3, i4;
   u64 j0, j1, j2, j3, j4, j5;
@@ -8308,7 +8307,7 @@ static void code_f27(uint8_t *const m, const u32 last, u64 p0) {
   return;
 }
 
-static u32 code_f28(uint8_t *const m, const u32 last, u64 p0, u32 p1, u64 p2, u32 p3) {
+static u32 code_f27(uint8_t *const m, const u32 last, u64 p0, u32 p1, u64 p2, u32 p3) {
   u64 l4 = 0, l5 = 0, l6 = 0, l7 = 0, l8 = 0, l9 = 0, l10 = 0, l11 = 0, l12 = 0, l13 = 0, l14 = 0;
   u32 i0, i1, i2, i3, i4;
   u64 j0, j1, j2, j3, j4, j5;
@@ -8626,7 +8625,7 @@ static u32 code_f28(uint8_t *const m, const u32 last, u64 p0, u32 p1, u64 p2, u3
   return 0;
 }
 
-static void code_f29(uint8_t *const m, const u32 last, u64 p0, u64 p1, u64 p2, u64 p3, u64 p4) {
+static void code_f28(uint8_t *const m, const u32 last, u64 p0, u64 p1, u64 p2, u64 p3, u64 p4) {
   u32 l5 = 0, l6 = 0, l7 = 0, l8 = 0;
   u64 l9 = 0, l10 = 0, l11 = 0, l12 = 0, l13 = 0, l14 = 0, l15 = 0;
   u32 i0, i1, i2, i3, i4, i5;
@@ -8813,7 +8812,7 @@ static void code_f29(uint8_t *const m, const u32 last, u64 p0, u64 p1, u64 p2, u
     j3 = p3;
     j4 = p4;
     i5 = l5;
-    call(i0 = code_f34(m, last, j0, j1, j2, j3, j4, i5));
+    call(i0 = code_f33(m, last, j0, j1, j2, j3, j4, i5));
     l5 = i0;
     i0 = 0u;
     l6 = i0;
@@ -9129,7 +9128,7 @@ static void code_f29(uint8_t *const m, const u32 last, u64 p0, u64 p1, u64 p2, u
   return;
 }
 
-static void code_f30(uint8_t *const m, const u32 last, u64 p0, u64 p1) {
+static void code_f29(uint8_t *const m, const u32 last, u64 p0, u64 p1) {
   u32 l2 = 0, l3 = 0, l4 = 0;
   u64 l5 = 0, l6 = 0, l7 = 0;
   u32 i0, i1, i2, i3, i4;
@@ -9352,7 +9351,7 @@ static void code_f30(uint8_t *const m, const u32 last, u64 p0, u64 p1) {
     i2 -= i3;
     l4 = i2;
     i1 -= i2;
-    call(code_f35(m, last, j0, i1));
+    call(code_f34(m, last, j0, i1));
     j0 = l5;
     j1 = 18446744073709551615ull;
     j0 += j1;
@@ -9370,7 +9369,7 @@ static void code_f30(uint8_t *const m, const u32 last, u64 p0, u64 p1) {
   return;
 }
 
-static u64 code_f31(uint8_t *const m, const u32 last, u64 p0, u64 p1) {
+static u64 code_f30(uint8_t *const m, const u32 last, u64 p0, u64 p1) {
   u64 l2 = 0, l3 = 0, l4 = 0, l5 = 0, l6 = 0, l7 = 0, l8 = 0;
   u32 i0;
   u64 j0, j1, j2, j3, j4, j5, j6, j7;
@@ -9492,7 +9491,7 @@ static u64 code_f31(uint8_t *const m, const u32 last, u64 p0, u64 p1) {
   return 0;
 }
 
-static void code_f32(uint8_t *const m, const u32 last, u64 p0, u32 p1, u64 p2, u64 p3) {
+static void code_f31(uint8_t *const m, const u32 last, u64 p0, u32 p1, u64 p2, u64 p3) {
   u32 l10 = 0, l11 = 0;
   u64 l4 = 0, l5 = 0, l6 = 0, l7 = 0, l8 = 0, l9 = 0;
   u32 i0, i1, i2, i3, i4;
@@ -9834,7 +9833,7 @@ static void code_f32(uint8_t *const m, const u32 last, u64 p0, u32 p1, u64 p2, u
   B3:;
   j0 = p0;
   j1 = p3;
-  call(code_f30(m, last, j0, j1));
+  call(code_f29(m, last, j0, j1));
   B2:;
   return;
   trap:
@@ -9842,7 +9841,7 @@ static void code_f32(uint8_t *const m, const u32 last, u64 p0, u32 p1, u64 p2, u
   return;
 }
 
-static void code_f33(uint8_t *const m, const u32 last, u64 p0, u64 p1) {
+static void code_f32(uint8_t *const m, const u32 last, u64 p0, u64 p1) {
   u32 l11 = 0, l12 = 0, l13 = 0;
   u64 l2 = 0, l3 = 0, l4 = 0, l5 = 0, l6 = 0, l7 = 0, l8 = 0, l9 = 0, l10 = 0;
   u32 i0, i1, i2, i3, i4;
@@ -9856,7 +9855,7 @@ static void code_f33(uint8_t *const m, const u32 last, u64 p0, u64 p1) {
   i1 = (u32)(j1);
   reach(a0, i1, -16, 12);
   i32_load_at(i1, a0, 16);
-  call(code_f35(m, last, j0, i1));
+  call(code_f34(m, last, j0, i1));
   j0 = p1;
   j1 = 8ull;
   j0 += j1;
@@ -10168,7 +10167,7 @@ static void code_f33(uint8_t *const m, const u32 last, u64 p0, u64 p1) {
   return;
 }
 
-static u32 code_f34(uint8_t *const m, const u32 last, u64 p0, u64 p1, u64 p2, u64 p3, u64 p4, u32 p5) {
+static u32 code_f33(uint8_t *const m, const u32 last, u64 p0, u64 p1, u64 p2, u64 p3, u64 p4, u32 p5) {
   u32 l11 = 0, l12 = 0, l13 = 0;
   u64 l6 = 0, l7 = 0, l8 = 0, l9 = 0, l10 = 0;
   u32 i0, i1, i2, i3, i4;
@@ -10214,7 +10213,7 @@ static u32 code_f34(uint8_t *const m, const u32 last, u64 p0, u64 p1, u64 p2, u6
   if (i0) {goto B1;}
   j0 = l8;
   j1 = l7;
-  call(j0 = code_f31(m, last, j0, j1));
+  call(j0 = code_f30(m, last, j0, j1));
   l8 = j0;
   goto B0;
   B1:;
@@ -10580,7 +10579,7 @@ static u32 code_f34(uint8_t *const m, const u32 last, u64 p0, u64 p1, u64 p2, u6
     if (i0) {goto B9;}
     j0 = l8;
     j1 = l6;
-    call(j0 = code_f31(m, last, j0, j1));
+    call(j0 = code_f30(m, last, j0, j1));
     l8 = j0;
     goto B8;
     B9:;
@@ -10907,7 +10906,7 @@ static u32 code_f34(uint8_t *const m, const u32 last, u64 p0, u64 p1, u64 p2, u6
   return 0;
 }
 
-static void code_f35(uint8_t *const m, const u32 last, u64 p0, u32 p1) {
+static void code_f34(uint8_t *const m, const u32 last, u64 p0, u32 p1) {
   u32 l2 = 0, l3 = 0;
   u64 l4 = 0, l5 = 0, l6 = 0, l7 = 0;
   u32 i0, i1, i2, i3, i4;
@@ -11088,9 +11087,9 @@ static void code_f35(uint8_t *const m, const u32 last, u64 p0, u32 p1) {
   return;
 }
 
-static void code_f36(uint8_t *const m, const u32 last, u64 p0, u32 p1, u64 p2) {
-  u32 l22 = 0, l23 = 0;
-  u64 l3 = 0, l4 = 0, l5 = 0, l6 = 0, l7 = 0, l8 = 0, l9 = 0, l10 = 0, l11 = 0, l12 = 0, l13 = 0, l14 = 0, l15 = 0, l16 = 0, l17 = 0, l18 = 0, l19 = 0, l20 = 0, l21 = 0;
+static void code_f35(uint8_t *const m, const u32 last, u64 p0, u32 p1, u64 p2) {
+  u32 l23 = 0, l24 = 0;
+  u64 l3 = 0, l4 = 0, l5 = 0, l6 = 0, l7 = 0, l8 = 0, l9 = 0, l10 = 0, l11 = 0, l12 = 0, l13 = 0, l14 = 0, l15 = 0, l16 = 0, l17 = 0, l18 = 0, l19 = 0, l20 = 0, l21 = 0, l22 = 0;
   u32 i0, i1, i2, i3, i6;
   u64 j0, j1, j2, j3, j4, j5, j6, j7;
   uint8_t *frame, *a1, *a2, *a3, *a4, *a5, *a6, *a7, *a8;
@@ -11102,26 +11101,26 @@ static void code_f36(uint8_t *const m, const u32 last, u64 p0, u32 p1, u64 p2) {
   j0 += j1;
   i0 = (u32)(j0);
   i32_load(i0, i0, 0);
-  l22 = i0;
+  l23 = i0;
   i1 = 6u;
   i0 >>= (i1 & 31);
-  i1 = l22;
+  i1 = l23;
   i2 = 63u;
   i1 &= i2;
   i2 = 0u;
   i1 = i1 != i2;
   i0 += i1;
-  l23 = i0;
+  l24 = i0;
   j0 = (u64)(i0);
   l4 = j0;
-  i0 = l22;
-  if (i0) {goto B4;}
+  i0 = l23;
+  if (i0) {goto B6;}
   j0 = l3;
   j1 = 232ull;
   j0 += j1;
   l5 = j0;
-  goto B3;
-  B4:;
+  goto B5;
+  B6:;
   j0 = l3;
   j1 = 160ull;
   j0 += j1;
@@ -11138,37 +11137,37 @@ static void code_f36(uint8_t *const m, const u32 last, u64 p0, u32 p1, u64 p2) {
   i1 = 1u;
   i0 &= i1;
   i0 = !(i0);
-  if (i0) {goto B2;}
+  if (i0) {goto B4;}
   j0 = l3;
   i0 = (u32)(j0);
   i64_load_at(j0, frame, 168);
   l5 = j0;
   j0 = l6;
   i0 = !(j0);
-  if (i0) {goto B3;}
+  if (i0) {goto B5;}
   j0 = l5;
   i0 = (u32)(j0);
   i1 = 0u;
   j2 = l6;
   i2 = (u32)(j2);
   memory_fill(i0, i1, i2);
-  B3:;
+  B5:;
   j0 = p2;
   i0 = (u32)(j0);
   i64_load(j0, i0, 0);
   l7 = j0;
-  i0 = l23;
+  i0 = l24;
   i1 = 1u;
   i0 = i0 != i1;
-  if (i0) {goto B6;}
+  if (i0) {goto B8;}
   j0 = l5;
   i0 = (u32)(j0);
   j1 = l7;
   i1 = (u32)(j1);
   i64_load(j1, i1, 0);
   i64_store(j1, i0, 0);
-  goto B5;
-  B6:;
+  goto B7;
+  B8:;
   j0 = l5;
   j1 = l7;
   j0 -= j1;
@@ -11182,10 +11181,10 @@ static void code_f36(uint8_t *const m, const u32 last, u64 p0, u32 p1, u64 p2) {
   j1 <<= (j2 & 63);
   l6 = j1;
   i0 = j0 >= j1;
-  if (i0) {goto B7;}
+  if (i0) {goto B9;}
   j0 = p2;
   i0 = !(j0);
-  if (i0) {goto B5;}
+  if (i0) {goto B7;}
   j0 = p2;
   j1 = 7ull;
   j0 &= j1;
@@ -11195,7 +11194,7 @@ static void code_f36(uint8_t *const m, const u32 last, u64 p0, u32 p1, u64 p2) {
   j0 = p2;
   j1 = 8ull;
   i0 = j0 < j1;
-  if (i0) {goto B8;}
+  if (i0) {goto B10;}
   j0 = p2;
   j1 = 18446744073709551608ull;
   j0 &= j1;
@@ -11204,7 +11203,7 @@ static void code_f36(uint8_t *const m, const u32 last, u64 p0, u32 p1, u64 p2) {
   l11 = j0;
   j0 = 0ull;
   l9 = j0;
-  L9:
+  L11:
     j0 = l5;
     j1 = l11;
     j0 += j1;
@@ -11299,11 +11298,11 @@ static void code_f36(uint8_t *const m, const u32 last, u64 p0, u32 p1, u64 p2) {
     j1 += j2;
     l9 = j1;
     i0 = j0 != j1;
-    if (i0) {goto L9;}
+    if (i0) {goto L11;}
   j0 = l8;
   i0 = !(j0);
-  if (i0) {goto B5;}
-  B8:;
+  if (i0) {goto B7;}
+  B10:;
   j0 = l5;
   j1 = l9;
   j2 = 3ull;
@@ -11315,7 +11314,7 @@ static void code_f36(uint8_t *const m, const u32 last, u64 p0, u32 p1, u64 p2) {
   j1 = l6;
   j0 += j1;
   l6 = j0;
-  L10:
+  L12:
     j0 = p2;
     i0 = (u32)(j0);
     j1 = l6;
@@ -11336,13 +11335,13 @@ static void code_f36(uint8_t *const m, const u32 last, u64 p0, u32 p1, u64 p2) {
     l8 = j0;
     j1 = 0ull;
     i0 = j0 != j1;
-    if (i0) {goto L10;}
-    goto B5;
+    if (i0) {goto L12;}
+    goto B7;
   goto trap;
-  B7:;
+  B9:;
   j0 = l6;
   i0 = !(j0);
-  if (i0) {goto B5;}
+  if (i0) {goto B7;}
   j0 = l5;
   i0 = (u32)(j0);
   j1 = l7;
@@ -11350,9 +11349,9 @@ static void code_f36(uint8_t *const m, const u32 last, u64 p0, u32 p1, u64 p2) {
   j2 = l6;
   i2 = (u32)(j2);
   memory_copy(i0, i1, i2);
-  B5:;
-  i0 = l22;
-  if (i0) {goto B11;}
+  B7:;
+  i0 = l23;
+  if (i0) {goto B14;}
   j0 = l3;
   j1 = 232ull;
   j0 += j1;
@@ -11360,8 +11359,8 @@ static void code_f36(uint8_t *const m, const u32 last, u64 p0, u32 p1, u64 p2) {
   l13 = j0;
   j0 = l12;
   l14 = j0;
-  goto B1;
-  B11:;
+  goto B13;
+  B14:;
   j0 = l3;
   j1 = 144ull;
   j0 += j1;
@@ -11378,22 +11377,22 @@ static void code_f36(uint8_t *const m, const u32 last, u64 p0, u32 p1, u64 p2) {
   i1 = 1u;
   i0 &= i1;
   i0 = !(i0);
-  if (i0) {goto B12;}
+  if (i0) {goto B15;}
   j0 = l3;
   i0 = (u32)(j0);
   i64_load_at(j0, frame, 152);
   l12 = j0;
   j0 = p2;
   i0 = !(j0);
-  l23 = i0;
-  if (i0) {goto B13;}
+  l24 = i0;
+  if (i0) {goto B16;}
   j0 = l12;
   i0 = (u32)(j0);
   i1 = 0u;
   j2 = p2;
   i2 = (u32)(j2);
   memory_fill(i0, i1, i2);
-  B13:;
+  B16:;
   j0 = l3;
   j1 = 128ull;
   j0 += j1;
@@ -11407,20 +11406,20 @@ static void code_f36(uint8_t *const m, const u32 last, u64 p0, u32 p1, u64 p2) {
   i1 = 1u;
   i0 &= i1;
   i0 = !(i0);
-  if (i0) {goto B14;}
+  if (i0) {goto B17;}
   j0 = l3;
   i0 = (u32)(j0);
   i64_load_at(j0, frame, 136);
   l13 = j0;
-  i0 = l23;
-  if (i0) {goto B15;}
+  i0 = l24;
+  if (i0) {goto B18;}
   j0 = l13;
   i0 = (u32)(j0);
   i1 = 0u;
   j2 = p2;
   i2 = (u32)(j2);
   memory_fill(i0, i1, i2);
-  B15:;
+  B18:;
   j0 = l3;
   j1 = 112ull;
   j0 += j1;
@@ -11434,49 +11433,36 @@ static void code_f36(uint8_t *const m, const u32 last, u64 p0, u32 p1, u64 p2) {
   i1 = 1u;
   i0 &= i1;
   i0 = !(i0);
-  if (i0) {goto B16;}
+  if (i0) {goto B19;}
   j0 = l3;
   i0 = (u32)(j0);
   i64_load_at(j0, frame, 120);
   l14 = j0;
-  i0 = l23;
-  if (i0) {goto B1;}
+  i0 = l24;
+  if (i0) {goto B13;}
   j0 = l14;
   i0 = (u32)(j0);
   i1 = 0u;
   j2 = p2;
   i2 = (u32)(j2);
   memory_fill(i0, i1, i2);
-  goto B1;
-  B16:;
+  goto B13;
+  B19:;
   j0 = l5;
   call(heap_dealloc(m, last, j0));
   j0 = l13;
   call(heap_dealloc(m, last, j0));
   j0 = l12;
   call(heap_dealloc(m, last, j0));
-  goto B2;
-  B14:;
+  goto B4;
+  B17:;
   j0 = l12;
   call(heap_dealloc(m, last, j0));
-  B12:;
+  B15:;
   j0 = l5;
   call(heap_dealloc(m, last, j0));
-  B2:;
-  j0 = p0;
-  i0 = (u32)(j0);
-  i1 = 1u;
-  i32_store8(i1, i0, 0);
-  j0 = p0;
-  j1 = 8ull;
-  j0 += j1;
-  i0 = (u32)(j0);
-  i1 = 0u;
-  j2 = 384ull;
-  i2 = (u32)(j2);
-  memory_fill(i0, i1, i2);
-  goto B0;
-  B1:;
+  goto B4;
+  B13:;
   j0 = l3;
   j1 = 96ull;
   j0 += j1;
@@ -11490,8 +11476,8 @@ static void code_f36(uint8_t *const m, const u32 last, u64 p0, u32 p1, u64 p2) {
   i1 = 1u;
   i0 &= i1;
   i0 = !(i0);
-  if (i0) {goto B17;}
-  i0 = l22;
+  if (i0) {goto B22;}
+  i0 = l23;
   j0 = (u64)(i0);
   l15 = j0;
   j0 = l3;
@@ -11518,15 +11504,15 @@ static void code_f36(uint8_t *const m, const u32 last, u64 p0, u32 p1, u64 p2) {
   l7 = j0;
   j0 = 0ull;
   p2 = j0;
-  L19:
+  L23:
     i0 = p1;
-    if (i0) {goto B24;}
+    if (i0) {goto B28;}
     j0 = l3;
     j1 = 232ull;
     j0 += j1;
     l11 = j0;
-    goto B23;
-    B24:;
+    goto B27;
+    B28:;
     j0 = l3;
     j1 = 80ull;
     j0 += j1;
@@ -11540,25 +11526,25 @@ static void code_f36(uint8_t *const m, const u32 last, u64 p0, u32 p1, u64 p2) {
     i1 = 1u;
     i0 &= i1;
     i0 = !(i0);
-    if (i0) {goto B22;}
+    if (i0) {goto B26;}
     j0 = l3;
     i0 = (u32)(j0);
     i64_load_at(j0, frame, 88);
     l11 = j0;
     j0 = l10;
     i0 = !(j0);
-    if (i0) {goto B23;}
+    if (i0) {goto B27;}
     j0 = l11;
     i0 = (u32)(j0);
     i1 = 0u;
     j2 = l10;
     i2 = (u32)(j2);
     memory_fill(i0, i1, i2);
-    B23:;
+    B27:;
     j0 = p2;
     j1 = 15ull;
     i0 = j0 > j1;
-    if (i0) {goto B21;}
+    if (i0) {goto B25;}
     j0 = l16;
     j1 = 0ull;
     j2 = 576460752303423472ull;
@@ -11599,11 +11585,11 @@ static void code_f36(uint8_t *const m, const u32 last, u64 p0, u32 p1, u64 p2) {
     j1 = 1ull;
     j0 += j1;
     p2 = j0;
-    goto B20;
-    B22:;
+    goto B24;
+    B26:;
     j0 = p2;
     i0 = !(j0);
-    if (i0) {goto B18;}
+    if (i0) {goto B29;}
     j0 = 16ull;
     j1 = 0ull;
     j2 = 18446744073709551600ull;
@@ -11625,7 +11611,7 @@ static void code_f36(uint8_t *const m, const u32 last, u64 p0, u32 p1, u64 p2) {
     j0 = l6;
     j1 = 16ull;
     i0 = j0 == j1;
-    if (i0) {goto B25;}
+    if (i0) {goto B30;}
     j0 = l16;
     j1 = l6;
     j2 = 5ull;
@@ -11634,19 +11620,19 @@ static void code_f36(uint8_t *const m, const u32 last, u64 p0, u32 p1, u64 p2) {
     l6 = j0;
     j0 = l9;
     l11 = j0;
-    L26:
+    L31:
       j0 = l6;
       j1 = 16ull;
       j0 += j1;
       i0 = (u32)(j0);
       i64_load(j0, i0, 0);
       i0 = !(j0);
-      if (i0) {goto B27;}
+      if (i0) {goto B32;}
       j0 = l6;
       i0 = (u32)(j0);
       i64_load(j0, i0, 0);
       call(heap_dealloc(m, last, j0));
-      B27:;
+      B32:;
       j0 = l6;
       j1 = 32ull;
       j0 += j1;
@@ -11657,31 +11643,31 @@ static void code_f36(uint8_t *const m, const u32 last, u64 p0, u32 p1, u64 p2) {
       l11 = j0;
       j1 = 0ull;
       i0 = j0 != j1;
-      if (i0) {goto L26;}
-    B25:;
+      if (i0) {goto L31;}
+    B30:;
     j0 = p2;
     j1 = l8;
     i0 = j0 <= j1;
-    if (i0) {goto B18;}
+    if (i0) {goto B29;}
     j0 = p2;
     j1 = l9;
     j0 -= j1;
     l6 = j0;
     j0 = l16;
     p2 = j0;
-    L28:
+    L33:
       j0 = p2;
       j1 = 16ull;
       j0 += j1;
       i0 = (u32)(j0);
       i64_load(j0, i0, 0);
       i0 = !(j0);
-      if (i0) {goto B29;}
+      if (i0) {goto B34;}
       j0 = p2;
       i0 = (u32)(j0);
       i64_load(j0, i0, 0);
       call(heap_dealloc(m, last, j0));
-      B29:;
+      B34:;
       j0 = p2;
       j1 = 32ull;
       j0 += j1;
@@ -11692,10 +11678,12 @@ static void code_f36(uint8_t *const m, const u32 last, u64 p0, u32 p1, u64 p2) {
       l6 = j0;
       j1 = 0ull;
       i0 = j0 != j1;
-      if (i0) {goto L28;}
-      goto B18;
-    goto trap;
-    B21:;
+      if (i0) {goto L33;}
+    B29:;
+    j0 = l16;
+    call(heap_dealloc(m, last, j0));
+    goto B22;
+    B25:;
     j0 = l16;
     j1 = 0ull;
     j2 = 576460752303423472ull;
@@ -11761,13 +11749,13 @@ static void code_f36(uint8_t *const m, const u32 last, u64 p0, u32 p1, u64 p2) {
     i64_store_at(j1, a4, 0);
     j0 = l18;
     i0 = !(j0);
-    if (i0) {goto B30;}
+    if (i0) {goto B35;}
     j0 = l8;
     call(heap_dealloc(m, last, j0));
-    B30:;
+    B35:;
     j0 = l17;
     l8 = j0;
-    B20:;
+    B24:;
     j0 = 0ull;
     l6 = j0;
     j0 = l7;
@@ -11776,7 +11764,7 @@ static void code_f36(uint8_t *const m, const u32 last, u64 p0, u32 p1, u64 p2) {
     l7 = j0;
     j1 = 0ull;
     i0 = j0 != j1;
-    if (i0) {goto L19;}
+    if (i0) {goto L23;}
   i0 = p1;
   if (i0) {goto B38;}
   j0 = l3;
@@ -11857,26 +11845,26 @@ static void code_f36(uint8_t *const m, const u32 last, u64 p0, u32 p1, u64 p2) {
   j0 = p2;
   j1 = l8;
   i0 = j0 <= j1;
-  if (i0) {goto B18;}
+  if (i0) {goto B43;}
   j0 = p2;
   j1 = l9;
   j0 -= j1;
   l6 = j0;
   j0 = l16;
   p2 = j0;
-  L43:
+  L44:
     j0 = p2;
     j1 = 16ull;
     j0 += j1;
     i0 = (u32)(j0);
     i64_load(j0, i0, 0);
     i0 = !(j0);
-    if (i0) {goto B44;}
+    if (i0) {goto B45;}
     j0 = p2;
     i0 = (u32)(j0);
     i64_load(j0, i0, 0);
     call(heap_dealloc(m, last, j0));
-    B44:;
+    B45:;
     j0 = p2;
     j1 = 32ull;
     j0 += j1;
@@ -11886,10 +11874,12 @@ static void code_f36(uint8_t *const m, const u32 last, u64 p0, u32 p1, u64 p2) {
     j0 += j1;
     l6 = j0;
     j1 = 0ull;
-    i0 = j0 == j1;
-    if (i0) {goto B18;}
-    goto L43;
-  goto trap;
+    i0 = j0 != j1;
+    if (i0) {goto L44;}
+  B43:;
+  j0 = l16;
+  call(heap_dealloc(m, last, j0));
+  goto B22;
   B39:;
   j0 = l3;
   i0 = (u32)(j0);
@@ -11897,15 +11887,15 @@ static void code_f36(uint8_t *const m, const u32 last, u64 p0, u32 p1, u64 p2) {
   l17 = j0;
   j0 = l10;
   i0 = !(j0);
-  l23 = i0;
-  if (i0) {goto B45;}
+  l24 = i0;
+  if (i0) {goto B46;}
   j0 = l17;
   i0 = (u32)(j0);
   i1 = 0u;
   j2 = l10;
   i2 = (u32)(j2);
   memory_fill(i0, i1, i2);
-  B45:;
+  B46:;
   j0 = l3;
   j1 = 48ull;
   j0 += j1;
@@ -11924,31 +11914,42 @@ static void code_f36(uint8_t *const m, const u32 last, u64 p0, u32 p1, u64 p2) {
   i0 = (u32)(j0);
   i64_load_at(j0, frame, 56);
   l18 = j0;
-  i0 = l23;
-  if (i0) {goto B46;}
+  i0 = l24;
+  if (i0) {goto B47;}
   j0 = l18;
   i0 = (u32)(j0);
   i1 = 0u;
   j2 = l10;
   i2 = (u32)(j2);
   memory_fill(i0, i1, i2);
-  B46:;
+  B47:;
   i0 = p1;
   j0 = (u64)(i0);
   l6 = j0;
   B37:;
   i0 = p1;
-  if (i0) {goto B35;}
+  i1 = 6u;
+  i0 >>= (i1 & 31);
+  i1 = p1;
+  i2 = 63u;
+  i1 &= i2;
+  i2 = 0u;
+  i1 = i1 != i2;
+  i0 += i1;
+  j0 = (u64)(i0);
+  l10 = j0;
+  i0 = p1;
+  if (i0) {goto B21;}
   j0 = 0ull;
-  l7 = j0;
+  l19 = j0;
   j0 = l3;
   j1 = 232ull;
   j0 += j1;
-  l19 = j0;
-  l10 = j0;
-  j0 = 0ull;
   l20 = j0;
-  goto B34;
+  l21 = j0;
+  j0 = 0ull;
+  l7 = j0;
+  goto B20;
   B36:;
   j0 = 16ull;
   j1 = 0ull;
@@ -11971,7 +11972,7 @@ static void code_f36(uint8_t *const m, const u32 last, u64 p0, u32 p1, u64 p2) {
   j0 = l6;
   j1 = 16ull;
   i0 = j0 == j1;
-  if (i0) {goto B47;}
+  if (i0) {goto B48;}
   j0 = l16;
   j1 = l6;
   j2 = 5ull;
@@ -11980,19 +11981,19 @@ static void code_f36(uint8_t *const m, const u32 last, u64 p0, u32 p1, u64 p2) {
   l6 = j0;
   j0 = l9;
   l11 = j0;
-  L48:
+  L49:
     j0 = l6;
     j1 = 16ull;
     j0 += j1;
     i0 = (u32)(j0);
     i64_load(j0, i0, 0);
     i0 = !(j0);
-    if (i0) {goto B49;}
+    if (i0) {goto B50;}
     j0 = l6;
     i0 = (u32)(j0);
     i64_load(j0, i0, 0);
     call(heap_dealloc(m, last, j0));
-    B49:;
+    B50:;
     j0 = l6;
     j1 = 32ull;
     j0 += j1;
@@ -12003,31 +12004,31 @@ static void code_f36(uint8_t *const m, const u32 last, u64 p0, u32 p1, u64 p2) {
     l11 = j0;
     j1 = 0ull;
     i0 = j0 != j1;
-    if (i0) {goto L48;}
-  B47:;
+    if (i0) {goto L49;}
+  B48:;
   j0 = p2;
   j1 = l8;
   i0 = j0 <= j1;
-  if (i0) {goto B50;}
+  if (i0) {goto B51;}
   j0 = p2;
   j1 = l9;
   j0 -= j1;
   l6 = j0;
   j0 = l16;
   p2 = j0;
-  L51:
+  L52:
     j0 = p2;
     j1 = 16ull;
     j0 += j1;
     i0 = (u32)(j0);
     i64_load(j0, i0, 0);
     i0 = !(j0);
-    if (i0) {goto B52;}
+    if (i0) {goto B53;}
     j0 = p2;
     i0 = (u32)(j0);
     i64_load(j0, i0, 0);
     call(heap_dealloc(m, last, j0));
-    B52:;
+    B53:;
     j0 = p2;
     j1 = 32ull;
     j0 += j1;
@@ -12038,18 +12039,33 @@ static void code_f36(uint8_t *const m, const u32 last, u64 p0, u32 p1, u64 p2) {
     l6 = j0;
     j1 = 0ull;
     i0 = j0 != j1;
-    if (i0) {goto L51;}
-  B50:;
+    if (i0) {goto L52;}
+  B51:;
   j0 = l16;
   call(heap_dealloc(m, last, j0));
   j0 = l17;
   call(heap_dealloc(m, last, j0));
-  goto B17;
-  B35:;
+  B22:;
+  i0 = l23;
+  i0 = !(i0);
+  if (i0) {goto B4;}
+  j0 = l12;
+  call(heap_dealloc(m, last, j0));
+  j0 = l13;
+  call(heap_dealloc(m, last, j0));
+  j0 = l5;
+  call(heap_dealloc(m, last, j0));
+  j0 = l14;
+  call(heap_dealloc(m, last, j0));
+  goto B4;
+  B21:;
   j0 = l3;
   j1 = 32ull;
   j0 += j1;
   j1 = l10;
+  j2 = 3ull;
+  j1 <<= (j2 & 63);
+  l11 = j1;
   j2 = 8ull;
   call(heap_alloc(m, last, j0, j1, j2));
   j0 = l3;
@@ -12059,25 +12075,25 @@ static void code_f36(uint8_t *const m, const u32 last, u64 p0, u32 p1, u64 p2) {
   i1 = 1u;
   i0 &= i1;
   i0 = !(i0);
-  if (i0) {goto B32;}
+  if (i0) {goto B1;}
   j0 = l3;
   i0 = (u32)(j0);
   i64_load_at(j0, frame, 40);
-  l19 = j0;
-  j0 = l10;
+  l20 = j0;
+  j0 = l11;
   i0 = !(j0);
-  if (i0) {goto B53;}
-  j0 = l19;
+  if (i0) {goto B54;}
+  j0 = l20;
   i0 = (u32)(j0);
   i1 = 0u;
-  j2 = l10;
+  j2 = l11;
   i2 = (u32)(j2);
   memory_fill(i0, i1, i2);
-  B53:;
+  B54:;
   j0 = l3;
   j1 = 16ull;
   j0 += j1;
-  j1 = l9;
+  j1 = l10;
   j2 = 56ull;
   j1 *= j2;
   j2 = 8ull;
@@ -12089,15 +12105,18 @@ static void code_f36(uint8_t *const m, const u32 last, u64 p0, u32 p1, u64 p2) {
   i1 = 1u;
   i0 &= i1;
   i0 = !(i0);
-  if (i0) {goto B33;}
+  if (i0) {goto B2;}
+  i0 = p1;
+  j0 = (u64)(i0);
+  l19 = j0;
   j0 = l3;
   i0 = (u32)(j0);
   i64_load_at(j0, frame, 24);
-  l10 = j0;
+  l21 = j0;
   l11 = j0;
-  j0 = l9;
+  j0 = l10;
   l7 = j0;
-  L54:
+  L55:
     j0 = l3;
     j1 = 176ull;
     j0 += j1;
@@ -12156,19 +12175,17 @@ static void code_f36(uint8_t *const m, const u32 last, u64 p0, u32 p1, u64 p2) {
     l7 = j0;
     i0 = !(j0);
     i0 = !(i0);
-    if (i0) {goto L54;}
-  j0 = l6;
+    if (i0) {goto L55;}
+  j0 = l10;
   l7 = j0;
-  j0 = l9;
-  l20 = j0;
-  B34:;
+  B20:;
   j0 = l3;
   i1 = p1;
   i2 = 10u;
   i1 *= i2;
   i2 = 43u;
   i1 += i2;
-  l23 = i1;
+  l24 = i1;
   i2 = 3u;
   i1 >>= (i2 & 31);
   i2 = 536870904u;
@@ -12185,22 +12202,44 @@ static void code_f36(uint8_t *const m, const u32 last, u64 p0, u32 p1, u64 p2) {
   i0 = (u32)(j0);
   i1 = 1u;
   i0 &= i1;
+  if (i0) {goto B3;}
+  i0 = p1;
   i0 = !(i0);
-  if (i0) {goto B31;}
+  if (i0) {goto B1;}
+  j0 = l20;
+  call(heap_dealloc(m, last, j0));
+  j0 = l21;
+  call(heap_dealloc(m, last, j0));
+  goto B1;
+  B4:;
+  j0 = p0;
+  i0 = (u32)(j0);
+  i1 = 1u;
+  i32_store8(i1, i0, 0);
+  j0 = p0;
+  j1 = 8ull;
+  j0 += j1;
+  i0 = (u32)(j0);
+  i1 = 0u;
+  j2 = 384ull;
+  i2 = (u32)(j2);
+  memory_fill(i0, i1, i2);
+  goto B0;
+  B3:;
   j0 = l3;
   i0 = (u32)(j0);
   i64_load_at(j0, frame, 8);
-  l21 = j0;
+  l22 = j0;
   j0 = l11;
   i0 = !(j0);
-  if (i0) {goto B55;}
-  j0 = l21;
+  if (i0) {goto B56;}
+  j0 = l22;
   i0 = (u32)(j0);
   i1 = 0u;
   j2 = l11;
   i2 = (u32)(j2);
   memory_fill(i0, i1, i2);
-  B55:;
+  B56:;
   j0 = p0;
   j1 = 137ull;
   j0 += j1;
@@ -12439,49 +12478,49 @@ static void code_f36(uint8_t *const m, const u32 last, u64 p0, u32 p1, u64 p2) {
   j1 = 328ull;
   j0 += j1;
   i0 = (u32)(j0);
-  j1 = l9;
+  j1 = l10;
   i64_store_at(j1, a8, 72);
   j0 = p0;
   j1 = 320ull;
   j0 += j1;
   i0 = (u32)(j0);
-  j1 = l20;
+  j1 = l7;
   i64_store_at(j1, a8, 64);
   j0 = p0;
   j1 = 312ull;
   j0 += j1;
   i0 = (u32)(j0);
-  j1 = l10;
+  j1 = l21;
   i64_store_at(j1, a8, 56);
   j0 = p0;
   j1 = 304ull;
   j0 += j1;
   i0 = (u32)(j0);
-  j1 = l7;
+  j1 = l19;
   i64_store_at(j1, a8, 48);
   j0 = p0;
   j1 = 296ull;
   j0 += j1;
   i0 = (u32)(j0);
-  j1 = l9;
+  j1 = l10;
   i64_store_at(j1, a8, 40);
   j0 = p0;
   j1 = 288ull;
   j0 += j1;
   i0 = (u32)(j0);
-  j1 = l9;
+  j1 = l10;
   i64_store_at(j1, a8, 32);
   j0 = p0;
   j1 = 280ull;
   j0 += j1;
   i0 = (u32)(j0);
-  j1 = l19;
+  j1 = l20;
   i64_store_at(j1, a8, 24);
   j0 = p0;
   j1 = 336ull;
   j0 += j1;
   i0 = (u32)(j0);
-  j1 = l21;
+  j1 = l22;
   i64_store_at(j1, a8, 80);
   j0 = p0;
   j1 = 376ull;
@@ -12505,7 +12544,7 @@ static void code_f36(uint8_t *const m, const u32 last, u64 p0, u32 p1, u64 p2) {
   j1 = 380ull;
   j0 += j1;
   i0 = (u32)(j0);
-  i1 = l23;
+  i1 = l24;
   i32_store_at(i1, a8, 124);
   j0 = p0;
   j1 = 384ull;
@@ -12514,10 +12553,10 @@ static void code_f36(uint8_t *const m, const u32 last, u64 p0, u32 p1, u64 p2) {
   j1 = 0ull;
   i64_store_at(j1, a8, 128);
   goto B0;
-  B33:;
-  j0 = l19;
+  B2:;
+  j0 = l20;
   call(heap_dealloc(m, last, j0));
-  B32:;
+  B1:;
   j0 = 16ull;
   j1 = 0ull;
   j2 = 18446744073709551600ull;
@@ -12539,7 +12578,7 @@ static void code_f36(uint8_t *const m, const u32 last, u64 p0, u32 p1, u64 p2) {
   j0 = l6;
   j1 = 16ull;
   i0 = j0 == j1;
-  if (i0) {goto B56;}
+  if (i0) {goto B57;}
   j0 = l16;
   j1 = l6;
   j2 = 5ull;
@@ -12548,19 +12587,19 @@ static void code_f36(uint8_t *const m, const u32 last, u64 p0, u32 p1, u64 p2) {
   l6 = j0;
   j0 = l9;
   l11 = j0;
-  L57:
+  L58:
     j0 = l6;
     j1 = 16ull;
     j0 += j1;
     i0 = (u32)(j0);
     i64_load(j0, i0, 0);
     i0 = !(j0);
-    if (i0) {goto B58;}
+    if (i0) {goto B59;}
     j0 = l6;
     i0 = (u32)(j0);
     i64_load(j0, i0, 0);
     call(heap_dealloc(m, last, j0));
-    B58:;
+    B59:;
     j0 = l6;
     j1 = 32ull;
     j0 += j1;
@@ -12571,31 +12610,31 @@ static void code_f36(uint8_t *const m, const u32 last, u64 p0, u32 p1, u64 p2) {
     l11 = j0;
     j1 = 0ull;
     i0 = j0 != j1;
-    if (i0) {goto L57;}
-  B56:;
+    if (i0) {goto L58;}
+  B57:;
   j0 = p2;
   j1 = l8;
   i0 = j0 <= j1;
-  if (i0) {goto B59;}
+  if (i0) {goto B60;}
   j0 = p2;
   j1 = l9;
   j0 -= j1;
   l6 = j0;
   j0 = l16;
   p2 = j0;
-  L60:
+  L61:
     j0 = p2;
     j1 = 16ull;
     j0 += j1;
     i0 = (u32)(j0);
     i64_load(j0, i0, 0);
     i0 = !(j0);
-    if (i0) {goto B61;}
+    if (i0) {goto B62;}
     j0 = p2;
     i0 = (u32)(j0);
     i64_load(j0, i0, 0);
     call(heap_dealloc(m, last, j0));
-    B61:;
+    B62:;
     j0 = p2;
     j1 = 32ull;
     j0 += j1;
@@ -12606,189 +12645,30 @@ static void code_f36(uint8_t *const m, const u32 last, u64 p0, u32 p1, u64 p2) {
     l6 = j0;
     j1 = 0ull;
     i0 = j0 != j1;
-    if (i0) {goto L60;}
-  B59:;
+    if (i0) {goto L61;}
+  B60:;
   j0 = l16;
   call(heap_dealloc(m, last, j0));
-  j0 = l17;
-  call(heap_dealloc(m, last, j0));
-  j0 = l18;
-  call(heap_dealloc(m, last, j0));
-  i0 = l22;
-  i0 = !(i0);
-  if (i0) {goto B62;}
-  j0 = l12;
-  call(heap_dealloc(m, last, j0));
-  j0 = l13;
-  call(heap_dealloc(m, last, j0));
-  j0 = l5;
-  call(heap_dealloc(m, last, j0));
-  j0 = l14;
-  call(heap_dealloc(m, last, j0));
-  B62:;
-  j0 = p0;
-  i0 = (u32)(j0);
-  i1 = 1u;
-  i32_store8(i1, i0, 0);
-  j0 = p0;
-  j1 = 8ull;
-  j0 += j1;
-  i0 = (u32)(j0);
-  i1 = 0u;
-  j2 = 384ull;
-  i2 = (u32)(j2);
-  memory_fill(i0, i1, i2);
-  goto B0;
-  B31:;
   i0 = p1;
   i0 = !(i0);
   if (i0) {goto B63;}
-  j0 = l19;
+  j0 = l17;
   call(heap_dealloc(m, last, j0));
-  j0 = l10;
+  j0 = l18;
   call(heap_dealloc(m, last, j0));
   B63:;
-  j0 = 16ull;
-  j1 = 0ull;
-  j2 = 18446744073709551600ull;
-  j3 = l8;
-  j4 = 16ull;
-  i3 = j3 < j4;
-  j1 = i3 ? j1 : j2;
-  j2 = l8;
-  j1 += j2;
-  l6 = j1;
-  j0 -= j1;
-  l8 = j0;
-  j1 = p2;
-  j2 = l8;
-  j3 = p2;
-  i2 = j2 < j3;
-  j0 = i2 ? j0 : j1;
-  l9 = j0;
-  j0 = l6;
-  j1 = 16ull;
-  i0 = j0 == j1;
+  i0 = l23;
+  i0 = !(i0);
   if (i0) {goto B64;}
-  j0 = l16;
-  j1 = l6;
-  j2 = 5ull;
-  j1 <<= (j2 & 63);
-  j0 += j1;
-  l6 = j0;
-  j0 = l9;
-  l11 = j0;
-  L65:
-    j0 = l6;
-    j1 = 16ull;
-    j0 += j1;
-    i0 = (u32)(j0);
-    i64_load(j0, i0, 0);
-    i0 = !(j0);
-    if (i0) {goto B66;}
-    j0 = l6;
-    i0 = (u32)(j0);
-    i64_load(j0, i0, 0);
-    call(heap_dealloc(m, last, j0));
-    B66:;
-    j0 = l6;
-    j1 = 32ull;
-    j0 += j1;
-    l6 = j0;
-    j0 = l11;
-    j1 = 18446744073709551615ull;
-    j0 += j1;
-    l11 = j0;
-    j1 = 0ull;
-    i0 = j0 != j1;
-    if (i0) {goto L65;}
+  j0 = l12;
+  call(heap_dealloc(m, last, j0));
+  j0 = l13;
+  call(heap_dealloc(m, last, j0));
+  j0 = l5;
+  call(heap_dealloc(m, last, j0));
+  j0 = l14;
+  call(heap_dealloc(m, last, j0));
   B64:;
-  j0 = p2;
-  j1 = l8;
-  i0 = j0 <= j1;
-  if (i0) {goto B67;}
-  j0 = p2;
-  j1 = l9;
-  j0 -= j1;
-  l6 = j0;
-  j0 = l16;
-  p2 = j0;
-  L68:
-    j0 = p2;
-    j1 = 16ull;
-    j0 += j1;
-    i0 = (u32)(j0);
-    i64_load(j0, i0, 0);
-    i0 = !(j0);
-    if (i0) {goto B69;}
-    j0 = p2;
-    i0 = (u32)(j0);
-    i64_load(j0, i0, 0);
-    call(heap_dealloc(m, last, j0));
-    B69:;
-    j0 = p2;
-    j1 = 32ull;
-    j0 += j1;
-    p2 = j0;
-    j0 = l6;
-    j1 = 18446744073709551615ull;
-    j0 += j1;
-    l6 = j0;
-    j1 = 0ull;
-    i0 = j0 != j1;
-    if (i0) {goto L68;}
-  B67:;
-  j0 = l16;
-  call(heap_dealloc(m, last, j0));
-  i0 = p1;
-  i0 = !(i0);
-  if (i0) {goto B70;}
-  j0 = l17;
-  call(heap_dealloc(m, last, j0));
-  j0 = l18;
-  call(heap_dealloc(m, last, j0));
-  B70:;
-  i0 = l22;
-  i0 = !(i0);
-  if (i0) {goto B71;}
-  j0 = l12;
-  call(heap_dealloc(m, last, j0));
-  j0 = l13;
-  call(heap_dealloc(m, last, j0));
-  j0 = l5;
-  call(heap_dealloc(m, last, j0));
-  j0 = l14;
-  call(heap_dealloc(m, last, j0));
-  B71:;
-  j0 = p0;
-  i0 = (u32)(j0);
-  i1 = 1u;
-  i32_store8(i1, i0, 0);
-  j0 = p0;
-  j1 = 8ull;
-  j0 += j1;
-  i0 = (u32)(j0);
-  i1 = 0u;
-  j2 = 384ull;
-  i2 = (u32)(j2);
-  memory_fill(i0, i1, i2);
-  goto B0;
-  B18:;
-  j0 = l16;
-  call(heap_dealloc(m, last, j0));
-  B17:;
-  i0 = l22;
-  i0 = !(i0);
-  if (i0) {goto B72;}
-  j0 = l12;
-  call(heap_dealloc(m, last, j0));
-  j0 = l13;
-  call(heap_dealloc(m, last, j0));
-  j0 = l5;
-  call(heap_dealloc(m, last, j0));
-  j0 = l14;
-  call(heap_dealloc(m, last, j0));
-  B72:;
   j0 = p0;
   i0 = (u32)(j0);
   i1 = 1u;
@@ -12806,131 +12686,6 @@ static void code_f36(uint8_t *const m, const u32 last, u64 p0, u32 p1, u64 p2) {
   j1 = 240ull;
   j0 += j1;
   set_stack(j0);
-  return;
-  trap:
-  set_broken(m);
-  return;
-}
-
-static void code_f37(uint8_t *const m, const u32 last, u64 p0) {
-  u64 l1 = 0, l2 = 0, l3 = 0, l4 = 0, l5 = 0, l6 = 0, l7 = 0;
-  u32 i0, i1, i2, i4;
-  u64 j0, j1, j2, j3, j4, j5;
-  uint8_t *a0;
-  j0 = p0;
-  i0 = (u32)(j0);
-  reach(a0, i0, 0, 16);
-  i64_load_at(j0, a0, 0);
-  l1 = j0;
-  j0 = p0;
-  i0 = (u32)(j0);
-  i64_load_at(j0, a0, 16);
-  l2 = j0;
-  i0 = !(j0);
-  if (i0) {goto B0;}
-  j0 = p0;
-  i0 = (u32)(j0);
-  i64_load_at(j0, a0, 8);
-  l3 = j0;
-  j1 = p0;
-  i1 = (u32)(j1);
-  i64_load(j1, i1, 24);
-  p0 = j1;
-  j2 = 0ull;
-  j3 = l3;
-  j4 = p0;
-  j5 = l3;
-  i4 = j4 < j5;
-  j2 = i4 ? j2 : j3;
-  l4 = j2;
-  j1 -= j2;
-  l5 = j1;
-  j0 -= j1;
-  l6 = j0;
-  j1 = l2;
-  j2 = l6;
-  j3 = l2;
-  i2 = j2 < j3;
-  j0 = i2 ? j0 : j1;
-  l7 = j0;
-  j0 = l3;
-  j1 = l5;
-  i0 = j0 == j1;
-  if (i0) {goto B1;}
-  j0 = l1;
-  j1 = p0;
-  j2 = 5ull;
-  j1 <<= (j2 & 63);
-  j2 = l4;
-  j3 = 5ull;
-  j2 <<= (j3 & 63);
-  j1 -= j2;
-  j0 += j1;
-  p0 = j0;
-  j0 = l7;
-  l3 = j0;
-  L2:
-    j0 = p0;
-    j1 = 16ull;
-    j0 += j1;
-    i0 = (u32)(j0);
-    i64_load(j0, i0, 0);
-    i0 = !(j0);
-    if (i0) {goto B3;}
-    j0 = p0;
-    i0 = (u32)(j0);
-    i64_load(j0, i0, 0);
-    call(heap_dealloc(m, last, j0));
-    B3:;
-    j0 = p0;
-    j1 = 32ull;
-    j0 += j1;
-    p0 = j0;
-    j0 = l3;
-    j1 = 18446744073709551615ull;
-    j0 += j1;
-    l3 = j0;
-    j1 = 0ull;
-    i0 = j0 != j1;
-    if (i0) {goto L2;}
-  B1:;
-  j0 = l2;
-  j1 = l6;
-  i0 = j0 <= j1;
-  if (i0) {goto B0;}
-  j0 = l2;
-  j1 = l7;
-  j0 -= j1;
-  l3 = j0;
-  j0 = l1;
-  p0 = j0;
-  L4:
-    j0 = p0;
-    j1 = 16ull;
-    j0 += j1;
-    i0 = (u32)(j0);
-    i64_load(j0, i0, 0);
-    i0 = !(j0);
-    if (i0) {goto B5;}
-    j0 = p0;
-    i0 = (u32)(j0);
-    i64_load(j0, i0, 0);
-    call(heap_dealloc(m, last, j0));
-    B5:;
-    j0 = p0;
-    j1 = 32ull;
-    j0 += j1;
-    p0 = j0;
-    j0 = l3;
-    j1 = 18446744073709551615ull;
-    j0 += j1;
-    l3 = j0;
-    j1 = 0ull;
-    i0 = j0 != j1;
-    if (i0) {goto L4;}
-  B0:;
-  j0 = l1;
-  call(heap_dealloc(m, last, j0));
   return;
   trap:
   set_broken(m);
@@ -13042,7 +12797,7 @@ static u32 code_pocket_send(uint8_t *const m, const u32 last, u64 p0, u64 p1, u6
   j2 = i4 ? j2 : j3;
   j1 += j2;
   j2 = p2;
-  call(i0 = code_f25(m, last, j0, j1, j2));
+  call(i0 = code_f24(m, last, j0, j1, j2));
   i1 = 255u;
   i0 &= i1;
   i0 = !(i0);
@@ -13129,7 +12884,7 @@ static u32 code_pocket_send(uint8_t *const m, const u32 last, u64 p0, u64 p1, u6
   j5 = 424ull;
   j4 += j5;
   l14 = j4;
-  call(code_f26(m, last, j0, j1, j2, i3, j4));
+  call(code_f25(m, last, j0, j1, j2, i3, j4));
   j0 = p7;
   j1 = 4096ull;
   j2 = 0ull;
@@ -13400,7 +13155,7 @@ static u32 code_pocket_sender_open(uint8_t *const m, const u32 last, u64 p0, u32
   u32 i0, i1, i2, i4;
   u64 j0, j1, j2, j3, j4;
   uint8_t *a0, *frame, *a2, *a3;
-  enter(l4, 512);
+  enter(l4, 544);
   frame = place(l4);
   j0 = l4;
   j0 = p0;
@@ -13472,7 +13227,7 @@ static u32 code_pocket_sender_open(uint8_t *const m, const u32 last, u64 p0, u32
   j0 = p3;
   i0 = !(j0);
   l58 = i0;
-  if (i0) {goto B5;}
+  if (i0) {goto B6;}
   j0 = p3;
   i1 = p1;
   i2 = 7u;
@@ -13481,8 +13236,8 @@ static u32 code_pocket_sender_open(uint8_t *const m, const u32 last, u64 p0, u32
   i1 >>= (i2 & 31);
   j1 = (u64)(i1);
   i0 = j0 != j1;
-  if (i0) {goto B4;}
-  B5:;
+  if (i0) {goto B5;}
+  B6:;
   j0 = l4;
   j1 = 40ull;
   j0 += j1;
@@ -13495,7 +13250,7 @@ static u32 code_pocket_sender_open(uint8_t *const m, const u32 last, u64 p0, u32
   l6 = j1;
   j2 = 3ull;
   j1 <<= (j2 & 63);
-  l5 = j1;
+  l7 = j1;
   j2 = 8ull;
   call(heap_alloc(m, last, j0, j1, j2));
   i0 = 1u;
@@ -13511,25 +13266,62 @@ static u32 code_pocket_sender_open(uint8_t *const m, const u32 last, u64 p0, u32
   j0 = l4;
   i0 = (u32)(j0);
   i64_load_at(j0, frame, 48);
-  l7 = j0;
-  j0 = l5;
-  i0 = !(j0);
-  if (i0) {goto B6;}
+  l5 = j0;
   j0 = l7;
+  i0 = !(j0);
+  if (i0) {goto B7;}
+  j0 = l5;
   i0 = (u32)(j0);
   i1 = 0u;
-  j2 = l5;
+  j2 = l7;
   i2 = (u32)(j2);
   memory_fill(i0, i1, i2);
-  B6:;
+  B7:;
   j0 = l4;
   i0 = (u32)(j0);
   i1 = 0u;
-  i32_store_at(i1, frame, 508);
+  i32_store_at(i1, frame, 540);
   j0 = l4;
   i0 = (u32)(j0);
   i1 = p1;
-  i32_store_at(i1, frame, 504);
+  i32_store_at(i1, frame, 536);
+  j0 = l4;
+  i0 = (u32)(j0);
+  j1 = l6;
+  i64_store_at(j1, frame, 528);
+  j0 = l4;
+  i0 = (u32)(j0);
+  j1 = l6;
+  i64_store_at(j1, frame, 520);
+  j0 = l4;
+  i0 = (u32)(j0);
+  j1 = l5;
+  i64_store_at(j1, frame, 512);
+  i0 = l58;
+  if (i0) {goto B8;}
+  j0 = l4;
+  j1 = 512ull;
+  j0 += j1;
+  j1 = p2;
+  j2 = 4096ull;
+  j3 = 0ull;
+  j4 = p2;
+  i4 = !(j4);
+  j2 = i4 ? j2 : j3;
+  j1 += j2;
+  j2 = p3;
+  call(i0 = code_f24(m, last, j0, j1, j2));
+  i1 = 255u;
+  i0 &= i1;
+  if (i0) {goto B4;}
+  B8:;
+  j0 = l4;
+  i0 = (u32)(j0);
+  j1 = l4;
+  i1 = (u32)(j1);
+  i64_load_at(j1, frame, 536);
+  l8 = j1;
+  i64_store_at(j1, frame, 504);
   j0 = l4;
   i0 = (u32)(j0);
   j1 = l6;
@@ -13540,182 +13332,8 @@ static u32 code_pocket_sender_open(uint8_t *const m, const u32 last, u64 p0, u32
   i64_store_at(j1, frame, 488);
   j0 = l4;
   i0 = (u32)(j0);
-  j1 = l7;
+  j1 = l5;
   i64_store_at(j1, frame, 480);
-  i0 = l58;
-  if (i0) {goto B7;}
-  j0 = l4;
-  j1 = 480ull;
-  j0 += j1;
-  j1 = p2;
-  j2 = 4096ull;
-  j3 = 0ull;
-  j4 = p2;
-  i4 = !(j4);
-  j2 = i4 ? j2 : j3;
-  j1 += j2;
-  j2 = p3;
-  call(i0 = code_f25(m, last, j0, j1, j2));
-  i1 = 255u;
-  i0 &= i1;
-  if (i0) {goto B3;}
-  B7:;
-  j0 = l4;
-  j1 = 88ull;
-  j0 += j1;
-  i1 = p1;
-  j2 = l4;
-  j3 = 480ull;
-  j2 += j3;
-  call(code_f36(m, last, j0, i1, j2));
-  j0 = l4;
-  i0 = (u32)(j0);
-  i32_load8_u_at(i0, frame, 88);
-  if (i0) {goto B9;}
-  j0 = l4;
-  i0 = (u32)(j0);
-  i64_load_at(j0, frame, 472);
-  l8 = j0;
-  j0 = l4;
-  i0 = (u32)(j0);
-  i64_load_at(j0, frame, 440);
-  p2 = j0;
-  j0 = l4;
-  i0 = (u32)(j0);
-  i64_load_at(j0, frame, 432);
-  l9 = j0;
-  j0 = l4;
-  i0 = (u32)(j0);
-  i64_load_at(j0, frame, 424);
-  l10 = j0;
-  j0 = l4;
-  i0 = (u32)(j0);
-  i64_load_at(j0, frame, 416);
-  l11 = j0;
-  j0 = l4;
-  i0 = (u32)(j0);
-  i64_load_at(j0, frame, 408);
-  l12 = j0;
-  j0 = l4;
-  i0 = (u32)(j0);
-  i64_load_at(j0, frame, 400);
-  l13 = j0;
-  j0 = l4;
-  i0 = (u32)(j0);
-  i64_load_at(j0, frame, 392);
-  l14 = j0;
-  j0 = l4;
-  i0 = (u32)(j0);
-  i64_load_at(j0, frame, 384);
-  l15 = j0;
-  j0 = l4;
-  i0 = (u32)(j0);
-  i64_load_at(j0, frame, 376);
-  l16 = j0;
-  j0 = l4;
-  i0 = (u32)(j0);
-  i64_load_at(j0, frame, 368);
-  l17 = j0;
-  j0 = l4;
-  i0 = (u32)(j0);
-  i64_load_at(j0, frame, 344);
-  l18 = j0;
-  j0 = l4;
-  i0 = (u32)(j0);
-  i64_load_at(j0, frame, 336);
-  l19 = j0;
-  j0 = l4;
-  i0 = (u32)(j0);
-  i64_load_at(j0, frame, 328);
-  l20 = j0;
-  j0 = l4;
-  i0 = (u32)(j0);
-  i64_load_at(j0, frame, 320);
-  l21 = j0;
-  j0 = l4;
-  i0 = (u32)(j0);
-  i64_load_at(j0, frame, 312);
-  l22 = j0;
-  j0 = l4;
-  i0 = (u32)(j0);
-  i64_load_at(j0, frame, 304);
-  l23 = j0;
-  j0 = l4;
-  i0 = (u32)(j0);
-  i64_load_at(j0, frame, 296);
-  l24 = j0;
-  j0 = l4;
-  i0 = (u32)(j0);
-  i64_load_at(j0, frame, 288);
-  l25 = j0;
-  j0 = l4;
-  i0 = (u32)(j0);
-  i64_load_at(j0, frame, 280);
-  l26 = j0;
-  j0 = l4;
-  i0 = (u32)(j0);
-  i64_load_at(j0, frame, 216);
-  l27 = j0;
-  j0 = l4;
-  i0 = (u32)(j0);
-  i64_load_at(j0, frame, 208);
-  l28 = j0;
-  j0 = l4;
-  i0 = (u32)(j0);
-  i64_load_at(j0, frame, 200);
-  l29 = j0;
-  j0 = l4;
-  i0 = (u32)(j0);
-  i64_load_at(j0, frame, 192);
-  l30 = j0;
-  j0 = l4;
-  i0 = (u32)(j0);
-  i64_load_at(j0, frame, 184);
-  l31 = j0;
-  j0 = l4;
-  i0 = (u32)(j0);
-  i64_load_at(j0, frame, 176);
-  l32 = j0;
-  j0 = l4;
-  i0 = (u32)(j0);
-  i64_load_at(j0, frame, 168);
-  l33 = j0;
-  j0 = l4;
-  i0 = (u32)(j0);
-  i64_load_at(j0, frame, 160);
-  l34 = j0;
-  j0 = l4;
-  i0 = (u32)(j0);
-  i64_load_at(j0, frame, 152);
-  l35 = j0;
-  j0 = l4;
-  i0 = (u32)(j0);
-  i64_load_at(j0, frame, 144);
-  l36 = j0;
-  j0 = l4;
-  i0 = (u32)(j0);
-  i64_load_at(j0, frame, 136);
-  l37 = j0;
-  j0 = l4;
-  i0 = (u32)(j0);
-  i64_load_at(j0, frame, 128);
-  l38 = j0;
-  j0 = l4;
-  i0 = (u32)(j0);
-  i64_load_at(j0, frame, 120);
-  l39 = j0;
-  j0 = l4;
-  i0 = (u32)(j0);
-  i64_load_at(j0, frame, 112);
-  l40 = j0;
-  j0 = l4;
-  i0 = (u32)(j0);
-  i64_load_at(j0, frame, 104);
-  l41 = j0;
-  j0 = l4;
-  i0 = (u32)(j0);
-  i64_load_at(j0, frame, 96);
-  l42 = j0;
   j0 = l4;
   j1 = 24ull;
   j0 += j1;
@@ -13724,7 +13342,7 @@ static u32 code_pocket_sender_open(uint8_t *const m, const u32 last, u64 p0, u32
   i1 *= i2;
   i2 = 43u;
   i1 += i2;
-  p1 = i1;
+  l58 = i1;
   i2 = 3u;
   i1 >>= (i2 & 31);
   i2 = 262136u;
@@ -13732,145 +13350,243 @@ static u32 code_pocket_sender_open(uint8_t *const m, const u32 last, u64 p0, u32
   i2 = 16u;
   i1 += i2;
   j1 = (u64)(i1);
-  p3 = j1;
+  p2 = j1;
   j2 = 1ull;
   call(heap_alloc(m, last, j0, j1, j2));
+  i0 = 1u;
+  l57 = i0;
   j0 = l4;
   i0 = (u32)(j0);
   i64_load_at(j0, frame, 24);
   i0 = (u32)(j0);
   i1 = 1u;
   i0 &= i1;
-  if (i0) {goto B8;}
-  j0 = l40;
-  i0 = !(j0);
-  if (i0) {goto B10;}
-  j0 = l42;
-  call(heap_dealloc(m, last, j0));
-  B10:;
-  j0 = l36;
-  i0 = !(j0);
-  if (i0) {goto B11;}
-  j0 = l38;
-  call(heap_dealloc(m, last, j0));
-  B11:;
-  j0 = l32;
-  i0 = !(j0);
-  if (i0) {goto B12;}
-  j0 = l34;
-  call(heap_dealloc(m, last, j0));
-  B12:;
-  j0 = l4;
-  j1 = 240ull;
-  j0 += j1;
-  p0 = j0;
-  j0 = l28;
-  i0 = !(j0);
-  if (i0) {goto B13;}
-  j0 = l30;
-  call(heap_dealloc(m, last, j0));
-  B13:;
-  j0 = p0;
-  call(code_f37(m, last, j0));
-  j0 = l24;
-  i0 = !(j0);
-  if (i0) {goto B14;}
-  j0 = l26;
-  call(heap_dealloc(m, last, j0));
-  B14:;
-  j0 = l19;
-  i0 = !(j0);
-  if (i0) {goto B15;}
-  j0 = l21;
-  call(heap_dealloc(m, last, j0));
-  B15:;
-  j0 = l15;
-  i0 = !(j0);
-  if (i0) {goto B16;}
-  j0 = l17;
-  call(heap_dealloc(m, last, j0));
-  B16:;
-  j0 = l11;
-  i0 = !(j0);
-  if (i0) {goto B17;}
-  j0 = l13;
-  call(heap_dealloc(m, last, j0));
-  B17:;
-  j0 = p2;
-  i0 = !(j0);
-  if (i0) {goto B9;}
-  j0 = l10;
-  call(heap_dealloc(m, last, j0));
-  B9:;
-  j0 = l7;
-  call(heap_dealloc(m, last, j0));
-  goto B0;
-  B8:;
+  i0 = !(i0);
+  if (i0) {goto B3;}
   j0 = l4;
   i0 = (u32)(j0);
   i64_load_at(j0, frame, 32);
-  l43 = j0;
-  j0 = p3;
+  l7 = j0;
+  j0 = p2;
   i0 = !(j0);
-  if (i0) {goto B18;}
-  j0 = l43;
+  if (i0) {goto B9;}
+  j0 = l7;
   i0 = (u32)(j0);
   i1 = 0u;
-  j2 = p3;
+  j2 = p2;
   i2 = (u32)(j2);
   memory_fill(i0, i1, i2);
-  B18:;
+  B9:;
+  j0 = l4;
+  j1 = 88ull;
+  j0 += j1;
+  i1 = p1;
+  j2 = l4;
+  j3 = 480ull;
+  j2 += j3;
+  call(code_f35(m, last, j0, i1, j2));
   j0 = l4;
   i0 = (u32)(j0);
-  i64_load_at(j0, frame, 504);
-  l44 = j0;
+  i32_load8_u_at(i0, frame, 88);
+  i0 = !(i0);
+  if (i0) {goto B10;}
+  j0 = l7;
+  call(heap_dealloc(m, last, j0));
+  j0 = l5;
+  call(heap_dealloc(m, last, j0));
+  goto B0;
+  B10:;
+  j0 = l4;
+  i0 = (u32)(j0);
+  i64_load_at(j0, frame, 472);
+  l9 = j0;
   j0 = l4;
   i0 = (u32)(j0);
   i64_load_at(j0, frame, 464);
-  l45 = j0;
+  l10 = j0;
   j0 = l4;
   i0 = (u32)(j0);
   i64_load_at(j0, frame, 456);
-  l46 = j0;
+  l11 = j0;
   j0 = l4;
   i0 = (u32)(j0);
   i64_load_at(j0, frame, 448);
-  l47 = j0;
+  l12 = j0;
+  j0 = l4;
+  i0 = (u32)(j0);
+  i64_load_at(j0, frame, 440);
+  l13 = j0;
+  j0 = l4;
+  i0 = (u32)(j0);
+  i64_load_at(j0, frame, 432);
+  l14 = j0;
+  j0 = l4;
+  i0 = (u32)(j0);
+  i64_load_at(j0, frame, 424);
+  l15 = j0;
+  j0 = l4;
+  i0 = (u32)(j0);
+  i64_load_at(j0, frame, 416);
+  l16 = j0;
+  j0 = l4;
+  i0 = (u32)(j0);
+  i64_load_at(j0, frame, 408);
+  l17 = j0;
+  j0 = l4;
+  i0 = (u32)(j0);
+  i64_load_at(j0, frame, 400);
+  l18 = j0;
+  j0 = l4;
+  i0 = (u32)(j0);
+  i64_load_at(j0, frame, 392);
+  l19 = j0;
+  j0 = l4;
+  i0 = (u32)(j0);
+  i64_load_at(j0, frame, 384);
+  l20 = j0;
+  j0 = l4;
+  i0 = (u32)(j0);
+  i64_load_at(j0, frame, 376);
+  l21 = j0;
+  j0 = l4;
+  i0 = (u32)(j0);
+  i64_load_at(j0, frame, 368);
+  l22 = j0;
   j0 = l4;
   i0 = (u32)(j0);
   i64_load_at(j0, frame, 360);
-  l48 = j0;
+  l23 = j0;
   j0 = l4;
   i0 = (u32)(j0);
   i64_load_at(j0, frame, 352);
-  l49 = j0;
+  l24 = j0;
+  j0 = l4;
+  i0 = (u32)(j0);
+  i64_load_at(j0, frame, 344);
+  l25 = j0;
+  j0 = l4;
+  i0 = (u32)(j0);
+  i64_load_at(j0, frame, 336);
+  l26 = j0;
+  j0 = l4;
+  i0 = (u32)(j0);
+  i64_load_at(j0, frame, 328);
+  l27 = j0;
+  j0 = l4;
+  i0 = (u32)(j0);
+  i64_load_at(j0, frame, 320);
+  l28 = j0;
+  j0 = l4;
+  i0 = (u32)(j0);
+  i64_load_at(j0, frame, 312);
+  l29 = j0;
+  j0 = l4;
+  i0 = (u32)(j0);
+  i64_load_at(j0, frame, 304);
+  l30 = j0;
+  j0 = l4;
+  i0 = (u32)(j0);
+  i64_load_at(j0, frame, 296);
+  l31 = j0;
+  j0 = l4;
+  i0 = (u32)(j0);
+  i64_load_at(j0, frame, 288);
+  l32 = j0;
+  j0 = l4;
+  i0 = (u32)(j0);
+  i64_load_at(j0, frame, 280);
+  l33 = j0;
   j0 = l4;
   i0 = (u32)(j0);
   i64_load_at(j0, frame, 272);
-  l50 = j0;
+  l34 = j0;
   j0 = l4;
   i0 = (u32)(j0);
   i64_load_at(j0, frame, 264);
-  l51 = j0;
+  l35 = j0;
   j0 = l4;
   i0 = (u32)(j0);
   i64_load_at(j0, frame, 256);
-  l52 = j0;
+  l36 = j0;
   j0 = l4;
   i0 = (u32)(j0);
   i64_load_at(j0, frame, 248);
-  l53 = j0;
+  l37 = j0;
   j0 = l4;
   i0 = (u32)(j0);
   i64_load_at(j0, frame, 240);
-  l54 = j0;
+  l38 = j0;
   j0 = l4;
   i0 = (u32)(j0);
   i64_load_at(j0, frame, 232);
-  l55 = j0;
+  l39 = j0;
   j0 = l4;
   i0 = (u32)(j0);
   i64_load_at(j0, frame, 224);
+  l40 = j0;
+  j0 = l4;
+  i0 = (u32)(j0);
+  i64_load_at(j0, frame, 216);
+  l41 = j0;
+  j0 = l4;
+  i0 = (u32)(j0);
+  i64_load_at(j0, frame, 208);
+  l42 = j0;
+  j0 = l4;
+  i0 = (u32)(j0);
+  i64_load_at(j0, frame, 200);
+  l43 = j0;
+  j0 = l4;
+  i0 = (u32)(j0);
+  i64_load_at(j0, frame, 192);
+  l44 = j0;
+  j0 = l4;
+  i0 = (u32)(j0);
+  i64_load_at(j0, frame, 184);
+  l45 = j0;
+  j0 = l4;
+  i0 = (u32)(j0);
+  i64_load_at(j0, frame, 176);
+  l46 = j0;
+  j0 = l4;
+  i0 = (u32)(j0);
+  i64_load_at(j0, frame, 168);
+  l47 = j0;
+  j0 = l4;
+  i0 = (u32)(j0);
+  i64_load_at(j0, frame, 160);
+  l48 = j0;
+  j0 = l4;
+  i0 = (u32)(j0);
+  i64_load_at(j0, frame, 152);
+  l49 = j0;
+  j0 = l4;
+  i0 = (u32)(j0);
+  i64_load_at(j0, frame, 144);
+  l50 = j0;
+  j0 = l4;
+  i0 = (u32)(j0);
+  i64_load_at(j0, frame, 136);
+  l51 = j0;
+  j0 = l4;
+  i0 = (u32)(j0);
+  i64_load_at(j0, frame, 128);
+  l52 = j0;
+  j0 = l4;
+  i0 = (u32)(j0);
+  i64_load_at(j0, frame, 120);
+  l53 = j0;
+  j0 = l4;
+  i0 = (u32)(j0);
+  i64_load_at(j0, frame, 112);
+  l54 = j0;
+  j0 = l4;
+  i0 = (u32)(j0);
+  i64_load_at(j0, frame, 104);
+  l55 = j0;
+  j0 = l4;
+  i0 = (u32)(j0);
+  i64_load_at(j0, frame, 96);
   l56 = j0;
   j0 = l4;
   j1 = 8ull;
@@ -13885,254 +13601,254 @@ static u32 code_pocket_sender_open(uint8_t *const m, const u32 last, u64 p0, u32
   i1 = 1u;
   i0 &= i1;
   i0 = !(i0);
-  if (i0) {goto B19;}
+  if (i0) {goto B11;}
   j0 = l4;
   i0 = (u32)(j0);
   i64_load_at(j0, frame, 16);
-  l5 = j0;
+  p3 = j0;
   i0 = (u32)(j0);
-  j1 = p3;
+  j1 = p2;
   reach(a2, i0, 256, 208);
   i64_store_at(j1, a2, 184);
-  j0 = l5;
+  j0 = p3;
   i0 = (u32)(j0);
-  j1 = p3;
+  j1 = p2;
   i64_store_at(j1, a2, 176);
-  j0 = l5;
+  j0 = p3;
   i0 = (u32)(j0);
-  j1 = l43;
+  j1 = l7;
   i64_store_at(j1, a2, 168);
-  j0 = l5;
+  j0 = p3;
   i0 = (u32)(j0);
-  j1 = l44;
+  j1 = l8;
   i64_store_at(j1, a2, 160);
-  j0 = l5;
+  j0 = p3;
   i0 = (u32)(j0);
   j1 = l6;
   i64_store_at(j1, a2, 152);
-  j0 = l5;
+  j0 = p3;
   i0 = (u32)(j0);
   j1 = l6;
   i64_store_at(j1, a2, 144);
-  j0 = l5;
+  j0 = p3;
   i0 = (u32)(j0);
-  j1 = l7;
+  j1 = l5;
   i64_store_at(j1, a2, 136);
-  j0 = l5;
-  i0 = (u32)(j0);
-  j1 = l8;
-  i64_store_at(j1, a2, 128);
-  j0 = l5;
-  i0 = (u32)(j0);
-  j1 = l45;
-  i64_store_at(j1, a2, 120);
-  j0 = l5;
-  i0 = (u32)(j0);
-  j1 = l46;
-  i64_store_at(j1, a2, 112);
-  j0 = l5;
-  i0 = (u32)(j0);
-  j1 = l47;
-  i64_store_at(j1, a2, 104);
-  j0 = l5;
-  i0 = (u32)(j0);
-  j1 = p2;
-  i64_store_at(j1, a2, 96);
-  j0 = l5;
+  j0 = p3;
   i0 = (u32)(j0);
   j1 = l9;
-  i64_store_at(j1, a2, 88);
-  j0 = l5;
+  i64_store_at(j1, a2, 128);
+  j0 = p3;
   i0 = (u32)(j0);
   j1 = l10;
-  i64_store_at(j1, a2, 80);
-  j0 = l5;
+  i64_store_at(j1, a2, 120);
+  j0 = p3;
   i0 = (u32)(j0);
   j1 = l11;
-  i64_store_at(j1, a2, 72);
-  j0 = l5;
+  i64_store_at(j1, a2, 112);
+  j0 = p3;
   i0 = (u32)(j0);
   j1 = l12;
-  i64_store_at(j1, a2, 64);
-  j0 = l5;
+  i64_store_at(j1, a2, 104);
+  j0 = p3;
   i0 = (u32)(j0);
   j1 = l13;
-  i64_store_at(j1, a2, 56);
-  j0 = l5;
+  i64_store_at(j1, a2, 96);
+  j0 = p3;
   i0 = (u32)(j0);
   j1 = l14;
-  i64_store_at(j1, a2, 48);
-  j0 = l5;
+  i64_store_at(j1, a2, 88);
+  j0 = p3;
   i0 = (u32)(j0);
   j1 = l15;
-  i64_store_at(j1, a2, 40);
-  j0 = l5;
+  i64_store_at(j1, a2, 80);
+  j0 = p3;
   i0 = (u32)(j0);
   j1 = l16;
-  i64_store_at(j1, a2, 32);
-  j0 = l5;
+  i64_store_at(j1, a2, 72);
+  j0 = p3;
   i0 = (u32)(j0);
   j1 = l17;
-  i64_store_at(j1, a2, 24);
-  j0 = l5;
-  i0 = (u32)(j0);
-  j1 = l48;
-  i64_store_at(j1, a2, 16);
-  j0 = l5;
-  i0 = (u32)(j0);
-  j1 = l49;
-  i64_store_at(j1, a2, 8);
-  j0 = l5;
+  i64_store_at(j1, a2, 64);
+  j0 = p3;
   i0 = (u32)(j0);
   j1 = l18;
-  i64_store_at(j1, a2, 0);
-  j0 = l5;
+  i64_store_at(j1, a2, 56);
+  j0 = p3;
   i0 = (u32)(j0);
   j1 = l19;
-  reach(a3, i0, 0, 248);
-  i64_store_at(j1, a3, 248);
-  j0 = l5;
+  i64_store_at(j1, a2, 48);
+  j0 = p3;
   i0 = (u32)(j0);
   j1 = l20;
-  i64_store_at(j1, a3, 240);
-  j0 = l5;
+  i64_store_at(j1, a2, 40);
+  j0 = p3;
   i0 = (u32)(j0);
   j1 = l21;
-  i64_store_at(j1, a3, 232);
-  j0 = l5;
+  i64_store_at(j1, a2, 32);
+  j0 = p3;
   i0 = (u32)(j0);
   j1 = l22;
-  i64_store_at(j1, a3, 224);
-  j0 = l5;
+  i64_store_at(j1, a2, 24);
+  j0 = p3;
   i0 = (u32)(j0);
   j1 = l23;
-  i64_store_at(j1, a3, 216);
-  j0 = l5;
+  i64_store_at(j1, a2, 16);
+  j0 = p3;
   i0 = (u32)(j0);
   j1 = l24;
-  i64_store_at(j1, a3, 208);
-  j0 = l5;
+  i64_store_at(j1, a2, 8);
+  j0 = p3;
   i0 = (u32)(j0);
   j1 = l25;
-  i64_store_at(j1, a3, 200);
-  j0 = l5;
+  i64_store_at(j1, a2, 0);
+  j0 = p3;
   i0 = (u32)(j0);
   j1 = l26;
-  i64_store_at(j1, a3, 192);
-  j0 = l5;
-  i0 = (u32)(j0);
-  j1 = l50;
-  i64_store_at(j1, a3, 184);
-  j0 = l5;
-  i0 = (u32)(j0);
-  j1 = l51;
-  i64_store_at(j1, a3, 176);
-  j0 = l5;
-  i0 = (u32)(j0);
-  j1 = l52;
-  i64_store_at(j1, a3, 168);
-  j0 = l5;
-  i0 = (u32)(j0);
-  j1 = l53;
-  i64_store_at(j1, a3, 160);
-  j0 = l5;
-  i0 = (u32)(j0);
-  j1 = l54;
-  i64_store_at(j1, a3, 152);
-  j0 = l5;
-  i0 = (u32)(j0);
-  j1 = l55;
-  i64_store_at(j1, a3, 144);
-  j0 = l5;
-  i0 = (u32)(j0);
-  j1 = l56;
-  i64_store_at(j1, a3, 136);
-  j0 = l5;
+  reach(a3, i0, 0, 248);
+  i64_store_at(j1, a3, 248);
+  j0 = p3;
   i0 = (u32)(j0);
   j1 = l27;
-  i64_store_at(j1, a3, 128);
-  j0 = l5;
+  i64_store_at(j1, a3, 240);
+  j0 = p3;
   i0 = (u32)(j0);
   j1 = l28;
-  i64_store_at(j1, a3, 120);
-  j0 = l5;
+  i64_store_at(j1, a3, 232);
+  j0 = p3;
   i0 = (u32)(j0);
   j1 = l29;
-  i64_store_at(j1, a3, 112);
-  j0 = l5;
+  i64_store_at(j1, a3, 224);
+  j0 = p3;
   i0 = (u32)(j0);
   j1 = l30;
-  i64_store_at(j1, a3, 104);
-  j0 = l5;
+  i64_store_at(j1, a3, 216);
+  j0 = p3;
   i0 = (u32)(j0);
   j1 = l31;
-  i64_store_at(j1, a3, 96);
-  j0 = l5;
+  i64_store_at(j1, a3, 208);
+  j0 = p3;
   i0 = (u32)(j0);
   j1 = l32;
-  i64_store_at(j1, a3, 88);
-  j0 = l5;
+  i64_store_at(j1, a3, 200);
+  j0 = p3;
   i0 = (u32)(j0);
   j1 = l33;
-  i64_store_at(j1, a3, 80);
-  j0 = l5;
+  i64_store_at(j1, a3, 192);
+  j0 = p3;
   i0 = (u32)(j0);
   j1 = l34;
-  i64_store_at(j1, a3, 72);
-  j0 = l5;
+  i64_store_at(j1, a3, 184);
+  j0 = p3;
   i0 = (u32)(j0);
   j1 = l35;
-  i64_store_at(j1, a3, 64);
-  j0 = l5;
+  i64_store_at(j1, a3, 176);
+  j0 = p3;
   i0 = (u32)(j0);
   j1 = l36;
-  i64_store_at(j1, a3, 56);
-  j0 = l5;
+  i64_store_at(j1, a3, 168);
+  j0 = p3;
   i0 = (u32)(j0);
   j1 = l37;
-  i64_store_at(j1, a3, 48);
-  j0 = l5;
+  i64_store_at(j1, a3, 160);
+  j0 = p3;
   i0 = (u32)(j0);
   j1 = l38;
-  i64_store_at(j1, a3, 40);
-  j0 = l5;
+  i64_store_at(j1, a3, 152);
+  j0 = p3;
   i0 = (u32)(j0);
   j1 = l39;
-  i64_store_at(j1, a3, 32);
-  j0 = l5;
+  i64_store_at(j1, a3, 144);
+  j0 = p3;
   i0 = (u32)(j0);
   j1 = l40;
-  i64_store_at(j1, a3, 24);
-  j0 = l5;
+  i64_store_at(j1, a3, 136);
+  j0 = p3;
   i0 = (u32)(j0);
   j1 = l41;
-  i64_store_at(j1, a3, 16);
-  j0 = l5;
+  i64_store_at(j1, a3, 128);
+  j0 = p3;
   i0 = (u32)(j0);
   j1 = l42;
+  i64_store_at(j1, a3, 120);
+  j0 = p3;
+  i0 = (u32)(j0);
+  j1 = l43;
+  i64_store_at(j1, a3, 112);
+  j0 = p3;
+  i0 = (u32)(j0);
+  j1 = l44;
+  i64_store_at(j1, a3, 104);
+  j0 = p3;
+  i0 = (u32)(j0);
+  j1 = l45;
+  i64_store_at(j1, a3, 96);
+  j0 = p3;
+  i0 = (u32)(j0);
+  j1 = l46;
+  i64_store_at(j1, a3, 88);
+  j0 = p3;
+  i0 = (u32)(j0);
+  j1 = l47;
+  i64_store_at(j1, a3, 80);
+  j0 = p3;
+  i0 = (u32)(j0);
+  j1 = l48;
+  i64_store_at(j1, a3, 72);
+  j0 = p3;
+  i0 = (u32)(j0);
+  j1 = l49;
+  i64_store_at(j1, a3, 64);
+  j0 = p3;
+  i0 = (u32)(j0);
+  j1 = l50;
+  i64_store_at(j1, a3, 56);
+  j0 = p3;
+  i0 = (u32)(j0);
+  j1 = l51;
+  i64_store_at(j1, a3, 48);
+  j0 = p3;
+  i0 = (u32)(j0);
+  j1 = l52;
+  i64_store_at(j1, a3, 40);
+  j0 = p3;
+  i0 = (u32)(j0);
+  j1 = l53;
+  i64_store_at(j1, a3, 32);
+  j0 = p3;
+  i0 = (u32)(j0);
+  j1 = l54;
+  i64_store_at(j1, a3, 24);
+  j0 = p3;
+  i0 = (u32)(j0);
+  j1 = l55;
+  i64_store_at(j1, a3, 16);
+  j0 = p3;
+  i0 = (u32)(j0);
+  j1 = l56;
   i64_store_at(j1, a3, 8);
-  j0 = l5;
+  j0 = p3;
   i0 = (u32)(j0);
   j1 = 0ull;
   i64_store_at(j1, a3, 0);
-  j0 = l5;
+  j0 = p3;
   i0 = (u32)(j0);
   j1 = 0ull;
   i64_store_at(j1, a2, 200);
-  j0 = l5;
+  j0 = p3;
   i0 = (u32)(j0);
   j1 = 0ull;
   i64_store_at(j1, a2, 192);
-  j0 = l5;
+  j0 = p3;
   i0 = (u32)(j0);
-  i1 = p1;
+  i1 = l58;
   j1 = (u64)(i1);
   j2 = 32ull;
   j1 <<= (j2 & 63);
   i64_store_at(j1, a2, 208);
   i0 = 0u;
   l57 = i0;
-  j0 = l5;
+  j0 = p3;
   j1 = 472ull;
   j0 += j1;
   i0 = (u32)(j0);
@@ -14151,111 +13867,115 @@ static u32 code_pocket_sender_open(uint8_t *const m, const u32 last, u64 p0, u32
   j0 = p0;
   i0 = (u32)(j0);
   i64_load_at(j0, a0, 0);
-  p3 = j0;
+  l5 = j0;
   j0 = p0;
   i0 = (u32)(j0);
-  j1 = l5;
+  j1 = p3;
   i64_store_at(j1, a0, 0);
   j0 = l6;
   i0 = !(j0);
   if (i0) {goto B0;}
-  j0 = p3;
+  j0 = l5;
   call(code_f3(m, last, j0));
   goto B0;
-  B19:;
-  j0 = l40;
+  B11:;
+  j0 = l54;
   i0 = !(j0);
-  if (i0) {goto B20;}
+  if (i0) {goto B12;}
+  j0 = l56;
+  call(heap_dealloc(m, last, j0));
+  B12:;
+  j0 = l50;
+  i0 = !(j0);
+  if (i0) {goto B13;}
+  j0 = l52;
+  call(heap_dealloc(m, last, j0));
+  B13:;
+  j0 = l46;
+  i0 = !(j0);
+  if (i0) {goto B14;}
+  j0 = l48;
+  call(heap_dealloc(m, last, j0));
+  B14:;
   j0 = l42;
-  call(heap_dealloc(m, last, j0));
-  B20:;
-  j0 = l36;
   i0 = !(j0);
-  if (i0) {goto B21;}
-  j0 = l38;
+  if (i0) {goto B15;}
+  j0 = l44;
   call(heap_dealloc(m, last, j0));
-  B21:;
-  j0 = l32;
-  i0 = !(j0);
-  if (i0) {goto B22;}
-  j0 = l34;
-  call(heap_dealloc(m, last, j0));
-  B22:;
-  j0 = l28;
-  i0 = !(j0);
-  if (i0) {goto B23;}
-  j0 = l30;
-  call(heap_dealloc(m, last, j0));
-  B23:;
+  B15:;
   j0 = l4;
   i0 = (u32)(j0);
-  j1 = l51;
+  j1 = l35;
   i64_store_at(j1, frame, 80);
   j0 = l4;
   i0 = (u32)(j0);
-  j1 = l52;
+  j1 = l36;
   i64_store_at(j1, frame, 72);
   j0 = l4;
   i0 = (u32)(j0);
-  j1 = l53;
+  j1 = l37;
   i64_store_at(j1, frame, 64);
   j0 = l4;
   i0 = (u32)(j0);
-  j1 = l54;
+  j1 = l38;
   i64_store_at(j1, frame, 56);
   j0 = l4;
   j1 = 56ull;
   j0 += j1;
   call(code_f4(m, last, j0));
-  j0 = l24;
+  j0 = l31;
   i0 = !(j0);
-  if (i0) {goto B24;}
+  if (i0) {goto B16;}
+  j0 = l33;
+  call(heap_dealloc(m, last, j0));
+  B16:;
   j0 = l26;
-  call(heap_dealloc(m, last, j0));
-  B24:;
-  j0 = l19;
   i0 = !(j0);
-  if (i0) {goto B25;}
-  j0 = l21;
+  if (i0) {goto B17;}
+  j0 = l28;
   call(heap_dealloc(m, last, j0));
-  B25:;
-  j0 = l15;
+  B17:;
+  j0 = l20;
   i0 = !(j0);
-  if (i0) {goto B26;}
-  j0 = l17;
+  if (i0) {goto B18;}
+  j0 = l22;
   call(heap_dealloc(m, last, j0));
-  B26:;
-  j0 = l11;
+  B18:;
+  j0 = l16;
   i0 = !(j0);
-  if (i0) {goto B27;}
+  if (i0) {goto B19;}
+  j0 = l18;
+  call(heap_dealloc(m, last, j0));
+  B19:;
   j0 = l13;
-  call(heap_dealloc(m, last, j0));
-  B27:;
-  j0 = p2;
   i0 = !(j0);
-  if (i0) {goto B28;}
-  j0 = l10;
+  if (i0) {goto B20;}
+  j0 = l15;
   call(heap_dealloc(m, last, j0));
-  B28:;
+  B20:;
+  j0 = l5;
+  call(heap_dealloc(m, last, j0));
   j0 = l7;
-  call(heap_dealloc(m, last, j0));
-  j0 = l43;
   call(heap_dealloc(m, last, j0));
   i0 = 1u;
   l57 = i0;
   goto B0;
-  B4:;
+  B5:;
   i0 = 6u;
   l57 = i0;
   goto B0;
-  B3:;
-  j0 = l7;
+  B4:;
+  j0 = l5;
   call(heap_dealloc(m, last, j0));
   i0 = 7u;
   l57 = i0;
+  goto B0;
+  B3:;
+  j0 = l5;
+  call(heap_dealloc(m, last, j0));
   B0:;
   j0 = l4;
-  j1 = 512ull;
+  j1 = 544ull;
   j0 += j1;
   set_stack(j0);
   i0 = l57;
@@ -14347,7 +14067,7 @@ static u32 code_pocket_sender_reset(uint8_t *const m, const u32 last, u64 p0, u6
   j2 = i4 ? j2 : j3;
   j1 += j2;
   j2 = p2;
-  call(i0 = code_f25(m, last, j0, j1, j2));
+  call(i0 = code_f24(m, last, j0, j1, j2));
   i1 = 255u;
   i0 &= i1;
   i0 = !(i0);
@@ -14933,7 +14653,6 @@ static void code_f20(uint8_t *const m, const u32 last, u64 p0, u64 p1, u32 p2);
 static void code_f21(uint8_t *const m, const u32 last, u64 p0, u64 p1, u64 p2, u64 p3, u32 p4, u64 p5, u64 p6);
 static void code_f22(uint8_t *const m, const u32 last, u64 p0, u64 p1, u32 p2);
 static void code_f23(uint8_t *const m, const u32 last, u64 p0, u32 p1);
-static void code_f24(uint8_t *const m, const u32 last, u64 p0, u32 p1);
 static u32 code_pocket_counts(uint8_t *const m, const u32 last, u64 p0, u64 p1);
 static u32 code_pocket_receive(uint8_t *const m, const u32 last, u64 p0, u32 p1, u64 p2, u64 p3, u64 p4, u64 p5, u64 p6);
 static u32 code_pocket_receiver_open(uint8_t *const m, const u32 last, u64 p0, u32 p1);
@@ -29170,17 +28889,9 @@ static void code_f23(uint8_t *const m, const u32 last, u64 p0, u32 p1) {
   u32 i0, i1, i2;
   u64 j0, j1, j2;
   uint8_t *frame, *a1, *a2, *a3;
-  enter(l2, 336);
+  enter(l2, 256);
   frame = place(l2);
   j0 = l2;
-  j0 = l2;
-  j1 = 176ull;
-  j0 += j1;
-  i0 = (u32)(j0);
-  i1 = 0u;
-  j2 = 96ull;
-  i2 = (u32)(j2);
-  memory_fill(i0, i1, i2);
   i0 = p1;
   i1 = 6u;
   i0 >>= (i1 & 31);
@@ -29194,9 +28905,9 @@ static void code_f23(uint8_t *const m, const u32 last, u64 p0, u32 p1) {
   l3 = j0;
   i0 = p1;
   i0 = !(i0);
-  if (i0) {goto B9;}
+  if (i0) {goto B5;}
   j0 = l2;
-  j1 = 160ull;
+  j1 = 176ull;
   j0 += j1;
   j1 = l3;
   j2 = 3ull;
@@ -29206,7 +28917,7 @@ static void code_f23(uint8_t *const m, const u32 last, u64 p0, u32 p1) {
   call(heap_alloc(m, last, j0, j1, j2));
   j0 = l2;
   i0 = (u32)(j0);
-  i64_load_at(j0, frame, 160);
+  i64_load_at(j0, frame, 176);
   i0 = (u32)(j0);
   i1 = 1u;
   i0 &= i1;
@@ -29214,19 +28925,49 @@ static void code_f23(uint8_t *const m, const u32 last, u64 p0, u32 p1) {
   if (i0) {goto B1;}
   j0 = l2;
   i0 = (u32)(j0);
-  i64_load_at(j0, frame, 168);
+  i64_load_at(j0, frame, 184);
   l5 = j0;
   j0 = l4;
   i0 = !(j0);
   l19 = i0;
-  if (i0) {goto B10;}
+  if (i0) {goto B6;}
   j0 = l5;
   i0 = (u32)(j0);
   i1 = 0u;
   j2 = l4;
   i2 = (u32)(j2);
   memory_fill(i0, i1, i2);
-  B10:;
+  B6:;
+  j0 = l2;
+  j1 = 160ull;
+  j0 += j1;
+  j1 = l4;
+  j2 = 8ull;
+  call(heap_alloc(m, last, j0, j1, j2));
+  j0 = l2;
+  i0 = (u32)(j0);
+  i64_load_at(j0, frame, 160);
+  i0 = (u32)(j0);
+  i1 = 1u;
+  i0 &= i1;
+  if (i0) {goto B7;}
+  j0 = l5;
+  call(heap_dealloc(m, last, j0));
+  goto B1;
+  B7:;
+  j0 = l2;
+  i0 = (u32)(j0);
+  i64_load_at(j0, frame, 168);
+  l6 = j0;
+  i0 = l19;
+  if (i0) {goto B8;}
+  j0 = l6;
+  i0 = (u32)(j0);
+  i1 = 0u;
+  j2 = l4;
+  i2 = (u32)(j2);
+  memory_fill(i0, i1, i2);
+  B8:;
   j0 = l2;
   j1 = 144ull;
   j0 += j1;
@@ -29239,24 +28980,21 @@ static void code_f23(uint8_t *const m, const u32 last, u64 p0, u32 p1) {
   i0 = (u32)(j0);
   i1 = 1u;
   i0 &= i1;
-  if (i0) {goto B11;}
-  j0 = l5;
-  call(heap_dealloc(m, last, j0));
-  goto B1;
-  B11:;
+  i0 = !(i0);
+  if (i0) {goto B2;}
   j0 = l2;
   i0 = (u32)(j0);
   i64_load_at(j0, frame, 152);
-  l6 = j0;
+  l7 = j0;
   i0 = l19;
-  if (i0) {goto B12;}
-  j0 = l6;
+  if (i0) {goto B9;}
+  j0 = l7;
   i0 = (u32)(j0);
   i1 = 0u;
   j2 = l4;
   i2 = (u32)(j2);
   memory_fill(i0, i1, i2);
-  B12:;
+  B9:;
   j0 = l2;
   j1 = 128ull;
   j0 += j1;
@@ -29269,21 +29007,24 @@ static void code_f23(uint8_t *const m, const u32 last, u64 p0, u32 p1) {
   i0 = (u32)(j0);
   i1 = 1u;
   i0 &= i1;
-  i0 = !(i0);
-  if (i0) {goto B2;}
+  if (i0) {goto B10;}
+  j0 = l7;
+  call(heap_dealloc(m, last, j0));
+  goto B2;
+  B10:;
   j0 = l2;
   i0 = (u32)(j0);
   i64_load_at(j0, frame, 136);
-  l7 = j0;
+  l8 = j0;
   i0 = l19;
-  if (i0) {goto B13;}
-  j0 = l7;
+  if (i0) {goto B11;}
+  j0 = l8;
   i0 = (u32)(j0);
   i1 = 0u;
   j2 = l4;
   i2 = (u32)(j2);
   memory_fill(i0, i1, i2);
-  B13:;
+  B11:;
   j0 = l2;
   j1 = 112ull;
   j0 += j1;
@@ -29296,40 +29037,21 @@ static void code_f23(uint8_t *const m, const u32 last, u64 p0, u32 p1) {
   i0 = (u32)(j0);
   i1 = 1u;
   i0 &= i1;
-  if (i0) {goto B14;}
-  j0 = l7;
-  call(heap_dealloc(m, last, j0));
-  goto B2;
-  B14:;
+  i0 = !(i0);
+  if (i0) {goto B3;}
   j0 = l2;
   i0 = (u32)(j0);
   i64_load_at(j0, frame, 120);
-  l8 = j0;
+  l9 = j0;
   i0 = l19;
-  if (i0) {goto B15;}
-  j0 = l8;
+  if (i0) {goto B12;}
+  j0 = l9;
   i0 = (u32)(j0);
   i1 = 0u;
   j2 = l4;
   i2 = (u32)(j2);
   memory_fill(i0, i1, i2);
-  B15:;
-  j0 = l2;
-  i0 = (u32)(j0);
-  j1 = 0ull;
-  i64_store_at(j1, frame, 320);
-  j0 = l2;
-  i0 = (u32)(j0);
-  j1 = 0ull;
-  i64_store_at(j1, frame, 312);
-  j0 = l2;
-  i0 = (u32)(j0);
-  j1 = 0ull;
-  i64_store_at(j1, frame, 304);
-  j0 = l2;
-  i0 = (u32)(j0);
-  j1 = 0ull;
-  i64_store_at(j1, frame, 296);
+  B12:;
   j0 = l2;
   j1 = 96ull;
   j0 += j1;
@@ -29342,21 +29064,24 @@ static void code_f23(uint8_t *const m, const u32 last, u64 p0, u32 p1) {
   i0 = (u32)(j0);
   i1 = 1u;
   i0 &= i1;
-  i0 = !(i0);
-  if (i0) {goto B3;}
+  if (i0) {goto B13;}
+  j0 = l9;
+  call(heap_dealloc(m, last, j0));
+  goto B3;
+  B13:;
   j0 = l2;
   i0 = (u32)(j0);
   i64_load_at(j0, frame, 104);
-  l9 = j0;
+  l10 = j0;
   i0 = l19;
-  if (i0) {goto B16;}
-  j0 = l9;
+  if (i0) {goto B14;}
+  j0 = l10;
   i0 = (u32)(j0);
   i1 = 0u;
   j2 = l4;
   i2 = (u32)(j2);
   memory_fill(i0, i1, i2);
-  B16:;
+  B14:;
   j0 = l2;
   j1 = 80ull;
   j0 += j1;
@@ -29369,24 +29094,21 @@ static void code_f23(uint8_t *const m, const u32 last, u64 p0, u32 p1) {
   i0 = (u32)(j0);
   i1 = 1u;
   i0 &= i1;
-  if (i0) {goto B17;}
-  j0 = l9;
-  call(heap_dealloc(m, last, j0));
-  goto B3;
-  B17:;
+  i0 = !(i0);
+  if (i0) {goto B15;}
   j0 = l2;
   i0 = (u32)(j0);
   i64_load_at(j0, frame, 88);
-  l10 = j0;
+  l11 = j0;
   i0 = l19;
-  if (i0) {goto B18;}
-  j0 = l10;
+  if (i0) {goto B16;}
+  j0 = l11;
   i0 = (u32)(j0);
   i1 = 0u;
   j2 = l4;
   i2 = (u32)(j2);
   memory_fill(i0, i1, i2);
-  B18:;
+  B16:;
   j0 = l2;
   j1 = 64ull;
   j0 += j1;
@@ -29400,20 +29122,20 @@ static void code_f23(uint8_t *const m, const u32 last, u64 p0, u32 p1) {
   i1 = 1u;
   i0 &= i1;
   i0 = !(i0);
-  if (i0) {goto B4;}
+  if (i0) {goto B17;}
   j0 = l2;
   i0 = (u32)(j0);
   i64_load_at(j0, frame, 72);
-  l11 = j0;
+  l12 = j0;
   i0 = l19;
-  if (i0) {goto B19;}
-  j0 = l11;
+  if (i0) {goto B18;}
+  j0 = l12;
   i0 = (u32)(j0);
   i1 = 0u;
   j2 = l4;
   i2 = (u32)(j2);
   memory_fill(i0, i1, i2);
-  B19:;
+  B18:;
   j0 = l2;
   j1 = 48ull;
   j0 += j1;
@@ -29427,14 +29149,14 @@ static void code_f23(uint8_t *const m, const u32 last, u64 p0, u32 p1) {
   i1 = 1u;
   i0 &= i1;
   i0 = !(i0);
-  if (i0) {goto B5;}
+  if (i0) {goto B19;}
   j0 = l2;
   i0 = (u32)(j0);
   i64_load_at(j0, frame, 56);
-  l12 = j0;
+  l13 = j0;
   i0 = l19;
   if (i0) {goto B20;}
-  j0 = l12;
+  j0 = l13;
   i0 = (u32)(j0);
   i1 = 0u;
   j2 = l4;
@@ -29454,20 +29176,20 @@ static void code_f23(uint8_t *const m, const u32 last, u64 p0, u32 p1) {
   i1 = 1u;
   i0 &= i1;
   i0 = !(i0);
-  if (i0) {goto B6;}
+  if (i0) {goto B21;}
   j0 = l2;
   i0 = (u32)(j0);
   i64_load_at(j0, frame, 40);
-  l13 = j0;
+  l14 = j0;
   i0 = l19;
-  if (i0) {goto B21;}
-  j0 = l13;
+  if (i0) {goto B22;}
+  j0 = l14;
   i0 = (u32)(j0);
   i1 = 0u;
   j2 = l4;
   i2 = (u32)(j2);
   memory_fill(i0, i1, i2);
-  B21:;
+  B22:;
   j0 = l2;
   j1 = 16ull;
   j0 += j1;
@@ -29481,35 +29203,10 @@ static void code_f23(uint8_t *const m, const u32 last, u64 p0, u32 p1) {
   i1 = 1u;
   i0 &= i1;
   i0 = !(i0);
-  if (i0) {goto B7;}
-  j0 = l2;
-  i0 = (u32)(j0);
-  i64_load_at(j0, frame, 24);
-  l14 = j0;
-  i0 = l19;
-  if (i0) {goto B22;}
-  j0 = l14;
-  i0 = (u32)(j0);
-  i1 = 0u;
-  j2 = l4;
-  i2 = (u32)(j2);
-  memory_fill(i0, i1, i2);
-  B22:;
-  j0 = l2;
-  j1 = l4;
-  j2 = 8ull;
-  call(heap_alloc(m, last, j0, j1, j2));
-  j0 = l2;
-  i0 = (u32)(j0);
-  i64_load_at(j0, frame, 0);
-  i0 = (u32)(j0);
-  i1 = 1u;
-  i0 &= i1;
-  i0 = !(i0);
   if (i0) {goto B23;}
   j0 = l2;
   i0 = (u32)(j0);
-  i64_load_at(j0, frame, 8);
+  i64_load_at(j0, frame, 24);
   l15 = j0;
   i0 = l19;
   if (i0) {goto B24;}
@@ -29521,490 +29218,501 @@ static void code_f23(uint8_t *const m, const u32 last, u64 p0, u32 p1) {
   memory_fill(i0, i1, i2);
   B24:;
   j0 = l2;
-  j1 = 296ull;
-  j0 += j1;
-  i1 = p1;
-  call(code_f24(m, last, j0, i1));
+  j1 = l3;
+  j2 = 56ull;
+  j1 *= j2;
+  j2 = 8ull;
+  call(heap_alloc(m, last, j0, j1, j2));
   j0 = l2;
   i0 = (u32)(j0);
-  i32_load8_u_at(i0, frame, 296);
+  i64_load_at(j0, frame, 0);
+  i0 = (u32)(j0);
+  i1 = 1u;
+  i0 &= i1;
+  i0 = !(i0);
   if (i0) {goto B25;}
   i0 = p1;
   j0 = (u64)(i0);
   l4 = j0;
-  goto B8;
+  j0 = l2;
+  i0 = (u32)(j0);
+  i64_load_at(j0, frame, 8);
+  l16 = j0;
+  l17 = j0;
+  j0 = l3;
+  l18 = j0;
+  L26:
+    j0 = l2;
+    j1 = 192ull;
+    j0 += j1;
+    j1 = 0ull;
+    call(code_f15(m, last, j0, j1));
+    j0 = l17;
+    i0 = (u32)(j0);
+    j1 = l2;
+    i1 = (u32)(j1);
+    i64_load_at(j1, frame, 240);
+    reach(a1, i0, 0, 48);
+    i64_store_at(j1, a1, 48);
+    j0 = l17;
+    i0 = (u32)(j0);
+    j1 = l2;
+    i1 = (u32)(j1);
+    i64_load_at(j1, frame, 232);
+    i64_store_at(j1, a1, 40);
+    j0 = l17;
+    i0 = (u32)(j0);
+    j1 = l2;
+    i1 = (u32)(j1);
+    i64_load_at(j1, frame, 224);
+    i64_store_at(j1, a1, 32);
+    j0 = l17;
+    i0 = (u32)(j0);
+    j1 = l2;
+    i1 = (u32)(j1);
+    i64_load_at(j1, frame, 216);
+    i64_store_at(j1, a1, 24);
+    j0 = l17;
+    i0 = (u32)(j0);
+    j1 = l2;
+    i1 = (u32)(j1);
+    i64_load_at(j1, frame, 208);
+    i64_store_at(j1, a1, 16);
+    j0 = l17;
+    i0 = (u32)(j0);
+    j1 = l2;
+    i1 = (u32)(j1);
+    i64_load_at(j1, frame, 200);
+    i64_store_at(j1, a1, 8);
+    j0 = l17;
+    i0 = (u32)(j0);
+    j1 = l2;
+    i1 = (u32)(j1);
+    i64_load_at(j1, frame, 192);
+    i64_store_at(j1, a1, 0);
+    j0 = l17;
+    j1 = 56ull;
+    j0 += j1;
+    l17 = j0;
+    j0 = l18;
+    j1 = 18446744073709551615ull;
+    j0 += j1;
+    l18 = j0;
+    i0 = !(j0);
+    i0 = !(i0);
+    if (i0) {goto L26;}
+  j0 = l3;
+  l17 = j0;
+  goto B4;
   B25:;
   j0 = l15;
   call(heap_dealloc(m, last, j0));
   B23:;
   j0 = l14;
   call(heap_dealloc(m, last, j0));
-  goto B7;
-  B9:;
-  j0 = l2;
-  i0 = (u32)(j0);
-  j1 = l3;
-  i64_store_at(j1, frame, 320);
+  B21:;
+  j0 = l13;
+  call(heap_dealloc(m, last, j0));
+  B19:;
+  j0 = l12;
+  call(heap_dealloc(m, last, j0));
+  B17:;
+  j0 = l11;
+  call(heap_dealloc(m, last, j0));
+  B15:;
+  j0 = l9;
+  call(heap_dealloc(m, last, j0));
+  j0 = l10;
+  call(heap_dealloc(m, last, j0));
+  goto B3;
+  B5:;
   j0 = 0ull;
   l4 = j0;
   j0 = l2;
-  i0 = (u32)(j0);
-  j1 = 0ull;
-  i64_store_at(j1, frame, 312);
-  j0 = l2;
-  i0 = (u32)(j0);
-  j1 = l2;
-  j2 = 328ull;
-  j1 += j2;
-  i64_store_at(j1, frame, 304);
-  j0 = l2;
-  j1 = 328ull;
+  j1 = 248ull;
   j0 += j1;
   l6 = j0;
   l5 = j0;
+  j0 = l6;
+  l8 = j0;
+  j0 = l6;
+  l7 = j0;
+  j0 = l6;
+  l12 = j0;
+  j0 = l6;
+  l10 = j0;
+  j0 = l6;
+  l9 = j0;
+  j0 = l6;
+  l11 = j0;
   j0 = l6;
   l15 = j0;
   j0 = l6;
   l13 = j0;
   j0 = l6;
-  l11 = j0;
-  j0 = l6;
-  l9 = j0;
-  j0 = l6;
-  l10 = j0;
-  j0 = l6;
-  l12 = j0;
-  j0 = l6;
   l14 = j0;
   j0 = l6;
-  l7 = j0;
-  j0 = l6;
-  l8 = j0;
-  B8:;
-  j0 = l2;
-  i0 = (u32)(j0);
-  j1 = l2;
-  i1 = (u32)(j1);
-  i64_load_at(j1, frame, 320);
-  l16 = j1;
-  i64_store_at(j1, frame, 288);
-  j0 = l2;
-  i0 = (u32)(j0);
-  j1 = l2;
-  i1 = (u32)(j1);
-  i64_load_at(j1, frame, 312);
-  l17 = j1;
-  i64_store_at(j1, frame, 280);
-  j0 = l2;
-  i0 = (u32)(j0);
-  j1 = l2;
-  i1 = (u32)(j1);
-  i64_load_at(j1, frame, 304);
-  l18 = j1;
-  i64_store_at(j1, frame, 272);
-  j0 = l2;
-  i0 = (u32)(j0);
-  j1 = l18;
-  i64_store_at(j1, frame, 176);
-  j0 = l2;
-  i0 = (u32)(j0);
-  j1 = l17;
-  i64_store_at(j1, frame, 184);
-  j0 = l2;
-  i0 = (u32)(j0);
-  j1 = l16;
-  i64_store_at(j1, frame, 192);
-  j0 = l2;
-  j1 = 176ull;
-  j0 += j1;
-  j1 = 24ull;
-  j0 += j1;
+  l16 = j0;
+  j0 = 0ull;
+  l17 = j0;
+  B4:;
+  j0 = p0;
   i0 = (u32)(j0);
   i1 = 0u;
-  j2 = 72ull;
-  i2 = (u32)(j2);
-  memory_fill(i0, i1, i2);
+  reach(a2, i0, 0, 248);
+  i32_store8_at(i1, a2, 0);
   j0 = p0;
   j1 = 8ull;
   j0 += j1;
   i0 = (u32)(j0);
   j1 = 0ull;
-  reach(a1, i0, -8, 248);
-  i64_store_at(j1, a1, 8);
-  j0 = p0;
-  i0 = (u32)(j0);
-  i1 = 0u;
-  i32_store8_at(i1, a1, 0);
+  i64_store_at(j1, a2, 8);
   j0 = p0;
   j1 = 16ull;
   j0 += j1;
   i0 = (u32)(j0);
   j1 = 0ull;
-  i64_store_at(j1, a1, 16);
+  i64_store_at(j1, a2, 16);
   j0 = p0;
   j1 = 24ull;
   j0 += j1;
   i0 = (u32)(j0);
   j1 = 0ull;
-  i64_store_at(j1, a1, 24);
+  i64_store_at(j1, a2, 24);
   j0 = p0;
   j1 = 32ull;
   j0 += j1;
   i0 = (u32)(j0);
   j1 = 0ull;
-  i64_store_at(j1, a1, 32);
+  i64_store_at(j1, a2, 32);
   j0 = p0;
   j1 = 72ull;
   j0 += j1;
   i0 = (u32)(j0);
   j1 = 0ull;
-  i64_store_at(j1, a1, 72);
+  i64_store_at(j1, a2, 72);
   j0 = p0;
   j1 = 64ull;
   j0 += j1;
   i0 = (u32)(j0);
   j1 = l4;
-  i64_store_at(j1, a1, 64);
+  i64_store_at(j1, a2, 64);
   j0 = p0;
   j1 = 56ull;
   j0 += j1;
   i0 = (u32)(j0);
   j1 = l3;
-  i64_store_at(j1, a1, 56);
+  i64_store_at(j1, a2, 56);
   j0 = p0;
   j1 = 48ull;
   j0 += j1;
   i0 = (u32)(j0);
   j1 = l3;
-  i64_store_at(j1, a1, 48);
+  i64_store_at(j1, a2, 48);
   j0 = p0;
   j1 = 40ull;
   j0 += j1;
   i0 = (u32)(j0);
   j1 = l5;
-  i64_store_at(j1, a1, 40);
+  i64_store_at(j1, a2, 40);
   j0 = p0;
   j1 = 80ull;
   j0 += j1;
   i0 = (u32)(j0);
   j1 = 0ull;
-  i64_store_at(j1, a1, 80);
+  i64_store_at(j1, a2, 80);
+  j0 = p0;
+  j1 = 456ull;
+  j0 += j1;
+  i0 = (u32)(j0);
+  j1 = l3;
+  reach(a3, i0, -200, 200);
+  i64_store_at(j1, a3, 200);
+  j0 = p0;
+  j1 = 448ull;
+  j0 += j1;
+  i0 = (u32)(j0);
+  j1 = l17;
+  i64_store_at(j1, a3, 192);
+  j0 = p0;
+  j1 = 440ull;
+  j0 += j1;
+  i0 = (u32)(j0);
+  j1 = l16;
+  i64_store_at(j1, a3, 184);
   j0 = p0;
   j1 = 432ull;
   j0 += j1;
   i0 = (u32)(j0);
   j1 = l4;
-  reach(a2, i0, -176, 176);
-  i64_store_at(j1, a2, 176);
+  i64_store_at(j1, a3, 176);
   j0 = p0;
   j1 = 424ull;
   j0 += j1;
   i0 = (u32)(j0);
   j1 = l3;
-  i64_store_at(j1, a2, 168);
+  i64_store_at(j1, a3, 168);
   j0 = p0;
   j1 = 416ull;
   j0 += j1;
   i0 = (u32)(j0);
   j1 = l3;
-  i64_store_at(j1, a2, 160);
+  i64_store_at(j1, a3, 160);
   j0 = p0;
   j1 = 408ull;
   j0 += j1;
   i0 = (u32)(j0);
   j1 = l15;
-  i64_store_at(j1, a2, 152);
+  i64_store_at(j1, a3, 152);
   j0 = p0;
   j1 = 400ull;
   j0 += j1;
   i0 = (u32)(j0);
   j1 = l4;
-  i64_store_at(j1, a2, 144);
+  i64_store_at(j1, a3, 144);
   j0 = p0;
   j1 = 392ull;
   j0 += j1;
   i0 = (u32)(j0);
   j1 = l3;
-  i64_store_at(j1, a2, 136);
+  i64_store_at(j1, a3, 136);
   j0 = p0;
   j1 = 384ull;
   j0 += j1;
   i0 = (u32)(j0);
   j1 = l3;
-  i64_store_at(j1, a2, 128);
+  i64_store_at(j1, a3, 128);
   j0 = p0;
   j1 = 376ull;
   j0 += j1;
   i0 = (u32)(j0);
   j1 = l14;
-  i64_store_at(j1, a2, 120);
+  i64_store_at(j1, a3, 120);
   j0 = p0;
   j1 = 368ull;
   j0 += j1;
   i0 = (u32)(j0);
   j1 = l4;
-  i64_store_at(j1, a2, 112);
+  i64_store_at(j1, a3, 112);
   j0 = p0;
   j1 = 360ull;
   j0 += j1;
   i0 = (u32)(j0);
   j1 = l3;
-  i64_store_at(j1, a2, 104);
+  i64_store_at(j1, a3, 104);
   j0 = p0;
   j1 = 352ull;
   j0 += j1;
   i0 = (u32)(j0);
   j1 = l3;
-  i64_store_at(j1, a2, 96);
+  i64_store_at(j1, a3, 96);
   j0 = p0;
   j1 = 344ull;
   j0 += j1;
   i0 = (u32)(j0);
   j1 = l13;
-  i64_store_at(j1, a2, 88);
+  i64_store_at(j1, a3, 88);
   j0 = p0;
   j1 = 336ull;
   j0 += j1;
   i0 = (u32)(j0);
   j1 = l4;
-  i64_store_at(j1, a2, 80);
+  i64_store_at(j1, a3, 80);
   j0 = p0;
   j1 = 328ull;
   j0 += j1;
   i0 = (u32)(j0);
   j1 = l3;
-  i64_store_at(j1, a2, 72);
+  i64_store_at(j1, a3, 72);
   j0 = p0;
   j1 = 320ull;
   j0 += j1;
   i0 = (u32)(j0);
   j1 = l3;
-  i64_store_at(j1, a2, 64);
+  i64_store_at(j1, a3, 64);
   j0 = p0;
   j1 = 312ull;
   j0 += j1;
   i0 = (u32)(j0);
   j1 = l12;
-  i64_store_at(j1, a2, 56);
+  i64_store_at(j1, a3, 56);
   j0 = p0;
   j1 = 304ull;
   j0 += j1;
   i0 = (u32)(j0);
   j1 = l4;
-  i64_store_at(j1, a2, 48);
+  i64_store_at(j1, a3, 48);
   j0 = p0;
   j1 = 296ull;
   j0 += j1;
   i0 = (u32)(j0);
   j1 = l3;
-  i64_store_at(j1, a2, 40);
+  i64_store_at(j1, a3, 40);
   j0 = p0;
   j1 = 288ull;
   j0 += j1;
   i0 = (u32)(j0);
   j1 = l3;
-  i64_store_at(j1, a2, 32);
+  i64_store_at(j1, a3, 32);
   j0 = p0;
   j1 = 280ull;
   j0 += j1;
   i0 = (u32)(j0);
   j1 = l11;
-  i64_store_at(j1, a2, 24);
+  i64_store_at(j1, a3, 24);
   j0 = p0;
   j1 = 272ull;
   j0 += j1;
   i0 = (u32)(j0);
   j1 = 0ull;
-  i64_store_at(j1, a2, 16);
+  i64_store_at(j1, a3, 16);
   j0 = p0;
   j1 = 264ull;
   j0 += j1;
   i0 = (u32)(j0);
   j1 = l4;
-  i64_store_at(j1, a2, 8);
+  i64_store_at(j1, a3, 8);
   j0 = p0;
   j1 = 256ull;
   j0 += j1;
   i0 = (u32)(j0);
   j1 = l3;
-  i64_store_at(j1, a2, 0);
+  i64_store_at(j1, a3, 0);
   j0 = p0;
   j1 = 248ull;
   j0 += j1;
   i0 = (u32)(j0);
   j1 = l3;
-  i64_store_at(j1, a1, 248);
+  i64_store_at(j1, a2, 248);
   j0 = p0;
   j1 = 240ull;
   j0 += j1;
   i0 = (u32)(j0);
   j1 = l10;
-  i64_store_at(j1, a1, 240);
+  i64_store_at(j1, a2, 240);
   j0 = p0;
   j1 = 232ull;
   j0 += j1;
   i0 = (u32)(j0);
   j1 = 1ull;
-  i64_store_at(j1, a1, 232);
+  i64_store_at(j1, a2, 232);
   j0 = p0;
   j1 = 224ull;
   j0 += j1;
   i0 = (u32)(j0);
   j1 = l4;
-  i64_store_at(j1, a1, 224);
+  i64_store_at(j1, a2, 224);
   j0 = p0;
   j1 = 216ull;
   j0 += j1;
   i0 = (u32)(j0);
   j1 = l3;
-  i64_store_at(j1, a1, 216);
+  i64_store_at(j1, a2, 216);
   j0 = p0;
   j1 = 208ull;
   j0 += j1;
   i0 = (u32)(j0);
   j1 = l3;
-  i64_store_at(j1, a1, 208);
+  i64_store_at(j1, a2, 208);
   j0 = p0;
   j1 = 200ull;
   j0 += j1;
   i0 = (u32)(j0);
   j1 = l9;
-  i64_store_at(j1, a1, 200);
+  i64_store_at(j1, a2, 200);
   j0 = p0;
   j1 = 192ull;
   j0 += j1;
   i0 = (u32)(j0);
   j1 = 0ull;
-  i64_store_at(j1, a1, 192);
+  i64_store_at(j1, a2, 192);
   j0 = p0;
   j1 = 184ull;
   j0 += j1;
   i0 = (u32)(j0);
   j1 = l4;
-  i64_store_at(j1, a1, 184);
+  i64_store_at(j1, a2, 184);
   j0 = p0;
   j1 = 176ull;
   j0 += j1;
   i0 = (u32)(j0);
   j1 = l3;
-  i64_store_at(j1, a1, 176);
+  i64_store_at(j1, a2, 176);
   j0 = p0;
   j1 = 168ull;
   j0 += j1;
   i0 = (u32)(j0);
   j1 = l3;
-  i64_store_at(j1, a1, 168);
+  i64_store_at(j1, a2, 168);
   j0 = p0;
   j1 = 160ull;
   j0 += j1;
   i0 = (u32)(j0);
   j1 = l8;
-  i64_store_at(j1, a1, 160);
+  i64_store_at(j1, a2, 160);
   j0 = p0;
   j1 = 152ull;
   j0 += j1;
   i0 = (u32)(j0);
   j1 = 1ull;
-  i64_store_at(j1, a1, 152);
+  i64_store_at(j1, a2, 152);
   j0 = p0;
   j1 = 144ull;
   j0 += j1;
   i0 = (u32)(j0);
   j1 = l4;
-  i64_store_at(j1, a1, 144);
+  i64_store_at(j1, a2, 144);
   j0 = p0;
   j1 = 136ull;
   j0 += j1;
   i0 = (u32)(j0);
   j1 = l3;
-  i64_store_at(j1, a1, 136);
+  i64_store_at(j1, a2, 136);
   j0 = p0;
   j1 = 128ull;
   j0 += j1;
   i0 = (u32)(j0);
   j1 = l3;
-  i64_store_at(j1, a1, 128);
+  i64_store_at(j1, a2, 128);
   j0 = p0;
   j1 = 120ull;
   j0 += j1;
   i0 = (u32)(j0);
   j1 = l7;
-  i64_store_at(j1, a1, 120);
+  i64_store_at(j1, a2, 120);
   j0 = p0;
   j1 = 112ull;
   j0 += j1;
   i0 = (u32)(j0);
   j1 = l4;
-  i64_store_at(j1, a1, 112);
+  i64_store_at(j1, a2, 112);
   j0 = p0;
   j1 = 104ull;
   j0 += j1;
   i0 = (u32)(j0);
   j1 = l3;
-  i64_store_at(j1, a1, 104);
+  i64_store_at(j1, a2, 104);
   j0 = p0;
   j1 = 96ull;
   j0 += j1;
   i0 = (u32)(j0);
   j1 = l3;
-  i64_store_at(j1, a1, 96);
+  i64_store_at(j1, a2, 96);
   j0 = p0;
   j1 = 88ull;
   j0 += j1;
   i0 = (u32)(j0);
   j1 = l6;
-  i64_store_at(j1, a1, 88);
+  i64_store_at(j1, a2, 88);
   j0 = p0;
-  j1 = 440ull;
+  j1 = 464ull;
   j0 += j1;
   i0 = (u32)(j0);
-  j1 = l2;
-  j2 = 176ull;
-  j1 += j2;
-  i1 = (u32)(j1);
-  j2 = 96ull;
+  i1 = 0u;
+  j2 = 104ull;
   i2 = (u32)(j2);
-  memory_copy(i0, i1, i2);
-  j0 = p0;
-  j1 = 560ull;
-  j0 += j1;
-  i0 = (u32)(j0);
-  j1 = 0ull;
-  reach(a3, i0, -24, 24);
-  i64_store_at(j1, a3, 24);
-  j0 = p0;
-  j1 = 552ull;
-  j0 += j1;
-  i0 = (u32)(j0);
-  j1 = 0ull;
-  i64_store_at(j1, a3, 16);
-  j0 = p0;
-  j1 = 544ull;
-  j0 += j1;
-  i0 = (u32)(j0);
-  j1 = 0ull;
-  i64_store_at(j1, a3, 8);
-  j0 = p0;
-  j1 = 536ull;
-  j0 += j1;
-  i0 = (u32)(j0);
-  j1 = 0ull;
-  i64_store_at(j1, a3, 0);
+  memory_fill(i0, i1, i2);
   goto B0;
-  B7:;
-  j0 = l13;
-  call(heap_dealloc(m, last, j0));
-  B6:;
-  j0 = l12;
-  call(heap_dealloc(m, last, j0));
-  B5:;
-  j0 = l11;
-  call(heap_dealloc(m, last, j0));
-  B4:;
-  j0 = l9;
-  call(heap_dealloc(m, last, j0));
-  j0 = l10;
-  call(heap_dealloc(m, last, j0));
   B3:;
   j0 = l7;
   call(heap_dealloc(m, last, j0));
@@ -30030,180 +29738,7 @@ static void code_f23(uint8_t *const m, const u32 last, u64 p0, u32 p1) {
   memory_fill(i0, i1, i2);
   B0:;
   j0 = l2;
-  j1 = 336ull;
-  j0 += j1;
-  set_stack(j0);
-  return;
-  trap:
-  set_broken(m);
-  return;
-}
-
-static void code_f24(uint8_t *const m, const u32 last, u64 p0, u32 p1) {
-  u64 l2 = 0, l3 = 0, l4 = 0, l5 = 0, l6 = 0;
-  u32 i0, i1, i2;
-  u64 j0, j1, j2;
-  uint8_t *frame, *a1, *a2, *a3;
-  enter(l2, 80);
-  frame = place(l2);
-  j0 = l2;
-  i0 = p1;
-  i1 = 6u;
-  i0 >>= (i1 & 31);
-  i1 = p1;
-  i2 = 63u;
-  i1 &= i2;
-  i2 = 0u;
-  i1 = i1 != i2;
-  i0 += i1;
-  j0 = (u64)(i0);
-  l3 = j0;
-  i0 = p1;
-  if (i0) {goto B2;}
-  j0 = 0ull;
-  l4 = j0;
-  j0 = l2;
-  j1 = 72ull;
-  j0 += j1;
-  l5 = j0;
-  goto B1;
-  B2:;
-  j0 = l2;
-  j1 = l3;
-  j2 = 56ull;
-  j1 *= j2;
-  j2 = 8ull;
-  call(heap_alloc(m, last, j0, j1, j2));
-  j0 = l2;
-  i0 = (u32)(j0);
-  i64_load_at(j0, frame, 0);
-  i0 = (u32)(j0);
-  i1 = 1u;
-  i0 &= i1;
-  i0 = !(i0);
-  if (i0) {goto B3;}
-  j0 = l2;
-  i0 = (u32)(j0);
-  i64_load_at(j0, frame, 8);
-  l5 = j0;
-  l4 = j0;
-  j0 = l3;
-  l6 = j0;
-  L4:
-    j0 = l2;
-    j1 = 16ull;
-    j0 += j1;
-    j1 = 0ull;
-    call(code_f15(m, last, j0, j1));
-    j0 = l4;
-    i0 = (u32)(j0);
-    j1 = l2;
-    i1 = (u32)(j1);
-    i64_load_at(j1, frame, 64);
-    reach(a1, i0, 0, 48);
-    i64_store_at(j1, a1, 48);
-    j0 = l4;
-    i0 = (u32)(j0);
-    j1 = l2;
-    i1 = (u32)(j1);
-    i64_load_at(j1, frame, 56);
-    i64_store_at(j1, a1, 40);
-    j0 = l4;
-    i0 = (u32)(j0);
-    j1 = l2;
-    i1 = (u32)(j1);
-    i64_load_at(j1, frame, 48);
-    i64_store_at(j1, a1, 32);
-    j0 = l4;
-    i0 = (u32)(j0);
-    j1 = l2;
-    i1 = (u32)(j1);
-    i64_load_at(j1, frame, 40);
-    i64_store_at(j1, a1, 24);
-    j0 = l4;
-    i0 = (u32)(j0);
-    j1 = l2;
-    i1 = (u32)(j1);
-    i64_load_at(j1, frame, 32);
-    i64_store_at(j1, a1, 16);
-    j0 = l4;
-    i0 = (u32)(j0);
-    j1 = l2;
-    i1 = (u32)(j1);
-    i64_load_at(j1, frame, 24);
-    i64_store_at(j1, a1, 8);
-    j0 = l4;
-    i0 = (u32)(j0);
-    j1 = l2;
-    i1 = (u32)(j1);
-    i64_load_at(j1, frame, 16);
-    i64_store_at(j1, a1, 0);
-    j0 = l4;
-    j1 = 56ull;
-    j0 += j1;
-    l4 = j0;
-    j0 = l6;
-    j1 = 18446744073709551615ull;
-    j0 += j1;
-    l6 = j0;
-    j1 = 0ull;
-    i0 = j0 != j1;
-    if (i0) {goto L4;}
-  j0 = l3;
-  l4 = j0;
-  goto B1;
-  B3:;
-  j0 = p0;
-  i0 = (u32)(j0);
-  i1 = 1u;
-  reach(a2, i0, 0, 24);
-  i32_store8_at(i1, a2, 0);
-  j0 = p0;
-  j1 = 8ull;
-  j0 += j1;
-  i0 = (u32)(j0);
-  j1 = 0ull;
-  i64_store_at(j1, a2, 8);
-  j0 = p0;
-  j1 = 16ull;
-  j0 += j1;
-  i0 = (u32)(j0);
-  j1 = 0ull;
-  i64_store_at(j1, a2, 16);
-  j0 = p0;
-  j1 = 24ull;
-  j0 += j1;
-  i0 = (u32)(j0);
-  j1 = 0ull;
-  i64_store_at(j1, a2, 24);
-  goto B0;
-  B1:;
-  j0 = p0;
-  i0 = (u32)(j0);
-  i1 = 0u;
-  reach(a3, i0, 0, 24);
-  i32_store8_at(i1, a3, 0);
-  j0 = p0;
-  j1 = 24ull;
-  j0 += j1;
-  i0 = (u32)(j0);
-  j1 = l3;
-  i64_store_at(j1, a3, 24);
-  j0 = p0;
-  j1 = 16ull;
-  j0 += j1;
-  i0 = (u32)(j0);
-  j1 = l4;
-  i64_store_at(j1, a3, 16);
-  j0 = p0;
-  j1 = 8ull;
-  j0 += j1;
-  i0 = (u32)(j0);
-  j1 = l5;
-  i64_store_at(j1, a3, 8);
-  B0:;
-  j0 = l2;
-  j1 = 80ull;
+  j1 = 256ull;
   j0 += j1;
   set_stack(j0);
   return;
