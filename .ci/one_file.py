@@ -200,9 +200,9 @@ def wrong(room, name):
     need(compiler, *emulator)
     to = os.path.join(folder, "driver")
     run([compiler, "-std=c99", "-O1", "-static", "-DPOCKET_ONE_FILE", "-I", folder, "-o", to, DRIVER, f"{folder}/pocket.c"])
-    lines = "".join(line + "\n" for line in room.tests["the worked inputs"][0]).encode()
-    found = subprocess.run([*emulator, to], input=lines, capture_output=True, timeout=60).stdout.decode(errors="replace").splitlines()
-    return "it gives what is right" if found == room.wanted["the worked inputs"] else None
+    lines = "".join(line + "\n" for lines, _ in room.tests.values() for line in lines).encode()
+    found = subprocess.run([*emulator, to], input=lines, capture_output=True, timeout=600).stdout.decode(errors="replace").splitlines()
+    return "it gives what is right" if found == [line for lines in room.wanted.values() for line in lines] else None
 
 
 def board(room):
