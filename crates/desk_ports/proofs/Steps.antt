@@ -72,7 +72,7 @@ unfolding Ends-after
 Finishes-after work here a b c answer p q = record { ends = Ends-after work here a b c None p q.ends; answered = q.answered ∙ sym (p.steps.answer q.ends.input) }
 
 -- a run after a part of it that was done before
-pub AfterRun-after : {A F : Type 0} (work here : Work A F) (a b c : Meanings) (result : Result A (Stop F)) → Reaches work here a b → AfterRun here b c result → AfterRun work a c result
+AfterRun-after : {A F : Type 0} (work here : Work A F) (a b c : Meanings) (result : Result A (Stop F)) → Reaches work here a b → AfterRun here b c result → AfterRun work a c result
 AfterRun-after work here a b c (Ok answer) p q = Finishes-after work here a b c answer p q
 AfterRun-after work here a b c (Err stop) p q = AfterStop-after work here a b c stop p q
 
@@ -108,9 +108,9 @@ pub IsCutShort-taken : {A F : Type 0} {work here next : Work A F} {a b c : Meani
 IsCutShort-taken {A = A} {F = F} {here = here} {next = next} {a = a} {b = b} {c = c} {taken = taken} {outputs = outputs} is steps moves front =
     subst (λ (w : Work A F). IsCutShort w.course a c) (sym is) (IsCutShort-front here next a c taken front.stand outputs steps front.fronts (Ran-taken a b c taken front.stand moves front.wrote))
 
--- what is owed before anything is read was written
-pub Reaches-wrote : {A F : Type 0} (work next : Work A F) (a b : Meanings) (outputs : Outputs) → Steps work next [] outputs → Wrote a b outputs → Reaches work next a b
-Reaches-wrote work next a b outputs steps wrote = record { taken = []; outputs = outputs; ran = wrote; steps = steps }
+-- a run after what is owed before anything is read was written
+pub AfterRun-wrote : {A F : Type 0} (work here : Work A F) (a b c : Meanings) (outputs : Outputs) (result : Result A (Stop F)) → Steps work here [] outputs → Wrote a b outputs → AfterRun here b c result → AfterRun work a c result
+AfterRun-wrote work here a b c outputs result steps wrote = AfterRun-after work here a b c result (record { taken = []; outputs = outputs; ran = wrote; steps = steps })
 
 pub IsCutShort-wrote : {A F : Type 0} (work next : Work A F) (a b : Meanings) (outputs : Outputs) → Steps work next [] outputs → WroteFront a b outputs → IsCutShort work.course a b
 IsCutShort-wrote work next a b outputs steps front = IsCutShort-front work next a b [] front.stand outputs steps front.fronts front.wrote

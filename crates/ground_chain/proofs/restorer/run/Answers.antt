@@ -1,9 +1,8 @@
 use Rattle.std.proofs.Common.{[], ap}
 use Rattle.std.proofs.lemmas.Result.{err_from_is_err_and}
-use Rattle.desk_ports.specs.Meanings.{Meanings}
 use Rattle.desk_ports.specs.Courses.{by_stop, to_report}
-use Rattle.desk_ports.specs.Turns.{Reaches, Steps, Wrote}
-use Rattle.desk_ports.proofs.Steps.{AfterRun-after, IsCutShort-wrote, Reaches-wrote}
+use Rattle.desk_ports.specs.Turns.{Steps}
+use Rattle.desk_ports.proofs.Steps.{AfterRun-wrote, IsCutShort-wrote}
 use Rattle.desk_ports.proofs.Writings.{Writes-is}
 use Rattle.packet_store.specs.Faults.{stop_by}
 use Rattle.ground_chain.specs.declared.receiving.Receiving.{Receiving}
@@ -28,13 +27,6 @@ returns-in_err-write_all-clause-ran g c =
     let p = err_from_is_err_and c.from_residual.result c.from_residual.ensures.1 in
     rw (p.1, p.2) cut
 
--- the first line was written, and the store is owed
-header : (s : Receiving Reporting) (a b : Meanings) → IsUnread s → Wrote a b (to_report header_row)
-    → Reaches (restore_work (receiving_state s).places (receiving_state s).apid) (rest_work restored_texts s) a b
-header s a b is_unread wrote =
-    let k = receiving_state s in
-    Reaches-wrote (restore_work k.places k.apid) (rest_work restored_texts s) a b (to_report header_row) (unread s is_unread) wrote
-
 pub returns-clause-ran : goal.returns-clause-ran
 returns-clause-ran g c =
     let a = g.D.Desk.meaning c.args.desk.now in
@@ -44,4 +36,4 @@ returns-clause-ran g c =
     let k = receiving_state s in
     let written = Writes-is (ap to_report c.as_bytes.ensures.value) c.in_ok-write_all.ensures in
     let ran = c.drive.ensures.ran (rest_work restored_texts s) (Owes-unread restored_texts s c.requires.unread) in
-    AfterRun-after (restore_work k.places k.apid) (rest_work restored_texts s) a b d (by_stop stop_by c.drive.result) (header s a b c.requires.unread written.wrote) ran
+    AfterRun-wrote (restore_work k.places k.apid) (rest_work restored_texts s) a b d (to_report header_row) (by_stop stop_by c.drive.result) (unread s c.requires.unread) written.wrote ran

@@ -1,7 +1,7 @@
 use Rattle.std.proofs.Common.{ap}
 use Rattle.std.proofs.lemmas.Result.{err_from_is_err_and}
 use Rattle.desk_ports.specs.Courses.{by_stop, to_report}
-use Rattle.desk_ports.proofs.Steps.{AfterRun-after, IsCutShort-wrote, Reaches-wrote}
+use Rattle.desk_ports.proofs.Steps.{AfterRun-wrote, IsCutShort-wrote}
 use Rattle.desk_ports.proofs.Writings.{Writes-is}
 use Rattle.ground_chain.specs.Report.{header_row}
 use Rattle.packet_store.specs.Faults.{stop_by}
@@ -22,5 +22,4 @@ returns-clause-ran g c = λ work rest owed steps.
     let b = g.D.Desk.meaning c.write_all.new.desk in
     let d = g.D.Desk.meaning c.drive.new.desk in
     let written = Writes-is (ap to_report c.as_bytes.ensures.value) c.in_ok-write_all.ensures in
-    let header = Reaches-wrote work rest a b (to_report header_row) steps written.wrote in
-    AfterRun-after work rest a b d (by_stop stop_by c.drive.result) header (c.drive.ensures.ran rest owed)
+    AfterRun-wrote work rest a b d (to_report header_row) (by_stop stop_by c.drive.result) steps written.wrote (c.drive.ensures.ran rest owed)

@@ -1,25 +1,14 @@
 use Rattle.std.proofs.Common.{[], refl, subst}
-use Rattle.desk_ports.specs.Meanings.{Meanings}
 use Rattle.desk_ports.specs.Courses.{AfterRun, by_stop}
-use Rattle.desk_ports.specs.Turns.{Reaches}
 use Rattle.desk_ports.proofs.Runs.{Ran-none}
-use Rattle.desk_ports.proofs.Steps.{AfterRun-after, Reaches-wrote}
-use Rattle.ground_chain.specs.declared.listing.Listing.{Listing}
-use Rattle.ground_chain.specs.declared.receiving.Receiving.{Receiving}
+use Rattle.desk_ports.proofs.Steps.{AfterRun-wrote}
 use Rattle.ground_chain.specs.Listing.{listed_texts, listing_course, listing_work}
 use Rattle.packet_store.specs.Faults.{stop_by}
 use Rattle.ground_chain.specs.Restoring.{RestorerState}
-use Rattle.ground_chain.specs.Receiving.{IsUnread, receiving_state, rest_work}
+use Rattle.ground_chain.specs.Receiving.{receiving_state, rest_work}
 use Rattle.ground_chain.proofs.DeliveredRuns.{IsOk-run}
 use Rattle.ground_chain.proofs.RestCourses.{Owes-unread, Steps-unread, listing_course-is}
 use Rattle.ground_chain.proofs.lister.Lister.list.Goals as goal
-
--- nothing is written before the first arrival
-unread : (s : Receiving Listing) (a : Meanings) → IsUnread s → Reaches (listing_work (receiving_state s).places (receiving_state s).apid) (rest_work listed_texts s) a a
-unread s a is =
-    let k = receiving_state s in
-    let steps = Steps-unread listed_texts s (listing_course k.places k.apid) [] is (listing_course-is k.places k.apid) in
-    Reaches-wrote (listing_work k.places k.apid) (rest_work listed_texts s) a a [] steps (Ran-none a)
 
 pub returns-clause-ran : goal.returns-clause-ran
 returns-clause-ran g c =
@@ -27,9 +16,11 @@ returns-clause-ran g c =
     let d = g.D.Desk.meaning c.drive.new.desk in
     let s = c.self.inside.receiving in
     let k = receiving_state s in
+    -- nothing is written before the first arrival
+    let steps = Steps-unread listed_texts s (listing_course k.places k.apid) [] c.self.invariant (listing_course-is k.places k.apid) in
     let ran = c.drive.ensures.ran (rest_work listed_texts s) (Owes-unread listed_texts s c.self.invariant) in
     subst (λ (r : RestorerState). AfterRun (listing_work r.places r.apid) a d (by_stop stop_by c.drive.result)) c.self.view_is
-    (AfterRun-after (listing_work k.places k.apid) (rest_work listed_texts s) a a d (by_stop stop_by c.drive.result) (unread s a c.self.invariant) ran)
+    (AfterRun-wrote (listing_work k.places k.apid) (rest_work listed_texts s) a a d [] (by_stop stop_by c.drive.result) steps (Ran-none a) ran)
 
 pub returns-clause-complete : goal.returns-clause-complete
 returns-clause-complete g c = λ h copies played few reads writes.

@@ -3,7 +3,7 @@ use Rattle.std.proofs.lemmas.Result.{err_from_is_err_and}
 use Rattle.desk_ports.specs.declared.desk.Inlet.TheVariants as inlet
 use Rattle.desk_ports.specs.Meanings.{Meanings, left}
 use Rattle.desk_ports.specs.Courses.{AfterRun, IsCutShort, by_stop, to_report}
-use Rattle.desk_ports.proofs.Steps.{AfterRun-after, IsCutShort-wrote, Reaches-wrote}
+use Rattle.desk_ports.proofs.Steps.{AfterRun-wrote, IsCutShort-wrote}
 use Rattle.desk_ports.specs.WalkWorks.{work_on}
 use Rattle.packet_store.specs.StoreReader.{walk_over}
 use Rattle.side_tables.specs.declared.rows.StreamRow.{StreamRow}
@@ -37,9 +37,8 @@ returns-clause-ran g c =
     let d = g.D.Desk.meaning c.drive.new.desk in
     let s = c.self.inside.receiving in
     let here = work_on (left_after s.streams []) (walk_over s.reader) in
-    let reached = Reaches-wrote (multi_work s.streams) here a b (to_report multi_header) (Steps-unread s c.self.invariant) c.in_ok-write_header.ensures.wrote in
     subst (λ (streams : List StreamRow). AfterRun (multi_work streams) a d (by_stop stop_by c.drive.result)) c.self.view_is
-    (AfterRun-after (multi_work s.streams) here a b d (by_stop stop_by c.drive.result) reached (c.drive.ensures.ran here (Owes-unread s c.self.invariant)))
+    (AfterRun-wrote (multi_work s.streams) here a b d (to_report multi_header) (by_stop stop_by c.drive.result) (Steps-unread s c.self.invariant) c.in_ok-write_header.ensures.wrote (c.drive.ensures.ran here (Owes-unread s c.self.invariant)))
 
 pub returns-clause-shape : goal.returns-clause-shape
 returns-clause-shape g c = λ byte is.

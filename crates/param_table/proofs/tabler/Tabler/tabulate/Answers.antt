@@ -2,7 +2,7 @@ use Rattle.std.proofs.Common.{List, subst}
 use Rattle.std.proofs.lemmas.Result.{err_from_is_err_and}
 use Rattle.desk_ports.specs.Courses.{AfterRun, IsCutShort, by_stop}
 use Rattle.desk_ports.specs.Turns.{Wrote, WroteFront}
-use Rattle.desk_ports.proofs.Steps.{AfterRun-after, IsCutShort-wrote, Reaches-wrote}
+use Rattle.desk_ports.proofs.Steps.{AfterRun-wrote, IsCutShort-wrote}
 use Rattle.param_table.specs.declared.rows.Column.{Column}
 use Rattle.flight_chain.specs.Compressing.{stop_by}
 use Rattle.param_table.specs.Tabling.{Tabulation, headers, rest_work, table_course, table_work, tabulation_of}
@@ -26,6 +26,5 @@ returns-clause-ran g c =
     let d = g.D.Desk.meaning c.drive.new.desk in
     let s = c.self.inside.tabling in
     let wrote = subst (λ (columns : List Column). Wrote a b (headers columns)) c.columns.ensures c.in_ok-write_headers.ensures.wrote in
-    let reached = Reaches-wrote (table_work (tabulation_of s)) (rest_work s) a b (headers s.fields) (Steps-headers s c.self.invariant) wrote in
     let ran = c.drive.ensures.ran (rest_work s) (Owes-unread s c.write_headers.new.line c.self.invariant) in
-    subst (λ (k : Tabulation). AfterRun (table_work k) a d (by_stop stop_by c.drive.result)) c.self.view_is (AfterRun-after (table_work (tabulation_of s)) (rest_work s) a b d (by_stop stop_by c.drive.result) reached ran)
+    subst (λ (k : Tabulation). AfterRun (table_work k) a d (by_stop stop_by c.drive.result)) c.self.view_is (AfterRun-wrote (table_work (tabulation_of s)) (rest_work s) a b d (headers s.fields) (by_stop stop_by c.drive.result) (Steps-headers s c.self.invariant) wrote ran)
