@@ -1,30 +1,21 @@
 -- What is held after a run whose outputs are finished.
 use Rattle.std.proofs.Common.{◌≡◌, ℕ, true, List, [], Option, Some, None, Result, Ok, Err, IfOk, OnOk, unwrap_or, sym, ap, subst, ◌∙◌}
 use Rattle.std.specs.FinMap as map
-use Rattle.std.specs.Option.{option_map}
 use Rattle.std.specs.Str.{bytes_eq}
 use Rattle.std.specs.Io.KnownBytes.{append_known}
 use Rattle.desk_ports.specs.declared.desk.Inlet.TheVariants as inlet
 use Rattle.desk_ports.specs.declared.desk.Outlet.TheVariants as outlet
-use Rattle.desk_ports.specs.Meanings.{Meanings, Kept, Begins, Keeps, kept_after, kept_at, left, made, outgoing, with_outgoing}
+use Rattle.desk_ports.specs.Meanings.{Meanings, Kept, Keeps, kept_after, kept_at, left, made}
 use Rattle.desk_ports.specs.Courses.{Course, Ends, owed, texts_of}
 use Rattle.desk_ports.specs.MemState.{MemState}
 use Rattle.desk_ports.proofs.Courses.{Ends-told}
 use Rattle.trial_chain.specs.RunDesk.{HoldsJust, RunState, run_meanings, run_opened, run_reported}
 use Rattle.trial_chain.specs.Stages.{with_outputs}
 
--- the report of the run is opened too
-pub run_reported-is : (desk : MemState) (input output report : List ℕ) (b c : Meanings) → b ≡ run_opened desk input output → Begins b c outlet.Report report → c ≡ run_reported desk input output report
-run_reported-is desk input output report b c opened begins =
-    begins ∙ ap (λ (m : Meanings). with_outgoing m outlet.Report (record { made = option_map (λ _. []) (made m outlet.Report); name = option_map (λ _. report) (outgoing m outlet.Report).name; ready = true })) opened
-
 held_by : (a b : Kept) → ◌≡◌ {A = Option Kept} (Some a) (Some b) → a ≡ b
 held_by a b e = cc
 
 -- the desk of a run holds what the desk before it held
-pub held_opened : (desk : MemState) (input output : List ℕ) (run : RunState) → run_meanings run ≡ run_opened desk input output → run.desk.held ≡ desk.held
-held_opened desk input output run opened = held_by _ _ (ap (λ (m : Meanings). m.held) opened)
-
 pub held_reported : (desk : MemState) (input output report : List ℕ) (run : RunState) → run_meanings run ≡ run_reported desk input output report → run.desk.held ≡ desk.held
 held_reported desk input output report run opened = held_by _ _ (ap (λ (m : Meanings). m.held) opened)
 

@@ -61,19 +61,9 @@ pub(crate) fn play(desk: MemDesk, player: Player) -> Result<(MemDesk, Played), N
         (λ after. after.1 ≡ store_numbers (copies_of player.rows) player.apid
         (kept_at desk.held store_name)) }
 {
-    let (mut run, player) = with_chain(play_desk(desk), player)?;
+    let (mut run, player) = with_chain(reported(desk, "store", "played", "play"), player)?;
     let played = play_on(&mut run, player);
     ended(run, played)
-}
-
-/// A desk at which the input and both outputs of a play are opened.
-fn play_desk(desk: MemDesk) -> Result<RunDesk, NoMemory>
-    requires { IsRunDesk desk store_name }
-    ensures { IfOk result (λ run. run_meanings run ≡ run_reported desk store_name played_name play_name) }
-{
-    let mut run = RunDesk::open(desk, "store", "played")?;
-    run.begin(Outlet::Report, "play")?;
-    Ok(run)
 }
 
 /// Plays the store at the desk of a run, and finishes both outputs.
@@ -106,19 +96,9 @@ pub(crate) fn restore(desk: MemDesk, restorer: Restorer) -> Result<(MemDesk, Res
         (λ after. after.1 ≡ restored_of
         (store_run restorer.places restorer.apid (kept_at desk.held played_name))) }
 {
-    let (mut run, restorer) = with_chain(restore_desk(desk), restorer)?;
+    let (mut run, restorer) = with_chain(reported(desk, "played", "restored", "report"), restorer)?;
     let restored = restore_on(&mut run, restorer);
     ended(run, restored)
-}
-
-/// A desk at which the input and both outputs of a restoring are opened.
-fn restore_desk(desk: MemDesk) -> Result<RunDesk, NoMemory>
-    requires { IsRunDesk desk played_name }
-    ensures { IfOk result (λ run. run_meanings run ≡ run_reported desk played_name restored_name report_name) }
-{
-    let mut run = RunDesk::open(desk, "played", "restored")?;
-    run.begin(Outlet::Report, "report")?;
-    Ok(run)
 }
 
 /// Restores the played store at the desk of a run, and finishes both outputs.
@@ -139,6 +119,21 @@ fn restore_on(run: &mut RunDesk, restorer: Restorer) -> Result<Restored, NoMemor
     run.keep(Outlet::Main)?;
     run.keep(Outlet::Report)?;
     Ok(restored)
+}
+
+/// A desk at which the input and both outputs of a run are opened.
+fn reported(
+    desk: MemDesk,
+    input: &'static str,
+    output: &'static str,
+    report: &'static str,
+) -> Result<RunDesk, NoMemory>
+    requires { IsRunDesk desk input.now }
+    ensures { IfOk result (λ run. run_meanings run ≡ run_reported desk input.now output.now report.now) }
+{
+    let mut run = RunDesk::open(desk, input, output)?;
+    run.begin(Outlet::Report, report)?;
+    Ok(run)
 }
 
 /// The desk of a run, if there was memory to open it, with the chain that runs over it.

@@ -11,11 +11,11 @@ use Rattle.trial_chain.proofs.stages.restore.Goals as goal
 
 pub restore_on-restored-requires-clause-opened : goal.restore_on-restored-requires-clause-opened
 restore_on-restored-requires-clause-opened c =
-    run_reported-own c.args.desk played_name restored_name report_name c.in_ok-run.run' (IfOk-at_ok (λ run. run_meanings run ≡ run_reported c.args.desk played_name restored_name report_name) c.in_ok-run.ensures.run c.restore_desk.ensures)
+    run_reported-own c.args.desk played_name restored_name report_name c.in_ok-run.run' (IfOk-at_ok (λ run. run_meanings run ≡ run_reported c.args.desk played_name restored_name report_name) c.in_ok-run.ensures.run c.reported.ensures)
 
 pub returns-clause-held : goal.returns-clause-held
 returns-clause-held c =
-    let held = held_reported c.args.desk played_name restored_name report_name c.in_ok-run.run' (IfOk-at_ok (λ run. run_meanings run ≡ run_reported c.args.desk played_name restored_name report_name) c.in_ok-run.ensures.run c.restore_desk.ensures) in
+    let held = held_reported c.args.desk played_name restored_name report_name c.in_ok-run.run' (IfOk-at_ok (λ run. run_meanings run ≡ run_reported c.args.desk played_name restored_name report_name) c.in_ok-run.ensures.run c.reported.ensures) in
     let now = with_outputs c.args.desk.held restored_name report_name (texts_of (owed (restore_course c.args.restorer.places c.args.restorer.apid (kept_at c.args.desk.held played_name)))) in
     IfOk-weaker c.ended.result (λ after. HoldsJust after.0 now) (λ after. after.0.held ≡ now) (λ after just. just.1)
     (held_ended c.ended.result c.restore_on-restored.result c.restore_on-restored.new.run.desk.held now
@@ -24,7 +24,7 @@ returns-clause-held c =
 
 pub returns-clause-numbers : goal.returns-clause-numbers
 returns-clause-numbers c =
-    let held = held_reported c.args.desk played_name restored_name report_name c.in_ok-run.run' (IfOk-at_ok (λ run. run_meanings run ≡ run_reported c.args.desk played_name restored_name report_name) c.in_ok-run.ensures.run c.restore_desk.ensures) in
+    let held = held_reported c.args.desk played_name restored_name report_name c.in_ok-run.run' (IfOk-at_ok (λ run. run_meanings run ≡ run_reported c.args.desk played_name restored_name report_name) c.in_ok-run.ensures.run c.reported.ensures) in
     IfOk-weaker c.ended.result
     (λ after. after.1 ≡ restored_of (store_run c.in_ok-run.restorer.places c.in_ok-run.restorer.apid (kept_at c.in_ok-run.run'.desk.held played_name)))
     (λ after. after.1 ≡ restored_of (store_run c.args.restorer.places c.args.restorer.apid (kept_at c.args.desk.held played_name)))
