@@ -1,6 +1,8 @@
-use Rattle.std.proofs.Common.{◌≡◌, ℕ, zero, suc, ◌+◌, ◌<◌, ◌≤◌, List, ◌++◌, append_assoc, append-nil, Option, sym, ap, ◌∙◌, arith}
+use Rattle.std.proofs.Common.{◌≡◌, ℕ, zero, suc, ◌+◌, ◌<◌, ◌≤◌, List, ◌++◌, append_assoc, append-nil, Option, Result, Ok, sym, ap, ◌∙◌, arith}
 use Rattle.desk_ports.specs.declared.desk.Outlet.TheVariants as outlet
-use Rattle.desk_ports.specs.Courses.{to_output}
+use Rattle.desk_ports.specs.Meanings.{Meanings, Counts}
+use Rattle.desk_ports.specs.Courses.{Outputs, to_output}
+use Rattle.desk_ports.specs.Writings.{Writes}
 use Rattle.desk_ports.proofs.Writings.{Writes-cut-more, Writes-err, Writes-is, Writes-more, Writes-ok, Writes-ready}
 use Rattle.forecast.specs.declared.stretch.Stretch.{Stretch}
 use Rattle.forecast.specs.Prospects.{Prospect, fate_of}
@@ -24,6 +26,14 @@ row_last p (suc t) some = append_assoc header_row (rows_at (fate_of p) (suc t)) 
 
 all_rows : (p : Prospect) (n t : ℕ) (s : Option Stretch) → 1 ≤ n → t ≡ n → s ≡ stretch_at (fate_of p) t → lines_at p t ++ row_of s ≡ header_row ++ stretch_rows (fate_of p) n
 all_rows p n t s some last is = (λ i. lines_at p (last i) ++ row_of ((is ∙ ap (stretch_at (fate_of p)) last) i)) ∙ row_last p n some
+
+-- all rows, and the closing ones after them
+closed : {D T U V E F G : Type 0} {meaning : D → Meanings} {counts : D → Counts} {a b c d : D} {one : T} {two : U} {r : Result V G} {closing : Outputs} (p : Prospect) (n t : ℕ) (s : Option Stretch)
+    → lines_at p t ++ row_of s ≡ header_row ++ stretch_rows (fate_of p) n → closing ≡ to_output (closing_rows p n)
+    → Writes {E = E} meaning counts a b (to_output (lines_at p t)) (Ok one) → Writes {E = F} meaning counts b c (to_output (row_of s)) (Ok two) → Writes meaning counts c d closing r
+    → Writes meaning counts a d (to_output ((header_row ++ stretch_rows (fate_of p) n) ++ closing_rows p n)) r
+closed p n t s rows is first last end =
+    Writes-more outlet.Main (header_row ++ stretch_rows (fate_of p) n) (closing_rows p n) (Writes-is (ap to_output rows) (Writes-more outlet.Main (lines_at p t) (row_of s) first last)) (Writes-is is end)
 
 pub returns-in_err-write_all-clause-written : goal.returns-in_err-write_all-clause-written
 returns-in_err-write_all-clause-written g c =
@@ -88,9 +98,9 @@ returns-in_err-write_closing-clause-written g c =
     let kept = c.loop.invariant in
     let last : c.loop.counter ≡ c.args.packets = omega arith in
     let stretch = c.stretch.ensures ∙ ap (λ (r : ForecastState). stretch_at (fate_of (foresees r.outlook)) r.packets) kept.running in
-    let rows = ap to_output (all_rows p n c.loop.counter c.stretch.result c.requires.count.some last stretch) in
+    let rows = all_rows p n c.loop.counter c.stretch.result c.requires.count.some last stretch in
     let closing = ap (λ (r : ForecastState). to_output (closing_rows (foresees r.outlook) r.packets)) kept.running ∙ ap (λ (k : ℕ). to_output (closing_rows p k)) last in
-    Writes-err _ c.from_residual-in_err-write_closing.ensures.1 (Writes-more outlet.Main (header_row ++ stretch_rows (fate_of p) n) (closing_rows p n) (Writes-is rows (Writes-more outlet.Main (lines_at p c.loop.counter) (row_of c.stretch.result) kept.written c.in_ok-write_row-2.ensures)) (Writes-is closing c.in_err-write_closing.ensures))
+    Writes-err _ c.from_residual-in_err-write_closing.ensures.1 (closed p n c.loop.counter c.stretch.result rows closing kept.written c.in_ok-write_row-2.ensures c.in_err-write_closing.ensures)
 
 pub returns-clause-written : goal.returns-clause-written
 returns-clause-written g c =
@@ -99,9 +109,9 @@ returns-clause-written g c =
     let kept = c.loop.invariant in
     let last : c.loop.counter ≡ c.args.packets = omega arith in
     let stretch = c.stretch.ensures ∙ ap (λ (r : ForecastState). stretch_at (fate_of (foresees r.outlook)) r.packets) kept.running in
-    let rows = ap to_output (all_rows p n c.loop.counter c.stretch.result c.requires.count.some last stretch) in
+    let rows = all_rows p n c.loop.counter c.stretch.result c.requires.count.some last stretch in
     let closing = ap (λ (r : ForecastState). to_output (closing_rows (foresees r.outlook) r.packets)) kept.running ∙ ap (λ (k : ℕ). to_output (closing_rows p k)) last in
-    Writes-ok (Writes-more outlet.Main (header_row ++ stretch_rows (fate_of p) n) (closing_rows p n) (Writes-is rows (Writes-more outlet.Main (lines_at p c.loop.counter) (row_of c.stretch.result) kept.written c.in_ok-write_row-2.ensures)) (Writes-is closing c.in_ok-write_closing.ensures))
+    Writes-ok (closed p n c.loop.counter c.stretch.result rows closing kept.written c.in_ok-write_row-2.ensures c.in_ok-write_closing.ensures)
 
 pub returns-clause-sure : goal.returns-clause-sure
 returns-clause-sure g c =
