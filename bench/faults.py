@@ -42,8 +42,8 @@ BECOMES = {"compress": ["store"], "play": ["played"]}
 # Four packets that come in the order 0, 2, 1, 3.
 SWAPPED = bytes.fromhex("0064C000000385B8D600 0064C002000144C0 0064C0010003424B8D62 0064C0030002C085C0")
 
-# The commands whose memory depends on how many packets there are, since they hold something of each.
-HOLDING = {"trial", "forecast"}
+# The command whose memory depends on how many packets there are, since it holds them.
+HOLDING = {"trial"}
 
 KINDS = {"a": "allocation", "o": "opening", "r": "read", "w": "write", "n": "renaming", "u": "removal", "y": "sync", "m": "change of mode",
          "s": "short read", "t": "short write"}
