@@ -100,13 +100,7 @@ pub extern "C" fn pocket_desk_open(alloc: Global, handle: &mut Handle) -> u32
     if handle.is_open(alloc) {
         return CallStatus::Open.number();
     }
-    match Box::new(alloc, Held::Bench(Bench::new(alloc))) {
-        Ok(held) => {
-            handle.put(alloc, held);
-            CallStatus::Done.number()
-        }
-        Err(_) => CallStatus::NoMemory.number(),
-    }
+    handle.hold(alloc, Held::Bench(Bench::new(alloc))).number()
 }
 
 /// Keeps bytes under a name at the desk that a handle holds.

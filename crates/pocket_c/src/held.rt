@@ -1,6 +1,6 @@
 //! What C holds: a handle, which owns a value on the heap, or nothing.
 
-ghost use Rattle.std.specs.Prelude.{◌≡◌, ◌↔◌, Option, Some, None, true};
+ghost use Rattle.std.specs.Prelude.{◌≡◌, ◌↔◌, ◌⊎◌, Option, Some, None, true};
 ghost use Rattle.std.specs.Coded.{coded_option};
 ghost use Rattle.std.specs.Option.{option_map};
 ghost use Rattle.pocket_c.specs.Owned.{owned};
@@ -8,6 +8,7 @@ ghost use Rattle.pocket_c.specs.contracts.held.Held.{the_row};
 
 use crate::bench::Bench;
 use crate::loose::Loose;
+use crate::status::CallStatus;
 use packet_calls::{Receiver, Sender};
 use std::alloc::Global;
 use std::marker::{Model, Send};
@@ -91,6 +92,22 @@ impl Handle {
     {
         if let Some(loose) = replace(self, Handle::holding(Loose::of(value))).into_loose(alloc) {
             drop(loose.into_box());
+        }
+    }
+
+    /// Puts a value on the heap in place of what it holds. Where this is called the value is at hand, and is to be moved once.
+    #[inline(always)]
+    pub(crate) fn hold(&mut self, alloc: Global, value: Held) -> CallStatus
+        ensures only { (result ≡ CallStatus.Done) ⊎ (result ≡ CallStatus.NoMemory) }
+        ensures done { result ≡ CallStatus.Done → self.new.held ≡ Some value }
+        ensures unchanged { result ≡ CallStatus.NoMemory → self.new.held ≡ self.old.held }
+    {
+        match Box::new(alloc, value) {
+            Ok(held) => {
+                self.put(alloc, held);
+                CallStatus::Done
+            }
+            Err(_) => CallStatus::NoMemory,
         }
     }
 

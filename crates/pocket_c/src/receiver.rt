@@ -141,13 +141,7 @@ pub extern "C" fn pocket_receiver_open(alloc: Global, handle: &mut Handle, place
         return CallStatus::Open.number();
     }
     match Receiver::open(alloc, places) {
-        Ok(receiver) => match Box::new(alloc, Held::Receiver(receiver)) {
-            Ok(held) => {
-                handle.put(alloc, held);
-                CallStatus::Done.number()
-            }
-            Err(_) => CallStatus::NoMemory.number(),
-        },
+        Ok(receiver) => handle.hold(alloc, Held::Receiver(receiver)).number(),
         Err(fault) => CallStatus::from(fault).number(),
     }
 }

@@ -46,13 +46,7 @@ pub extern "C" fn pocket_sender_open(
         return CallStatus::Open.number();
     }
     match Sender::open(alloc, places, mask_in(mask)) {
-        Ok(sender) => match Box::new(alloc, Held::Sender(sender)) {
-            Ok(held) => {
-                handle.put(alloc, held);
-                CallStatus::Done.number()
-            }
-            Err(_) => CallStatus::NoMemory.number(),
-        },
+        Ok(sender) => handle.hold(alloc, Held::Sender(sender)).number(),
         Err(fault) => CallStatus::from(fault).number(),
     }
 }
