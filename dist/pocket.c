@@ -31,7 +31,7 @@
 #define CONSTANT_BYTES 0
 #define DEEPEST 944
 #define STACK_BYTES POCKET_STACK_BYTES
-#define MODULE_SUM 0x8336BECBu
+#define MODULE_SUM 0x61362DCBu
 
 /* The machine, written by hand. Its memory is one block of bytes, the little end first on all processors; in it there are only offsets, from
  * BASE on: the stack, from its top down to BASE, then the constants and the heap. m is the place of the block, last the greatest offset at
@@ -346,8 +346,8 @@ static bool copied(u8 *m, u32 last, u32 to, u32 from, u32 count) {
 #pragma GCC diagnostic ignored "-Wmaybe-uninitialized"
 #endif
 static void code_f3(uint8_t *const m, const u32 last, u64 p0);
+static void code_f14(uint8_t *const m, const u32 last, u64 p0, u64 p1);
 static void code_f15(uint8_t *const m, const u32 last, u64 p0, u64 p1);
-static void code_f16(uint8_t *const m, const u32 last, u64 p0, u64 p1);
 
 static void code_f3(uint8_t *const m, const u32 last, u64 p0) {
   u64 l1 = 0, l2 = 0, l3 = 0, l4 = 0, l5 = 0, l6 = 0, l7 = 0, l8 = 0, l9 = 0, l10 = 0, l11 = 0, l12 = 0, l13 = 0, l14 = 0, l15 = 0, l16 = 0, l17 = 0, l18 = 0, l19 = 0, l20 = 0, l21 = 0, l22 = 0, l23 = 0, l24 = 0, l25 = 0, l26 = 0, l27 = 0, l28 = 0, l29 = 0, l30 = 0, l31 = 0, l32 = 0, l33 = 0, l34 = 0, l35 = 0, l36 = 0, l37 = 0, l38 = 0, l39 = 0, l40 = 0, l41 = 0, l42 = 0, l43 = 0, l44 = 0, l45 = 0, l46 = 0;
@@ -943,7 +943,7 @@ static void code_f3(uint8_t *const m, const u32 last, u64 p0) {
   return;
 }
 
-static void code_f15(uint8_t *const m, const u32 last, u64 p0, u64 p1) {
+static void code_f14(uint8_t *const m, const u32 last, u64 p0, u64 p1) {
   u64 l2 = 0;
   u32 i0;
   u64 j0, j1, j2, j3, j4;
@@ -1165,7 +1165,7 @@ static void code_f15(uint8_t *const m, const u32 last, u64 p0, u64 p1) {
   return;
 }
 
-static void code_f16(uint8_t *const m, const u32 last, u64 p0, u64 p1) {
+static void code_f15(uint8_t *const m, const u32 last, u64 p0, u64 p1) {
   u64 l2 = 0;
   u32 i0, i1;
   u64 j0, j1;
@@ -1177,7 +1177,7 @@ static void code_f16(uint8_t *const m, const u32 last, u64 p0, u64 p1) {
   j1 = 8ull;
   j0 += j1;
   j1 = p1;
-  call(code_f15(m, last, j0, j1));
+  call(code_f14(m, last, j0, j1));
   j0 = p0;
   i0 = (u32)(j0);
   j1 = l2;
@@ -1231,150 +1231,24 @@ static void code_f16(uint8_t *const m, const u32 last, u64 p0, u64 p1) {
   return;
 }
 #ifndef POCKET_NO_SENDER
-static void code_f4(uint8_t *const m, const u32 last, u64 p0);
-static u32 code_f24(uint8_t *const m, const u32 last, u64 p0, u64 p1, u64 p2);
-static void code_f25(uint8_t *const m, const u32 last, u64 p0, u64 p1, u64 p2, u32 p3, u64 p4);
-static void code_f26(uint8_t *const m, const u32 last, u64 p0);
-static u32 code_f27(uint8_t *const m, const u32 last, u64 p0, u32 p1, u64 p2, u32 p3);
-static void code_f28(uint8_t *const m, const u32 last, u64 p0, u64 p1, u64 p2, u64 p3, u64 p4);
-static void code_f29(uint8_t *const m, const u32 last, u64 p0, u64 p1);
-static u64 code_f30(uint8_t *const m, const u32 last, u64 p0, u64 p1);
-static void code_f31(uint8_t *const m, const u32 last, u64 p0, u32 p1, u64 p2, u64 p3);
-static void code_f32(uint8_t *const m, const u32 last, u64 p0, u64 p1);
-static u32 code_f33(uint8_t *const m, const u32 last, u64 p0, u64 p1, u64 p2, u64 p3, u64 p4, u32 p5);
-static void code_f34(uint8_t *const m, const u32 last, u64 p0, u32 p1);
-static void code_f35(uint8_t *const m, const u32 last, u64 p0, u32 p1, u64 p2);
+static u32 code_f23(uint8_t *const m, const u32 last, u64 p0, u64 p1, u64 p2);
+static void code_f24(uint8_t *const m, const u32 last, u64 p0, u64 p1, u64 p2, u32 p3, u64 p4);
+static void code_f25(uint8_t *const m, const u32 last, u64 p0);
+static u32 code_f26(uint8_t *const m, const u32 last, u64 p0, u32 p1, u64 p2, u32 p3);
+static void code_f27(uint8_t *const m, const u32 last, u64 p0, u64 p1, u64 p2, u64 p3, u64 p4);
+static void code_f28(uint8_t *const m, const u32 last, u64 p0, u64 p1);
+static u64 code_f29(uint8_t *const m, const u32 last, u64 p0, u64 p1);
+static void code_f30(uint8_t *const m, const u32 last, u64 p0, u32 p1, u64 p2, u64 p3);
+static void code_f31(uint8_t *const m, const u32 last, u64 p0, u64 p1);
+static u32 code_f32(uint8_t *const m, const u32 last, u64 p0, u64 p1, u64 p2, u64 p3, u64 p4, u32 p5);
+static void code_f33(uint8_t *const m, const u32 last, u64 p0, u32 p1);
+static void code_f34(uint8_t *const m, const u32 last, u64 p0, u32 p1, u64 p2);
 static u32 code_pocket_send(uint8_t *const m, const u32 last, u64 p0, u64 p1, u64 p2, u32 p3, u32 p4, u32 p5, u32 p6, u64 p7, u64 p8, u64 p9, u64 p10);
 static u32 code_pocket_sender_open(uint8_t *const m, const u32 last, u64 p0, u32 p1, u64 p2, u64 p3);
 static u32 code_pocket_sender_reset(uint8_t *const m, const u32 last, u64 p0, u64 p1, u64 p2);
 static u32 code_pocket_sent(uint8_t *const m, const u32 last, u64 p0, u64 p1);
 
-static void code_f4(uint8_t *const m, const u32 last, u64 p0) {
-  u64 l1 = 0, l2 = 0, l3 = 0, l4 = 0, l5 = 0, l6 = 0, l7 = 0;
-  u32 i0, i1, i2, i4;
-  u64 j0, j1, j2, j3, j4, j5;
-  uint8_t *a0;
-  j0 = p0;
-  i0 = (u32)(j0);
-  reach(a0, i0, 0, 16);
-  i64_load_at(j0, a0, 0);
-  l1 = j0;
-  j0 = p0;
-  i0 = (u32)(j0);
-  i64_load_at(j0, a0, 16);
-  l2 = j0;
-  i0 = !(j0);
-  if (i0) {goto B0;}
-  j0 = p0;
-  i0 = (u32)(j0);
-  i64_load_at(j0, a0, 8);
-  l3 = j0;
-  j1 = p0;
-  i1 = (u32)(j1);
-  i64_load(j1, i1, 24);
-  p0 = j1;
-  j2 = 0ull;
-  j3 = l3;
-  j4 = p0;
-  j5 = l3;
-  i4 = j4 < j5;
-  j2 = i4 ? j2 : j3;
-  l4 = j2;
-  j1 -= j2;
-  l5 = j1;
-  j0 -= j1;
-  l6 = j0;
-  j1 = l2;
-  j2 = l6;
-  j3 = l2;
-  i2 = j2 < j3;
-  j0 = i2 ? j0 : j1;
-  l7 = j0;
-  j0 = l3;
-  j1 = l5;
-  i0 = j0 == j1;
-  if (i0) {goto B1;}
-  j0 = l1;
-  j1 = p0;
-  j2 = 5ull;
-  j1 <<= (j2 & 63);
-  j2 = l4;
-  j3 = 5ull;
-  j2 <<= (j3 & 63);
-  j1 -= j2;
-  j0 += j1;
-  p0 = j0;
-  j0 = l7;
-  l3 = j0;
-  L2:
-    j0 = p0;
-    j1 = 16ull;
-    j0 += j1;
-    i0 = (u32)(j0);
-    i64_load(j0, i0, 0);
-    i0 = !(j0);
-    if (i0) {goto B3;}
-    j0 = p0;
-    i0 = (u32)(j0);
-    i64_load(j0, i0, 0);
-    call(heap_dealloc(m, last, j0));
-    B3:;
-    j0 = p0;
-    j1 = 32ull;
-    j0 += j1;
-    p0 = j0;
-    j0 = l3;
-    j1 = 18446744073709551615ull;
-    j0 += j1;
-    l3 = j0;
-    j1 = 0ull;
-    i0 = j0 != j1;
-    if (i0) {goto L2;}
-  B1:;
-  j0 = l2;
-  j1 = l6;
-  i0 = j0 <= j1;
-  if (i0) {goto B0;}
-  j0 = l2;
-  j1 = l7;
-  j0 -= j1;
-  l3 = j0;
-  j0 = l1;
-  p0 = j0;
-  L4:
-    j0 = p0;
-    j1 = 16ull;
-    j0 += j1;
-    i0 = (u32)(j0);
-    i64_load(j0, i0, 0);
-    i0 = !(j0);
-    if (i0) {goto B5;}
-    j0 = p0;
-    i0 = (u32)(j0);
-    i64_load(j0, i0, 0);
-    call(heap_dealloc(m, last, j0));
-    B5:;
-    j0 = p0;
-    j1 = 32ull;
-    j0 += j1;
-    p0 = j0;
-    j0 = l3;
-    j1 = 18446744073709551615ull;
-    j0 += j1;
-    l3 = j0;
-    j1 = 0ull;
-    i0 = j0 != j1;
-    if (i0) {goto L4;}
-  B0:;
-  j0 = l1;
-  call(heap_dealloc(m, last, j0));
-  return;
-  trap:
-  set_broken(m);
-  return;
-}
-
-static u32 code_f24(uint8_t *const m, const u32 last, u64 p0, u64 p1, u64 p2) {
+static u32 code_f23(uint8_t *const m, const u32 last, u64 p0, u64 p1, u64 p2) {
   u32 l3 = 0, l4 = 0;
   u64 l5 = 0, l6 = 0, l7 = 0, l8 = 0, l9 = 0, l10 = 0, l11 = 0, l12 = 0;
   u32 i0, i1, i2, i3;
@@ -1737,7 +1611,7 @@ static u32 code_f24(uint8_t *const m, const u32 last, u64 p0, u64 p1, u64 p2) {
   return 0;
 }
 
-static void code_f25(uint8_t *const m, const u32 last, u64 p0, u64 p1, u64 p2, u32 p3, u64 p4) {
+static void code_f24(uint8_t *const m, const u32 last, u64 p0, u64 p1, u64 p2, u32 p3, u64 p4) {
   u32 l5 = 0, l6 = 0, l7 = 0, l8 = 0, l9 = 0, l10 = 0, l11 = 0, l12 = 0;
   u64 l13 = 0, l14 = 0, l15 = 0, l16 = 0, l17 = 0, l18 = 0, l19 = 0, l20 = 0, l21 = 0, l22 = 0, l23 = 0, l24 = 0, l25 = 0, l26 = 0, l27 = 0;
   u32 i0, i1, i2, i3, i4, i5, i6, i7;
@@ -4685,7 +4559,7 @@ static void code_f25(uint8_t *const m, const u32 last, u64 p0, u64 p1, u64 p2, u
   l22 = j0;
   B7:;
   j0 = l21;
-  call(code_f26(m, last, j0));
+  call(code_f25(m, last, j0));
   j0 = p0;
   j1 = 216ull;
   j0 += j1;
@@ -4724,7 +4598,7 @@ static void code_f25(uint8_t *const m, const u32 last, u64 p0, u64 p1, u64 p2, u
   j4 = l16;
   i4 = (u32)(j4);
   i32_load8_u_at(i4, a65, 80);
-  call(i1 = code_f27(m, last, j1, i2, j3, i4));
+  call(i1 = code_f26(m, last, j1, i2, j3, i4));
   l9 = i1;
   i32_store8_at(i1, a65, 80);
   j0 = p2;
@@ -4915,7 +4789,7 @@ static void code_f25(uint8_t *const m, const u32 last, u64 p0, u64 p1, u64 p2, u
   if (i0) {goto B74;}
   B75:;
   j0 = l21;
-  call(code_f26(m, last, j0));
+  call(code_f25(m, last, j0));
   j0 = p0;
   j1 = 216ull;
   j0 += j1;
@@ -4954,7 +4828,7 @@ static void code_f25(uint8_t *const m, const u32 last, u64 p0, u64 p1, u64 p2, u
   j4 = l16;
   i4 = (u32)(j4);
   i32_load8_u_at(i4, a67, 80);
-  call(i1 = code_f27(m, last, j1, i2, j3, i4));
+  call(i1 = code_f26(m, last, j1, i2, j3, i4));
   l9 = i1;
   i32_store8_at(i1, a67, 80);
   j0 = p2;
@@ -5481,7 +5355,7 @@ static void code_f25(uint8_t *const m, const u32 last, u64 p0, u64 p1, u64 p2, u
   j4 = l19;
   i4 = (u32)(j4);
   i32_load8_u_at(i4, a76, 80);
-  call(i1 = code_f27(m, last, j1, i2, j3, i4));
+  call(i1 = code_f26(m, last, j1, i2, j3, i4));
   l9 = i1;
   i32_store8_at(i1, a76, 80);
   j0 = l15;
@@ -5675,7 +5549,7 @@ static void code_f25(uint8_t *const m, const u32 last, u64 p0, u64 p1, u64 p2, u
   j4 += j5;
   i4 = (u32)(j4);
   i64_load_at(j4, a78, 55);
-  call(code_f28(m, last, j0, j1, j2, j3, j4));
+  call(code_f27(m, last, j0, j1, j2, j3, j4));
   j0 = p0;
   j1 = 257ull;
   j0 += j1;
@@ -6295,7 +6169,7 @@ static void code_f25(uint8_t *const m, const u32 last, u64 p0, u64 p1, u64 p2, u
   B2:;
   j0 = p4;
   j1 = p2;
-  call(code_f29(m, last, j0, j1));
+  call(code_f28(m, last, j0, j1));
   i0 = l12;
   j0 = (u64)(i0);
   j1 = 255ull;
@@ -6939,7 +6813,7 @@ static void code_f25(uint8_t *const m, const u32 last, u64 p0, u64 p1, u64 p2, u
     B127:;
     j0 = l16;
     j1 = p2;
-    call(j0 = code_f30(m, last, j0, j1));
+    call(j0 = code_f29(m, last, j0, j1));
     l15 = j0;
     B126:;
     j0 = l22;
@@ -7498,7 +7372,7 @@ static void code_f25(uint8_t *const m, const u32 last, u64 p0, u64 p1, u64 p2, u
   i1 &= i2;
   j2 = l13;
   j3 = l14;
-  call(code_f31(m, last, j0, i1, j2, j3));
+  call(code_f30(m, last, j0, i1, j2, j3));
   i0 = p3;
   j0 = (u64)(i0);
   j1 = 1ull;
@@ -7637,7 +7511,7 @@ static void code_f25(uint8_t *const m, const u32 last, u64 p0, u64 p1, u64 p2, u
   if (i0) {goto B137;}
   j0 = p4;
   j1 = p1;
-  call(code_f32(m, last, j0, j1));
+  call(code_f31(m, last, j0, j1));
   goto B136;
   B137:;
   i0 = l9;
@@ -8024,7 +7898,7 @@ static void code_f25(uint8_t *const m, const u32 last, u64 p0, u64 p1, u64 p2, u
   j4 += j5;
   i4 = (u32)(j4);
   i64_load_at(j4, a127, 8);
-  call(code_f28(m, last, j0, j1, j2, j3, j4));
+  call(code_f27(m, last, j0, j1, j2, j3, j4));
   goto B136;
   B138:;
   j0 = p4;
@@ -8041,7 +7915,7 @@ static void code_f25(uint8_t *const m, const u32 last, u64 p0, u64 p1, u64 p2, u
   j4 += j5;
   i4 = (u32)(j4);
   i64_load_at(j4, a128, 8);
-  call(code_f28(m, last, j0, j1, j2, j3, j4));
+  call(code_f27(m, last, j0, j1, j2, j3, j4));
   B136:;
   j0 = p0;
   j1 = 376ull;
@@ -8056,7 +7930,7 @@ static void code_f25(uint8_t *const m, const u32 last, u64 p0, u64 p1, u64 p2, u
   return;
 }
 
-static void code_f26(uint8_t *const m, const u32 last, u64 p0) {
+static void code_f25(uint8_t *const m, const u32 last, u64 p0) {
   u64 l1 = 0, l2 = 0, l3 = 0, l4 = 0, l5 = 0, l6 = 0, l7 = 0, l8 = 0, l9 = 0, l10 = 0;
   u32 i0, i1, i2, i3, i4;
   u64 j0, j1, j2, j3, j4, j5;
@@ -8307,7 +8181,7 @@ static void code_f26(uint8_t *const m, const u32 last, u64 p0) {
   return;
 }
 
-static u32 code_f27(uint8_t *const m, const u32 last, u64 p0, u32 p1, u64 p2, u32 p3) {
+static u32 code_f26(uint8_t *const m, const u32 last, u64 p0, u32 p1, u64 p2, u32 p3) {
   u64 l4 = 0, l5 = 0, l6 = 0, l7 = 0, l8 = 0, l9 = 0, l10 = 0, l11 = 0, l12 = 0, l13 = 0, l14 = 0;
   u32 i0, i1, i2, i3, i4;
   u64 j0, j1, j2, j3, j4, j5;
@@ -8625,7 +8499,7 @@ static u32 code_f27(uint8_t *const m, const u32 last, u64 p0, u32 p1, u64 p2, u3
   return 0;
 }
 
-static void code_f28(uint8_t *const m, const u32 last, u64 p0, u64 p1, u64 p2, u64 p3, u64 p4) {
+static void code_f27(uint8_t *const m, const u32 last, u64 p0, u64 p1, u64 p2, u64 p3, u64 p4) {
   u32 l5 = 0, l6 = 0, l7 = 0, l8 = 0;
   u64 l9 = 0, l10 = 0, l11 = 0, l12 = 0, l13 = 0, l14 = 0, l15 = 0;
   u32 i0, i1, i2, i3, i4, i5;
@@ -8812,7 +8686,7 @@ static void code_f28(uint8_t *const m, const u32 last, u64 p0, u64 p1, u64 p2, u
     j3 = p3;
     j4 = p4;
     i5 = l5;
-    call(i0 = code_f33(m, last, j0, j1, j2, j3, j4, i5));
+    call(i0 = code_f32(m, last, j0, j1, j2, j3, j4, i5));
     l5 = i0;
     i0 = 0u;
     l6 = i0;
@@ -9128,7 +9002,7 @@ static void code_f28(uint8_t *const m, const u32 last, u64 p0, u64 p1, u64 p2, u
   return;
 }
 
-static void code_f29(uint8_t *const m, const u32 last, u64 p0, u64 p1) {
+static void code_f28(uint8_t *const m, const u32 last, u64 p0, u64 p1) {
   u32 l2 = 0, l3 = 0, l4 = 0;
   u64 l5 = 0, l6 = 0, l7 = 0;
   u32 i0, i1, i2, i3, i4;
@@ -9351,7 +9225,7 @@ static void code_f29(uint8_t *const m, const u32 last, u64 p0, u64 p1) {
     i2 -= i3;
     l4 = i2;
     i1 -= i2;
-    call(code_f34(m, last, j0, i1));
+    call(code_f33(m, last, j0, i1));
     j0 = l5;
     j1 = 18446744073709551615ull;
     j0 += j1;
@@ -9369,7 +9243,7 @@ static void code_f29(uint8_t *const m, const u32 last, u64 p0, u64 p1) {
   return;
 }
 
-static u64 code_f30(uint8_t *const m, const u32 last, u64 p0, u64 p1) {
+static u64 code_f29(uint8_t *const m, const u32 last, u64 p0, u64 p1) {
   u64 l2 = 0, l3 = 0, l4 = 0, l5 = 0, l6 = 0, l7 = 0, l8 = 0;
   u32 i0;
   u64 j0, j1, j2, j3, j4, j5, j6, j7;
@@ -9381,7 +9255,7 @@ static u64 code_f30(uint8_t *const m, const u32 last, u64 p0, u64 p1) {
   j1 = 8ull;
   j0 += j1;
   j1 = p1;
-  call(code_f15(m, last, j0, j1));
+  call(code_f14(m, last, j0, j1));
   j0 = l2;
   i0 = (u32)(j0);
   i64_load_at(j0, frame, 8);
@@ -9392,7 +9266,7 @@ static u64 code_f30(uint8_t *const m, const u32 last, u64 p0, u64 p1) {
   j1 = 8ull;
   j0 += j1;
   j1 = p1;
-  call(code_f16(m, last, j0, j1));
+  call(code_f15(m, last, j0, j1));
   B0:;
   j0 = l2;
   i0 = (u32)(j0);
@@ -9491,7 +9365,7 @@ static u64 code_f30(uint8_t *const m, const u32 last, u64 p0, u64 p1) {
   return 0;
 }
 
-static void code_f31(uint8_t *const m, const u32 last, u64 p0, u32 p1, u64 p2, u64 p3) {
+static void code_f30(uint8_t *const m, const u32 last, u64 p0, u32 p1, u64 p2, u64 p3) {
   u32 l10 = 0, l11 = 0;
   u64 l4 = 0, l5 = 0, l6 = 0, l7 = 0, l8 = 0, l9 = 0;
   u32 i0, i1, i2, i3, i4;
@@ -9833,7 +9707,7 @@ static void code_f31(uint8_t *const m, const u32 last, u64 p0, u32 p1, u64 p2, u
   B3:;
   j0 = p0;
   j1 = p3;
-  call(code_f29(m, last, j0, j1));
+  call(code_f28(m, last, j0, j1));
   B2:;
   return;
   trap:
@@ -9841,7 +9715,7 @@ static void code_f31(uint8_t *const m, const u32 last, u64 p0, u32 p1, u64 p2, u
   return;
 }
 
-static void code_f32(uint8_t *const m, const u32 last, u64 p0, u64 p1) {
+static void code_f31(uint8_t *const m, const u32 last, u64 p0, u64 p1) {
   u32 l11 = 0, l12 = 0, l13 = 0;
   u64 l2 = 0, l3 = 0, l4 = 0, l5 = 0, l6 = 0, l7 = 0, l8 = 0, l9 = 0, l10 = 0;
   u32 i0, i1, i2, i3, i4;
@@ -9855,7 +9729,7 @@ static void code_f32(uint8_t *const m, const u32 last, u64 p0, u64 p1) {
   i1 = (u32)(j1);
   reach(a0, i1, -16, 12);
   i32_load_at(i1, a0, 16);
-  call(code_f34(m, last, j0, i1));
+  call(code_f33(m, last, j0, i1));
   j0 = p1;
   j1 = 8ull;
   j0 += j1;
@@ -10167,7 +10041,7 @@ static void code_f32(uint8_t *const m, const u32 last, u64 p0, u64 p1) {
   return;
 }
 
-static u32 code_f33(uint8_t *const m, const u32 last, u64 p0, u64 p1, u64 p2, u64 p3, u64 p4, u32 p5) {
+static u32 code_f32(uint8_t *const m, const u32 last, u64 p0, u64 p1, u64 p2, u64 p3, u64 p4, u32 p5) {
   u32 l11 = 0, l12 = 0, l13 = 0;
   u64 l6 = 0, l7 = 0, l8 = 0, l9 = 0, l10 = 0;
   u32 i0, i1, i2, i3, i4;
@@ -10213,7 +10087,7 @@ static u32 code_f33(uint8_t *const m, const u32 last, u64 p0, u64 p1, u64 p2, u6
   if (i0) {goto B1;}
   j0 = l8;
   j1 = l7;
-  call(j0 = code_f30(m, last, j0, j1));
+  call(j0 = code_f29(m, last, j0, j1));
   l8 = j0;
   goto B0;
   B1:;
@@ -10230,7 +10104,7 @@ static u32 code_f33(uint8_t *const m, const u32 last, u64 p0, u64 p1, u64 p2, u6
   if (i0) {goto B2;}
   j0 = l6;
   j1 = l7;
-  call(code_f16(m, last, j0, j1));
+  call(code_f15(m, last, j0, j1));
   B2:;
   j0 = l6;
   j1 = 8ull;
@@ -10579,7 +10453,7 @@ static u32 code_f33(uint8_t *const m, const u32 last, u64 p0, u64 p1, u64 p2, u6
     if (i0) {goto B9;}
     j0 = l8;
     j1 = l6;
-    call(j0 = code_f30(m, last, j0, j1));
+    call(j0 = code_f29(m, last, j0, j1));
     l8 = j0;
     goto B8;
     B9:;
@@ -10596,7 +10470,7 @@ static u32 code_f33(uint8_t *const m, const u32 last, u64 p0, u64 p1, u64 p2, u6
     if (i0) {goto B10;}
     j0 = l9;
     j1 = l6;
-    call(code_f16(m, last, j0, j1));
+    call(code_f15(m, last, j0, j1));
     B10:;
     j0 = l9;
     j1 = 8ull;
@@ -10906,7 +10780,7 @@ static u32 code_f33(uint8_t *const m, const u32 last, u64 p0, u64 p1, u64 p2, u6
   return 0;
 }
 
-static void code_f34(uint8_t *const m, const u32 last, u64 p0, u32 p1) {
+static void code_f33(uint8_t *const m, const u32 last, u64 p0, u32 p1) {
   u32 l2 = 0, l3 = 0;
   u64 l4 = 0, l5 = 0, l6 = 0, l7 = 0;
   u32 i0, i1, i2, i3, i4;
@@ -11087,7 +10961,7 @@ static void code_f34(uint8_t *const m, const u32 last, u64 p0, u32 p1) {
   return;
 }
 
-static void code_f35(uint8_t *const m, const u32 last, u64 p0, u32 p1, u64 p2) {
+static void code_f34(uint8_t *const m, const u32 last, u64 p0, u32 p1, u64 p2) {
   u32 l23 = 0, l24 = 0;
   u64 l3 = 0, l4 = 0, l5 = 0, l6 = 0, l7 = 0, l8 = 0, l9 = 0, l10 = 0, l11 = 0, l12 = 0, l13 = 0, l14 = 0, l15 = 0, l16 = 0, l17 = 0, l18 = 0, l19 = 0, l20 = 0, l21 = 0, l22 = 0;
   u32 i0, i1, i2, i3, i6;
@@ -12121,7 +11995,7 @@ static void code_f35(uint8_t *const m, const u32 last, u64 p0, u32 p1, u64 p2) {
     j1 = 176ull;
     j0 += j1;
     j1 = 0ull;
-    call(code_f15(m, last, j0, j1));
+    call(code_f14(m, last, j0, j1));
     j0 = l11;
     i0 = (u32)(j0);
     j1 = l3;
@@ -12797,7 +12671,7 @@ static u32 code_pocket_send(uint8_t *const m, const u32 last, u64 p0, u64 p1, u6
   j2 = i4 ? j2 : j3;
   j1 += j2;
   j2 = p2;
-  call(i0 = code_f24(m, last, j0, j1, j2));
+  call(i0 = code_f23(m, last, j0, j1, j2));
   i1 = 255u;
   i0 &= i1;
   i0 = !(i0);
@@ -12884,7 +12758,7 @@ static u32 code_pocket_send(uint8_t *const m, const u32 last, u64 p0, u64 p1, u6
   j5 = 424ull;
   j4 += j5;
   l14 = j4;
-  call(code_f25(m, last, j0, j1, j2, i3, j4));
+  call(code_f24(m, last, j0, j1, j2, i3, j4));
   j0 = p7;
   j1 = 4096ull;
   j2 = 0ull;
@@ -13150,12 +13024,12 @@ static u32 code_pocket_send(uint8_t *const m, const u32 last, u64 p0, u64 p1, u6
 }
 
 static u32 code_pocket_sender_open(uint8_t *const m, const u32 last, u64 p0, u32 p1, u64 p2, u64 p3) {
-  u32 l57 = 0, l58 = 0;
+  u32 l57 = 0, l58 = 0, l59 = 0;
   u64 l4 = 0, l5 = 0, l6 = 0, l7 = 0, l8 = 0, l9 = 0, l10 = 0, l11 = 0, l12 = 0, l13 = 0, l14 = 0, l15 = 0, l16 = 0, l17 = 0, l18 = 0, l19 = 0, l20 = 0, l21 = 0, l22 = 0, l23 = 0, l24 = 0, l25 = 0, l26 = 0, l27 = 0, l28 = 0, l29 = 0, l30 = 0, l31 = 0, l32 = 0, l33 = 0, l34 = 0, l35 = 0, l36 = 0, l37 = 0, l38 = 0, l39 = 0, l40 = 0, l41 = 0, l42 = 0, l43 = 0, l44 = 0, l45 = 0, l46 = 0, l47 = 0, l48 = 0, l49 = 0, l50 = 0, l51 = 0, l52 = 0, l53 = 0, l54 = 0, l55 = 0, l56 = 0;
   u32 i0, i1, i2, i4;
-  u64 j0, j1, j2, j3, j4;
+  u64 j0, j1, j2, j3, j4, j5;
   uint8_t *a0, *frame, *a2, *a3;
-  enter(l4, 544);
+  enter(l4, 512);
   frame = place(l4);
   j0 = l4;
   j0 = p0;
@@ -13175,22 +13049,6 @@ static u32 code_pocket_sender_open(uint8_t *const m, const u32 last, u64 p0, u32
   i0 = (u32)(j0);
   j1 = 0ull;
   i64_store_at(j1, a0, 8);
-  j0 = l4;
-  i0 = (u32)(j0);
-  j1 = 0ull;
-  i64_store_at(j1, frame, 80);
-  j0 = l4;
-  i0 = (u32)(j0);
-  j1 = 0ull;
-  i64_store_at(j1, frame, 72);
-  j0 = l4;
-  i0 = (u32)(j0);
-  j1 = 0ull;
-  i64_store_at(j1, frame, 64);
-  j0 = l4;
-  i0 = (u32)(j0);
-  j1 = 0ull;
-  i64_store_at(j1, frame, 56);
   j0 = l6;
   i0 = !(j0);
   if (i0) {goto B1;}
@@ -13207,7 +13065,7 @@ static u32 code_pocket_sender_open(uint8_t *const m, const u32 last, u64 p0, u32
   goto B0;
   B1:;
   j0 = l4;
-  j1 = 88ull;
+  j1 = 56ull;
   j0 += j1;
   i0 = (u32)(j0);
   i1 = 0u;
@@ -13246,6 +13104,7 @@ static u32 code_pocket_sender_open(uint8_t *const m, const u32 last, u64 p0, u32
   i1 += i2;
   i2 = 6u;
   i1 >>= (i2 & 31);
+  l59 = i1;
   j1 = (u64)(i1);
   l6 = j1;
   j2 = 3ull;
@@ -13280,48 +13139,11 @@ static u32 code_pocket_sender_open(uint8_t *const m, const u32 last, u64 p0, u32
   j0 = l4;
   i0 = (u32)(j0);
   i1 = 0u;
-  i32_store_at(i1, frame, 540);
+  i32_store_at(i1, frame, 508);
   j0 = l4;
   i0 = (u32)(j0);
   i1 = p1;
-  i32_store_at(i1, frame, 536);
-  j0 = l4;
-  i0 = (u32)(j0);
-  j1 = l6;
-  i64_store_at(j1, frame, 528);
-  j0 = l4;
-  i0 = (u32)(j0);
-  j1 = l6;
-  i64_store_at(j1, frame, 520);
-  j0 = l4;
-  i0 = (u32)(j0);
-  j1 = l5;
-  i64_store_at(j1, frame, 512);
-  i0 = l58;
-  if (i0) {goto B8;}
-  j0 = l4;
-  j1 = 512ull;
-  j0 += j1;
-  j1 = p2;
-  j2 = 4096ull;
-  j3 = 0ull;
-  j4 = p2;
-  i4 = !(j4);
-  j2 = i4 ? j2 : j3;
-  j1 += j2;
-  j2 = p3;
-  call(i0 = code_f24(m, last, j0, j1, j2));
-  i1 = 255u;
-  i0 &= i1;
-  if (i0) {goto B4;}
-  B8:;
-  j0 = l4;
-  i0 = (u32)(j0);
-  j1 = l4;
-  i1 = (u32)(j1);
-  i64_load_at(j1, frame, 536);
-  l8 = j1;
-  i64_store_at(j1, frame, 504);
+  i32_store_at(i1, frame, 504);
   j0 = l4;
   i0 = (u32)(j0);
   j1 = l6;
@@ -13334,6 +13156,43 @@ static u32 code_pocket_sender_open(uint8_t *const m, const u32 last, u64 p0, u32
   i0 = (u32)(j0);
   j1 = l5;
   i64_store_at(j1, frame, 480);
+  i0 = l58;
+  if (i0) {goto B8;}
+  j0 = l4;
+  j1 = 480ull;
+  j0 += j1;
+  j1 = p2;
+  j2 = 4096ull;
+  j3 = 0ull;
+  j4 = p2;
+  i4 = !(j4);
+  j2 = i4 ? j2 : j3;
+  j1 += j2;
+  j2 = p3;
+  call(i0 = code_f23(m, last, j0, j1, j2));
+  i1 = 255u;
+  i0 &= i1;
+  if (i0) {goto B4;}
+  B8:;
+  j0 = l4;
+  i0 = (u32)(j0);
+  j1 = l4;
+  i1 = (u32)(j1);
+  i64_load_at(j1, frame, 504);
+  l8 = j1;
+  i64_store_at(j1, frame, 472);
+  j0 = l4;
+  i0 = (u32)(j0);
+  j1 = l6;
+  i64_store_at(j1, frame, 464);
+  j0 = l4;
+  i0 = (u32)(j0);
+  j1 = l6;
+  i64_store_at(j1, frame, 456);
+  j0 = l4;
+  i0 = (u32)(j0);
+  j1 = l5;
+  i64_store_at(j1, frame, 448);
   j0 = l4;
   j1 = 24ull;
   j0 += j1;
@@ -13378,16 +13237,16 @@ static u32 code_pocket_sender_open(uint8_t *const m, const u32 last, u64 p0, u32
   memory_fill(i0, i1, i2);
   B9:;
   j0 = l4;
-  j1 = 88ull;
+  j1 = 56ull;
   j0 += j1;
   i1 = p1;
   j2 = l4;
-  j3 = 480ull;
+  j3 = 448ull;
   j2 += j3;
-  call(code_f35(m, last, j0, i1, j2));
+  call(code_f34(m, last, j0, i1, j2));
   j0 = l4;
   i0 = (u32)(j0);
-  i32_load8_u_at(i0, frame, 88);
+  i32_load8_u_at(i0, frame, 56);
   i0 = !(i0);
   if (i0) {goto B10;}
   j0 = l7;
@@ -13398,195 +13257,195 @@ static u32 code_pocket_sender_open(uint8_t *const m, const u32 last, u64 p0, u32
   B10:;
   j0 = l4;
   i0 = (u32)(j0);
-  i64_load_at(j0, frame, 472);
+  i64_load_at(j0, frame, 440);
   l9 = j0;
   j0 = l4;
   i0 = (u32)(j0);
-  i64_load_at(j0, frame, 464);
+  i64_load_at(j0, frame, 432);
   l10 = j0;
   j0 = l4;
   i0 = (u32)(j0);
-  i64_load_at(j0, frame, 456);
+  i64_load_at(j0, frame, 424);
   l11 = j0;
   j0 = l4;
   i0 = (u32)(j0);
-  i64_load_at(j0, frame, 448);
+  i64_load_at(j0, frame, 416);
   l12 = j0;
   j0 = l4;
   i0 = (u32)(j0);
-  i64_load_at(j0, frame, 440);
+  i64_load_at(j0, frame, 408);
   l13 = j0;
   j0 = l4;
   i0 = (u32)(j0);
-  i64_load_at(j0, frame, 432);
+  i64_load_at(j0, frame, 400);
   l14 = j0;
   j0 = l4;
   i0 = (u32)(j0);
-  i64_load_at(j0, frame, 424);
+  i64_load_at(j0, frame, 392);
   l15 = j0;
   j0 = l4;
   i0 = (u32)(j0);
-  i64_load_at(j0, frame, 416);
+  i64_load_at(j0, frame, 384);
   l16 = j0;
   j0 = l4;
   i0 = (u32)(j0);
-  i64_load_at(j0, frame, 408);
+  i64_load_at(j0, frame, 376);
   l17 = j0;
   j0 = l4;
   i0 = (u32)(j0);
-  i64_load_at(j0, frame, 400);
+  i64_load_at(j0, frame, 368);
   l18 = j0;
   j0 = l4;
   i0 = (u32)(j0);
-  i64_load_at(j0, frame, 392);
+  i64_load_at(j0, frame, 360);
   l19 = j0;
   j0 = l4;
   i0 = (u32)(j0);
-  i64_load_at(j0, frame, 384);
+  i64_load_at(j0, frame, 352);
   l20 = j0;
   j0 = l4;
   i0 = (u32)(j0);
-  i64_load_at(j0, frame, 376);
+  i64_load_at(j0, frame, 344);
   l21 = j0;
   j0 = l4;
   i0 = (u32)(j0);
-  i64_load_at(j0, frame, 368);
+  i64_load_at(j0, frame, 336);
   l22 = j0;
   j0 = l4;
   i0 = (u32)(j0);
-  i64_load_at(j0, frame, 360);
+  i64_load_at(j0, frame, 328);
   l23 = j0;
   j0 = l4;
   i0 = (u32)(j0);
-  i64_load_at(j0, frame, 352);
+  i64_load_at(j0, frame, 320);
   l24 = j0;
   j0 = l4;
   i0 = (u32)(j0);
-  i64_load_at(j0, frame, 344);
+  i64_load_at(j0, frame, 312);
   l25 = j0;
   j0 = l4;
   i0 = (u32)(j0);
-  i64_load_at(j0, frame, 336);
+  i64_load_at(j0, frame, 304);
   l26 = j0;
   j0 = l4;
   i0 = (u32)(j0);
-  i64_load_at(j0, frame, 328);
+  i64_load_at(j0, frame, 296);
   l27 = j0;
   j0 = l4;
   i0 = (u32)(j0);
-  i64_load_at(j0, frame, 320);
+  i64_load_at(j0, frame, 288);
   l28 = j0;
   j0 = l4;
   i0 = (u32)(j0);
-  i64_load_at(j0, frame, 312);
+  i64_load_at(j0, frame, 280);
   l29 = j0;
   j0 = l4;
   i0 = (u32)(j0);
-  i64_load_at(j0, frame, 304);
+  i64_load_at(j0, frame, 272);
   l30 = j0;
   j0 = l4;
   i0 = (u32)(j0);
-  i64_load_at(j0, frame, 296);
+  i64_load_at(j0, frame, 264);
   l31 = j0;
   j0 = l4;
   i0 = (u32)(j0);
-  i64_load_at(j0, frame, 288);
+  i64_load_at(j0, frame, 256);
   l32 = j0;
   j0 = l4;
   i0 = (u32)(j0);
-  i64_load_at(j0, frame, 280);
+  i64_load_at(j0, frame, 248);
   l33 = j0;
   j0 = l4;
   i0 = (u32)(j0);
-  i64_load_at(j0, frame, 272);
+  i64_load_at(j0, frame, 240);
   l34 = j0;
   j0 = l4;
   i0 = (u32)(j0);
-  i64_load_at(j0, frame, 264);
+  i64_load_at(j0, frame, 232);
   l35 = j0;
   j0 = l4;
   i0 = (u32)(j0);
-  i64_load_at(j0, frame, 256);
+  i64_load_at(j0, frame, 224);
   l36 = j0;
   j0 = l4;
   i0 = (u32)(j0);
-  i64_load_at(j0, frame, 248);
+  i64_load_at(j0, frame, 216);
   l37 = j0;
   j0 = l4;
   i0 = (u32)(j0);
-  i64_load_at(j0, frame, 240);
+  i64_load_at(j0, frame, 208);
   l38 = j0;
   j0 = l4;
   i0 = (u32)(j0);
-  i64_load_at(j0, frame, 232);
+  i64_load_at(j0, frame, 200);
   l39 = j0;
   j0 = l4;
   i0 = (u32)(j0);
-  i64_load_at(j0, frame, 224);
+  i64_load_at(j0, frame, 192);
   l40 = j0;
   j0 = l4;
   i0 = (u32)(j0);
-  i64_load_at(j0, frame, 216);
+  i64_load_at(j0, frame, 184);
   l41 = j0;
   j0 = l4;
   i0 = (u32)(j0);
-  i64_load_at(j0, frame, 208);
+  i64_load_at(j0, frame, 176);
   l42 = j0;
   j0 = l4;
   i0 = (u32)(j0);
-  i64_load_at(j0, frame, 200);
+  i64_load_at(j0, frame, 168);
   l43 = j0;
   j0 = l4;
   i0 = (u32)(j0);
-  i64_load_at(j0, frame, 192);
+  i64_load_at(j0, frame, 160);
   l44 = j0;
   j0 = l4;
   i0 = (u32)(j0);
-  i64_load_at(j0, frame, 184);
+  i64_load_at(j0, frame, 152);
   l45 = j0;
   j0 = l4;
   i0 = (u32)(j0);
-  i64_load_at(j0, frame, 176);
+  i64_load_at(j0, frame, 144);
   l46 = j0;
   j0 = l4;
   i0 = (u32)(j0);
-  i64_load_at(j0, frame, 168);
+  i64_load_at(j0, frame, 136);
   l47 = j0;
   j0 = l4;
   i0 = (u32)(j0);
-  i64_load_at(j0, frame, 160);
+  i64_load_at(j0, frame, 128);
   l48 = j0;
   j0 = l4;
   i0 = (u32)(j0);
-  i64_load_at(j0, frame, 152);
+  i64_load_at(j0, frame, 120);
   l49 = j0;
   j0 = l4;
   i0 = (u32)(j0);
-  i64_load_at(j0, frame, 144);
+  i64_load_at(j0, frame, 112);
   l50 = j0;
   j0 = l4;
   i0 = (u32)(j0);
-  i64_load_at(j0, frame, 136);
+  i64_load_at(j0, frame, 104);
   l51 = j0;
   j0 = l4;
   i0 = (u32)(j0);
-  i64_load_at(j0, frame, 128);
+  i64_load_at(j0, frame, 96);
   l52 = j0;
   j0 = l4;
   i0 = (u32)(j0);
-  i64_load_at(j0, frame, 120);
+  i64_load_at(j0, frame, 88);
   l53 = j0;
   j0 = l4;
   i0 = (u32)(j0);
-  i64_load_at(j0, frame, 112);
+  i64_load_at(j0, frame, 80);
   l54 = j0;
   j0 = l4;
   i0 = (u32)(j0);
-  i64_load_at(j0, frame, 104);
+  i64_load_at(j0, frame, 72);
   l55 = j0;
   j0 = l4;
   i0 = (u32)(j0);
-  i64_load_at(j0, frame, 96);
+  i64_load_at(j0, frame, 64);
   l56 = j0;
   j0 = l4;
   j1 = 8ull;
@@ -13903,58 +13762,142 @@ static u32 code_pocket_sender_open(uint8_t *const m, const u32 last, u64 p0, u32
   j0 = l44;
   call(heap_dealloc(m, last, j0));
   B15:;
-  j0 = l4;
-  i0 = (u32)(j0);
-  j1 = l35;
-  i64_store_at(j1, frame, 80);
-  j0 = l4;
-  i0 = (u32)(j0);
-  j1 = l36;
-  i64_store_at(j1, frame, 72);
-  j0 = l4;
-  i0 = (u32)(j0);
-  j1 = l37;
-  i64_store_at(j1, frame, 64);
-  j0 = l4;
-  i0 = (u32)(j0);
-  j1 = l38;
-  i64_store_at(j1, frame, 56);
-  j0 = l4;
-  j1 = 56ull;
-  j0 += j1;
-  call(code_f4(m, last, j0));
-  j0 = l31;
+  j0 = l36;
   i0 = !(j0);
   if (i0) {goto B16;}
+  j0 = l37;
+  j1 = l35;
+  j2 = 0ull;
+  j3 = l37;
+  j4 = l35;
+  j5 = l37;
+  i4 = j4 < j5;
+  j2 = i4 ? j2 : j3;
+  l6 = j2;
+  j1 -= j2;
+  p0 = j1;
+  j0 -= j1;
+  p3 = j0;
+  j1 = l36;
+  j2 = p3;
+  j3 = l36;
+  i2 = j2 < j3;
+  j0 = i2 ? j0 : j1;
+  p2 = j0;
+  j0 = l37;
+  j1 = p0;
+  i0 = j0 == j1;
+  if (i0) {goto B17;}
+  j0 = l38;
+  j1 = l35;
+  j2 = 5ull;
+  j1 <<= (j2 & 63);
+  j2 = l6;
+  j3 = 5ull;
+  j2 <<= (j3 & 63);
+  j1 -= j2;
+  j0 += j1;
+  p0 = j0;
+  j0 = p2;
+  l6 = j0;
+  L18:
+    j0 = p0;
+    j1 = 16ull;
+    j0 += j1;
+    i0 = (u32)(j0);
+    i64_load(j0, i0, 0);
+    i0 = !(j0);
+    if (i0) {goto B19;}
+    j0 = p0;
+    i0 = (u32)(j0);
+    i64_load(j0, i0, 0);
+    call(heap_dealloc(m, last, j0));
+    B19:;
+    j0 = p0;
+    j1 = 32ull;
+    j0 += j1;
+    p0 = j0;
+    j0 = l6;
+    j1 = 18446744073709551615ull;
+    j0 += j1;
+    l6 = j0;
+    j1 = 0ull;
+    i0 = j0 != j1;
+    if (i0) {goto L18;}
+  B17:;
+  j0 = l36;
+  j1 = p3;
+  i0 = j0 <= j1;
+  if (i0) {goto B16;}
+  j0 = l36;
+  j1 = p2;
+  j0 -= j1;
+  l6 = j0;
+  j0 = l38;
+  p0 = j0;
+  L20:
+    j0 = p0;
+    j1 = 16ull;
+    j0 += j1;
+    i0 = (u32)(j0);
+    i64_load(j0, i0, 0);
+    i0 = !(j0);
+    if (i0) {goto B21;}
+    j0 = p0;
+    i0 = (u32)(j0);
+    i64_load(j0, i0, 0);
+    call(heap_dealloc(m, last, j0));
+    B21:;
+    j0 = p0;
+    j1 = 32ull;
+    j0 += j1;
+    p0 = j0;
+    j0 = l6;
+    j1 = 18446744073709551615ull;
+    j0 += j1;
+    l6 = j0;
+    j1 = 0ull;
+    i0 = j0 != j1;
+    if (i0) {goto L20;}
+  B16:;
+  j0 = l38;
+  call(heap_dealloc(m, last, j0));
+  j0 = l31;
+  i0 = !(j0);
+  if (i0) {goto B22;}
   j0 = l33;
   call(heap_dealloc(m, last, j0));
-  B16:;
+  B22:;
   j0 = l26;
   i0 = !(j0);
-  if (i0) {goto B17;}
+  if (i0) {goto B23;}
   j0 = l28;
   call(heap_dealloc(m, last, j0));
-  B17:;
+  B23:;
   j0 = l20;
   i0 = !(j0);
-  if (i0) {goto B18;}
+  if (i0) {goto B24;}
   j0 = l22;
   call(heap_dealloc(m, last, j0));
-  B18:;
+  B24:;
   j0 = l16;
   i0 = !(j0);
-  if (i0) {goto B19;}
+  if (i0) {goto B25;}
   j0 = l18;
   call(heap_dealloc(m, last, j0));
-  B19:;
+  B25:;
   j0 = l13;
   i0 = !(j0);
-  if (i0) {goto B20;}
+  if (i0) {goto B26;}
   j0 = l15;
   call(heap_dealloc(m, last, j0));
-  B20:;
+  B26:;
+  i0 = l59;
+  i0 = !(i0);
+  if (i0) {goto B27;}
   j0 = l5;
   call(heap_dealloc(m, last, j0));
+  B27:;
   j0 = l7;
   call(heap_dealloc(m, last, j0));
   i0 = 1u;
@@ -13975,7 +13918,7 @@ static u32 code_pocket_sender_open(uint8_t *const m, const u32 last, u64 p0, u32
   call(heap_dealloc(m, last, j0));
   B0:;
   j0 = l4;
-  j1 = 544ull;
+  j1 = 512ull;
   j0 += j1;
   set_stack(j0);
   i0 = l57;
@@ -14067,7 +14010,7 @@ static u32 code_pocket_sender_reset(uint8_t *const m, const u32 last, u64 p0, u6
   j2 = i4 ? j2 : j3;
   j1 += j2;
   j2 = p2;
-  call(i0 = code_f24(m, last, j0, j1, j2));
+  call(i0 = code_f23(m, last, j0, j1, j2));
   i1 = 255u;
   i0 &= i1;
   i0 = !(i0);
@@ -14636,29 +14579,29 @@ static u32 code_pocket_sent(uint8_t *const m, const u32 last, u64 p0, u64 p1) {
 }
 #endif
 #ifndef POCKET_NO_RECEIVER
-static void code_f5(uint8_t *const m, const u32 last, u64 p0, u64 p1, u64 p2, u64 p3, u64 p4);
-static u32 code_f6(uint8_t *const m, const u32 last, u64 p0, u64 p1, u64 p2);
-static void code_f7(uint8_t *const m, const u32 last, u64 p0, u64 p1, u64 p2);
-static u64 code_f8(uint8_t *const m, const u32 last, u64 p0, u64 p1);
-static void code_f9(uint8_t *const m, const u32 last, u64 p0, u64 p1, u64 p2, u32 p3, u64 p4, u32 p5, u64 p6, u64 p7, u64 p8);
-static void code_f10(uint8_t *const m, const u32 last, u64 p0, u64 p1, u64 p2, u32 p3, u64 p4, u32 p5, u64 p6, u64 p7);
-static void code_f11(uint8_t *const m, const u32 last, u64 p0, u64 p1, u64 p2, u64 p3);
-static void code_f12(uint8_t *const m, const u32 last, u64 p0, u64 p1);
-static void code_f13(uint8_t *const m, const u32 last, u64 p0, u64 p1, u64 p2, u64 p3, u64 p4, u64 p5);
-static void code_f14(uint8_t *const m, const u32 last, u64 p0, u64 p1, u64 p2, u64 p3, u64 p4);
-static u64 code_f17(uint8_t *const m, const u32 last, u64 p0, u64 p1, u64 p2, u64 p3, u64 p4);
-static void code_f18(uint8_t *const m, const u32 last, u64 p0, u64 p1, u32 p2, u32 p3);
-static void code_f19(uint8_t *const m, const u32 last, u64 p0, u64 p1, u64 p2, u64 p3, u32 p4, u64 p5, u64 p6);
-static void code_f20(uint8_t *const m, const u32 last, u64 p0, u64 p1, u32 p2);
-static void code_f21(uint8_t *const m, const u32 last, u64 p0, u64 p1, u64 p2, u64 p3, u32 p4, u64 p5, u64 p6);
-static void code_f22(uint8_t *const m, const u32 last, u64 p0, u64 p1, u32 p2);
-static void code_f23(uint8_t *const m, const u32 last, u64 p0, u32 p1);
+static void code_f4(uint8_t *const m, const u32 last, u64 p0, u64 p1, u64 p2, u64 p3, u64 p4);
+static u32 code_f5(uint8_t *const m, const u32 last, u64 p0, u64 p1, u64 p2);
+static void code_f6(uint8_t *const m, const u32 last, u64 p0, u64 p1, u64 p2);
+static u64 code_f7(uint8_t *const m, const u32 last, u64 p0, u64 p1);
+static void code_f8(uint8_t *const m, const u32 last, u64 p0, u64 p1, u64 p2, u32 p3, u64 p4, u32 p5, u64 p6, u64 p7, u64 p8);
+static void code_f9(uint8_t *const m, const u32 last, u64 p0, u64 p1, u64 p2, u32 p3, u64 p4, u32 p5, u64 p6, u64 p7);
+static void code_f10(uint8_t *const m, const u32 last, u64 p0, u64 p1, u64 p2, u64 p3);
+static void code_f11(uint8_t *const m, const u32 last, u64 p0, u64 p1);
+static void code_f12(uint8_t *const m, const u32 last, u64 p0, u64 p1, u64 p2, u64 p3, u64 p4, u64 p5);
+static void code_f13(uint8_t *const m, const u32 last, u64 p0, u64 p1, u64 p2, u64 p3, u64 p4);
+static u64 code_f16(uint8_t *const m, const u32 last, u64 p0, u64 p1, u64 p2, u64 p3, u64 p4);
+static void code_f17(uint8_t *const m, const u32 last, u64 p0, u64 p1, u32 p2, u32 p3);
+static void code_f18(uint8_t *const m, const u32 last, u64 p0, u64 p1, u64 p2, u64 p3, u32 p4, u64 p5, u64 p6);
+static void code_f19(uint8_t *const m, const u32 last, u64 p0, u64 p1, u32 p2);
+static void code_f20(uint8_t *const m, const u32 last, u64 p0, u64 p1, u64 p2, u64 p3, u32 p4, u64 p5, u64 p6);
+static void code_f21(uint8_t *const m, const u32 last, u64 p0, u64 p1, u32 p2);
+static void code_f22(uint8_t *const m, const u32 last, u64 p0, u32 p1);
 static u32 code_pocket_counts(uint8_t *const m, const u32 last, u64 p0, u64 p1);
 static u32 code_pocket_receive(uint8_t *const m, const u32 last, u64 p0, u32 p1, u64 p2, u64 p3, u64 p4, u64 p5, u64 p6);
 static u32 code_pocket_receiver_open(uint8_t *const m, const u32 last, u64 p0, u32 p1);
 static u32 code_pocket_receiver_reset(uint8_t *const m, const u32 last, u64 p0);
 
-static void code_f5(uint8_t *const m, const u32 last, u64 p0, u64 p1, u64 p2, u64 p3, u64 p4) {
+static void code_f4(uint8_t *const m, const u32 last, u64 p0, u64 p1, u64 p2, u64 p3, u64 p4) {
   u32 l23 = 0, l24 = 0, l25 = 0, l26 = 0, l27 = 0, l28 = 0, l29 = 0, l30 = 0;
   u64 l5 = 0, l6 = 0, l7 = 0, l8 = 0, l9 = 0, l10 = 0, l11 = 0, l12 = 0, l13 = 0, l14 = 0, l15 = 0, l16 = 0, l17 = 0, l18 = 0, l19 = 0, l20 = 0, l21 = 0, l22 = 0;
   u32 i0, i1, i2, i3, i4, i5, i6, i7;
@@ -14779,7 +14722,7 @@ static void code_f5(uint8_t *const m, const u32 last, u64 p0, u64 p1, u64 p2, u6
   j0 = l10;
   j1 = l9;
   j2 = l8;
-  call(i0 = code_f6(m, last, j0, j1, j2));
+  call(i0 = code_f5(m, last, j0, j1, j2));
   if (i0) {goto B2;}
   goto B1;
   B3:;
@@ -15312,7 +15255,7 @@ static void code_f5(uint8_t *const m, const u32 last, u64 p0, u64 p1, u64 p2, u6
   j0 += j1;
   j1 = l5;
   j2 = l10;
-  call(code_f7(m, last, j0, j1, j2));
+  call(code_f6(m, last, j0, j1, j2));
   j0 = l5;
   i0 = (u32)(j0);
   i32_load8_u_at(i0, frame, 128);
@@ -16103,7 +16046,7 @@ static void code_f5(uint8_t *const m, const u32 last, u64 p0, u64 p1, u64 p2, u6
     B65:;
     j0 = l9;
     j1 = l7;
-    call(j0 = code_f8(m, last, j0, j1));
+    call(j0 = code_f7(m, last, j0, j1));
     j1 = l7;
     j0 &= j1;
     l8 = j0;
@@ -16513,7 +16456,7 @@ static void code_f5(uint8_t *const m, const u32 last, u64 p0, u64 p1, u64 p2, u6
   j6 = l13;
   j7 = l17;
   j8 = l16;
-  call(code_f9(m, last, j0, j1, j2, i3, j4, i5, j6, j7, j8));
+  call(code_f8(m, last, j0, j1, j2, i3, j4, i5, j6, j7, j8));
   goto B89;
   B90:;
   j0 = l5;
@@ -16526,7 +16469,7 @@ static void code_f5(uint8_t *const m, const u32 last, u64 p0, u64 p1, u64 p2, u6
   i5 = l29;
   j6 = l13;
   j7 = l16;
-  call(code_f10(m, last, j0, j1, j2, i3, j4, i5, j6, j7));
+  call(code_f9(m, last, j0, j1, j2, i3, j4, i5, j6, j7));
   B89:;
   j0 = l5;
   i0 = (u32)(j0);
@@ -16615,7 +16558,7 @@ static void code_f5(uint8_t *const m, const u32 last, u64 p0, u64 p1, u64 p2, u6
   j3 += j4;
   i3 = (u32)(j3);
   i64_load_at(j3, a13, 8);
-  call(code_f11(m, last, j0, j1, j2, j3));
+  call(code_f10(m, last, j0, j1, j2, j3));
   j0 = l5;
   i0 = (u32)(j0);
   i1 = 0u;
@@ -16663,10 +16606,10 @@ static void code_f5(uint8_t *const m, const u32 last, u64 p0, u64 p1, u64 p2, u6
   j3 += j4;
   i3 = (u32)(j3);
   i64_load_at(j3, a15, 8);
-  call(code_f11(m, last, j0, j1, j2, j3));
+  call(code_f10(m, last, j0, j1, j2, j3));
   j0 = l10;
   j1 = l7;
-  call(code_f12(m, last, j0, j1));
+  call(code_f11(m, last, j0, j1));
   j0 = l5;
   j1 = 128ull;
   j0 += j1;
@@ -16683,7 +16626,7 @@ static void code_f5(uint8_t *const m, const u32 last, u64 p0, u64 p1, u64 p2, u6
   j5 += j6;
   i5 = (u32)(j5);
   i64_load_at(j5, a14, 72);
-  call(code_f13(m, last, j0, j1, j2, j3, j4, j5));
+  call(code_f12(m, last, j0, j1, j2, j3, j4, j5));
   goto B93;
   B94:;
   j0 = l5;
@@ -16703,7 +16646,7 @@ static void code_f5(uint8_t *const m, const u32 last, u64 p0, u64 p1, u64 p2, u6
   j5 += j6;
   i5 = (u32)(j5);
   i64_load_at(j5, a16, 8);
-  call(code_f13(m, last, j0, j1, j2, j3, j4, j5));
+  call(code_f12(m, last, j0, j1, j2, j3, j4, j5));
   B93:;
   j0 = l5;
   i0 = (u32)(j0);
@@ -16719,7 +16662,7 @@ static void code_f5(uint8_t *const m, const u32 last, u64 p0, u64 p1, u64 p2, u6
   j2 = l10;
   j3 = l7;
   j4 = l16;
-  call(code_f14(m, last, j0, j1, j2, j3, j4));
+  call(code_f13(m, last, j0, j1, j2, j3, j4));
   j0 = l5;
   i0 = (u32)(j0);
   i32_load8_u_at(i0, frame, 48);
@@ -16772,7 +16715,7 @@ static void code_f5(uint8_t *const m, const u32 last, u64 p0, u64 p1, u64 p2, u6
   j6 = l13;
   j7 = l17;
   j8 = l16;
-  call(code_f9(m, last, j0, j1, j2, i3, j4, i5, j6, j7, j8));
+  call(code_f8(m, last, j0, j1, j2, i3, j4, i5, j6, j7, j8));
   goto B80;
   B95:;
   j0 = l5;
@@ -16785,7 +16728,7 @@ static void code_f5(uint8_t *const m, const u32 last, u64 p0, u64 p1, u64 p2, u6
   i5 = l29;
   j6 = l13;
   j7 = l16;
-  call(code_f10(m, last, j0, j1, j2, i3, j4, i5, j6, j7));
+  call(code_f9(m, last, j0, j1, j2, i3, j4, i5, j6, j7));
   goto B80;
   B83:;
   j0 = p1;
@@ -17561,7 +17504,7 @@ static void code_f5(uint8_t *const m, const u32 last, u64 p0, u64 p1, u64 p2, u6
   j3 += j4;
   i3 = (u32)(j3);
   i64_load_at(j3, a30, 8);
-  call(code_f11(m, last, j0, j1, j2, j3));
+  call(code_f10(m, last, j0, j1, j2, j3));
   j0 = l5;
   i0 = (u32)(j0);
   i1 = 0u;
@@ -17608,10 +17551,10 @@ static void code_f5(uint8_t *const m, const u32 last, u64 p0, u64 p1, u64 p2, u6
   j3 += j4;
   i3 = (u32)(j3);
   i64_load_at(j3, a17, 248);
-  call(code_f11(m, last, j0, j1, j2, j3));
+  call(code_f10(m, last, j0, j1, j2, j3));
   j0 = l10;
   j1 = l7;
-  call(code_f12(m, last, j0, j1));
+  call(code_f11(m, last, j0, j1));
   j0 = l5;
   j1 = 128ull;
   j0 += j1;
@@ -17628,7 +17571,7 @@ static void code_f5(uint8_t *const m, const u32 last, u64 p0, u64 p1, u64 p2, u6
   j5 += j6;
   i5 = (u32)(j5);
   i64_load_at(j5, a31, 72);
-  call(code_f13(m, last, j0, j1, j2, j3, j4, j5));
+  call(code_f12(m, last, j0, j1, j2, j3, j4, j5));
   goto B116;
   B117:;
   j0 = l5;
@@ -17648,7 +17591,7 @@ static void code_f5(uint8_t *const m, const u32 last, u64 p0, u64 p1, u64 p2, u6
   j5 += j6;
   i5 = (u32)(j5);
   i64_load_at(j5, a32, 8);
-  call(code_f13(m, last, j0, j1, j2, j3, j4, j5));
+  call(code_f12(m, last, j0, j1, j2, j3, j4, j5));
   B116:;
   j0 = l5;
   i0 = (u32)(j0);
@@ -17663,7 +17606,7 @@ static void code_f5(uint8_t *const m, const u32 last, u64 p0, u64 p1, u64 p2, u6
   j2 = l10;
   j3 = l22;
   j4 = l16;
-  call(code_f14(m, last, j0, j1, j2, j3, j4));
+  call(code_f13(m, last, j0, j1, j2, j3, j4));
   j0 = l5;
   i0 = (u32)(j0);
   i32_load8_u_at(i0, frame, 48);
@@ -17722,7 +17665,7 @@ static void code_f5(uint8_t *const m, const u32 last, u64 p0, u64 p1, u64 p2, u6
   j6 = l13;
   j7 = l17;
   j8 = l16;
-  call(code_f9(m, last, j0, j1, j2, i3, j4, i5, j6, j7, j8));
+  call(code_f8(m, last, j0, j1, j2, i3, j4, i5, j6, j7, j8));
   goto B80;
   B118:;
   j0 = l5;
@@ -17735,7 +17678,7 @@ static void code_f5(uint8_t *const m, const u32 last, u64 p0, u64 p1, u64 p2, u6
   i5 = l29;
   j6 = l13;
   j7 = l16;
-  call(code_f10(m, last, j0, j1, j2, i3, j4, i5, j6, j7));
+  call(code_f9(m, last, j0, j1, j2, i3, j4, i5, j6, j7));
   B80:;
   j0 = l5;
   i0 = (u32)(j0);
@@ -19016,7 +18959,7 @@ static void code_f5(uint8_t *const m, const u32 last, u64 p0, u64 p1, u64 p2, u6
   return;
 }
 
-static u32 code_f6(uint8_t *const m, const u32 last, u64 p0, u64 p1, u64 p2) {
+static u32 code_f5(uint8_t *const m, const u32 last, u64 p0, u64 p1, u64 p2) {
   u32 l10 = 0;
   u64 l3 = 0, l4 = 0, l5 = 0, l6 = 0, l7 = 0, l8 = 0, l9 = 0;
   u32 i0, i1, i2, i3, i4, i5, i6;
@@ -21009,7 +20952,7 @@ static u32 code_f6(uint8_t *const m, const u32 last, u64 p0, u64 p1, u64 p2) {
   return 0;
 }
 
-static void code_f7(uint8_t *const m, const u32 last, u64 p0, u64 p1, u64 p2) {
+static void code_f6(uint8_t *const m, const u32 last, u64 p0, u64 p1, u64 p2) {
   u32 l11 = 0, l12 = 0, l13 = 0, l14 = 0, l15 = 0, l16 = 0, l17 = 0, l18 = 0, l19 = 0, l20 = 0;
   u64 l3 = 0, l4 = 0, l5 = 0, l6 = 0, l7 = 0, l8 = 0, l9 = 0, l10 = 0;
   u32 i0, i1, i2, i3, i4;
@@ -22503,7 +22446,7 @@ static void code_f7(uint8_t *const m, const u32 last, u64 p0, u64 p1, u64 p2) {
   return;
 }
 
-static u64 code_f8(uint8_t *const m, const u32 last, u64 p0, u64 p1) {
+static u64 code_f7(uint8_t *const m, const u32 last, u64 p0, u64 p1) {
   u64 l2 = 0, l3 = 0, l4 = 0, l5 = 0, l6 = 0, l7 = 0;
   u32 i0;
   u64 j0, j1, j2, j3, j4, j5, j6, j7;
@@ -22515,7 +22458,7 @@ static u64 code_f8(uint8_t *const m, const u32 last, u64 p0, u64 p1) {
   j1 = 8ull;
   j0 += j1;
   j1 = p1;
-  call(code_f15(m, last, j0, j1));
+  call(code_f14(m, last, j0, j1));
   j0 = l2;
   i0 = (u32)(j0);
   i64_load_at(j0, frame, 8);
@@ -22526,7 +22469,7 @@ static u64 code_f8(uint8_t *const m, const u32 last, u64 p0, u64 p1) {
   j1 = 8ull;
   j0 += j1;
   j1 = p1;
-  call(code_f16(m, last, j0, j1));
+  call(code_f15(m, last, j0, j1));
   B0:;
   j0 = l2;
   i0 = (u32)(j0);
@@ -22616,7 +22559,7 @@ static u64 code_f8(uint8_t *const m, const u32 last, u64 p0, u64 p1) {
   return 0;
 }
 
-static void code_f9(uint8_t *const m, const u32 last, u64 p0, u64 p1, u64 p2, u32 p3, u64 p4, u32 p5, u64 p6, u64 p7, u64 p8) {
+static void code_f8(uint8_t *const m, const u32 last, u64 p0, u64 p1, u64 p2, u32 p3, u64 p4, u32 p5, u64 p6, u64 p7, u64 p8) {
   u32 l16 = 0, l17 = 0;
   u64 l9 = 0, l10 = 0, l11 = 0, l12 = 0, l13 = 0, l14 = 0, l15 = 0;
   u32 i0, i1, i2, i3, i4;
@@ -23219,7 +23162,7 @@ static void code_f9(uint8_t *const m, const u32 last, u64 p0, u64 p1, u64 p2, u3
     j1 = p1;
     i2 = 2u;
     i3 = 2u;
-    call(code_f18(m, last, j0, j1, i2, i3));
+    call(code_f17(m, last, j0, j1, i2, i3));
     j0 = l9;
     i0 = (u32)(j0);
     i32_load8_u_at(i0, frame, 48);
@@ -23242,7 +23185,7 @@ static void code_f9(uint8_t *const m, const u32 last, u64 p0, u64 p1, u64 p2, u3
     i4 = p5;
     j5 = p6;
     j6 = p8;
-    call(code_f19(m, last, j0, j1, j2, j3, i4, j5, j6));
+    call(code_f18(m, last, j0, j1, j2, j3, i4, j5, j6));
     j0 = l9;
     i0 = (u32)(j0);
     i32_load8_u_at(i0, frame, 0);
@@ -23315,7 +23258,7 @@ static void code_f9(uint8_t *const m, const u32 last, u64 p0, u64 p1, u64 p2, u3
     i3 -= i4;
     l17 = i3;
     i2 -= i3;
-    call(code_f20(m, last, j0, j1, i2));
+    call(code_f19(m, last, j0, j1, i2));
     j0 = l9;
     i0 = (u32)(j0);
     i32_load8_u_at(i0, frame, 32);
@@ -23379,7 +23322,7 @@ static void code_f9(uint8_t *const m, const u32 last, u64 p0, u64 p1, u64 p2, u3
   j0 += j1;
   j1 = p1;
   j2 = l10;
-  call(code_f7(m, last, j0, j1, j2));
+  call(code_f6(m, last, j0, j1, j2));
   j0 = l9;
   i0 = (u32)(j0);
   i32_load8_u_at(i0, frame, 48);
@@ -23607,7 +23550,7 @@ static void code_f9(uint8_t *const m, const u32 last, u64 p0, u64 p1, u64 p2, u3
   i4 = p5;
   j5 = p6;
   j6 = p8;
-  call(code_f19(m, last, j0, j1, j2, j3, i4, j5, j6));
+  call(code_f18(m, last, j0, j1, j2, j3, i4, j5, j6));
   j0 = l9;
   i0 = (u32)(j0);
   i32_load8_u_at(i0, frame, 16);
@@ -23704,7 +23647,7 @@ static void code_f9(uint8_t *const m, const u32 last, u64 p0, u64 p1, u64 p2, u3
   return;
 }
 
-static void code_f10(uint8_t *const m, const u32 last, u64 p0, u64 p1, u64 p2, u32 p3, u64 p4, u32 p5, u64 p6, u64 p7) {
+static void code_f9(uint8_t *const m, const u32 last, u64 p0, u64 p1, u64 p2, u32 p3, u64 p4, u32 p5, u64 p6, u64 p7) {
   u32 l10 = 0, l11 = 0, l12 = 0;
   u64 l8 = 0, l9 = 0;
   u32 i0, i1, i2, i4;
@@ -23782,7 +23725,7 @@ static void code_f10(uint8_t *const m, const u32 last, u64 p0, u64 p1, u64 p2, u
   i4 = p5;
   j5 = p6;
   j6 = p7;
-  call(code_f21(m, last, j0, j1, j2, j3, i4, j5, j6));
+  call(code_f20(m, last, j0, j1, j2, j3, i4, j5, j6));
   j0 = l8;
   i0 = (u32)(j0);
   i32_load8_u_at(i0, frame, 0);
@@ -23825,7 +23768,7 @@ static void code_f10(uint8_t *const m, const u32 last, u64 p0, u64 p1, u64 p2, u
   i2 = (u32)(j2);
   reach(a3, i2, 0, 0);
   i32_load_at(i2, a3, 0);
-  call(code_f20(m, last, j0, j1, i2));
+  call(code_f19(m, last, j0, j1, i2));
   j0 = l8;
   i0 = (u32)(j0);
   i32_load8_u_at(i0, frame, 16);
@@ -23854,7 +23797,7 @@ static void code_f10(uint8_t *const m, const u32 last, u64 p0, u64 p1, u64 p2, u
   j0 = p1;
   j1 = p7;
   i2 = l11;
-  call(code_f22(m, last, j0, j1, i2));
+  call(code_f21(m, last, j0, j1, i2));
   j0 = p6;
   i0 = (u32)(j0);
   i32_load_at(i0, a1, 0);
@@ -23868,7 +23811,7 @@ static void code_f10(uint8_t *const m, const u32 last, u64 p0, u64 p1, u64 p2, u
   j0 = p1;
   j1 = p7;
   i2 = l10;
-  call(code_f22(m, last, j0, j1, i2));
+  call(code_f21(m, last, j0, j1, i2));
   j0 = p0;
   j1 = 4ull;
   j0 += j1;
@@ -23985,7 +23928,7 @@ static void code_f10(uint8_t *const m, const u32 last, u64 p0, u64 p1, u64 p2, u
   return;
 }
 
-static void code_f11(uint8_t *const m, const u32 last, u64 p0, u64 p1, u64 p2, u64 p3) {
+static void code_f10(uint8_t *const m, const u32 last, u64 p0, u64 p1, u64 p2, u64 p3) {
   u64 l4 = 0, l5 = 0, l6 = 0, l7 = 0;
   u32 i0, i1, i2;
   u64 j0, j1, j2;
@@ -24186,7 +24129,7 @@ static void code_f11(uint8_t *const m, const u32 last, u64 p0, u64 p1, u64 p2, u
   return;
 }
 
-static void code_f12(uint8_t *const m, const u32 last, u64 p0, u64 p1) {
+static void code_f11(uint8_t *const m, const u32 last, u64 p0, u64 p1) {
   u64 l2 = 0, l3 = 0, l4 = 0, l5 = 0, l6 = 0, l7 = 0, l8 = 0;
   u32 i0, i1, i2;
   u64 j0, j1, j2, j3;
@@ -24365,7 +24308,7 @@ static void code_f12(uint8_t *const m, const u32 last, u64 p0, u64 p1) {
   return;
 }
 
-static void code_f13(uint8_t *const m, const u32 last, u64 p0, u64 p1, u64 p2, u64 p3, u64 p4, u64 p5) {
+static void code_f12(uint8_t *const m, const u32 last, u64 p0, u64 p1, u64 p2, u64 p3, u64 p4, u64 p5) {
   u32 l17 = 0, l18 = 0, l19 = 0, l20 = 0;
   u64 l6 = 0, l7 = 0, l8 = 0, l9 = 0, l10 = 0, l11 = 0, l12 = 0, l13 = 0, l14 = 0, l15 = 0, l16 = 0;
   u32 i0, i1, i2, i3, i4;
@@ -24864,7 +24807,7 @@ static void code_f13(uint8_t *const m, const u32 last, u64 p0, u64 p1, u64 p2, u
     j2 = p4;
     j3 = p5;
     j4 = l6;
-    call(j0 = code_f17(m, last, j0, j1, j2, j3, j4));
+    call(j0 = code_f16(m, last, j0, j1, j2, j3, j4));
     l11 = j0;
     j0 = p2;
     i0 = (u32)(j0);
@@ -24913,7 +24856,7 @@ static void code_f13(uint8_t *const m, const u32 last, u64 p0, u64 p1, u64 p2, u
   return;
 }
 
-static void code_f14(uint8_t *const m, const u32 last, u64 p0, u64 p1, u64 p2, u64 p3, u64 p4) {
+static void code_f13(uint8_t *const m, const u32 last, u64 p0, u64 p1, u64 p2, u64 p3, u64 p4) {
   u32 l14 = 0, l15 = 0;
   u64 l5 = 0, l6 = 0, l7 = 0, l8 = 0, l9 = 0, l10 = 0, l11 = 0, l12 = 0, l13 = 0;
   u32 i0, i1, i2, i4, i5;
@@ -25343,7 +25286,7 @@ static void code_f14(uint8_t *const m, const u32 last, u64 p0, u64 p1, u64 p2, u
   j5 += j6;
   i5 = (u32)(j5);
   i64_load_at(j5, a9, 8);
-  call(code_f13(m, last, j0, j1, j2, j3, j4, j5));
+  call(code_f12(m, last, j0, j1, j2, j3, j4, j5));
   goto B0;
   B1:;
   j0 = l5;
@@ -25361,7 +25304,7 @@ static void code_f14(uint8_t *const m, const u32 last, u64 p0, u64 p1, u64 p2, u
   j5 += j6;
   i5 = (u32)(j5);
   i64_load_at(j5, a10, 8);
-  call(code_f13(m, last, j0, j1, j2, j3, j4, j5));
+  call(code_f12(m, last, j0, j1, j2, j3, j4, j5));
   B0:;
   j0 = l5;
   i0 = (u32)(j0);
@@ -25400,7 +25343,7 @@ static void code_f14(uint8_t *const m, const u32 last, u64 p0, u64 p1, u64 p2, u
   return;
 }
 
-static u64 code_f17(uint8_t *const m, const u32 last, u64 p0, u64 p1, u64 p2, u64 p3, u64 p4) {
+static u64 code_f16(uint8_t *const m, const u32 last, u64 p0, u64 p1, u64 p2, u64 p3, u64 p4) {
   u32 i0, i1;
   u64 j0, j1, j2;
   uint8_t *a0;
@@ -25410,7 +25353,7 @@ static u64 code_f17(uint8_t *const m, const u32 last, u64 p0, u64 p1, u64 p2, u6
   if (i0) {goto B0;}
   j0 = p0;
   j1 = p1;
-  call(j0 = code_f8(m, last, j0, j1));
+  call(j0 = code_f7(m, last, j0, j1));
   goto Bfunc;
   B0:;
   j0 = p2;
@@ -25426,7 +25369,7 @@ static u64 code_f17(uint8_t *const m, const u32 last, u64 p0, u64 p1, u64 p2, u6
   if (i0) {goto B1;}
   j0 = p4;
   j1 = p1;
-  call(code_f16(m, last, j0, j1));
+  call(code_f15(m, last, j0, j1));
   B1:;
   j0 = p0;
   j1 = 32ull;
@@ -25514,7 +25457,7 @@ static u64 code_f17(uint8_t *const m, const u32 last, u64 p0, u64 p1, u64 p2, u6
   return 0;
 }
 
-static void code_f18(uint8_t *const m, const u32 last, u64 p0, u64 p1, u32 p2, u32 p3) {
+static void code_f17(uint8_t *const m, const u32 last, u64 p0, u64 p1, u32 p2, u32 p3) {
   u32 l5 = 0, l6 = 0, l7 = 0;
   u64 l4 = 0;
   u32 i0, i1, i2, i3;
@@ -25630,7 +25573,7 @@ static void code_f18(uint8_t *const m, const u32 last, u64 p0, u64 p1, u32 p2, u
   return;
 }
 
-static void code_f19(uint8_t *const m, const u32 last, u64 p0, u64 p1, u64 p2, u64 p3, u32 p4, u64 p5, u64 p6) {
+static void code_f18(uint8_t *const m, const u32 last, u64 p0, u64 p1, u64 p2, u64 p3, u32 p4, u64 p5, u64 p6) {
   u32 l15 = 0, l16 = 0, l17 = 0;
   u64 l7 = 0, l8 = 0, l9 = 0, l10 = 0, l11 = 0, l12 = 0, l13 = 0, l14 = 0;
   u32 i0, i1, i2, i4, i5;
@@ -25701,7 +25644,7 @@ static void code_f19(uint8_t *const m, const u32 last, u64 p0, u64 p1, u64 p2, u
   i4 = p4;
   j5 = p5;
   j6 = p6;
-  call(code_f21(m, last, j0, j1, j2, j3, i4, j5, j6));
+  call(code_f20(m, last, j0, j1, j2, j3, i4, j5, j6));
   j0 = l7;
   i0 = (u32)(j0);
   i32_load8_u_at(i0, frame, 0);
@@ -26382,7 +26325,7 @@ static void code_f19(uint8_t *const m, const u32 last, u64 p0, u64 p1, u64 p2, u
   j5 += j6;
   i5 = (u32)(j5);
   i64_load_at(j5, a14, 8);
-  call(code_f13(m, last, j0, j1, j2, j3, j4, j5));
+  call(code_f12(m, last, j0, j1, j2, j3, j4, j5));
   goto B16;
   B17:;
   j0 = l7;
@@ -26402,7 +26345,7 @@ static void code_f19(uint8_t *const m, const u32 last, u64 p0, u64 p1, u64 p2, u
   j5 += j6;
   i5 = (u32)(j5);
   i64_load_at(j5, a15, 8);
-  call(code_f13(m, last, j0, j1, j2, j3, j4, j5));
+  call(code_f12(m, last, j0, j1, j2, j3, j4, j5));
   B16:;
   j0 = l7;
   i0 = (u32)(j0);
@@ -26421,7 +26364,7 @@ static void code_f19(uint8_t *const m, const u32 last, u64 p0, u64 p1, u64 p2, u
   j2 = p2;
   j3 = p3;
   j4 = p6;
-  call(code_f14(m, last, j0, j1, j2, j3, j4));
+  call(code_f13(m, last, j0, j1, j2, j3, j4));
   j0 = l7;
   i0 = (u32)(j0);
   i32_load8_u_at(i0, frame, 16);
@@ -26520,7 +26463,7 @@ static void code_f19(uint8_t *const m, const u32 last, u64 p0, u64 p1, u64 p2, u
   return;
 }
 
-static void code_f20(uint8_t *const m, const u32 last, u64 p0, u64 p1, u32 p2) {
+static void code_f19(uint8_t *const m, const u32 last, u64 p0, u64 p1, u32 p2) {
   u32 l11 = 0, l12 = 0, l13 = 0, l14 = 0;
   u64 l3 = 0, l4 = 0, l5 = 0, l6 = 0, l7 = 0, l8 = 0, l9 = 0, l10 = 0;
   u32 i0, i1, i2, i3, i4;
@@ -26866,7 +26809,7 @@ static void code_f20(uint8_t *const m, const u32 last, u64 p0, u64 p1, u32 p2) {
   j1 = p1;
   i2 = l11;
   i3 = p2;
-  call(code_f18(m, last, j0, j1, i2, i3));
+  call(code_f17(m, last, j0, j1, i2, i3));
   j0 = l3;
   i0 = (u32)(j0);
   i32_load8_u_at(i0, frame, 4);
@@ -26907,7 +26850,7 @@ static void code_f20(uint8_t *const m, const u32 last, u64 p0, u64 p1, u32 p2) {
   return;
 }
 
-static void code_f21(uint8_t *const m, const u32 last, u64 p0, u64 p1, u64 p2, u64 p3, u32 p4, u64 p5, u64 p6) {
+static void code_f20(uint8_t *const m, const u32 last, u64 p0, u64 p1, u64 p2, u64 p3, u32 p4, u64 p5, u64 p6) {
   u32 l15 = 0, l16 = 0, l17 = 0, l18 = 0;
   u64 l7 = 0, l8 = 0, l9 = 0, l10 = 0, l11 = 0, l12 = 0, l13 = 0, l14 = 0;
   u32 i0, i1, i2;
@@ -26932,7 +26875,7 @@ static void code_f21(uint8_t *const m, const u32 last, u64 p0, u64 p1, u64 p2, u
   i2 = (u32)(j2);
   reach(a1, i2, 0, 0);
   i32_load_at(i2, a1, 0);
-  call(code_f20(m, last, j0, j1, i2));
+  call(code_f19(m, last, j0, j1, i2));
   j0 = l7;
   i0 = (u32)(j0);
   i32_load8_u_at(i0, frame, 0);
@@ -27586,7 +27529,7 @@ static void code_f21(uint8_t *const m, const u32 last, u64 p0, u64 p1, u64 p2, u
   j0 = p1;
   j1 = p6;
   i2 = p4;
-  call(code_f22(m, last, j0, j1, i2));
+  call(code_f21(m, last, j0, j1, i2));
   j0 = p3;
   i0 = (u32)(j0);
   i32_load_at(i0, a14, 0);
@@ -27600,7 +27543,7 @@ static void code_f21(uint8_t *const m, const u32 last, u64 p0, u64 p1, u64 p2, u
   j0 = p1;
   j1 = p6;
   i2 = l16;
-  call(code_f22(m, last, j0, j1, i2));
+  call(code_f21(m, last, j0, j1, i2));
   i0 = 0u;
   l18 = i0;
   i0 = 0u;
@@ -28244,7 +28187,7 @@ static void code_f21(uint8_t *const m, const u32 last, u64 p0, u64 p1, u64 p2, u
   j0 = p1;
   j1 = p6;
   i2 = p4;
-  call(code_f22(m, last, j0, j1, i2));
+  call(code_f21(m, last, j0, j1, i2));
   j0 = p3;
   i0 = (u32)(j0);
   i32_load_at(i0, a25, 0);
@@ -28258,7 +28201,7 @@ static void code_f21(uint8_t *const m, const u32 last, u64 p0, u64 p1, u64 p2, u
   j0 = p1;
   j1 = p6;
   i2 = l16;
-  call(code_f22(m, last, j0, j1, i2));
+  call(code_f21(m, last, j0, j1, i2));
   i0 = 0u;
   l16 = i0;
   i0 = 0u;
@@ -28292,7 +28235,7 @@ static void code_f21(uint8_t *const m, const u32 last, u64 p0, u64 p1, u64 p2, u
   return;
 }
 
-static void code_f22(uint8_t *const m, const u32 last, u64 p0, u64 p1, u32 p2) {
+static void code_f21(uint8_t *const m, const u32 last, u64 p0, u64 p1, u32 p2) {
   u32 l3 = 0, l4 = 0, l5 = 0, l6 = 0;
   u64 l7 = 0, l8 = 0, l9 = 0, l10 = 0, l11 = 0, l12 = 0, l13 = 0, l14 = 0, l15 = 0;
   u32 i0, i1, i2, i3, i4;
@@ -28883,7 +28826,7 @@ static void code_f22(uint8_t *const m, const u32 last, u64 p0, u64 p1, u32 p2) {
   return;
 }
 
-static void code_f23(uint8_t *const m, const u32 last, u64 p0, u32 p1) {
+static void code_f22(uint8_t *const m, const u32 last, u64 p0, u32 p1) {
   u32 l19 = 0;
   u64 l2 = 0, l3 = 0, l4 = 0, l5 = 0, l6 = 0, l7 = 0, l8 = 0, l9 = 0, l10 = 0, l11 = 0, l12 = 0, l13 = 0, l14 = 0, l15 = 0, l16 = 0, l17 = 0, l18 = 0;
   u32 i0, i1, i2;
@@ -29246,7 +29189,7 @@ static void code_f23(uint8_t *const m, const u32 last, u64 p0, u32 p1) {
     j1 = 192ull;
     j0 += j1;
     j1 = 0ull;
-    call(code_f15(m, last, j0, j1));
+    call(code_f14(m, last, j0, j1));
     j0 = l17;
     i0 = (u32)(j0);
     j1 = l2;
@@ -30037,7 +29980,7 @@ static u32 code_pocket_receive(uint8_t *const m, const u32 last, u64 p0, u32 p1,
   j4 = i6 ? j4 : j5;
   j3 += j4;
   j4 = p3;
-  call(code_f5(m, last, j0, j1, j2, j3, j4));
+  call(code_f4(m, last, j0, j1, j2, j3, j4));
   j0 = l7;
   i0 = (u32)(j0);
   i32_load8_u_at(i0, frame, 0);
@@ -30777,7 +30720,7 @@ static u32 code_pocket_receiver_open(uint8_t *const m, const u32 last, u64 p0, u
   j1 = 120ull;
   j0 += j1;
   i1 = p1;
-  call(code_f23(m, last, j0, i1));
+  call(code_f22(m, last, j0, i1));
   j0 = l2;
   i0 = (u32)(j0);
   i32_load8_u_at(i0, frame, 120);
