@@ -8,6 +8,7 @@ use desk_ports::{
 };
 use std::alloc::Global;
 use std::fs;
+use std::process::Abort;
 use std::test::Fail;
 
 const ROW: [u8; 5] = [1, 2, 3, 4, 5];
@@ -29,12 +30,11 @@ fn let_fourth_write_fail(desk: &mut MemDesk) -> Result<(), NoMemory> {
     desk.fail(Call::Write, 4)
 }
 
-fn desk_with(alloc: Global, name: &str, bytes: &[u8]) -> Result<MemDesk, NoMemory> {
-    let mut desk = new_desk(alloc);
-    hold(&mut desk, name, bytes)?;
-    in_pieces(&mut desk, 2);
-    let_fourth_write_fail(&mut desk)?;
-    Ok(desk)
+// The desk holds the row, gives it in pieces, and fails once.
+fn hold_row(desk: &mut MemDesk) -> Result<(), NoMemory> {
+    hold(desk, "row", &ROW)?;
+    in_pieces(desk, 2);
+    let_fourth_write_fail(desk)
 }
 
 // Copies an input to an output, and tells how many bytes it has: at most five.
@@ -56,14 +56,18 @@ fn two_copies(desk: &mut MemDesk) -> [Result<usize, Failed>; 2] {
     [copied(desk, "row", "copy"), copied(desk, "copy", "again")]
 }
 
-#[test]
-fn copies_in_memory(rt: HostRuntime) -> Result<(), Fail> {
-    let mut desk = desk_with(rt.alloc(), "row", &ROW)?;
-    assert_eq!(rt; two_copies(&mut desk), [Ok(5), Err(Failed)]);
+fn assert_copies(rt: &impl Abort, desk: &mut MemDesk) -> Result<(), Fail> {
+    hold_row(desk)?;
+    assert_eq!(rt; two_copies(desk), [Ok(5), Err(Failed)]);
     assert_eq!(rt; desk.get("copy"), ROW.as_slice());
     assert_eq!(rt; desk.write_faults(), 1);
     assert_eq!(rt; desk.short(), 0);
     Ok(())
+}
+
+#[test]
+fn copies_in_memory(rt: HostRuntime) -> Result<(), Fail> {
+    assert_copies(&rt, &mut new_desk(rt.alloc()))
 }
 
 // Writes to an output that is not finished.
@@ -73,20 +77,34 @@ fn left_unfinished(desk: &mut FileDesk<'_>) -> Result<(), Failed> {
     desk.hand_over()
 }
 
+fn holds(rt: &HostRuntime, name: &str, bytes: &[u8]) -> Result<bool, Fail> {
+    let held = fs::read(rt, name)?;
+    Ok(held.as_slice() == bytes)
+}
+
+fn three_copies(desk: &mut FileDesk<'_>) -> [Result<usize, Failed>; 3] {
+    [
+        copied(desk, ".", "copy"),
+        copied(desk, "row", "copy"),
+        copied(desk, "no such file", "copy"),
+    ]
+}
+
+// Whether the row alone is copied, and an output that is not finished stays beside its name.
+fn copies_are_right(rt: &HostRuntime, desk: &mut FileDesk<'_>) -> Result<bool, Fail> {
+    Ok(
+        three_copies(desk) == [Err(Failed), Ok(5), Err(Failed)]
+            && holds(rt, "copy", &ROW)?
+            && left_unfinished(desk) == Ok(())
+            && holds(rt, "copy.part", &ROW[..3])?
+            && holds(rt, "copy", &ROW)?,
+    )
+}
+
 #[test]
 fn a_copy_of_a_file(rt: HostRuntime) -> Result<(), Fail> {
     fs::write(&rt, "row", ROW.as_slice())?;
-    let mut desk = FileDesk::new(&rt);
-    assert_eq!(rt; copied(&mut desk, ".", "copy"), Err(Failed));
-    assert_eq!(rt; copied(&mut desk, "row", "copy"), Ok(5));
-    assert_eq!(rt; copied(&mut desk, "no such file", "copy"), Err(Failed));
-    let copy = fs::read(&rt, "copy")?;
-    assert_eq!(rt; copy.as_slice(), ROW.as_slice());
-    assert_eq!(rt; left_unfinished(&mut desk), Ok(()));
-    let unfinished = fs::read(&rt, "copy.part")?;
-    assert_eq!(rt; unfinished.as_slice(), &ROW[..3]);
-    let copy = fs::read(&rt, "copy")?;
-    assert_eq!(rt; copy.as_slice(), ROW.as_slice());
+    assert!(rt; copies_are_right(&rt, &mut FileDesk::new(&rt))?);
     fs::remove_file(&rt, "row")?;
     fs::remove_file(&rt, "copy")?;
     fs::remove_file(&rt, "copy.part")?;
@@ -138,11 +156,15 @@ fn three_turns(desk: &mut MemDesk, count: &mut Countdown) -> Option<Result<u8, u
     counted_down(desk, "row", count)
 }
 
-#[test]
-fn runs_make_all_their_turns(rt: HostRuntime) -> Result<(), Fail> {
-    let mut desk = desk_with(rt.alloc(), "row", &ROW)?;
+fn assert_three_turns(rt: &impl Abort, desk: &mut MemDesk) -> Result<(), Fail> {
+    hold_row(desk)?;
     let mut count = Countdown(3);
-    assert_eq!(rt; three_turns(&mut desk, &mut count), Some(Err(7)));
+    assert_eq!(rt; three_turns(desk, &mut count), Some(Err(7)));
     assert_eq!(rt; count.0, 0);
     Ok(())
+}
+
+#[test]
+fn runs_make_all_their_turns(rt: HostRuntime) -> Result<(), Fail> {
+    assert_three_turns(&rt, &mut new_desk(rt.alloc()))
 }

@@ -1,6 +1,6 @@
 //! What no clause says: that the calls succeed with ample memory.
 
-ghost use Rattle.std.specs.Prelude.{codes, IsTrue};
+ghost use Rattle.std.specs.Prelude.{codes, IfOk, IsTrue};
 ghost use Rattle.desk_ports.specs.Meanings.{IsReadyIn};
 
 use super::desks::{hold, in_pieces, new_desk};
@@ -8,6 +8,7 @@ use bit_vectors::NoMemory;
 use desk_ports::{Desk, Failed, Inlet, MemDesk, Outlet};
 use packet_store::{PERIOD, StoreFault, StoreReader, StoreWriter, header_bytes, read_header};
 use std::alloc::Global;
+use std::process::Abort;
 use std::test::Fail;
 
 const APID: u16 = 100;
@@ -55,23 +56,32 @@ fn walk_at<D: Desk>(
     Ok(walked(desk, reader))
 }
 
-fn desk_with(alloc: Global, store: &[u8], size: u32) -> Result<MemDesk, NoMemory> {
-    let mut desk = new_desk(alloc);
-    hold(&mut desk, "store", store)?;
-    in_pieces(&mut desk, size);
-    Ok(desk)
+// What is walked of a store that is given in pieces of this size, by a reader if it could be opened.
+fn walk_over(
+    desk: &mut MemDesk,
+    store: &[u8],
+    size: u32,
+    reader: Result<StoreReader, NoMemory>,
+) -> Result<(u64, Option<StoreFault>), Fail>
+    requires { IfOk reader (λ reader. IsTrue reader.live) }
+{
+    let mut reader = reader?;
+    hold(desk, "store", store)?;
+    in_pieces(desk, size);
+    Ok(walk_at(desk, &mut reader)?)
 }
 
 fn walk_of(alloc: Global, store: &[u8], size: u32) -> Result<(u64, Option<StoreFault>), Fail> {
-    let mut desk = desk_with(alloc, store, size)?;
-    let mut reader = StoreReader::open(alloc, APID)?;
-    Ok(walk_at(&mut desk, &mut reader)?)
+    walk_over(
+        &mut new_desk(alloc),
+        store,
+        size,
+        StoreReader::open(alloc, APID),
+    )
 }
 
 fn whole_walk_of(alloc: Global, store: &[u8]) -> Result<(u64, Option<StoreFault>), Fail> {
-    let mut desk = desk_with(alloc, store, 1)?;
-    let mut reader = StoreReader::open_all(alloc)?;
-    Ok(walk_at(&mut desk, &mut reader)?)
+    walk_over(&mut new_desk(alloc), store, 1, StoreReader::open_all(alloc))
 }
 
 // Stores, how many packets are walked, and the fault.
@@ -102,22 +112,20 @@ fn put_packets<D: Desk>(writer: &mut StoreWriter, desk: &mut D) -> Result<(), Fa
     writer.put(desk, 1, &[0x42])
 }
 
-fn desk_after(alloc: Global) -> Result<MemDesk, Fail> {
-    let mut writer = StoreWriter::open(alloc, APID)?;
-    let mut desk = new_desk(alloc);
-    put_packets(&mut writer, &mut desk)?;
-    Ok(desk)
-}
-
-#[test]
-fn a_store_is_written(rt: HostRuntime) -> Result<(), Fail> {
-    let desk = desk_after(rt.alloc())?;
+fn assert_written(rt: &(impl Abort + AllocGlobal), desk: &mut MemDesk) -> Result<(), Fail> {
+    let mut writer = StoreWriter::open(rt.alloc(), APID)?;
+    put_packets(&mut writer, desk)?;
     let store = [
         0x00, 0x64, 0xC0, 0x00, 0x00, 0x03, 0x85, 0xB8, 0xC0, 0x00, 0x00, 0x64, 0xC0, 0x01, 0x00,
         0x00, 0x42,
     ];
     assert_eq!(rt; desk.seen(Outlet::Main), store.as_slice());
     Ok(())
+}
+
+#[test]
+fn a_store_is_written(rt: HostRuntime) -> Result<(), Fail> {
+    assert_written(&rt, &mut new_desk(rt.alloc()))
 }
 
 // Headers: an APID, a count, a number of data bytes, and the six bytes.

@@ -1,6 +1,6 @@
 //! Texts of schedules, scripts and streams, with what they must mean.
 
-use bit_vectors::Flags;
+use bit_vectors::{Flags, NoMemory};
 use side_tables::{
     CopyLookup, CopyRow, FlagRow, Lookup, Schedule, Script, SideFault, Streams, signed_number,
 };
@@ -50,25 +50,30 @@ static SCHEDULES: [(&str, u32, Result<&str, SideFault>); 14] = [
     ("0,4294967296,1,p", 0, Err(SideFault::Row { row: 1 })),
 ];
 
+const PR: Flags = Flags {
+    p: true,
+    f: false,
+    r: true,
+};
+
+/// What a schedule of one row gives to a packet.
+fn given_by_a_row(alloc: Global, t: u32) -> Result<(Flags, Option<u8>), NoMemory> {
+    let row = FlagRow {
+        first: 1,
+        last: 9,
+        step: 4,
+        flags: PR,
+    };
+    let schedule = Schedule::with_rows(alloc, &[row])?;
+    Ok((schedule.flags(t), schedule.robust(t)))
+}
+
 #[test]
 fn schedules(rt: HostRuntime) -> Result<(), Fail> {
     for &(text, t, wanted) in &SCHEDULES {
         assert_eq!(rt; flags(rt.alloc(), text.as_bytes(), t), wanted);
     }
-    let flags = Flags {
-        p: true,
-        f: false,
-        r: true,
-    };
-    let row = FlagRow {
-        first: 1,
-        last: 9,
-        step: 4,
-        flags,
-    };
-    let schedule = Schedule::with_rows(rt.alloc(), &[row])?;
-    assert_eq!(rt; schedule.flags(5), flags);
-    assert_eq!(rt; schedule.robust(5), None);
+    assert_eq!(rt; given_by_a_row(rt.alloc(), 5)?, (PR, None));
     Ok(())
 }
 
@@ -95,6 +100,21 @@ const NUMBERS: [u32; 19] = [
     u32::MAX,
 ];
 
+fn lookup(alloc: Global, text: &[u8]) -> Result<Lookup, SideFault> {
+    Ok(Lookup::open(alloc, Schedule::read(alloc, text)?)?)
+}
+
+/// Whether a lookup, if it could be opened, gives what a schedule gives.
+fn gives(lookup: Result<Lookup, SideFault>, schedule: &Schedule) -> Result<bool, SideFault> {
+    let mut lookup = lookup?;
+    Ok(
+        NUMBERS.iter().all(|t| {
+            let given = lookup.at(*t);
+            given.flags == schedule.flags(*t) && given.robust == schedule.robust(*t)
+        }),
+    )
+}
+
 /// A lookup gives what its schedule gives, of few rows and of many, in whatever order it is asked.
 #[test]
 fn lookups(rt: HostRuntime) -> Result<(), Fail> {
@@ -104,12 +124,7 @@ fn lookups(rt: HostRuntime) -> Result<(), Fail> {
                 8,4294967295,7,rf\nrobust,0,300,1,2\nrobust,7,9,1,3\nrobust,9,29,4,0";
     for text in [few, many] {
         let schedule = Schedule::read(rt.alloc(), text.as_bytes())?;
-        let mut lookup = Lookup::open(rt.alloc(), Schedule::read(rt.alloc(), text.as_bytes())?)?;
-        for t in NUMBERS {
-            let given = lookup.at(t);
-            assert_eq!(rt; given.flags, schedule.flags(t));
-            assert_eq!(rt; given.robust, schedule.robust(t));
-        }
+        assert!(rt; gives(lookup(rt.alloc(), text.as_bytes()), &schedule)?);
     }
     Ok(())
 }

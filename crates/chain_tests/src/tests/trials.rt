@@ -3,6 +3,7 @@
 use bit_vectors::NoMemory;
 use desk_ports::MemDesk;
 use std::alloc::Global;
+use std::process::Abort;
 use std::test::Fail;
 use trial_chain::{Summary, run_trial};
 
@@ -43,9 +44,7 @@ fn holds(desk: &MemDesk, name: &str, bytes: &[u8]) -> bool {
     desk.get(name) == bytes
 }
 
-#[test]
-fn a_trial_of_three_packets(rt: HostRuntime) -> Result<(), Fail> {
-    let (summary, desk) = trial(rt.alloc())?;
+fn assert_trial(rt: &impl Abort, summary: Summary, desk: &MemDesk) {
     let wanted = Summary {
         packets: 3,
         recording: 3,
@@ -57,7 +56,13 @@ fn a_trial_of_three_packets(rt: HostRuntime) -> Result<(), Fail> {
     };
     assert_eq!(rt; summary, wanted);
     for (name, bytes) in &HELD {
-        assert!(rt; holds(&desk, name, bytes));
+        assert!(rt; holds(desk, name, bytes));
     }
+}
+
+#[test]
+fn a_trial_of_three_packets(rt: HostRuntime) -> Result<(), Fail> {
+    let (summary, desk) = trial(rt.alloc())?;
+    assert_trial(&rt, summary, &desk);
     Ok(())
 }

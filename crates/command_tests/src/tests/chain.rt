@@ -1,9 +1,9 @@
 //! The commands one after the other at one desk.
 
-use super::desk::{HEADER, assert_done, by_single_bytes, desk_with, joined};
+use super::desk::{HEADER, assert_done, hold, joined, new_desk};
 use super::samples::PLAY_HEADER;
+use bit_vectors::NoMemory;
 use desk_ports::MemDesk;
-use std::alloc::Global;
 use std::process::Abort;
 use std::test::Fail;
 
@@ -59,39 +59,32 @@ fn assert_kept(rt: &impl Abort, chain: &Chain<'_>, desk: &MemDesk, name: &str, w
     );
 }
 
-fn desk_of(alloc: Global, chain: &Chain<'_>, one_byte: bool) -> Result<MemDesk, Fail> {
-    let kept = [
-        ("recording", chain.recording),
-        ("plan", chain.plan.as_bytes()),
-        ("script", chain.script.as_bytes()),
-    ];
-    let mut desk = desk_with(alloc, &kept)?;
-    if one_byte {
-        by_single_bytes(&mut desk);
-    }
-    Ok(desk)
+fn hold_chain(desk: &mut MemDesk, chain: &Chain<'_>) -> Result<(), NoMemory> {
+    hold(desk, "recording", chain.recording)?;
+    hold(desk, "plan", chain.plan.as_bytes())?;
+    hold(desk, "script", chain.script.as_bytes())
 }
 
 /// The recording is compressed, its store is played, and what was played is restored.
 pub fn assert_chain(
     rt: &(impl Abort + AllocGlobal),
     chain: &Chain<'_>,
-    one_byte: bool,
-) -> Result<MemDesk, Fail> {
-    let mut desk = desk_of(rt.alloc(), chain, one_byte)?;
-    assert_joined(rt, COMPRESS, chain.flight, &mut desk)?;
-    assert_done(rt, PLAY, &mut desk)?;
-    assert_joined(rt, RESTORE, chain.ground, &mut desk)?;
+    desk: &mut MemDesk,
+) -> Result<(), Fail> {
+    hold_chain(desk, chain)?;
+    assert_joined(rt, COMPRESS, chain.flight, desk)?;
+    assert_done(rt, PLAY, desk)?;
+    assert_joined(rt, RESTORE, chain.ground, desk)?;
     let play_report = joined(rt.alloc(), PLAY_HEADER, chain.played)?;
     let report = joined(rt.alloc(), HEADER, chain.report)?;
-    assert_kept(rt, chain, &desk, "play_report", play_report.as_bytes());
-    assert_kept(rt, chain, &desk, "restored", chain.restored);
-    assert_kept(rt, chain, &desk, "report", report.as_bytes());
-    Ok(desk)
+    assert_kept(rt, chain, desk, "play_report", play_report.as_bytes());
+    assert_kept(rt, chain, desk, "restored", chain.restored);
+    assert_kept(rt, chain, desk, "report", report.as_bytes());
+    Ok(())
 }
 
 /// The store gives the recording back.
-pub fn assert_given_back(
+fn assert_given_back(
     rt: &(impl Abort + AllocGlobal),
     chain: &Chain<'_>,
     desk: &mut MemDesk,
@@ -117,7 +110,13 @@ pub fn assert_listed(
 pub fn assert_there_and_back(
     rt: &(impl Abort + AllocGlobal),
     chain: &Chain<'_>,
+    desk: &mut MemDesk,
 ) -> Result<(), Fail> {
-    let mut desk = assert_chain(rt, chain, false)?;
-    assert_given_back(rt, chain, &mut desk)
+    assert_chain(rt, chain, desk)?;
+    assert_given_back(rt, chain, desk)
+}
+
+/// The same at a desk of its own.
+pub fn assert_whole_chain(rt: &(impl Abort + AllocGlobal), chain: &Chain<'_>) -> Result<(), Fail> {
+    assert_there_and_back(rt, chain, &mut new_desk(rt.alloc()))
 }

@@ -241,21 +241,6 @@ pub fn hold(desk: &mut MemDesk, name: &str, bytes: &[u8]) -> Result<(), NoMemory
     desk.put(name, bytes)
 }
 
-/// Holds bytes under each name.
-fn hold_all(desk: &mut MemDesk, kept: &[(&str, &[u8])]) -> Result<(), NoMemory> {
-    for (name, bytes) in kept {
-        hold(desk, name, bytes)?;
-    }
-    Ok(())
-}
-
-/// A desk that holds bytes under each name.
-pub fn desk_with(alloc: Global, kept: &[(&str, &[u8])]) -> Result<MemDesk, NoMemory> {
-    let mut desk = new_desk(alloc);
-    hold_all(&mut desk, kept)?;
-    Ok(desk)
-}
-
 /// Holds the bytes of an input, if there is one.
 fn hold_some(desk: &mut MemDesk, name: &str, input: Option<&[u8]>) -> Result<(), NoMemory> {
     match input {

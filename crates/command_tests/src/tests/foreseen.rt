@@ -1,7 +1,8 @@
 //! Schedules, scripts and recordings that are drawn: a forecast is what the definition says, packet by packet, and
 //! what it calls sure is written.
 
-use super::desk::{assert_done, desk_with};
+use super::desk::{assert_done, hold, new_desk};
+use bit_vectors::NoMemory;
 use desk_ports::MemDesk;
 use side_tables::{Schedule, Script};
 use std::alloc::{AllocError, Global};
@@ -178,31 +179,26 @@ fn lines_of(alloc: Global, states: &[&'static str]) -> Result<String, Fail> {
     Ok(text)
 }
 
-/// A desk with what was drawn.
-fn desk_of(alloc: Global, plan: &str, script: &str, recording: &[u8]) -> Result<MemDesk, Fail> {
-    let kept = [
-        ("plan", plan.as_bytes()),
-        ("script", script.as_bytes()),
-        ("recording", recording),
-    ];
-    Ok(desk_with(alloc, &kept)?)
+/// Holds what was drawn.
+fn hold_drawn(
+    desk: &mut MemDesk,
+    plan: &str,
+    script: &str,
+    recording: &[u8],
+) -> Result<(), NoMemory> {
+    hold(desk, "plan", plan.as_bytes())?;
+    hold(desk, "script", script.as_bytes())?;
+    hold(desk, "recording", recording)
 }
 
-/// A schedule, a script, and a desk with both and a recording.
-#[derive(Drop)]
-struct Drawing {
-    plan: String,
-    script: String,
-    desk: MemDesk,
-}
-
-fn drawn_by(alloc: Global, seed: u32) -> Result<Drawing, Fail> {
+/// A schedule and a script, both held at a desk with a recording.
+fn drawn_by(alloc: Global, seed: u32, desk: &mut MemDesk) -> Result<(String, String), Fail> {
     let mut draws = Draws { state: seed };
     let plan = plan_of(alloc, &mut draws)?;
     let script = script_of(alloc, &mut draws)?;
     let recording = recording_of(alloc, &mut draws)?;
-    let desk = desk_of(alloc, &plan, &script, &recording)?;
-    Ok(Drawing { plan, script, desk })
+    hold_drawn(desk, &plan, &script, &recording)?;
+    Ok((plan, script))
 }
 
 /// What becomes of each packet, by two texts.
@@ -268,12 +264,16 @@ fn assert_forecast(
 }
 
 /// What is forecast begins with the lines of the definition, and what it calls sure is written of the recording.
-fn assert_foreseen(rt: &(impl Abort + AllocGlobal), seed: u32) -> Result<(), Fail> {
-    let mut drawn = drawn_by(rt.alloc(), seed)?;
-    assert_all_done(rt, &mut drawn.desk)?;
-    let states = states_by(rt.alloc(), &drawn.plan, &drawn.script)?;
-    assert_forecast(rt, text_at(&drawn.desk, "forecast"), &states)?;
-    let written = written_by(rt.alloc(), text_at(&drawn.desk, "listing"))?;
+fn assert_foreseen(
+    rt: &(impl Abort + AllocGlobal),
+    seed: u32,
+    desk: &mut MemDesk,
+) -> Result<(), Fail> {
+    let (plan, script) = drawn_by(rt.alloc(), seed, desk)?;
+    assert_all_done(rt, desk)?;
+    let states = states_by(rt.alloc(), &plan, &script)?;
+    assert_forecast(rt, text_at(desk, "forecast"), &states)?;
+    let written = written_by(rt.alloc(), text_at(desk, "listing"))?;
     assert_written(rt, &states, &written);
     Ok(())
 }
@@ -281,7 +281,8 @@ fn assert_foreseen(rt: &(impl Abort + AllocGlobal), seed: u32) -> Result<(), Fai
 #[test]
 fn what_is_sure_is_written(rt: HostRuntime) -> Result<(), Fail> {
     for seed in 0..20u32 {
-        assert_foreseen(&rt, seed.wrapping_mul(2_654_435_761))?;
+        let seed = seed.wrapping_mul(2_654_435_761);
+        assert_foreseen(&rt, seed, &mut new_desk(rt.alloc()))?;
     }
     Ok(())
 }

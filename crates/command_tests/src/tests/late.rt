@@ -1,22 +1,19 @@
-//! Packets that come late: worked orders, what stands if a call fails or the store is cut, and shuffled stores beside the
-//! same stores in order.
+//! Packets that come late: worked orders, and what stands if a call fails or the store is cut.
 
 use super::desk::{
-    EIGHT_BITS, Ending, HEADER, assert_both, assert_done, assert_ending, bytes_of, bytes_of_all,
-    done, hold, joined, new_desk, refused, with_input,
+    Ending, HEADER, assert_both, bytes_of, bytes_of_all, done, joined, refused, with_input,
 };
 use super::faults::{End, Table, assert_tables};
 use super::rows::{Wrong, assert_wrong_words};
 use super::samples::{FIRST, FOURTH, SECOND, THIRD};
-use desk_ports::{Call, MemDesk};
+use desk_ports::Call;
 use packet_store::StoreKind;
 use pocket_cmd::Refusal;
-use std::alloc::{AllocError, Global};
 use std::process::Abort;
 use std::test::Fail;
 
 /// The words but for the window.
-const LATE: &str = "late in=a out=b report=c bits=8 apid=100 window=";
+pub const LATE: &str = "late in=a out=b report=c bits=8 apid=100 window=";
 
 /// A packet with the mask and the whole content of `FIRST`, and the count 16,383; and packets with the next counts that change
 /// nothing.
@@ -291,203 +288,4 @@ fn late_packets_at_each_fault(rt: HostRuntime) -> Result<(), Fail> {
 #[test]
 fn words_of_late(rt: HostRuntime) -> Result<(), Fail> {
     assert_wrong_words(&rt, &WRONG_WORDS)
-}
-
-/// A draw from 0 up, below this number.
-fn draw(seed: &mut u32, below: u32) -> u32 {
-    *seed = seed.wrapping_mul(1_664_525).wrapping_add(1_013_904_223);
-    (*seed >> 16).checked_rem(below).unwrap_or(0)
-}
-
-/// A recording of as many packets of eight bits, of which each changes at a drawn place.
-fn drawn_recording(alloc: Global, seed: &mut u32, count: u32) -> Result<Vec<u8>, AllocError> {
-    let mut recording = Vec::new(alloc);
-    let mut packet = 0u8;
-    for _made in 0..count {
-        packet ^= 1u8.rotate_left(draw(seed, 3));
-        recording.push(packet)?;
-    }
-    Ok(recording)
-}
-
-/// Where the packet ends that begins at a place of a store.
-fn end_of(store: &[u8], at: usize) -> usize {
-    let high = store.get(at.saturating_add(4)).copied().unwrap_or(0);
-    let low = store.get(at.saturating_add(5)).copied().unwrap_or(0);
-    let size = usize::from(u16::from_be_bytes([high, low]));
-    at.saturating_add(size).saturating_add(7)
-}
-
-/// Where each of so many packets of a store begins, and where the last one ends.
-fn offsets_of(alloc: Global, store: &[u8], count: u32) -> Result<Vec<usize>, AllocError> {
-    let mut offsets = Vec::new(alloc);
-    let mut at = 0usize;
-    for _packet in 0..count {
-        offsets.push(at)?;
-        at = end_of(store, at);
-    }
-    offsets.push(at)?;
-    Ok(offsets)
-}
-
-/// The numbers from 0 up.
-fn numbers(alloc: Global, count: u32) -> Result<Vec<u32>, AllocError> {
-    let mut order = Vec::new(alloc);
-    for number in 0..count {
-        order.push(number)?;
-    }
-    Ok(order)
-}
-
-/// Swaps two of them, if both are there.
-fn swap(order: &mut [u32], one: u32, other: u32) {
-    let (one, other) = (one as usize, other as usize);
-    if one < order.len() && other < order.len() {
-        order.swap(one, other);
-    }
-}
-
-/// The numbers below `count`, in blocks of `size` each of which is shuffled, so that none comes late by more than `size - 1`.
-fn shuffled(alloc: Global, seed: &mut u32, count: u32, size: u32) -> Result<Vec<u32>, AllocError> {
-    let mut order = numbers(alloc, count)?;
-    for number in 0..count {
-        let place = number.checked_rem(size).unwrap_or(0);
-        let other = draw(seed, place.saturating_add(1));
-        swap(
-            &mut order,
-            number,
-            number.saturating_sub(place).saturating_add(other),
-        );
-    }
-    Ok(order)
-}
-
-/// The packets of a store in this order.
-fn reordered(
-    alloc: Global,
-    store: &[u8],
-    offsets: &[usize],
-    order: &[u32],
-) -> Result<Vec<u8>, AllocError> {
-    let mut bytes = Vec::new(alloc);
-    for number in order {
-        let place = *number as usize;
-        let first = offsets.get(place).copied().unwrap_or(0);
-        let end = offsets
-            .get(place.saturating_add(1))
-            .copied()
-            .unwrap_or(first);
-        bytes.extend_from_slice(store.get(first..end).unwrap_or(&[]))?;
-    }
-    Ok(bytes)
-}
-
-/// The store of a recording.
-fn store_of(rt: &(impl Abort + AllocGlobal), recording: &[u8]) -> Result<Vec<u8>, Fail> {
-    let mut desk = new_desk(rt.alloc());
-    compressed(rt, recording, &mut desk)
-}
-
-/// The same, at a desk.
-fn compressed(
-    rt: &(impl Abort + AllocGlobal),
-    recording: &[u8],
-    desk: &mut MemDesk,
-) -> Result<Vec<u8>, Fail> {
-    hold(desk, "a", recording)?;
-    assert_done(rt, "compress in=a out=b bits=8 apid=100 robust=2", desk)?;
-    let mut store = Vec::new(rt.alloc());
-    store.extend_from_slice(desk.get("b"))?;
-    Ok(store)
-}
-
-/// A report, and the row of no packet that came too late.
-fn with_none_late(alloc: Global, report: &[u8]) -> Result<Vec<u8>, AllocError> {
-    let mut all = Vec::new(alloc);
-    all.extend_from_slice(report)?;
-    all.extend_from_slice(b"late,0\n")?;
-    Ok(all)
-}
-
-/// What `late` gives of a shuffled store must be this.
-fn assert_late(
-    rt: &(impl Abort + AllocGlobal),
-    window: &str,
-    late: &[u8],
-    restored: &[u8],
-    report: &[u8],
-) -> Result<(), Fail> {
-    let words = joined(rt.alloc(), LATE, window)?;
-    let wanted = done(restored, report);
-    assert_ending(rt, &with_input(&words, late), &wanted)
-}
-
-/// What `late` gives of a shuffled store must be what `restore` gives of the store in order, and no packet too late.
-fn assert_same(
-    rt: &(impl Abort + AllocGlobal),
-    window: &str,
-    store: &[u8],
-    late: &[u8],
-) -> Result<(), Fail> {
-    let mut desk = new_desk(rt.alloc());
-    assert_same_at(rt, window, store, late, &mut desk)
-}
-
-fn assert_same_at(
-    rt: &(impl Abort + AllocGlobal),
-    window: &str,
-    store: &[u8],
-    late: &[u8],
-    desk: &mut MemDesk,
-) -> Result<(), Fail> {
-    hold(desk, "a", store)?;
-    assert_done(rt, EIGHT_BITS, desk)?;
-    let report = with_none_late(rt.alloc(), desk.get("c"))?;
-    assert_late(rt, window, late, desk.get("b"), &report)
-}
-
-/// The packets of a store in a drawn order.
-fn drawn_order(
-    alloc: Global,
-    store: &[u8],
-    seed: u32,
-    count: u32,
-    size: u32,
-) -> Result<Vec<u8>, AllocError> {
-    let mut seed = seed;
-    let offsets = offsets_of(alloc, store, count)?;
-    let order = shuffled(alloc, &mut seed, count, size)?;
-    reordered(alloc, store, &offsets, &order)
-}
-
-/// A drawn store that is shuffled within a window.
-fn assert_shuffled(
-    rt: &(impl Abort + AllocGlobal),
-    window: &str,
-    size: u32,
-    seed: u32,
-) -> Result<(), Fail> {
-    let mut draws = seed;
-    let recording = drawn_recording(rt.alloc(), &mut draws, 300)?;
-    let store = store_of(rt, &recording)?;
-    let late = drawn_order(rt.alloc(), &store, draws, 300, size)?;
-    assert_same(rt, window, &store, &late)
-}
-
-/// Windows, the sizes of the blocks that are shuffled, and seeds.
-static SHUFFLES: [(&str, u32, u32); 6] = [
-    ("0", 1, 1),
-    ("1", 2, 2),
-    ("2", 3, 3),
-    ("7", 8, 4),
-    ("63", 64, 5),
-    ("64", 65, 6),
-];
-
-#[test]
-fn shuffled_stores(rt: HostRuntime) -> Result<(), Fail> {
-    for (window, size, seed) in &SHUFFLES {
-        assert_shuffled(&rt, window, *size, *seed)?;
-    }
-    Ok(())
 }

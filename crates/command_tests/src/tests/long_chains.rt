@@ -1,6 +1,8 @@
 //! Long recordings and large packets through the commands.
 
-use super::chain::{Chain, assert_chain, assert_given_back, assert_listed, assert_there_and_back};
+use super::chain::{Chain, assert_listed, assert_there_and_back, assert_whole_chain};
+use super::desk::new_desk;
+use desk_ports::MemDesk;
 use std::alloc::{AllocError, Global};
 use std::process::Abort;
 use std::test::Fail;
@@ -60,7 +62,7 @@ fn long_gaps(rt: HostRuntime) -> Result<(), Fail> {
             restored: &restored,
             report: row.report,
         };
-        assert_chain(&rt, &chain, false)?;
+        assert_whole_chain(&rt, &chain)?;
     }
     Ok(())
 }
@@ -93,15 +95,18 @@ fn packets_of_the_most_bits(rt: HostRuntime) -> Result<(), Fail> {
         restored: &recording,
         report: "end,2,2,0\n",
     };
-    assert_largest(&rt, &chain)
+    assert_largest(&rt, &chain, &mut new_desk(rt.alloc()))
 }
 
 /// Such a recording goes there and back, and its store is as long as this.
-fn assert_largest(rt: &(impl Abort + AllocGlobal), chain: &Chain<'_>) -> Result<(), Fail> {
-    let mut desk = assert_chain(rt, chain, false)?;
-    assert_given_back(rt, chain, &mut desk)?;
+fn assert_largest(
+    rt: &(impl Abort + AllocGlobal),
+    chain: &Chain<'_>,
+    desk: &mut MemDesk,
+) -> Result<(), Fail> {
+    assert_there_and_back(rt, chain, desk)?;
     assert_headers(rt, desk.get("store"));
-    assert_listed(rt, chain, &mut desk, &largest_listing(rt.alloc())?)
+    assert_listed(rt, chain, desk, &largest_listing(rt.alloc())?)
 }
 
 /// The listing of such a store: of both packets the changes, the mask and the content are alike.
@@ -194,5 +199,5 @@ fn a_thousand_counters(rt: HostRuntime) -> Result<(), Fail> {
         restored: &restored,
         ..COUNTERS
     };
-    assert_there_and_back(&rt, &chain)
+    assert_whole_chain(&rt, &chain)
 }

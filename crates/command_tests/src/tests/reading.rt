@@ -1,6 +1,6 @@
 //! Inputs that are read ahead: packets that lie across the end of what is ahead.
 
-use super::chain::{Chain, assert_there_and_back};
+use super::chain::{Chain, assert_whole_chain};
 use super::desk::{BY_SCRIPT, EIGHT_BITS, assert_both, bytes_of_all, done, with_both, with_input};
 use super::samples::{FIRST, FOURTH, REPORT, RESTORED, SECOND};
 use std::alloc::{AllocError, Global};
@@ -66,5 +66,5 @@ fn a_long_recording(rt: HostRuntime) -> Result<(), Fail> {
         restored: &recording,
         report: "end,24,24,0\n",
     };
-    assert_there_and_back(&rt, &chain)
+    assert_whole_chain(&rt, &chain)
 }

@@ -1,7 +1,9 @@
 //! Recordings of few packets through the three commands, one of them in reads and writes of one byte too.
 
-use super::chain::{Chain, assert_chain, assert_there_and_back};
+use super::chain::{Chain, assert_chain, assert_whole_chain};
+use super::desk::{by_single_bytes, new_desk};
 use super::samples::RECORDING;
+use std::process::Abort;
 use std::test::Fail;
 
 /// Ends with a new mask that clears a place, three quiet packets after the one with the change.
@@ -183,11 +185,16 @@ static CHAINS: [Chain<'static>; 16] = [
     },
 ];
 
+fn assert_by_single_bytes(rt: &(impl Abort + AllocGlobal), chain: &Chain<'_>) -> Result<(), Fail> {
+    let mut desk = new_desk(rt.alloc());
+    by_single_bytes(&mut desk);
+    assert_chain(rt, chain, &mut desk)
+}
+
 #[test]
 fn short_chains(rt: HostRuntime) -> Result<(), Fail> {
     for chain in &CHAINS {
-        assert_there_and_back(&rt, chain)?;
+        assert_whole_chain(&rt, chain)?;
     }
-    assert_chain(&rt, &ONE_LOST, true)?;
-    Ok(())
+    assert_by_single_bytes(&rt, &ONE_LOST)
 }

@@ -1,22 +1,18 @@
 //! Worked stores of several streams, the rules of their side texts, and what stands if a call fails.
 
-use super::desk::{
-    HEADER, assert_both, assert_done, assert_ending, bytes_of, desk_with, done, front, refused,
-    with_both, with_input,
-};
+use super::desk::{assert_both, done, front, refused, with_both};
 use super::faults::{End, Table, assert_tables};
 use super::rows::Bytes::Hex;
 use super::rows::{
     Row, Wrong, assert_refused, assert_rows, assert_wrong_sides, assert_wrong_words,
 };
-use desk_ports::{Call, MemDesk, Outlet};
+use desk_ports::Call;
 use packet_store::StoreKind;
 use pocket_cmd::Refusal;
 use std::alloc::{AllocError, Global};
-use std::process::Abort;
 use std::test::Fail;
 
-const MULTI: &str = "multi in=a out=b report=c streams=s";
+pub const MULTI: &str = "multi in=a out=b report=c streams=s";
 
 const TWO_STREAMS: &[u8] = b"100,8\n101,8\n";
 
@@ -306,171 +302,4 @@ fn most_streams(rt: HostRuntime) -> Result<(), Fail> {
     let more = many_streams(rt.alloc(), 66)?;
     let case = with_both(MULTI, &[], more.streams.as_bytes());
     assert_refused(&rt, case, Refusal::BadSide { row: 65 })
-}
-
-/// The packets of the worked recording, without their APIDs.
-static PACKETS: [&str; 4] = [
-    "C0 00 00 03 85 B8 D6 00",
-    "C0 01 00 03 42 4B 8D 62",
-    "C0 02 00 01 44 C0",
-    "C0 03 00 02 C0 85 C0",
-];
-
-/// The APIDs of the streams that are mixed.
-static APIDS: [u8; 3] = [100, 101, 102];
-
-/// How often a packet arrives, by what is drawn.
-static TIMES: [u8; 6] = [0, 2, 1, 1, 1, 1];
-
-/// What is drawn next: a number that the one before gives.
-fn next_draw(state: u64) -> u64 {
-    state
-        .wrapping_mul(6_364_136_223_846_793_005)
-        .wrapping_add(1_442_695_040_888_963_407)
-}
-
-/// Streams that are mixed by numbers from a seed, each with the number of its next packet.
-#[derive(Clone, Copy)]
-struct Mixed {
-    state: u64,
-    numbers: [u8; 3],
-}
-
-impl Mixed {
-    /// The APID of the next packet, its bytes, and how often it arrives.
-    fn next(&mut self) -> (u8, &'static str, u8) {
-        self.state = next_draw(self.state);
-        let drawn = (self.state >> 33) as usize;
-        let stream = drawn % 3;
-        let number = self.numbers[stream];
-        let times = TIMES[drawn / 3 % 6];
-        self.numbers[stream] = number.saturating_add(1);
-        match PACKETS.get(usize::from(number)) {
-            None => (APIDS[stream], "", 0),
-            Some(packet) => (APIDS[stream], packet, times),
-        }
-    }
-}
-
-/// A store of three streams that are mixed by numbers from a seed, some packets dropped and some repeated; or of the packets
-/// of one of them alone.
-fn mixed_store(alloc: Global, seed: u64, only: Option<u8>) -> Result<Vec<u8>, AllocError> {
-    let mut store = Vec::new(alloc);
-    let mut streams = Mixed {
-        state: seed,
-        numbers: [0; 3],
-    };
-    for _ in 0..60 {
-        let (apid, packet, times) = streams.next();
-        let times = if is_wanted(only, apid) { times } else { 0 };
-        put_packets(alloc, &mut store, apid, packet, times)?;
-    }
-    Ok(store)
-}
-
-/// Whether an APID is the wanted one, or all are.
-fn is_wanted(only: Option<u8>, apid: u8) -> bool {
-    match only {
-        None => true,
-        Some(wanted) => wanted == apid,
-    }
-}
-
-/// Appends a packet so many times.
-fn put_packets(
-    alloc: Global,
-    store: &mut Vec<u8>,
-    apid: u8,
-    packet: &str,
-    times: u8,
-) -> Result<(), AllocError> {
-    for _ in 0..times {
-        put_packet(alloc, store, apid, packet)?;
-    }
-    Ok(())
-}
-
-/// Appends a packet.
-fn put_packet(
-    alloc: Global,
-    store: &mut Vec<u8>,
-    apid: u8,
-    packet: &str,
-) -> Result<(), AllocError> {
-    store.extend_from_slice(&[0x00, apid])?;
-    store.extend_from_slice(&bytes_of(alloc, packet)?)
-}
-
-/// The contents on an APID in a store whose packets have one byte of data each.
-fn contents_on(alloc: Global, store: &[u8], apid: u8) -> Result<Vec<u8>, AllocError> {
-    let mut contents = Vec::new(alloc);
-    for packet in store.chunks(7) {
-        if packet.get(1) == Some(&apid) {
-            contents.extend_from_slice(packet.get(6..).unwrap_or(&[]))?;
-        }
-    }
-    Ok(contents)
-}
-
-/// The lines of a report that begin with an APID and a comma, without that, after the header of a report of one stream.
-fn rows_on(alloc: Global, report: &[u8], apid: u8) -> Result<String, AllocError> {
-    let tag = format!(in alloc; "{apid},")?;
-    let mut rows = String::from_str(alloc, HEADER)?;
-    for line in str::from_utf8(report).unwrap_or("").lines() {
-        if let Some(row) = line.strip_prefix(tag.as_str()) {
-            rows.push_str(row)?;
-            rows.push_str("\n")?;
-        }
-    }
-    Ok(rows)
-}
-
-/// A desk with a mixed store and its streams.
-fn held_desk(alloc: Global, seed: u64) -> Result<MemDesk, Fail> {
-    let store = mixed_store(alloc, seed, None)?;
-    Ok(desk_with(alloc, &[("a", &store), ("s", b"101,8\n100,8\n102,8\n")])?)
-}
-
-/// What `restore` makes of the packets of one stream alone.
-fn assert_alone(
-    rt: &(impl Abort + AllocGlobal),
-    alone: &[u8],
-    words: &str,
-    contents: &[u8],
-    rows: &str,
-) -> Result<(), Fail> {
-    let wanted = done(contents, rows.as_bytes());
-    assert_ending(rt, &with_input(words, alone), &wanted)
-}
-
-/// The output and the report of a stream are those of its packets alone.
-fn assert_stream(
-    rt: &(impl Abort + AllocGlobal),
-    desk: &MemDesk,
-    seed: u64,
-    apid: u8,
-) -> Result<(), Fail> {
-    let alone = mixed_store(rt.alloc(), seed, Some(apid))?;
-    let contents = contents_on(rt.alloc(), desk.seen(Outlet::Main), apid)?;
-    let rows = rows_on(rt.alloc(), desk.seen(Outlet::Report), apid)?;
-    let words = format!(in rt.alloc(); "restore in=a out=b report=c bits=8 apid={apid}")?;
-    assert_alone(rt, &alone, &words, &contents, &rows)
-}
-
-/// What `multi` makes of a mixed store has of each stream what `restore` makes of its packets alone.
-fn assert_apart(rt: &(impl Abort + AllocGlobal), seed: u64) -> Result<(), Fail> {
-    let mut desk = held_desk(rt.alloc(), seed)?;
-    assert_done(rt, MULTI, &mut desk)?;
-    for apid in &APIDS {
-        assert_stream(rt, &desk, seed, *apid)?;
-    }
-    Ok(())
-}
-
-#[test]
-fn mixed_streams(rt: HostRuntime) -> Result<(), Fail> {
-    for seed in 0..12 {
-        assert_apart(&rt, seed)?;
-    }
-    Ok(())
 }

@@ -18,12 +18,10 @@ fn a_trial(rt: HostRuntime) -> Result<(), Fail> {
     assert_both(&rt, words_alone(THREE), &done(SUMMARY, &[]))
 }
 
-/// What is printed of fifty packets of thirteen bits.
-fn printed(rt: &(impl Abort + AllocGlobal), seed: u32) -> Result<MemDesk, Fail> {
+/// Prints the summary of fifty packets of thirteen bits.
+fn print(rt: &(impl Abort + AllocGlobal), seed: u32, desk: &mut MemDesk) -> Result<(), Fail> {
     let line = format!(in rt.alloc(); "trial seed={seed} packets=50 bits=13 robust=2 out=summary")?;
-    let mut desk = new_desk(rt.alloc());
-    assert_done(rt, &line, &mut desk)?;
-    Ok(desk)
+    assert_done(rt, &line, desk)
 }
 
 /// The same trial by the call, with the desk that holds it.
@@ -60,13 +58,24 @@ fn assert_numbers(rt: &impl Abort, summary: &Summary, held: &MemDesk) {
     assert_eq!(rt; summary.written, (size(held, "restored") / 2) as u64);
 }
 
-fn assert_trial(rt: &(impl Abort + AllocGlobal), seed: u32) -> Result<(), Fail> {
-    let desk = printed(rt, seed)?;
-    let (summary, held) = trial(rt.alloc(), seed)?;
-    let wanted = lines(rt.alloc(), &summary, &held)?;
+/// What is printed at a desk are the lines of what a trial holds.
+fn assert_lines(
+    rt: &(impl Abort + AllocGlobal),
+    seed: u32,
+    summary: &Summary,
+    held: &MemDesk,
+    desk: &mut MemDesk,
+) -> Result<(), Fail> {
+    print(rt, seed, desk)?;
+    let wanted = lines(rt.alloc(), summary, held)?;
     assert_eq!(rt; desk.seen(Outlet::Main), wanted.as_bytes(), "{seed}");
-    assert_numbers(rt, &summary, &held);
     Ok(())
+}
+
+fn assert_trial(rt: &(impl Abort + AllocGlobal), seed: u32) -> Result<(), Fail> {
+    let (summary, held) = trial(rt.alloc(), seed)?;
+    assert_numbers(rt, &summary, &held);
+    assert_lines(rt, seed, &summary, &held, &mut new_desk(rt.alloc()))
 }
 
 #[test]

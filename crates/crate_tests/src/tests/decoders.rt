@@ -1,8 +1,9 @@
 //! Packets of 8 places, with their data and answers worked out by hand, and by an external script that asks which forms
 //! and fronts begin with the bits.
 
-use bit_vectors::{BitFault, Bits};
+use bit_vectors::{BitFault, Bits, NoMemory};
 use packet_decode::{Decoder, Reading};
+use std::alloc::Global;
 use std::test::Fail;
 
 /// The data of packets, each with its number and the answer that it must have, and what a decoder that reads
@@ -301,11 +302,15 @@ static RUNS: [Run<'static>; 11] = [
     },
 ];
 
+fn is_right(alloc: Global, run: &Run<'_>) -> Result<bool, NoMemory> {
+    let mut decoder = Decoder::open(alloc, 8)?;
+    Ok(passes(&mut decoder, run))
+}
+
 #[test]
 fn worked_data(rt: HostRuntime) -> Result<(), Fail> {
     for run in &RUNS {
-        let mut decoder = Decoder::open(rt.alloc(), 8)?;
-        assert!(rt; passes(&mut decoder, run));
+        assert!(rt; is_right(rt.alloc(), run)?);
     }
     Ok(())
 }

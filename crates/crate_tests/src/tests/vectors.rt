@@ -43,20 +43,29 @@ fn vector_of_thirteen_places(rt: HostRuntime) -> Result<(), Fail> {
     Ok(())
 }
 
+/// The first word of thirteen places, or none if there are more words.
+fn word_of_thirteen(alloc: Global) -> Result<Option<u64>, NoMemory> {
+    let mut vector = Bits::zeros(alloc, 13)?;
+    let _ = load(&mut vector, &[0x12, 0x38]);
+    let word = vector.word(0);
+    Ok((vector.word_count() == 1).then_some(word))
+}
+
+/// Whether the place after a whole word is the first one of the next.
+fn next_word_is_right(alloc: Global) -> Result<bool, NoMemory> {
+    let mut vector = Bits::zeros(alloc, 65)?;
+    vector.set(64, true);
+    let mut other = Bits::zeros(alloc, 65)?;
+    let word = vector.word(1);
+    other.set_word(1, word);
+    let down = (vector.next_one_down(65), vector.next_one_down(64));
+    Ok(word == 1 << 63 && down == (Some(64), None) && other.same(&vector))
+}
+
 #[test]
 fn words_of_vectors(rt: HostRuntime) -> Result<(), Fail> {
-    let mut vector = Bits::zeros(rt.alloc(), 13)?;
-    vector.load(&[0x12, 0x38])?;
-    assert_eq!(rt; vector.word_count(), 1);
-    assert_eq!(rt; vector.word(0), 0x1238_0000_0000_0000);
-    let mut vector = Bits::zeros(rt.alloc(), 65)?;
-    vector.set(64, true);
-    assert_eq!(rt; vector.word(1), 1 << 63);
-    assert_eq!(rt; vector.next_one_down(65), Some(64));
-    assert_eq!(rt; vector.next_one_down(64), None);
-    let mut other = Bits::zeros(rt.alloc(), 65)?;
-    other.set_word(1, 1 << 63);
-    assert!(rt; other.same(&vector));
+    assert_eq!(rt; word_of_thirteen(rt.alloc())?, Some(0x1238_0000_0000_0000));
+    assert!(rt; next_word_is_right(rt.alloc())?);
     Ok(())
 }
 
@@ -104,6 +113,13 @@ fn puts_together(alloc: Global, places: u32) -> Result<bool, NoMemory>
     Ok(first & joined & none & loaded & vector.is_zero())
 }
 
+/// The word of a single place that is set.
+fn word_of_one(alloc: Global) -> Result<u64, NoMemory> {
+    let mut vector = Bits::zeros(alloc, 1)?;
+    vector.set(0, true);
+    Ok(vector.word(0))
+}
+
 #[test]
 fn vectors_around_the_edges_of_words(rt: HostRuntime) -> Result<(), Fail> {
     for places in [63, 64, 65, 127, 128, 49_152] {
@@ -111,9 +127,7 @@ fn vectors_around_the_edges_of_words(rt: HostRuntime) -> Result<(), Fail> {
         assert!(rt; finds_its_last_place(rt.alloc(), places)?);
         assert!(rt; puts_together(rt.alloc(), places)?);
     }
-    let mut vector = Bits::zeros(rt.alloc(), 1)?;
-    vector.set(0, true);
-    assert_eq!(rt; vector.word(0), 1 << 63);
+    assert_eq!(rt; word_of_one(rt.alloc())?, 1 << 63);
     Ok(())
 }
 
