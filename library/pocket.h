@@ -26,8 +26,9 @@
  * A handle may be passed from thread to thread, one call at a time, each call seen to end before the next one begins (by a lock, or
  * by the start or join of a thread); different handles may be used by different threads at once.
  * Opening a sender or a receiver takes memory (malloc), all that later calls need: they take none, and a reset begins a new stream in
- * it. A desk takes memory as it is used. Only pocket_close gives it back, and pocket_remove that of one name. The one file also opens in
- * memory that the caller has.
+ * it, which only pocket_close gives back. A desk takes memory as it is used: what a command takes while it runs, and its words, are given
+ * back at its end; all that is kept, contents that were replaced too, by pocket_remove of its name or pocket_close. The one file also
+ * opens in memory that the caller has.
  *
  * Numbers and counts. The n-th packet of a sender, from 0, has the sequence count n modulo 16,384: pocket_sent tells n before it is
  * sent, pocket_header writes the six bytes before its data. A receiver gives the first arrival the number that its count is, and lists
@@ -73,10 +74,11 @@ extern "C" {
 #define POCKET_PACKET_BYTES(bits) ((10u * (size_t)(bits) + 43u + 7u) / 8u)    /* room for each packet's data, at most 61,446 */
 
 /* What a call answers. After each answer but POCKET_DONE nothing has changed: not the handle, nor what a call writes, but for the
- * length that pocket_get and pocket_name_from tell with POCKET_NO_ROOM, and after POCKET_BROKEN. */
+ * length that pocket_get and pocket_name_from tell with POCKET_NO_ROOM, the memory that pocket_sender_open_in is given (a mask may be
+ * refused after it was written), and after POCKET_BROKEN. */
 typedef enum pocket_status {
     POCKET_DONE = 0,
-    POCKET_NO_MEMORY = 1,       /* malloc gave no memory */
+    POCKET_NO_MEMORY = 1,       /* malloc gave no memory, or the caller's memory is too small */
     POCKET_IS_CLOSED = 2,       /* the handle holds nothing */
     POCKET_IS_OPEN = 3,         /* the handle to open holds something */
     POCKET_OTHER_KIND = 4,      /* the handle holds something, and not what the call needs */
@@ -87,7 +89,7 @@ typedef enum pocket_status {
     POCKET_SPARE_BIT = 9,       /* a bit after the last one of the input is 1 */
     POCKET_ROBUSTNESS = 10,     /* the required robustness is above 7 */
     POCKET_NO_ROOM = 11,        /* fewer than POCKET_PACKET_BYTES(bits) bytes for a packet, POCKET_INPUT_BYTES(bits) for a content,
-                                   POCKET_TEXT_BYTES for a text, or as many as are kept under a name, or as a name has */
+                                   POCKET_TEXT_BYTES for a text, or as many as are kept under a name, or as a name or a state has */
     POCKET_TOO_MANY = 12,       /* 4,294,967,296 packets were sent or received */
     POCKET_COUNT = 13,          /* the sequence count is above 16,383 */
     POCKET_TOO_LONG = 14,       /* the packet has more than 65,536 bytes of data */
@@ -202,7 +204,8 @@ pocket_status pocket_checked_word(pocket_handle *handle, const char *word);
  * there is no word. *exit_number is the exit number of the program: 0 if the command was done, otherwise it was refused, and the first
  * *length bytes of text say why: "reading failed" (1) only if the words name something to read under which nothing is kept, "writing
  * failed" (1) and "out of memory" (5) for want of memory. A refused command keeps nothing under its names; but if writing failed, the
- * output of a command with a report may be the new one, and the report the one before. Takes memory, and a stack of at most 110,000 bytes.
+ * output of a command with a report may be the new one, and the report the one before. Takes memory, and a stack of at most 110,000 bytes
+ * (tested on x86-64).
  * POCKET_NO_ROOM, IS_CLOSED, OTHER_KIND: the first that is so. */
 pocket_status pocket_checked_run(pocket_handle *handle, char *text, size_t room, size_t *length, uint8_t *exit_number);
 
@@ -210,7 +213,7 @@ pocket_status pocket_checked_run(pocket_handle *handle, char *text, size_t room,
  * it, *length tells how much is needed. Takes no memory. POCKET_NO_TEXT, IS_CLOSED, OTHER_KIND, NO_ROOM: the first that is so. */
 pocket_status pocket_checked_get(pocket_handle *handle, const char *name, uint8_t *bytes, size_t room, size_t *length);
 
-/* Removes what is kept at a desk under a name, and gives back the memory of both. Takes no memory.
+/* Removes what is kept at a desk under a name, and gives back the memory of all that was kept under it, also before. Takes no memory.
  * POCKET_NO_TEXT, IS_CLOSED, OTHER_KIND, NOT_KEPT: the first that is so. */
 pocket_status pocket_checked_remove(pocket_handle *handle, const char *name);
 
@@ -230,7 +233,7 @@ const char *pocket_status_text(uint32_t status);
 /* ---- What the one file pocket.c alone has: a program that is linked with the library doesn't find it ---- */
 
 /* The bytes of memory that an open sender or receiver of so many bits takes, for a static array: those that pocket_sender_bytes and
- * pocket_receiver_bytes give. The stack of the calls lies in it, and is as deep as the deepest of them. */
+ * pocket_receiver_bytes give. The calls have a stack of their own in it, deep enough for each; besides it they take C's stack. */
 #define POCKET_STACK_BYTES 1152u
 #define POCKET_FIXED_BYTES (POCKET_STACK_BYTES + 15u + 48u + 64u + 8u)
 #define POCKET_UP_TO_EIGHT(bytes) (((size_t)(bytes) + 7u) / 8u * 8u)
@@ -264,7 +267,8 @@ pocket_status pocket_checked_state_size(pocket_handle *handle, size_t *size);
 pocket_status pocket_checked_save(pocket_handle *handle, uint8_t *state, size_t room, size_t *length);
 
 /* Puts a state in place of what an open handle of its kind and bits holds, which then goes on as the saved one would have. The sum finds
- * damage, not a forged state: that is read as far as the memory of the handle, and no further.
+ * damage, not a forged state: with one nothing outside the memory of the handle is read or written, unless the file was compiled with
+ * POCKET_UNCHECKED, which is for states that nobody else wrote.
  * POCKET_IS_CLOSED, BROKEN, NO_STATE, OTHER_STATE: the first that is so. */
 pocket_status pocket_checked_load(pocket_handle *handle, const uint8_t *state, size_t length);
 

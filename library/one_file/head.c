@@ -6,7 +6,8 @@
  *
  * pocket.h beside it tells the calls. The file needs memcpy, memmove and memset, and malloc and free unless POCKET_NO_HEAP is defined.
  * POCKET_NO_RECEIVER or POCKET_NO_SENDER leaves one out. POCKET_UNCHECKED leaves out that each access is checked against the ends of
- * its handle's memory, which saves a tenth to a fourth of the instructions.
+ * its handle's memory, which saves a tenth to a fourth of the instructions: a state that
+ * somebody forged may then have any address read or written.
  *
  * Where the proof ends. The functions of the generated part are written in Rattle and proved; this file is made from the module of the
  * proved library and compiled another way: compared with the library, packet for packet and verdict for verdict, not proved. What

@@ -5,7 +5,7 @@
  *
  * It is the program over files that are read whole: an input is read to its end, also a pipe, before the command begins, and the outputs are
  * written after it is done, each to NAME.part, which takes the name if all are written. So a pass can't be watched as it comes, a command
- * that is refused leaves no NAME.part, and a terminal is told no progress and no second line of a refusal.
+ * that is refused leaves no NAME.part unless writing failed, and a terminal is told no progress and no second line of a refusal.
  *
  * Where the proof ends. The functions of the generated part are written in Rattle and proved; this file is made from the module of the
  * proved library and compiled another way: compared with the program, not proved. What stands outside the generated part is written by hand.
