@@ -160,7 +160,7 @@ SECOND_LINES = [
     (SHOW.replace("out=y", "out=no/y"), {"x": STORE}, 1, "writing failed", "no/y: No such file or directory (os error 2)"),
     (SHOW.replace("out=y", "out=."), {"x": STORE}, 1, "writing failed", ".: Is a directory (os error 21)"),
     (SHOW.replace("out=y", "out=./x"), {"x": STORE}, 1, "writing failed", "./x: the command reads this file"),
-    (SHOW.replace("out=y", "out=/dev/full"), {"x": STORE}, 1, "writing failed", "the disk or the device is full, or nobody reads the output any more"),
+    (SHOW.replace("out=y", "out=/dev/full"), {"x": STORE}, 1, "writing failed", "the disk or the device is full, nobody reads the output any more, or its name or part can't be taken"),
     (PLAY, {"x": STORE, "s": b"drop,1,2,1\n\ndro\x1bp,2,2,1\n"}, 3, "side row 2 is wrong", "dro?p,2,2,1: a row of a script begins with drop or repeat"),
     (FORECAST, {"s": b"", "x": b"drop,2,1,1\n"}, 3, "script row 1 is wrong", "drop,2,1,1: the last packet is below the first"),
     (COMPRESS.replace("bits=8", "bits=16"), {"x": b"abc"}, 4, "recording ends inside packet 1", "what came before stands in y.part"),

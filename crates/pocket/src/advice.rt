@@ -227,8 +227,7 @@ fn tell_reading(rt: &HostRuntime, words: &[String]) {
     }
 }
 
-/// Tells which output can't be written, and why, as far as the system still tells it. If it doesn't, room has been made since,
-/// or there is none on a device that is never full.
+/// Tells which output can't be written, and why, as far as the system still tells it; if it doesn't, what may be the cause.
 fn tell_writing(rt: &HostRuntime, words: &[String]) {
     for key in ["out", "report"] {
         if let Some(name) = value_of(words, key) {
@@ -238,7 +237,7 @@ fn tell_writing(rt: &HostRuntime, words: &[String]) {
         }
     }
     let _ = eprintln!(rt;
-        "pocket: the disk or the device is full, or nobody reads the output any more"
+        "pocket: the disk or the device is full, nobody reads the output any more, or its name or part can't be taken"
     );
 }
 
