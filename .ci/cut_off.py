@@ -56,14 +56,29 @@ def is_killed_with_report(runner):
     return None
 
 
+def two_at_once(runner, words, other, shared, data):
+    """How two runs end, of which the second replaced the shared part, with the same input each; and what y has after the first one."""
+    first = Waiting(runner, words, {"y": OLD}, ["y.part", shared])
+    node = os.lstat(first.path(shared)).st_ino
+    second = runner.start(other.split(), cwd=first.folder, stdin=subprocess.PIPE, stdout=subprocess.PIPE, stderr=subprocess.PIPE)
+    wait_for(lambda: os.path.lexists(first.path(shared)) and os.lstat(first.path(shared)).st_ino != node)
+    return first, [ended(first.program, data), first.got("y"), ended(second, data)]
+
+
 def keeps_runs_apart(runner):
     """Whether of two runs at once over one name the first is refused, whose part the second replaced, and the second is whole."""
-    first = Waiting(runner, FROM_PIPE, {"y": OLD}, ["y.part"])
-    node = os.lstat(first.path("y.part")).st_ino
-    second = runner.start(FROM_PIPE.split(), cwd=first.folder, stdin=subprocess.PIPE, stdout=subprocess.PIPE, stderr=subprocess.PIPE)
-    wait_for(lambda: os.path.lexists(first.path("y.part")) and os.lstat(first.path("y.part")).st_ino != node)
-    found = [ended(first.program, RECORDING), first.got("y"), ended(second, RECORDING), first.got("y", "y.part")]
+    run, found = two_at_once(runner, FROM_PIPE, FROM_PIPE, "y.part", RECORDING)
+    found.append(run.got("y", "y.part"))
     fits = found == [(1, b"", WRITE), [OLD], (0, b"", b""), [STORE, None]]
+    return None if fits else f"they ended with {found}"
+
+
+def keeps_reports_apart(runner):
+    """Whether of two runs at once with one report and two outputs the first is refused, and its output keeps what it had: it has no
+    report any more. The second is whole."""
+    run, found = two_at_once(runner, RESTORE_PIPE, RESTORE_PIPE.replace("out=y", "out=w"), "z.part", PLAYED)
+    found.append(run.got("y", "w", "z", "z.part"))
+    fits = found == [(1, b"", WRITE), [OLD], (0, b"", b""), [OLD, bytes.fromhex("B0B1B3"), REPORT, None]]
     return None if fits else f"they ended with {found}"
 
 
@@ -168,7 +183,8 @@ def tries():
     killed = [(f"a run that is ended by {number.name}", lambda runner, number=number: is_killed(runner, number))
               for number in (signal.SIGKILL, signal.SIGTERM, signal.SIGINT, signal.SIGHUP)]
     return killed + [
-        ("a run with a report that is killed", is_killed_with_report), ("two runs at once over one name", keeps_runs_apart), ("outputs that appear when they are whole", appears_whole),
+        ("a run with a report that is killed", is_killed_with_report), ("two runs at once over one name", keeps_runs_apart),
+        ("two runs at once with one report", keeps_reports_apart), ("outputs that appear when they are whole", appears_whole),
         ("an output whose folder is closed before its end", cannot_rename),
         ("a link that appears in the place of an earlier part", is_not_led_away), ("an output that can't be written whole", keeps_name),
         ("a pipe whose reader goes away", loses_reader), ("no memory", wants_memory)]

@@ -9,7 +9,7 @@ import subprocess
 import threading
 import time
 
-from rows import COMPRESS, FORECAST, PLAY, RESTORE, SHOW, STORE
+from rows import COMPRESS, FORECAST, LATE, PLAY, RESTORE, SHOW, STORE
 from runner import LIMIT, ended
 
 # What takes the line away.
@@ -59,7 +59,8 @@ def watched(runner, words, before, output=None, pieces=0, pause=0.0):
     return program.wait(LIMIT), told, time.monotonic() - start
 
 
-# What `compress` says at its end, on a terminal, if it has no schedule.
+# What is said at the end, on a terminal, if an output has no byte; and of `compress` if it has no schedule.
+EMPTY = b"pocket: y has no byte: no packet on APID 100 was written\r\n"
 CAUTION = b"pocket: without plan= no later packet carries its mask and whole content: more than robust= lost in a row may leave all after them unwritten\r\n"
 
 
@@ -112,7 +113,7 @@ def hides(runner):
     """Whether nothing is told if an output goes to the terminal, if little is read, or if a side text alone is long."""
     listing, restored = (text.replace(b"\n", b"\r\n") for text in (NOTHING_LISTED, NOTHING_RESTORED))
     rows = [("show in=x out=- bits=8 apid=100", {"x": PASSED}, listing), ("show in=x out=/dev/stdout bits=8 apid=100", {"x": PASSED}, listing),
-            ("restore in=x out=y report=- bits=8 apid=100", {"x": PASSED}, restored), (LONG, {"x": bytes(1024)}, CAUTION),
+            ("restore in=x out=y report=- bits=8 apid=100", {"x": PASSED}, restored + EMPTY), (LONG, {"x": bytes(1024)}, CAUTION),
             (LONG + " plan=s", {"x": bytes(1024), "s": b"\n" * (1 << 20)}, b"")]
     for words, before, wanted in rows:
         status, told, _ = watched(runner, words, before, "terminal")
@@ -165,7 +166,12 @@ SECOND_LINES = [
     (FORECAST, {"s": b"", "x": b"drop,2,1,1\n"}, 3, "script row 1 is wrong", "drop,2,1,1: the last packet is below the first"),
     (COMPRESS.replace("bits=8", "bits=16"), {"x": b"abc"}, 4, "recording ends inside packet 1", "what came before stands in y.part"),
     (RESTORE, {"x": STORE[:-1]}, 4, "store packet at byte 28 is cut", "what came before stands in y.part and z.part"),
-    # There is no second line where nothing is known, where the text came from standard input, or where a quote may hide the end of a row.
+    (PLAY, {"x": STORE[:-1], "s": b"drop,2,2,1\n"}, 4, "store packet at byte 28 is cut", "what came before stands in y.part"),
+    (RESTORE, {"x": b"\x00"}, 4, "store packet at byte 0 is cut", "what came before stands in z.part"),
+    (RESTORE.replace("out=y", "out=/dev/stdout").replace("report=z", "report=-"), {"x": STORE}, 1, "writing failed", "out= and report= are both standard output"),
+    # There is no second line where nothing is known or came before, where the text came from standard input, or where a quote may hide the
+    # end of a row.
+    (COMPRESS.replace("bits=8", "bits=16"), {"x": b"a"}, 4, "recording ends inside packet 0", None),
     (PLAY.replace("script=s", "script=-"), {"x": STORE}, 3, "side row 1 is wrong", None),
     (PLAY, {"x": STORE, "s": b'"drop",2,1,1\n'}, 3, "side row 1 is wrong", None),
 ]
@@ -217,8 +223,30 @@ def explains(runner):
     return None
 
 
+# Commands that are done, and what is said of an output without a byte.
+DONE = [
+    (RESTORE.replace("100", "101"), {"x": STORE, "y": b"yesterday"}, "y has no byte: no packet on APID 101 was written"),
+    (LATE, {"x": b"", "y": b"yesterday"}, "y has no byte: no packet on APID 100 was written"),
+    (PLAY, {"x": b"", "s": b""}, "y has no byte: no packet on APID 100 was written"),
+    (MULTI, {"x": STORE, "s": b"101,8\n"}, "y has no byte: no packet was written"),
+    (COMPRESS + " plan=s", {"x": b"", "s": b""}, "y has no byte: no packet on APID 100 was written"),
+    (RESTORE, {"x": STORE}, None), (SHOW.replace("100", "101"), {"x": STORE}, None),
+    (RESTORE.replace("100", "101").replace("out=y", "out=-"), {"x": STORE, "-": b""}, None),
+]
+
+
+def tells_of_nothing(runner):
+    """Whether it is said of a command that is done if its output is a file without a byte."""
+    for words, before, line in DONE:
+        found = watched(runner, words, before)[:2]
+        if found != (0, f"pocket: {line}\r\n".encode() if line else b""):
+            return f"{words} ended with {found[0]} and told {found[1][:300]}"
+    return None
+
+
 def tries():
     """What is tried: each with its name, and a function that takes the runner and gives what is wrong, or None."""
     return [("progress", tells), ("progress of a pipe", tells_of_pipes), ("progress before a refusal", tells_before_refusals),
             ("progress at most ten times a second", tells_seldom), ("progress that is hidden", hides), ("progress without a terminal", is_silent),
-            ("second lines of refusals", explains), ("wrong rows", explains_rows)]
+            ("second lines of refusals", explains), ("wrong rows", explains_rows),
+            ("an output without a byte", tells_of_nothing)]

@@ -7,7 +7,7 @@ the samples of crates/pocket/data, on four packets, in order or not, and a trial
 that stood before. A failed run must end with the number and the text of its fault, and leave what stood under each name, with
 fronts of the outputs of the whole run in their parts; only if the second renaming fails is the first output whole. No part may
 be there where memory was wanting before, and nothing at a name that is none of the command's. A short read or write must change nothing. For each output there
-must be one renaming, one removal of its earlier part, one sync and one change of its mode. A command whose allocations are not
+must be one renaming, one removal of its earlier part, one sync, which comes after the last write, and one change of its mode. A command whose allocations are not
 seen, since they are not those of the C library, is told too.
 Then it counts the calls for one and for a thousand packets, and prints the table of docs/BENCHMARK.md. Its last line is 'N passed, M
 failed': of each command its failing calls, and its counts.
@@ -130,7 +130,10 @@ def unlike(name, calls, outputs):
     wrong = [kind for kind in "nuym" if calls.count(kind) != outputs] + ["a"] * ("a" not in calls)
     for kind in wrong:
         print(f"{name}: each {KINDS[kind]} is made {calls.count(kind)} times for {outputs} outputs")
-    return len(wrong)
+    early = calls.find("y") < calls.rfind("w")
+    if early:
+        print(f"{name}: a sync comes before the last write: {calls}")
+    return len(wrong) + early
 
 
 def fail_all(runner, name, made):

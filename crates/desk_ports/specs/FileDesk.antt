@@ -1,6 +1,6 @@
 -- What a desk over real files tells: of each inlet and outlet whether it was opened, and no content. And what it has
 -- gathered, and what stands at each inlet and outlet.
-use Rattle.std.specs.Prelude.{◌≡◌, Bool, true, false, IsFalse, ◌||◌, ℕ, List, [], codes, is_some}
+use Rattle.std.specs.Prelude.{◌≡◌, Bool, true, false, not, IsFalse, ◌||◌, ◌&&◌, ℕ, List, [], Option, Some, None, codes, is_some}
 use Rattle.std.specs.Bool.{OnFalse}
 use Rattle.std.specs.Io.Buffered.{writer_buffer}
 use Rattle.std.specs.Str.{bytes_eq}
@@ -9,6 +9,9 @@ use Rattle.desk_ports.specs.declared.desk.Inlet.TheVariants as inlet
 use Rattle.desk_ports.specs.declared.desk.Outlet.{Outlet}
 use Rattle.desk_ports.specs.declared.desk.Outlet.TheVariants as outlet
 use Rattle.desk_ports.specs.declared.file.FileDesk.{FileDesk}
+use Rattle.desk_ports.specs.declared.part.Part.{Part}
+use Rattle.desk_ports.specs.declared.part.Stage.{Stage}
+use Rattle.desk_ports.specs.declared.part.Stage.TheVariants as stage
 use Rattle.desk_ports.specs.declared.source.Source.{Source}
 use Rattle.desk_ports.specs.declared.source.Source.TheVariants as source
 use Rattle.desk_ports.specs.declared.sink.Sink.{Sink}
@@ -67,6 +70,54 @@ is_unfinished (sink.File file part unfinished) = unfinished
 abbrev pub unfinished_at : FileDesk → Outlet → Bool
 unfinished_at desk outlet.Main = is_unfinished desk.output
 unfinished_at desk outlet.Report = is_unfinished desk.report
+
+-- the desk was told that the command has a report
+abbrev pub expects_report : FileDesk → Bool
+expects_report desk = desk.has_report
+
+-- the command has a report, and an outlet is still to be opened
+abbrev pub awaits_outlet : FileDesk → Bool
+awaits_outlet desk = desk.has_report && (not (is_opened_sink desk.output) || not (is_opened_sink desk.report))
+
+-- a part is written to
+abbrev pub is_begun : Stage → Bool
+is_begun stage.New = false
+is_begun stage.Earlier = false
+is_begun stage.Begun = true
+is_begun stage.Seen = true
+
+-- a part stood in its place when that was looked at
+abbrev pub is_seen : Stage → Bool
+is_seen stage.New = false
+is_seen stage.Earlier = false
+is_seen stage.Begun = false
+is_seen stage.Seen = true
+
+-- there is a part that takes no bytes yet, so that what stood in its place is still there
+abbrev pub is_held_back : Option Part → Bool
+is_held_back None = false
+is_held_back (Some part) = not (is_begun part.stage)
+
+-- the same of a sink, and of an outlet
+abbrev pub holds_back : Sink → Bool
+holds_back sink.Nothing = false
+holds_back (sink.StandardOutput stdout unfinished) = false
+holds_back (sink.File file part unfinished) = is_held_back part
+
+abbrev pub holds_back_at : FileDesk → Outlet → Bool
+holds_back_at desk outlet.Main = holds_back desk.output
+holds_back_at desk outlet.Report = holds_back desk.report
+
+-- if there is a part, it stood in its place when that was looked at
+abbrev pub is_in_place : Option Part → Bool
+is_in_place None = true
+is_in_place (Some part) = is_seen part.stage
+
+-- the same of a sink
+abbrev pub stands : Sink → Bool
+stands sink.Nothing = true
+stands (sink.StandardOutput stdout unfinished) = true
+stands (sink.File file part unfinished) = is_in_place part
 
 -- nothing is gathered for either output, and each that was opened is finished
 abbrev pub IsAllFinished : FileDesk → Type 0
@@ -127,15 +178,19 @@ SameInlets old new = (new.side ≡ old.side) × (new.input ≡ old.input)
 abbrev pub SameOutlets : FileDesk → FileDesk → Type 0
 SameOutlets old new = (new.output ≡ old.output) × (new.report ≡ old.report)
 
--- a sink stays standard output, or a file, its part waits for its name as before, and it is finished if it was
+-- a sink stays standard output, or a file, its part waits for its name and is begun as before, and it is finished if it was
 pub record KeepsSink (old new : Sink) : Type 0 where
   pub standard : is_standard_output new ≡ is_standard_output old
   pub waits : waits new ≡ waits old
+  pub held : holds_back new ≡ holds_back old
   pub unfinished : is_unfinished new ≡ is_unfinished old
 
--- and what it gathered is as before
+-- a sink stays standard output, or a file, its part waits for its name as before, it is finished if it was, and it has gathered
+-- what it had
 pub record IsSteady (old new : Sink) : Type 0 where
-  pub kept : KeepsSink old new
+  pub standard : is_standard_output new ≡ is_standard_output old
+  pub waits : waits new ≡ waits old
+  pub unfinished : is_unfinished new ≡ is_unfinished old
   pub gathered : gathered new ≡ gathered old
 
 -- both outlets are kept

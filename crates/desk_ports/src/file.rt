@@ -5,7 +5,7 @@ ghost use Rattle.std.specs.Bool.{OnFalse, OnTrue};
 ghost use Rattle.std.specs.Io.KnownBytes.{IsAtEnd};
 ghost use Rattle.desk_ports.specs.Meanings.{nothing_told, Adds, Begins, HasReadCause, HasWriteCause, IsReadyIn, IsReadyOut, Keeps, Moves, Opens, left};
 ghost use Rattle.desk_ports.specs.Courses.{other_than};
-ghost use Rattle.desk_ports.specs.FileDesk.{file_counts, file_meanings, gathered_at, is_live, is_pending, is_standard_input, is_standard_output, names_standard_input, names_standard_output, other_sink, other_source, sink_at, source_at, unfinished_at, waits_at, GathersNothing, IsHandedOn, IsSteady, IsAllFinished, KeepsOutlets, SameInlets, SameOutlets};
+ghost use Rattle.desk_ports.specs.FileDesk.{awaits_outlet, expects_report, file_counts, file_meanings, gathered_at, holds_back_at, is_live, is_pending, is_standard_input, is_standard_output, names_standard_input, names_standard_output, other_sink, other_source, sink_at, source_at, stands, unfinished_at, waits_at, GathersNothing, IsHandedOn, IsSteady, IsAllFinished, KeepsOutlets, SameInlets, SameOutlets};
 
 mod outlets;
 
@@ -15,7 +15,6 @@ use crate::read_faults::ReadFaults;
 use crate::sink::Sink;
 use crate::source::Source;
 use crate::write_faults::WriteFaults;
-use std::io;
 
 /// The desk over real files. The name `-` is standard input for an inlet and standard output for an outlet.
 ///
@@ -44,25 +43,27 @@ pub struct FileDesk<'a> {
 }
 
 impl<'a> FileDesk<'a> {
-    /// A desk on which nothing was opened. It grants every name.
+    /// A desk for a command without a report, on which nothing was opened. It grants every name.
     pub fn new(rt: &'a HostRuntime) -> FileDesk<'a>
         ensures untold { ⟦<FileDesk<'a> as Desk>⟧.meaning result ≡ nothing_told }
         ensures no_faults { ⟦<FileDesk<'a> as Desk>⟧.counts result
             ≡ record { reads = 0; writes = 0 } }
         ensures settled { IsFalse (is_pending result) }
         ensures finished { (outlet : Outlet) → IsFalse (unfinished_at result outlet) }
+        ensures report { IsFalse (expects_report result) }
     {
         FileDesk::for_command(rt, false)
     }
 
     /// The same for a command of which it is known whether it has a report. If it has one, no earlier part is replaced before
-    /// both outlets were opened, and until then the first one takes no bytes.
+    /// both outlets were opened, and until then nothing is written or finished.
     pub fn for_command(rt: &'a HostRuntime, has_report: bool) -> FileDesk<'a>
         ensures untold { ⟦<FileDesk<'a> as Desk>⟧.meaning result ≡ nothing_told }
         ensures no_faults { ⟦<FileDesk<'a> as Desk>⟧.counts result
             ≡ record { reads = 0; writes = 0 } }
         ensures settled { IsFalse (is_pending result) }
         ensures finished { (outlet : Outlet) → IsFalse (unfinished_at result outlet) }
+        ensures report { expects_report result ≡ has_report }
     {
         FileDesk {
             rt,
@@ -89,6 +90,11 @@ impl<'a> FileDesk<'a> {
             → waits_at self.new outlet ≡ waits_at self.old outlet }
         ensures unfinished { (outlet : Outlet)
             → unfinished_at self.new outlet ≡ unfinished_at self.old outlet }
+        ensures held { (outlet : Outlet)
+            → holds_back_at self.new outlet ≡ holds_back_at self.old outlet }
+        ensures standard { (outlet : Outlet) → is_standard_output (sink_at self.new outlet)
+            ≡ is_standard_output (sink_at self.old outlet) }
+        ensures report { expects_report self.new ≡ expects_report self.old }
         ensures inlets { SameInlets self.old self.new }
         ensures told { IsTrue (is_pending self.old) → IsErr result }
         ensures settled { IsFalse (is_pending self.new) }
@@ -105,6 +111,7 @@ impl<'a> FileDesk<'a> {
         ensures pending { IsTrue (is_pending self.old) → IsTrue (is_pending self.new) }
         ensures counts { file_counts self.new ≡ file_counts self.old }
         ensures meaning { file_meanings self.new ≡ file_meanings self.old }
+        ensures report { self.new.has_report ≡ self.old.has_report }
         ensures outlets { KeepsOutlets self.old self.new }
         ensures inlets { SameInlets self.old self.new }
     {
@@ -131,6 +138,7 @@ impl<'a> FileDesk<'a> {
         ensures pending { IsTrue (is_pending self.old) → IsTrue (is_pending self.new) }
         ensures counts { file_counts self.new ≡ file_counts self.old }
         ensures meaning { file_meanings self.new ≡ file_meanings self.old }
+        ensures report { self.new.has_report ≡ self.old.has_report }
         ensures outlets { KeepsOutlets self.old self.new }
         ensures inlets { SameInlets self.old self.new }
     {
@@ -140,7 +148,7 @@ impl<'a> FileDesk<'a> {
     }
 
     // Reads once. If that may wait, everything that was gathered was handed to the system before.
-    fn read_once(&mut self, inlet: Inlet, buf: &mut [u8]) -> io::Result<usize>
+    fn read_once(&mut self, inlet: Inlet, buf: &mut [u8]) -> Result<usize, Failed>
         requires open { IsReadyIn (file_meanings self.old) inlet }
         requires handed { OnTrue (is_live (source_at self.old inlet)) (IsHandedOn self.old) }
         ensures within { IfOk result (λ n. n ≤ length buf.old) }
@@ -150,12 +158,13 @@ impl<'a> FileDesk<'a> {
         ensures other { other_source self.new inlet ≡ other_source self.old inlet }
         ensures outlets { SameOutlets self.old self.new }
         ensures pending { is_pending self.new ≡ is_pending self.old }
-        ensures counts { file_counts self.new ≡ file_counts self.old }
+        ensures cause { HasReadCause (file_counts self.old) (file_counts self.new) result }
         ensures meaning { file_meanings self.new ≡ file_meanings self.old }
+        ensures report { self.new.has_report ≡ self.old.has_report }
     {
         match inlet {
-            Inlet::Side => self.side.read(buf),
-            Inlet::Main => self.input.read(buf),
+            Inlet::Side => self.side.read(buf, &mut self.read_faults),
+            Inlet::Main => self.input.read(buf, &mut self.read_faults),
         }
     }
 }
@@ -180,6 +189,7 @@ impl<'a> Desk for FileDesk<'a> {
         ensures other { other_source self.new inlet ≡ other_source self.old inlet }
         ensures outlets { SameOutlets self.old self.new }
         ensures pending { is_pending self.new ≡ is_pending self.old }
+        ensures report { expects_report self.new ≡ expects_report self.old }
     {
         let source = Source::open(self.rt, name);
         let source = self.read_faults.answer(source)?;
@@ -210,6 +220,18 @@ impl<'a> Desk for FileDesk<'a> {
         ensures other { IsSteady (other_sink self.old outlet) (other_sink self.new outlet) }
         ensures inlets { SameInlets self.old self.new }
         ensures pending { is_pending self.new ≡ is_pending self.old }
+        ensures report { expects_report self.new ≡ expects_report self.old }
+
+        // Both are never standard output.
+        ensures apart { IsTrue (names_standard_output name.now)
+            → IsTrue (is_standard_output (other_sink self.old outlet)) → IsErr result }
+
+        // If the command has a report and the other outlet is still to be opened, a part takes no bytes yet, and what stood in its
+        // place is still there. Otherwise both are begun.
+        ensures held { OnOk result (IsTrue (awaits_outlet self.new)
+            → holds_back_at self.new outlet ≡ waits_at self.new outlet) }
+        ensures begun { OnOk result (IsFalse (awaits_outlet self.new)
+            → (outlet : Outlet) → IsFalse (holds_back_at self.new outlet)) }
     {
         let Ok(mut sink) = self.open_sink(outlet, name) else {
             return Err(self.write_faults.fault());
@@ -250,13 +272,14 @@ impl<'a> Desk for FileDesk<'a> {
         ensures handed { OnTrue (is_live (source_at self.old inlet)) (IsHandedOn self.new) }
         ensures pending { IsTrue (is_pending self.old) → IsTrue (is_pending self.new) }
         ensures outlets { KeepsOutlets self.old self.new }
+        ensures report { expects_report self.new ≡ expects_report self.old }
     {
         self.clear_way(inlet);
-        let moved = self.read_once(inlet, buf);
-        if let (Inlet::Main, Ok(bytes)) = (inlet, &moved) {
-            self.progress.count(self.rt, *bytes);
+        let moved = self.read_once(inlet, buf)?;
+        if inlet == Inlet::Main {
+            self.progress.count(self.rt, moved);
         }
-        self.read_faults.answer(moved)
+        Ok(moved)
     }
 
     fn write(&mut self, outlet: Outlet, bytes: &[u8]) -> Result<usize, Failed>
@@ -271,7 +294,8 @@ impl<'a> Desk for FileDesk<'a> {
         ensures cause { HasWriteCause (file_counts self.old) (file_counts self.new) result }
 
         // It stays standard output, or a file, and a part waits as before; after Ok it is unfinished. The other outlet is as
-        // before, with what it gathered, and both inlets are. If a failed writing is pending, that is all that is answered.
+        // before, with what it gathered, and both inlets are. If a failed writing is pending, that is all that is answered;
+        // and if an outlet is still to be opened, nothing is written.
         ensures standard { is_standard_output (sink_at self.new outlet)
             ≡ is_standard_output (sink_at self.old outlet) }
         ensures waits { waits_at self.new outlet ≡ waits_at self.old outlet }
@@ -282,8 +306,14 @@ impl<'a> Desk for FileDesk<'a> {
         ensures inlets { SameInlets self.old self.new }
         ensures told { IsTrue (is_pending self.old) → IsErr result × SameOutlets self.old self.new }
         ensures settled { IsFalse (is_pending self.new) }
+        ensures early { IsTrue (awaits_outlet self.old)
+            → IsErr result × SameOutlets self.old self.new }
+        ensures report { expects_report self.new ≡ expects_report self.old }
     {
         self.write_faults.due()?;
+        if self.awaits_outlet() {
+            return Err(self.write_faults.fault());
+        }
         let taken = match outlet {
             Outlet::Main => self.output.write(bytes),
             Outlet::Report => self.report.write(bytes),
@@ -312,7 +342,8 @@ impl<'a> Desk for FileDesk<'a> {
         ensures inlets { SameInlets self.old self.new }
 
         // If the other one is finished, no part waits for its name any more. A part takes its name only if nothing is gathered
-        // for either outlet and both are finished, and the report's only after the output's; at `Failed` too.
+        // for either outlet and both are finished, the report's only after the output's, and the output's only if the report's
+        // stood in its place; at `Failed` too. If an outlet is still to be opened, nothing is finished or named.
         ensures named { OnOk result (IsFalse (unfinished_at self.old (other_than outlet))
             → (outlet : Outlet) → IsFalse (waits_at self.new outlet)) }
         ensures whole { (outlet : Outlet) → IsTrue (waits_at self.old outlet)
@@ -321,8 +352,14 @@ impl<'a> Desk for FileDesk<'a> {
             → waits_at self.new Outlet.Report ≡ waits_at self.old Outlet.Report }
         ensures waits { (outlet : Outlet) → IsFalse (waits_at self.old outlet)
             → IsFalse (waits_at self.new outlet) }
+        ensures stands { IsTrue (waits_at self.old Outlet.Main)
+            → IsFalse (waits_at self.new Outlet.Main)
+            → IsTrue (stands (sink_at self.new Outlet.Report)) }
         ensures told { IsTrue (is_pending self.old) → IsErr result × SameOutlets self.old self.new }
         ensures settled { IsFalse (is_pending self.new) }
+        ensures early { IsTrue (awaits_outlet self.old)
+            → IsErr result × SameOutlets self.old self.new }
+        ensures report { expects_report self.new ≡ expects_report self.old }
     {
         self.progress.end(self.rt);
         self.write_faults.due()?;

@@ -3,11 +3,13 @@
 ghost use Rattle.std.specs.Prelude.{◌≡◌, ◌≤◌, ◌<◌, ◌↔◌, ◌⊎◌, length, min, take, is_some, Some, None, IsTrue, IsErr, IfOk, OnOk, OnErr};
 ghost use Rattle.std.specs.FinMap as map;
 ghost use Rattle.std.specs.Io.KnownBytes.{IsAtEnd};
-ghost use Rattle.desk_ports.specs.Meanings.{Opens, Begins, Moves, Adds, Keeps, IsReadyIn, IsReadyOut, HasReadCause, HasWriteCause, left, kept_at, next_count};
+ghost use Rattle.desk_ports.specs.Meanings.{Opens, Begins, Moves, Adds, Keeps, IsReadyIn, IsReadyOut, HasReadCause, HasWriteCause, left, kept_at};
 ghost use Rattle.desk_ports.specs.MemState.{empty_desk, no_faults, mem_left, mem_made, mem_meanings, mem_counts, capped, also_failing, IsNamed, IsCalled, read_fault, write_fault, refusal};
 
+mod counts;
 mod names;
 
+use self::counts::Faults;
 use crate::calls::{Call, Plan};
 use crate::desk::{Desk, Failed, Inlet, Outlet};
 use crate::log::{LogEntry, keep, newest};
@@ -48,55 +50,6 @@ impl Cursors {
             Inlet::Side => self.side = cursor,
             Inlet::Main => self.input = cursor,
         }
-    }
-}
-
-#[derive(Clone, Copy, Debug)]
-struct Faults {
-    reads: u64,
-    writes: u64,
-    short: u64,
-}
-
-impl Faults {
-    fn none() -> Faults
-        ensures { result ≡ record { reads = 0; writes = 0; short = 0 } }
-    {
-        Faults {
-            reads: 0,
-            writes: 0,
-            short: 0,
-        }
-    }
-
-    fn read(&mut self) -> Failed
-        ensures counted { self.new ≡ record self.old { reads = next_count self.old.reads } }
-        ensures rises { self.old.reads ≤ self.new.reads }
-    {
-        self.reads = self.reads.saturating_add(1);
-        Failed
-    }
-
-    fn write(&mut self) -> Failed
-        ensures counted { self.new ≡ record self.old { writes = next_count self.old.writes } }
-        ensures rises { self.old.writes ≤ self.new.writes }
-    {
-        self.writes = self.writes.saturating_add(1);
-        Failed
-    }
-
-    // An allocation was refused.
-    fn growth(&mut self) -> Failed
-        ensures counted { self.new ≡ record self.old {
-          writes = next_count self.old.writes;
-          short = next_count self.old.short;
-        } }
-        ensures writes_rise { self.old.writes ≤ self.new.writes }
-        ensures short_rises { self.old.short ≤ self.new.short }
-    {
-        self.writes = self.writes.saturating_add(1);
-        self.short = self.short.saturating_add(1);
-        Failed
     }
 }
 
@@ -156,7 +109,7 @@ impl MemDesk {
         Ok(keep(&mut self.log, self.alloc, name.as_bytes(), bytes)?)
     }
 
-    /// What is kept under the name, or nothing if the name was never put or finished.
+    /// What is kept under the name, or no byte if nothing is.
     pub fn get(&self, name: &str) -> &[u8]
         ensures { result.now ≡ kept_at self.now.held name.now }
     {
@@ -200,11 +153,14 @@ impl MemDesk {
         Ok(self.plan.fail(call, nth)?)
     }
 
-    /// Counts faults from none on.
-    pub fn recount(&mut self)
-        ensures { self.new ≡ record self.old { faults = no_faults } }
+    /// Another desk, which has counted no fault, with all else of this one.
+    pub fn with_no_faults(self) -> MemDesk
+        ensures { result ≡ record self { faults = no_faults } }
     {
-        self.faults = Faults::none();
+        MemDesk {
+            faults: Faults::none(),
+            ..self
+        }
     }
 
     /// How often opening an input and reading have failed.
@@ -241,7 +197,7 @@ impl Desk for MemDesk {
         ensures unchanged { OnErr result (mem_meanings self.new ≡ mem_meanings self.old) }
         ensures cause { HasReadCause (mem_counts self.old) (mem_counts self.new) result }
 
-        // It fails exactly if `fail` named it, or if the name was never put or finished.
+        // It fails exactly if `fail` named it, or if nothing is kept under the name.
         ensures fails { IsErr result
             ↔ (IsNamed self.old Call.OpenIn ⊎ (map.get self.old.held name.now ≡ None)) }
         ensures still { OnOk result (self.new.faults ≡ self.old.faults) }

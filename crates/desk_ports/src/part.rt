@@ -1,5 +1,8 @@
 //! The part of an output: a file beside a name, which takes the name when the output is complete.
 
+ghost use Rattle.std.specs.Prelude.{◌≡◌, is_some, IsTrue, IfOk, OnOk};
+ghost use Rattle.desk_ports.specs.FileDesk.{is_begun, is_held_back, is_seen};
+
 use std::fs::{File, Metadata, OpenOptions, Permissions};
 use std::os::unix::fs::MetadataExt;
 use std::{fs, io};
@@ -41,6 +44,8 @@ enum Stage {
     Earlier,
     /// It is written to.
     Begun,
+    /// It was written, and stood in its place when that was looked at.
+    Seen,
 }
 
 /// A file beside a name, which takes the name when the output is complete.
@@ -70,7 +75,9 @@ impl Part {
         read: &[Option<Node>],
         taken: Option<Node>,
         other: Option<&Part>,
-    ) -> io::Result<(File, Option<Part>)> {
+    ) -> io::Result<(File, Option<Part>)>
+        ensures held { IfOk result (λ opened. is_held_back opened.1 ≡ is_some opened.1) }
+    {
         let mode = match OpenOptions::new().write(true).open(rt, name) {
             Ok(standing) => {
                 let metadata = standing.metadata()?;
@@ -110,7 +117,9 @@ impl Part {
     }
 
     /// Begins to be what is written: replaces an earlier part, and gives the file that is written to then.
-    pub fn begin(&mut self, rt: &HostRuntime) -> io::Result<Option<File>> {
+    pub fn begin(&mut self, rt: &HostRuntime) -> io::Result<Option<File>>
+        ensures { OnOk result (IsTrue (is_begun self.new.stage)) }
+    {
         self.stands(rt)?;
         if self.stage != Stage::Earlier {
             self.stage = Stage::Begun;
@@ -146,6 +155,15 @@ impl Part {
         if Node::of(&standing) != self.node {
             return Err(refused());
         }
+        Ok(())
+    }
+
+    /// The same, and notes that the part stands.
+    pub fn look(&mut self, rt: &HostRuntime) -> io::Result<()>
+        ensures { OnOk result (IsTrue (is_seen self.new.stage)) }
+    {
+        self.stands(rt)?;
+        self.stage = Stage::Seen;
         Ok(())
     }
 

@@ -1,7 +1,7 @@
 //! Where the bytes of an outlet of real files go.
 
-ghost use Rattle.std.specs.Prelude.{◌≡◌, ◌≤◌, false, true, [], length, IsFalse, IsTrue, IfOk, IfSome, OnOk, OnErr};
-ghost use Rattle.desk_ports.specs.FileDesk.{gathered, is_opened_sink, is_standard_output, is_unfinished, names_standard_output, waits, KeepsSink, IsSteady};
+ghost use Rattle.std.specs.Prelude.{◌≡◌, ◌≤◌, false, true, not, [], length, IsFalse, IsTrue, IsErr, IfOk, IfSome, OnOk, OnErr};
+ghost use Rattle.desk_ports.specs.FileDesk.{gathered, holds_back, is_opened_sink, is_standard_output, is_unfinished, names_standard_output, stands, waits, KeepsSink, IsSteady};
 
 use crate::part::{Node, Part, refused};
 use std::fs::File;
@@ -11,8 +11,8 @@ use std::io::{BufWriter, IsTerminal, Stdout, Write};
 /// How many bytes of an outlet are gathered before they are handed to the system.
 const GATHERED: usize = 131_072;
 
-// Whether it is one of the names of standard output.
-fn is_standard_output(name: &str) -> bool
+/// Whether it is one of the names of standard output.
+pub fn is_standard_output(name: &str) -> bool
     ensures { result ≡ names_standard_output name.now }
 {
     matches!(name, "-" | "/dev/stdout" | "/dev/fd/1" | "/proc/self/fd/1")
@@ -30,7 +30,7 @@ pub enum Sink {
 
 impl Sink {
     /// What stands under the name is not changed. It fails if it would take the place of one of the files that are `read`,
-    /// or of the other output.
+    /// or of the other output, and if both outputs would be standard output.
     pub fn open(
         rt: &HostRuntime,
         name: &str,
@@ -39,12 +39,15 @@ impl Sink {
     ) -> io::Result<Sink>
         ensures opened { IfOk result (λ sink. IsTrue (is_opened_sink sink)) }
         ensures none { IfOk result (λ sink. gathered sink ≡ []) }
+        ensures held { IfOk result (λ sink. holds_back sink ≡ waits sink) }
         ensures unfinished { IfOk result (λ sink. IsTrue (is_unfinished sink)) }
         ensures standard { IfOk result
             (λ sink. is_standard_output sink ≡ names_standard_output name.now) }
+        ensures apart { IsTrue (names_standard_output name.now)
+            → IsTrue (is_standard_output other.now) → IsErr result }
     {
         if is_standard_output(name) {
-            if other.replaces(rt, Node::standard_output(rt)) {
+            if other.is_standard_output() || other.replaces(rt, Node::standard_output(rt)) {
                 return Err(refused());
             }
             let stdout = BufWriter::with_capacity(rt.alloc(), GATHERED, rt.stdout())?;
@@ -59,6 +62,7 @@ impl Sink {
     pub fn begin(&mut self, rt: &HostRuntime) -> io::Result<()>
         ensures opened { is_opened_sink self.new ≡ is_opened_sink self.old }
         ensures steady { IsSteady self.old self.new }
+        ensures begun { OnOk result (IsFalse (holds_back self.new)) }
     {
         if let Sink::File(writer, part, _) = self {
             if let Some(part) = part {
@@ -78,13 +82,22 @@ impl Sink {
     }
 
     /// Whether nothing was opened.
-    pub fn is_nothing(&self) -> bool {
+    pub fn is_nothing(&self) -> bool
+        ensures { result ≡ not (is_opened_sink self.now) }
+    {
         matches!(self, Sink::Nothing)
+    }
+
+    /// Whether it is standard output.
+    fn is_standard_output(&self) -> bool
+        ensures { result ≡ is_standard_output self.now }
+    {
+        matches!(self, Sink::StandardOutput(..))
     }
 
     /// Whether it is standard output, and that is a terminal.
     pub fn is_terminal(&self, rt: &HostRuntime) -> bool {
-        matches!(self, Sink::StandardOutput(..)) && rt.stdout().is_terminal()
+        self.is_standard_output() && rt.stdout().is_terminal()
     }
 
     /// Which file of the system it is, unless it is written to under its own name.
@@ -157,8 +170,10 @@ impl Sink {
         }
     }
 
-    /// Has the system bring a part that waits for its name to the disk. Then the outlet is finished.
+    /// Has the system bring a part that waits for its name to the disk, to which everything was handed. Then the outlet is
+    /// finished.
     pub fn finish(&mut self) -> io::Result<()>
+        requires { gathered self.old ≡ [] }
         ensures opened { is_opened_sink self.new ≡ is_opened_sink self.old }
         ensures gathered { gathered self.new ≡ gathered self.old }
         ensures standard { is_standard_output self.new ≡ is_standard_output self.old }
@@ -179,12 +194,18 @@ impl Sink {
         Ok(())
     }
 
-    /// Fails if another file has come in the place of a part that waits for its name.
-    pub fn stands(&self, rt: &HostRuntime) -> io::Result<()> {
-        match self.part() {
-            None => Ok(()),
-            Some(part) => part.stands(rt),
+    /// Looks at a part that waits for its name, and fails if another file has come in its place.
+    pub fn look(&mut self, rt: &HostRuntime) -> io::Result<()>
+        ensures opened { is_opened_sink self.new ≡ is_opened_sink self.old }
+        ensures steady { IsSteady self.old self.new }
+        ensures stands { OnOk result (IsTrue (stands self.new)) }
+    {
+        if let Sink::File(_, part, _) = self {
+            if let Some(part) = part {
+                part.look(rt)?;
+            }
         }
+        Ok(())
     }
 
     /// Gives a part the name that it waits for.
@@ -194,6 +215,7 @@ impl Sink {
         ensures standard { is_standard_output self.new ≡ is_standard_output self.old }
         ensures unfinished { is_unfinished self.new ≡ is_unfinished self.old }
         ensures named { OnOk result (IsFalse (waits self.new)) }
+        ensures stands { OnOk result (IsTrue (stands self.new)) }
         ensures same { OnErr result (self.new ≡ self.old) }
     {
         if let Sink::File(_, part, _) = self {

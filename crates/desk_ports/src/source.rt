@@ -1,10 +1,14 @@
 //! Where the bytes of an inlet of real files come from.
 
-ghost use Rattle.std.specs.Prelude.{◌≡◌, ◌≤◌, ◌↔◌, length, IsTrue, IsFalse, IfOk, OnErr};
+ghost use Rattle.std.specs.Prelude.{◌≡◌, ◌≤◌, ◌↔◌, length, IsTrue, IsFalse, IfOk, OnOk, OnErr};
 ghost use Rattle.std.specs.Fs.{IsFile, file_type};
+ghost use Rattle.std.specs.Io.KnownBytes.{ReadConsumes};
+ghost use Rattle.desk_ports.specs.Meanings.{next_count};
 ghost use Rattle.desk_ports.specs.FileDesk.{is_live, is_opened_source, is_standard_input, names_standard_input};
 
+use crate::desk::Failed;
 use crate::part::Node;
+use crate::read_faults::ReadFaults;
 use std::fs::{File, Metadata};
 use std::io::{Read, Stdin};
 use std::{fs, io};
@@ -66,19 +70,36 @@ impl Source {
         }
     }
 
-    pub fn read(&mut self, buf: &mut [u8]) -> io::Result<usize>
+    /// Reads once, and counts a failed reading.
+    pub fn read(&mut self, buf: &mut [u8], faults: &mut ReadFaults) -> Result<usize, Failed>
         requires { IsTrue (is_opened_source self.old) }
         ensures within { IfOk result (λ n. n ≤ length buf.old) }
         ensures opened { IsTrue (is_opened_source self.new) }
         ensures standard { is_standard_input self.new ≡ is_standard_input self.old }
         ensures live { is_live self.new ≡ is_live self.old }
+        ensures same { OnOk result (faults.new ≡ faults.old) }
+        ensures counted { OnErr result (faults.new.count ≡ next_count faults.old.count) }
     {
         match self {
             Source::Nothing => unreachable!(),
-            Source::StandardInput(stdin, _) => stdin.read(buf),
-            Source::File(file, _) => file.read(buf),
+            Source::StandardInput(stdin, _) => read_counted(stdin, buf, faults),
+            Source::File(file, _) => read_counted(file, buf, faults),
         }
     }
+}
+
+// Reads once, from whatever reader, and counts a failed reading. So none is told as the end of the input.
+fn read_counted<R: Read>(
+    reader: &mut R,
+    buf: &mut [u8],
+    faults: &mut ReadFaults,
+) -> Result<usize, Failed>
+    ensures within { IfOk result (λ n. n ≤ length buf.old) }
+    ensures read { ReadConsumes (R.remaining reader.old) (R.remaining reader.new) result buf.new }
+    ensures same { OnOk result (faults.new ≡ faults.old) }
+    ensures counted { OnErr result (faults.new.count ≡ next_count faults.old.count) }
+{
+    faults.answer(reader.read(buf))
 }
 
 // Whether a read of what has this metadata may wait: it is no regular file, or the system doesn't tell what it is.

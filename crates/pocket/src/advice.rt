@@ -4,6 +4,7 @@
 use crate::causes::{reading_cause, told_writing};
 use crate::keys::{Takes, row_of, value_of};
 use crate::row_faults::{RowKind, fault_of};
+use desk_ports::is_standard_output;
 use pocket_cmd::{MOST_TEXT_BYTES, Refusal, VERB_WORDS, ValueKind, Verb};
 use std::fmt::{Display, Formatter};
 use std::io::IsTerminal;
@@ -184,17 +185,39 @@ fn tell_row(rt: &HostRuntime, words: &[String], key: &str, kind: RowKind, row: u
     }
 }
 
-/// Says of a command that was done what its sender risks, if standard error is a terminal: a recording that was compressed
-/// without a schedule, so that only its first packets carry their mask and whole content.
+/// Says of a command that was done, if standard error is a terminal, what its sender risks: a recording that was compressed
+/// without a schedule, so that only its first packets carry their mask and whole content; or that its output is empty.
 pub fn caution(rt: &HostRuntime, words: &[String]) {
+    if !rt.stderr().is_terminal() {
+        return;
+    }
+    tell_empty(rt, words);
     let is_compress = words
         .first()
         .is_some_and(|verb| verb.as_str() == "compress");
-    if is_compress && value_of(words, "plan").is_none() && rt.stderr().is_terminal() {
+    if is_compress && value_of(words, "plan").is_none() {
         let _ = eprintln!(rt;
             "pocket: without plan= no later packet carries its mask and whole content: more than robust= lost in a row may leave all after them unwritten"
         );
     }
+}
+
+/// Tells that an output is a file without a byte, as it is if a store has no packet on the APID.
+fn tell_empty(rt: &HostRuntime, words: &[String]) {
+    let Some(name) = value_of(words, "out") else {
+        return;
+    };
+    let is_empty = fs::metadata(rt, name).is_ok_and(|it| it.is_file() && it.len() == 0);
+    if name == "-" || !is_empty {
+        return;
+    }
+    let shown = Shown(name);
+    let _ = match value_of(words, "apid") {
+        Some(apid) => {
+            eprintln!(rt; "pocket: {shown} has no byte: no packet on APID {apid} was written")
+        }
+        None => eprintln!(rt; "pocket: {shown} has no byte: no packet was written"),
+    };
 }
 
 /// The row of this number, counted from 1, of a text without quotes.
@@ -229,6 +252,10 @@ fn tell_reading(rt: &HostRuntime, words: &[String]) {
 
 /// Tells which output can't be written, and why, as far as the system still tells it; if it doesn't, what may be the cause.
 fn tell_writing(rt: &HostRuntime, words: &[String]) {
+    if is_printed(words, "out") && is_printed(words, "report") {
+        let _ = eprintln!(rt; "pocket: out= and report= are both standard output");
+        return;
+    }
     for key in ["out", "report"] {
         if let Some(name) = value_of(words, key) {
             if told_writing(rt, words, name) {
@@ -239,6 +266,11 @@ fn tell_writing(rt: &HostRuntime, words: &[String]) {
     let _ = eprintln!(rt;
         "pocket: the disk or the device is full, nobody reads the output any more, or its name or part can't be taken"
     );
+}
+
+/// Whether words give this key a name of standard output.
+fn is_printed(words: &[String], key: &str) -> bool {
+    value_of(words, key).is_some_and(|name| is_standard_output(name))
 }
 
 /// Tells where the parts of the outputs stand, with what came before the fault.
@@ -261,9 +293,10 @@ fn tell_parts(rt: &HostRuntime, words: &[String]) {
     }
 }
 
-/// The name of the part of an output, if it stands.
+/// The name of the part of an output, if it stands and has a byte.
 fn part_of(rt: &HostRuntime, name: &str) -> Option<String> {
     let part = format!(in rt.alloc(); "{name}.part").ok()?;
-    let stands = fs::symlink_metadata(rt, part.as_str()).is_ok_and(|it| it.is_file());
+    let stands = fs::symlink_metadata(rt, part.as_str()).is_ok_and(|it| it.is_file()
+        && it.len() > 0);
     stands.then_some(part)
 }

@@ -1,6 +1,6 @@
 //! The text of each refusal.
 
-ghost use Rattle.std.specs.Prelude.{◌≡◌, ◌≤◌, ◌++◌, codes, decimal, length};
+ghost use Rattle.std.specs.Prelude.{◌≡◌, ◌≤◌, ◌++◌, codes, decimal, length, Some};
 ghost use Rattle.pocket_cmd.specs.Refusals.{store_kind_text, refusal_text};
 
 use crate::status::Refusal;
@@ -78,6 +78,8 @@ fn store_kind_text(kind: StoreKind) -> &'static str
 }
 
 impl fmt::Display for Refusal {
+    ghost output = { λ refusal. Some (refusal_text refusal) };
+
     fn fmt<W: fmt::Write>(&self, f: &mut fmt::Formatter<W>) -> fmt::Result {
         f.write_str(refusal_row(self).as_str())
     }
