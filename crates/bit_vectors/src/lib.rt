@@ -20,3 +20,4 @@ pub use flags::Flags;
 pub use laws::{bytes_and_vectors, numbers_and_bits};
 pub use pen::BitPen;
 pub use room::zero_bytes;
+pub use word_bytes::has_spare_bit;

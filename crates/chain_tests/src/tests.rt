@@ -5,4 +5,5 @@ mod flights;
 mod grounds;
 mod packets;
 mod sides;
+mod states;
 mod trials;

@@ -20,3 +20,4 @@ mod LinePieces
 pub mod RestCourses
 pub mod PlayedHistories
 pub mod DeliveredRuns
+pub mod SavedReckonings

@@ -11,4 +11,5 @@ pub mod Restoring
 pub mod Receiving
 pub mod Listing
 pub mod Refusals
+pub mod Saved
 pub mod Worked

@@ -38,3 +38,4 @@ pub record Judges (old new : Reckoning) (count : ℕ) (body : List ℕ) : Type 0
 pub record IsWithinLimits (latest : Option ℕ) (restored : Restored) : Type 0 where
   pub near : expected latest ≤ 2 ^ 14 * restored.packets
   pub tally : IsRestored restored
+  pub most : restored.packets ≤ 2 ^ 32

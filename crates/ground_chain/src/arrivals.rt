@@ -5,9 +5,11 @@ ghost use Rattle.ground_chain.specs.Numbers.{expected, number_after};
 ghost use Rattle.ground_chain.specs.Run.{Arrival, IsArrival, answer_kind, lost_from};
 ghost use Rattle.ground_chain.specs.Refusals.{IsExactVerdict};
 ghost use Rattle.ground_chain.specs.Report.{is_told, tells_mask_alone};
-ghost use Rattle.ground_chain.specs.Reception.{AreLost, HasDecoded, HasMasked, AgreesWith, StandsFor, known_of, next_judged, nothing_arrived};
+ghost use Rattle.ground_chain.specs.Reception.{AreLost, HasDecoded, HasMasked, AgreesWith, IsReception, Reception, StandsFor, known_of, next_judged, nothing_arrived};
+ghost use Rattle.packet_decode.specs.Saved.{AreOfDecoding, IsDecoding, decoding_bytes};
 ghost use Rattle.bit_vectors.specs.Vectors.{IsPlaces};
 
+use crate::saved::number_after;
 use crate::unwrap::Unwrap;
 use crate::verdict::{Kind, Lost, Verdict};
 use bit_vectors::{BitFault, NoMemory};
@@ -97,6 +99,26 @@ impl Ground {
         let lost = lost_from(expected, t);
         let kind = answer_kind(self.decoder.read(t, bytes));
         Verdict { lost, t, kind }
+    }
+
+    /// The number of the next arrival, if nothing is lost before it and it is no repeat.
+    pub fn next_number(&self) -> u64
+        requires { expected self.now.latest < 2 ^ 64 }
+        ensures next { result ≡ expected self.now.latest }
+        ensures reception { IsReception self.now.latest self.now.decoder }
+    {
+        number_after(self.numbers.last())
+    }
+
+    /// Becomes the one whose next number is this one, with the decoder that has these bytes, in the memory that it has.
+    pub fn load(&mut self, next: u64, bytes: &[u8])
+        requires saved { AreOfDecoding self.old.decoder.places next bytes.now }
+        ensures { (r : Reception) → IsReception r.latest r.decoder → expected r.latest ≡ next
+            → IsDecoding self.old.decoder.places r.decoder → bytes.now ≡ decoding_bytes r.decoder
+            → self.new ≡ r }
+    {
+        self.numbers = Unwrap::after(next);
+        self.decoder.load(bytes);
     }
 
     /// The decoder, whose packet is the latest written one.

@@ -16,6 +16,7 @@ mod report;
 mod reporting;
 mod restored;
 mod restorer;
+mod saved;
 mod tallied;
 mod unwrap;
 mod verdict;

@@ -1,13 +1,16 @@
 //! The arrivals with their numbers.
 
-ghost use Rattle.std.specs.Prelude.{◌≡◌, ℕ, ◌∷◌, ◌++◌, [], List, IfOk};
+ghost use Rattle.std.specs.Prelude.{◌≡◌, ◌↔◌, ℕ, ◌+◌, ◌≤◌, ◌∷◌, ◌++◌, [], List, length, IfOk, IsTrue};
 ghost use Rattle.ground_chain.specs.Run.{Arrival};
 ghost use Rattle.ground_chain.specs.Reception.{AgreesWith, next_judged};
-ghost use Rattle.ground_chain.specs.Reckoning.{HasJudged, IsNextArrival, Judges, nothing_judged};
+ghost use Rattle.ground_chain.specs.Reckoning.{HasJudged, IsNextArrival, Judges, Reckoning, nothing_judged};
+ghost use Rattle.ground_chain.specs.Saved.{AreOfReckoning, IsReckoning, reckoning_bytes, reckoning_room};
+ghost use Rattle.state_bytes.specs.Parts.{Puts};
 ghost use Rattle.bit_vectors.specs.Vectors.{IsPlaces};
 
 use crate::arrivals::Ground;
 use crate::restored::Restored;
+use crate::saved::{are_within, put_counts, take_counts};
 use crate::verdict::Verdict;
 use bit_vectors::NoMemory;
 use packet_decode::Decoder;
@@ -69,6 +72,40 @@ impl Tallied {
         let verdict = self.arrivals.arrive(count, bytes);
         self.restored.count(&verdict);
         verdict
+    }
+
+    /// Whether these are the bytes of arrivals that were judged, with vectors of `f` places.
+    pub fn is_saved(f: u32, bytes: &[u8]) -> bool
+        requires valid { IsPlaces f }
+        ensures { IsTrue result ↔ AreOfReckoning f bytes.now }
+    {
+        let Some((next, restored, rest)) = take_counts(bytes) else {
+            return false;
+        };
+        are_within(next, &restored) && Decoder::is_saved(f, next, rest)
+    }
+
+    /// Writes its bytes at this place, and tells the place after them.
+    pub fn save(&self, out: &mut [u8], at: usize) -> usize
+        requires { at + reckoning_room self.now.reception.decoder.places ≤ length out.old }
+        ensures saved { Puts out.old out.new at (reckoning_bytes self.now) result }
+        ensures valid { IsReckoning self.now.reception.decoder.places self.now }
+    {
+        let at = put_counts(out, at, self.arrivals.next_number(), &self.restored);
+        self.arrivals.decoder().save(out, at)
+    }
+
+    /// Becomes what has these bytes, in the memory that it has.
+    pub fn load(&mut self, bytes: &[u8])
+        requires { AreOfReckoning self.old.reception.decoder.places bytes.now }
+        ensures { (r : Reckoning) → IsReckoning self.old.reception.decoder.places r
+            → bytes.now ≡ reckoning_bytes r → self.new ≡ r }
+    {
+        let Some((next, restored, rest)) = take_counts(bytes) else {
+            unreachable!();
+        };
+        self.arrivals.load(next, rest);
+        self.restored = restored;
     }
 
     /// The numbers of the arrivals so far.

@@ -30,6 +30,15 @@ impl Unwrap {
         Unwrap { latest: None }
     }
 
+    /// The next number is this one, if nothing is lost before it; before 0 nothing has arrived.
+    pub(crate) fn after(next: u64) -> Unwrap
+        ensures { expected result ≡ next }
+    {
+        Unwrap {
+            latest: next.checked_sub(1),
+        }
+    }
+
     /// The number of the next arrival. None: it is a repeat of the latest one, which stays.
     pub fn next(&mut self, count: u16) -> Option<u64>
         requires count_bits { count < PERIOD }

@@ -1,3 +1,4 @@
 pub mod Received
 pub mod Delivered
 pub mod Refused
+pub mod States

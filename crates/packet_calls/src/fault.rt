@@ -67,3 +67,14 @@ pub enum ReceiveFault {
     #[error("too many packets")]
     TooMany,
 }
+
+/// Why a state was not put in place of what is held.
+#[derive(Clone, Copy, Debug, PartialEq, Eq, Error)]
+pub enum LoadFault {
+    /// The bytes are not the state of any value.
+    #[error("the bytes are no state")]
+    NoState,
+    /// They are a state of another kind or another number of places.
+    #[error("the state is of another kind or number of places")]
+    OtherState,
+}

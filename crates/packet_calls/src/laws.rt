@@ -15,7 +15,8 @@ ghost use Rattle.loss_player.specs.Gaps.{AreGapsShort};
 ghost use Rattle.ground_chain.specs.Deliveries.{arrival_at};
 ghost use Rattle.ground_chain.specs.Numbers.{number_after};
 ghost use Rattle.ground_chain.specs.Reception.{next_judged};
-ghost use Rattle.ground_chain.specs.Reckoning.{HasJudged, Reckoning};
+ghost use Rattle.ground_chain.specs.Reckoning.{HasJudged, Reckoning, next_run};
+ghost use Rattle.packet_calls.specs.States.{AreOfReceiver, IsReceiverState, receiver_state};
 ghost use Rattle.ground_chain.specs.Report.{restored_of, run_bytes, run_report, run_rows, verdict_rows, written_bytes};
 ghost use Rattle.ground_chain.specs.Restoring.{arrivals_of, restore_course};
 ghost use Rattle.ground_chain.specs.Run.{Arrival, run};
@@ -93,4 +94,24 @@ pub fn deliveries_are_received()
 pub fn vectors_are_their_bytes()
     ensures { (f : ℕ) (bytes : List ℕ) → AreBytes bytes → HasByteCount f bytes
         → (HasSpareBit f bytes → ⊥) → vector_bytes (vector_in f bytes) ≡ bytes }
+{}
+
+/// A state of a receiver is that of one value: receivers with one state hold the same, and each state of a receiver is taken up.
+pub fn receivers_are_their_states()
+    ensures same { (f : ℕ) (a b : Reckoning) → IsReceiverState f a → IsReceiverState f b
+        → receiver_state a ≡ receiver_state b → a ≡ b }
+    ensures taken { (f : ℕ) (r : Reckoning) → IsReceiverState f r → AreOfReceiver f (receiver_state r) }
+{}
+
+/// A receiver that took up a state goes on as the saved one would: it answers any arrivals alike, and the verdicts are those of
+/// a run over all arrivals, before the state was saved and after it was taken up.
+pub fn loaded_receivers_go_on()
+    ensures answers { (f : ℕ) (saved loaded : Reckoning) (arrivals : List Arrival) → IsReceiverState f saved
+        → IsReceiverState f loaded → receiver_state loaded ≡ receiver_state saved
+        → next_run loaded arrivals ≡ next_run saved arrivals }
+    ensures judged { (f : ℕ) (saved loaded : Reckoning) (arrivals : List Arrival) → IsReceiverState f saved
+        → IsReceiverState f loaded → receiver_state loaded ≡ receiver_state saved
+        → HasJudged f arrivals saved → HasJudged f arrivals loaded }
+    ensures after { (f : ℕ) (before after : List Arrival) (saved : Reckoning) → HasJudged f before saved
+        → run f (before ++ after) ≡ run f before ++ next_run saved after }
 {}

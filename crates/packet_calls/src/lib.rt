@@ -7,10 +7,11 @@ mod laws;
 mod receiver;
 mod sender;
 
-pub use fault::{OpenFault, ReceiveFault, SendFault};
+pub use fault::{LoadFault, OpenFault, ReceiveFault, SendFault};
 pub use laws::{
-    deliveries_are_received, sent_inputs_are_received, sent_packets_are_stored,
-    vectors_are_their_bytes, verdicts_are_those_of_restoring,
+    deliveries_are_received, loaded_receivers_go_on, receivers_are_their_states,
+    sent_inputs_are_received, sent_packets_are_stored, vectors_are_their_bytes,
+    verdicts_are_those_of_restoring,
 };
-pub use receiver::Receiver;
+pub use receiver::{RECEIVER_KIND, Receiver, receiver_state_room};
 pub use sender::{Sender, Sent};

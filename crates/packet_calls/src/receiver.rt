@@ -1,26 +1,40 @@
 //! The receiving end.
 
-ghost use Rattle.std.specs.Prelude.{◌≡◌, ℕ, ◌<◌, ◌≤◌, ◌++◌, ◌∷◌, [], List, Err, length, drop, IfOk, OnOk, OnErr};
-ghost use Rattle.bit_vectors.specs.Vectors.{byte_count};
+ghost use Rattle.std.specs.Prelude.{◌≡◌, ◌↔◌, ℕ, ◌<◌, ◌≤◌, ◌++◌, ◌∷◌, [], List, None, Err, Ok, length, drop, IfSome, IfOk, OnOk, OnErr};
+ghost use Rattle.bit_vectors.specs.Vectors.{IsPlaces, byte_count};
 ghost use Rattle.ground_chain.specs.Reception.{next_judged};
-ghost use Rattle.ground_chain.specs.Reckoning.{HasJudged, Judges, nothing_judged};
+ghost use Rattle.ground_chain.specs.Reckoning.{HasJudged, Judges, Reckoning, nothing_judged};
 ghost use Rattle.ground_chain.specs.Report.{written_bytes};
 ghost use Rattle.ground_chain.specs.Run.{Arrival};
+ghost use Rattle.packet_calls.specs.States.{AreOfReceiver, IsReceiverState, receiver_kind, receiver_state, receiver_state_room};
+ghost use Rattle.state_bytes.specs.Frames.{IsOther};
 ghost use Rattle.packet_calls.specs.Refusals.{fault_in, opening_fault, receiving_fault};
 
-use crate::fault::{OpenFault, ReceiveFault};
+use crate::fault::{LoadFault, OpenFault, ReceiveFault};
 use bit_vectors::byte_len;
 use ground_chain::{Restored, Tallied, Verdict};
 use packet_decode::Decoder;
 use packet_store::PERIOD;
+use state_bytes::{FRAME_BYTES, FrameFault, body_of, put_head, seal};
 use std::alloc::Global;
 use std::marker::Model;
 
 /// The most bytes of the data of a packet.
 const MOST_DATA: usize = 65536;
 
+/// The kind of a receiver in its state.
+pub const RECEIVER_KIND: u8 = 2;
+
 /// The most packets that a receiver judges.
 const MOST_PACKETS: u64 = 4294967296;
+
+/// The most bytes that the state of a receiver has, with contents of this many places.
+pub fn receiver_state_room(places: u32) -> usize
+    requires valid { IsPlaces places }
+    ensures { result ≡ receiver_state_room places }
+{
+    FRAME_BYTES + 57 + 3 * (byte_len(places) as usize + 1)
+}
 
 /// Judges the packets of a stream as they arrive (CCSDS 124.0-B-1): by its sequence count each arrival has a number, and by
 /// its data the content of that number is known or not. Contracts see what is known, and the numbers so far.
@@ -101,6 +115,55 @@ impl Receiver {
             self.arrivals.decoder().content().store(&mut out[..size]);
         }
         Ok(verdict)
+    }
+
+    /// The most bytes that its state has.
+    pub fn state_room(&self) -> usize
+        ensures { result ≡ receiver_state_room self.now.reception.decoder.places }
+    {
+        receiver_state_room(self.places())
+    }
+
+    /// Writes its state into the first bytes of `out`, and tells how many they are. None: the longest state would not fit.
+    pub fn save(&self, out: &mut [u8]) -> Option<usize>
+        ensures room { (result ≡ None) ↔ (length out.old < receiver_state_room self.now.reception.decoder.places) }
+        ensures untouched { result ≡ None → out.new ≡ out.old }
+        ensures length { IfSome result (λ size. size ≡ length (receiver_state self.now)) }
+        ensures state { IfSome result (λ size. out.new ≡ receiver_state self.now ++ drop size out.old) }
+        ensures valid { IfSome result (λ _. IsReceiverState self.now.reception.decoder.places self.now) }
+    {
+        if out.len() < self.state_room() {
+            return None;
+        }
+        let from = put_head(out, RECEIVER_KIND, self.places());
+        let end = self.arrivals.save(out, from);
+        Some(seal(out, end))
+    }
+
+    /// Becomes the receiver with this state, in the memory that it has.
+    pub fn load(&mut self, state: &[u8]) -> Result<(), LoadFault>
+        // It is done exactly if the bytes are the state of some receiver with contents of as many places.
+        ensures exact { (result ≡ Ok tt) ↔ AreOfReceiver self.old.reception.decoder.places state.now }
+        ensures loaded { OnOk result (receiver_state self.new ≡ state.now) }
+        ensures same { (r : Reckoning) → IsReceiverState self.old.reception.decoder.places r
+            → state.now ≡ receiver_state r → self.new ≡ r }
+        ensures other { (result ≡ Err LoadFault.OtherState)
+            ↔ IsOther receiver_kind self.old.reception.decoder.places state.now }
+        ensures unchanged { OnErr result (self.new ≡ self.old) }
+        ensures places { self.new.reception.decoder.places ≡ self.old.reception.decoder.places }
+    {
+        let places = self.places();
+        match body_of(RECEIVER_KIND, places, state) {
+            Err(FrameFault::NoState) => Err(LoadFault::NoState),
+            Err(FrameFault::OtherState) => Err(LoadFault::OtherState),
+            Ok(body) => {
+                if !Tallied::is_saved(places, body) {
+                    return Err(LoadFault::NoState);
+                }
+                self.arrivals.load(body);
+                Ok(())
+            }
+        }
     }
 
     /// The number of places of the vectors.

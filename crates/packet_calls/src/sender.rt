@@ -1,17 +1,17 @@
 //! The sending end.
 
-ghost use Rattle.std.specs.Prelude.{◌≡◌, ◌+◌, ◌<◌, ◌≤◌, ◌⊎◌, Err, length, drop, take, IfOk, OnOk, OnErr};
-ghost use Rattle.bit_vectors.specs.Vectors.{IsPlaces, byte_count};
+ghost use Rattle.std.specs.Prelude.{◌≡◌, ◌+◌, ◌*◌, ◌<◌, ◌≤◌, Err, None, length, drop, take, IsTrue, IfOk, OnOk, OnErr};
+ghost use Rattle.bit_vectors.specs.Vectors.{IsPlaces, byte_count, has_spare_bit};
 ghost use Rattle.mask_update.specs.Histories.{History, no_steps};
 ghost use Rattle.packet_encode.specs.Encoder.{StandsFor};
 ghost use Rattle.packet_encode.specs.Packets.{with_next_input};
 ghost use Rattle.robust_window.specs.Histories.{level_at};
 ghost use Rattle.flight_chain.specs.Stores.{data_at};
-ghost use Rattle.packet_calls.specs.Sending.{first_mask, given_mask, mask_fits, room_bits, room_bytes, vector_in};
+ghost use Rattle.packet_calls.specs.Sending.{first_mask, given_mask, mask_fits, mask_has_spare_bit, room_bits, room_bytes, vector_in};
 ghost use Rattle.packet_calls.specs.Refusals.{fault_in, opening_fault, sending_fault};
 
 use crate::fault::{OpenFault, SendFault};
-use bit_vectors::{BitPen, Bits, Flags, byte_len};
+use bit_vectors::{BitEye, BitPen, Bits, Flags, byte_len};
 use packet_encode::{Encoder, room};
 use std::alloc::Global;
 use std::marker::Model;
@@ -61,10 +61,8 @@ impl Sender {
         ensures room { IfOk result (λ sender. sender.room ≡ room_bits places) }
         ensures fault { (result ≡ Err OpenFault.NoMemory → ⊥)
             → fault_in result ≡ opening_fault places (given_mask mask.entry) }
-        // A spare bit is looked at after the memory for the mask was found.
         ensures no_memory { result ≡ Err OpenFault.NoMemory
-            → (opening_fault places (given_mask mask.entry) ≡ None)
-            ⊎ (opening_fault places (given_mask mask.entry) ≡ Some OpenFault.MaskSpareBit) }
+            → opening_fault places (given_mask mask.entry) ≡ None }
     {
         let input = first_vector(alloc, places, mask)?;
         let pen = BitPen::with_room(alloc, room(places))?;
@@ -205,8 +203,7 @@ fn first_vector(alloc: Global, places: u32, mask: Option<&[u8]>) -> Result<Bits,
     ensures fault { (result ≡ Err OpenFault.NoMemory → ⊥)
         → fault_in result ≡ opening_fault places (given_mask mask.entry) }
     ensures no_memory { result ≡ Err OpenFault.NoMemory
-        → (opening_fault places (given_mask mask.entry) ≡ None)
-        ⊎ (opening_fault places (given_mask mask.entry) ≡ Some OpenFault.MaskSpareBit) }
+        → opening_fault places (given_mask mask.entry) ≡ None }
 {
     if places == 0 || places > 49152 {
         return Err(OpenFault::Places);
@@ -214,14 +211,42 @@ fn first_vector(alloc: Global, places: u32, mask: Option<&[u8]>) -> Result<Bits,
     if !mask_fits(places, mask) {
         return Err(OpenFault::MaskLength);
     }
-    let mut vector = Bits::zeros(alloc, places)?;
-    let Some(mask) = mask else {
-        return Ok(vector);
-    };
-    if vector.load(mask).is_err() {
+    if mask_has_spare_bit(places, mask) {
         return Err(OpenFault::MaskSpareBit);
     }
+    let mut vector = Bits::zeros(alloc, places)?;
+    if let Some(mask) = mask {
+        let _ = vector.load(mask);
+    }
     Ok(vector)
+}
+
+/// Whether a mask is given that has a spare bit.
+fn mask_has_spare_bit(places: u32, mask: Option<&[u8]>) -> bool
+    requires valid { IsPlaces places }
+    requires fits { IsTrue (mask_fits places (given_mask mask)) }
+    ensures { result ≡ mask_has_spare_bit places (given_mask mask.entry) }
+{
+    match mask {
+        Some(bytes) => has_spare_bit(places, bytes),
+        None => false,
+    }
+}
+
+/// Whether a bit after the first `places` is 1.
+fn has_spare_bit(places: u32, bytes: &[u8]) -> bool
+    requires few { length bytes.now ≤ 65536 }
+    requires long { places ≤ 8 * length bytes.now }
+    ensures { result ≡ has_spare_bit places bytes.now }
+{
+    let mut eye = BitEye::new(bytes);
+    eye.pass(places);
+    'bits: while let Some(bit) = eye.take() {
+        if bit {
+            return true;
+        }
+    }
+    false
 }
 
 /// Whether no mask is given, or one that has as many bytes as its places need.

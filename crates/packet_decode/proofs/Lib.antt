@@ -25,3 +25,4 @@ pub mod PredictablePlaces
 pub mod RecentChanges
 pub mod OtherLevel
 mod RepeatedPacket
+pub mod SavedDecoders

@@ -7,3 +7,4 @@ pub mod Directions
 pub mod Parts
 pub mod Decoding
 pub mod Histories
+pub mod Saved

@@ -1,7 +1,7 @@
 //! The first part of a packet: the recent changes of the mask, the effective robustness level, and the
 //! directions of the changes if they are sent (CCSDS 124.0-B-1).
 
-ghost use Rattle.std.specs.Prelude.{◌≡◌, ◌<◌, ◌↔◌, false, Bool, List, length, replicate, None, IfOk, IsTrue};
+ghost use Rattle.std.specs.Prelude.{◌≡◌, ◌<◌, ◌↔◌, ℕ, false, Bool, List, length, replicate, None, IfOk, IsTrue};
 ghost use Rattle.std.specs.Bool.{OnFalse, OnTrue};
 ghost use Rattle.bit_vectors.specs.Eye.{bits_left};
 ghost use Rattle.bit_vectors.specs.Reading.{MovesOn, Gives};
@@ -10,9 +10,11 @@ ghost use Rattle.packet_encode.specs.Forms.{wide_by};
 ghost use Rattle.packet_decode.specs.State.{mask_after};
 ghost use Rattle.packet_decode.specs.PacketReading.{parse_change, parse_directions};
 ghost use Rattle.bit_vectors.specs.Vectors.{IsPlaces};
+ghost use Rattle.state_bytes.specs.Parts.{BeginsVector};
 
 use bit_vectors::{BitEye, BitFault, Bits, NoMemory};
 use run_code::{take_inverse_up, take_runs};
+use state_bytes::take_vector;
 use std::alloc::Global;
 use std::marker::Model;
 use std::mem::swap;
@@ -178,6 +180,20 @@ impl FirstPart {
         requires { level < 16 }
         ensures { self.new ≡ record { recent = self.old.recent; level = level; directions = None } }
     {
+        self.level = level;
+        self.twice = None;
+    }
+
+    /// Becomes a first part of this level without directions, with the recent changes that the bytes begin with.
+    pub fn load(&mut self, bytes: &[u8], level: u8)
+        requires level { level < 16 }
+        requires recent { (v : List Bool) × (rest : List ℕ) × BeginsVector (length self.old.recent) v bytes.now rest }
+        ensures loaded { (v : List Bool) (rest : List ℕ) → BeginsVector (length self.old.recent) v bytes.now rest
+            → self.new ≡ record { recent = v; level = level; directions = None } }
+        ensures places { length self.new.recent ≡ length self.old.recent }
+    {
+        take_vector(bytes, &mut self.recent);
+        self.quiet = self.recent.is_zero();
         self.level = level;
         self.twice = None;
     }

@@ -1,6 +1,6 @@
 //! The decoder: the latest known mask and content, and the reading of the next packet.
 
-ghost use Rattle.std.specs.Prelude.{[], ℕ, ◌≡◌, ◌^◌, ◌<◌, ◌≤◌, ◌↔◌, Bool, true, false, List, if◌then◌else◌, length, replicate, Option, Some, None, Ok, IfSome, IfNone, IfOk, IsSome};
+ghost use Rattle.std.specs.Prelude.{[], ℕ, ◌≡◌, ◌+◌, ◌^◌, ◌<◌, ◌≤◌, ◌↔◌, Bool, true, false, List, if◌then◌else◌, length, replicate, Option, Some, None, Ok, IfSome, IfNone, IfOk, IsSome, IsTrue};
 ghost use Rattle.bit_vectors.specs.Vectors.{IsPlaces, IsVector, bits_of};
 ghost use Rattle.bit_vectors.specs.Reading.{Read};
 ghost use Rattle.packet_encode.specs.Forms.{Form};
@@ -9,14 +9,18 @@ ghost use Rattle.packet_decode.specs.Spelling.{Spells};
 ghost use Rattle.packet_decode.specs.Answers.{Says, IsExactAnswer};
 ghost use Rattle.packet_decode.specs.PacketReading.{Spelled, missed, parse_whole_packet};
 ghost use Rattle.packet_decode.specs.Parts.{IsAtLevel, IsBefore, IsDeduced, IsRemembered, kept_state, part_by, tells_mask};
-ghost use Rattle.packet_decode.specs.Decoding.{IsAfter, latest_number, latest_mask_number, latest_mask, latest_content, tells_nothing};
+ghost use Rattle.state_bytes.specs.Parts.{Puts};
+ghost use Rattle.packet_decode.specs.Saved.{AreNumbers, AreOfDecoding, IsDecoding, decoding_bytes, decoding_room};
+ghost use Rattle.packet_decode.specs.Decoding.{Decoding, IsAfter, latest_number, latest_mask_number, latest_mask, latest_content, tells_nothing};
 
 use crate::change::FirstPart;
 use crate::draft::Room;
 use crate::latest::{DataKind, Latest};
 use crate::packet::{in_reach_of, take_whole_packet};
 use crate::remembered::Remembered;
+use crate::saved::{are_three, number_after, number_before, take_numbers};
 use bit_vectors::{BitEye, BitFault, Bits, NoMemory};
+use state_bytes::{put, put_number, put_vector, take_vector};
 use std::alloc::Global;
 use std::marker::Model;
 use std::mem::swap;
@@ -192,6 +196,55 @@ impl Decoder {
         ensures first { IfNone self.now.state.content (result ≡ 0) }
     {
         self.shown.level()
+    }
+}
+
+impl Decoder {
+    /// Whether these are the bytes of a decoder with vectors of `f` places, whose known vectors are of packets with numbers below
+    /// `before`.
+    pub fn is_saved(f: u32, before: u64, bytes: &[u8]) -> bool
+        requires valid { IsPlaces f }
+        ensures { IsTrue result ↔ AreOfDecoding f before bytes.now }
+    {
+        let Some((mask, content, level, rest)) = take_numbers(bytes) else {
+            return false;
+        };
+        if mask > before || content > before || level > 15 || (content == 0 && level > 0) {
+            return false;
+        }
+        are_three(rest, f, mask > 0, content > 0)
+    }
+
+    /// Writes its bytes at this place, and tells the place after them.
+    pub fn save(&self, out: &mut [u8], at: usize) -> usize
+        requires room { at + decoding_room self.now.places ≤ length out.old }
+        requires numbers { AreNumbers self.now }
+        ensures saved { Puts out.old out.new at (decoding_bytes self.now) result }
+        ensures valid { IsDecoding self.now.places self.now }
+    {
+        let at = put_number(out, at, number_after(self.latest.mask_number));
+        let at = put_number(out, at, number_after(self.latest.content_number));
+        let at = put(out, at, &[self.shown.level()]);
+        let at = put_vector(out, at, &self.latest.mask);
+        let at = put_vector(out, at, &self.latest.content);
+        put_vector(out, at, self.shown.recent())
+    }
+
+    /// Becomes the decoder with these bytes, in the memory that it has.
+    pub fn load(&mut self, bytes: &[u8])
+        requires { (d : Decoding) × IsDecoding self.old.places d × (bytes.now ≡ decoding_bytes d) }
+        ensures { (d : Decoding) → IsDecoding self.old.places d → bytes.now ≡ decoding_bytes d
+            → self.new ≡ d }
+    {
+        let Some((mask, content, level, rest)) = take_numbers(bytes) else {
+            unreachable!();
+        };
+        let rest = take_vector(rest, &mut self.latest.mask);
+        let rest = take_vector(rest, &mut self.latest.content);
+        self.latest.mask_number = number_before(mask);
+        self.latest.content_number = number_before(content);
+        self.shown.load(rest, level);
+        self.remembered = Remembered::nothing();
     }
 }
 

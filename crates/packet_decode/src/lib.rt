@@ -12,6 +12,7 @@ mod mask;
 mod packet;
 mod padding;
 mod remembered;
+mod saved;
 
 pub use decoder::{Decoder, Reading};
 pub use laws::{

@@ -2,6 +2,8 @@
 use Rattle.std.specs.Prelude.{◌≡◌, ℕ, ◌⊎◌, List, [], ◌∷◌}
 use Rattle.packet_calls.specs.declared.fault.OpenFault.{OpenFault}
 use Rattle.packet_calls.specs.declared.fault.OpenFault.TheVariants as open_fault
+use Rattle.packet_calls.specs.declared.fault.LoadFault.{LoadFault}
+use Rattle.packet_calls.specs.declared.fault.LoadFault.TheVariants as load
 use Rattle.packet_calls.specs.declared.fault.SendFault.{SendFault}
 use Rattle.packet_calls.specs.declared.fault.SendFault.TheVariants as send
 use Rattle.packet_calls.specs.declared.fault.ReceiveFault.{ReceiveFault}
@@ -28,6 +30,8 @@ status_number status.TooLong = 14
 status_number status.NoText = 15
 status_number status.TooManyWords = 16
 status_number status.NotKept = 17
+status_number status.NoState = 252
+status_number status.OtherState = 253
 
 -- the answer is the number of one of these statuses
 abbrev pub IsOneOf : ℕ → List CallStatus → Type 0
@@ -52,3 +56,7 @@ of_receive receive.Count = status.Count
 of_receive receive.TooLong = status.TooLong
 of_receive receive.NoRoom = status.NoRoom
 of_receive receive.TooMany = status.TooMany
+
+abbrev pub of_load : LoadFault → CallStatus
+of_load load.NoState = status.NoState
+of_load load.OtherState = status.OtherState

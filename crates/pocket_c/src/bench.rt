@@ -64,7 +64,7 @@ impl Bench {
         self.desk.put(name, bytes)
     }
 
-    /// What is kept under the name, or nothing if the name was never put or written.
+    /// What is kept under the name, or no byte if nothing is.
     pub fn get(&self, name: &str) -> &[u8]
         ensures { result.now ≡ kept_at self.now.desk.held name.now }
     {

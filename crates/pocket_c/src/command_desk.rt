@@ -48,8 +48,7 @@ impl<'a> CommandDesk<'a> {
           lacking = lack_name desk.held (map string_bytes words.now);
         } }
     {
-        let mut desk = desk;
-        desk.recount();
+        let desk = desk.with_no_faults();
         let lacking = lack_name(&desk, words);
         CommandDesk {
             desk,

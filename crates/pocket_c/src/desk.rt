@@ -224,8 +224,8 @@ pub extern "C" fn pocket_run(
     }
 }
 
-/// Writes what is kept under a name at the desk that a handle holds into the first `len` bytes of `out`: nothing if the name
-/// was never put or written. If there is no room for it, `len` tells how much is needed.
+/// Writes what is kept under a name at the desk that a handle holds into the first `len` bytes of `out`: no byte if
+/// nothing is. If there is no room for it, `len` tells how much is needed.
 #[unsafe(no_mangle)]
 pub extern "C" fn pocket_get(
     alloc: Global,

@@ -11,6 +11,7 @@ mod laws;
 mod loose;
 mod receiver;
 mod sender;
+mod state;
 mod status;
 mod stream;
 
@@ -26,5 +27,6 @@ pub use receiver::{
     Counts, Finding, pocket_counts, pocket_receive, pocket_receiver_open, pocket_receiver_reset,
 };
 pub use sender::{pocket_send, pocket_sender_open, pocket_sender_reset};
+pub use state::{pocket_load, pocket_save, pocket_state_bytes};
 pub use status::CallStatus;
 pub use stream::{pocket_bits, pocket_sent};

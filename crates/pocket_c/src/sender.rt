@@ -1,13 +1,12 @@
 //! The calls of a sender.
 
-ghost use Rattle.std.specs.Prelude.{◌≡◌, ◌+◌, ◌<◌, ◌≤◌, ◌⊎◌, Err, None, Some, length, drop, take};
+ghost use Rattle.std.specs.Prelude.{◌≡◌, ◌+◌, ◌<◌, ◌≤◌, Err, None, Some, length, drop, take};
 ghost use Rattle.mask_update.specs.Histories.{History, no_steps};
 ghost use Rattle.packet_encode.specs.Encoder.{StandsFor};
 ghost use Rattle.packet_encode.specs.Packets.{with_next_input};
 ghost use Rattle.robust_window.specs.Histories.{level_at};
 ghost use Rattle.flight_chain.specs.Stores.{data_at};
 ghost use Rattle.packet_calls.specs.Sending.{SenderState, first_mask, given_mask, room_bits, room_bytes, vector_in};
-ghost use Rattle.packet_calls.specs.declared.fault.OpenFault.TheVariants as open_fault;
 ghost use Rattle.packet_calls.specs.Refusals.{opening_fault};
 ghost use Rattle.pocket_c.specs.Answers.{opening_status, resetting_status, sending_status};
 ghost use Rattle.pocket_c.specs.Kinds.{flags_by, mask_in};
@@ -30,10 +29,8 @@ pub extern "C" fn pocket_sender_open(
 ) -> u32
     ensures answer { (result ≡ status_number CallStatus.NoMemory → ⊥)
         → result ≡ status_number (opening_status handle.old.held places (mask_in mask.now)) }
-    // A spare bit is looked at after the memory for the mask was found.
     ensures no_memory { result ≡ status_number CallStatus.NoMemory → (handle.old.held ≡ None)
-        × ((opening_fault places (mask_in mask.now) ≡ None)
-        ⊎ (opening_fault places (mask_in mask.now) ≡ Some open_fault.MaskSpareBit)) }
+        × (opening_fault places (mask_in mask.now) ≡ None) }
     ensures opened { result ≡ status_number CallStatus.Done
         → (s : SenderState) × (handle.new.held ≡ Some (Held.Sender s))
         × StandsFor (no_steps (first_mask places (mask_in mask.now))) s.encoder

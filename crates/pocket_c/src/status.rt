@@ -1,9 +1,9 @@
 //! What a call answers.
 
 ghost use Rattle.std.specs.Prelude.{◌≡◌};
-ghost use Rattle.pocket_c.specs.Statuses.{status_number, of_open, of_receive, of_send};
+ghost use Rattle.pocket_c.specs.Statuses.{status_number, of_load, of_open, of_receive, of_send};
 
-use packet_calls::{OpenFault, ReceiveFault, SendFault};
+use packet_calls::{LoadFault, OpenFault, ReceiveFault, SendFault};
 
 /// What a call answers. C sees its number.
 #[derive(Clone, Copy, Debug, PartialEq, Eq)]
@@ -44,6 +44,10 @@ pub enum CallStatus {
     TooManyWords,
     /// Nothing is kept under the name, or under any that is looked for.
     NotKept,
+    /// The bytes are no state.
+    NoState,
+    /// The state is of another kind or another number of places.
+    OtherState,
 }
 
 impl CallStatus {
@@ -70,6 +74,8 @@ impl CallStatus {
             CallStatus::NoText => 15,
             CallStatus::TooManyWords => 16,
             CallStatus::NotKept => 17,
+            CallStatus::NoState => 252,
+            CallStatus::OtherState => 253,
         }
     }
 }
@@ -110,6 +116,17 @@ impl From<ReceiveFault> for CallStatus {
             ReceiveFault::TooLong => CallStatus::TooLong,
             ReceiveFault::NoRoom => CallStatus::NoRoom,
             ReceiveFault::TooMany => CallStatus::TooMany,
+        }
+    }
+}
+
+impl From<LoadFault> for CallStatus {
+    ghost from_gives = { λ f e. e ≡ of_load f };
+
+    fn from(fault: LoadFault) -> CallStatus {
+        match fault {
+            LoadFault::NoState => CallStatus::NoState,
+            LoadFault::OtherState => CallStatus::OtherState,
         }
     }
 }

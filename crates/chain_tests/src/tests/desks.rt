@@ -111,6 +111,24 @@ fn a_copy_of_a_file(rt: HostRuntime) -> Result<(), Fail> {
     Ok(())
 }
 
+// Finishes the output of a command whose report is not opened.
+fn finished_alone(desk: &mut FileDesk<'_>) -> Result<(), Failed> {
+    desk.open_out(Outlet::Main, "left")?;
+    desk.finish(Outlet::Main)
+}
+
+#[test]
+fn an_earlier_part_is_not_named_before_the_report_is_opened(rt: HostRuntime) -> Result<(), Fail> {
+    fs::write(&rt, "left.part", ROW.as_slice())?;
+    assert_eq!(rt;
+        finished_alone(&mut FileDesk::for_command(&rt, true)),
+        Err(Failed)
+    );
+    assert!(rt; holds(&rt, "left.part", &ROW)?);
+    fs::remove_file(&rt, "left.part")?;
+    Ok(())
+}
+
 // A run that makes the given number of turns, and then ends with a fault of its data.
 #[derive(Drop)]
 struct Countdown(u8);

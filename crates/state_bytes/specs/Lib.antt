@@ -1,0 +1,3 @@
+pub mod Crc
+pub mod Parts
+pub mod Frames
