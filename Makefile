@@ -3,7 +3,9 @@
 # make lib TARGET=aarch64-linux-gnu, or riscv64-linux-gnu: the library for another processor (library/targets.mk).
 # make install: the header, the libraries, the Python module, and the program with its manual page and completions if
 #   crates/pocket/out/pocket is there, below PREFIX=/usr/local; make install-program: the program alone.
-# make uninstall: removes what make install placed.
+# make tools: what needs no toolchain, below PREFIX: the program of dist/pocket-program.c, by CC, its manual page and completions, the Python
+#   module with its tools, and the pictures (share/pocket/pictures).
+# make uninstall: removes what make install and make tools placed.
 # make deb: Debian packages, in the folder build: pocket, libpocket1, libpocket-dev, python3-pocket.
 # make unproved: the program in a minute, build/unproved/pocket, without a proof; it says so on --version.
 # make page: the operator's page, page/pocket.html, one file that a browser opens from disk. It takes the toolchain, the gate's libraries
@@ -57,7 +59,8 @@ $(BUILD)/libpocket.so: $(BUILD)/libpocket.a library/pocket.map
 	$(CC) -shared -Wl,-soname,libpocket.so.1 -Wl,--version-script,library/pocket.map -Wl,-z,relro,-z,now $(LDFLAGS) -o $(BUILD)/$(SHARED) -Wl,--whole-archive $< -Wl,--no-whole-archive
 	ln -sf $(SHARED) $(BUILD)/libpocket.so.1 && ln -sf libpocket.so.1 $@
 
-$(BUILD)/pocket.pc: library/pocket.pc.in Makefile
+# (made anew each time: PREFIX may be another one)
+$(BUILD)/pocket.pc: library/pocket.pc.in always
 	mkdir -p $(BUILD) && sed 's|@PREFIX@|$(PREFIX)|; s|@LIBDIR@|$(LIBDIR)|; s|@VERSION@|$(VERSION)|' $< > $@
 
 install: lib
@@ -66,9 +69,20 @@ install: lib
 	install -D -m 644 $(BUILD)/$(SHARED) $(LIBRARIES)/$(SHARED)
 	ln -sf $(SHARED) $(LIBRARIES)/libpocket.so.1 && ln -sf libpocket.so.1 $(LIBRARIES)/libpocket.so
 	install -D -m 644 $(BUILD)/pocket.pc $(LIBRARIES)/pkgconfig/pocket.pc
-	install -D -m 644 -t $(DESTDIR)$(MODULES)/pocket library/python/pocket/*.py library/python/pocket/py.typed
+	$(MAKE) --no-print-directory install-module
 	if [ -f $(PROGRAM) ]; then $(MAKE) --no-print-directory install-program; fi
 	if [ -z "$(DESTDIR)" ] && [ "$$(id -u)" = 0 ]; then ldconfig; fi
+
+install-module:
+	install -D -m 644 -t $(DESTDIR)$(MODULES)/pocket library/python/pocket/*.py library/python/pocket/py.typed
+
+$(BUILD)/pocket: dist/pocket-program.c
+	mkdir -p $(BUILD) && $(CC) -O2 $(CFLAGS) $(LDFLAGS) -o $@ $<
+
+tools: $(BUILD)/pocket
+	$(MAKE) --no-print-directory install-program install-module PROGRAM=$<
+	install -D -m 644 -t $(PLACE)/share/pocket/pictures pictures/*.py
+	@python3 -c 'import sys; sys.exit("$(MODULES)" not in sys.path)' || echo "python3 -m pocket takes PYTHONPATH=$(MODULES)"
 
 install-program:
 	install -D -m 755 $(PROGRAM) $(PLACE)/bin/pocket
@@ -80,7 +94,7 @@ uninstall:
 	rm -f $(PLACE)/include/pocket.h $(LIBRARIES)/libpocket.a $(LIBRARIES)/libpocket.so $(LIBRARIES)/libpocket.so.1 $(LIBRARIES)/$(SHARED) \
 	    $(LIBRARIES)/pkgconfig/pocket.pc $(PLACE)/bin/pocket $(PLACE)/share/man/man1/pocket.1 $(PLACE)/share/bash-completion/completions/pocket \
 	    $(DESTDIR)$(ZSHDIR)/_pocket
-	rm -rf $(DESTDIR)$(MODULES)/pocket
+	rm -rf $(DESTDIR)$(MODULES)/pocket $(PLACE)/share/pocket
 	if [ -z "$(DESTDIR)" ] && [ "$$(id -u)" = 0 ]; then ldconfig; fi
 
 deb:
@@ -113,4 +127,4 @@ check test: lib
 clean:
 	rm -rf $(BUILD) page/out page/pocket.html
 
-.PHONY: help lib install install-program uninstall deb unproved page dist check test clean
+.PHONY: help always lib install install-module install-program tools uninstall deb unproved page dist check test clean

@@ -1,7 +1,7 @@
 #!/usr/bin/env python3
 """An operator's day, over the proved program: three streams of packets of different lengths come down in transfer frames over two stations,
-which lose some and repeat some; the first pass is cut in the midst of a packet, and a third pass has packets that come late. At its end are
-events of limits and a plot's numbers. What the commands and the tools give back is compared with what was sent and what arrived, which this
+which lose some and repeat some; the first pass is cut in the midst of a packet, and a third pass has packets that come late. Then come events of
+limits and a plot's numbers, and at the end a recorder's dump on a channel of its own and a restart on board. What the commands and the tools give back is compared with what was sent and what arrived, which this
 script keeps. Takes the program; its last line is 'N passed, M failed'."""
 
 import itertools
@@ -24,6 +24,8 @@ FIELDS = "field,0,8,u,mode\nfield,8,16,s,current\nfield,24,40,u,clock\nlimit,cur
 # The first station has the first part of the day, and the second begins so many packets of each stream before the cut.
 OVERLAP = 40
 WINDOW = 64
+# The last pass: packets before a restart, of which a dump has the first ones, and packets after it.
+BEFORE, DUMPED, AFTER = 12000, 5000, 3000
 
 
 class Pocket:
@@ -100,8 +102,9 @@ def woven(streams):
     return [packet for _, packet in sorted(timed, key=lambda one: one[0])]
 
 
-def framed(draw, packets):
-    """Packets in transfer frames of one virtual channel, each after a mark; some frames are lost. Also which packets they carry whole."""
+def framed(draw, packets, channel=0):
+    """Packets in transfer frames of one virtual channel, each after a mark; some frames are lost, and some come twice. Also which packets they
+    carry whole."""
     stream = b"".join(packets)
     begins = list(itertools.accumulate(map(len, packets[:-1]), initial=0))
     idle = -len(stream) % FRAME
@@ -112,13 +115,13 @@ def framed(draw, packets):
     frames, lost = [], set()
     for number, at in enumerate(range(0, len(stream), FRAME)):
         first = next((begin - at for begin in begins if at <= begin < at + FRAME), 0x7FF)
-        frame = b"\x12\x30" + bytes([number % 256, number % 256]) + (0x1800 | first).to_bytes(2, "big") + stream[at:at + FRAME]
+        frame = (0x1230 | channel << 1).to_bytes(2, "big") + bytes([number % 256, number % 256]) + (0x1800 | first).to_bytes(2, "big") + stream[at:at + FRAME]
         if number and draw.random() < 0.02:
             lost.add(number)
         else:
-            frames.append(bytes.fromhex("1ACFFC1D") + frame)
+            frames += [bytes.fromhex("1ACFFC1D") + frame] * (2 if draw.random() < 0.02 else 1)
     whole = [packet for begin, packet in zip(begins, packets) if not lost & set(range(begin // FRAME, (begin + len(packet) - 1) // FRAME + 1))]
-    return b"".join(frames), whole, lost
+    return frames, whole, lost
 
 
 def missing(numbers):
@@ -170,7 +173,7 @@ def day(pocket):
     stations = []
     for name, arrived in (("first", first), ("second", second)):
         frames, whole, lost = framed(draw, woven([[sent[apid][number] for number in arrived[apid]] for apid in sent]))
-        store, told = pocket.tool(f"frames length={FRAME + 6} sync=1", frames)
+        store, told = pocket.tool(f"frames length={FRAME + 6} sync=1", b"".join(frames))
         yield f"the frames of the {name} station", None if (store, told.count("are missing")) == (b"".join(whole), runs_of(lost)) else f"it told {told}"
         stations.append(whole)
         arrived.update({apid: [sent[apid].index(packet) for packet in whole if int.from_bytes(packet[:2], "big") == apid] for apid in sent})
@@ -189,8 +192,9 @@ def day(pocket):
 
     # The second station begins before the first one ends: both are joined, and each stream is restored out of all that came.
     both = {apid: sorted(set(first[apid] + second[apid])) for apid in sent}
-    joined, _ = pocket.tool("merge first.store second.store")
-    pocket.put("both.store", joined)
+    near = " ".join(f"near={apid}:{cut[apid] - OVERLAP}" for apid in sent)
+    pocket.tool(f"merge first.store second.store {near} out=both.store")
+    joined = pocket.get("both.store")
     yield "the stations joined", None if sorted(space_packets(joined)) == sorted(sent[apid][number] for apid in sent for number in both[apid]) else "another store"
     yield from restored_together(pocket, "both", recordings, both)
 
@@ -202,6 +206,7 @@ def day(pocket):
         *rows, left = pocket.get(f"{apid}.report").decode().splitlines()[1:]
         yield f"{apid} of a late pass", agrees(f"{apid} of late", recordings[apid], bits, late[apid], rows, pocket.get(f"{apid}.late"), int(left.split(",")[1]))
     yield from looked_at(pocket, recordings[100], both)
+    yield from dumped_and_restarted(pocket, draw)
 
 
 def runs_of(numbers):
@@ -242,6 +247,54 @@ def looked_at(pocket, recording, both):
     yield "the numbers of the plot", None if is_right else "they are others"
     events, _ = pocket.tool("numbers table=100.table report=both.report apid=100 fields=fields.csv bits=64 as=events")
     yield "the events", None if stretches_of(events) == out_of_limits(numbers, own) else "they are others"
+
+
+def sent_anew(pocket, draw, name, count):
+    """The recording of a sender that has just begun, and its packets."""
+    recording = b"".join(packets_of(draw, 64, count))
+    pocket.put(f"{name}.rec", recording)
+    pocket.put("103.plan", b"0,4294967295,30,p\n40,4294967295,40,fr\n")
+    pocket.done(f"compress in={name}.rec out={name}.store bits=64 apid=103 robust=2 plan=103.plan")
+    return recording, list(space_packets(pocket.get(f"{name}.store")))
+
+
+def cut_at(pocket, name):
+    """The byte of a store at which the document's search finds the most packets lost, by which the store is cut in two."""
+    with open(os.path.join(ROOT, "docs", "OPERATING.md"), encoding="utf-8") as file:
+        search = next(line[6:] for line in file if line.startswith("    $ perl -0777"))
+    ran = subprocess.run(["bash", "-c", search.replace("restarted.store", f"{name}.store")], cwd=pocket.folder, capture_output=True, text=True, check=True)
+    place = max((int(line.split()[-2]), int(line.split()[1].rstrip(":"))) for line in ran.stdout.splitlines())[1]
+    store = pocket.get(f"{name}.store")
+    pocket.put(f"{name}.before", store[:place])
+    pocket.put(f"{name}.after", store[place:])
+
+
+def dumped_and_restarted(pocket, draw):
+    """Two live stations, of which the first has a recorder's dump of earlier packets on another channel, and a restart in the midst."""
+    recordings, sent = zip(*(sent_anew(pocket, draw, name, count) for name, count in (("old", BEFORE), ("new", AFTER))))
+    dump, arrived = framed(draw, sent[0][:DUMPED], 1), {}
+    for name, begin in (("one", DUMPED - 30), ("other", DUMPED + 200)):
+        live = [packet for numbers, packets in ((range(begin, BEFORE), sent[0]), (range(AFTER), sent[1])) for packet in map(packets.__getitem__, over_a_link(draw, numbers, late=False))]
+        frames, whole, _ = framed(draw, live)
+        mixed = [frame for _, frame in sorted(enumerate(frames + dump[0] * (name == "one")), key=lambda one: one[0] % len(frames))]
+        pocket.tool(f"frames length={FRAME + 6} sync=1 vcid=0 out={name}.store report={name}.told", b"".join(mixed))
+        yield f"the live packets of the {name} station", None if pocket.get(f"{name}.store") == b"".join(whole) else "they are others"
+        cut_at(pocket, name)
+        arrived[name] = whole
+        if name == "one":
+            pocket.tool(f"frames length={FRAME + 6} sync=1 vcid=1 out=dump.store report=dump.told", b"".join(mixed))
+            yield "the dump", None if pocket.get("dump.store") == b"".join(dump[1]) else "it is another one"
+    pocket.tool(f"merge one.before other.before near={DUMPED + 200 + 3000} dump.store near=0 out=before.store report=before.told")
+    pocket.tool("merge one.after other.after span=short out=after.store report=after.told")
+    places = [{packet: number for number, packet in enumerate(packets)} for packets in sent]
+    for name, recording, numbers, more in zip(("before", "after"), recordings, places, (dump[1], [])):
+        pocket.done(f"restore in={name}.store out={name}.restored report={name}.report bits=64 apid=103")
+        own = sorted({numbers[packet] for packet in [*arrived["one"], *arrived["other"], *more] if packet in numbers})
+        yield f"the packets {name} the restart", agrees(name, recording, 64, own, pocket.get(f"{name}.report").decode().splitlines()[1:], pocket.get(f"{name}.restored"), None)
+    pocket.done("restore in=one.store out=one.restored report=one.report bits=64 apid=103")
+    pocket.done("table in=one.restored out=one.table report=one.limits fields=fields.csv bits=64")
+    _, told = pocket.tool("numbers table=one.table report=one.report start=2026-11-30T00:00:00Z step=1")
+    yield "the restart by the numbers", None if "if the board restarted there" in told else f"it told {told}"
 
 
 def out_of_limits(numbers, packets):

@@ -7,6 +7,7 @@ program; its last line is 'N passed, M failed'. With --show it prints each comma
 
 import os
 import pathlib
+import re
 import shutil
 import subprocess
 import sys
@@ -15,6 +16,8 @@ import tempfile
 ROOT = pathlib.Path(__file__).resolve().parent.parent
 PAGES = ["README.md", "docs/OPERATING.md"]
 LIMIT = 120
+# What a page says is typed before its commands, at the top of a clone where nothing is installed.
+FIRST = re.compile(r"^    (export PYTHONPATH=.*)$", re.M)
 
 
 def commands(page):
@@ -32,10 +35,11 @@ def commands(page):
     return found
 
 
-def said(command, folder, path):
-    """What a command prints, on either stream."""
-    environment = {**os.environ, "PATH": f"{path}:{os.environ['PATH']}", "LC_ALL": "C", "PYTHONPATH": str(ROOT / "library" / "python"), "PYTHONDONTWRITEBYTECODE": "1"}
-    ran = subprocess.run(["bash", "-c", command], cwd=folder, env=environment, stdout=subprocess.PIPE, stderr=subprocess.STDOUT, text=True, timeout=LIMIT, check=False)
+def said(command, folder, path, first):
+    """What a command prints, on either stream, after what is typed first at the top of the repository."""
+    environment = {**os.environ, "PATH": f"{path}:{os.environ['PATH']}", "LC_ALL": "C", "PYTHONDONTWRITEBYTECODE": "1"}
+    environment.pop("PYTHONPATH", None)
+    ran = subprocess.run(["bash", "-c", f"{first}\ncd {folder} && {{ {command}\n}}"], cwd=ROOT, env=environment, stdout=subprocess.PIPE, stderr=subprocess.STDOUT, text=True, timeout=LIMIT, check=False)
     return ran.stdout.splitlines()
 
 
@@ -47,8 +51,9 @@ def tries_of(page, program):
         os.mkdir(path)
         shutil.copy(program, os.path.join(path, "pocket"))
         os.chmod(os.path.join(path, "pocket"), 0o755)
+        first = (FIRST.search((ROOT / page).read_text()) or [None, ":"])[1]
         for command, wanted in commands(ROOT / page):
-            found = said(command, folder, path)
+            found = said(command, folder, path, first)
             yield command, found, None if found == wanted else f"{page}: $ {command}\n  it prints {found}\n  and not   {wanted}"
 
 

@@ -76,33 +76,137 @@ class Pass:
 
 
 def taken(data, **words):
-    """What comes out of frames, and what is told."""
-    told = []
-    choice = frames.choice_of([f"{key}={int(value)}" for key, value in words.items()])
-    return b"".join(frames.packets(io.BytesIO(data), choice, told.append)), told
+    """What comes out of frames, what is told, the sums, and the status; or the refusal."""
+    told, found = [], []
+    numbers = dict.fromkeys(frames.KEYS) | {key: None if value is None else int(value) for key, value in words.items()}
+    run = frames.Run(numbers, told.append)
+    try:
+        found = list(run.packets(io.BytesIO(data)))
+        return b"".join(found), told, run.sums, run.end()
+    except ToolError as refusal:
+        return b"".join(found), [*told, str(refusal)], run.sums, refusal.status
 
 
-def passes(draw):
-    for turn in range(ROUNDS):
+class Damage:
+    """A pass with damage of every kind: the frames that come, how many are bad, of strangers and of other channels, and which packets are lost."""
+
+    def __init__(self, draw, one):
+        self.draw, self.one, self.came, self.numbers = draw, one, [], [250]
+        self.bad = self.strangers = self.others = self.repeated = 0
+        # (frames that give nothing, and the frames of which the packets that begin in the one before are cut)
+        self.lost, self.cut = set(), set()
+        rate = draw.choice([0, 0.05, 0.2, 0.6])
+        for number, frame in enumerate(one.frames):
+            fate = draw.choice([self.gone, self.again, self.other, self.version, self.pointer, self.unpacked, self.craft, self.channel, self.count, self.data, self.stranger])
+            if number and draw.random() < rate:
+                fate(number, frame)
+            else:
+                self.good(number, frame)
+
+    def good(self, number, frame):
+        self.came.append(frame)
+        self.numbers.append(number + 250)
+
+    def gone(self, number, frame):
+        self.lost.add(number)
+
+    def again(self, number, frame):
+        self.good(number, frame)
+        times = self.draw.randrange(1, 4)
+        self.came += [frame] * times
+        self.repeated += times
+
+    def other(self, number, frame):
+        """The frame comes again with another byte: that is no frame, and cuts the packet that goes on, unless the error control tells it."""
+        self.good(number, frame)
+        self.came.append(turned(frame, len(frame) - (3 if self.one.control else 1), 1))
+        self.bad += 1
+        if not self.one.control:
+            self.cut.add(number + 1)
+
+    def missing(self, number, frame, at, bits):
+        """The frame comes with bits turned, so that it counts as missing."""
+        self.came.append(turned(frame, at, bits))
+        self.lost.add(number)
+        self.bad += 1
+
+    def version(self, number, frame):
+        self.missing(number, frame, 0, self.draw.choice([0x40, 0x80, 0xC0]))
+
+    def pointer(self, number, frame):
+        """The pointer shows past the data."""
+        wanted = self.draw.randrange(self.one.room, 0x7FE)
+        frame = turned(frame, 4, (frame[4] ^ wanted >> 8) & 7)
+        self.missing(number, frame, 5, frame[5] ^ wanted & 0xFF)
+
+    def unpacked(self, number, frame):
+        self.missing(number, frame, 4, 0x40)
+
+    def craft(self, number, frame):
+        self.missing(number, frame, 1, self.draw.choice([0x10, 0xF0]))
+        if not self.one.control:
+            self.bad, self.strangers = self.bad - 1, self.strangers + 1
+
+    def channel(self, number, frame):
+        self.missing(number, frame, 1, 2 * self.draw.randrange(1, 8))
+        if not self.one.control:
+            self.bad, self.others = self.bad - 1, self.others + 1
+
+    def count(self, number, frame):
+        """Another number: what goes on from the frame before or into the one after is cut."""
+        if self.one.control or number < 2:
+            self.missing(number, frame, 3, 0x51) if self.one.control else self.good(number, frame)
+            return
+        # (other bits than those of its neighbours, with which it would go on)
+        bits = (0x50, 0xA0)[number % 2]
+        self.came.append(turned(frame, 3, bits))
+        self.numbers.append(frame[3] ^ bits)
+        self.cut |= {number, number + 1}
+
+    def data(self, number, frame):
+        """Turned data are told by the error control alone."""
+        if self.one.control:
+            self.missing(number, frame, self.draw.randrange(6, len(frame)), 1 << self.draw.randrange(8))
+        else:
+            self.good(number, frame)
+
+    def stranger(self, number, frame):
+        """A frame of another channel or spacecraft in between."""
+        craft, channel = self.draw.choice([(0x155, self.one.channel ^ 1), (0x2AA, self.one.channel), (0x154, self.one.channel ^ 3)])
+        rest = bytes(self.one.length - 6 - 2 * self.one.control)
+        self.came.append(frame_of(channel, self.draw.randrange(256), 0x7FE, rest, self.one.control, craft=craft))
+        self.strangers, self.others = self.strangers + (craft != 0x155), self.others + (craft == 0x155)
+        self.good(number, frame)
+
+    def wanted(self):
+        """The packets that are neither lost nor cut."""
+        return b"".join(packet for packet, lies in zip(self.one.packets, self.one.lies) if packet[:2] != b"\x07\xff" and not self.lost & set(lies) and not self.cut & set(lies[1:]))
+
+
+def turned(frame, at, bits):
+    return frame[:at] + bytes([frame[at] ^ bits]) + frame[at + 1:]
+
+
+def passes(draw, rounds):
+    """Random passes: whole, with noise between marks, and with damage of every kind."""
+    poor = 0
+    for turn in range(rounds):
         one = Pass(draw)
-        words = dict(length=one.length, sync=one.sync, control=one.control)
+        words = dict(length=one.length, sync=one.sync, control=one.control, vcid=draw.choice([None, one.channel]), scid=draw.choice([None, 0x155]))
         mark = frames.MARK if one.sync else b""
-        whole = b"".join(mark + frame for frame in one.frames)
-        judge(f"pass {turn}", taken(whole, **words) == (one.store(set()), []))
-        lost = {number for number in range(1, len(one.frames)) if draw.random() < 0.15}
-        found, told = taken(b"".join(mark + frame for number, frame in enumerate(one.frames) if number not in lost), **words)
-        rows = sum(number not in lost and number - 1 in lost for number in range(1, len(one.frames)))
-        judge(f"pass {turn} with {len(lost)} frames missing", found == one.store(lost) and len([line for line in told if "missing before" in line]) == rows)
-        if one.control:
-            hurt = {number for number in range(1, len(one.frames)) if draw.random() < 0.15}
-            found, told = taken(b"".join(mark + (frame[:9] + bytes([frame[9] ^ 4]) + frame[10:] if number in hurt else frame) for number, frame in enumerate(one.frames)), **words)
-            judge(f"pass {turn} with {len(hurt)} frames damaged", found == one.store(hurt) and sum("damaged" in line for line in told) == len(hurt))
+        found, told, sums, status = taken(b"".join(mark + frame for frame in one.frames), **words)
+        judge(f"pass {turn}: {told}", (found, status, sums["read"], sums["taken"]) == (one.store(set()), 0, len(one.frames), len(one.frames)) and len(told) == 2)
         if one.sync:
-            found, told = taken(b"noise" + whole + mark[:3], **words)
-            judge(f"pass {turn} with noise", found == one.store(set()) and told[0] == "5 bytes at byte 0 are no frame: no mark begins there" and len(told) == 2)
-        other = [frame_of((one.channel + 1) % 8, number, 0x7FE, bytes(one.room + (one.length - 6 - one.room - 2 * one.control)), one.control) for number in range(3)]
-        mixed = b"".join(mark + frame for frame in other[:1] + one.frames[:2] + other[1:] + one.frames[2:])
-        judge(f"pass {turn} among another channel", taken(mixed, vcid=one.channel, **words) == (one.store(set()), []))
+            found, told, _, status = taken(b"noise" * 999 + b"".join(mark + frame for frame in one.frames) + mark[:3], **words)
+            judge(f"pass {turn} with noise: {told}", found == one.store(set()) and (status == 4 or told[0] == "4995 bytes at byte 0 are no frame: no mark begins there" and len(told) == 4))
+        hurt = Damage(draw, one)
+        found, told, sums, status = taken(b"".join(mark + frame for frame in hurt.came), **words)
+        missing = sum((after - before - 1) % 256 for before, after in zip(hurt.numbers[1:], hurt.numbers[2:]))
+        is_poor = 2 * (hurt.bad + (hurt.strangers if words["scid"] is None else 0) + (hurt.others if words["vcid"] is None else 0)) > len(hurt.came)
+        poor += is_poor
+        judge(f"pass {turn} with damage: {told} {sums}", found == hurt.wanted() and status in ((4,) if is_poor else (0, 3) if words["vcid"] is None else (0,)))
+        judge(f"pass {turn}, sums: {sums}", (sums["read"], sums["bad"], sums["repeated"], sums["missing"]) == (len(hurt.came), hurt.bad, hurt.repeated, missing))
+    judge(f"{poor} of {rounds} were poor", 0 < poor < rounds // 2)
 
 
 def refusal_of(call):
@@ -114,31 +218,57 @@ def refusal_of(call):
 
 
 def rows():
-    """Worked frames by hand, and each refusal."""
+    """Worked frames by hand."""
     packet = bytes.fromhex("0064C000000285B8D6")
     one = frame_of(2, 7, 0, packet, False)
-    judge("a worked frame", one.hex() == "15541507" + "1800" + packet.hex() and taken(one, length=15) == (packet, []))
-    halves = [frame_of(2, 7, 0, packet[:5], False), frame_of(2, 8, 0x7FF, packet[5:], False) + b"", frame_of(2, 9, 0x7FE, bytes(5), False)]
-    halves[1] = frame_of(2, 8, 4, packet[5:] + b"\x07", False)
-    judge("a packet that goes on", taken(b"".join(halves[:2]), length=11)[0] == packet)
+    sums = ["1 frames were read, 0 of them bad, 0 of other spacecraft, 1 of virtual channel 2 of spacecraft 341",
+            "virtual channel 2: 0 frames missing, 0 repeated, 0 idle; 1 packets, and 0 that were cut"]
+    judge("a worked frame", one.hex() == "15541507" + "1800" + packet.hex() and (*taken(one, length=15)[:2], taken(one, length=15)[3]) == (packet, sums, 0))
+    halves = [frame_of(2, 7, 0, packet[:5], False), frame_of(2, 8, 4, packet[5:] + b"\x07", False)]
+    judge("a packet that goes on", taken(b"".join(halves), length=11)[0] == packet)
     judge("a packet that another length cuts", "doesn't end the one before" in taken(halves[0] + frame_of(2, 8, 3, packet[5:] + b"\x07", False), length=11)[1][0])
     judge("idle data", "idle data alone" in taken(halves[0] + frame_of(2, 8, 0x7FE, bytes(5), False), length=11)[1][0])
-    judge("a cut frame", taken(one + one[:3], length=15)[1] == ["the frame at byte 15 is cut: it is left out"])
-    judge("a packet that the end cuts", taken(halves[0], length=11)[1] == ["the frames end, which cuts a packet of which 5 bytes came: it is left out"])
-    refused = [
-        (lambda: taken(b"\x55" + one[1:], length=15), "the frame at byte 0 is of another version"),
-        (lambda: taken(one[:4] + b"\x58" + one[5:], length=15), "the frame at byte 0 carries no packets, by its synchronization flag"),
-        (lambda: taken(one[:4] + b"\x18\x09" + one[6:], length=15), "the frame at byte 0 points past its data for its first packet: length= may not be its length"),
-        (lambda: taken(frame_of(2, 7, 0, b"", False, operational=b"clcw"), length=10), "the frame at byte 0 has no room for data: length= may not be its length"),
-        (lambda: taken(one + frame_of(3, 7, 0, packet, False), length=15), "the frame at byte 15 is of virtual channel 3, and those before it of 2: say vcid="),
-        (lambda: frames.choice_of([]), "length= is missing"),
-        (lambda: frames.choice_of(["length=7"]), "length=7: length= takes a number from 8 to 2048"),
-        (lambda: frames.choice_of(["length=8", "length=9"]), "length= is given twice"),
-        (lambda: frames.choice_of(["size=8"]), "size=8: the words are length=, vcid=, sync=, control="),
-    ]
-    for call, wanted in refused:
-        found = refusal_of(call)
-        judge(f"{wanted}: {found}", found == wanted)
+    judge("a cut frame", taken(one + one[:3], length=15)[1][0] == "the frame at byte 15 is cut: it is left out")
+    judge("a packet that the end cuts", taken(halves[0], length=11)[1][0] == "the frames end, which cuts a packet of which 5 bytes came: it is left out")
+    twice = taken(one + one + frame_of(2, 8, 0, packet, False), length=15)
+    judge("a frame that comes twice", twice[0] == packet * 2 and twice[1][1].startswith("virtual channel 2: 0 frames missing, 1 repeated") and twice[3] == 0)
+    other = taken(halves[0] + turned(halves[0], 10, 1) + halves[1] + frame_of(2, 9, 0, packet[:5], False), length=11)
+    judge("a frame with the number of the one before", other[0] == b"" and other[1][0] ==
+          "the frame at byte 11 has the number of the one before and other bytes: it counts as missing, which cuts a packet of which 5 bytes came: it is left out")
+    checked = [frame_of(2, 7, 0, packet, True), frame_of(2, 7, 0, packet[:-1] + b"\xd7", True)]
+    judge("the same, which its error control says is whole", taken(b"".join(checked), length=17, control=1)[1][0] == "255 frames are missing before the frame at byte 17")
+    for name, frame, wanted in [("version", b"\x55" + one[1:], "is of another version"), ("flag", one[:4] + b"\x58" + one[5:], "carries no packets, by its synchronization flag"),
+                                ("pointer", one[:4] + b"\x18\x09" + one[6:], "points past its data for its first packet: length= may not be its length")]:
+        found = taken(one + frame + frame_of(2, 9, 0, packet, False), length=15)
+        judge(f"a bad {name}: {found}", found[0] == packet * 2 and found[1][:2] == [f"the frame at byte 15 {wanted}: it counts as missing", "1 frames are missing before the frame at byte 30"])
+    empty = frame_of(2, 8, 0, b"", False, operational=b"clcw" + bytes(5))
+    judge("no room", "has no room for data" in taken(one + empty[:6] + b"\xff" * 9 + one, length=15)[1][0] or taken(frame_of(2, 7, 0, b"", False, operational=b"clcw"), length=10)[3] == 4)
+    mixed = one + frame_of(3, 200, 0, packet, False) + frame_of(2, 8, 0, packet, False)
+    judge("another channel", taken(mixed, length=15)[0] == packet * 2 and taken(mixed, length=15)[1][2] == "another virtual channel has packets, which are not taken: say vcid=")
+    judge("another channel's status", (taken(mixed, length=15)[3], taken(mixed, length=15, vcid=2)[3], taken(mixed, length=15, vcid=3)[0]) == (3, 0, packet))
+    crafts = one + frame_of(2, 99, 0, packet, False, craft=7) + frame_of(2, 8, 0, packet, False)
+    judge("another spacecraft", taken(crafts, length=15)[0] == packet * 2 and "1 of other spacecraft" in taken(crafts, length=15)[1][0] and taken(crafts, length=15, scid=7)[0] == packet)
+
+
+def wrong_lengths(draw):
+    """A wrong length, with or without marks and error control, is told in one line, with a status of its own; so is no frame at all."""
+    packets = b"".join(packet_of(draw, number) for number in range(400))
+    for control in (0, 1):
+        for sync in (0, 1):
+            made = [frame_of(0, number, 0x7FF if number else 0, packets[at:at + 100], control) for number, at in enumerate(range(0, len(packets) - 100, 100))]
+            data = b"".join(bytes.fromhex("1ACFFC1D") * sync + frame for frame in made)
+            for length in (len(made[0]) - 1, len(made[0]) + 1, 2 * len(made[0]) + 3, 50):
+                found = taken(data, length=length, control=control, sync=sync)
+                judge(f"length {length} and not {len(made[0])}, {control} {sync}: {found[1][:2]}", found[3] == 4 and len(found[1]) == 1)
+    frames.LINES = 500
+    judge("no end of bad frames", taken(bytes(15 * 3) + b"\xff" * 15 * 1000, length=15)[3] == 4)
+    frames.LINES = 100_000
+    judge("nothing", taken(b"", length=15)[1:2] == (["0 frames were read, 0 of them bad, 0 of other spacecraft, and 0 were taken: length=, sync=, control=, scid= or vcid= may be wrong"],))
+    judge("no frame of the channel", taken(frame_of(2, 7, 0, bytes(9), False), length=15, vcid=3)[3] == 4)
+    refused = [([], "length= is missing"), (["length=7"], "length=7: length= takes a number from 8 to 2048"), (["length=8", "length=9"], "length= is given twice"),
+               (["size=8"], "size=8: the words are length=, vcid=, scid=, sync=, control=, out=, report="), (["length=8", "scid=1024"], "scid=1024: scid= takes a number from 0 to 1023")]
+    for words, wanted in refused:
+        judge(f"{words}: {refusal_of(lambda words=words: frames.run(words))}", refusal_of(lambda words=words: frames.run(words)) == wanted)
 
 
 def definitions(folder):
@@ -155,10 +285,11 @@ def definitions(folder):
         data = frame[start:len(frame) - 4 * header.ocf_flag]
         is_right = header.transfer_frame_version_number == 0 and not header.synch_flag
         is_right = is_right and (header.first_header_pointer >= 0x7FE or header.first_header_pointer < len(data))
-        wanted = frames.Frame(0, header.virtual_channel_id, header.virtual_channel_frame_count, header.first_header_pointer, data)
+        wanted = frames.Frame(0, header.virtual_channel_frame_count, header.first_header_pointer, data, frame)
+        run = frames.Run(dict.fromkeys(frames.KEYS), print)
         try:
-            agreed += (frames.frame_of(0, frame, False) == wanted) and is_right
-        except ToolError:
+            agreed += run.frame(0, frame) == wanted and (run.scid, run.vcid) == (header.spacecraft_id, header.virtual_channel_id) and is_right
+        except frames.Bad:
             refused += not is_right
     judge(f"{agreed} frames agree and {refused} are refused by both", agreed + refused == 10000 and agreed > 3000 and refused > 3000)
 
@@ -168,7 +299,8 @@ def main():
         definitions(sys.argv[1])
     else:
         rows()
-        passes(random.Random(20261130))
+        wrong_lengths(random.Random(20261201))
+        passes(random.Random(20261130), ROUNDS)
     failed = results.count(False)
     print(f"{len(results) - failed} passed, {failed} failed")
     sys.exit(1 if failed else 0)

@@ -7,6 +7,7 @@ import datetime
 import io
 import os
 import random
+import re
 import sys
 import tempfile
 
@@ -37,17 +38,19 @@ class Files:
             file.write(text.encode() if isinstance(text, str) else text)
 
     def run(self, tool, *words):
-        """What a tool writes, or the text of its refusal."""
+        """What a tool writes, or the text of its refusal. What it tells is kept."""
         named = [f"{key}={os.path.join(self.folder, value)}" if key in ("table", "report", "fields", "in") else f"{key}={value}"
                  for key, _, value in (word.partition("=") for word in words)]
-        out = io.TextIOWrapper(io.BytesIO(), newline="\n")
+        told, out = io.StringIO(), os.path.join(self.folder, "out")
         try:
-            with contextlib.redirect_stdout(out):
-                tool.run(named)
-            out.flush()
-            return out.buffer.getvalue()
+            with contextlib.redirect_stderr(told):
+                tool.run([*named, "out=" + out])
+            with open(out, "rb") as file:
+                return file.read()
         except ToolError as error:
             return str(error).replace(self.folder + os.sep, "")
+        finally:
+            self.told = told.getvalue().replace(self.folder + os.sep, "")
 
 
 def fields_of(draw, bits):
@@ -125,8 +128,22 @@ def rounds(draw, files):
         cells = [line.split(",") for line in told]
         got = sorted(((c[0], c[1], int(c[3]), int(c[5]) if c[5] else None, int(c[7]), int(c[8]), int(c[9])) for c in cells), key=str)
         judge(f"turn {turn}, events", got == events(names, {name: (low, high) for name, low, high in limits}, list(zip(places, values))))
-        points = files.run(numbers, "table=table", "report=report", "fields=fields", f"bits={bits}", "as=influx", "measurement=hk of a,b").decode().splitlines()
-        judge(f"turn {turn}, influx", len(points) == count and all(point.startswith("hk\\ of\\ a\\,b ") for point in points))
+        points = files.run(numbers, "table=table", "report=report", "fields=fields", f"bits={bits}", "as=influx", "measurement=hk of a,b", "tag=at:Kourou 1", "start=1970-01-01T00:00:00Z", "step=0.001")
+        if "time" in names:
+            judge(f"turn {turn}, a field time", points == "the field time has the name of Influx's own times")
+            continue
+        parsed = [point_of(line) for line in points.decode().splitlines()]
+        wanted = [("hk of a,b", {"at": "Kourou 1"}, dict(zip([next(own for own in ("number", "number_", "number__") if own not in names), *names], [place, *own])), place * 10**6) for place, own in zip(places, values)]
+        judge(f"turn {turn}, influx", parsed == wanted)
+
+
+def point_of(line):
+    """A point as Influx reads its line: measurement, tags, fields and time. A backslash before a comma, a space or an equals sign is an escape."""
+    series, fields, time = re.split(r"(?<!\\) ", line)
+    plain = lambda text: re.sub(r"\\([,= ])", r"\1", text)
+    name, *tags = re.split(r"(?<!\\),", series)
+    pairs = [re.split(r"(?<!\\)=", tag) for tag in tags]
+    return plain(name), {plain(key): plain(value) for key, value in pairs}, {key: int(value.rstrip("iu")) for key, value in (one.split("=") for one in fields.split(","))}, int(time)
 
 
 def rows(files):
@@ -134,29 +151,53 @@ def rows(files):
     files.put("fields", "field,0,8,u,t\nfield,8,8,s,temp\nlimit,temp,-10,40\n")
     files.put("table", "t,t,temp\n0,1,-16\n1,2,40\n2,3,-12\n3,4,41\n")
     files.put("report", "first,last,cause,value\n0,0,lost,0\n3,4,gap,2\nend,4,4,0\nlate,0\n")
+    files.put("restart", "first,last,cause,value\n0,0,lost,0\n3,18,lost,0\n20,35,lost,0\nend,4,4,0\n")
+    files.put("streams", "apid,first,last,cause,value\n100,0,0,lost,0\n100,3,4,gap,2\n101,0,9,lost,0\n100,end,4,4,0\n101,end,0,0,0\nshape,0\n")
     words = ["table=table", "report=report"]
     fields = ["fields=fields", "bits=16"]
     judge("csv", files.run(numbers, *words) == b"number,t,temp\n1,1,-16\n2,2,40\n5,3,-12\n6,4,41\n")
     judge("a time from a field", files.run(numbers, *words, "time=t", "epoch=2000-01-01T00:00:00Z", "unit=0.001").splitlines()[1] == b"1,2000-01-01T00:00:00.001Z,1,-16")
     judge("influx", files.run(numbers, *words, *fields, "as=influx", "start=1970-01-01T00:00:01Z", "step=1").splitlines()[0] == b"pocket number=1i,t=1i,temp=-16i 2000000000")
+    influx = ["as=influx", "start=1970-01-01T00:00:01Z", "step=1"]
+    judge("the APID is a tag", files.run(numbers, "table=table", "report=streams", "apid=100", *fields, *influx, "tag=spacecraft:X").splitlines()[0] == b"pocket,spacecraft=X,apid=100 number=1i,t=1i,temp=-16i 2000000000")
+    judge("another alphabet", files.run(numbers, *words, *fields, *influx, "measurement=\u00e9t\u00e9").splitlines()[0] == "\u00e9t\u00e9 number=1i,t=1i,temp=-16i 2000000000".encode())
+    judge("points of one time", files.run(numbers, *words, *fields, *influx[:2], "step=0") == "the packets 1 and 2 have one time, 1970-01-01T00:00:01Z: Influx would keep one of them alone")
+    judge("a restart", files.run(numbers, "table=table", "report=restart", *influx[1:]) == b"number,time,t,temp\n1,1970-01-01T00:00:02Z,1,-16\n2,1970-01-01T00:00:03Z,2,40\n19,1970-01-01T00:00:20Z,3,-12\n36,1970-01-01T00:00:37Z,4,41\n" and files.told ==
+          "pocket numbers: restart: the packets 3 to 18 are lost, the first of 2 such losses: if the board restarted there, times by start= and step= are wrong from 19 on; time= takes them from a field\n")
+    files.run(numbers, "table=table", "report=restart")
+    judge("a restart without times", files.told == "")
+    files.put("unlimited", "field,0,8,u,t\nfield,8,8,s,temp\n")
+    judge("no limits", files.run(numbers, *words, "fields=unlimited", "bits=16", "as=events").count(b"\n") == 1 and files.told == "pocket numbers: unlimited has no limit, so there are no events\n")
     judge("events", files.run(numbers, *words, *fields, "as=events").splitlines()[1:] == [b"temp,low,-10,1,,2,,1,-16,1,", b"temp,low,-10,5,,6,,1,-12,5,", b"temp,high,40,6,,,,1,41,6,"])
-    files.put("streams", "apid,first,last,cause,value\n100,0,0,lost,0\n100,3,4,gap,2\n101,0,9,lost,0\n100,end,4,4,0\n101,end,0,0,0\nshape,0\n")
     judge("of several streams", files.run(numbers, "table=table", "report=streams", "apid=100") == files.run(numbers, *words))
     judge("a field named t", files.run(pack, *fields, "in=table") == bytes.fromhex("01F0 0228 03F4 0429"))
     for name, text in [("short", "first,last,cause,value\nend,3,3,0\n"), ("open", "first,last,cause,value\n0,0,lost,0\n"), ("rows", "first,last,cause,value\n5,3,lost,0\n"),
                        ("columns", "temp,u\n1,2\n"), ("twice", "temp,temp\n1,2\n"), ("great", "temp\n128\n"), ("less", "temp,t\n1\n"), ("empty", ""), ("over", "t,temp\n1,5\n"),
-                       ("many", "field,0,8,u,t\nfield,0,9,u,temp\n"), ("limits", "field,0,8,u,t\nlimit,u,1,2\n")]:
+                       ("many", "field,0,8,u,t\nfield,0,9,u,temp\n"), ("limits", "field,0,8,u,t\nlimit,u,1,2\n"), ("empty_row", "apid,first,last,cause,value\n101,end,0,0,0\n100\n"), ("long", "field," * 9 + "x" * 140000), ("more", "t,t,temp\n" + "".join(f"{place},1,1\n" for place in range(5)))]:
         files.put(name, text)
     refused = [
         ((numbers, "table=table", "report=short"), "table has 4 packets, and by short 3 were restored"),
         ((numbers, "table=table", "report=open"), "open has no row end: the store was not read to its end"),
         ((numbers, "table=table", "report=rows"), "rows: line 2 is no row of a report: 5,3,lost,0"),
         ((numbers, "table=table", "report=streams"), "streams: line 1 is not first,last,cause,value: say apid=N of a report of several streams"),
+        ((numbers, "table=table", "report=empty_row", "apid=100"), "empty_row: line 3 is no row of a report: "),
         ((numbers, "table=report", "report=report"), "report: line 1 is not that of a table: t and the names of fields"),
         ((numbers, *words, "as=xml"), "as=xml: as= takes csv, influx or events"),
         ((numbers, *words, "as=events"), "as=events takes fields= and bits=, those of the table"),
         ((numbers, *words, "start=today", "step=1"), "start=today: start= takes a time in UTC, as 2026-11-30T06:00:00Z"),
-        ((numbers, *words, "step=1"), "start= goes with step=, and epoch= and unit= with time="),
+        ((numbers, *words, "step=1"), "step= is given without start="),
+        ((numbers, "table=gone", "report=gone", "time=t", "epoch=2000-01-01T00:00:00Z"), "unit= is missing beside time="),
+        ((numbers, "table=gone", "report=gone", "unit=1"), "unit= is given without time="),
+        ((numbers, "table=gone", "report=gone", "time=t", "epoch=2000-01-01T00:00:00Z", "unit=1", "start=2000-01-01T00:00:00Z", "step=1"), "time= and start= are two ways to tell times: say one"),
+        ((numbers, "table=gone", "report=gone", *fields, "as=influx"), "as=influx takes start= and step=, or time=: Influx keeps one point of one time"),
+        *(((numbers, "table=gone", "report=gone", *fields, *influx, f"measurement={name}"),
+           f"measurement={name!r}: Influx takes no empty name, none with a backslash or a control character, and none that begins with # or _") for name in ("", "a\\b", "a\nb", "#a", "_a")),
+        ((numbers, "table=gone", "report=gone", *fields, *influx, "measurement=\udce9"), "measurement= takes UTF-8"),
+        *(((numbers, *words, *fields, *influx, *tags), f"tag={tags[-1][4:]}: tag= takes KEY:VALUE, each KEY once, not time or number, and no field's name") for tags in (["tag=a"], ["tag=time:1"], ["tag=a:1", "tag=a:1"], ["tag=temp:1"])),
+        ((numbers, *words, *fields, *influx, "tag=a:"), "tag='': Influx takes no empty name, none with a backslash or a control character, and none that begins with # or _"),
+        ((numbers, *words, "tag=a:1"), "tag= and measurement= go with as=influx"),
+        ((pack, "fields=long", "bits=16", "in=over"), "long: field larger than field limit (131072)"),
+        ((numbers, "table=more", "report=streams", "apid=100"), "more has 5 packets, and by streams 4 of APID 100 were restored: the table has to be that of this APID's packets alone, which restore apid=100 gives"),
         ((numbers, *words, "time=x", "epoch=2000-01-01T00:00:00Z", "unit=1"), "time=x: the table has no such field"),
         ((numbers, *words, "unti=1"), "unti=1: did you mean unit=?"),
         ((numbers, "table=table"), "report= is missing"),

@@ -72,8 +72,11 @@ def fields_of(name: str, bits: int) -> Fields:
     except UnicodeDecodeError:
         raise ToolError(f"{name} is no text of ASCII letters") from None
     found = Fields()
-    for place, row in enumerate((row for row in csv.reader(io.StringIO(text)) if row), 1):
-        wrong = found.take(row, bits)
-        if wrong:
-            raise ToolError(f"{name}: row {place}, {','.join(row)}: {wrong}")
+    try:
+        for place, row in enumerate((row for row in csv.reader(io.StringIO(text)) if row), 1):
+            wrong = found.take(row, bits)
+            if wrong:
+                raise ToolError(f"{name}: row {place}, {','.join(row)}: {wrong}")
+    except csv.Error as error:
+        raise ToolError(f"{name}: {error}") from error
     return found

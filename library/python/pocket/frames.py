@@ -1,61 +1,71 @@
-"""python3 -m pocket frames length=N [vcid=N] [sync=1] [control=1]: takes the Space Packets of one virtual channel out of TM Transfer Frames.
-
-    python3 -m pocket frames length=1115 vcid=0 sync=1 control=1 < pass.frames > pass.store
-
-Standard input is frames (CCSDS 132.0-B) of `length` bytes each, 8 to 2048, one after the other: with `sync=1` each after the mark
-1A CF FC 1D, with `control=1` each with its frame error control, two bytes at its end that are part of the length. `vcid` is the
-virtual channel, 0 to 7; it may be left out if there is one alone. Frames that are coded, as by Reed and Solomon, or randomized are for
-other tools, such as gr-satellites, which take that off first.
-
-Standard output is a store: the Space Packets in order, over frames too, without the idle ones. What is missing is told on standard error
-with the byte at which the next frame begins, and with the packet that it cuts: a frame that is damaged by its error control, or missing
-by its count, drops the packet that it cuts and no other. Frames are counted by 8 bits, so that 256 missing ones in a row are seen only if
-they cut a packet. What this command decides is tested, not proved.
-"""
+"""The tool `frames`: what it does is told by HELP."""
 
 from __future__ import annotations
 
-import binascii
-import sys
-from dataclasses import dataclass, field
-from typing import BinaryIO, Callable, Iterator, List, NamedTuple, Optional, Tuple
+HELP = """python3 -m pocket frames length=N [vcid=N] [scid=N] [sync=1] [control=1]: takes the Space Packets of one virtual channel out of TM
+Transfer Frames.
 
-from .tool import IDLE, ToolError, given, number_of, read
+    python3 -m pocket frames length=1115 vcid=0 sync=1 control=1 out=pass.store < pass.frames
+
+Standard input is frames (CCSDS 132.0-B) of `length` bytes each, 8 to 2048, one after the other: with `sync=1` each after the mark
+1A CF FC 1D, with `control=1` each with its frame error control, two bytes at its end that are part of the length. `vcid` is the
+virtual channel, 0 to 7, `scid` the spacecraft, 0 to 1023: those of the first frame if they aren't said. Frames of others are passed over
+and counted. Frames that are coded, as by Reed and Solomon, or randomized are for other tools, such as gr-satellites, which take that off
+first.
+
+The output is a store: the Space Packets in order, over frames too, without the idle ones. On standard error, or in the file report=, is
+told what is missing, with the byte at which the next frame begins and the packet that it cuts, and at the end how many frames and packets
+there were. A frame counts as missing if its error control, its version or its pointer is wrong, and without error control also if it has
+the number of the one before and other bytes; it drops the packet that it cuts and no other. A frame that comes again, equal in all bytes,
+is passed over. Frames are counted by 8 bits, so that 256 missing ones in a row are seen only if they cut a packet.
+
+The status is 4, in one line, if no frame of the channel is good, or more than half of all frames are bad, as with a wrong length; of
+another channel or spacecraft are bad if none was said. It is 3 if no `vcid` was said and another channel has packets. What this command
+decides is tested, not proved.
+"""
+
+import binascii
+from dataclasses import dataclass
+from typing import BinaryIO, Counter, Dict, Iterator, List, NamedTuple, Optional, Tuple
+
+from .tool import IDLE, LOOK, Tell, ToolError, given, number_of, opened, outputs, read
 
 MARK = bytes.fromhex("1ACFFC1D")
 # What the pointer to the first header says if no packet begins in the frame, and if the frame has idle data alone.
 NO_PACKET, IDLE_DATA = 0x7FF, 0x7FE
-KEYS = {"length": (8, 2048), "vcid": (0, 7), "sync": (0, 1), "control": (0, 1)}
-
-Tell = Callable[[str], None]
+KEYS = {"length": (8, 2048), "vcid": (0, 7), "scid": (0, 1023), "sync": (0, 1), "control": (0, 1)}
+# The status if there is no good frame, or too few, how many are read before that is judged, and how many lines wait for it.
+POOR, FEW, LINES = 4, 100, 100_000
 
 
 class Frame(NamedTuple):
-    """A TM Transfer Frame: the byte at which it begins, its virtual channel and its number there, from 0 to 255, the place of the first packet that begins
-    in its data, or NO_PACKET or IDLE_DATA, and its data."""
+    """A TM Transfer Frame: the byte at which it begins, its number in its virtual channel, from 0 to 255, the place of the first packet that
+    begins in its data, or NO_PACKET or IDLE_DATA, its data, and all its bytes."""
 
     place: int
-    channel: int
     number: int
     first: int
     data: bytes
+    whole: bytes
+
+
+class Bad(Exception):
+    """What is wrong with a frame, which counts as missing."""
 
 
 def frame_of(place: int, whole: bytes, has_control: bool) -> Frame:
-    """The parts of a frame, whose error control was looked at."""
-    identifier, _, count, status = (int.from_bytes(whole[at:to], "big") for at, to in ((0, 2), (2, 3), (3, 4), (4, 6)))
-    if identifier >> 14:
-        raise ToolError(f"the frame at byte {place} is of another version")
+    """The parts of a frame, whose error control and version were looked at."""
+    status = int.from_bytes(whole[4:6], "big")
     if status >> 14 & 1:
-        raise ToolError(f"the frame at byte {place} carries no packets, by its synchronization flag")
+        raise Bad("carries no packets, by its synchronization flag")
     start = 6 + ((whole[6] & 0x3F) + 1 if status >> 15 else 0)
-    end = len(whole) - 4 * (identifier & 1) - 2 * has_control
+    end = len(whole) - 4 * (whole[1] & 1) - 2 * has_control
     if start >= end:
-        raise ToolError(f"the frame at byte {place} has no room for data: length= may not be its length")
+        raise Bad("has no room for data: length= may not be its length")
     first = status & 0x7FF
     if first < IDLE_DATA and first >= end - start:
-        raise ToolError(f"the frame at byte {place} points past its data for its first packet: length= may not be its length")
-    return Frame(place, identifier >> 1 & 7, count, first, whole[start:end])
+        raise Bad("points past its data for its first packet: length= may not be its length")
+    return Frame(place, whole[3], first, whole[start:end], whole)
 
 
 def is_whole(frame: bytes) -> bool:
@@ -63,7 +73,7 @@ def is_whole(frame: bytes) -> bool:
     return binascii.crc_hqx(frame, 0xFFFF) == 0
 
 
-def plain(source: BinaryIO, length: int, tell: Tell) -> Iterator[Tuple[int, bytes]]:
+def plain(source: BinaryIO, length: int, tell: Tell, _: Counter[str]) -> Iterator[Tuple[int, bytes]]:
     """Frames without marks, each with the byte at which it begins."""
     at = 0
     while whole := read(source, length):
@@ -74,24 +84,27 @@ def plain(source: BinaryIO, length: int, tell: Tell) -> Iterator[Tuple[int, byte
         at += length
 
 
-def marked(source: BinaryIO, length: int, tell: Tell) -> Iterator[Tuple[int, bytes]]:
+def marked(source: BinaryIO, length: int, tell: Tell, sums: Counter[str]) -> Iterator[Tuple[int, bytes]]:
     """Frames after marks, each with the byte at which its mark begins. Bytes before a mark are left out."""
-    at, ahead = 0, b""
+    at, stray, ahead, size = 0, 0, b"", length + len(MARK)
     while True:
-        ahead += read(source, length + len(MARK) - len(ahead))
-        found = ahead.find(MARK)
-        skip = found if found >= 0 else max(len(ahead) - len(MARK) + 1, 0)
-        if skip:
-            tell(f"{skip} bytes at byte {at} are no frame: no mark begins there")
-        at, ahead = at + skip, ahead[skip:]
-        ahead += read(source, length + len(MARK) - len(ahead))
-        if len(ahead) < length + len(MARK):
-            if ahead:
-                tell(f"the frame at byte {at} is cut: it is left out")
+        ahead += read(source, size - len(ahead))
+        is_end, found = len(ahead) < size, ahead.find(MARK)
+        skip = found if found >= 0 else len(ahead) if is_end else len(ahead) - len(MARK) + 1
+        at, stray, ahead = at + skip, stray + skip, ahead[skip:]
+        if stray and (found >= 0 or is_end):
+            sums["stray"] += 1
+            tell(f"{stray} bytes at byte {at - stray} are no frame: no mark begins there")
+            stray = 0
+        if found >= 0:
+            ahead += read(source, size - len(ahead))
+            if len(ahead) == size:
+                yield at, ahead[len(MARK):]
+                at, ahead = at + size, b""
+                continue
+            tell(f"the frame at byte {at} is cut: it is left out")
+        if is_end or found >= 0:
             return
-        if ahead.startswith(MARK):
-            yield at, ahead[len(MARK):]
-            at, ahead = at + len(ahead), b""
 
 
 @dataclass
@@ -99,23 +112,43 @@ class Packets:
     """Packets as they come out of the data of frames. What is gathered of a packet that isn't whole yet is kept."""
 
     tell: Tell
+    sums: Counter[str]
+    has_control: bool
     gathered: bytes = b""
     is_within: bool = False
-    latest: Optional[int] = None
+    latest: Optional[Frame] = None
 
     def drop(self, why: str) -> None:
         """Gives up the packet that isn't whole."""
         cut = f", which cuts a packet of which {len(self.gathered)} bytes came: it is left out" if self.is_within else ""
-        self.tell(why + cut)
+        self.sums["cut"] += self.is_within
         self.gathered, self.is_within = b"", False
+        self.tell(why + cut)
+
+    def missing(self, frame: Frame) -> bool:
+        """Whether a frame is to be taken; tells what is missing before it."""
+        if self.latest is None:
+            return True
+        missing = (frame.number - self.latest.number - 1) % 256
+        if missing == 255 and frame.whole == self.latest.whole:
+            self.sums["repeated"] += 1
+            return False
+        if missing == 255 and not self.has_control:
+            self.sums["bad"] += 1
+            self.drop(f"the frame at byte {frame.place} has the number of the one before and other bytes: it counts as missing")
+            return False
+        if missing:
+            self.sums["missing"] += missing
+            self.drop(f"{missing} frames are missing before the frame at byte {frame.place}")
+        return True
 
     def take(self, frame: Frame) -> Iterator[bytes]:
         """The packets that are whole with this frame."""
-        missing = 0 if self.latest is None else (frame.number - self.latest - 1) % 256
-        self.latest = frame.number
-        if missing:
-            self.drop(f"{missing} frames are missing before the frame at byte {frame.place}")
+        if not self.missing(frame):
+            return
+        self.latest = frame
         if frame.first == IDLE_DATA:
+            self.sums["idle"] += 1
             if self.is_within:
                 self.drop(f"the frame at byte {frame.place} has idle data alone")
             return
@@ -150,62 +183,99 @@ class Packets:
         self.is_within = bool(self.gathered)
 
 
-@dataclass
-class Choice:
-    """What the words say of the frames."""
+class Run:
+    """The frames of a run: those of one spacecraft and one virtual channel are taken, all are counted. What is told waits until most are good,
+    so that a wrong length isn't told frame by frame."""
 
-    length: int
-    vcid: Optional[int]
-    sync: bool
-    control: bool
+    def __init__(self, said: Dict[str, Optional[int]], tell: Tell) -> None:
+        self.said, self.scid, self.vcid = said, said["scid"], said["vcid"]
+        self.has_control = bool(said["control"])
+        self.sums: Counter[str] = Counter()
+        self.others: Counter[int] = Counter()
+        self.held: List[str] = []
+        self.has_others = False
+        self.tell_now = tell
+        self.taken = Packets(self.tell, self.sums, self.has_control)
+
+    def tell(self, text: str) -> None:
+        """Tells a line once most frames are good."""
+        self.held.append(text)
+        if self.sums["read"] >= FEW and not self.is_poor():
+            self.tell_all()
+        if len(self.held) > LINES:
+            self.end()
+
+    def tell_all(self) -> None:
+        """Tells the lines that wait."""
+        for line in self.held:
+            self.tell_now(line)
+        self.held.clear()
+
+    def is_poor(self) -> bool:
+        """Whether no frame was taken, or more than half are bad."""
+        strangers = (self.sums["spacecraft"] if self.said["scid"] is None else 0) + (sum(self.others.values()) if self.said["vcid"] is None else 0)
+        return not self.sums["taken"] or 2 * (self.sums["bad"] + self.sums["stray"] + strangers) > self.sums["read"]
+
+    def frame(self, place: int, whole: bytes) -> Optional[Frame]:
+        """A frame, if it is of the spacecraft and the channel."""
+        self.sums["read"] += 1
+        if self.has_control and not is_whole(whole):
+            raise Bad("is damaged, by its error control")
+        identifier = int.from_bytes(whole[:2], "big")
+        if identifier >> 14:
+            raise Bad("is of another version")
+        scid, vcid = identifier >> 4 & 0x3FF, identifier >> 1 & 7
+        self.scid = scid if self.scid is None else self.scid
+        if scid != self.scid:
+            self.sums["spacecraft"] += 1
+            return None
+        self.vcid = vcid if self.vcid is None else self.vcid
+        if vcid != self.vcid:
+            self.others[vcid] += 1
+            self.has_others = self.has_others or int.from_bytes(whole[4:6], "big") & 0x7FF != IDLE_DATA
+            return None
+        return frame_of(place, whole, self.has_control)
+
+    def packets(self, source: BinaryIO) -> Iterator[bytes]:
+        """The Space Packets of frames, in order."""
+        for place, whole in (marked if self.said["sync"] else plain)(source, self.said["length"] or 0, self.tell, self.sums):
+            try:
+                frame = self.frame(place, whole)
+            except Bad as why:
+                self.sums["bad"] += 1
+                self.tell(f"the frame at byte {place} {why}: it counts as missing")
+                continue
+            if frame is not None:
+                self.sums["taken"] += 1
+                for packet in self.taken.take(frame):
+                    self.sums["packets"] += 1
+                    yield packet
+        if self.taken.is_within:
+            self.taken.drop("the frames end")
+
+    def end(self) -> int:
+        """Tells the sums, or refuses a run of too few good frames, and gives the status."""
+        sums = self.sums
+        others = "".join(f", {count} of virtual channel {vcid}" for vcid, count in sorted(self.others.items()))
+        stray = f", {sums['stray']} times with other bytes between" if sums["stray"] else ""
+        read_ones = f"{sums['read']} frames were read{stray}, {sums['bad']} of them bad, {sums['spacecraft']} of other spacecraft{others}"
+        if self.is_poor():
+            raise ToolError(f"{read_ones}, and {sums['taken']} were taken: length=, sync=, control=, scid= or vcid= may be wrong", POOR)
+        self.tell(f"{read_ones}, {sums['taken']} of virtual channel {self.vcid} of spacecraft {self.scid}")
+        self.tell(f"virtual channel {self.vcid}: {sums['missing']} frames missing, {sums['repeated']} repeated, {sums['idle']} idle; {sums['packets']} packets, and {sums['cut']} that were cut")
+        is_doubtful = self.said["vcid"] is None and self.has_others
+        if is_doubtful:
+            self.tell("another virtual channel has packets, which are not taken: say vcid=")
+        self.tell_all()
+        return LOOK if is_doubtful else 0
 
 
-def choice_of(words: List[str]) -> Choice:
-    """What the words say."""
-    said = given(words, list(KEYS), ["length"])
-    found = {key: number_of(said, key, *bounds) for key, bounds in KEYS.items()}
-    return Choice(found["length"] or 0, found["vcid"], bool(found["sync"]), bool(found["control"]))
-
-
-@dataclass
-class Channel:
-    """The virtual channel that is taken."""
-
-    vcid: Optional[int]
-    was_said: bool = field(init=False)
-
-    def __post_init__(self) -> None:
-        self.was_said = self.vcid is not None
-
-    def is_own(self, frame: Frame) -> bool:
-        """Whether a frame is of the channel. If none was said, there is one alone."""
-        if self.vcid is None:
-            self.vcid = frame.channel
-        if frame.channel != self.vcid and not self.was_said:
-            raise ToolError(f"the frame at byte {frame.place} is of virtual channel {frame.channel}, and those before it of {self.vcid}: say vcid=")
-        return frame.channel == self.vcid
-
-
-def packets(source: BinaryIO, choice: Choice, tell: Tell) -> Iterator[bytes]:
-    """The Space Packets of frames, in order."""
-    taken, channel = Packets(tell), Channel(choice.vcid)
-    frames = (marked if choice.sync else plain)(source, choice.length, tell)
-    for place, whole in frames:
-        if choice.control and not is_whole(whole):
-            tell(f"the frame at byte {place} is damaged, by its error control: it counts as missing")
-            continue
-        frame = frame_of(place, whole, choice.control)
-        if channel.is_own(frame):
-            yield from taken.take(frame)
-    if taken.is_within:
-        taken.drop("the frames end")
-
-
-def run(words: List[str]) -> None:
-    """Writes the store of the frames of standard input to standard output."""
-    choice = choice_of(words)
-    try:
-        for packet in packets(sys.stdin.buffer, choice, lambda text: print(f"pocket frames: {text}", file=sys.stderr)):
-            sys.stdout.buffer.write(packet)
-    finally:
-        sys.stdout.buffer.flush()
+def run(words: List[str]) -> int:
+    """Writes the store of the frames of standard input."""
+    said = given(words, [*KEYS, "out", "report"], ["length"])
+    numbers = {key: number_of(said, key, *bounds) for key, bounds in KEYS.items()}
+    with outputs("frames", said, ["-"]) as (out, tell), opened("-") as source:
+        taken = Run(numbers, tell)
+        for packet in taken.packets(source):
+            out.write(packet)
+        return taken.end()

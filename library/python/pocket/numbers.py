@@ -1,37 +1,41 @@
-"""python3 -m pocket numbers table=T report=R [fields=F bits=N] [as=csv|influx|events] [..]: a table with each packet's number and time.
-
-    python3 -m pocket numbers table=day.table report=day.report start=2026-11-30T06:00:00Z step=1 > day.csv
-    python3 -m pocket numbers table=day.table report=day.report fields=day.fields bits=64 as=events time=clock epoch=2000-01-01T00:00:00Z unit=0.001
-
-`table` is what the command `table` wrote of restored packets, and `report` what `restore` or `late` wrote beside these, or `multi` with
-`apid=N`: from it comes each packet's number, which is that at the sender. A packet's time is `start` and `step` seconds for each number,
-or the value of a field, `time=NAME`, in units of `unit` seconds since `epoch`. Seconds have up to nine places behind the point, and leap
-seconds are not counted.
-
-`as=csv` writes a line for each packet: number, time if it is known, and the fields. `as=influx` writes the line protocol of Influx, with
-times in nanoseconds, under the `measurement` named (pocket if it is not). `as=events` writes a line for each stretch of packets at which a
-field is out of its limits: the limit that it passed, the first packet out and the first one within again, how many are out, and the worst
-value with its packet. Influx and events take `fields`, the side text of the table, and `bits`. What this command decides is tested, not
-proved.
-"""
+"""The tool `numbers`: what it does is told by HELP."""
 
 from __future__ import annotations
 
+HELP = """python3 -m pocket numbers table=T report=R [fields=F bits=N] [as=csv|influx|events] [..]: a table with each packet's number and time.
+
+    python3 -m pocket numbers table=day.table report=day.report start=2026-11-30T06:00:00Z step=1 out=day.csv
+    python3 -m pocket numbers table=day.table report=day.report fields=day.fields bits=64 as=events time=clock epoch=2000-01-01T00:00:00Z unit=0.001
+
+`table` is what the command `table` wrote of restored packets, and `report` what `restore` or `late` wrote beside these, or `multi` with
+`apid=N`, of which the table has that APID's packets alone: from it comes each packet's number, which is that at the sender. A packet's time
+is `start` and `step` seconds for each number, or the value of a field, `time=NAME`, in units of `unit` seconds since `epoch`. Seconds have up
+to nine places behind the point, and leap seconds are not counted. After a restart on board numbers tell no time, so it is told if the
+report has a loss that may be one: 16 packets or more. `time=` is right then too, if the field's clock went on.
+
+`as=csv` writes a line for each packet: number, time if it is known, and the fields. `as=influx` writes the line protocol of Influx 1 and 2,
+with times in nanoseconds, which must be known and differ, under the `measurement` named (pocket if it is not), with each `tag=KEY:VALUE`
+and the APID if it was said as tags. `as=events` writes a line for each stretch of packets at which a field is out of its limits: the limit
+that it passed, the first packet out and the first one within again, how many are out, and the worst value with its packet. Influx and
+events take `fields`, the side text of the table, and `bits`. What this command decides is tested, not proved.
+"""
+
 import datetime
 import decimal
-import io
+import itertools
 import re
-import sys
 from dataclasses import dataclass, field
-from typing import Callable, Dict, Iterator, List, NamedTuple, Optional, Sequence, Tuple
+from typing import Dict, Iterator, List, NamedTuple, Optional, Sequence, Tuple
 
 from .fields import Fields, fields_of
-from .tool import ToolError, contents, given, whole_number, number_of
+from .tool import ToolError, contents, given, number_of, outputs, whole_number
 
-KEYS = ("table", "report", "fields", "bits", "as", "apid", "start", "step", "time", "epoch", "unit", "measurement")
+KEYS = ("table", "report", "fields", "bits", "as", "apid", "start", "step", "time", "epoch", "unit", "measurement", "out")
 BILLION = 10**9
 REPORT = "first,last,cause,value"
 MOST = 2**32
+# So many lost packets or more may be a restart on board, which leaves out so many counts.
+RESTART = 16
 
 
 class Line(NamedTuple):
@@ -42,33 +46,47 @@ class Line(NamedTuple):
     values: List[int]
 
 
-def rows_of(name: str, apid: Optional[int]) -> List[List[str]]:
-    """The rows of a report after its first line, of one APID if it has several streams."""
+Rows = List[Tuple[int, List[str]]]
+
+
+def rows_of(name: str, apid: Optional[int]) -> Rows:
+    """The rows of a report after its first line, each with its line, of one APID if it has several streams."""
     lines = contents(name).decode("ascii", "replace").splitlines()
     first = "apid," + REPORT if apid is not None else REPORT
     if not lines or lines[0] != first:
         raise ToolError(f"{name}: line 1 is not {first}" + ("" if apid is not None else ": say apid=N of a report of several streams"))
-    rows = [line.split(",") for line in lines[1:]]
-    return [row[1:] for row in rows if row[0] == str(apid)] if apid is not None else rows
+    rows = [(place, line.split(",")) for place, line in enumerate(lines[1:], 2)]
+    return [(place, row[1:] or [""]) for place, row in rows if row[0] == str(apid)] if apid is not None else rows
 
 
-def written(name: str, apid: Optional[int]) -> Iterator[int]:
+def written(name: str, rows: Rows) -> Iterator[int]:
     """The numbers of the packets that were restored, in order: those up to the last arrival that no row names."""
-    expected, rows = 0, rows_of(name, apid)
-    for place, row in enumerate(rows, 2):
+    expected = named = 0
+    for place, row in rows:
         if row[0] == "end" and len(row) == 4:
             count = whole_number(row[2], 0, MOST)
             if count is None:
                 break
-            left = count - (expected - sum(int(one[1]) - int(one[0]) + 1 for one in rows[:place - 2]))
-            yield from range(expected, expected + left)
+            yield from range(expected, named + count)
             return
         first, last = (whole_number(text, 0, 2**64) for text in (row + ["", ""])[:2])
         if len(row) != 4 or first is None or last is None or not expected <= first <= last:
             raise ToolError(f"{name}: line {place} is no row of a report: {','.join(row)}")
         yield from range(expected, first)
-        expected = last + 1
+        expected, named = last + 1, named + last + 1 - first
     raise ToolError(f"{name} has no row end: the store was not read to its end")
+
+
+def restarts(name: str, rows: Rows) -> str:
+    """That losses may be restarts of the sender, if there are such among the rows, whose numbers were looked at."""
+    told = itertools.takewhile(lambda row: row[0] != "end", (row for _, row in rows))
+    found = [(int(row[0]), int(row[1])) for row in told if row[2] == "lost" and int(row[1]) - int(row[0]) + 1 >= RESTART and row[0] != "0"]
+    if not found:
+        return ""
+    first, last = found[0]
+    more = f", the first of {len(found)} such losses" if len(found) > 1 else ""
+    return (f"{name}: the packets {first} to {last} are lost{more}: if the board restarted there, times by start= and step= are wrong from {last + 1} on; "
+            "time= takes them from a field")
 
 
 def table_of(name: str) -> Tuple[List[str], List[List[int]]]:
@@ -102,23 +120,27 @@ def instant(key: str, text: str) -> int:
     return int((found - datetime.datetime(1970, 1, 1)).total_seconds()) * BILLION
 
 
-def clock(said: Dict[str, str], names: Sequence[str]) -> Callable[[int, List[int]], Optional[int]]:
-    """The time of a packet by its number and its values."""
-    if "time" in said:
-        if not {"epoch", "unit"} <= set(said) or {"start", "step"} & set(said):
-            raise ToolError("time= goes with epoch= and unit=, and not with start= or step=")
-        if said["time"] not in names:
-            raise ToolError(f"time={said['time']}: the table has no such field")
-        at, epoch, unit = names.index(said["time"]), instant("epoch", said["epoch"]), nanoseconds("unit", said["unit"])
-        return lambda _, values: epoch + values[at] * unit
-    if "start" in said or "step" in said:
-        if not {"start", "step"} <= set(said) or {"epoch", "unit"} & set(said):
-            raise ToolError("start= goes with step=, and epoch= and unit= with time=")
-        start, step = instant("start", said["start"]), nanoseconds("step", said["step"])
-        return lambda place, _: start + place * step
-    if {"epoch", "unit"} & set(said):
-        raise ToolError("epoch= and unit= go with time=")
-    return lambda _, __: None
+class Clock:
+    """The time of a packet by its number or its values, as the words say."""
+
+    def __init__(self, said: Dict[str, str]) -> None:
+        self.field, self.is_known = said.get("time"), bool({"time", "start"} & set(said))
+        for key, others in (("time", ("epoch", "unit")), ("start", ("step",))):
+            wrong = [one for one in others if (one in said) != (key in said)]
+            if wrong:
+                raise ToolError(f"{wrong[0]}= is missing beside {key}=" if key in said else f"{wrong[0]}= is given without {key}=")
+        if {"time", "start"} <= set(said):
+            raise ToolError("time= and start= are two ways to tell times: say one")
+        if self.is_known:
+            self.begin = instant(*next((key, said[key]) for key in ("epoch", "start") if key in said))
+            self.unit = nanoseconds(*next((key, said[key]) for key in ("unit", "step") if key in said))
+
+    def lines(self, names: Sequence[str], numbers: List[int], values: List[List[int]]) -> List[Line]:
+        """The packets with their numbers, times and values."""
+        if self.field is not None and self.field not in names:
+            raise ToolError(f"time={self.field}: the table has no such field")
+        at = names.index(self.field) if self.field is not None else None
+        return [Line(number, self.begin + (number if at is None else own[at]) * self.unit if self.is_known else None, own) for number, own in zip(numbers, values)]
 
 
 def shown(time: Optional[int]) -> str:
@@ -148,14 +170,42 @@ def as_csv(names: List[str], lines: List[Line], _: Fields, __: str) -> Iterator[
         yield ",".join([str(line.number), *([shown(line.time)] if timed else []), *map(str, line.values)])
 
 
-def as_influx(names: List[str], lines: List[Line], fields: Fields, measurement: str) -> Iterator[str]:
-    """A point for each packet. A number of 64 bits without a sign is Influx's own kind of these."""
+def influx_name(key: str, text: str, escaped: str) -> str:
+    """A measurement, or the key or the value of a tag, as Influx 1 and 2 read it. Some they read as something else, whatever is escaped."""
+    try:
+        text.encode()
+    except UnicodeEncodeError:
+        raise ToolError(f"{key}= takes UTF-8") from None
+    if not text or text[0] in "#_" or "\\" in text or not text.isprintable():
+        raise ToolError(f"{key}={text!r}: Influx takes no empty name, none with a backslash or a control character, and none that begins with # or _")
+    return re.sub(f"([{escaped}])", r"\\\1", text)
+
+
+def series(said: Dict[str, str], tags: List[str], names: Sequence[str]) -> str:
+    """The measurement with its tags, none of which has the name of a field."""
+    keys = [tag.partition(":")[0] for tag in tags]
+    for tag, key in zip(tags, keys):
+        if ":" not in tag or key in ("time", "number", *names) or keys.count(key) > 1:
+            raise ToolError(f"tag={tag}: tag= takes KEY:VALUE, each KEY once, not time or number, and no field's name")
+    pairs = [tuple(influx_name("tag", part, ",= ") for part in tag.split(":", 1)) for tag in tags]
+    if "apid" in said:
+        pairs.append((apart("apid", [*keys, *names]), said["apid"]))
+    return ",".join([influx_name("measurement", said.get("measurement", "pocket"), ", "), *(f"{key}={value}" for key, value in pairs)])
+
+
+def as_influx(names: List[str], lines: List[Line], fields: Fields, own: str) -> Iterator[str]:
+    """A point for each packet. A number of 64 bits without a sign is Influx's own kind of these. Points of one series and time would be one."""
     kinds = {one.name: "u" if one.width == 64 and not one.signed else "i" for one in fields.fields}
-    escaped = re.sub(r"([, \\])", r"\\\1", measurement)
-    own = apart("number", names)
+    number = apart("number", names)
+    before: Dict[Optional[int], int] = {}
+    if "time" in names:
+        raise ToolError("the field time has the name of Influx's own times")
     for line in lines:
-        values = [f"{own}={line.number}i"] + [f"{name}={value}{kinds[name]}" for name, value in zip(names, line.values)]
-        yield f"{escaped} {','.join(values)}" + (f" {line.time}" if line.time is not None else "")
+        if line.time in before:
+            raise ToolError(f"the packets {before[line.time]} and {line.number} have one time, {shown(line.time)}: Influx would keep one of them alone")
+        before[line.time] = line.number
+        values = [f"{number}={line.number}i"] + [f"{name}={value}{kinds[name]}" for name, value in zip(names, line.values)]
+        yield f"{own} {','.join(values)} {line.time}"
 
 
 @dataclass
@@ -207,26 +257,53 @@ def as_events(names: List[str], lines: List[Line], fields: Fields, _: str) -> It
 FORMS = {"csv": as_csv, "influx": as_influx, "events": as_events}
 
 
-def run(words: List[str]) -> None:
-    """Writes a table in another form to standard output."""
-    said = given(words, KEYS, ["table", "report"])
+def lines_of(said: Dict[str, str], clock: Clock, fields: Fields) -> Tuple[List[str], List[Line], str]:
+    """The names of a table's fields, its packets, and what has to be told of their times."""
+    names, values = table_of(said["table"])
+    if fields.fields and [one.name for one in fields.fields] != names:
+        raise ToolError(f"the fields of {said['fields']} are not those of {said['table']}")
+    rows = rows_of(said["report"], number_of(said, "apid", 0, 2046))
+    numbers = list(written(said["report"], rows))
+    if len(numbers) != len(values):
+        which = f" of APID {said['apid']}" if "apid" in said else ""
+        more = f": the table has to be that of this APID's packets alone, which restore apid={said['apid']} gives" if "apid" in said else ""
+        raise ToolError(f"{said['table']} has {len(values)} packets, and by {said['report']} {len(numbers)}{which} were restored{more}")
+    return names, clock.lines(names, numbers, values), restarts(said["report"], rows) if "start" in said else ""
+
+
+def choice_of(said: Dict[str, str], tags: List[str]) -> Tuple[str, Clock]:
+    """The form and the times. All words are looked at before anything is read."""
     form = said.get("as", "csv")
     if form not in FORMS:
         raise ToolError(f"as={form}: as= takes csv, influx or events")
-    names, values = table_of(said["table"])
-    bits = number_of(said, "bits", 1, 49152)
-    if form != "csv" and ("fields" not in said or bits is None):
+    if form != "csv" and not {"fields", "bits"} <= set(said):
         raise ToolError(f"as={form} takes fields= and bits=, those of the table")
-    fields = fields_of(said["fields"], bits) if "fields" in said and bits is not None else Fields()
-    if fields.fields and [one.name for one in fields.fields] != names:
-        raise ToolError(f"the fields of {said['fields']} are not those of {said['table']}")
-    numbers = list(written(said["report"], number_of(said, "apid", 0, 2046)))
-    if len(numbers) != len(values):
-        raise ToolError(f"{said['table']} has {len(values)} packets, and by {said['report']} {len(numbers)} were restored")
-    time = clock(said, names)
-    lines = [Line(place, time(place, own), own) for place, own in zip(numbers, values)]
-    out = io.TextIOWrapper(sys.stdout.buffer, "ascii", newline="\n", write_through=False)
-    for text in FORMS[form](names, lines, fields, said.get("measurement", "pocket")):
-        out.write(text + "\n")
-    out.flush()
-    out.detach()
+    if form != "influx" and (tags or "measurement" in said):
+        raise ToolError("tag= and measurement= go with as=influx")
+    clock = Clock(said)
+    if form == "influx" and not clock.is_known:
+        raise ToolError("as=influx takes start= and step=, or time=: Influx keeps one point of one time")
+    inputs = [said[key] for key in ("table", "report", "fields") if key in said]
+    if inputs.count("-") > 1:
+        raise ToolError("standard input is one file")
+    series(said, tags, [])
+    return form, clock
+
+
+def run(words: List[str]) -> int:
+    """Writes a table in another form."""
+    tags = [word[len("tag="):] for word in words if word.startswith("tag=")]
+    said = given([word for word in words if not word.startswith("tag=")], KEYS, ["table", "report"])
+    form, clock = choice_of(said, tags)
+    bits = number_of(said, "bits", 1, 49152)
+    inputs = [said[key] for key in ("table", "report", "fields") if key in said]
+    with outputs("numbers", {"out": said.get("out", "-")}, inputs) as (out, tell):
+        fields = fields_of(said["fields"], bits) if "fields" in said and bits is not None else Fields()
+        names, lines, doubt = lines_of(said, clock, fields)
+        if doubt:
+            tell(doubt)
+        if form == "events" and not fields.limits:
+            tell(f"{said['fields']} has no limit, so there are no events")
+        for text in FORMS[form](names, lines, fields, series(said, tags, names)):
+            out.write(text.encode() + b"\n")
+    return 0

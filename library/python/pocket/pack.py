@@ -1,6 +1,10 @@
-"""python3 -m pocket pack fields=F bits=N [in=CSV]: a recording out of a table of numbers, which is the inverse of the command `table`.
+"""The tool `pack`: what it does is told by HELP."""
 
-    python3 -m pocket pack fields=hk.fields bits=64 in=numbers.csv > hk.rec
+from __future__ import annotations
+
+HELP = """python3 -m pocket pack fields=F bits=N [in=CSV]: a recording out of a table of numbers, which is the inverse of the command `table`.
+
+    python3 -m pocket pack fields=hk.fields bits=64 in=numbers.csv out=hk.rec
 
 The first line of the CSV has names of fields, in any order; each further one is a packet. A field that it doesn't name is 0, and columns
 that are no field are refused, but for `t` and `number`, which are passed over unless they are fields. A number that its field can't say,
@@ -8,17 +12,14 @@ or that says another bit than a field before it which lies over it, is refused w
 tested, not proved.
 """
 
-from __future__ import annotations
-
 import csv
 import io
-import sys
-from typing import Iterator, List, Optional, Tuple
+from typing import Iterator, List, Optional
 
 from .fields import Field, fields_of
-from .tool import ToolError, contents, given, whole_number, number_of
+from .tool import ToolError, contents, given, number_of, outputs, whole_number
 
-KEYS = ("fields", "bits", "in")
+KEYS = ("fields", "bits", "in", "out")
 PASSED_OVER = ("t", "number")
 
 
@@ -72,18 +73,18 @@ def packets(name: str, text: str, fields: List[Field], bits: int) -> Iterator[by
         raise ToolError(f"{name}: line {rows.line_num}: {error}") from error
 
 
-def words_of(words: List[str]) -> Tuple[str, str, int]:
-    """The names of the fields and of the table, and the bits of a packet."""
+def run(words: List[str]) -> int:
+    """Writes the recording."""
     said = given(words, KEYS, ["fields", "bits"])
-    return said["fields"], said.get("in", "-"), number_of(said, "bits", 1, 49152) or 0
-
-
-def run(words: List[str]) -> None:
-    """Writes the recording to standard output, once all of it is right."""
-    fields, name, bits = words_of(words)
-    try:
-        text = contents(name).decode("ascii")
-    except UnicodeDecodeError as error:
-        raise ToolError(f"{name}: byte {error.start} is no ASCII letter") from None
-    for packet in list(packets(name, text, fields_of(fields, bits).fields, bits)):
-        sys.stdout.buffer.write(packet)
+    name, bits = said.get("in", "-"), number_of(said, "bits", 1, 49152) or 0
+    if said["fields"] == name == "-":
+        raise ToolError("standard input is one file")
+    with outputs("pack", said, [name, said["fields"]]) as (out, _):
+        try:
+            text = contents(name).decode("ascii")
+        except UnicodeDecodeError as error:
+            raise ToolError(f"{name}: byte {error.start} is no ASCII letter") from None
+        # (all of it is looked at before any is written)
+        for packet in list(packets(name, text, fields_of(said["fields"], bits).fields, bits)):
+            out.write(packet)
+    return 0

@@ -1,17 +1,35 @@
-"""What the tools of `python3 -m pocket` share: their words, and what is wrong with them."""
+"""What the tools of `python3 -m pocket` share: their words, their files, and what is wrong with them."""
 
 from __future__ import annotations
 
+import contextlib
 import difflib
+import os
 import re
-from typing import BinaryIO, Dict, List, Optional, Sequence
+import stat
+import sys
+from typing import BinaryIO, Callable, Dict, Iterator, List, Optional, Sequence, Tuple
 
 PERIOD = 16384
 IDLE = 2047
+# The status of a tool that has written what it makes, and told something that has to be looked at first.
+LOOK = 3
+
+Tell = Callable[[str], None]
 
 
 class ToolError(ValueError):
-    """What a tool refuses, with its place."""
+    """What a tool refuses, with its place, and the status."""
+
+    def __init__(self, text: str, status: int = 1) -> None:
+        super().__init__(text)
+        self.status = status
+
+
+def near(word: str, known: Sequence[str], end: str = "") -> str:
+    """The known word that is meant, if one is near, and else all of them."""
+    found = difflib.get_close_matches(word, known, 1)
+    return f"did you mean {found[0]}{end}?" if found else f"the words are {', '.join(one + end for one in known)}"
 
 
 def given(words: Sequence[str], keys: Sequence[str], needed: Sequence[str]) -> Dict[str, str]:
@@ -20,8 +38,7 @@ def given(words: Sequence[str], keys: Sequence[str], needed: Sequence[str]) -> D
     for word in words:
         key, equals, value = word.partition("=")
         if not equals or key not in keys:
-            near = difflib.get_close_matches(key, keys, 1)
-            raise ToolError(f"{word}: " + (f"did you mean {near[0]}=?" if near else f"the words are {', '.join(f'{key}=' for key in keys)}"))
+            raise ToolError(f"{word}: {near(key, keys, '=')}")
         if key in found:
             raise ToolError(f"{key}= is given twice")
         found[key] = value
@@ -48,19 +65,96 @@ def number_of(said: Dict[str, str], key: str, least: int, most: int) -> Optional
     return found
 
 
+def opened(name: str) -> BinaryIO:
+    """A file to read, or standard input if its name is `-`."""
+    try:
+        return open(0 if name == "-" else name, "rb", closefd=name != "-")
+    except (OSError, ValueError) as error:
+        raise ToolError(f"{name}: {getattr(error, 'strerror', None) or error}") from error
+
+
 def contents(name: str) -> bytes:
     """The bytes of a file, or of standard input if its name is `-`."""
-    try:
-        with open(0 if name == "-" else name, "rb", closefd=name != "-") as source:
-            return source.read()
-    except OSError as error:
-        raise ToolError(f"{name}: {error.strerror}") from error
+    with opened(name) as source:
+        return read(source, -1)
 
 
 def read(source: BinaryIO, size: int) -> bytes:
     """So many bytes, or fewer at the end."""
-    parts: List[bytes] = []
-    while size and (part := source.read(size)):
-        parts.append(part)
-        size -= len(part)
-    return b"".join(parts)
+    try:
+        return source.read(size)
+    except OSError as error:
+        raise ToolError(f"{source.name or '-'}: {error.strerror}") from error
+
+
+def is_one(name: str, other: str) -> bool:
+    """Whether two names are those of one file."""
+    with contextlib.suppress(OSError):
+        return os.path.samestat(os.fstat(0) if other == "-" else os.stat(other), os.stat(name))
+    return False
+
+
+class Output:
+    """What a tool writes: standard output if its name is `-`, a device or a pipe, or else NAME.part, which takes its name when all is done."""
+
+    def __init__(self, name: str, inputs: Sequence[str], others: Sequence[str]) -> None:
+        self.target = self.part = ""
+        if name == "-":
+            if sys.stdout is None:
+                raise ToolError("standard output is closed")
+            self.file: BinaryIO = open(1, "wb", closefd=False)
+            return
+        path = os.path.realpath(name)
+        try:
+            if os.path.exists(path) and not os.path.isfile(path):
+                self.file = open(path, "wb")
+                return
+            for own in (path, path + ".part"):
+                if any(is_one(own, other) for other in inputs) or own in others:
+                    raise ToolError(f"{name}: {own} is read or written under another name")
+            if os.path.islink(name) and not os.path.exists(path):
+                raise ToolError(f"{name} is a link to nothing")
+            if os.path.islink(path + ".part") or (os.path.exists(path + ".part") and not os.path.isfile(path + ".part")):
+                raise ToolError(f"{name}: {path}.part is no regular file")
+            self.file, self.target, self.part = open(path + ".part", "wb"), path, path + ".part"
+            if os.path.exists(path):
+                os.chmod(self.part, stat.S_IMODE(os.stat(path).st_mode))
+        except (OSError, ValueError) as error:
+            raise error if isinstance(error, ToolError) else ToolError(f"{name}: {getattr(error, 'strerror', None) or error}") from error
+
+    def finish(self) -> None:
+        """Hands over all that was written."""
+        self.file.flush()
+        if self.part:
+            os.fsync(self.file.fileno())
+
+    def take_name(self) -> None:
+        """Gives the file its name."""
+        if self.part:
+            os.replace(self.part, self.target)
+
+
+@contextlib.contextmanager
+def outputs(tool: str, said: Dict[str, str], inputs: Sequence[str]) -> Iterator[Tuple[BinaryIO, Tell]]:
+    """Where a tool writes, by `out=`, and what tells a line, by `report=`: standard output and standard error if they aren't named."""
+    names = [said.get("out", "-"), *([said["report"]] if "report" in said else [])]
+    if names == ["-", "-"]:
+        raise ToolError("standard output is one output")
+    made: List[Output] = []
+    for name in names:
+        made.append(Output(name, inputs, [path for one in made if one.part for path in (one.target, one.part)]))
+
+    def tell(text: str) -> None:
+        if len(made) > 1:
+            made[1].file.write(text.encode(errors="surrogateescape") + b"\n")
+        elif sys.stderr is not None:
+            with contextlib.suppress(OSError):
+                print(f"pocket {tool}: {text}", file=sys.stderr, flush=True)
+
+    try:
+        yield made[0].file, tell
+    finally:
+        for one in made:
+            one.finish()
+    for one in made:
+        one.take_name()
